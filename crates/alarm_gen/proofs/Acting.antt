@@ -6,7 +6,7 @@ use Rattle.std.proofs.lemmas.Bool.{cases_eq, cases_lt, cases_Bool, eq-eqb, ne_eq
 use Rattle.std.proofs.lemmas.List.{length-set, get_or-set_other}
 use Rattle.std.proofs.lemmas.Nat.Bits.{shr_and_one}
 use Rattle.sloth_base.specs.Machine.{Core, State}
-use Rattle.sloth_base.specs.Arithmetic.{shifted_left, shifted_right, hi}
+use Rattle.sloth_base.specs.Arithmetic.{left_shift, right_shift, hi}
 use Rattle.sloth_base.specs.MemoryMap.{memory_base}
 use Rattle.sloth_region.specs.Layout.{active, events, wait, alarm_left, alarm_cycle, controller_base}
 use Rattle.rv32_instr.specs.declared.InstrKind.{InstrKind}
@@ -21,8 +21,8 @@ use Rattle.sloth_base.specs.declared.config.Action.TheVariants.{Activate, Set}
 use Rattle.code_lengths.specs.CodeLengths.{sets_events_of}
 use Rattle.alarm_gen.specs.declared.alarms.NumberedAlarm.{NumberedAlarm}
 use Rattle.alarm_gen.specs.Alarms.{IsAction, IsNumbered, AreNumbered, is_target}
-use Rattle.alarm_gen.specs.Pieces.{asks_awaited, waking_code, basing_code, action_code, action_size, losing_code, alarm_code, alarms_code}
-use Rattle.alarm_gen.specs.Tick.{Ground, suspended, grown, with_events, woken, with_set, acted, less_one, with_left, alarm_ticked, alarms_ticked}
+use Rattle.alarm_gen.specs.Pieces.{awaited_events_test, waking_code, basing_code, action_code, action_size, losing_code, alarm_code, alarms_code}
+use Rattle.alarm_gen.specs.Tick.{Ground, is_suspended_task, grown_events, with_events, woken_ground, with_set, action_ground, less_one, with_left, alarm_ground, alarms_ground}
 use Rattle.alarm_gen.proofs.Passing.{passes}
 use Rattle.alarm_gen.proofs.Flags.{KnowsAll, knows_ram, knows_raised, added_one, added_other}
 
@@ -49,27 +49,27 @@ module _ (from to : ℕ) (low : 1024 ≤ from) (E : List ℕ → State → State
 
   -- ---- actions
 
-  activate_owes : (rest : List InstrKind) (c : Ground) (t : ℕ) → t < 30 → Leads (action_code (Activate t)) rest c (acted (Activate t) c)
+  activate_owes : (rest : List InstrKind) (c : Ground) (t : ℕ) → t < 30 → Leads (action_code (Activate t)) rest c (action_ground (Activate t) c)
   activate_owes rest c t few o x1 flags fits knows long go =
-      let now = bit_or flags (shifted_left 1 t) in
+      let now = bit_or flags (left_shift 1 t) in
       let all = length-append (action_code (Activate t)) rest in
       let n : length (action_code (Activate t)) ≡ 6 = refl in
       writes controller_base refl
       ▸ writes 1 refl
       ▸ raises t (omega arith, omega arith) (λ z. absurd (cc))
       ▸ writes memory_base refl
-      ▸ writes (shifted_left 1 t) refl
+      ▸ writes (left_shift 1 t) refl
       ▸ writes now refl
-      ▸ go (behind 6 o) (shifted_left 1 t) now (omega arith)
+      ▸ go (behind 6 o) (left_shift 1 t) now (omega arith)
       (knows_raised target flags now t c c.enabled (omega arith) (added_one flags t (omega arith))
       (λ u n. added_other flags 1 t u (omega arith) (omega arith) n) (λ u n. refl) knows)
       (length-set c.pending t 1 ∙ long)
 
   module _ (rest : List InstrKind) (t mask : ℕ) (few : t < 30) (word : mask < 2 ^ 32) (set_t : target t ≡ true) where
     -- the task is not Suspended
-    module _ (c : Ground) (awake : suspended t c ≡ false) where
+    module _ (c : Ground) (awake : is_suspended_task t c ≡ false) where
       abbrev v : ℕ
-      v = grown t mask c
+      v = grown_events t mask c
 
       abbrev waits_for : ℕ
       waits_for = word_at c.ram (wait t)
@@ -80,25 +80,25 @@ module _ (from to : ℕ) (low : 1024 ≤ from) (E : List ℕ → State → State
       abbrev d : Ground
       d = with_events t v c
 
-      none_is : both ≡ 0 → acted (Set t mask) c ≡ d
+      none_is : both ≡ 0 → action_ground (Set t mask) c ≡ d
       none_is z =
           ap (λ b. cond b c (with_set t mask c)) awake
-          ∙ ap (λ b. cond b d (woken t d)) (eq-eqb both 0 z)
+          ∙ ap (λ b. cond b d (woken_ground t d)) (eq-eqb both 0 z)
 
-      some_is : both ≢ 0 → acted (Set t mask) c ≡ woken t d
+      some_is : both ≢ 0 → action_ground (Set t mask) c ≡ woken_ground t d
       some_is n =
           ap (λ b. cond b c (with_set t mask c)) awake
-          ∙ ap (λ b. cond b d (woken t d)) (ne_eqb both 0 n)
+          ∙ ap (λ b. cond b d (woken_ground t d)) (ne_eqb both 0 n)
 
       knows_d : (flags : ℕ) → KnowsAll target flags c → KnowsAll target flags d
       knows_d flags k = knows_ram target flags c d.ram (λ u h. events_active c.ram t v u) k
 
     -- behind its new events, at the look at those that it awaits
-    awaits : (c : Ground) (s : suspended t c ≡ false) (o flags : ℕ) → o + 4 * length (asks_awaited t ++ (waking_code t ++ (basing_code ++ rest))) ≤ 0x20_0000
+    awaits : (c : Ground) (s : is_suspended_task t c ≡ false) (o flags : ℕ) → o + 4 * length (awaited_events_test t ++ (waking_code t ++ (basing_code ++ rest))) ≤ 0x20_0000
         → bit_at flags t ≡ 1 → KnowsAll target flags c → length c.pending ≡ 32
-        → ((o2 y1 now : ℕ) → o2 + 4 * length rest ≤ 0x20_0000 → KnowsAll target now (acted (Set t mask) c) → length (acted (Set t mask) c).pending ≡ 32
-        → Owes from to o2 rest 0 E start (mach (acted (Set t mask) c) y1 now))
-        → Owes from to o (asks_awaited t ++ (waking_code t ++ (basing_code ++ rest))) 0 E start (mach (d c s) (v c s) flags)
+        → ((o2 y1 now : ℕ) → o2 + 4 * length rest ≤ 0x20_0000 → KnowsAll target now (action_ground (Set t mask) c) → length (action_ground (Set t mask) c).pending ≡ 32
+        → Owes from to o2 rest 0 E start (mach (action_ground (Set t mask) c) y1 now))
+        → Owes from to o (awaited_events_test t ++ (waking_code t ++ (basing_code ++ rest))) 0 E start (mach (d c s) (v c s) flags)
     awaits c s o flags fits one knows long go =
         loads (wait t) (record { is = omega arith; aligned = omega arith; inside = omega arith }) (waits_for c s) (word_at-other c.ram (events t) (v c s) (wait t) (inr (omega arith)))
         ▸ writes (both c s) refl
@@ -133,29 +133,29 @@ module _ (from to : ℕ) (low : 1024 ≤ from) (E : List ℕ → State → State
               (cases_eq (both c s) 0);
         }
 
-    sets_owe : (c : Ground) → Leads (action_code (Set t mask)) rest c (acted (Set t mask) c)
+    sets_owe : (c : Ground) → Leads (action_code (Set t mask)) rest c (action_ground (Set t mask) c)
     sets_owe c o x1 flags fits knows long go =
         let bit = bit_at flags t in
         let all = length-append (action_code (Set t mask)) rest in
         let n : length (action_code (Set t mask)) ≡ 17 = refl in
         let known = knows.each t set_t in
-        writes (shifted_right flags t) refl
+        writes (right_shift flags t) refl
         ▸ writes bit (shr_and_one flags t)
         ▸ record {
           passed = 14;
           lands = lands (o + 4 + 4) 60 14 (omega arith) (omega arith) refl;
           when_taken = λ z. ⊎_elim
-              (λ (s : suspended t c ≡ true).
-              let same : acted (Set t mask) c ≡ c = ap (λ b. cond b c (with_set t mask c)) s in
+              (λ (s : is_suspended_task t c ≡ true).
+              let same : action_ground (Set t mask) c ≡ c = ap (λ b. cond b c (with_set t mask c)) s in
               subst (λ x. Owes from to (behind 17 o) rest 0 E start (mach x bit flags)) same
               (go (behind 17 o) bit flags (omega arith) (subst (KnowsAll target flags) (sym same) knows) (ap (λ (x : Ground). length x.pending) same ∙ long)))
-              (λ (s : suspended t c ≡ false).
+              (λ (s : is_suspended_task t c ≡ false).
               let one : bit ≡ 1 = known ∙ ap (λ b. cond b 0 1) s in
               let f : eqb bit 0 ≡ false = ap (λ x. eqb x 0) one in absurd (cc))
-              (cases_Bool (suspended t c));
+              (cases_Bool (is_suspended_task t c));
           when_not = λ n. ⊎_elim
-              (λ (s : suspended t c ≡ true). absurd (n (eq-eqb bit 0 (known ∙ ap (λ b. cond b 0 1) s))))
-              (λ (s : suspended t c ≡ false).
+              (λ (s : is_suspended_task t c ≡ true). absurd (n (eq-eqb bit 0 (known ∙ ap (λ b. cond b 0 1) s))))
+              (λ (s : is_suspended_task t c ≡ false).
               let one : bit ≡ 1 = known ∙ ap (λ b. cond b 0 1) s in
               loads (events t) (record { is = omega arith; aligned = omega arith; inside = omega arith }) (word_at c.ram (events t)) refl
               ▸ writes (hi mask * 4096) refl
@@ -164,20 +164,22 @@ module _ (from to : ℕ) (low : 1024 ≤ from) (E : List ℕ → State → State
               ▸ writes memory_base refl
               ▸ stores (events t) (record { is = omega arith; aligned = omega arith; inside = omega arith }) (inl (omega arith))
               ▸ awaits c s (behind 9 o) flags (omega arith) one knows long go)
-              (cases_Bool (suspended t c));
+              (cases_Bool (is_suspended_task t c));
         }
 
   acts_owe : (action : Action) → IsAction action → ((u : ℕ) → sets_events_of u action ≡ true → target u ≡ true) → (rest : List InstrKind) (c : Ground)
-      → Leads (action_code action) rest c (acted action c)
+      → Leads (action_code action) rest c (action_ground action c)
   acts_owe (Activate t) is covered rest c = activate_owes rest c t is
   acts_owe (Set t mask) is covered rest c = sets_owe rest t mask is.0 is.1 (covered t (eq-eqb t t refl)) c
 
   -- ---- an alarm
 
+  -- an action's code is as long as the table says
   pub size_is : (action : Action) → length (action_code action) ≡ action_size action
   size_is (Activate t) = refl
   size_is (Set t mask) = refl
 
+  -- and at most 17 instructions
   pub size_below : (action : Action) → action_size action ≤ 17
   size_below (Activate t) = omega arith
   size_below (Set t mask) = omega arith
@@ -209,18 +211,18 @@ module _ (from to : ℕ) (low : 1024 ≤ from) (E : List ℕ → State → State
     abbrev anew : Ground
     anew = with_left number cycle lost
 
-    rests_is : ticks_left ≡ 0 → alarm_ticked alarm c ≡ c
-    rests_is z = ap (λ b. cond b c (cond (fewer == 0) (acted alarm.action anew) lost)) (eq-eqb ticks_left 0 z)
+    rests_is : ticks_left ≡ 0 → alarm_ground alarm c ≡ c
+    rests_is z = ap (λ b. cond b c (cond (fewer == 0) (action_ground alarm.action anew) lost)) (eq-eqb ticks_left 0 z)
 
-    goes_on_is : ticks_left ≢ 0 → fewer ≢ 0 → alarm_ticked alarm c ≡ lost
+    goes_on_is : ticks_left ≢ 0 → fewer ≢ 0 → alarm_ground alarm c ≡ lost
     goes_on_is n m =
-        ap (λ b. cond b c (cond (fewer == 0) (acted alarm.action anew) lost)) (ne_eqb ticks_left 0 n)
-        ∙ ap (λ b. cond b (acted alarm.action anew) lost) (ne_eqb fewer 0 m)
+        ap (λ b. cond b c (cond (fewer == 0) (action_ground alarm.action anew) lost)) (ne_eqb ticks_left 0 n)
+        ∙ ap (λ b. cond b (action_ground alarm.action anew) lost) (ne_eqb fewer 0 m)
 
-    expires_is : ticks_left ≢ 0 → fewer ≡ 0 → alarm_ticked alarm c ≡ acted alarm.action anew
+    expires_is : ticks_left ≢ 0 → fewer ≡ 0 → alarm_ground alarm c ≡ action_ground alarm.action anew
     expires_is n z =
-        ap (λ b. cond b c (cond (fewer == 0) (acted alarm.action anew) lost)) (ne_eqb ticks_left 0 n)
-        ∙ ap (λ b. cond b (acted alarm.action anew) lost) (eq-eqb fewer 0 z)
+        ap (λ b. cond b c (cond (fewer == 0) (action_ground alarm.action anew) lost)) (ne_eqb ticks_left 0 n)
+        ∙ ap (λ b. cond b (action_ground alarm.action anew) lost) (eq-eqb fewer 0 z)
 
     knows_lost : (flags : ℕ) → KnowsAll target flags c → KnowsAll target flags lost
     knows_lost flags k = knows_ram target flags c lost.ram (λ u h. left_active c.ram number fewer u is.number h) k
@@ -228,7 +230,7 @@ module _ (from to : ℕ) (low : 1024 ≤ from) (E : List ℕ → State → State
     knows_anew : (flags : ℕ) → KnowsAll target flags c → KnowsAll target flags anew
     knows_anew flags k = knows_ram target flags lost anew.ram (λ u h. left_active lost.ram number cycle u is.number h) (knows_lost flags k)
 
-    alarm_owes : Leads (alarm_code alarm) rest c (alarm_ticked alarm c)
+    alarm_owes : Leads (alarm_code alarm) rest c (alarm_ground alarm c)
     alarm_owes o x1 flags fits knows long go =
         let few = is.number in
         let small = size_below alarm.action in
@@ -291,8 +293,9 @@ module _ (from to : ℕ) (low : 1024 ≤ from) (E : List ℕ → State → State
   second_target u true b h = refl
   second_target u false b h = h
 
+  -- the code of alarms changes the machine as they do, one behind the other, where each task that they set events of was looked at
   pub alarms_owe : (alarms : List NumberedAlarm) → AreNumbered alarms → ((u : ℕ) → is_target u alarms ≡ true → target u ≡ true)
-      → (rest : List InstrKind) (c : Ground) → Leads (alarms_code alarms) rest c (alarms_ticked alarms c)
+      → (rest : List InstrKind) (c : Ground) → Leads (alarms_code alarms) rest c (alarms_ground alarms c)
   alarms_owe [] is covered rest c o x1 flags fits knows long go = go o x1 flags fits knows long
   alarms_owe (alarm ∷ later) is covered rest c o x1 flags fits knows long go =
       let e = append_assoc (alarm_code alarm) (alarms_code later) rest in
@@ -300,5 +303,5 @@ module _ (from to : ℕ) (low : 1024 ≤ from) (E : List ℕ → State → State
       (alarm_owes alarm is.0 (λ u h. covered u (first_target u (sets_events_of u alarm.action) (is_target u later) h)) (alarms_code later ++ rest) c
       o x1 flags (subst (λ code. o + 4 * length code ≤ 0x20_0000) e fits) knows long
       (λ o2 y1 now fits2 knows2 long2.
-      alarms_owe later is.1 (λ u h. covered u (second_target u (sets_events_of u alarm.action) (is_target u later) h)) rest (alarm_ticked alarm c)
+      alarms_owe later is.1 (λ u h. covered u (second_target u (sets_events_of u alarm.action) (is_target u later) h)) rest (alarm_ground alarm c)
       o2 y1 now fits2 knows2 long2 go))

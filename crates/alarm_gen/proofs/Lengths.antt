@@ -7,7 +7,7 @@ use Rattle.sloth_base.specs.declared.config.AlarmDecl.{AlarmDecl}
 use Rattle.code_lengths.specs.CodeLengths.{sets_events_of, is_looked_at, action_length, alarms_length, tick_length}
 use Rattle.alarm_gen.specs.declared.alarms.NumberedAlarm.{NumberedAlarm}
 use Rattle.alarm_gen.specs.Alarms.{alarms_from, is_target}
-use Rattle.alarm_gen.specs.Pieces.{counting_code, clearing_code, look_code, look_of, looks_code, basing_code, action_code, action_size, losing_code, alarm_code, alarms_code, returning_code, tick_code}
+use Rattle.alarm_gen.specs.Pieces.{counting_code, look_clearing_code, look_code, look_of, looks_code, basing_code, action_code, action_size, losing_code, alarm_code, alarms_code, returning_code, tick_code}
 
 -- ---- at most
 
@@ -51,14 +51,15 @@ tick_is counter max alarms =
     let n = length-append (looks_code alarms) (basing_code ++ (alarms_code alarms ++ returning_code)) in
     let m = length-append (alarms_code alarms) returning_code in
     let k = length-append basing_code (alarms_code alarms ++ returning_code) in
-    let l = length-append clearing_code (looks_code alarms ++ (basing_code ++ (alarms_code alarms ++ returning_code))) in
-    let j = length-append (counting_code counter max) (clearing_code ++ (looks_code alarms ++ (basing_code ++ (alarms_code alarms ++ returning_code)))) in
+    let l = length-append look_clearing_code (looks_code alarms ++ (basing_code ++ (alarms_code alarms ++ returning_code))) in
+    let j = length-append (counting_code counter max) (look_clearing_code ++ (looks_code alarms ++ (basing_code ++ (alarms_code alarms ++ returning_code)))) in
     let seven : length (counting_code counter max) ≡ 7 = refl in
-    let one : length clearing_code ≡ 1 = refl in
+    let one : length look_clearing_code ≡ 1 = refl in
     let other : length basing_code ≡ 1 = refl in
     let two : length returning_code ≡ 2 = refl in
     omega arith
 
+-- whatever the alarms are
 pub tick_few : (counter max : ℕ) (alarms : List NumberedAlarm) → length (tick_code counter max alarms) ≤ 11 + 34 * length alarms
 tick_few counter max alarms =
     let a = looks_few alarms in
@@ -110,5 +111,6 @@ all_long counter first (alarm ∷ later) = by (alarm.counter == counter) (all_lo
         let d = one_long counter (first + 1) alarm.action first later in
         omega arith
 
+-- of the alarms of a configuration, as in the table
 pub tick_long : (counter max : ℕ) (alarms : List AlarmDecl) → length (tick_code counter max (alarms_from counter 0 alarms)) ≡ tick_length counter alarms
 tick_long counter max alarms = tick_is counter max (alarms_from counter 0 alarms) ∙ ap (λ n. 11 + n) (all_long counter 0 alarms)

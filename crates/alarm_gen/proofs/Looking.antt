@@ -6,7 +6,7 @@ use Rattle.std.specs.Int.{bit_at}
 use Rattle.std.proofs.lemmas.Bool.{cases_eq, eq-eqb, ne_eqb, or_left, or_right}
 use Rattle.sloth_base.specs.Machine.{Core, State}
 use Rattle.sloth_base.specs.Arrive.{arrive}
-use Rattle.sloth_base.specs.Arithmetic.{shifted_left}
+use Rattle.sloth_base.specs.Arithmetic.{left_shift}
 use Rattle.sloth_base.specs.MemoryMap.{memory_base}
 use Rattle.sloth_region.specs.Layout.{active, controller_base}
 use Rattle.rv32_instr.specs.declared.InstrKind.{InstrKind}
@@ -19,9 +19,9 @@ use Rattle.sloth_base.specs.declared.config.Action.{Action}
 use Rattle.sloth_base.specs.declared.config.Action.TheVariants.{Activate, Set}
 use Rattle.code_lengths.specs.CodeLengths.{sets_events_of}
 use Rattle.alarm_gen.specs.declared.alarms.NumberedAlarm.{NumberedAlarm}
-use Rattle.alarm_gen.specs.Alarms.{is_target, targets, before_later}
+use Rattle.alarm_gen.specs.Alarms.{is_target, targets, tasks_before_later}
 use Rattle.alarm_gen.specs.Pieces.{look_code, look_of, looks_code}
-use Rattle.alarm_gen.specs.Tick.{Ground, suspended, IsTold}
+use Rattle.alarm_gen.specs.Tick.{Ground, is_suspended_task, AreTaskBits}
 use Rattle.alarm_gen.proofs.Flags.{Knows, KnowsAll, suspended_same, added_own, added_other}
 
 -- what the code computes of three bits
@@ -78,7 +78,7 @@ module _ (from to : ℕ) (rest : List InstrKind) (base : Core) (c : Ground) (x2 
   abbrev pub Looks : (ℕ → Bool) → List ℕ → List InstrKind → Type 1
   Looks target ts code =
       (E : List ℕ → State → State → Type 0) (o x1 x4 flags : ℕ) (p : List ℕ) → o + 4 * length (code ++ rest) ≤ 0x20_0000
-      → AllByRecursion (IsTold (record c { pending = p })) ts → length p ≡ 32 → ((u : ℕ) → target u ≡ true → bit_at flags u ≡ 0)
+      → AllByRecursion (AreTaskBits (record c { pending = p })) ts → length p ≡ 32 → ((u : ℕ) → target u ≡ true → bit_at flags u ≡ 0)
       → ((o2 y1 y4 now : ℕ) (q : List ℕ) → o2 + 4 * length rest ≤ 0x20_0000 → Looked target flags now p q → Owes from to o2 rest 0 (λ u. E (ts ++ u)) (st q) (mach y1 y4 now q))
       → Owes from to o (code ++ rest) 0 E (st p) (mach x1 x4 flags p)
 
@@ -102,8 +102,8 @@ module _ (from to : ℕ) (rest : List InstrKind) (base : Core) (c : Ground) (x2 
       }))
 
   -- arrivals leave bits
-  told_arrives : (ts lines p : List ℕ) → length p ≡ 32 → AllByRecursion (IsTold (record c { pending = p })) ts
-      → AllByRecursion (IsTold (record c { pending = arrive lines p })) ts
+  told_arrives : (ts lines p : List ℕ) → length p ≡ 32 → AllByRecursion (AreTaskBits (record c { pending = p })) ts
+      → AllByRecursion (AreTaskBits (record c { pending = arrive lines p })) ts
   told_arrives [] lines p long h = tt
   told_arrives (t ∷ ts) lines p long h =
       let few = h.0.is_task in (
@@ -137,16 +137,16 @@ module _ (from to : ℕ) (rest : List InstrKind) (base : Core) (c : Ground) (x2 
       let small = bit_arrives lines p t (omega arith) told.0.pending_bit in
       let v = busy_of e b a in
       let d : Ground = record c { pending = q } in
-      let found : v ≡ cond (suspended t d) 0 1 = found_is e b a told.0.enabled_bit small told.0.active_bit in
-      let bit : v < 2 = subst (λ x. x < 2) (sym found) (cond_below (suspended t d)) in
-      let now = bit_or flags (shifted_left v t) in
+      let found : v ≡ cond (is_suspended_task t d) 0 1 = found_is e b a told.0.enabled_bit small told.0.active_bit in
+      let bit : v < 2 = subst (λ x. x < 2) (sym found) (cond_below (is_suspended_task t d)) in
+      let now = bit_or flags (left_shift v t) in
       writes (bit_or (bit_xor e 1) b) refl
       ▸ writes memory_base refl
       ▸ loads (active t) (record { is = omega arith; aligned = omega arith; inside = omega arith }) a refl
       ▸ writes v refl
-      ▸ writes (shifted_left v t) refl
+      ▸ writes (left_shift v t) refl
       ▸ writes now refl
-      ▸ ih (λ u. E (t ∷ u)) (behind 10 o) (shifted_left v t) a now q (omega arith) (told_arrives ts lines p long told.1) long_q
+      ▸ ih (λ u. E (t ∷ u)) (behind 10 o) (left_shift v t) a now q (omega arith) (told_arrives ts lines p long told.1) long_q
       (λ u h. added_other flags v t u bit (omega arith) (not_t u h) ∙ clear u (more u h))
       (λ o2 y1 y4 after r f k. go o2 y1 y4 after r f (record {
         knows = record {
@@ -171,10 +171,11 @@ module _ (from to : ℕ) (rest : List InstrKind) (base : Core) (c : Ground) (x2 
   by_later later t ih false e = looked (λ u. is_target u later) (targets later) (looks_code later) t e ih
 
   by_action : (action : Action) (later : List NumberedAlarm) → Looks (λ u. is_target u later) (targets later) (looks_code later)
-      → Looks (λ u. sets_events_of u action || is_target u later) (before_later action later (targets later)) (look_of action later ++ looks_code later)
+      → Looks (λ u. sets_events_of u action || is_target u later) (tasks_before_later action later (targets later)) (look_of action later ++ looks_code later)
   by_action (Activate t) later ih = ih
   by_action (Set t mask) later ih = by_later later t ih (is_target t later) refl
 
+  -- behind the looks x3 knows of each task that the alarms set events of
   pub looks_owe : (alarms : List NumberedAlarm) → Looks (λ u. is_target u alarms) (targets alarms) (looks_code alarms)
   looks_owe [] = none
   looks_owe (alarm ∷ later) = by_action alarm.action later (looks_owe later)

@@ -31,6 +31,7 @@ module _ (config : Config) (fits : InRange config) where
       by false rest = rest
       by true rest = (record { number = omega arith; action = action_fits alarm.action are.0.action }, rest)
 
+-- those of each counter
 pub numbered : (config : Config) → InRange config → (counter : ℕ) → AreNumbered (counter_alarms config counter)
 numbered config fits counter =
     let few = fits.few_alarms in

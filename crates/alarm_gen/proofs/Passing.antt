@@ -5,6 +5,7 @@ use Rattle.rv32_instr.specs.declared.InstrKind.{InstrKind}
 use Rattle.masked_code.specs.Owes.{Owes}
 
 module _ (from to : ℕ) (E : List ℕ → State → State → Type 0) (start : State) where
+  -- what is owed behind it is all
   pub passes : (code rest : List InstrKind) (n o : ℕ) (c : Core) → length code ≡ n → ((o2 : ℕ) → o2 ≡ o + 4 * n → Owes from to o2 rest 0 E start c)
       → Owes from to o (code ++ rest) n E start c
   passes [] rest n o c e go = subst (λ k. Owes from to o rest k E start c) e (go o (omega arith))

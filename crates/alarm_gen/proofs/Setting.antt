@@ -10,7 +10,7 @@ use Rattle.sloth_region.specs.Layout.{counter_value, alarm_left, alarm_cycle, co
 use Rattle.rv32_instr.specs.declared.InstrKind.{InstrKind}
 use Rattle.rv32_instr.specs.declared.InstrKind.TheVariants.{Lui, Addi, Bltu}
 use Rattle.rv32_instr.specs.Ram.{word_at}
-use Rattle.masked_code.specs.Place.{at}
+use Rattle.masked_code.specs.Place.{offset_state}
 use Rattle.masked_code.specs.Masked.{FromOpening}
 use Rattle.masked_code.specs.Kernel.{masking}
 use Rattle.masked_code.specs.Owes.{◌▸◌, writes, loads, stores, Owes}
@@ -21,18 +21,20 @@ use Rattle.masked_code.proofs.Leave.{behind}
 use Rattle.block_parts.proofs.Landing.{lands}
 use Rattle.block_parts.proofs.Returning.{goes_back}
 use Rattle.block_parts.proofs.Serving.{opens}
-use Rattle.alarm_gen.specs.ServicePieces.{asks_unused, asks_cycle, asks_value, asks_ticks, finding_code, setting_code, answers_state, refusing_code}
-use Rattle.alarm_gen.specs.CancelAlarm.{MayUse, left_in}
-use Rattle.alarm_gen.specs.SetAlarm.{CycleFits, TicksFit, ValueFits, first_operand, ticks_until, with_alarm, AlarmSet, MaySetAbsolute, SetsRelative, SetsAbsolute}
-use Rattle.alarm_gen.specs.Pieces.{over}
+use Rattle.alarm_gen.specs.ServicePieces.{unused_alarm_test, cycle_test, alarm_value_test, ticks_test, finding_code, setting_code, state_refusal_code, refusing_code}
+use Rattle.alarm_gen.specs.CancelAlarm.{MayUse, left_ticks}
+use Rattle.alarm_gen.specs.SetAlarm.{CycleFits, TicksFit, AlarmValueFits, first_operand, ticks_until, with_alarm, AlarmSet, MaySetAbsolute, SetsRelative, SetsAbsolute}
+use Rattle.alarm_gen.specs.Pieces.{passing_distance}
 use Rattle.alarm_gen.proofs.Passing.{passes}
 
+-- the code of SetRelAlarm behind the masking instruction
 abbrev pub rel_body : (alarm max least : ℕ) → List InstrKind
-rel_body alarm max least = asks_unused alarm 17 ++ (asks_cycle max least 7 ++ (asks_ticks 5 ++ (setting_code alarm ++ refusing_code)))
+rel_body alarm max least = unused_alarm_test alarm 17 ++ (cycle_test max least 7 ++ (ticks_test 5 ++ (setting_code alarm ++ refusing_code)))
 
+-- that of SetAbsAlarm
 abbrev pub abs_body : (alarm counter max least : ℕ) → List InstrKind
 abs_body alarm counter max least =
-    asks_unused alarm 22 ++ (asks_cycle max least 12 ++ (asks_value 11 ++ (finding_code counter ++ (setting_code alarm ++ refusing_code))))
+    unused_alarm_test alarm 22 ++ (cycle_test max least 12 ++ (alarm_value_test 11 ++ (finding_code counter ++ (setting_code alarm ++ refusing_code))))
 
 -- ---- the look at the cycle
 
@@ -48,7 +50,7 @@ module _ (from to : ℕ) (E : List ℕ → State → State → Type 0) (start : 
     -- at most the greatest value
     most_owes : (o x1 : ℕ) → o + 32 ≤ 0x20_0000 → (cycle ≤ max → Owes from to (behind 3 o) (ok ++ rest) 0 E start (mach max))
         → (max < cycle → (o2 : ℕ) → Owes from to o2 rest 0 E start (mach max))
-        → Owes from to o (Lui 1 (hi max) ∷ Addi 1 1 (lo max) ∷ Bltu 1 11 (over m) ∷ (ok ++ rest)) 0 E start (mach x1)
+        → Owes from to o (Lui 1 (hi max) ∷ Addi 1 1 (lo max) ∷ Bltu 1 11 (passing_distance m) ∷ (ok ++ rest)) 0 E start (mach x1)
     most_owes o x1 small fits none =
         writes (hi max * 4096) refl
         ▸ writes max (hi_lo max max_fits)
@@ -67,7 +69,7 @@ module _ (from to : ℕ) (E : List ℕ → State → State → Type 0) (start : 
 
     cycle_owes : (o x1 : ℕ) → o + 48 ≤ 0x20_0000 → (CycleFits max least cycle → (o2 : ℕ) → o2 + 20 ≤ 0x20_0000 → Owes from to o2 (ok ++ rest) 0 E start (mach max))
         → ((CycleFits max least cycle → ⊥) → (o2 y1 : ℕ) → Owes from to o2 rest 0 E start (mach y1))
-        → Owes from to o (asks_cycle max least m ++ (ok ++ rest)) 0 E start (mach x1)
+        → Owes from to o (cycle_test max least m ++ (ok ++ rest)) 0 E start (mach x1)
     cycle_owes o x1 small fits none = record {
       passed = 3;
       lands = lands o 16 3 (omega arith) (omega arith) refl;
@@ -112,13 +114,13 @@ module _ (offset to alarm : ℕ) (code : List InstrKind) (c : Core) (may : MayUs
   tail = spread_from 27 5 c.registers
 
   abbrev v : ℕ
-  v = left_in alarm c
+  v = left_ticks alarm c
 
   abbrev first : State
-  first = at offset (based c)
+  first = offset_state offset (based c)
 
   state_owes : (o x1 : ℕ) → v ≢ 0
-      → Owes offset to o answers_state 0 E first (record (masked (based c)) { registers = 0 ∷ x1 ∷ x2 ∷ controller_base ∷ memory_base ∷ tail })
+      → Owes offset to o state_refusal_code 0 E first (record (masked (based c)) { registers = 0 ∷ x1 ∷ x2 ∷ controller_base ∷ memory_base ∷ tail })
   state_owes o x1 n =
       writes E_OS_STATE refl
       ▸ goes_back offset code c may.goes_back E x1 E_OS_STATE c.pending c.pending c.ram
@@ -161,17 +163,17 @@ module _ (offset alarm max least : ℕ) (max_fits : max < 2 ^ 32) (least_fits : 
   to1 = offset + 4 + 88
 
   abbrev first1 : State
-  first1 = at offset (based c)
+  first1 = offset_state offset (based c)
 
   abbrev left1 : ℕ
-  left1 = left_in alarm c
+  left1 = left_ticks alarm c
 
   abbrev ticks1 : ℕ
   ticks1 = get_or c.registers 10 0
 
   -- the look at the ticks
   ticks_owe : left1 ≡ 0 → CycleFits max least (get_or c.registers 11 0) → (o : ℕ) → o + 20 ≤ 0x20_0000
-      → Owes offset to1 o (asks_ticks 5 ++ (setting_code alarm ++ refusing_code)) 0 E1 first1 (mach offset to1 E1 first1 c max least max_fits least_fits max)
+      → Owes offset to1 o (ticks_test 5 ++ (setting_code alarm ++ refusing_code)) 0 E1 first1 (mach offset to1 E1 first1 c max least max_fits least_fits max)
   ticks_owe z cycles o small = record {
     passed = 6;
     lands = lands o 28 6 (omega arith) (omega arith) refl;
@@ -210,14 +212,14 @@ module _ (offset alarm max least : ℕ) (max_fits : max < 2 ^ 32) (least_fits : 
             (cases_eq left1 0);
         when_not = λ y. ⊎_elim
             (λ (z : left1 ≡ 0).
-            cycle_owes offset to1 E1 first1 c max least max_fits least_fits (asks_ticks 5 ++ setting_code alarm) refusing_code 7 refl (omega arith)
+            cycle_owes offset to1 E1 first1 c max least max_fits least_fits (ticks_test 5 ++ setting_code alarm) refusing_code 7 refl (omega arith)
             (behind 3 offset) left1 (omega arith) (λ cycles o small. ticks_owe z cycles o small)
             (λ none o y1. value_owes offset to1 alarm code1 c h Fits1 first_operand o y1 z (λ f. none f.2)))
             (λ (n : left1 ≢ 0). absurd (y (ap not (ne_eqb left1 0 n))))
             (cases_eq left1 0);
       }
 
-  runs_rel : FromOpening 22 (at offset c) E1
+  runs_rel : FromOpening 22 (offset_state offset c) E1
   runs_rel = opens offset 22 (rel_body alarm max least) c E1 h.goes_back.can_run h.goes_back.bases (omega arith) rel_owes
 
 -- ---- SetAbsAlarm
@@ -231,7 +233,7 @@ module _ (offset alarm counter max least : ℕ) (max_fits : max < 2 ^ 31) (least
   code2 = masking ∷ abs_body alarm counter max least
 
   abbrev Fits2 : Core → Type 0
-  Fits2 = ValueFits max least
+  Fits2 = AlarmValueFits max least
 
   abbrev ticks2 : Core → ℕ
   ticks2 = ticks_until counter max
@@ -243,10 +245,10 @@ module _ (offset alarm counter max least : ℕ) (max_fits : max < 2 ^ 31) (least
   to2 = offset + 4 + 108
 
   abbrev first2 : State
-  first2 = at offset (based c)
+  first2 = offset_state offset (based c)
 
   abbrev left2 : ℕ
-  left2 = left_in alarm c
+  left2 = left_ticks alarm c
 
   abbrev value : ℕ
   value = word_at c.ram (counter_value counter)
@@ -289,7 +291,7 @@ module _ (offset alarm counter max least : ℕ) (max_fits : max < 2 ^ 31) (least
 
   -- the look at that value
   value_owe : left2 ≡ 0 → CycleFits max least (get_or c.registers 11 0) → (o : ℕ) → o + 20 ≤ 0x20_0000
-      → Owes offset to2 o (asks_value 11 ++ (finding_code counter ++ (setting_code alarm ++ refusing_code))) 0 E2 first2
+      → Owes offset to2 o (alarm_value_test 11 ++ (finding_code counter ++ (setting_code alarm ++ refusing_code))) 0 E2 first2
       (mach offset to2 E2 first2 c max least max_word least_fits max)
   value_owe z cycles o small = record {
     passed = 11;
@@ -318,20 +320,22 @@ module _ (offset alarm counter max least : ℕ) (max_fits : max < 2 ^ 31) (least
             (cases_eq left2 0);
         when_not = λ y. ⊎_elim
             (λ (z : left2 ≡ 0).
-            cycle_owes offset to2 E2 first2 c max least max_word least_fits (asks_value 11 ++ (finding_code counter ++ setting_code alarm)) refusing_code 12 refl
+            cycle_owes offset to2 E2 first2 c max least max_word least_fits (alarm_value_test 11 ++ (finding_code counter ++ setting_code alarm)) refusing_code 12 refl
             (omega arith) (behind 3 offset) left2 (omega arith) (λ cycles o small. value_owe z cycles o small)
             (λ none o y1. value_owes offset to2 alarm code2 c h.may_use Fits2 ticks2 o y1 z (λ f. none f.1)))
             (λ (n : left2 ≢ 0). absurd (y (ap not (ne_eqb left2 0 n))))
             (cases_eq left2 0);
       }
 
-  runs_abs : FromOpening 27 (at offset c) E2
+  runs_abs : FromOpening 27 (offset_state offset c) E2
   runs_abs = opens offset 27 (abs_body alarm counter max least) c E2 h.may_use.goes_back.can_run h.may_use.goes_back.bases (omega arith) abs_owes
 
+-- the alarm is set by ticks from now, or is not, with the status that says why
 pub sets_relative : (alarm max least : ℕ) → max < 2 ^ 32 → least < 2 ^ 32 → SetsRelative alarm max least (masking ∷ rel_body alarm max least)
 sets_relative alarm max least a b =
     record { size = refl; masks = (rel_body alarm max least, refl); runs = λ offset core h. runs_rel offset alarm max least a b core h }
 
+-- the same by a value of its counter
 pub sets_absolute : (alarm counter max least : ℕ) → max < 2 ^ 31 → least < 2 ^ 32
     → SetsAbsolute alarm counter max least (masking ∷ abs_body alarm counter max least)
 sets_absolute alarm counter max least a b =

@@ -14,7 +14,7 @@ use Rattle.rv32_instr.specs.declared.InstrKind.{InstrKind}
 use Rattle.rv32_instr.specs.Ram.{word_at, with_word}
 use Rattle.masked_code.specs.Masked.{Masked, WithArrivals}
 use Rattle.masked_code.specs.Owes.{◌▸◌, writes, loads, stores, Owes}
-use Rattle.masked_code.specs.Place.{at}
+use Rattle.masked_code.specs.Place.{offset_state}
 use Rattle.masked_code.proofs.Leave.{behind}
 use Rattle.masked_code.proofs.Parts.{hi_lo}
 use Rattle.masked_code.proofs.Spread.{based, based_is, spread_from, others}
@@ -23,16 +23,16 @@ use Rattle.masked_code.proofs.Words.{word_at-other}
 use Rattle.block_parts.proofs.Landing.{lands}
 use Rattle.alarm_gen.specs.declared.alarms.NumberedAlarm.{NumberedAlarm}
 use Rattle.alarm_gen.specs.Alarms.{AreNumbered, is_target, targets}
-use Rattle.alarm_gen.specs.Pieces.{clearing_code, looks_code, basing_code, alarms_code, returning_code, tick_code}
-use Rattle.alarm_gen.specs.Tick.{Ground, vector, next_value, counted, alarms_ticked, IsTold, MayTick, Ticked, Ticks}
+use Rattle.alarm_gen.specs.Pieces.{look_clearing_code, looks_code, basing_code, alarms_code, returning_code, tick_code}
+use Rattle.alarm_gen.specs.Tick.{Ground, vector, next_value, counted_ground, alarms_ground, AreTaskBits, MayTick, Ticked, Ticks}
 use Rattle.alarm_gen.proofs.Looking.{looks_owe}
 use Rattle.alarm_gen.proofs.Acting.{alarms_owe}
 use Rattle.alarm_gen.proofs.Lengths.{tick_few}
 
 -- what tells of tasks are bits behind a counter's new value too
 told_counted : (ram enabled pending : List ℕ) (counter v : ℕ) (tasks : List ℕ)
-    → AllByRecursion (IsTold (record { ram = ram; pending = pending; enabled = enabled })) tasks
-    → AllByRecursion (IsTold (record { ram = with_word ram (counter_value counter) v; pending = pending; enabled = enabled })) tasks
+    → AllByRecursion (AreTaskBits (record { ram = ram; pending = pending; enabled = enabled })) tasks
+    → AllByRecursion (AreTaskBits (record { ram = with_word ram (counter_value counter) v; pending = pending; enabled = enabled })) tasks
 told_counted ram enabled pending counter v [] h = tt
 told_counted ram enabled pending counter v (t ∷ tasks) h =
     let few = h.0.is_task in
@@ -54,7 +54,7 @@ module _ (counter max : ℕ) (alarms : List NumberedAlarm) (small : counter < 2)
   tail = spread_from 27 5 c.registers
 
   abbrev first : State
-  first = at (vector (counter_line counter)) (based c)
+  first = offset_state (vector (counter_line counter)) (based c)
 
   abbrev st : List ℕ → State
   st q = record first { core = record first.core { pending = q } }
@@ -63,18 +63,18 @@ module _ (counter max : ℕ) (alarms : List NumberedAlarm) (small : counter < 2)
   value = word_at c.ram (counter_value counter)
 
   abbrev grown : List ℕ → Ground
-  grown q = counted counter max (record { ram = c.ram; pending = q; enabled = c.enabled })
+  grown q = counted_ground counter max (record { ram = c.ram; pending = q; enabled = c.enabled })
 
   abbrev mach : Ground → ℕ → ℕ → Core
   mach g x1 x3 = record (based c) { registers = 0 ∷ x1 ∷ x2 ∷ x3 ∷ memory_base ∷ tail; ram = g.ram; pending = g.pending; enabled = g.enabled }
 
   abbrev behind_count : List InstrKind
-  behind_count = clearing_code ++ (looks_code alarms ++ (basing_code ++ (alarms_code alarms ++ returning_code)))
+  behind_count = look_clearing_code ++ (looks_code alarms ++ (basing_code ++ (alarms_code alarms ++ returning_code)))
 
   ends : (x1 : ℕ) (q : List ℕ)
       → Ticked counter max alarms (targets alarms ++ []) (st q) (record {
         pc = c.mepc;
-        core = record (mach (alarms_ticked alarms (grown q)) x1 controller_base) { ilevel = c.plevel; mie = c.mpie; mpie = true };
+        core = record (mach (alarms_ground alarms (grown q)) x1 controller_base) { ilevel = c.plevel; mie = c.mpie; mpie = true };
       })
   ends x1 q = record {
     touches = append-nil (targets alarms);
@@ -146,19 +146,20 @@ module _ (counter max : ℕ) (alarms : List NumberedAlarm) (small : counter < 2)
             (cases_eq v max);
       }
 
-  runs_it : Masked (12 + 34 * length alarms) (at (vector (counter_line counter)) c) (WithArrivals (Ticked counter max alarms) (at (vector (counter_line counter)) c))
+  runs_it : Masked (12 + 34 * length alarms) (offset_state (vector (counter_line counter)) c) (WithArrivals (Ticked counter max alarms) (offset_state (vector (counter_line counter)) c))
   runs_it =
       let can = h.can_run in
       let few = tick_few counter max alarms in
       let n = 11 + 34 * length alarms in
       let e : suc n ≡ 12 + 34 * length alarms = omega arith in
       let v = vector (counter_line counter) in
-      subst (λ k. Masked k (at v c) (WithArrivals (Ticked counter max alarms) (at v c))) e
-      (jumps_in v offset n h.jump (tick_code counter max alarms) c (Ticked counter max alarms) (at v c) (omega arith) h.vector_word h.to_code
+      subst (λ k. Masked k (offset_state v c) (WithArrivals (Ticked counter max alarms) (offset_state v c))) e
+      (jumps_in v offset n h.jump (tick_code counter max alarms) c (Ticked counter max alarms) (offset_state v c) (omega arith) h.vector_word h.to_code
       (record { masked = h.masked; there = can.controller; lines = can.lines; aligned = can.aligned; fits = can.inside; placed = can.placed })
       few
-      (subst (λ x. Owes offset to offset (tick_code counter max alarms) 0 (Ticked counter max alarms) (at v x) x) (based_is c can.registers can.zero h.bases) owes))
+      (subst (λ x. Owes offset to offset (tick_code counter max alarms) 0 (Ticked counter max alarms) (offset_state v x) x) (based_is c can.registers can.zero h.bases) owes))
 
+-- from the vector word back to what it interrupts, for each counter with its alarms
 pub ticks : (counter max : ℕ) (alarms : List NumberedAlarm) → counter < 2 → max < 2 ^ 32 → AreNumbered alarms
     → Ticks counter max alarms (tick_code counter max alarms)
 ticks counter max alarms small fits numbered = λ offset core h. runs_it counter max alarms small fits numbered offset core h

@@ -7,7 +7,7 @@ use Rattle.sloth_base.specs.Status.{E_OK, E_OS_NOFUNC}
 use Rattle.sloth_region.specs.Layout.{alarm_left}
 use Rattle.rv32_instr.specs.declared.InstrKind.{InstrKind}
 use Rattle.rv32_instr.specs.Ram.{with_word}
-use Rattle.masked_code.specs.Place.{at}
+use Rattle.masked_code.specs.Place.{offset_state}
 use Rattle.masked_code.specs.Masked.{FromOpening}
 use Rattle.masked_code.specs.Kernel.{masking}
 use Rattle.masked_code.specs.Owes.{◌▸◌, writes, loads, stores, Owes}
@@ -17,21 +17,22 @@ use Rattle.masked_code.proofs.Leave.{behind}
 use Rattle.block_parts.proofs.Landing.{lands}
 use Rattle.block_parts.proofs.Returning.{goes_back, goes_back_with}
 use Rattle.block_parts.proofs.Serving.{opens}
-use Rattle.block_parts.specs.Pieces.{back}
-use Rattle.alarm_gen.specs.ServicePieces.{asks_used, cancelling_code, telling_code}
-use Rattle.alarm_gen.specs.CancelAlarm.{MayUse, left_in, AlarmCancelled, CancelsAlarm}
+use Rattle.block_parts.specs.Pieces.{back_code}
+use Rattle.alarm_gen.specs.ServicePieces.{used_alarm_test, cancelling_code, telling_code}
+use Rattle.alarm_gen.specs.CancelAlarm.{MayUse, left_ticks, AlarmCancelled, CancelsAlarm}
 use Rattle.alarm_gen.specs.GetAlarm.{AlarmTold, TellsAlarm}
 
 -- ---- CancelAlarm
 
+-- the code behind the masking instruction
 abbrev pub cancel_body : ℕ → List InstrKind
-cancel_body alarm = asks_used alarm ++ (cancelling_code alarm ++ back)
+cancel_body alarm = used_alarm_test alarm ++ (cancelling_code alarm ++ back_code)
 
 module _ (offset alarm : ℕ) (c : Core) (h : MayUse offset alarm (masking ∷ cancel_body alarm) c) where
   abbrev v : ℕ
-  v = left_in alarm c
+  v = left_ticks alarm c
 
-  cancels_owe : Owes offset (offset + 4 + 28) (offset + 4) (cancel_body alarm) 0 (AlarmCancelled alarm) (at offset (based c)) (masked (based c))
+  cancels_owe : Owes offset (offset + 4 + 28) (offset + 4) (cancel_body alarm) 0 (AlarmCancelled alarm) (offset_state offset (based c)) (masked (based c))
   cancels_owe =
       let few = h.is_alarm in
       let low = h.goes_back.can_run.behind in
@@ -57,22 +58,24 @@ module _ (offset alarm : ℕ) (c : Core) (h : MayUse offset alarm (masking ∷ c
             (cases_eq v 0);
       }
 
-  runs_cancel : FromOpening 7 (at offset c) (AlarmCancelled alarm)
+  runs_cancel : FromOpening 7 (offset_state offset c) (AlarmCancelled alarm)
   runs_cancel = opens offset 7 (cancel_body alarm) c (AlarmCancelled alarm) h.goes_back.can_run h.goes_back.bases (omega arith) cancels_owe
 
+-- for each alarm
 pub cancels : (alarm : ℕ) → CancelsAlarm alarm (masking ∷ cancel_body alarm)
 cancels alarm = record { size = refl; masks = (cancel_body alarm, refl); runs = λ offset core h. runs_cancel offset alarm core h }
 
 -- ---- GetAlarm
 
+-- the code behind the masking instruction
 abbrev pub tell_body : ℕ → List InstrKind
-tell_body alarm = asks_used alarm ++ (telling_code alarm ++ back)
+tell_body alarm = used_alarm_test alarm ++ (telling_code alarm ++ back_code)
 
 module _ (offset alarm : ℕ) (c : Core) (h : MayUse offset alarm (masking ∷ tell_body alarm) c) where
   abbrev w : ℕ
-  w = left_in alarm c
+  w = left_ticks alarm c
 
-  tells_owe : Owes offset (offset + 4 + 28) (offset + 4) (tell_body alarm) 0 (AlarmTold alarm) (at offset (based c)) (masked (based c))
+  tells_owe : Owes offset (offset + 4 + 28) (offset + 4) (tell_body alarm) 0 (AlarmTold alarm) (offset_state offset (based c)) (masked (based c))
   tells_owe =
       let few = h.is_alarm in
       let fits = h.goes_back.can_run.inside in
@@ -96,8 +99,9 @@ module _ (offset alarm : ℕ) (c : Core) (h : MayUse offset alarm (masking ∷ t
             (cases_eq w 0);
       }
 
-  runs_tell : FromOpening 7 (at offset c) (AlarmTold alarm)
+  runs_tell : FromOpening 7 (offset_state offset c) (AlarmTold alarm)
   runs_tell = opens offset 7 (tell_body alarm) c (AlarmTold alarm) h.goes_back.can_run h.goes_back.bases (omega arith) tells_owe
 
+-- for each alarm
 pub tells : (alarm : ℕ) → TellsAlarm alarm (masking ∷ tell_body alarm)
 tells alarm = record { size = refl; masks = (tell_body alarm, refl); runs = λ offset core h. runs_tell offset alarm core h }

@@ -42,11 +42,11 @@ abbrev pub is_target : ℕ → List NumberedAlarm → Bool
 is_target task alarms = list_any (λ alarm. sets_events_of task alarm.action) alarms
 
 -- the task of an action before others, where it sets events of one of which no later alarm sets events
-abbrev pub before_later : Action → (later : List NumberedAlarm) → List ℕ → List ℕ
-before_later (Activate task) later targets = targets
-before_later (Set task mask) later targets = cond (is_target task later) targets (task ∷ targets)
+abbrev pub tasks_before_later : Action → (later : List NumberedAlarm) → List ℕ → List ℕ
+tasks_before_later (Activate task) later targets = targets
+tasks_before_later (Set task mask) later targets = cond (is_target task later) targets (task ∷ targets)
 
 -- the tasks whose events the alarms set, each once, by the last alarm that does so
 abbrev pub targets : List NumberedAlarm → List ℕ
 targets [] = []
-targets (alarm ∷ later) = before_later alarm.action later (targets later)
+targets (alarm ∷ later) = tasks_before_later alarm.action later (targets later)

@@ -7,7 +7,7 @@ use Rattle.sloth_region.specs.Layout.{alarm_left}
 use Rattle.rv32_instr.specs.declared.InstrKind.{InstrKind}
 use Rattle.rv32_instr.specs.Ram.{word_at, with_word}
 use Rattle.masked_code.specs.Masked.{FromOpening}
-use Rattle.masked_code.specs.Place.{at}
+use Rattle.masked_code.specs.Place.{offset_state}
 use Rattle.block_parts.specs.ServiceCode.{IsServiceCode}
 use Rattle.block_parts.specs.Back.{CanGoBack, WentBack, a0}
 
@@ -17,18 +17,18 @@ pub record MayUse (offset alarm : ℕ) (code : List InstrKind) (core : Core) : T
   pub is_alarm : alarm < 32
 
 -- the ticks that an alarm has left
-abbrev pub left_in : ℕ → Core → ℕ
-left_in alarm core = word_at core.ram (alarm_left alarm)
+abbrev pub left_ticks : ℕ → Core → ℕ
+left_ticks alarm core = word_at core.ram (alarm_left alarm)
 
 -- The alarm is not in use: the status is E_OS_NOFUNC, and nothing happens.
 pub record HasNoAlarm (alarm : ℕ) (start end : State) : Type 0 where
-  pub unused : left_in alarm start.core ≡ 0
+  pub unused : left_ticks alarm start.core ≡ 0
   pub status : slice_index end.core.registers a0 ≡ E_OS_NOFUNC
   pub back : WentBack a0 start.core start end
 
 -- It is in use, and is no longer; the status is E_OK.
 pub record HasCancelled (alarm : ℕ) (start end : State) : Type 0 where
-  pub used : left_in alarm start.core ≢ 0
+  pub used : left_ticks alarm start.core ≢ 0
   pub status : slice_index end.core.registers a0 ≡ E_OK
   pub back : WentBack a0 (record start.core { ram = with_word start.core.ram (alarm_left alarm) 0 }) start end
 
@@ -40,4 +40,4 @@ pub record AlarmCancelled (alarm : ℕ) (touched : List ℕ) (start end : State)
 -- Code of CancelAlarm: behind its first instruction at most 7 more lead to its effect, whatever lines arrive.
 abbrev pub CancelsAlarm : ℕ → List InstrKind → Type 0
 CancelsAlarm alarm code =
-    IsServiceCode service.CancelAlarm code ((offset : ℕ) (core : Core) → MayUse offset alarm code core → FromOpening 7 (at offset core) (AlarmCancelled alarm))
+    IsServiceCode service.CancelAlarm code ((offset : ℕ) (core : Core) → MayUse offset alarm code core → FromOpening 7 (offset_state offset core) (AlarmCancelled alarm))

@@ -5,16 +5,16 @@ use Rattle.sloth_base.specs.Machine.{Core, State}
 use Rattle.sloth_base.specs.Status.{E_OK}
 use Rattle.rv32_instr.specs.declared.InstrKind.{InstrKind}
 use Rattle.masked_code.specs.Masked.{FromOpening}
-use Rattle.masked_code.specs.Place.{at}
+use Rattle.masked_code.specs.Place.{offset_state}
 use Rattle.block_parts.specs.ServiceCode.{IsServiceCode}
 use Rattle.block_parts.specs.Back.{WentBack, a0, a1}
-use Rattle.alarm_gen.specs.CancelAlarm.{MayUse, left_in, HasNoAlarm}
+use Rattle.alarm_gen.specs.CancelAlarm.{MayUse, left_ticks, HasNoAlarm}
 
 -- The alarm is in use: a1 is the ticks that it has left, the status E_OK.
 pub record HasToldLeft (alarm : ℕ) (start end : State) : Type 0 where
-  pub used : left_in alarm start.core ≢ 0
+  pub used : left_ticks alarm start.core ≢ 0
   pub status : slice_index end.core.registers a0 ≡ E_OK
-  pub answer : slice_index end.core.registers a1 ≡ left_in alarm start.core
+  pub answer : slice_index end.core.registers a1 ≡ left_ticks alarm start.core
   pub back : WentBack a1 start.core start end
 
 -- what GetAlarm does
@@ -25,4 +25,4 @@ pub record AlarmTold (alarm : ℕ) (touched : List ℕ) (start end : State) : Ty
 -- Code of GetAlarm: behind its first instruction at most 7 more lead to its effect, whatever lines arrive.
 abbrev pub TellsAlarm : ℕ → List InstrKind → Type 0
 TellsAlarm alarm code =
-    IsServiceCode service.GetAlarm code ((offset : ℕ) (core : Core) → MayUse offset alarm code core → FromOpening 7 (at offset core) (AlarmTold alarm))
+    IsServiceCode service.GetAlarm code ((offset : ℕ) (core : Core) → MayUse offset alarm code core → FromOpening 7 (offset_state offset core) (AlarmTold alarm))

@@ -10,18 +10,18 @@ use Rattle.alarm_gen.specs.declared.alarms.NumberedAlarm.{NumberedAlarm}
 use Rattle.alarm_gen.specs.Alarms.{is_target}
 
 -- how far a branch goes that passes so many instructions
-abbrev pub over : ℕ → ℤ
-over passed = pos (4 + 4 * passed)
+abbrev pub passing_distance : ℕ → ℤ
+passing_distance passed = pos (4 + 4 * passed)
 
 -- the counter's value grows by one, or goes from the greatest to 0
 abbrev pub counting_code : (counter max : ℕ) → List InstrKind
 counting_code counter max =
-    Lw 1 4 (pos (counter_value counter)) ∷ Lui 3 (hi max) ∷ Addi 3 3 (lo max) ∷ Bne 1 3 (over 1) ∷ Addi 1 0 (negsuc 0)
+    Lw 1 4 (pos (counter_value counter)) ∷ Lui 3 (hi max) ∷ Addi 3 3 (lo max) ∷ Bne 1 3 (passing_distance 1) ∷ Addi 1 0 (negsuc 0)
     ∷ Addi 1 1 (pos 1) ∷ Sw 4 1 (pos (counter_value counter)) ∷ []
 
 -- no task has been looked at: x3 := 0
-abbrev pub clearing_code : List InstrKind
-clearing_code = Addi 3 0 (pos 0) ∷ []
+abbrev pub look_clearing_code : List InstrKind
+look_clearing_code = Addi 3 0 (pos 0) ∷ []
 
 -- ---- the looks at tasks
 
@@ -54,17 +54,17 @@ activating_code task =
     Lui 4 controller_high ∷ Addi 1 0 (pos 1) ∷ Sb 4 1 (pos (pending_byte task)) ∷ Lui 4 words_high ∷ Slli 1 1 task ∷ Or 3 3 1 ∷ []
 
 -- on behind the alarm where the task is Suspended
-abbrev pub asks_busy : ℕ → List InstrKind
-asks_busy task = Srli 1 3 task ∷ Andi 1 1 (pos 1) ∷ Beq 1 0 (over 14) ∷ []
+abbrev pub suspension_test : ℕ → List InstrKind
+suspension_test task = Srli 1 3 task ∷ Andi 1 1 (pos 1) ∷ Beq 1 0 (passing_distance 14) ∷ []
 
 -- the task's events, with those of the mask, stay in x1
-abbrev pub adds_events : (task mask : ℕ) → List InstrKind
-adds_events task mask =
+abbrev pub event_adding_code : (task mask : ℕ) → List InstrKind
+event_adding_code task mask =
     Lw 1 4 (pos (events task)) ∷ Lui 4 (hi mask) ∷ Addi 4 4 (lo mask) ∷ Or 1 1 4 ∷ Lui 4 words_high ∷ Sw 4 1 (pos (events task)) ∷ []
 
 -- on behind what wakes the task where it waits for none of the events in x1; x4 is changed
-abbrev pub asks_awaited : ℕ → List InstrKind
-asks_awaited task = Lw 4 4 (pos (wait task)) ∷ And 1 1 4 ∷ Beq 1 0 (over 4) ∷ []
+abbrev pub awaited_events_test : ℕ → List InstrKind
+awaited_events_test task = Lw 4 4 (pos (wait task)) ∷ And 1 1 4 ∷ Beq 1 0 (passing_distance 4) ∷ []
 
 -- the task's line is raised and enabled; x4 is changed
 abbrev pub waking_code : ℕ → List InstrKind
@@ -73,7 +73,7 @@ waking_code task = Lui 4 controller_high ∷ Addi 1 0 (pos 1) ∷ Sb 4 1 (pos (p
 -- what an action does
 abbrev pub action_code : Action → List InstrKind
 action_code (Activate task) = activating_code task
-action_code (Set task mask) = asks_busy task ++ (adds_events task mask ++ (asks_awaited task ++ (waking_code task ++ basing_code)))
+action_code (Set task mask) = suspension_test task ++ (event_adding_code task mask ++ (awaited_events_test task ++ (waking_code task ++ basing_code)))
 
 -- how many instructions that are
 abbrev pub action_size : Action → ℕ
@@ -84,13 +84,14 @@ action_size (Set task mask) = 17
 -- many instructions.
 abbrev pub losing_code : (alarm size : ℕ) → List InstrKind
 losing_code alarm size =
-    Lw 1 4 (pos (alarm_left alarm)) ∷ Beq 1 0 (over (5 + size)) ∷ Addi 1 1 (negsuc 0) ∷ Sw 4 1 (pos (alarm_left alarm))
-    ∷ Bne 1 0 (over (2 + size)) ∷ Lw 1 4 (pos (alarm_cycle alarm)) ∷ Sw 4 1 (pos (alarm_left alarm)) ∷ []
+    Lw 1 4 (pos (alarm_left alarm)) ∷ Beq 1 0 (passing_distance (5 + size)) ∷ Addi 1 1 (negsuc 0) ∷ Sw 4 1 (pos (alarm_left alarm))
+    ∷ Bne 1 0 (passing_distance (2 + size)) ∷ Lw 1 4 (pos (alarm_cycle alarm)) ∷ Sw 4 1 (pos (alarm_left alarm)) ∷ []
 
--- one alarm, and several in order
+-- the code of one alarm
 abbrev pub alarm_code : NumberedAlarm → List InstrKind
 alarm_code alarm = losing_code alarm.number (action_size alarm.action) ++ action_code alarm.action
 
+-- the code of several alarms, in order
 abbrev pub alarms_code : List NumberedAlarm → List InstrKind
 alarms_code [] = []
 alarms_code (alarm ∷ later) = alarm_code alarm ++ alarms_code later
@@ -104,4 +105,4 @@ returning_code = Lui 3 controller_high ∷ Mret ∷ []
 -- the tick of a counter with its greatest value and its alarms
 abbrev pub tick_code : (counter max : ℕ) → List NumberedAlarm → List InstrKind
 tick_code counter max alarms =
-    counting_code counter max ++ (clearing_code ++ (looks_code alarms ++ (basing_code ++ (alarms_code alarms ++ returning_code))))
+    counting_code counter max ++ (look_clearing_code ++ (looks_code alarms ++ (basing_code ++ (alarms_code alarms ++ returning_code))))

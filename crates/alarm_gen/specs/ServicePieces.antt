@@ -5,12 +5,12 @@ use Rattle.sloth_base.specs.Status.{E_OK, E_OS_NOFUNC, E_OS_STATE, E_OS_VALUE}
 use Rattle.sloth_region.specs.Layout.{counter_value, alarm_left, alarm_cycle, controller_high}
 use Rattle.rv32_instr.specs.declared.InstrKind.{InstrKind}
 use Rattle.rv32_instr.specs.declared.InstrKind.TheVariants.{Lui, Lw, Sw, Addi, Sub, Beq, Bne, Bltu}
-use Rattle.block_parts.specs.Pieces.{back}
-use Rattle.alarm_gen.specs.Pieces.{over}
+use Rattle.block_parts.specs.Pieces.{back_code}
+use Rattle.alarm_gen.specs.Pieces.{passing_distance}
 
 -- the status of an alarm that is not in use, and on to the way back, behind two more, where this one is not
-abbrev pub asks_used : ℕ → List InstrKind
-asks_used alarm = Lw 1 4 (pos (alarm_left alarm)) ∷ Addi 10 0 (pos E_OS_NOFUNC) ∷ Beq 1 0 (over 2) ∷ []
+abbrev pub used_alarm_test : ℕ → List InstrKind
+used_alarm_test alarm = Lw 1 4 (pos (alarm_left alarm)) ∷ Addi 10 0 (pos E_OS_NOFUNC) ∷ Beq 1 0 (passing_distance 2) ∷ []
 
 -- the alarm is no longer in use
 abbrev pub cancelling_code : ℕ → List InstrKind
@@ -21,44 +21,46 @@ abbrev pub telling_code : ℕ → List InstrKind
 telling_code alarm = Lw 11 4 (pos (alarm_left alarm)) ∷ Addi 10 0 (pos E_OK) ∷ []
 
 -- on behind so many instructions where the alarm is in use
-abbrev pub asks_unused : (alarm passed : ℕ) → List InstrKind
-asks_unused alarm passed = Lw 1 4 (pos (alarm_left alarm)) ∷ Bne 1 0 (over passed) ∷ []
+abbrev pub unused_alarm_test : (alarm passed : ℕ) → List InstrKind
+unused_alarm_test alarm passed = Lw 1 4 (pos (alarm_left alarm)) ∷ Bne 1 0 (passing_distance passed) ∷ []
 
 -- on behind so many instructions where the cycle is below the least and not 0
-abbrev pub asks_least : (least passed : ℕ) → List InstrKind
-asks_least least passed = Beq 11 0 (over 3) ∷ Lui 1 (hi least) ∷ Addi 1 1 (lo least) ∷ Bltu 11 1 (over passed) ∷ []
+abbrev pub least_cycle_test : (least passed : ℕ) → List InstrKind
+least_cycle_test least passed = Beq 11 0 (passing_distance 3) ∷ Lui 1 (hi least) ∷ Addi 1 1 (lo least) ∷ Bltu 11 1 (passing_distance passed) ∷ []
 
 -- on behind so many instructions where it is above the counter's greatest value, which stays in x1
-abbrev pub asks_most : (max passed : ℕ) → List InstrKind
-asks_most max passed = Lui 1 (hi max) ∷ Addi 1 1 (lo max) ∷ Bltu 1 11 (over passed) ∷ []
+abbrev pub greatest_value_test : (max passed : ℕ) → List InstrKind
+greatest_value_test max passed = Lui 1 (hi max) ∷ Addi 1 1 (lo max) ∷ Bltu 1 11 (passing_distance passed) ∷ []
 
 -- on behind so many instructions where the cycle is not in range
-abbrev pub asks_cycle : (max least passed : ℕ) → List InstrKind
-asks_cycle max least passed = asks_least least (3 + passed) ++ asks_most max passed
+abbrev pub cycle_test : (max least passed : ℕ) → List InstrKind
+cycle_test max least passed = least_cycle_test least (3 + passed) ++ greatest_value_test max passed
 
 -- on behind so many instructions where the value that is to come is above the greatest
-abbrev pub asks_value : ℕ → List InstrKind
-asks_value passed = Bltu 1 10 (over passed) ∷ []
+abbrev pub alarm_value_test : ℕ → List InstrKind
+alarm_value_test passed = Bltu 1 10 (passing_distance passed) ∷ []
 
 -- on behind so many instructions where the ticks from now on are 0 or above the greatest value
-abbrev pub asks_ticks : ℕ → List InstrKind
-asks_ticks passed = Beq 10 0 (over (1 + passed)) ∷ asks_value passed
+abbrev pub ticks_test : ℕ → List InstrKind
+ticks_test passed = Beq 10 0 (passing_distance (1 + passed)) ∷ alarm_value_test passed
 
 -- a0 := the ticks to the value in a0
 abbrev pub finding_code : ℕ → List InstrKind
 finding_code counter =
-    Lw 3 4 (pos (counter_value counter)) ∷ Bltu 3 10 (over 2) ∷ Sub 3 3 1 ∷ Addi 3 3 (negsuc 0) ∷ Sub 10 10 3 ∷ Lui 3 controller_high ∷ []
+    Lw 3 4 (pos (counter_value counter)) ∷ Bltu 3 10 (passing_distance 2) ∷ Sub 3 3 1 ∷ Addi 3 3 (negsuc 0) ∷ Sub 10 10 3 ∷ Lui 3 controller_high ∷ []
 
 -- the alarm gets the ticks in a0 and the cycle in a1
 abbrev pub setting_code : ℕ → List InstrKind
-setting_code alarm = Sw 4 10 (pos (alarm_left alarm)) ∷ Sw 4 11 (pos (alarm_cycle alarm)) ∷ Addi 10 0 (pos E_OK) ∷ back
+setting_code alarm = Sw 4 10 (pos (alarm_left alarm)) ∷ Sw 4 11 (pos (alarm_cycle alarm)) ∷ Addi 10 0 (pos E_OK) ∷ back_code
 
--- the refusals: a value out of range, an alarm in use
-abbrev pub answers_value : List InstrKind
-answers_value = Addi 10 0 (pos E_OS_VALUE) ∷ back
+-- the refusal of a value that is out of range
+abbrev pub value_refusal_code : List InstrKind
+value_refusal_code = Addi 10 0 (pos E_OS_VALUE) ∷ back_code
 
-abbrev pub answers_state : List InstrKind
-answers_state = Addi 10 0 (pos E_OS_STATE) ∷ back
+-- that of an alarm in use
+abbrev pub state_refusal_code : List InstrKind
+state_refusal_code = Addi 10 0 (pos E_OS_STATE) ∷ back_code
 
+-- both, one behind the other
 abbrev pub refusing_code : List InstrKind
-refusing_code = answers_value ++ answers_state
+refusing_code = value_refusal_code ++ state_refusal_code

@@ -7,15 +7,16 @@ use Rattle.sloth_region.specs.Layout.{counter_value, alarm_left, alarm_cycle}
 use Rattle.rv32_instr.specs.declared.InstrKind.{InstrKind}
 use Rattle.rv32_instr.specs.Ram.{word_at, with_word}
 use Rattle.masked_code.specs.Masked.{FromOpening}
-use Rattle.masked_code.specs.Place.{at}
+use Rattle.masked_code.specs.Place.{offset_state}
 use Rattle.block_parts.specs.ServiceCode.{IsServiceCode}
 use Rattle.block_parts.specs.Back.{WentBack, a0, a1}
-use Rattle.alarm_gen.specs.CancelAlarm.{MayUse, left_in}
+use Rattle.alarm_gen.specs.CancelAlarm.{MayUse, left_ticks}
 
--- the operands: the ticks from now on, or the value that is to come, and the cycle
+-- the operand in a0: the ticks from now on, or the value that is to come
 abbrev pub first_operand : Core → ℕ
 first_operand core = slice_index core.registers a0
 
+-- the operand in a1: the cycle
 abbrev pub second_operand : Core → ℕ
 second_operand core = slice_index core.registers a1
 
@@ -28,8 +29,8 @@ abbrev pub TicksFit : (max least : ℕ) → Core → Type 0
 TicksFit max least core = (first_operand core ≢ 0) × (first_operand core ≤ max) × CycleFits max least (second_operand core)
 
 -- a value that is to come is at most the greatest
-abbrev pub ValueFits : (max least : ℕ) → Core → Type 0
-ValueFits max least core = (first_operand core ≤ max) × CycleFits max least (second_operand core)
+abbrev pub AlarmValueFits : (max least : ℕ) → Core → Type 0
+AlarmValueFits max least core = (first_operand core ≤ max) × CycleFits max least (second_operand core)
 
 -- the ticks from a counter's value to the next time that it has the value `to`
 abbrev pub ticks_to : (max value to : ℕ) → ℕ
@@ -43,13 +44,13 @@ ticks_until counter max core = ticks_to max (word_at core.ram (counter_value cou
 
 -- The alarm is in use: the status is E_OS_STATE, and nothing happens.
 pub record HasAlarm (alarm : ℕ) (start end : State) : Type 0 where
-  pub used : left_in alarm start.core ≢ 0
+  pub used : left_ticks alarm start.core ≢ 0
   pub status : slice_index end.core.registers a0 ≡ E_OS_STATE
   pub back : WentBack a0 start.core start end
 
 -- It is not, and the operands are out of range: the status is E_OS_VALUE, and nothing happens.
 pub record HasNoFit (alarm : ℕ) (Fits : Core → Type 0) (start end : State) : Type 0 where
-  pub unused : left_in alarm start.core ≡ 0
+  pub unused : left_ticks alarm start.core ≡ 0
   pub none : Fits start.core → ⊥
   pub status : slice_index end.core.registers a0 ≡ E_OS_VALUE
   pub back : WentBack a0 start.core start end
@@ -60,7 +61,7 @@ with_alarm ram alarm left cycle = with_word (with_word ram (alarm_left alarm) le
 
 -- They are in range: the alarm has so many ticks left, and its cycle; the status is E_OK.
 pub record HasAlarmSet (alarm : ℕ) (Fits : Core → Type 0) (ticks : Core → ℕ) (start end : State) : Type 0 where
-  pub unused : left_in alarm start.core ≡ 0
+  pub unused : left_ticks alarm start.core ≡ 0
   pub fits : Fits start.core
   pub status : slice_index end.core.registers a0 ≡ E_OK
   pub back : WentBack a0 (record start.core { ram = with_alarm start.core.ram alarm (ticks start.core) (second_operand start.core) }) start end
@@ -74,7 +75,7 @@ pub record AlarmSet (alarm : ℕ) (Fits : Core → Type 0) (ticks : Core → ℕ
 abbrev pub SetsRelative : (alarm max least : ℕ) → List InstrKind → Type 0
 SetsRelative alarm max least code =
     IsServiceCode service.SetRelAlarm code ((offset : ℕ) (core : Core) → MayUse offset alarm code core
-    → FromOpening 22 (at offset core) (AlarmSet alarm (TicksFit max least) first_operand))
+    → FromOpening 22 (offset_state offset core) (AlarmSet alarm (TicksFit max least) first_operand))
 
 -- the code can run; the counter's value is at most the greatest, and the value that is to come is a word
 pub record MaySetAbsolute (offset alarm counter max : ℕ) (code : List InstrKind) (core : Core) : Type 0 where
@@ -87,4 +88,4 @@ pub record MaySetAbsolute (offset alarm counter max : ℕ) (code : List InstrKin
 abbrev pub SetsAbsolute : (alarm counter max least : ℕ) → List InstrKind → Type 0
 SetsAbsolute alarm counter max least code =
     IsServiceCode service.SetAbsAlarm code ((offset : ℕ) (core : Core) → MaySetAbsolute offset alarm counter max code core
-    → FromOpening 27 (at offset core) (AlarmSet alarm (ValueFits max least) (ticks_until counter max)))
+    → FromOpening 27 (offset_state offset core) (AlarmSet alarm (AlarmValueFits max least) (ticks_until counter max)))

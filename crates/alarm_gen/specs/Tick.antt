@@ -12,7 +12,7 @@ use Rattle.rv32_instr.specs.declared.InstrKind.{InstrKind}
 use Rattle.rv32_instr.specs.declared.InstrKind.TheVariants.{Jal}
 use Rattle.rv32_instr.specs.Ram.{word_at, with_word}
 use Rattle.masked_code.specs.Masked.{Masked, WithArrivals}
-use Rattle.masked_code.specs.Place.{at, InPlace}
+use Rattle.masked_code.specs.Place.{offset_state, InPlace}
 use Rattle.masked_code.specs.Kernel.{CanRun, HoldBases, LeftAs}
 use Rattle.alarm_gen.specs.declared.alarms.NumberedAlarm.{NumberedAlarm}
 use Rattle.alarm_gen.specs.Alarms.{targets}
@@ -30,40 +30,40 @@ abbrev pub ground : Core → Ground
 ground core = record { ram = core.ram; pending = core.pending; enabled = core.enabled }
 
 -- a machine with this
-abbrev pub on : Core → Ground → Core
-on core g = record core { ram = g.ram; pending = g.pending; enabled = g.enabled }
+abbrev pub core_with_ground : Core → Ground → Core
+core_with_ground core g = record core { ram = g.ram; pending = g.pending; enabled = g.enabled }
 
 -- a task is Suspended: its line is not pending, but enabled, and it is not Active
-abbrev pub suspended : ℕ → Ground → Bool
-suspended task g = (slice_index g.pending task == 0) && ((slice_index g.enabled task == 1) && (word_at g.ram (active task) == 0))
+abbrev pub is_suspended_task : ℕ → Ground → Bool
+is_suspended_task task g = (slice_index g.pending task == 0) && ((slice_index g.enabled task == 1) && (word_at g.ram (active task) == 0))
 
 -- the task's line is pending
-abbrev pub raised : ℕ → Ground → Ground
-raised task g = record g { pending = slice_set g.pending task 1 }
+abbrev pub raised_ground : ℕ → Ground → Ground
+raised_ground task g = record g { pending = slice_set g.pending task 1 }
 
 -- the task's events, with those of a mask
-abbrev pub grown : (task mask : ℕ) → Ground → ℕ
-grown task mask g = bit_or (word_at g.ram (events task)) mask
+abbrev pub grown_events : (task mask : ℕ) → Ground → ℕ
+grown_events task mask g = bit_or (word_at g.ram (events task)) mask
 
 -- the task has these events
 abbrev pub with_events : (task set : ℕ) → Ground → Ground
 with_events task set g = record g { ram = with_word g.ram (events task) set }
 
 -- the task's line is pending and enabled
-abbrev pub woken : ℕ → Ground → Ground
-woken task g = record g { pending = slice_set g.pending task 1; enabled = slice_set g.enabled task 1 }
+abbrev pub woken_ground : ℕ → Ground → Ground
+woken_ground task g = record g { pending = slice_set g.pending task 1; enabled = slice_set g.enabled task 1 }
 
 -- events are set, and the task is woken unless it awaits none of them; the word of awaited events is stale where it does not wait
 abbrev pub with_set : (task mask : ℕ) → Ground → Ground
 with_set task mask g =
-    cond (bit_and (grown task mask g) (word_at g.ram (wait task)) == 0)
-    (with_events task (grown task mask g) g)
-    (woken task (with_events task (grown task mask g) g))
+    cond (bit_and (grown_events task mask g) (word_at g.ram (wait task)) == 0)
+    (with_events task (grown_events task mask g) g)
+    (woken_ground task (with_events task (grown_events task mask g) g))
 
 -- an action: a line is raised, or events are set for a task that is not Suspended
-abbrev pub acted : Action → Ground → Ground
-acted (Activate task) g = raised task g
-acted (Set task mask) g = cond (suspended task g) g (with_set task mask g)
+abbrev pub action_ground : Action → Ground → Ground
+action_ground (Activate task) g = raised_ground task g
+action_ground (Set task mask) g = cond (is_suspended_task task g) g (with_set task mask g)
 
 -- one less
 abbrev pub less_one : ℕ → ℕ
@@ -74,31 +74,31 @@ abbrev pub with_left : (alarm left : ℕ) → Ground → Ground
 with_left alarm left g = record g { ram = with_word g.ram (alarm_left alarm) left }
 
 -- an alarm in use loses a tick; where it expires it has its cycle left, and acts
-abbrev pub alarm_ticked : NumberedAlarm → Ground → Ground
-alarm_ticked alarm g =
+abbrev pub alarm_ground : NumberedAlarm → Ground → Ground
+alarm_ground alarm g =
     cond (word_at g.ram (alarm_left alarm.number) == 0) g
     (cond (less_one (word_at g.ram (alarm_left alarm.number)) == 0)
-    (acted alarm.action
+    (action_ground alarm.action
     (with_left alarm.number (word_at g.ram (alarm_cycle alarm.number))
     (with_left alarm.number (less_one (word_at g.ram (alarm_left alarm.number))) g)))
     (with_left alarm.number (less_one (word_at g.ram (alarm_left alarm.number))) g))
 
 -- the alarms in order
-abbrev pub alarms_ticked : List NumberedAlarm → Ground → Ground
-alarms_ticked [] g = g
-alarms_ticked (alarm ∷ later) g = alarms_ticked later (alarm_ticked alarm g)
+abbrev pub alarms_ground : List NumberedAlarm → Ground → Ground
+alarms_ground [] g = g
+alarms_ground (alarm ∷ later) g = alarms_ground later (alarm_ground alarm g)
 
 -- the value behind this one
 abbrev pub next_value : (max value : ℕ) → ℕ
 next_value max value = cond (value == max) 0 (sum32 value 1)
 
 -- the counter's value has grown
-abbrev pub counted : (counter max : ℕ) → Ground → Ground
-counted counter max g = record g { ram = with_word g.ram (counter_value counter) (next_value max (word_at g.ram (counter_value counter))) }
+abbrev pub counted_ground : (counter max : ℕ) → Ground → Ground
+counted_ground counter max g = record g { ram = with_word g.ram (counter_value counter) (next_value max (word_at g.ram (counter_value counter))) }
 
 -- a whole tick of a counter with its greatest value and its alarms
-abbrev pub ground_ticked : (counter max : ℕ) → List NumberedAlarm → Ground → Ground
-ground_ticked counter max alarms g = alarms_ticked alarms (counted counter max g)
+abbrev pub ticked_ground : (counter max : ℕ) → List NumberedAlarm → Ground → Ground
+ticked_ground counter max alarms g = alarms_ground alarms (counted_ground counter max g)
 
 -- ---- what it needs, and its contract
 
@@ -107,7 +107,7 @@ abbrev pub vector : ℕ → ℕ
 vector line = 0x400 + 4 * line
 
 -- what tells of a task are bits
-pub record IsTold (g : Ground) (task : ℕ) : Type 0 where
+pub record AreTaskBits (g : Ground) (task : ℕ) : Type 0 where
   pub is_task : task < 30
   pub active_bit : word_at g.ram (active task) < 2
   pub pending_bit : slice_index g.pending task < 2
@@ -122,13 +122,13 @@ pub record MayTick (offset counter : ℕ) (alarms : List NumberedAlarm) (code : 
   pub jump : ℤ
   pub vector_word : InPlace core.ram (vector (counter_line counter)) (Jal 0 jump ∷ [])
   pub to_code : plus (memory_base + vector (counter_line counter)) jump ≡ memory_base + offset
-  pub told : AllByRecursion (IsTold (ground core)) (targets alarms)
+  pub told : AllByRecursion (AreTaskBits (ground core)) (targets alarms)
 
 -- The counter's value has grown and its alarms have acted, in order. What was interrupted goes on at its level, and of its registers x1
 -- alone holds anything. The line of each task whose events some alarm sets has been touched once.
 pub record Ticked (counter max : ℕ) (alarms : List NumberedAlarm) (touched : List ℕ) (start end : State) : Type 0 where
   pub touches : touched ≡ targets alarms
-  pub left : LeftAs (record (on start.core (ground_ticked counter max alarms (ground start.core))) { ilevel = start.core.plevel }) end.core
+  pub left : LeftAs (record (core_with_ground start.core (ticked_ground counter max alarms (ground start.core))) { ilevel = start.core.plevel }) end.core
   pub pc : end.pc ≡ start.core.mepc
   pub x2 : slice_index end.core.registers 2 ≡ slice_index start.core.registers 2
   pub kept : (i : ℕ) → 5 ≤ i → slice_index end.core.registers i ≡ slice_index start.core.registers i
@@ -137,5 +137,5 @@ pub record Ticked (counter max : ℕ) (alarms : List NumberedAlarm) (touched : L
 abbrev pub Ticks : (counter max : ℕ) → List NumberedAlarm → List InstrKind → Type 0
 Ticks counter max alarms code =
     (offset : ℕ) (core : Core) → MayTick offset counter alarms code core
-    → Masked (12 + 34 * length alarms) (at (vector (counter_line counter)) core)
-    (WithArrivals (Ticked counter max alarms) (at (vector (counter_line counter)) core))
+    → Masked (12 + 34 * length alarms) (offset_state (vector (counter_line counter)) core)
+    (WithArrivals (Ticked counter max alarms) (offset_state (vector (counter_line counter)) core))

@@ -1,7 +1,7 @@
 //! What a tick does with each alarm: it loses a tick, and where it expires it acts.
-ghost use Rattle.std.specs.Prelude.{◌≡◌, ◌<◌, ◌≤◌, ◌^◌, ◌++◌, OnOk};
+ghost use Rattle.std.specs.Prelude.{◌≡◌, ◌<◌, ◌≤◌, ◌++◌, OnOk};
 ghost use Rattle.alarm_gen.specs.Alarms.{IsAction, IsNumbered, AreNumbered};
-ghost use Rattle.alarm_gen.specs.Pieces.{basing_code, activating_code, asks_busy, adds_events, asks_awaited, waking_code, action_code, action_size, losing_code, alarm_code, alarms_code};
+ghost use Rattle.alarm_gen.specs.Pieces.{basing_code, activating_code, suspension_test, event_adding_code, awaited_events_test, waking_code, action_code, action_size, losing_code, alarm_code, alarms_code};
 
 use crate::alarms::NumberedAlarm;
 use masked_code::emit::{emit, past};
@@ -103,7 +103,7 @@ fn activate(code: &mut Vec<Instr>, task: u8) -> Result<(), AllocError>
 /// Events of a task are set.
 fn set(code: &mut Vec<Instr>, task: u8, mask: u32) -> Result<(), AllocError>
     requires { task < 30 }
-    ensures { OnOk result (code.new.items ≡ code.old.items ++ (asks_busy task ++ (adds_events task mask ++ (asks_awaited task ++ (waking_code task ++ basing_code))))) }
+    ensures { OnOk result (code.new.items ≡ code.old.items ++ (suspension_test task ++ (event_adding_code task mask ++ (awaited_events_test task ++ (waking_code task ++ basing_code))))) }
 {
     ask_busy(code, task)?;
     add_events(code, task, mask)?;
@@ -115,7 +115,7 @@ fn set(code: &mut Vec<Instr>, task: u8, mask: u32) -> Result<(), AllocError>
 /// On behind the alarm where the task is Suspended.
 fn ask_busy(code: &mut Vec<Instr>, task: u8) -> Result<(), AllocError>
     requires { task < 30 }
-    ensures { OnOk result (code.new.items ≡ code.old.items ++ asks_busy task) }
+    ensures { OnOk result (code.new.items ≡ code.old.items ++ suspension_test task) }
 {
     let asked = [
         srli(X1, X3, task),
@@ -128,7 +128,7 @@ fn ask_busy(code: &mut Vec<Instr>, task: u8) -> Result<(), AllocError>
 /// The task's events, with those of the mask, stay in x1.
 fn add_events(code: &mut Vec<Instr>, task: u8, mask: u32) -> Result<(), AllocError>
     requires { task < 30 }
-    ensures { OnOk result (code.new.items ≡ code.old.items ++ adds_events task mask) }
+    ensures { OnOk result (code.new.items ≡ code.old.items ++ event_adding_code task mask) }
 {
     let added = [
         lw(X1, X4, events(task)),
@@ -144,7 +144,7 @@ fn add_events(code: &mut Vec<Instr>, task: u8, mask: u32) -> Result<(), AllocErr
 /// On behind what wakes the task where it waits for none of the events in x1.
 fn ask_awaited(code: &mut Vec<Instr>, task: u8) -> Result<(), AllocError>
     requires { task < 30 }
-    ensures { OnOk result (code.new.items ≡ code.old.items ++ asks_awaited task) }
+    ensures { OnOk result (code.new.items ≡ code.old.items ++ awaited_events_test task) }
 {
     let asked = [
         lw(X4, X4, wait(task)),

@@ -33,7 +33,8 @@ use sloth_base::service::Service;
 use sloth_region::map::Map;
 use std::alloc::{AllocError, Global};
 
-/// The block of a counter's tick, at the address of the handler of its line. It saves no register.
+/// The block of the tick of a counter, 0 or 1, at the address of the handler of its line: 11 instructions, and at most 34 for each alarm of the
+/// counter. It saves no register. `NoMemory` where memory is wanting, and no other error.
 pub fn tick(
     alloc: Global,
     counter: u32,
@@ -58,8 +59,8 @@ pub fn tick(
     })
 }
 
-/// The block of a service on alarms with its alarm, at its address in the map. Its first instruction, under an opening mark, masks
-/// interrupts.
+/// The block of a service on alarms with its alarm, 0 to 31, at its address in the map. Its first instruction, under an opening mark, masks
+/// interrupts. `NoMemory` where memory is wanting, and no other error.
 pub fn block(
     alloc: Global,
     service: Service,

@@ -1,6 +1,5 @@
 //! The looks of a tick at tasks: bit T of x3 says whether task T is not Suspended.
 ghost use Rattle.std.specs.Prelude.{◌≡◌, ◌<◌, ◌++◌, OnOk};
-ghost use Rattle.code_lengths.specs.CodeLengths.{sets_events_of};
 ghost use Rattle.alarm_gen.specs.Alarms.{IsAction, AreNumbered, is_target};
 ghost use Rattle.alarm_gen.specs.Pieces.{look_code, look_of, looks_code};
 

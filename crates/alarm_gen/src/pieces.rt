@@ -1,6 +1,6 @@
 //! Pieces of code that several services on alarms have. x4 holds the base of memory, a0 and a1 the operands.
-ghost use Rattle.std.specs.Prelude.{◌≡◌, ◌<◌, ◌≤◌, ◌^◌, ◌++◌, OnOk};
-ghost use Rattle.alarm_gen.specs.ServicePieces.{asks_used, asks_unused, asks_least, asks_most, asks_cycle, asks_value, setting_code, refusing_code};
+ghost use Rattle.std.specs.Prelude.{◌≡◌, ◌<◌, ◌^◌, ◌++◌, OnOk};
+ghost use Rattle.alarm_gen.specs.ServicePieces.{used_alarm_test, unused_alarm_test, least_cycle_test, greatest_value_test, cycle_test, alarm_value_test, setting_code, refusing_code};
 
 use block_parts::pieces::{BACK, go_back};
 use masked_code::emit::{emit, past};
@@ -29,7 +29,7 @@ pub const REFUSAL: u32 = 1 + BACK;
 /// The status of an alarm that isn't in use, and on behind two more where this one isn't.
 pub fn ask_used(code: &mut Vec<Instr>, alarm: u8) -> Result<(), AllocError>
     requires { alarm < 32 }
-    ensures { OnOk result (code.new.items ≡ code.old.items ++ asks_used alarm) }
+    ensures { OnOk result (code.new.items ≡ code.old.items ++ used_alarm_test alarm) }
 {
     let asked = [
         lw(X1, X4, alarm_left(alarm)),
@@ -42,7 +42,7 @@ pub fn ask_used(code: &mut Vec<Instr>, alarm: u8) -> Result<(), AllocError>
 /// On behind so many instructions where the alarm is in use.
 pub fn ask_unused(code: &mut Vec<Instr>, alarm: u8, passed: u32) -> Result<(), AllocError>
     requires { (alarm < 32) × (passed < 100) }
-    ensures { OnOk result (code.new.items ≡ code.old.items ++ asks_unused alarm passed) }
+    ensures { OnOk result (code.new.items ≡ code.old.items ++ unused_alarm_test alarm passed) }
 {
     let asked = [lw(X1, X4, alarm_left(alarm)), bne(X1, ZERO, past(passed))];
     emit(code, &asked)
@@ -51,7 +51,7 @@ pub fn ask_unused(code: &mut Vec<Instr>, alarm: u8, passed: u32) -> Result<(), A
 /// On behind so many instructions where the cycle isn't in range. Leaves the counter's greatest value in x1.
 pub fn ask_cycle(code: &mut Vec<Instr>, max: u32, least: u32, passed: u32) -> Result<(), AllocError>
     requires { passed < 100 }
-    ensures added { OnOk result (code.new.items ≡ code.old.items ++ asks_cycle max least passed) }
+    ensures added { OnOk result (code.new.items ≡ code.old.items ++ cycle_test max least passed) }
     ensures fits { (max < 2 ^ 32) × (least < 2 ^ 32) }
 {
     ask_least(code, least, MOST + passed)?;
@@ -61,7 +61,7 @@ pub fn ask_cycle(code: &mut Vec<Instr>, max: u32, least: u32, passed: u32) -> Re
 /// On behind so many instructions where the cycle is below the least and not 0.
 fn ask_least(code: &mut Vec<Instr>, least: u32, passed: u32) -> Result<(), AllocError>
     requires { passed < 103 }
-    ensures { OnOk result (code.new.items ≡ code.old.items ++ asks_least least passed) }
+    ensures { OnOk result (code.new.items ≡ code.old.items ++ least_cycle_test least passed) }
 {
     let asked = [
         beq(A1, ZERO, past(3)),
@@ -75,7 +75,7 @@ fn ask_least(code: &mut Vec<Instr>, least: u32, passed: u32) -> Result<(), Alloc
 /// On behind so many instructions where the cycle is above the greatest value.
 fn ask_most(code: &mut Vec<Instr>, max: u32, passed: u32) -> Result<(), AllocError>
     requires { passed < 100 }
-    ensures { OnOk result (code.new.items ≡ code.old.items ++ asks_most max passed) }
+    ensures { OnOk result (code.new.items ≡ code.old.items ++ greatest_value_test max passed) }
 {
     let asked = [
         lui(X1, hi(max)),
@@ -88,7 +88,7 @@ fn ask_most(code: &mut Vec<Instr>, max: u32, passed: u32) -> Result<(), AllocErr
 /// On behind so many instructions where a0 is above the greatest value.
 pub fn ask_value(code: &mut Vec<Instr>, passed: u32) -> Result<(), AllocError>
     requires { passed < 100 }
-    ensures { OnOk result (code.new.items ≡ code.old.items ++ asks_value passed) }
+    ensures { OnOk result (code.new.items ≡ code.old.items ++ alarm_value_test passed) }
 {
     emit(code, &[bltu(X1, A0, past(passed))])
 }

@@ -1,6 +1,6 @@
 //! SetRelAlarm: an alarm that is not in use expires after so many ticks, and then by its cycle.
-ghost use Rattle.std.specs.Prelude.{◌≡◌, ◌<◌, ◌^◌, ◌++◌, IfOk, OnOk};
-ghost use Rattle.alarm_gen.specs.ServicePieces.{asks_ticks};
+ghost use Rattle.std.specs.Prelude.{◌≡◌, ◌<◌, ◌++◌, IfOk, OnOk};
+ghost use Rattle.alarm_gen.specs.ServicePieces.{ticks_test};
 ghost use Rattle.alarm_gen.specs.SetAlarm.{SetsRelative};
 
 use crate::pieces::{CYCLE, REFUSAL, SET, VALUE, ask_cycle, ask_unused, ask_value, refuse, set};
@@ -31,7 +31,7 @@ pub fn code(alloc: Global, alarm: u8, max: u32, least: u32) -> Result<Vec<Instr>
 /// On behind so many instructions where a0 is 0 or above the greatest value.
 fn ask_ticks(code: &mut Vec<Instr>, passed: u32) -> Result<(), AllocError>
     requires { passed < 99 }
-    ensures { OnOk result (code.new.items ≡ code.old.items ++ asks_ticks passed) }
+    ensures { OnOk result (code.new.items ≡ code.old.items ++ ticks_test passed) }
 {
     emit(code, &[beq(A0, ZERO, past(VALUE + passed))])?;
     ask_value(code, passed)

@@ -3,7 +3,7 @@
 ghost use Rattle.std.specs.Prelude.{◌≡◌, ◌<◌, ◌^◌, ◌++◌, IfOk, OnOk};
 ghost use Rattle.alarm_gen.specs.Alarms.{AreNumbered};
 ghost use Rattle.alarm_gen.specs.Tick.{Ticks};
-ghost use Rattle.alarm_gen.specs.Pieces.{counting_code, clearing_code, returning_code, tick_code};
+ghost use Rattle.alarm_gen.specs.Pieces.{counting_code, look_clearing_code, returning_code, tick_code};
 
 use crate::actions::{base, run_all};
 use crate::alarms::NumberedAlarm;
@@ -56,7 +56,7 @@ fn count(code: &mut Vec<Instr>, counter: u8, max: u32) -> Result<(), AllocError>
 
 /// No task has been looked at.
 fn clear(code: &mut Vec<Instr>) -> Result<(), AllocError>
-    ensures { OnOk result (code.new.items ≡ code.old.items ++ clearing_code) }
+    ensures { OnOk result (code.new.items ≡ code.old.items ++ look_clearing_code) }
 {
     emit(code, &[addi(X3, ZERO, 0)])
 }

@@ -1,5 +1,5 @@
 //! The arrivals.
-ghost use Rattle.std.specs.Prelude.{◌≡◌, ◌≤◌, ◌<◌, ◌+◌, ◌%◌, IfOk};
+ghost use Rattle.std.specs.Prelude.{◌≡◌, ◌≤◌, ◌+◌, ◌%◌, IfOk};
 ghost use Rattle.app_gen.specs.Load.{high_bits, first_arrivals};
 
 use crate::draws::Draws;

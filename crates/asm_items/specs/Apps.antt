@@ -41,14 +41,14 @@ items_from config scope labels n [] = []
 items_from config scope labels n (l ∷ ls) = item_of config scope labels n l ++ items_from config scope labels (n + 1) ls
 
 -- the number of the resource of this name, where one is written
-abbrev pub hold_by : Scope → Option (List ℕ) → List ℕ
-hold_by scope None = []
-hold_by scope (Some name) = resource_number scope name ∷ []
+abbrev pub held_resource_by : Scope → Option (List ℕ) → List ℕ
+held_resource_by scope None = []
+held_resource_by scope (Some name) = resource_number scope name ∷ []
 
 -- the resources that these operands name, in order
 abbrev pub holds_of : Scope → List Operand → List ℕ
 holds_of scope [] = []
-holds_of scope (x ∷ os) = hold_by scope (written_name x) ++ holds_of scope os
+holds_of scope (x ∷ os) = held_resource_by scope (written_name x) ++ holds_of scope os
 
 -- the resources that a label says are held, in the order taken
 abbrev pub label_holds : Scope → SourceLine → List ℕ

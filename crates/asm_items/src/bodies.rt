@@ -2,7 +2,7 @@
 ghost use Rattle.std.specs.Prelude.{◌≡◌, ◌+◌, ◌++◌, ◌<◌, ◌^◌, length, IfOk, OnOk};
 ghost use Rattle.asm_scopes.specs.Said.{label_names, written_name};
 ghost use Rattle.asm_items.specs.Numbered.{IsNumbered};
-ghost use Rattle.asm_items.specs.Apps.{item_by, count_op, items_from, hold_by, holds_of, label_holds, label_of, labels_from, body_task, func_of};
+ghost use Rattle.asm_items.specs.Apps.{item_by, count_op, items_from, held_resource_by, holds_of, label_holds, label_of, labels_from, body_task, func_of};
 
 use crate::operations::op_of;
 use crate::services::{behind_first, resource_number};
@@ -53,7 +53,7 @@ fn items_of(
 // One resource more, if the operand names one.
 fn add_hold(holds: &mut Vec<ResId>, scope: &Scope, operand: &Operand) -> Result<(), NoMemory>
     requires { IsNumbered scope.now }
-    ensures { OnOk result (holds.new.items ≡ holds.old.items ++ hold_by scope.now (written_name operand.now)) }
+    ensures { OnOk result (holds.new.items ≡ holds.old.items ++ held_resource_by scope.now (written_name operand.now)) }
 {
     match written(operand) {
         Some(name) => push(holds, ResId(resource_number(scope, name))),

@@ -1,6 +1,5 @@
 //! What a service names: its task, resource or alarm, and the mask of its events.
 ghost use Rattle.std.specs.Prelude.{◌≡◌, ◌<◌, ◌^◌, length, option_copied};
-ghost use Rattle.asm_scopes.specs.Said.{first_name};
 ghost use Rattle.asm_items.specs.Numbered.{IsNumbered};
 ghost use Rattle.asm_items.specs.Operations.{number_of, resource_number, mask_given, mask_named, mask_of, behind_first, object_number, behind_object, events_of, call_of};
 

@@ -11,8 +11,8 @@ use Rattle.text_pieces.specs.Bytes.{is_name, begins_name}
 use Rattle.asm_lines.specs.Bytes.{is_blank}
 use Rattle.text_pieces.specs.Digits.{capped_value, value_from}
 use Rattle.asm_lines.specs.Numbers.{number, magnitude, signed_number, is_hexadecimal, all_some}
-use Rattle.asm_lines.specs.Registers.{register, small_number, lettered_register, lettered_by}
-use Rattle.asm_lines.specs.Grammar.{Bare, starts_bare}
+use Rattle.asm_lines.specs.Registers.{register, small_number, lettered_register, lettered_register_by}
+use Rattle.asm_lines.specs.Grammar.{HasBareEnds, starts_bare}
 use Rattle.asm_lines.proofs.Trims.{reversed_all}
 use Rattle.asm_lines.proofs.Cuts.{all_weaker}
 
@@ -90,7 +90,7 @@ starts : (t : List ℕ) → list_all (λ b. not (is_blank b)) t ≡ true → sta
 starts [] h = refl
 starts (b ∷ t) h = (and_parts (not (is_blank b)) (list_all (λ x. not (is_blank x)) t) h).0
 
-pub bare_of : (p : ℕ → Bool) → p 32 ≡ false → p 9 ≡ false → (t : List ℕ) → list_all p t ≡ true → Bare t
+pub bare_of : (p : ℕ → Bool) → p 32 ≡ false → p 9 ≡ false → (t : List ℕ) → list_all p t ≡ true → HasBareEnds t
 bare_of p s u t h =
     let all = all_weaker p (λ b. not (is_blank b)) (not_blank p s u) t h in
     record { front = starts t all; end = starts (reverse t) (reversed_all (λ b. not (is_blank b)) t all) }
@@ -152,11 +152,11 @@ small_digits d n h =
 digit_continues : (b : ℕ) → is_ascii_digit b ≡ true → continues_word b ≡ true
 digit_continues b h = or_left (is_ascii_alphanumeric b) (b == 95) (first (is_ascii_digit b) _ _ h)
 
-lettered_some : (b : ℕ) (o : Option ℕ) (x : ℕ) → lettered_by b o ≡ Some x → (n : ℕ) × (o ≡ Some n) × (lettered_register b n ≡ Some x)
+lettered_some : (b : ℕ) (o : Option ℕ) (x : ℕ) → lettered_register_by b o ≡ Some x → (n : ℕ) × (o ≡ Some n) × (lettered_register b n ≡ Some x)
 lettered_some b None x h = cc
 lettered_some b (Some n) x h = (n, refl, h)
 
-lettered_bytes : (t : List ℕ) (x : ℕ) → lettered_by (slice_index t 0) (small_number (drop 1 t)) ≡ Some x → list_all continues_word t ≡ true
+lettered_bytes : (t : List ℕ) (x : ℕ) → lettered_register_by (slice_index t 0) (small_number (drop 1 t)) ≡ Some x → list_all continues_word t ≡ true
 lettered_bytes [] x h = refl
 lettered_bytes (b ∷ d) x h =
     let w = lettered_some b (small_number d) x h in
@@ -165,7 +165,7 @@ lettered_bytes (b ∷ d) x h =
 pub register_bytes : (t : List ℕ) (x : ℕ) → register t ≡ Some x → list_all continues_word t ≡ true
 unfolding register
 register_bytes t x h =
-    let L = lettered_by (slice_index t 0) (small_number (drop 1 t)) in
+    let L = lettered_register_by (slice_index t 0) (small_number (drop 1 t)) in
     let fp : Option ℕ = cond (bytes_eq t (codes "fp")) (Some 8) L in
     let Q : Bool → Type 0 = λ v. bytes_eq t (codes "fp") ≡ v → cond v (Some 8) L ≡ Some x → list_all continues_word t ≡ true in
     let P : Bool → Type 0 = λ v. bytes_eq t (codes "zero") ≡ v → cond v (Some 0) fp ≡ Some x → list_all continues_word t ≡ true in

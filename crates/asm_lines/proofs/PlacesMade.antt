@@ -9,19 +9,19 @@ use Rattle.text_pieces.specs.Bytes.{is_name, is_byte_of}
 use Rattle.asm_lines.specs.Bytes.{is_blank, trim}
 use Rattle.asm_lines.specs.Numbers.{number}
 use Rattle.asm_lines.specs.Registers.{register}
-use Rattle.asm_lines.specs.Operands.{before, behind, small_of, direct_operand, direct_at, indexed_operand, indexed_at, frame_operand, in_brackets, bracketed_operand, place}
-use Rattle.asm_lines.specs.Grammar.{Blanks, starts_bare, Bare, IsPlace, is_alone, is_offset, is_indexed, is_frame}
+use Rattle.asm_lines.specs.Operands.{before, behind, small_of, direct_operand, direct_operand_at, indexed_operand, indexed_operand_at, frame_operand, in_brackets, bracketed_operand, place}
+use Rattle.asm_lines.specs.Grammar.{Blanks, starts_bare, HasBareEnds, IsPlace, is_alone, is_offset, is_indexed, is_frame}
 use Rattle.asm_lines.proofs.Trims.{trim_is}
 use Rattle.asm_lines.proofs.Cuts.{lacks, has_here, has_in, before_is, behind_is, last_is, but_last}
 use Rattle.asm_lines.proofs.Parts.{is_number_byte, name_bytes, number_bytes, number_some, register_bytes, register_some, bare_of}
 
-pub name_bare : (n : List ℕ) → is_name n ≡ true → Bare n
+pub name_bare : (n : List ℕ) → is_name n ≡ true → HasBareEnds n
 name_bare n h = bare_of continues_word refl refl n (name_bytes n h)
 
-number_bare : (k : List ℕ) (z : ℤ) → number k ≡ Some z → Bare k
+number_bare : (k : List ℕ) (z : ℤ) → number k ≡ Some z → HasBareEnds k
 number_bare k z h = bare_of is_number_byte refl refl k (number_bytes k z h)
 
-register_bare : (r : List ℕ) (x : ℕ) → register r ≡ Some x → Bare r
+register_bare : (r : List ℕ) (x : ℕ) → register r ≡ Some x → HasBareEnds r
 register_bare r x h = bare_of continues_word refl refl r (register_bytes r x h)
 
 name_lacks : (c : ℕ) → continues_word c ≡ false → (n : List ℕ) → is_name n ≡ true → is_byte_of c n ≡ false
@@ -37,13 +37,13 @@ has_cons : (c d : ℕ) (t : List ℕ) → (d == c) ≡ false → is_byte_of c t 
 unfolding is_byte_of
 has_cons c d t e h = rw e h
 
-trim_of : (a x b : List ℕ) → Blanks a → Blanks b → Bare x → trim (a ++ (x ++ b)) ≡ x
+trim_of : (a x b : List ℕ) → Blanks a → Blanks b → HasBareEnds x → trim (a ++ (x ++ b)) ≡ x
 trim_of a x b h g w = trim_is (a ++ (x ++ b)) x (record { before = a; behind = b; blanks_before = h; blanks_behind = g; text = refl; bare = w })
 
-trim_left : (x b : List ℕ) → Blanks b → Bare x → trim (x ++ b) ≡ x
+trim_left : (x b : List ℕ) → Blanks b → HasBareEnds x → trim (x ++ b) ≡ x
 trim_left x b g w = trim_of [] x b refl g w
 
-trim_right : (a x : List ℕ) → Blanks a → Bare x → trim (a ++ x) ≡ x
+trim_right : (a x : List ℕ) → Blanks a → HasBareEnds x → trim (a ++ x) ≡ x
 trim_right a x h w = ap (λ y. trim (a ++ y)) (sym (append-nil x)) ∙ trim_of a x [] h refl w
 
 alone : (f : Bool) (n : List ℕ) → is_name n ≡ true → is_byte_of 91 n ≡ false → is_byte_of 43 n ≡ false → place f n ≡ Direct n 0
@@ -51,7 +51,7 @@ unfolding place
 alone f n h p q = rw (p, q, h) refl
 
 plus : (f : Bool) (t n k : List ℕ) (z : ℤ) → is_byte_of 91 t ≡ false → is_byte_of 43 t ≡ true → trim (before 43 t) ≡ n → trim (behind 43 t) ≡ k → is_name n ≡ true → number k ≡ Some z
-    → place f t ≡ direct_at n (small_of (Some z))
+    → place f t ≡ direct_operand_at n (small_of (Some z))
 unfolding place
 plus f t n k z p q a b h e =
     rw (p, q) (ap (λ y. direct_operand y (small_of (number (trim (behind 43 t))))) a ∙ (ap (λ y. direct_operand n (small_of (number y))) b ∙ rw (h, e) refl))
@@ -66,7 +66,7 @@ bracket f n x h =
     rw (has_here 91 n r refl) (ap (λ y. bracketed_operand f y (behind 91 t)) (before_is 91 n r refl h) ∙ (ap (bracketed_operand f n) (behind_is 91 n r refl h) ∙ cut))
 
 with_mask : (f : Bool) (n t r m : List ℕ) (x : ℕ) (z : ℤ) → is_byte_of 38 t ≡ true → trim (before 38 t) ≡ r → trim (behind 38 t) ≡ m → is_name n ≡ true → register r ≡ Some x → number m ≡ Some z
-    → in_brackets f n t ≡ indexed_at n (Some x) (small_of (Some z))
+    → in_brackets f n t ≡ indexed_operand_at n (Some x) (small_of (Some z))
 unfolding in_brackets
 with_mask f n t r m x z p a b h e g =
     rw p (ap (λ y. indexed_operand n (register y) (small_of (number (trim (behind 38 t))))) a ∙ (ap (λ y. indexed_operand n (register r) (small_of (number y))) b ∙ rw (h, e, g) refl))
@@ -102,7 +102,7 @@ place_made f t o (is_indexed n a r b c m d x z h ha hb hc hd hr hm) =
     let e : a ++ (r ++ (b ++ 38 ∷ (c ++ (m ++ (d ++ 93 ∷ []))))) ≡ (a ++ (y ++ d)) ++ 93 ∷ [] = simp append_assoc in
     let lm = number_some m z hm in
     let bm = number_bare m z hm in
-    let bare : Bare y = record {
+    let bare : HasBareEnds y = record {
       front = front_on r (b ++ 38 ∷ (c ++ m)) (register_some r x hr) (register_bare r x hr).front;
       end = end_on r (b ++ 38 ∷ (c ++ m)) (long b (38 ∷ (c ++ m)) (omega arith)) (end_on b (38 ∷ (c ++ m)) (omega arith) (end_on (38 ∷ c) m lm bm.end));
     } in

@@ -14,9 +14,9 @@ use Rattle.text_pieces.specs.Bytes.{is_name, is_byte_of}
 use Rattle.asm_lines.specs.Bytes.{is_blank, trim}
 use Rattle.asm_lines.specs.Numbers.{number}
 use Rattle.asm_lines.specs.Registers.{register}
-use Rattle.asm_lines.specs.Operands.{before, behind, small_of, direct_operand, direct_at, indexed_operand, indexed_at, frame_operand, in_brackets, bracketed_operand, place}
+use Rattle.asm_lines.specs.Operands.{before, behind, small_of, direct_operand, direct_operand_at, indexed_operand, indexed_operand_at, frame_operand, in_brackets, bracketed_operand, place}
 use Rattle.asm_lines.specs.Faults.{is_wrong}
-use Rattle.asm_lines.specs.Grammar.{Blanks, starts_bare, Bare, IsPlace, is_alone, is_offset, is_indexed, is_frame}
+use Rattle.asm_lines.specs.Grammar.{Blanks, starts_bare, HasBareEnds, IsPlace, is_alone, is_offset, is_indexed, is_frame}
 use Rattle.asm_lines.proofs.Trims.{trimmed, reversed_all}
 use Rattle.asm_lines.proofs.Cuts.{cut_there, ends_there}
 
@@ -36,12 +36,12 @@ none_behind y b h s =
 -- what names a number, and is not wrong
 direct_read : (f : Bool) (t n a b k : List ℕ) (o : Operand) → t ≡ n ++ (a ++ 43 ∷ (b ++ k)) → Blanks a → Blanks b → direct_operand n (small_of (number k)) ≡ o → is_wrong o ≡ false → IsPlace f t o
 direct_read f t n a b k o e ha hb d w =
-    let Q : Option ℤ → Type 0 = λ z. number k ≡ z → direct_at n (small_of z) ≡ o → is_name n ≡ true → IsPlace f t o in
-    let P : Bool → Type 0 = λ v. is_name n ≡ v → cond v (direct_at n (small_of (number k))) Wrong ≡ o → IsPlace f t o in
+    let Q : Option ℤ → Type 0 = λ z. number k ≡ z → direct_operand_at n (small_of z) ≡ o → is_name n ≡ true → IsPlace f t o in
+    let P : Bool → Type 0 = λ v. is_name n ≡ v → cond v (direct_operand_at n (small_of (number k))) Wrong ≡ o → IsPlace f t o in
     elim (is_name n) as P [
       | true ↦ λ h g. elim (number k) as Q [
         | None ↦ λ q g h. let x : is_wrong Wrong ≡ false = ap is_wrong g ∙ w in cc
-        | Some z ↦ λ q g h. subst (λ (y : Operand). IsPlace f t y) g (subst (λ (y : List ℕ). IsPlace f y (direct_at n (small_of (Some z)))) (sym e) (is_offset n a b k z h ha hb q))
+        | Some z ↦ λ q g h. subst (λ (y : Operand). IsPlace f t y) g (subst (λ (y : List ℕ). IsPlace f y (direct_operand_at n (small_of (Some z)))) (sym e) (is_offset n a b k z h ha hb q))
       ] refl g h
       | false ↦ λ h g. let x : is_wrong Wrong ≡ false = ap is_wrong g ∙ w in cc
     ] refl d
@@ -54,7 +54,7 @@ name_read f t o d w =
       | false ↦ λ h g. let x : is_wrong Wrong ≡ false = ap is_wrong g ∙ w in cc
     ] refl d
 
-plus_read : (f : Bool) (t : List ℕ) (o : Operand) → Bare t → is_byte_of 43 t ≡ true → direct_operand (trim (before 43 t)) (small_of (number (trim (behind 43 t)))) ≡ o → is_wrong o ≡ false → IsPlace f t o
+plus_read : (f : Bool) (t : List ℕ) (o : Operand) → HasBareEnds t → is_byte_of 43 t ≡ true → direct_operand (trim (before 43 t)) (small_of (number (trim (behind 43 t)))) ≡ o → is_wrong o ≡ false → IsPlace f t o
 plus_read f t o bare h d w =
     let l = trimmed (before 43 t) in
     let r = trimmed (behind 43 t) in
@@ -84,16 +84,16 @@ masked_read f t n a y d o e ha hd h g w =
     let whole : t ≡ n ++ 91 ∷ ((a ++ l.before) ++ (r ++ (l.behind ++ 38 ∷ (q.before ++ (m ++ ((q.behind ++ d) ++ 93 ∷ [])))))) =
     e ∙ (ap (λ v. n ++ 91 ∷ (a ++ (v ++ (d ++ 93 ∷ [])))) cut ∙ simp append_assoc) in
     let wrong : Wrong ≡ o → IsPlace f t o = λ v. let x : is_wrong Wrong ≡ false = ap is_wrong v ∙ w in cc in
-    let M : ℕ → Option ℤ → Type 0 = λ x z. number m ≡ z → indexed_at n (Some x) (small_of z) ≡ o → register r ≡ Some x → is_name n ≡ true → IsPlace f t o in
-    let R : Option ℕ → Type 0 = λ x. register r ≡ x → indexed_at n x (small_of (number m)) ≡ o → is_name n ≡ true → IsPlace f t o in
-    let P : Bool → Type 0 = λ v. is_name n ≡ v → cond v (indexed_at n (register r) (small_of (number m))) Wrong ≡ o → IsPlace f t o in
+    let M : ℕ → Option ℤ → Type 0 = λ x z. number m ≡ z → indexed_operand_at n (Some x) (small_of z) ≡ o → register r ≡ Some x → is_name n ≡ true → IsPlace f t o in
+    let R : Option ℕ → Type 0 = λ x. register r ≡ x → indexed_operand_at n x (small_of (number m)) ≡ o → is_name n ≡ true → IsPlace f t o in
+    let P : Bool → Type 0 = λ v. is_name n ≡ v → cond v (indexed_operand_at n (register r) (small_of (number m))) Wrong ≡ o → IsPlace f t o in
     elim (is_name n) as P [
       | true ↦ λ hn gn. elim (register r) as R [
         | None ↦ λ hr gr hn. wrong gr
         | Some x ↦ λ hr gr hn. elim (number m) as (M x) [
           | None ↦ λ hm gm hr hn. wrong gm
           | Some z ↦ λ hm gm hr hn.
-              subst (λ (v : Operand). IsPlace f t v) gm (subst (λ (v : List ℕ). IsPlace f v (indexed_at n (Some x) (small_of (Some z)))) (sym whole)
+              subst (λ (v : Operand). IsPlace f t v) gm (subst (λ (v : List ℕ). IsPlace f v (indexed_operand_at n (Some x) (small_of (Some z)))) (sym whole)
               (is_indexed n (a ++ l.before) r l.behind q.before m (q.behind ++ d) x z hn (blanks_both a l.before ha l.blanks_before) l.blanks_behind q.blanks_before
               (blanks_both q.behind d q.blanks_behind hd) hr hm))
         ] refl gr hr hn
@@ -142,7 +142,7 @@ bracket_read f t n r o e g w =
       | false ↦ λ h k. let z : is_wrong Wrong ≡ false = ap is_wrong k ∙ w in cc
     ] refl g
 
-pub place_read : (f : Bool) (t : List ℕ) (o : Operand) → Bare t → place f t ≡ o → is_wrong o ≡ false → IsPlace f t o
+pub place_read : (f : Bool) (t : List ℕ) (o : Operand) → HasBareEnds t → place f t ≡ o → is_wrong o ≡ false → IsPlace f t o
 unfolding place
 place_read f t o bare g w =
     let A : Operand = bracketed_operand f (before 91 t) (behind 91 t) in

@@ -13,7 +13,7 @@ use Rattle.text_pieces.specs.Digits.{value_from, capped_value}
 use Rattle.asm_lines.specs.Numbers.{number, all_some}
 use Rattle.std.specs.Char.{is_ascii_digit, is_ascii_hexdigit}
 use Rattle.asm_lines.specs.Registers.{register}
-use Rattle.asm_lines.specs.Operands.{small_of, direct_at, indexed_at, frame_operand}
+use Rattle.asm_lines.specs.Operands.{small_of, direct_operand_at, indexed_operand_at, frame_operand}
 
 -- blanks alone, or nothing
 abbrev pub Blanks : List ℕ → Type 0
@@ -25,7 +25,7 @@ starts_bare [] = true
 starts_bare (b ∷ t) = not (is_blank b)
 
 -- no blank stands at either end
-pub record Bare (t : List ℕ) : Type 0 where
+pub record HasBareEnds (t : List ℕ) : Type 0 where
   pub front : starts_bare t ≡ true
   pub end : starts_bare (reverse t) ≡ true
 
@@ -36,16 +36,16 @@ pub record IsTrimmed (t x : List ℕ) : Type 0 where
   pub blanks_before : Blanks before
   pub blanks_behind : Blanks behind
   pub text : t ≡ before ++ (x ++ behind)
-  pub bare : Bare x
+  pub bare : HasBareEnds x
 
 -- `NAME`, `NAME+k`, `NAME[reg & m]`, and in the frame `frame[k]`. Blanks are allowed round `+` (43) and `&` (38), and inside the
 -- brackets (91, 93). A number that is out of its range makes the operand that is outside.
 pub data IsPlace (in_frame : Bool) : List ℕ → Operand → Type 0 where
   is_alone : (n : List ℕ) → is_name n ≡ true → IsPlace in_frame n (Direct n 0)
   is_offset : (n a b k : List ℕ) (z : ℤ) → is_name n ≡ true → Blanks a → Blanks b → number k ≡ Some z
-      → IsPlace in_frame (n ++ (a ++ 43 ∷ (b ++ k))) (direct_at n (small_of (Some z)))
+      → IsPlace in_frame (n ++ (a ++ 43 ∷ (b ++ k))) (direct_operand_at n (small_of (Some z)))
   is_indexed : (n a r b c m d : List ℕ) (x : ℕ) (z : ℤ) → is_name n ≡ true → Blanks a → Blanks b → Blanks c → Blanks d → register r ≡ Some x → number m ≡ Some z
-      → IsPlace in_frame (n ++ 91 ∷ (a ++ (r ++ (b ++ 38 ∷ (c ++ (m ++ (d ++ 93 ∷ []))))))) (indexed_at n (Some x) (small_of (Some z)))
+      → IsPlace in_frame (n ++ 91 ∷ (a ++ (r ++ (b ++ 38 ∷ (c ++ (m ++ (d ++ 93 ∷ []))))))) (indexed_operand_at n (Some x) (small_of (Some z)))
   is_frame : (a k b : List ℕ) (z : ℤ) → in_frame ≡ true → Blanks a → Blanks b → number k ≡ Some z
       → IsPlace in_frame (codes "frame" ++ 91 ∷ (a ++ (k ++ (b ++ 93 ∷ [])))) (frame_operand (small_of (Some z)))
 

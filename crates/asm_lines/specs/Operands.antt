@@ -50,25 +50,25 @@ frame_operand TooFar = Outside
 frame_operand (Is k) = Frame k
 
 -- the operand of a symbol with an offset
-abbrev pub direct_at : List ℕ → Small → Operand
-direct_at name NoNumber = Wrong
-direct_at name TooFar = Outside
-direct_at name (Is k) = Direct name k
+abbrev pub direct_operand_at : List ℕ → Small → Operand
+direct_operand_at name NoNumber = Wrong
+direct_operand_at name TooFar = Outside
+direct_operand_at name (Is k) = Direct name k
 
 -- `NAME`, `NAME+k`
 abbrev pub direct_operand : List ℕ → Small → Operand
-direct_operand name k = if is_name name then direct_at name k else Wrong
+direct_operand name k = if is_name name then direct_operand_at name k else Wrong
 
 -- the operand of a symbol with an index and its mask
-abbrev pub indexed_at : List ℕ → Option ℕ → Small → Operand
-indexed_at name None k = Wrong
-indexed_at name (Some r) NoNumber = Wrong
-indexed_at name (Some r) TooFar = Outside
-indexed_at name (Some r) (Is m) = Indexed name r m
+abbrev pub indexed_operand_at : List ℕ → Option ℕ → Small → Operand
+indexed_operand_at name None k = Wrong
+indexed_operand_at name (Some r) NoNumber = Wrong
+indexed_operand_at name (Some r) TooFar = Outside
+indexed_operand_at name (Some r) (Is m) = Indexed name r m
 
 -- `NAME[reg & m]`
 abbrev pub indexed_operand : List ℕ → Option ℕ → Small → Operand
-indexed_operand name index mask = if is_name name then indexed_at name index mask else Wrong
+indexed_operand name index mask = if is_name name then indexed_operand_at name index mask else Wrong
 
 -- a name, and what stands in its brackets: `reg & m`, or for the frame a number
 unfoldable pub in_brackets : Bool → List ℕ → List ℕ → Operand

@@ -1,5 +1,5 @@
 //! Bytes of task source.
-ghost use Rattle.std.specs.Prelude.{◌≡◌, ◌==◌, reverse, length};
+ghost use Rattle.std.specs.Prelude.{◌≡◌, reverse, length};
 ghost use Rattle.std.specs.List.{take_while, list_all};
 ghost use Rattle.sloth_base.specs.ImageRange.{continues_word};
 ghost use Rattle.asm_lines.specs.Bytes.{is_blank, is_shown, is_letter, trim, word_of};

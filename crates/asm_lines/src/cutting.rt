@@ -2,7 +2,7 @@
 ghost use Rattle.std.specs.Prelude.{◌≡◌, ◌==◌, IfOk, map};
 ghost use Rattle.std.specs.List.{slice_split};
 ghost use Rattle.std.specs.Str.Lines.{strip_carriage_return};
-ghost use Rattle.text_pieces.specs.Names.{now};
+ghost use Rattle.text_pieces.specs.Names.{referent};
 ghost use Rattle.asm_lines.specs.Lines.{line_of, operands_of};
 ghost use Rattle.asm_lines.specs.Bytes.{trim};
 
@@ -14,7 +14,7 @@ use text_pieces::growth::push;
 
 /// The parts between the bytes `stop`.
 pub fn split<'a>(alloc: Global, text: &'a [u8], stop: u8) -> Result<Vec<&'a [u8]>, AllocError>
-    ensures { IfOk result (λ parts. map now parts.items ≡ slice_split (λ b. b == stop) text.now) }
+    ensures { IfOk result (λ parts. map referent parts.items ≡ slice_split (λ b. b == stop) text.now) }
 {
     text.split(|b| *b == stop).collect(alloc)
 }
@@ -41,7 +41,7 @@ pub fn line_of<'a>(part: &'a [u8], is_last: bool) -> &'a [u8]
 }
 
 fn trimmed<'a>(alloc: Global, parts: &[&'a [u8]]) -> Result<Vec<&'a [u8]>, NoMemory>
-    ensures { IfOk result (λ operands. map now operands.items ≡ map trim (map now parts.now)) }
+    ensures { IfOk result (λ operands. map referent operands.items ≡ map trim (map referent parts.now)) }
 {
     let mut operands = Vec::new(alloc);
     for part in parts {
@@ -53,7 +53,7 @@ fn trimmed<'a>(alloc: Global, parts: &[&'a [u8]]) -> Result<Vec<&'a [u8]>, NoMem
 /// The operands in a text, without the blanks around them.
 #[tactic(auto, unfolding(crate::specs::Lines::operands_of))]
 pub fn operands_of<'a>(alloc: Global, text: &'a [u8]) -> Result<Vec<&'a [u8]>, NoMemory>
-    ensures { IfOk result (λ operands. map now operands.items ≡ operands_of text.now) }
+    ensures { IfOk result (λ operands. map referent operands.items ≡ operands_of text.now) }
 {
     if text.is_empty() {
         return Ok(Vec::new(alloc));

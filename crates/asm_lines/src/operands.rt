@@ -13,7 +13,7 @@ use sloth_base::memory::NoMemory;
 use sloth_base::name::Name;
 use sloth_base::numbers::Reg;
 use std::alloc::Global;
-use text_pieces::bytes::{after, before, behind, front, has, is_name, same};
+use text_pieces::bytes::{before, behind, front, has, is_name, same};
 
 /// What an operand is.
 #[derive(Drop)]

@@ -1,7 +1,7 @@
 //! Reads task source.
-ghost use Rattle.std.specs.Prelude.{◌≡◌, ◌<◌, ◌+◌, length, map, IfOk, IfErr, OnOk};
+ghost use Rattle.std.specs.Prelude.{◌≡◌, ◌<◌, length, map, IfOk, IfErr, OnOk};
 ghost use Rattle.least_fault.specs.Order.{ErrorIs, NoFault};
-ghost use Rattle.text_pieces.specs.Names.{now};
+ghost use Rattle.text_pieces.specs.Names.{referent};
 ghost use Rattle.asm_lines.specs.Lines.{without_returns};
 ghost use Rattle.asm_lines.specs.SourceLines.{source_line};
 ghost use Rattle.asm_lines.specs.Faults.{source_lines, TextFault};
@@ -17,7 +17,7 @@ use text_pieces::growth::push;
 
 // What the line of each part is.
 fn read_parts(alloc: Global, parts: &[&[u8]]) -> Result<Vec<SourceLine>, NoMemory>
-    ensures { IfOk result (λ read. read.items ≡ map source_line (without_returns (map now parts.now))) }
+    ensures { IfOk result (λ read. read.items ≡ map source_line (without_returns (map referent parts.now))) }
 {
     let mut read = Vec::new(alloc);
     for (n, part) in parts.iter().enumerate() {

@@ -1,5 +1,5 @@
 //! Names of registers.
-ghost use Rattle.std.specs.Prelude.{◌≡◌, ◌<◌, IfSome, ◌==◌};
+ghost use Rattle.std.specs.Prelude.{◌≡◌, ◌<◌, IfSome};
 ghost use Rattle.asm_lines.specs.Registers.{lettered_register, small_number, register};
 
 use sloth_base::numbers::Reg;

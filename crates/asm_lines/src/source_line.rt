@@ -1,8 +1,6 @@
 //! What a line of task source is.
 ghost use Rattle.std.specs.Prelude.{◌≡◌, IfOk, map};
-ghost use Rattle.asm_lines.specs.Bytes.{word_of, is_blank};
-ghost use Rattle.text_pieces.specs.Names.{now};
-ghost use Rattle.asm_lines.specs.Lines.{operands_of};
+ghost use Rattle.text_pieces.specs.Names.{referent};
 ghost use Rattle.asm_lines.specs.SourceLines.{stands_apart, begins_statement, has_empty, read_operands, statement, statement_of, source_line};
 
 use crate::bytes::{are_shown, begins_with_letter, is_blank, trim, word_of};
@@ -49,7 +47,7 @@ fn begins_statement(text: &[u8], rest: &[u8]) -> bool
 // Whether one of the texts is empty.
 #[tactic(auto, unfolding(crate::specs::SourceLines::has_empty))]
 fn has_empty(texts: &[&[u8]]) -> bool
-    ensures { result ≡ has_empty (map now texts.now) }
+    ensures { result ≡ has_empty (map referent texts.now) }
 {
     for text in texts {
         if text.is_empty() {
@@ -65,7 +63,7 @@ fn read_operands(
     mnemonic: Mnemonic,
     texts: &[&[u8]],
 ) -> Result<Vec<Operand>, NoMemory>
-    ensures { IfOk result (λ operands. operands.items ≡ read_operands mnemonic 0 (map now texts.now)) }
+    ensures { IfOk result (λ operands. operands.items ≡ read_operands mnemonic 0 (map referent texts.now)) }
 {
     let mut operands = Vec::new(alloc);
     for (place, text) in texts.iter().enumerate() {
@@ -77,7 +75,7 @@ fn read_operands(
 
 // The statement of a first word with these operands.
 fn statement(alloc: Global, word: &[u8], texts: &[&[u8]]) -> Result<SourceLine, NoMemory>
-    ensures { IfOk result (λ line. line ≡ statement word.now (map now texts.now)) }
+    ensures { IfOk result (λ line. line ≡ statement word.now (map referent texts.now)) }
 {
     if has_empty(texts) {
         return Ok(SourceLine::Shapeless);

@@ -7,7 +7,7 @@ use Rattle.std.proofs.lemmas.Bool.Decides.{leb_tells, eqb_tells}
 use Rattle.std.proofs.lemmas.List.{length-append, length-replicate}
 use Rattle.sloth_base.specs.ImageRange.{IsName}
 use Rattle.asm_lines.specs.declared.operands.Operand.{Operand}
-use Rattle.asm_lines.specs.declared.operands.Operand.TheVariants.{Wrong, Outside, Register, Number, Name, Frame, Direct, Indexed, Bytes}
+use Rattle.asm_lines.specs.declared.operands.Operand.TheVariants.{Number, Name, Bytes}
 use Rattle.asm_lines.specs.declared.source_line.SourceLine.{SourceLine}
 use Rattle.asm_lines.specs.declared.source_line.SourceLine.TheVariants.{Empty, Shapeless, Unknown, Statement}
 use Rattle.asm_lines.specs.declared.table.Form.TheVariants as form

@@ -15,14 +15,14 @@ use Rattle.sloth_base.specs.declared.app.Op.{Op}
 use Rattle.sloth_base.specs.declared.config.Config.{Config}
 use Rattle.asm_lines.specs.declared.operands.Operand.{Operand}
 use Rattle.asm_lines.specs.declared.source_line.SourceLine.{SourceLine}
-use Rattle.asm_lines.specs.declared.source_line.SourceLine.TheVariants.{Empty, Shapeless, Unknown, Statement}
+use Rattle.asm_lines.specs.declared.source_line.SourceLine.TheVariants.{Statement}
 use Rattle.asm_lines.specs.declared.table.Mnemonic.TheVariants as m
 use Rattle.asm_scopes.specs.declared.scope.Kind.TheVariants as kind
 use Rattle.asm_scopes.specs.declared.scope.Scope.{Scope}
 use Rattle.asm_scopes.specs.Said.{is_item, is_label, name_of, label_names, written_name}
 use Rattle.asm_scopes.specs.Scopes.{is_lacking, any_unknown, has_unknown}
 use Rattle.asm_items.specs.Operations.{op_of, resource_number, behind_first}
-use Rattle.asm_items.specs.Apps.{item_by, count_op, items_from, hold_by, holds_of, label_holds, label_of, labels_from}
+use Rattle.asm_items.specs.Apps.{item_by, count_op, items_from, held_resource_by, holds_of, label_holds, label_of, labels_from}
 use Rattle.code_rules.specs.AppRange.{IsOp, IsResource}
 use Rattle.asm_parse.proofs.Known.{IsKnown}
 use Rattle.asm_parse.proofs.Operands.{Names, some_of, all_names}
@@ -106,7 +106,7 @@ module _ (config : Config) (app : App) (f : Func) (scope : Scope) (labels : List
   holds_range : (os : List Operand) → AllByRecursion (Names scope labels kind.Resource) os → All (IsResource config) (holds_of scope os)
   holds_range [] h = All-nil (IsResource config)
   holds_range (x ∷ os) h =
-      subst (λ x. All (IsResource config) (hold_by scope (written_name x) ++ holds_of scope os)) (sym h.0.1)
+      subst (λ x. All (IsResource config) (held_resource_by scope (written_name x) ++ holds_of scope os)) (sym h.0.1)
       (All-cons (IsResource config) (resource_number scope h.0.0) (holds_of scope os) (known.resource h.0.0 h.0.2) (holds_range os h.1))
 
   label_range : (os : List Operand) → IsSound (Statement m.Label os) → All (IsResource config) (holds_of scope (behind_first os))

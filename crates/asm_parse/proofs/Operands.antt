@@ -4,7 +4,7 @@ use Rattle.std.specs.Prelude.{◌||◌, not}
 use Rattle.std.specs.List.{AllByRecursion}
 use Rattle.std.proofs.lemmas.Bool.{not-false, or_parts}
 use Rattle.asm_lines.specs.declared.operands.Operand.{Operand}
-use Rattle.asm_lines.specs.declared.operands.Operand.TheVariants.{Wrong, Outside, Register, Number, Name, Frame, Direct, Indexed, Bytes}
+use Rattle.asm_lines.specs.declared.operands.Operand.TheVariants.{Register, Number, Name}
 use Rattle.asm_lines.specs.declared.table.Form.TheVariants as form
 use Rattle.asm_lines.specs.declared.table.Mnemonic.{Mnemonic}
 use Rattle.asm_lines.specs.Numbers.{is_within}

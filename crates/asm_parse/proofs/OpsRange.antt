@@ -17,7 +17,7 @@ use Rattle.sloth_base.specs.declared.config.Config.{Config}
 use Rattle.sloth_base.specs.declared.service.Service.{Service}
 use Rattle.sloth_base.specs.declared.service.Service.TheVariants as service
 use Rattle.asm_lines.specs.declared.operands.Operand.{Operand}
-use Rattle.asm_lines.specs.declared.operands.Operand.TheVariants.{Wrong, Outside, Register, Number, Name, Frame, Direct, Indexed, Bytes}
+use Rattle.asm_lines.specs.declared.operands.Operand.TheVariants.{Register, Frame, Direct, Indexed}
 use Rattle.asm_lines.specs.declared.table.Mnemonic.{Mnemonic}
 use Rattle.asm_lines.specs.declared.table.Mnemonic.TheVariants as m
 use Rattle.asm_lines.specs.Numbers.{is_within}

@@ -14,7 +14,7 @@ use Rattle.text_pieces.proofs.Tests.{none_pass, All-kept}
 use Rattle.text_pieces.proofs.Places.{position_at}
 use Rattle.sloth_base.specs.ConfigRange.{InRange}
 use Rattle.sloth_base.specs.ImageRange.{IsName, AreNames}
-use Rattle.sloth_base.specs.Named.{function, missing, IsBodyOf}
+use Rattle.sloth_base.specs.Named.{function, no_function, IsBodyOf}
 use Rattle.sloth_base.specs.declared.app.App.{App}
 use Rattle.sloth_base.specs.declared.app.Func.{Func}
 use Rattle.sloth_base.specs.declared.app.Label.{Label}
@@ -95,7 +95,7 @@ module _ (config : Config) (ls : List SourceLine) (range : InRange config) (read
   length_funcs = length-map bodies (func_of config scope)
 
   function_is : (i : ℕ) → i < length bodies → function app i ≡ func_of config scope (body_at bodies i)
-  function_is i h = get_or-map (func_of config scope) bodies i no_body missing h
+  function_is i h = get_or-map (func_of config scope) bodies i no_body no_function h
 
   name_is : (i : ℕ) → i < length bodies → get_or (function_names bodies) i [] ≡ body_name (body_at bodies i)
   name_is i h = get_or-map body_name bodies i no_body [] h

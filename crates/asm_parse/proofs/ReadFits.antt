@@ -21,7 +21,7 @@ use Rattle.asm_lines.specs.declared.table.Form.{Form}
 use Rattle.asm_lines.specs.declared.table.Form.TheVariants as form
 use Rattle.asm_lines.specs.Bytes.{trim}
 use Rattle.asm_lines.specs.Numbers.{number, is_within}
-use Rattle.asm_lines.specs.Registers.{register, lettered_register, lettered_by, small_number}
+use Rattle.asm_lines.specs.Registers.{register, lettered_register, lettered_register_by, small_number}
 use Rattle.asm_lines.specs.Operands.{before, behind, small_of, register_operand, number_operand, name_operand, frame_operand, direct_operand, indexed_operand, in_brackets, bracketed_operand, place, bytes_operand, read_operand}
 use Rattle.asm_lines.specs.Faults.{is_wrong, is_outside}
 use Rattle.code_rules.specs.AppRange.{IsRegister}
@@ -61,7 +61,7 @@ is_lettered l n =
     (choose (l == 115) _ _ (if_at_most 1 8 n _ (inr (omega arith)) (omega arith) (if_at_most 11 16 n None (inr (omega arith)) (omega arith) tt))
     (choose (l == 97) _ _ (if_at_most 7 10 n None (inr (omega arith)) (omega arith) tt) tt)))
 
-is_lettered_by : (l : ℕ) (o : Option ℕ) → IsRegisterIf (lettered_by l o)
+is_lettered_by : (l : ℕ) (o : Option ℕ) → IsRegisterIf (lettered_register_by l o)
 is_lettered_by l None = tt
 is_lettered_by l (Some n) = is_lettered l n
 

@@ -59,6 +59,7 @@ operand_kind false k i = object_name k
 operand_kind true object.Nothing i = kind.Event
 operand_kind true k i = if i == 0 then object_name k else kind.Event
 
+-- the same by the service itself
 abbrev pub service_kind : Service → ℕ → Kind
 service_kind s i = operand_kind (has_mask s) (object_kind s) i
 

@@ -1,7 +1,6 @@
 //! The bodies of task source.
-ghost use Rattle.std.specs.Prelude.{◌≡◌, ◌+◌, ◌^◌, ◌<◌, not, IfOk, take, length};
+ghost use Rattle.std.specs.Prelude.{◌≡◌, ◌^◌, ◌<◌, not, IfOk, take, length};
 ghost use Rattle.std.specs.List.{take_while, prefix_len};
-ghost use Rattle.asm_lines.specs.declared.source_line.SourceLine.{SourceLine};
 ghost use Rattle.asm_scopes.specs.Said.{closes_body};
 ghost use Rattle.asm_scopes.specs.Bodies.{bodies_of, body_name, is_task_body};
 

@@ -1,5 +1,5 @@
 //! What a name may stand for where it is used.
-ghost use Rattle.std.specs.Prelude.{◌≡◌, ◌==◌};
+ghost use Rattle.std.specs.Prelude.{◌≡◌};
 ghost use Rattle.asm_scopes.specs.Scopes.{object_name, service_kind, kind_of, is_scheduler, is_named, is_lacking, any_unknown, has_unknown};
 ghost use Rattle.asm_scopes.specs.Said.{written_name};
 

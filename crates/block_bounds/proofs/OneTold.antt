@@ -2,7 +2,7 @@
 use Rattle.std.proofs.Common.{◌≡◌, ℕ, ◌≤◌, refl, ap, arith}
 use Rattle.sloth_base.specs.declared.config.Config.{Config}
 use Rattle.sloth_base.specs.declared.app.App.{App}
-use Rattle.raised_sections.specs.Sections.{IsBound, lowest, above, HasNoBound, ExceedsBound, greatest_told}
+use Rattle.raised_sections.specs.Sections.{IsBound, lowest, above, HasNoBound, ExceedsBound, greatest_told_bound}
 use Rattle.block_bounds.specs.declared.bound.Bound.{Bound}
 use Rattle.block_bounds.specs.declared.bound.Bound.TheVariants as bound
 use Rattle.block_bounds.specs.Bounds.{IsTold}
@@ -19,7 +19,7 @@ module _ (config : Config) (app : App) (h : ℕ) where
       let b = f.size in
       omega (arith, le, more, a, b)
 
-  told_or_above : (n : ℕ) → IsBound config app h n → n ≤ greatest_told → ExceedsBound config app h greatest_told → ⊥
+  told_or_above : (n : ℕ) → IsBound config app h n → n ≤ greatest_told_bound → ExceedsBound config app h greatest_told_bound → ⊥
   told_or_above n (lowest none) le e = none e.is_section.task e.is_section.lower
   told_or_above n (above k g) le e =
       let more = g.none_larger e.positions e.is_section in
@@ -34,7 +34,7 @@ module _ (config : Config) (app : App) (h : ℕ) where
       let more = s.2 in
       absurd (omega (arith, le, more))
 
-  above_or_none : ExceedsBound config app h greatest_told → HasNoBound config app h → ⊥
+  above_or_none : ExceedsBound config app h greatest_told_bound → HasNoBound config app h → ⊥
   above_or_none a e =
       let s = e a.most in
       let le = a.none_larger s.0 s.1 in

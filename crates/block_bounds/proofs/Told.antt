@@ -16,12 +16,12 @@ use Rattle.call_graph.specs.Reached.{any_below}
 use Rattle.stack_bounds.specs.Tables.{max_below}
 use Rattle.stack_bounds.proofs.Below.{max_below-at, max_below-some, last_or_before}
 use Rattle.raised_sections.specs.Walks.{Position}
-use Rattle.raised_sections.specs.Sections.{size_of_section, IsLower, IsSectionFor, NoneIsLarger, IsGreatestSize, IsBound, lowest, above, HasNoBound, ExceedsBound, greatest_told}
+use Rattle.raised_sections.specs.Sections.{size_of_section, IsLower, IsSectionFor, NoneIsLarger, IsGreatestSize, IsBound, lowest, above, HasNoBound, ExceedsBound, greatest_told_bound}
 use Rattle.block_bounds.specs.declared.bound.Bound.{Bound}
 use Rattle.block_bounds.specs.declared.bound.Bound.TheVariants as bound
 use Rattle.section_sizes.specs.declared.sizes.Summary.{Summary}
 use Rattle.section_sizes.specs.Trails.{MOST}
-use Rattle.section_sizes.specs.Parts.{called_level, Within}
+use Rattle.section_sizes.specs.Parts.{called_level, CountsWithin}
 use Rattle.section_sizes.specs.Computed.{summary_of}
 use Rattle.section_sizes.specs.Known.{IsExact, IsEndless, IsSummary, AreSummaries}
 use Rattle.block_bounds.specs.Bounds.{IsTold, is_below, task_summary, some_endless, greatest_section, greatest_sections, told}
@@ -83,7 +83,7 @@ module _ (config : Config) (app : App) (w : Facts config app) (h : ℕ) (there :
   is_low t low = lt-ltb (static_priority config t) P low.1
 
   -- a part of a lower task's body is a section for h
-  section : (t n : ℕ) → IsLower config h t → Within config app (Level t) (body_of app.funcs t) n
+  section : (t n : ℕ) → IsLower config h t → CountsWithin config app (Level t) (body_of app.funcs t) n
       → (positions : List Position) × IsSectionFor config app h positions × (size_of_section app positions ≡ n)
   section t n low part =
       let s = section_within config app h t n part in
@@ -168,7 +168,7 @@ module _ (config : Config) (app : App) (w : Facts config app) (h : ℕ) (there :
 
     -- no part of the first n tasks, where they are lower, is larger
     abbrev AreLimited : (n most : ℕ) → Type 0
-    AreLimited n most = (t k : ℕ) → t < n → IsLower config h t → Within config app (Level t) (body_of app.funcs t) k → k ≤ most
+    AreLimited n most = (t k : ℕ) → t < n → IsLower config h t → CountsWithin config app (Level t) (body_of app.funcs t) k → k ≤ most
 
     limit_of : (n : ℕ) → n ≤ length config.tasks → (most : ℕ) × AreLimited n most
     limit_of zero le = (0, λ t k lt low part. absurd (omega (arith, lt)))
@@ -187,7 +187,7 @@ module _ (config : Config) (app : App) (w : Facts config app) (h : ℕ) (there :
             let own_limit = (exact n lower).limited in (
               l.0 + own_limit.limit,
               λ t k lt low part. ⊎_elim
-                  (λ same. let more = own_limit.most k (subst (λ v. Within config app (Level v) (body_of app.funcs v) k) same part) in omega (arith, more))
+                  (λ same. let more = own_limit.most k (subst (λ v. CountsWithin config app (Level v) (body_of app.funcs v) k) same part) in omega (arith, more))
                   (λ less. let more = l.1 t k less low part in omega (arith, more))
                   (last_or_before t n lt),
             )
@@ -196,7 +196,7 @@ module _ (config : Config) (app : App) (w : Facts config app) (h : ℕ) (there :
     none_beyond most f [] s = omega arith
     none_beyond most f (p ∷ further) s = f s.task (size_of_section app (p ∷ further)) s.lower.0 s.lower (section_part config app h s.task w s.lower.0 p further s.is_section)
 
-    huge : 1000000 ≤ M → ExceedsBound config app h greatest_told
+    huge : 1000000 ≤ M → ExceedsBound config app h greatest_told_bound
     huge le =
         let s = some_section (omega (arith, le)) in
         let e = s.2 in

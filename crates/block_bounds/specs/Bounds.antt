@@ -4,10 +4,10 @@ use Rattle.sloth_base.specs.declared.config.Config.{Config}
 use Rattle.sloth_base.specs.declared.config.TaskDecl.{TaskDecl}
 use Rattle.sloth_base.specs.declared.app.App.{App}
 use Rattle.sloth_base.specs.declared.app.Func.{Func}
-use Rattle.sloth_base.specs.Named.{undeclared, body_of}
+use Rattle.sloth_base.specs.Named.{undeclared_task, body_of}
 use Rattle.call_graph.specs.Reached.{any_below}
 use Rattle.stack_bounds.specs.Tables.{max_below}
-use Rattle.raised_sections.specs.Sections.{IsBound, HasNoBound, ExceedsBound, greatest_told}
+use Rattle.raised_sections.specs.Sections.{IsBound, HasNoBound, ExceedsBound, greatest_told_bound}
 use Rattle.block_bounds.specs.declared.bound.Bound.{Bound}
 use Rattle.block_bounds.specs.declared.bound.Bound.TheVariants as bound
 use Rattle.section_sizes.specs.declared.sizes.Summary.{Summary}
@@ -15,8 +15,8 @@ use Rattle.section_sizes.specs.Computed.{summary_of}
 
 -- what is told of task h is so: its bound, up to 1,000,000; or that it is above that; or that sections have no greatest size
 abbrev pub IsTold : Config → App → (h : ℕ) → Bound → Type 0
-IsTold config app h (bound.Items n) = IsBound config app h n × (n ≤ greatest_told)
-IsTold config app h bound.Huge = ExceedsBound config app h greatest_told
+IsTold config app h (bound.Items n) = IsBound config app h n × (n ≤ greatest_told_bound)
+IsTold config app h bound.Huge = ExceedsBound config app h greatest_told_bound
 IsTold config app h bound.Endless = HasNoBound config app h
 
 -- what is told of each task is so
@@ -28,7 +28,7 @@ pub record AreBounds (config : Config) (app : App) (bounds : List Bound) : Type 
 
 -- a task by its number
 abbrev pub task_at : List TaskDecl → ℕ → TaskDecl
-task_at tasks t = get_or tasks t undeclared
+task_at tasks t = get_or tasks t undeclared_task
 
 -- task t is lower than this priority
 abbrev pub is_below : List TaskDecl → (priority t : ℕ) → Bool

@@ -1,5 +1,5 @@
 //! The blocking bound of each task.
-ghost use Rattle.std.specs.Prelude.{◌≡◌, ◌≤◌, ◌<◌, ◌||◌, ◌&&◌, ℕ, true, length, Some, None, IfOk};
+ghost use Rattle.std.specs.Prelude.{◌≡◌, ◌<◌, ℕ, true, length, Some, None, IfOk};
 ghost use Rattle.sloth_base.specs.Options.{is_number};
 ghost use Rattle.sloth_base.specs.Named.{body_of};
 ghost use Rattle.code_rules.specs.WellFormed.{WellFormed};
@@ -9,9 +9,8 @@ ghost use Rattle.call_graph.specs.Reached.{any_below};
 ghost use Rattle.stack_bounds.specs.Tables.{HasBody};
 ghost use Rattle.section_sizes.specs.CallOrder.{IsCallOrder};
 ghost use Rattle.section_sizes.specs.Known.{AreKnownBodies, AreSummaries};
-ghost use Rattle.section_sizes.specs.Computed.{summary_of};
 ghost use Rattle.block_bounds.specs.Kept.{RunsKeepTold};
-ghost use Rattle.block_bounds.specs.Bounds.{IsTold, AreBounds, task_at, is_below, task_summary, some_endless, greatest_section, greatest_sections, told};
+ghost use Rattle.block_bounds.specs.Bounds.{IsTold, AreBounds, is_below, task_summary, some_endless, greatest_section, greatest_sections, told};
 
 use call_graph::ranking::Ranks;
 use section_sizes::bodies::{Body, bodies};

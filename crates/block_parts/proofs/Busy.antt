@@ -9,9 +9,9 @@ use Rattle.sloth_base.specs.MemoryMap.{memory_base}
 use Rattle.sloth_region.specs.Layout.{active, controller_base}
 use Rattle.rv32_instr.specs.declared.InstrKind.{InstrKind}
 use Rattle.rv32_instr.specs.Ram.{word_at}
-use Rattle.masked_code.specs.Owes.{◌▸◌, writes, loads, loads_byte, AreOf, Owes, Pending, Enabled}
+use Rattle.masked_code.specs.Owes.{◌▸◌, writes, loads, loads_byte, AreOfLine, Owes, Pending, Enabled}
 use Rattle.masked_code.proofs.Arrivals.{has, byte_after}
-use Rattle.masked_code.specs.Place.{at}
+use Rattle.masked_code.specs.Place.{offset_state}
 use Rattle.masked_code.proofs.Leave.{behind}
 use Rattle.masked_code.proofs.Spread.{based, spread_from}
 use Rattle.masked_code.proofs.Routines.{masked}
@@ -31,6 +31,7 @@ bit_arrives lines bytes k h small =
 abbrev pub suspended_of : ℕ → ℕ → ℕ → ℕ
 suspended_of e p a = one_if (nat_lt a (one_if (nat_lt p e)))
 
+-- the three bits that are looked at tell a Suspended task from all others
 pub suspends : (e p a : ℕ) → e < 2 → p < 2 → a < 2
     → (((a ≡ 0) × (p ≡ 0) × (e ≡ 1)) × (suspended_of e p a ≡ 1)) ⊎ ((((a ≡ 0) × (p ≡ 0) × (e ≡ 1)) → ⊥) × (suspended_of e p a ≡ 0))
 suspends zero zero zero x y z = inr ((λ h. absurd (omega (arith, h.2))), refl)
@@ -58,11 +59,12 @@ module _ (offset to task : ℕ) (E : List ℕ → State → State → Type 0) (r
   abbrev tail : List ℕ
   tail = spread_from 27 5 c.registers
 
+  -- what is owed of the look: of the code behind it, for each value that it may find, whatever arrived of the task before
   pub looks_owe : (o x1 x10 : ℕ)
-      → ((lines : List ℕ) (v : ℕ) → AreOf task lines → Finds task (record c { pending = arrive lines c.pending }) v
-      → Owes offset to (behind 5 o) rest 0 (λ touched. E (task ∷ touched)) (at offset (record (based c) { pending = arrive lines c.pending }))
+      → ((lines : List ℕ) (v : ℕ) → AreOfLine task lines → Finds task (record c { pending = arrive lines c.pending }) v
+      → Owes offset to (behind 5 o) rest 0 (λ touched. E (task ∷ touched)) (offset_state offset (record (based c) { pending = arrive lines c.pending }))
       (record (masked (based c)) { registers = 0 ∷ v ∷ x2 ∷ controller_base ∷ memory_base ∷ set tail 5 (word_at c.ram (active task)); pending = arrive lines c.pending }))
-      → Owes offset to o (looking_code task ++ rest) 0 E (at offset (based c))
+      → Owes offset to o (looking_code task ++ rest) 0 E (offset_state offset (based c))
       (record (masked (based c)) { registers = 0 ∷ x1 ∷ x2 ∷ controller_base ∷ memory_base ∷ set tail 5 x10 })
   looks_owe o x1 x10 go =
       let e = get_or c.enabled task 0 in

@@ -6,12 +6,12 @@ use Rattle.sloth_base.specs.Machine.{Core, State}
 use Rattle.sloth_base.specs.MemoryMap.{memory_base}
 use Rattle.sloth_region.specs.Layout.{controller_base}
 use Rattle.rv32_instr.specs.declared.InstrKind.{InstrKind}
-use Rattle.masked_code.specs.Place.{at}
+use Rattle.masked_code.specs.Place.{offset_state}
 use Rattle.masked_code.specs.Owes.{◌▸◌, accesses, Owes}
 use Rattle.masked_code.proofs.Spread.{based, spread_from, others}
 use Rattle.masked_code.proofs.Routines.{masked}
 use Rattle.block_parts.specs.Back.{CanGoBack, WentBack, a0, a1}
-use Rattle.block_parts.specs.Pieces.{back_at, back}
+use Rattle.block_parts.specs.Pieces.{level_back_code, back_code}
 
 module _ (offset : ℕ) (code : List InstrKind) (c : Core) (can : CanGoBack offset code c) where
   abbrev x2 : ℕ
@@ -25,7 +25,7 @@ module _ (offset : ℕ) (code : List InstrKind) (c : Core) (can : CanGoBack offs
 
   -- the state at the start, where these lines are pending
   abbrev start : List ℕ → State
-  start pending = at offset (record (based c) { pending = pending })
+  start pending = offset_state offset (record (based c) { pending = pending })
 
   -- the core that is left, and the state at the end, with x1, the level in plevel, and the registers from x5 on
   abbrev left : ℕ → List ℕ → List ℕ → Core
@@ -73,7 +73,7 @@ module _ (offset : ℕ) (code : List InstrKind) (c : Core) (can : CanGoBack offs
   -- What is owed of the way back, wherever it stands: at the level in plevel, with a status.
   pub goes_back_to : (E : List ℕ → State → State → Type 0) (x1 goes_to level status : ℕ) (before pending ram : List ℕ) → goes_to ≡ level
       → ((last : State) → slice_index last.core.registers a0 ≡ status → WentBack a0 (left level pending ram) (start before) last → E [] (start before) last)
-      → Owes 0 0 0 back 0 E (start before)
+      → Owes 0 0 0 back_code 0 E (start before)
       (record (masked (based c)) { registers = 0 ∷ x1 ∷ x2 ∷ controller_base ∷ memory_base ∷ set tail 5 status; plevel = goes_to; pending = pending; ram = ram })
   goes_back_to E x1 goes_to level status before pending ram running go =
       accesses c.mepc refl refl
@@ -82,7 +82,7 @@ module _ (offset : ℕ) (code : List InstrKind) (c : Core) (can : CanGoBack offs
   -- the same at the level in x1
   pub goes_back_at : (E : List ℕ → State → State → Type 0) (x1 level status : ℕ) (before pending ram : List ℕ) → x1 % 256 ≡ level
       → ((last : State) → slice_index last.core.registers a0 ≡ status → WentBack a0 (left level pending ram) (start before) last → E [] (start before) last)
-      → Owes 0 0 0 back_at 0 E (start before)
+      → Owes 0 0 0 level_back_code 0 E (start before)
       (record (masked (based c)) { registers = 0 ∷ x1 ∷ x2 ∷ controller_base ∷ memory_base ∷ set tail 5 status; pending = pending; ram = ram })
   goes_back_at E x1 level status before pending ram running go =
       accesses c.plevel refl refl
@@ -91,7 +91,7 @@ module _ (offset : ℕ) (code : List InstrKind) (c : Core) (can : CanGoBack offs
   -- at the level that runs, which plevel holds
   pub goes_back : (E : List ℕ → State → State → Type 0) (x1 status : ℕ) (before pending ram : List ℕ)
       → ((last : State) → slice_index last.core.registers a0 ≡ status → WentBack a0 (left c.ilevel pending ram) (start before) last → E [] (start before) last)
-      → Owes 0 0 0 back 0 E (start before)
+      → Owes 0 0 0 back_code 0 E (start before)
       (record (masked (based c)) { registers = 0 ∷ x1 ∷ x2 ∷ controller_base ∷ memory_base ∷ set tail 5 status; pending = pending; ram = ram })
   goes_back E x1 status before pending ram go = goes_back_to E x1 c.plevel c.ilevel status before pending ram can.same_level go
 
@@ -99,7 +99,7 @@ module _ (offset : ℕ) (code : List InstrKind) (c : Core) (can : CanGoBack offs
   pub goes_back_with : (E : List ℕ → State → State → Type 0) (x1 status answer : ℕ) (before pending ram : List ℕ)
       → ((last : State) → slice_index last.core.registers a0 ≡ status → slice_index last.core.registers a1 ≡ answer
       → WentBack a1 (left c.ilevel pending ram) (start before) last → E [] (start before) last)
-      → Owes 0 0 0 back 0 E (start before)
+      → Owes 0 0 0 back_code 0 E (start before)
       (record (masked (based c)) { registers = 0 ∷ x1 ∷ x2 ∷ controller_base ∷ memory_base ∷ set (set tail 6 answer) 5 status; pending = pending; ram = ram })
   goes_back_with E x1 status answer before pending ram go =
       accesses c.mepc refl refl

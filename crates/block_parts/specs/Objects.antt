@@ -14,14 +14,14 @@ is_on_events GetEvent = true
 is_on_events WaitEvent = true
 is_on_events _ = false
 
--- the objects of a kind with which services have generated code: no alarm is one yet
-abbrev pub HasCode : ObjectKind → ℕ → Type 0
-HasCode object.Alarm number = ⊥
-HasCode object.Nothing number = IsObjectNumber object.Nothing number
-HasCode object.Task number = IsObjectNumber object.Task number
-HasCode object.Resource number = IsObjectNumber object.Resource number
+-- the objects with which services on tasks, resources and events have generated code; those of services on alarms stand in `alarm_gen` Block
+abbrev pub HasServiceCode : ObjectKind → ℕ → Type 0
+HasServiceCode object.Alarm number = ⊥
+HasServiceCode object.Nothing number = IsObjectNumber object.Nothing number
+HasServiceCode object.Task number = IsObjectNumber object.Task number
+HasServiceCode object.Resource number = IsObjectNumber object.Resource number
 
 -- the same, where the code is not generated elsewhere
 abbrev pub HasBlockUnless : (elsewhere : Bool) → ObjectKind → ℕ → Type 0
 HasBlockUnless true kind number = ⊥
-HasBlockUnless false kind number = HasCode kind number
+HasBlockUnless false kind number = HasServiceCode kind number

@@ -39,13 +39,13 @@ abbrev pub raising_code : ℕ → List InstrKind
 raising_code task = Addi 1 0 (pos 1) ∷ Sb 3 1 (pos (pending_byte task)) ∷ []
 
 -- back to the caller, whose address is in x31, at the level in plevel, which is the one that runs
-abbrev pub back : List InstrKind
-back = Csrrw 0 31 MEPC ∷ Mret ∷ []
+abbrev pub back_code : List InstrKind
+back_code = Csrrw 0 31 MEPC ∷ Mret ∷ []
 
 -- at the level in x1
-abbrev pub back_at : List InstrKind
-back_at = Csrrw 0 1 PLEVEL ∷ back
+abbrev pub level_back_code : List InstrKind
+level_back_code = Csrrw 0 1 PLEVEL ∷ back_code
 
 -- at the level in x1, with the status E_OK
-abbrev pub goes_on_at : List InstrKind
-goes_on_at = Addi 10 0 (pos E_OK) ∷ back_at
+abbrev pub ok_level_back_code : List InstrKind
+ok_level_back_code = Addi 10 0 (pos E_OK) ∷ level_back_code

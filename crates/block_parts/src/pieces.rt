@@ -1,6 +1,6 @@
 //! Pieces of code that several services have. x3 and x4 hold the addresses of the controller and of memory.
 ghost use Rattle.std.specs.Prelude.{◌≡◌, ◌<◌, ◌++◌, OnOk};
-ghost use Rattle.block_parts.specs.Pieces.{opening_code, ending_code, looking_code, raising_code, back_at, back, goes_on_at};
+ghost use Rattle.block_parts.specs.Pieces.{opening_code, ending_code, looking_code, raising_code, level_back_code, back_code, ok_level_back_code};
 
 use masked_code::emit::{X5, emit};
 use rv32_instr::Instr;
@@ -77,14 +77,14 @@ pub fn raise(code: &mut Vec<Instr>, task: u8) -> Result<(), AllocError>
 
 /// Back to the caller, whose address is in x31, at the level in plevel, which is the one that runs.
 pub fn go_back(code: &mut Vec<Instr>) -> Result<(), AllocError>
-    ensures { OnOk result (code.new.items ≡ code.old.items ++ back) }
+    ensures { OnOk result (code.new.items ≡ code.old.items ++ back_code) }
 {
     emit(code, &[csrrw(ZERO, MEPC, X31), mret()])
 }
 
 /// At the level in x1.
 fn go_back_at(code: &mut Vec<Instr>) -> Result<(), AllocError>
-    ensures { OnOk result (code.new.items ≡ code.old.items ++ back_at) }
+    ensures { OnOk result (code.new.items ≡ code.old.items ++ level_back_code) }
 {
     emit(code, &[csrrw(ZERO, PLEVEL, X1)])?;
     go_back(code)
@@ -92,7 +92,7 @@ fn go_back_at(code: &mut Vec<Instr>) -> Result<(), AllocError>
 
 /// Back to the caller, at the level in x1, with the status E_OK.
 pub fn go_on(code: &mut Vec<Instr>) -> Result<(), AllocError>
-    ensures { OnOk result (code.new.items ≡ code.old.items ++ goes_on_at) }
+    ensures { OnOk result (code.new.items ≡ code.old.items ++ ok_level_back_code) }
 {
     emit(code, &[addi(A0, ZERO, E_OK as i32)])?;
     go_back_at(code)

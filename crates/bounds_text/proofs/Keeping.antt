@@ -7,7 +7,7 @@ use Rattle.sloth_base.specs.declared.app.App.{App}
 use Rattle.sloth_base.specs.declared.event.Stamped.{Stamped}
 use Rattle.sloth_base.specs.ConfigRange.{InRange}
 use Rattle.sloth_base.specs.Events.{is_boot}
-use Rattle.sloth_base.specs.Named.{undeclared}
+use Rattle.sloth_base.specs.Named.{undeclared_task}
 use Rattle.sloth_base.specs.Stretches.{longest_stretch}
 use Rattle.code_rules.specs.WellFormed.{WellFormed}
 use Rattle.osek_valid.specs.Apart.{static_priority}
@@ -15,7 +15,6 @@ use Rattle.trace_time.specs.Timed.{HasFewAlarms}
 use Rattle.run_bounds.specs.Latency.{any_stretch, running_limit, latency, EntersBefore}
 use Rattle.run_bounds.proofs.Runs.{keeps_blocking_bounds}
 use Rattle.block_bounds.specs.declared.bound.Bound.{Bound}
-use Rattle.block_bounds.specs.declared.bound.Bound.TheVariants as bound
 use Rattle.block_bounds.specs.Bounds.{AreBounds}
 use Rattle.block_bounds.proofs.KeptTold.{told-bound}
 use Rattle.bounds_text.specs.BoundsText.{HasLines, bound_lines}
@@ -77,10 +76,10 @@ highest-task config (Some h) range is none = (is.0, λ t within other. above t w
         by : (t < h) ⊎ (h ≤ t) → static_priority config t < static_priority config h
         by (inl before) =
             let differ : static_priority config t ≢ static_priority config h =
-            range.priorities_differ t h undeclared before is.0 in
+            range.priorities_differ t h undeclared_task before is.0 in
             omega (arith, le, differ)
         by (inr behind) =
-            let differ : static_priority config h ≢ static_priority config t = range.priorities_differ h t undeclared (omega (arith, behind, other)) within in
+            let differ : static_priority config h ≢ static_priority config t = range.priorities_differ h t undeclared_task (omega (arith, behind, other)) within in
             let apart : static_priority config t ≢ static_priority config h = λ same. differ (sym same) in
             omega (arith, le, apart)
 

@@ -2,7 +2,7 @@
 use Rattle.std.proofs.Common.{◌≡◌, ◌+◌, ◌<◌, ℕ, zero, suc, List, [], ◌++◌, get_or, codes, refl, ap, ◌∙◌, arith}
 use Rattle.std.proofs.Math.Numerals.{add-one}
 use Rattle.sloth_base.specs.declared.config.TaskDecl.{TaskDecl}
-use Rattle.sloth_base.specs.Named.{undeclared}
+use Rattle.sloth_base.specs.Named.{undeclared_task}
 use Rattle.block_bounds.specs.declared.bound.Bound.{Bound}
 use Rattle.block_bounds.specs.declared.bound.Bound.TheVariants as bound
 use Rattle.bounds_text.specs.BoundsText.{bound_text, bound_line, bound_lines}
@@ -17,7 +17,7 @@ one-line-more tasks bounds k = ap (bound_lines tasks bounds) (add-one k)
 
 same-line : (tasks : List TaskDecl) (one other : List Bound) (k : ℕ) → get_or one k bound.Endless ≡ get_or other k bound.Endless → bound_line tasks one k ≡ bound_line tasks other k
 unfolding bound_line
-same-line tasks one other k e = ap (λ b. ((get_or tasks k undeclared).name ++ bound_text b) ++ codes "\n") e
+same-line tasks one other k e = ap (λ b. ((get_or tasks k undeclared_task).name ++ bound_text b) ++ codes "\n") e
 
 -- lines of the same bounds are the same
 pub same-lines : (tasks : List TaskDecl) (one other : List Bound) (n : ℕ) → ((t : ℕ) → t < n → get_or one t bound.Endless ≡ get_or other t bound.Endless)

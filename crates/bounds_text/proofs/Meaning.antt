@@ -6,11 +6,11 @@ use Rattle.least_fault.specs.Order.{NoFault}
 use Rattle.code_rules.specs.WellFormed.{RuleFault}
 use Rattle.task_verify.specs.Accepted.{VerifiedCode}
 use Rattle.sloth_source.specs.Ranked.{HasRanks}
-use Rattle.sloth_source.specs.Texts.{Accepted}
+use Rattle.sloth_source.specs.Texts.{AreAccepted}
 
 pub accepted_code : (oil src : List ℕ) (config : Config) (app : App) (v : VerifiedCode) → HasRanks oil src config app → NoFault (RuleFault config app)
-    → v ≡ record { config = config; app = app } → Accepted oil src v.config v.app
-accepted_code oil src config app v ranked none e = subst (λ (x : VerifiedCode). Accepted oil src x.config x.app) (sym e) (record {
+    → v ≡ record { config = config; app = app } → AreAccepted oil src v.config v.app
+accepted_code oil src config app v ranked none e = subst (λ (x : VerifiedCode). AreAccepted oil src x.config x.app) (sym e) (record {
   configuration = ranked.configuration;
   code = record { has_app = ranked.has_app; no_cycle = ranked.no_cycle; no_fault = none };
 })

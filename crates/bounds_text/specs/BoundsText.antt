@@ -3,8 +3,8 @@ use Rattle.std.specs.Prelude.{ℕ, zero, suc, ◌*◌, ◌<◌, ◌≤◌, ◌�
 use Rattle.sloth_base.specs.declared.config.Config.{Config}
 use Rattle.sloth_base.specs.declared.config.TaskDecl.{TaskDecl}
 use Rattle.sloth_base.specs.declared.app.App.{App}
-use Rattle.sloth_base.specs.Named.{undeclared}
-use Rattle.sloth_source.specs.Texts.{Accepted}
+use Rattle.sloth_base.specs.Named.{undeclared_task}
+use Rattle.sloth_source.specs.Texts.{AreAccepted}
 use Rattle.block_bounds.specs.declared.bound.Bound.{Bound}
 use Rattle.block_bounds.specs.declared.bound.Bound.TheVariants as bound
 use Rattle.block_bounds.specs.Bounds.{AreBounds}
@@ -16,6 +16,7 @@ IsTellable (bound.Items n) = n ≤ 1000000
 IsTellable bound.Huge = Unit {0}
 IsTellable bound.Endless = Unit {0}
 
+-- the same of each of these bounds
 abbrev pub AreTellable : List Bound → Type 0
 AreTellable bounds = (t : ℕ) → t < length bounds → IsTellable (get_or bounds t bound.Endless)
 
@@ -27,7 +28,7 @@ bound_text bound.Endless = codes " endless"
 
 -- the line of a task
 unfoldable pub bound_line : List TaskDecl → List Bound → ℕ → List ℕ
-bound_line tasks bounds task = ((get_or tasks task undeclared).name ++ bound_text (get_or bounds task bound.Endless)) ++ codes "\n"
+bound_line tasks bounds task = ((get_or tasks task undeclared_task).name ++ bound_text (get_or bounds task bound.Endless)) ++ codes "\n"
 
 -- the lines of the first tasks, so many of them
 unfoldable pub bound_lines : List TaskDecl → List Bound → ℕ → List ℕ
@@ -45,7 +46,7 @@ pub record HasLines (config : Config) (app : App) (text : List ℕ) : Type 0 whe
 pub record IsBoundsText (oil src text : List ℕ) : Type 0 where
   pub config : Config
   pub app : App
-  pub accepted : Accepted oil src config app
+  pub accepted : AreAccepted oil src config app
   pub has_lines : HasLines config app text
 
 -- texts have one list of lines at most

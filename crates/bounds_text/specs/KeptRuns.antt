@@ -11,10 +11,10 @@ use Rattle.sloth_base.specs.Stretches.{longest_stretch}
 use Rattle.osek_scheduler.specs.State.{System, opening}
 use Rattle.osek_scheduler.specs.InTime.{is_admit}
 use Rattle.osek_scheduler.specs.Runs.{Leads}
-use Rattle.osek_blocking.specs.Blocking.{up_to_entry, MakesReady}
+use Rattle.osek_blocking.specs.Blocking.{events_up_to_entry, MakesReady}
 use Rattle.raised_sections.specs.Pace.{item_counts, last_count}
 use Rattle.raised_sections.specs.Spent.{spent_counts}
-use Rattle.sim_induction.specs.Sound.{SoundRun, events_of}
+use Rattle.sim_induction.specs.Sound.{IsSoundRun, events_of}
 use Rattle.run_bounds.specs.Latency.{latency, tick_counts, EntersBefore}
 use Rattle.block_bounds.specs.Kept.{WaitsForItems}
 use Rattle.block_bounds.specs.declared.bound.Bound.{Bound}
@@ -27,7 +27,7 @@ abbrev pub WaitsForCounts : Config → App → (h limit : ℕ) → List Stamped 
 WaitsForCounts config app h limit events =
     (before behind : List Stamped) (made : Stamped) (found s : System) → events ≡ before ++ made ∷ behind
     → Leads config app before (opening config app) found → MakesReady config app h made.event found s
-    → spent_counts config h (last_count 0 (before ++ made ∷ [])) (up_to_entry h behind) ≤ limit
+    → spent_counts config h (last_count 0 (before ++ made ∷ [])) (events_up_to_entry h behind) ≤ limit
 
 -- task h waits for at most b items of lower tasks, and 200 counts for each
 pub record WaitsFor (config : Config) (app : App) (h b : ℕ) (events : List Stamped) : Type 0 where
@@ -37,7 +37,7 @@ pub record WaitsFor (config : Config) (app : App) (h b : ℕ) (events : List Sta
 -- in every sound run of an image of the task code each task of which a number is told waits for at most so many
 abbrev pub RunsKeepAll : Config → App → List Bound → Type 0
 RunsKeepAll config app bounds =
-    (image : Image) (arrivals : List Arrival) (n : ℕ) → SoundRun config app image arrivals n
+    (image : Image) (arrivals : List Arrival) (n : ℕ) → IsSoundRun config app image arrivals n
     → (h b : ℕ) → get_or bounds h bound.Endless ≡ bound.Items b → WaitsFor config app h b (events_of image arrivals n)
 
 -- ---- the latency of the task of highest priority
@@ -48,7 +48,7 @@ IsBehindBoot moment before = AllByRecursion (λ e. is_boot e.event ≡ true → 
 
 -- the same counts, and those of the ticks among the events up to the entry of task h
 abbrev pub with_ticks : Config → (h limit : ℕ) → List Stamped → ℕ
-with_ticks config h limit behind = limit + tick_counts config (up_to_entry h behind)
+with_ticks config h limit behind = limit + tick_counts config (events_up_to_entry h behind)
 
 -- From the moment of an arrival behind boot that makes task h Ready its entry ends within so many counts and those of the ticks on the way, if n
 -- instructions are that many.
@@ -63,6 +63,6 @@ EntersWithin config app h limit n events =
 abbrev pub RunsKeepLatency : Config → App → List Bound → Option ℕ → Type 0
 RunsKeepLatency config app bounds None = Unit {0}
 RunsKeepLatency config app bounds (Some h) =
-    (image : Image) (arrivals : List Arrival) (n : ℕ) → SoundRun config app image arrivals n
+    (image : Image) (arrivals : List Arrival) (n : ℕ) → IsSoundRun config app image arrivals n
     → (b : ℕ) → get_or bounds h bound.Endless ≡ bound.Items b
     → EntersWithin config app h (latency config (longest_stretch config) b) n (events_of image arrivals n)

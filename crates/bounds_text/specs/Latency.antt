@@ -3,9 +3,9 @@ use Rattle.std.specs.Prelude.{ℕ, ◌<◌, ◌≤◌, ◌≡◌, List, [], ◌+
 use Rattle.sloth_base.specs.declared.config.Config.{Config}
 use Rattle.sloth_base.specs.declared.app.App.{App}
 use Rattle.sloth_base.specs.declared.config.TaskDecl.{TaskDecl}
-use Rattle.sloth_base.specs.Named.{undeclared, declaration}
+use Rattle.sloth_base.specs.Named.{undeclared_task, declaration}
 use Rattle.sloth_base.specs.Stretches.{longest_stretch}
-use Rattle.sloth_source.specs.Texts.{Accepted}
+use Rattle.sloth_source.specs.Texts.{AreAccepted}
 use Rattle.run_bounds.specs.Latency.{IsHighest, latency}
 use Rattle.block_bounds.specs.declared.bound.Bound.{Bound}
 use Rattle.block_bounds.specs.declared.bound.Bound.TheVariants as bound
@@ -15,7 +15,7 @@ use Rattle.bounds_text.specs.KeptRuns.{RunsKeepAll, RunsKeepLatency}
 
 -- none of the first k tasks has a higher priority than task h
 abbrev pub AreAtMost : List TaskDecl → (h k : ℕ) → Type 0
-AreAtMost tasks h k = (t : ℕ) → t < k → (get_or tasks t undeclared).priority ≤ (get_or tasks h undeclared).priority
+AreAtMost tasks h k = (t : ℕ) → t < k → (get_or tasks t undeclared_task).priority ≤ (get_or tasks h undeclared_task).priority
 
 -- no task has a higher priority than task h
 abbrev pub IsHighestAmong : List TaskDecl → (h : ℕ) → Type 0
@@ -55,7 +55,7 @@ pub record HasLatency (config : Config) (app : App) (text : List ℕ) : Type 0 w
 pub record IsLatencyText (oil src text : List ℕ) : Type 0 where
   pub config : Config
   pub app : App
-  pub accepted : Accepted oil src config app
+  pub accepted : AreAccepted oil src config app
   pub has_latency : HasLatency config app text
 
 -- texts have one such list of lines at most

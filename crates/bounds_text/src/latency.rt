@@ -122,7 +122,8 @@ fn checked_latency(alloc: Global, verified: &Verified, ranks: &Ranks) -> Result<
 }
 
 /// The lines of the bounds of all tasks, and that of the latency of the task of highest priority, of texts of at most 4,294,967,294 bytes;
-/// or the first refusal (O1 to O15, A1 to A7, V1 to V12).
+/// or the first refusal (O1 to O15, A1 to A7, V1 to V12). The latency is a number of instructions, for an arrival behind boot, the time of
+/// ticks on the way aside. Without a task there is no line.
 pub fn latency_lines(alloc: Global, oil: &[u8], src: &[u8]) -> Result<Vec<u8>, BuildError>
     requires oil { length oil.now < 4294967295 }
     requires src { length src.now < 4294967295 }

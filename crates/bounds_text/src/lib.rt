@@ -1,9 +1,9 @@
 //! The lines of the command `bounds`, from the texts of a configuration and its task source.
 #![tactic(auto)]
 
-ghost use Rattle.std.specs.Prelude.{◌≡◌, ◌≤◌, ◌<◌, ◌++◌, ℕ, List, length, get_or, IfOk, IfErr};
+ghost use Rattle.std.specs.Prelude.{◌≡◌, ◌<◌, length, IfOk, IfErr};
 ghost use Rattle.call_graph.specs.Ranks.{RanksOf};
-ghost use Rattle.sloth_source.specs.Texts.{Accepted, ErrorIs};
+ghost use Rattle.sloth_source.specs.Texts.{AreAccepted, ErrorIs};
 ghost use Rattle.bounds_text.specs.BoundsText.{IsTellable, AreTellable, HasLines, bound_text, bound_line, bound_lines, IsBoundsText};
 
 pub mod latency;
@@ -86,7 +86,7 @@ struct Checked {
 fn read_checked(alloc: Global, oil: &[u8], src: &[u8]) -> Result<Checked, BuildError>
     requires oil { length oil.now < 4294967295 }
     requires src { length src.now < 4294967295 }
-    ensures accepted { IfOk result (λ checked. Accepted oil.now src.now checked.verified.config checked.verified.app) }
+    ensures accepted { IfOk result (λ checked. AreAccepted oil.now src.now checked.verified.config checked.verified.app) }
     ensures belong { IfOk result (λ checked. RanksOf checked.verified.app checked.ranks) }
     ensures refused { IfErr result (ErrorIs oil.now src.now) }
 {

@@ -1,5 +1,5 @@
 -- What rows of bits say is what chains of calls reach.
-use Rattle.std.proofs.Common.{◌≡◌, ℕ, ◌<◌, inl, inr, ⊎_elim, Bool, true, false, ◌||◌, ◌&&◌, List, [], ◌∷◌, length, map, get_or, refl, sym, ap, ◌∙◌, subst, arith}
+use Rattle.std.proofs.Common.{◌≡◌, ℕ, ◌<◌, inl, inr, ⊎_elim, Bool, true, ◌||◌, ◌&&◌, List, [], ◌∷◌, length, map, get_or, refl, sym, ap, ◌∙◌, subst, arith}
 use Rattle.std.specs.Prelude.{◌==◌, count_ones}
 use Rattle.std.specs.Bool.{Decides}
 use Rattle.std.proofs.lemmas.Bool.{false_from_ne_true, eqb-true, eq-eqb, or_cases, and_parts, and_from}
@@ -10,14 +10,14 @@ use Rattle.sloth_base.specs.declared.app.App.{App}
 use Rattle.sloth_base.specs.declared.refusal.Refusal.{Refusal}
 use Rattle.least_fault.specs.Order.{NoFault}
 use Rattle.sloth_base.specs.Options.{is_number}
-use Rattle.code_rules.specs.Code.{Calls, CallChain, Reaches, TaskReaches, ReachesTaking, ReachesPause}
+use Rattle.code_rules.specs.Code.{Calls, IsCallChain, Reaches, TaskReaches, ReachesTaking, ReachesPause}
 use Rattle.code_rules.specs.WellFormed.{CycleFault, on_cycle}
 use Rattle.call_graph.specs.declared.ranking.Ranks.{Ranks}
 use Rattle.call_graph.specs.Bits.{is_member}
-use Rattle.call_graph.specs.Rows.{row_has, RowChain}
+use Rattle.call_graph.specs.Rows.{row_has, IsRowChain}
 use Rattle.call_graph.specs.Cycles.{RowCycle}
 use Rattle.call_graph.specs.Reached.{func_of, calls_itself, takes_itself, pauses_itself, reaches_by, takes_by, pauses_by, used_by}
-use Rattle.call_graph.specs.Gathered.{Gathered}
+use Rattle.call_graph.specs.Gathered.{AreGathered}
 use Rattle.call_graph.specs.Ranks.{RanksOf}
 use Rattle.call_graph.proofs.Sets.{row_inside}
 use Rattle.call_graph.proofs.Counted.{counts_less}
@@ -30,7 +30,7 @@ none_counted = omega (arith, ones_le_self 0)
 pub record Closed (app : App) (direct rows : List ℕ) : Type 0 where
   pub count : length direct ≡ length app.funcs
   pub calls : (f g : ℕ) → f < length app.funcs → row_has direct f g ≡ calls_itself (func_of app.funcs f) g
-  pub closed : (i j : ℕ) → Decides (row_has rows i j) ((between : List ℕ) × RowChain direct i between j)
+  pub closed : (i j : ℕ) → Decides (row_has rows i j) ((between : List ℕ) × IsRowChain direct i between j)
 
 module _ (app : App) (direct rows : List ℕ) (c : Closed app direct rows) where
   calls_are : (f g : ℕ) → row_has direct f g ≡ true → Calls app f g
@@ -41,15 +41,15 @@ module _ (app : App) (direct rows : List ℕ) (c : Closed app direct rows) where
   are_calls : (f g : ℕ) → Calls app f g → row_has direct f g ≡ true
   are_calls f g x = c.calls f g x.1.known ∙ (Decides-calls app f x.1.known g).1 x
 
-  chain_is : (f g : ℕ) (between : List ℕ) → RowChain direct f between g → CallChain app f between g
+  chain_is : (f g : ℕ) (between : List ℕ) → IsRowChain direct f between g → IsCallChain app f between g
   chain_is f g [] h = calls_are f g h
   chain_is f g (k ∷ between) h = (calls_are f k h.0, chain_is k g between h.1)
 
-  is_chain : (f g : ℕ) (between : List ℕ) → CallChain app f between g → RowChain direct f between g
+  is_chain : (f g : ℕ) (between : List ℕ) → IsCallChain app f between g → IsRowChain direct f between g
   is_chain f g [] h = are_calls f g h
   is_chain f g (k ∷ between) h = (are_calls f k h.0, is_chain k g between h.1)
 
-  chained : (f g : ℕ) (between : List ℕ) → CallChain app f between g → row_has rows f g ≡ true
+  chained : (f g : ℕ) (between : List ℕ) → IsCallChain app f between g → row_has rows f g ≡ true
   chained f g between h = (c.closed f g).1 (between, is_chain f g between h)
 
   pub Decides-reaches : (f g : ℕ) → Decides (reaches_by f (get_or rows f 0) g) (Reaches app f g)
@@ -107,7 +107,7 @@ module _ (app : App) (direct rows : List ℕ) (c : Closed app direct rows) where
       let y = (c.closed x.0 x.0).0 x.2.0 in
       subst (CycleFault app) (sym x.2.1) (on_cycle x.0 y.0 (chain_is x.0 x.0 y.0 y.1))
 
-  chain_known : (f g : ℕ) (between : List ℕ) → CallChain app f between g → f < length app.funcs
+  chain_known : (f g : ℕ) (between : List ℕ) → IsCallChain app f between g → f < length app.funcs
   chain_known f g [] h = h.1.known
   chain_known f g (k ∷ between) h = h.0.1.known
 
@@ -129,7 +129,7 @@ module _ (app : App) (direct rows : List ℕ) (c : Closed app direct rows) where
   rank_is ranks f e =
       ap (λ (x : List ℕ). get_or x f 0) e ∙ ap (λ d. get_or (map count_ones rows) f d) (sym none_counted) ∙ get_or-map count_ones rows f 0
 
-  pub belongs : (ranks : Ranks) → Gathered app.funcs rows ranks → NoFault (RowCycle app.funcs rows) → RanksOf app ranks
+  pub belongs : (ranks : Ranks) → AreGathered app.funcs rows ranks → NoFault (RowCycle app.funcs rows) → RanksOf app ranks
   belongs ranks g none = record {
     covers = record { rank = g.rank_count; resources = g.resource_count; pauses = g.pause_count; users = g.user_count };
     above = λ f h calls.

@@ -2,7 +2,7 @@
 use Rattle.std.proofs.Common.{◌≡◌, ℕ, zero, suc, ◌<◌, Bool, true, false, ◌||◌, ◌&&◌, List, [], ◌∷◌, ◌++◌, length, refl, sym, ◌∙◌, subst, arith, ◌⊎◌, inl, inr, ⊎_elim}
 use Rattle.std.specs.Bool.{Decides}
 use Rattle.std.proofs.lemmas.Bool.{cases_eq, or_left, or_right, and_from}
-use Rattle.call_graph.specs.Rows.{row_has, RowChain}
+use Rattle.call_graph.specs.Rows.{row_has, IsRowChain}
 use Rattle.call_graph.proofs.Sets.{row_inside}
 
 or_cases : (a b c : Bool) → (a || (b && c)) ≡ true → (a ≡ true) ⊎ ((b ≡ true) × (c ≡ true))
@@ -49,20 +49,20 @@ module _ (rows : List ℕ) where
   edge zero f g c = c
   edge (suc k) f g c = grows k f g (edge k f g c)
 
-  chain_inside : (f g : ℕ) (between : List ℕ) → RowChain rows f between g → f < length rows
+  chain_inside : (f g : ℕ) (between : List ℕ) → IsRowChain rows f between g → f < length rows
   chain_inside f g [] c = row_inside rows f g c
   chain_inside f g (h ∷ between) c = row_inside rows f h c.0
 
-  chain_via : (f g : ℕ) (between : List ℕ) → RowChain rows f between g → via (length rows) f g ≡ true
+  chain_via : (f g : ℕ) (between : List ℕ) → IsRowChain rows f between g → via (length rows) f g ≡ true
   chain_via f g [] c = edge (length rows) f g c
   chain_via f g (h ∷ between) c =
       joins (length rows) f h g (chain_inside h g between c.1) (edge (length rows) f h c.0) (chain_via h g between c.1)
 
-  pub chain_joins : (f g h : ℕ) (xs ys : List ℕ) → RowChain rows f xs g → RowChain rows g ys h → RowChain rows f (xs ++ g ∷ ys) h
+  pub chain_joins : (f g h : ℕ) (xs ys : List ℕ) → IsRowChain rows f xs g → IsRowChain rows g ys h → IsRowChain rows f (xs ++ g ∷ ys) h
   chain_joins f g h [] ys a b = (a, b)
   chain_joins f g h (x ∷ xs) ys a b = (a.0, chain_joins x g h xs ys a.1 b)
 
-  via_chain : (k f g : ℕ) → via k f g ≡ true → (between : List ℕ) × RowChain rows f between g
+  via_chain : (k f g : ℕ) → via k f g ≡ true → (between : List ℕ) × IsRowChain rows f between g
   via_chain zero f g h = ([], h)
   via_chain (suc k) f g h = ⊎_elim
       (λ a. via_chain k f g a)
@@ -70,7 +70,7 @@ module _ (rows : List ℕ) where
       (or_cases (via k f g) (via k f k) (via k k g) h)
 
   pub closed : (new : List ℕ) → length new ≡ length rows → ((i j : ℕ) → i < length rows → row_has new i j ≡ via (length rows) i j)
-      → (i j : ℕ) → Decides (row_has new i j) ((between : List ℕ) × RowChain rows i between j)
+      → (i j : ℕ) → Decides (row_has new i j) ((between : List ℕ) × IsRowChain rows i between j)
   closed new same is i j = (
     λ h. let l : i < length rows = subst (λ (x : ℕ). i < x) same (row_inside new i j h) in via_chain (length rows) i j (sym (is i j l) ∙ h),
     λ c. is i j (chain_inside i j c.0 c.1) ∙ chain_via i j c.0 c.1,

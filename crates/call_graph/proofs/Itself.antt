@@ -1,5 +1,5 @@
 -- What the tests of items say of what a function does itself.
-use Rattle.std.proofs.Common.{◌≡◌, ℕ, zero, suc, ◌<◌, ◌⊎◌, inl, inr, ⊎_elim, Bool, true, false, ◌||◌, ◌&&◌, List, [], ◌∷◌, length, get_or, Some, None, Option, refl, sym, ap, ◌∙◌, arith}
+use Rattle.std.proofs.Common.{◌≡◌, ℕ, zero, suc, ◌<◌, ◌⊎◌, inl, inr, ⊎_elim, Bool, true, List, [], ◌∷◌, length, get_or, Some, None, Option, refl, sym, ap, ◌∙◌, arith}
 use Rattle.std.specs.Prelude.{◌==◌}
 use Rattle.std.specs.Bool.{Decides}
 use Rattle.std.specs.List.{list_any}
@@ -13,9 +13,9 @@ use Rattle.sloth_base.specs.declared.app.Op.{Op}
 use Rattle.sloth_base.specs.declared.app.Op.TheVariants as op
 use Rattle.sloth_base.specs.declared.service.Service.{Service}
 use Rattle.sloth_base.specs.declared.service.Service.TheVariants as service
-use Rattle.sloth_base.specs.Named.{function, missing, no_item}
+use Rattle.sloth_base.specs.Named.{function, no_function, no_item}
 use Rattle.sloth_base.specs.Options.{is_number}
-use Rattle.code_rules.specs.Code.{IsItem, serve, Calls, Pauses}
+use Rattle.code_rules.specs.Code.{IsItem, service_op, Calls, Pauses}
 use Rattle.call_graph.specs.Rows.{is_call, is_get, is_taking, is_pausing, is_pause}
 use Rattle.call_graph.specs.Reached.{any_below, func_of, calls_itself, takes_itself, pauses_itself}
 
@@ -55,11 +55,11 @@ pub get_is : (s : Service) → is_get s ≡ true → s ≡ service.GetResource
 get_is service.GetResource e = refl
 get_is _ e = absurd (false≢true e)
 
-taking_is : (r : ℕ) (o : Op) → is_taking r o ≡ true → (mask : ℕ) × (o ≡ serve service.GetResource r mask)
+taking_is : (r : ℕ) (o : Op) → is_taking r o ≡ true → (mask : ℕ) × (o ≡ service_op service.GetResource r mask)
 taking_is r (op.Serve call) e =
     let parts = and_parts (is_get call.service) (call.object == r) e in (
       call.mask,
-      ap (λ s. serve s call.object call.mask) (get_is call.service parts.0) ∙ ap (λ x. serve service.GetResource x call.mask) (eqb-true call.object r parts.1),
+      ap (λ s. service_op s call.object call.mask) (get_is call.service parts.0) ∙ ap (λ x. service_op service.GetResource x call.mask) (eqb-true call.object r parts.1),
     )
 taking_is r _ e = absurd (false≢true e)
 
@@ -72,7 +72,7 @@ pub is_pausing_of : (s : Service) → Pauses s → is_pausing s ≡ true
 is_pausing_of s (inl e) = ap is_pausing e
 is_pausing_of s (inr e) = ap is_pausing e
 
-pause_is : (o : Op) → is_pause o ≡ true → (s : Service) × (object : ℕ) × (mask : ℕ) × (o ≡ serve s object mask) × Pauses s
+pause_is : (o : Op) → is_pause o ≡ true → (s : Service) × (object : ℕ) × (mask : ℕ) × (o ≡ service_op s object mask) × Pauses s
 pause_is (op.Serve call) e = (call.service, call.object, call.mask, refl, pausing_is call.service e)
 pause_is _ e = absurd (false≢true e)
 
@@ -85,22 +85,22 @@ module _ (app : App) (f : ℕ) (known : f < length app.funcs) where
     λ c. list_any_at (λ item. is_call g item.op) (function app f).items c.0 no_item c.1.inside (ap (is_call g) c.1.is ∙ eq-eqb g g refl),
   )
 
-  pub takes_are : (r : ℕ) → takes_itself (function app f) r ≡ true → (i : ℕ) × (mask : ℕ) × IsItem app f i (serve service.GetResource r mask)
+  pub takes_are : (r : ℕ) → takes_itself (function app f) r ≡ true → (i : ℕ) × (mask : ℕ) × IsItem app f i (service_op service.GetResource r mask)
   takes_are r h =
       let x = item_found (λ item. is_taking r item.op) (function app f).items h in
       let y = taking_is r _ x.2 in (x.0, y.0, record { known = known; inside = x.1; is = y.1 })
 
-  pub are_takes : (r i mask : ℕ) → IsItem app f i (serve service.GetResource r mask) → takes_itself (function app f) r ≡ true
+  pub are_takes : (r i mask : ℕ) → IsItem app f i (service_op service.GetResource r mask) → takes_itself (function app f) r ≡ true
   are_takes r i mask is =
       list_any_at (λ item. is_taking r item.op) (function app f).items i no_item is.inside (ap (is_taking r) is.is ∙ eq-eqb r r refl)
 
   pub pauses_are : pauses_itself (function app f) ≡ true
-      → (i : ℕ) × (s : Service) × (object : ℕ) × (mask : ℕ) × IsItem app f i (serve s object mask) × Pauses s
+      → (i : ℕ) × (s : Service) × (object : ℕ) × (mask : ℕ) × IsItem app f i (service_op s object mask) × Pauses s
   pauses_are h =
       let x = item_found (λ item. is_pause item.op) (function app f).items h in
       let y = pause_is _ x.2 in (x.0, y.0, y.1, y.2, record { known = known; inside = x.1; is = y.3 }, y.4)
 
-  pub are_pauses : (i object mask : ℕ) (s : Service) → IsItem app f i (serve s object mask) → Pauses s → pauses_itself (function app f) ≡ true
+  pub are_pauses : (i object mask : ℕ) (s : Service) → IsItem app f i (service_op s object mask) → Pauses s → pauses_itself (function app f) ≡ true
   are_pauses i object mask s is pauses =
       list_any_at (λ item. is_pause item.op) (function app f).items i no_item is.inside (ap is_pause is.is ∙ is_pausing_of s pauses)
 
@@ -112,4 +112,4 @@ pub is_body : (t : ℕ) (o : Option ℕ) → o ≡ Some t → is_number t o ≡ 
 is_body t o e = ap (is_number t) e ∙ eq-eqb t t refl
 
 pub func_is : (funcs : List Func) (i : ℕ) (f : Func) → i < length funcs → f ≡ get_or funcs i f → f ≡ func_of funcs i
-func_is funcs i f l e = e ∙ get_or_default funcs i f missing l
+func_is funcs i f l e = e ∙ get_or_default funcs i f no_function l

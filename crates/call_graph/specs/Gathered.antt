@@ -6,7 +6,7 @@ use Rattle.call_graph.specs.Bits.{is_member}
 use Rattle.call_graph.specs.Reached.{takes_by, pauses_by, used_by}
 
 -- ranks and sets of all functions, as the closed rows give them
-pub record Gathered (funcs : List Func) (rows : List ℕ) (ranks : Ranks) : Type 0 where
+pub record AreGathered (funcs : List Func) (rows : List ℕ) (ranks : Ranks) : Type 0 where
   pub rank_count : length ranks.rank ≡ length funcs
   pub rank : ranks.rank ≡ map count_ones rows
   pub resource_count : length ranks.resources ≡ length funcs

@@ -2,7 +2,7 @@
 use Rattle.std.specs.Prelude.{ℕ, zero, suc, ◌<◌, ◌≤◌, ◌≡◌, ◌==◌, ◌||◌, ◌&&◌, Bool, true, false, List, length, get_or, Some}
 use Rattle.std.specs.List.{list_any}
 use Rattle.sloth_base.specs.declared.app.Func.{Func}
-use Rattle.sloth_base.specs.Named.{missing}
+use Rattle.sloth_base.specs.Named.{no_function}
 use Rattle.sloth_base.specs.Options.{is_number}
 use Rattle.call_graph.specs.Bits.{is_member}
 use Rattle.call_graph.specs.Rows.{is_call, is_taking, is_pause}
@@ -14,7 +14,7 @@ any_below (suc n) test = any_below n test || test n
 
 -- the function with this number
 abbrev pub func_of : List Func → ℕ → Func
-func_of funcs f = get_or funcs f missing
+func_of funcs f = get_or funcs f no_function
 
 -- ---- what a function does itself
 

@@ -41,9 +41,9 @@ abbrev pub row_has : List ℕ → ℕ → ℕ → Bool
 row_has rows i j = is_member (get_or rows i 0) j
 
 -- row i has the first of these, the row of each has the next, and that of the last has j
-abbrev pub RowChain : List ℕ → ℕ → List ℕ → ℕ → Type 0
-RowChain rows i [] j = row_has rows i j ≡ true
-RowChain rows i (k ∷ between) j = (row_has rows i k ≡ true) × RowChain rows k between j
+abbrev pub IsRowChain : List ℕ → ℕ → List ℕ → ℕ → Type 0
+IsRowChain rows i [] j = row_has rows i j ≡ true
+IsRowChain rows i (k ∷ between) j = (row_has rows i k ≡ true) × IsRowChain rows k between j
 
 -- what a row becomes where ways through k are added
 abbrev pub widened_row : List ℕ → ℕ → ℕ → ℕ → Bool

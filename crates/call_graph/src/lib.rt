@@ -1,7 +1,7 @@
 //! Which functions call which: no function may call itself by way of others (V1), and of each is known what its calls reach.
 #![tactic(auto)]
 
-ghost use Rattle.std.specs.Prelude.{◌≡◌, IfErr, IfOk, OnOk};
+ghost use Rattle.std.specs.Prelude.{IfErr, IfOk, OnOk};
 ghost use Rattle.least_fault.specs.Order.{NoFault, ErrorIs};
 ghost use Rattle.code_rules.specs.AppRange.{IsTaskCode};
 ghost use Rattle.code_rules.specs.WellFormed.{CycleFault};
@@ -31,16 +31,10 @@ pub fn ranks(alloc: Global, app: &App) -> Result<Ranks, BuildError>
     ensures refused { IfErr result (ErrorIs (CycleFault app.now)) }
 {
     let funcs = app.funcs.items();
-    let direct = match direct_calls(alloc, funcs) {
-        Ok(direct) => direct,
-        Err(_) => return Err(BuildError::Memory),
-    };
+    let direct = direct_calls(alloc, funcs)?;
     let rows = closed(direct);
     if let Some(refusal) = cycle(funcs, &rows) {
         return Err(BuildError::Refused(refusal));
     }
-    match gathered(alloc, funcs, &rows) {
-        Ok(ranks) => Ok(ranks),
-        Err(_) => Err(BuildError::Memory),
-    }
+    Ok(gathered(alloc, funcs, &rows)?)
 }

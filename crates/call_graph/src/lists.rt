@@ -3,7 +3,7 @@ ghost use Rattle.std.specs.Prelude.{◌≡◌, ℕ, ◌<◌, ◌≤◌, false, l
 ghost use Rattle.call_graph.specs.Bits.{is_member};
 ghost use Rattle.call_graph.specs.Rows.{row_has};
 ghost use Rattle.call_graph.specs.Reached.{AreFew, func_of, calls_itself, takes_by, pauses_by, used_by};
-ghost use Rattle.call_graph.specs.Gathered.{Gathered};
+ghost use Rattle.call_graph.specs.Gathered.{AreGathered};
 
 use crate::calls::called;
 use crate::ranking::Ranks;
@@ -21,10 +21,7 @@ pub fn direct_calls(alloc: Global, funcs: &[Func]) -> Result<Vec<u64>, NoMemory>
 {
     let mut rows = Vec::new(alloc);
     for func in funcs {
-        match rows.push(called(func.items.items())) {
-            Ok(()) => {}
-            Err(_) => return Err(NoMemory),
-        }
+        rows.push(called(func.items.items())).map_err(|_| NoMemory)?;
     }
     Ok(rows)
 }
@@ -35,10 +32,7 @@ fn rank_list(alloc: Global, rows: &[u64]) -> Result<List<u32>, NoMemory>
 {
     let mut list = Vec::new(alloc);
     for row in rows {
-        match list.push(row.count_ones()) {
-            Ok(()) => {}
-            Err(_) => return Err(NoMemory),
-        }
+        list.push(row.count_ones()).map_err(|_| NoMemory)?;
     }
     Ok(List::from_vec(list))
 }
@@ -52,10 +46,8 @@ fn resource_sets(alloc: Global, funcs: &[Func], rows: &[u64]) -> Result<List<u64
 {
     let mut list = Vec::new(alloc);
     for (number, row) in rows.iter().enumerate() {
-        match list.push(resources_of(funcs, number, *row)) {
-            Ok(()) => {}
-            Err(_) => return Err(NoMemory),
-        }
+        list.push(resources_of(funcs, number, *row))
+            .map_err(|_| NoMemory)?;
     }
     Ok(List::from_vec(list))
 }
@@ -69,10 +61,8 @@ fn pausing_functions(alloc: Global, funcs: &[Func], rows: &[u64]) -> Result<List
 {
     let mut list = Vec::new(alloc);
     for (number, row) in rows.iter().enumerate() {
-        match list.push(pauses_of(funcs, number, *row)) {
-            Ok(()) => {}
-            Err(_) => return Err(NoMemory),
-        }
+        list.push(pauses_of(funcs, number, *row))
+            .map_err(|_| NoMemory)?;
     }
     Ok(List::from_vec(list))
 }
@@ -87,10 +77,8 @@ fn user_sets(alloc: Global, funcs: &[Func], rows: &[u64]) -> Result<List<u32>, N
 {
     let mut list = Vec::new(alloc);
     for number in 0..funcs.len() {
-        match list.push(users_of(funcs, rows, number)) {
-            Ok(()) => {}
-            Err(_) => return Err(NoMemory),
-        }
+        list.push(users_of(funcs, rows, number))
+            .map_err(|_| NoMemory)?;
     }
     Ok(List::from_vec(list))
 }
@@ -99,7 +87,7 @@ fn user_sets(alloc: Global, funcs: &[Func], rows: &[u64]) -> Result<List<u32>, N
 pub fn gathered(alloc: Global, funcs: &[Func], rows: &[u64]) -> Result<Ranks, NoMemory>
     requires few { AreFew funcs.now }
     requires same { length rows.now ≡ length funcs.now }
-    ensures { IfOk result (Gathered funcs.now rows.now) }
+    ensures { IfOk result (AreGathered funcs.now rows.now) }
 {
     Ok(Ranks {
         rank: rank_list(alloc, rows)?,

@@ -1,7 +1,7 @@
 //! The functions that each function reaches by chains of calls: a row of bits for each.
 ghost use Rattle.std.specs.Prelude.{◌≡◌, ℕ, ◌<◌, ◌≤◌, ◌||◌, ◌&&◌, length, Decides};
 ghost use Rattle.call_graph.specs.Bits.{is_member};
-ghost use Rattle.call_graph.specs.Rows.{row_has, widened_row, RowChain};
+ghost use Rattle.call_graph.specs.Rows.{row_has, widened_row, IsRowChain};
 
 use crate::bits::{has, union};
 
@@ -26,7 +26,7 @@ fn round(rows: &mut [u64], k: usize)
 
 fn close(rows: &mut [u64])
     requires { length rows.old ≤ 64 }
-    ensures { (i j : ℕ) → Decides (row_has rows.new i j) ((between : _) × RowChain rows.old i between j) }
+    ensures { (i j : ℕ) → Decides (row_has rows.new i j) ((between : _) × IsRowChain rows.old i between j) }
 {
     for k in 0..rows.len() {
         round(rows, k);
@@ -37,7 +37,7 @@ fn close(rows: &mut [u64])
 pub fn closed(direct: Vec<u64>) -> Vec<u64>
     requires { length direct.items ≤ 64 }
     ensures count { length result.items ≡ length direct.items }
-    ensures reach { (i j : ℕ) → Decides (row_has result.items i j) ((between : _) × RowChain direct.items i between j) }
+    ensures reach { (i j : ℕ) → Decides (row_has result.items i j) ((between : _) × IsRowChain direct.items i between j) }
 {
     let mut rows = direct;
     close(&mut rows);

@@ -1,13 +1,13 @@
 -- Each event of a run of the abstract scheduler has a line, if its result or status is below 2^32.
-use Rattle.std.proofs.Common.{◌≡◌, ◌∙◌, ℕ, ◌+◌, ◌<◌, ◌≤◌, ◌⊎◌, inl, inr, List, [], ◌∷◌, ◌++◌, length, map, refl, sym, ap, subst, arith}
-use Rattle.std.specs.Prelude.{All, sum}
+use Rattle.std.proofs.Common.{◌∙◌, ℕ, ◌<◌, ◌≤◌, ◌⊎◌, inl, inr, List, [], ◌∷◌, ◌++◌, length, refl, ap, subst, arith}
+use Rattle.std.specs.Prelude.{All}
 use Rattle.std.specs.List.{AllByRecursion}
 use Rattle.std.proofs.lemmas.List.Sums.{get_or-le-sum_by, sum-map}
 use Rattle.std.proofs.Math.ListN.{get_or-eq_default}
 use Rattle.std.proofs.lemmas.Bool.{cases_lt}
 use Rattle.std.proofs.lemmas.List.{length-map}
 use Rattle.std.proofs.lemmas.List.Elements.{All-cons, All-head, All-tail}
-use Rattle.sloth_base.specs.Named.{function, missing}
+use Rattle.sloth_base.specs.Named.{function, no_function}
 use Rattle.sloth_base.specs.declared.app.App.{App}
 use Rattle.sloth_base.specs.declared.app.Func.{Func}
 use Rattle.sloth_base.specs.declared.config.Config.{Config}
@@ -18,7 +18,7 @@ use Rattle.osek_scheduler.specs.State.{System, opening}
 use Rattle.osek_scheduler.specs.Steps.{OsekStep}
 use Rattle.osek_scheduler.specs.Runs.{Follows}
 use Rattle.sim_induction.specs.Sound.{events_of}
-use Rattle.trace_text.specs.EventLines.{Has32Bits, HasNumbers, IsNumberOrNone, IsPlace}
+use Rattle.trace_text.specs.EventLines.{Has32Bits, HasNumbers, IsNumberOrNone, IsNameNumber}
 use Rattle.trace_text.specs.Texts.{lines_with}
 use Rattle.trace_text.specs.declared.printing.Form.TheVariants as form
 use Rattle.trace_check.specs.TraceText.{HasLine}
@@ -35,7 +35,7 @@ module _ (config : Config) (app : App) (in_range : AppInRange config app) where
       let few = in_range.configuration.few_tasks in
       record { word = omega (arith, declared, few); names = inl (omega (arith, declared, long)) }
 
-  counter_place : (c : ℕ) → c < length config.counters → IsPlace (length (counter_names config)) c
+  counter_place : (c : ℕ) → c < length config.counters → IsNameNumber (length (counter_names config)) c
   counter_place c declared =
       let long = length-map config.counters (λ d. d.name) in
       let few = in_range.configuration.few_counters in
@@ -48,10 +48,10 @@ module _ (config : Config) (app : App) (in_range : AppInRange config app) where
       by : (f < length app.funcs) ⊎ (length app.funcs ≤ f) → f < length app.funcs
       by (inl less) = less
       by (inr past) =
-          let none = ap (λ (x : Func). length x.items) (get_or-eq_default app.funcs missing past) in
+          let none = ap (λ (x : Func). length x.items) (get_or-eq_default app.funcs no_function past) in
           absurd (omega (arith, inside, none))
 
-  func_number : (f item : ℕ) → item < length (function app f).items → IsPlace (length (func_names app)) f
+  func_number : (f item : ℕ) → item < length (function app f).items → IsNameNumber (length (func_names app)) f
   func_number f item inside =
       let declared = has_item f item inside in
       let long = length-map app.funcs (λ d. d.name) in
@@ -60,7 +60,7 @@ module _ (config : Config) (app : App) (in_range : AppInRange config app) where
 
   item_number : (f item : ℕ) → item < length (function app f).items → Has32Bits item
   item_number f item inside =
-      let within = get_or-le-sum_by (λ (x : Func). length x.items) app.funcs f missing (has_item f item inside) in
+      let within = get_or-le-sum_by (λ (x : Func). length x.items) app.funcs f no_function (has_item f item inside) in
       let same = sum-map (λ (x : Func). length x.items) app.funcs in
       let few = in_range.limits.few_items in
       omega (arith, inside, within, same, few)

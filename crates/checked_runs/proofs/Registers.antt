@@ -6,7 +6,7 @@ use Rattle.sloth_base.specs.Arrivals.{moments}
 use Rattle.sloth_base.specs.Machine.{State}
 use Rattle.sloth_base.specs.Owners.{first_counter_line, line_kind}
 use Rattle.sloth_base.specs.ServiceCodes.{service_of}
-use Rattle.sloth_base.specs.Take.{entered}
+use Rattle.sloth_base.specs.Take.{execution_state}
 use Rattle.sloth_base.specs.declared.event.Arrival.{Arrival}
 use Rattle.sloth_base.specs.declared.event.Event.{Event}
 use Rattle.sloth_base.specs.declared.event.Event.TheVariants as event
@@ -21,11 +21,11 @@ use Rattle.sloth_base.specs.declared.service.Service.{Service}
 use Rattle.sloth_base.specs.declared.step.Step.{Step}
 use Rattle.rv32_instr.specs.Execute.{Next, Going, Stopped, step}
 use Rattle.rv32_machine.specs.Advance.{Outcome, Goes, Halts, advance, outcome, seen_step}
-use Rattle.rv32_machine.specs.Run.{arrived, moment, moment_of, on_goes, run_from, steps_of}
+use Rattle.rv32_machine.specs.Run.{state_with_arrivals, moment, moment_of, on_goes, run_from, steps_of}
 use Rattle.rv32_machine.specs.Start.{start}
-use Rattle.observe.specs.Pieces.{Piece, Outside, Stretch, cut_off, is_outside, pieces}
+use Rattle.observe.specs.Pieces.{Piece, Outside, Stretch, cut_off_steps, is_outside, pieces}
 use Rattle.observe.specs.Pieces as cut
-use Rattle.observe.specs.Observe.{NO_COUNTER, NO_TASK, View, admission, arrival_event, entry_event, events_of_kind, found_admits, is_early, last_of, later_event, mark_at, marked_event, masked_from, observe, outside_events, piece_events, running_task, service_event, stamp, stretch_event, unentered_event, view_of_image}
+use Rattle.observe.specs.Observe.{NO_COUNTER, NO_TASK, View, admission, arrival_event, entry_event, events_of_kind, found_admits, is_early, last_of, later_event, mark_at, marked_event, first_masked_moment, observe, outside_events, piece_events, running_task, service_event, stamp, stretch_event, unentered_event, view_of_image}
 use Rattle.sim_entries.proofs.Boot.{ram_at}
 use Rattle.sim_entries.proofs.Spot.{zero_at}
 use Rattle.sim_induction.specs.Sound.{events_of}
@@ -49,7 +49,7 @@ registers_seen count before (Stopped stop) s after e = absurd cc
 registers_after : (arrivals : List Arrival) (count : ℕ) (state : State) (s : Step) (after : State) → moment arrivals count state ≡ Goes s after → s.regs ≡ after.core.registers
 unfolding advance
 registers_after arrivals count state s after e =
-    registers_seen count (arrived arrivals count state) (step (entered (arrived arrivals count state))) s after e
+    registers_seen count (state_with_arrivals arrivals count state) (step (execution_state (state_with_arrivals arrivals count state))) s after e
 
 steps_fit : (n : ℕ) (arrivals : List Arrival) (count : ℕ) (state : State) → IsBounded state → AllByRecursion AreWords (steps_of (run_from n arrivals count state))
 unfolding run_from
@@ -185,15 +185,15 @@ module _ (view : View) where
         (admits_fit (moments s.count (s.count + 1) arrivals)) (stamped_fit s.count (outside_events (mark_at view s.pc) view s) (outside_fits (mark_at view s.pc) s h.0))
     piece_fits (Stretch []) h = tt
     piece_fits (Stretch (first ∷ more)) h =
-        let inside = moments (masked_from first) ((last_of first more).count + 1) arrivals in
+        let inside = moments (first_masked_moment first) ((last_of first more).count + 1) arrivals in
         let last = last_of first more in
-        all_append HasValueAt (found_admits view arrivals (first ∷ more)) _ (admits_fit (moments first.count (masked_from first) arrivals))
+        all_append HasValueAt (found_admits view arrivals (first ∷ more)) _ (admits_fit (moments first.count (first_masked_moment first) arrivals))
         (all_append HasValueAt (map (admission view) (filter (is_early (first ∷ more)) inside)) _ (admits_fit (filter (is_early (first ∷ more)) inside))
         (stretch_fits first last (last_fits first more h.0 h.1), admits_fit (filter (λ a. not (is_early (first ∷ more) a)) inside)))
 
     found_fit : (steps : List Step) → AllByRecursion HasValueAt (found_admits view arrivals steps)
     found_fit [] = tt
-    found_fit (first ∷ more) = admits_fit (moments first.count (masked_from first) arrivals)
+    found_fit (first ∷ more) = admits_fit (moments first.count (first_masked_moment first) arrivals)
 
     pieces_fit : (opened steps : List Step) → AllByRecursion AreWords opened → AllByRecursion AreWords steps
         → AllByRecursion (λ p. AllByRecursion HasValueAt (piece_events view arrivals p)) (pieces opened steps)
@@ -215,8 +215,8 @@ module _ (view : View) where
     observed_fit : (steps : List Step) → AllByRecursion AreWords steps → AllByRecursion HasValueAt (observe view arrivals steps)
     unfolding observe
     observed_fit steps h =
-        all_append HasValueAt (flat_map (piece_events view arrivals) (pieces [] steps)) (found_admits view arrivals (cut_off [] steps))
-        (all_flat HasValueAt (piece_events view arrivals) (pieces [] steps) (pieces_fit [] steps tt h)) (found_fit (cut_off [] steps))
+        all_append HasValueAt (flat_map (piece_events view arrivals) (pieces [] steps)) (found_admits view arrivals (cut_off_steps [] steps))
+        (all_flat HasValueAt (piece_events view arrivals) (pieces [] steps) (pieces_fit [] steps tt h)) (found_fit (cut_off_steps [] steps))
 
 pub values_fit : (image : Image) (arrivals : List Arrival) (n : ℕ) → AreBelow 256 image.memory → AllByRecursion HasValueAt (events_of image arrivals n)
 values_fit image arrivals n bytes =

@@ -3,5 +3,5 @@ use Rattle.std.specs.Prelude.{ℕ, ◌≡◌, ◌<◌, Some, List, length, slice
 use Rattle.sloth_base.specs.declared.app.Func.{Func}
 
 -- the function at this place is the task's body
-abbrev pub IsBody : List Func → ℕ → ℕ → Type 0
-IsBody funcs task body = (body < length funcs) × ((d : Func) → (slice_index_or funcs body d).task ≡ Some task)
+abbrev pub IsBodyPlace : List Func → ℕ → ℕ → Type 0
+IsBodyPlace funcs task body = (body < length funcs) × ((d : Func) → (slice_index_or funcs body d).task ≡ Some task)

@@ -1,14 +1,14 @@
 //! The body of a task.
 ghost use Rattle.std.specs.Prelude.{ℕ, ◌≡◌, ◌↔◌, IsTrue};
-ghost use Rattle.code_lengths.specs.Bodies.{IsBody};
+ghost use Rattle.code_lengths.specs.Bodies.{IsBodyPlace};
 
 use sloth_base::app::Func;
 use sloth_base::numbers::TaskId;
 
 /// The place of the task's body among these functions. There is one.
 pub fn body_of(funcs: &[Func], task: TaskId) -> usize
-    requires { (body : ℕ) × IsBody funcs.now task body }
-    ensures { IsBody funcs.now task result }
+    requires { (body : ℕ) × IsBodyPlace funcs.now task body }
+    ensures { IsBodyPlace funcs.now task result }
 {
     for i in 0..funcs.len() {
         if belongs_to(&funcs[i], task) {

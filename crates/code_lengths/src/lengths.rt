@@ -1,7 +1,7 @@
 //! How many instructions each piece of generated code has.
 ghost use Rattle.std.specs.Prelude.{◌≡◌, ◌<◌, ◌≤◌, ◌*◌, ℕ, All, length};
 ghost use Rattle.sloth_base.specs.Blocks.{block_count};
-ghost use Rattle.code_lengths.specs.Bodies.{IsBody};
+ghost use Rattle.code_lengths.specs.Bodies.{IsBodyPlace};
 ghost use Rattle.code_lengths.specs.CodeLengths.{lines_length, boot_length, prologue_length, service_length, block_length, IsPrologueLength};
 
 use crate::body::body_of;
@@ -60,7 +60,7 @@ pub fn prologue_length(extended: bool, words: u32) -> u32
 /// How many instructions the prologue of a task has.
 pub fn start_length(task: TaskId, config: &Config, app: &App) -> u32
     requires exists { task < length config.now.tasks }
-    requires body { (body : ℕ) × IsBody app.now.funcs task body }
+    requires body { (body : ℕ) × IsBodyPlace app.now.funcs task body }
     requires frames { All (λ func. func.frame_words ≤ 32) app.now.funcs }
     ensures { IsPrologueLength task config.now app.now result }
 {

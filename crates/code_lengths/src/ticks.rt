@@ -63,7 +63,7 @@ fn alarm_length(counter: u32, alarm: &AlarmDecl, later: &[AlarmDecl]) -> u32
     }
 }
 
-/// How many instructions the tick of a counter has among these alarms.
+/// How many instructions, each of one word, the tick of a counter has among these alarms, at most 32: from 11 to 1,099.
 pub fn tick_length(counter: u32, alarms: &[AlarmDecl]) -> u32
     requires { length alarms.now ≤ 32 }
     ensures is { result ≡ tick_length counter alarms.now }

@@ -4,9 +4,9 @@ use Rattle.std.proofs.lemmas.Bool.{cases_eq}
 use Rattle.std.specs.Bool.{Decides}
 use Rattle.sloth_base.specs.declared.refusal.Code.{Code}
 use Rattle.sloth_base.specs.declared.refusal.Refusal.{Refusal}
-use Rattle.least_fault.specs.Search.{Kept, Finds, merge, when}
+use Rattle.least_fault.specs.Search.{KeepsLeast, Finds, merge, when}
 use Rattle.least_fault.proofs.Kept.{kept_start, kept_on, kept_merge, kept_finds, finds_when}
-use Rattle.code_rules.specs.WellFormed.{at_line}
+use Rattle.code_rules.specs.WellFormed.{fault_at_line}
 
 module _ (Fault : ℕ → Refusal → Type 0) (count : ℕ) where
   -- a fault of one of the things
@@ -19,7 +19,7 @@ module _ (Fault : ℕ → Refusal → Type 0) (count : ℕ) where
 
   -- those before n are judged
   abbrev pub Judged : ℕ → Option Refusal → Type 0
-  Judged n least = Kept Below (From n) least
+  Judged n least = KeepsLeast Below (From n) least
 
   pub judged_start : Judged 0 None
   judged_start = kept_on Below Below (From 0) None (λ r x. (x.0, omega arith, x.1, x.2)) (λ r x. (x.0, x.2, x.3)) (kept_start Below)
@@ -37,7 +37,7 @@ module _ (Fault : ℕ → Refusal → Type 0) (count : ℕ) where
   judged_end n least l judged = kept_finds Below (From n) least (λ r x. omega (arith, x.1, x.2, l)) judged
 
 -- A test that decides a fact finds the refusal where it holds.
-pub decided : (P : Type 0) (test : Bool) (line : ℕ) (c : Code) (found : Option Refusal) → found ≡ when test (at_line line c) → Decides test P
-    → Finds (λ r. P × (r ≡ at_line line c)) found
+pub decided : (P : Type 0) (test : Bool) (line : ℕ) (c : Code) (found : Option Refusal) → found ≡ when test (fault_at_line line c) → Decides test P
+    → Finds (λ r. P × (r ≡ fault_at_line line c)) found
 decided P test line c found is decides =
-    subst (Finds (λ r. P × (r ≡ at_line line c))) (sym is) (finds_when P test (at_line line c) decides.0 decides.1)
+    subst (Finds (λ r. P × (r ≡ fault_at_line line c))) (sym is) (finds_when P test (fault_at_line line c) decides.0 decides.1)

@@ -19,7 +19,7 @@ use Rattle.sloth_base.specs.declared.refusal.Refusal.{Refusal}
 use Rattle.sloth_base.specs.declared.service.Service.{Service}
 use Rattle.sloth_base.specs.declared.service.Service.TheVariants as service
 use Rattle.sloth_base.specs.Named.{function, label_of, symbol_size}
-use Rattle.code_rules.specs.Code.{serve, IsItem, CallChain, Reaches, Path}
+use Rattle.code_rules.specs.Code.{service_op, IsItem, IsCallChain, Reaches, IsPath}
 use Rattle.code_rules.specs.WellFormed
 
 -- ---- how the bodies are written
@@ -64,20 +64,20 @@ abbrev label : (line item : ℕ) → List ℕ → Label
 label line item holds = record { name = 108 ∷ []; line = line; item = item; holds = holds }
 
 abbrev takes : ℕ → Op
-takes r = serve service.GetResource r 0
+takes r = service_op service.GetResource r 0
 
 abbrev gives : ℕ → Op
-gives r = serve service.ReleaseResource r 0
+gives r = service_op service.ReleaseResource r 0
 
 abbrev ends : Op
-ends = serve service.TerminateTask 0 0
+ends = service_op service.TerminateTask 0 0
 
 abbrev nop : Op
 nop = op.AluImm imm.Addi 0 0 (pos 0)
 
 -- the code has a fault of this rule on this line
 abbrev Refuses : App → (line : ℕ) → Code → Type 0
-Refuses app line c = WellFormed.RuleFault config app (WellFormed.at_line line c)
+Refuses app line c = WellFormed.RuleFault config app (WellFormed.fault_at_line line c)
 
 -- item i of the first body does not break the rule
 abbrev Passes : App → (i : ℕ) → Code → Type 0
@@ -92,10 +92,10 @@ Acyclic app = (r : Refusal) → WellFormed.CycleFault app r → ⊥
 abbrev calling : List Item → App
 calling items = code_of (main (at 2 (op.Invoke 1) ∷ at 3 ends ∷ []) [] ∷ func items ∷ [])
 
-calls_itself : WellFormed.CycleFault (calling (at 21 (op.Invoke 1) ∷ at 22 op.Return ∷ [])) (WellFormed.at_line 20 code.V1)
+calls_itself : WellFormed.CycleFault (calling (at 21 (op.Invoke 1) ∷ at 22 op.Return ∷ [])) (WellFormed.fault_at_line 20 code.V1)
 calls_itself = WellFormed.on_cycle 1 [] (0, record { known = omega arith; inside = omega arith; is = refl })
 
-call_each_other : WellFormed.CycleFault (code_of (main (at 2 ends ∷ []) [] ∷ func (at 21 (op.Invoke 2) ∷ []) ∷ func (at 21 (op.Invoke 1) ∷ []) ∷ [])) (WellFormed.at_line 20 code.V1)
+call_each_other : WellFormed.CycleFault (code_of (main (at 2 ends ∷ []) [] ∷ func (at 21 (op.Invoke 2) ∷ []) ∷ func (at 21 (op.Invoke 1) ∷ []) ∷ [])) (WellFormed.fault_at_line 20 code.V1)
 call_each_other = WellFormed.on_cycle 1 (2 ∷ []) (
   (0, record { known = omega arith; inside = omega arith; is = refl }),
   (0, record { known = omega arith; inside = omega arith; is = refl }),
@@ -202,7 +202,7 @@ ends_there (WellFormed.runs_out (j, inr (k, e, q), l)) = absurd cc
 behind_an_end : Refuses (one (at 2 ends ∷ at 3 ends ∷ [])) 3 code.V6
 behind_an_end = (0, omega arith, WellFormed.at_item 1 code.V6 (omega arith) (WellFormed.is_unreached none))
   where
-    none : (between : List ℕ) → ¬ (Path (function (one (at 2 ends ∷ at 3 ends ∷ [])) 0) 0 between 1)
+    none : (between : List ℕ) → ¬ (IsPath (function (one (at 2 ends ∷ at 3 ends ∷ [])) 0) 0 between 1)
     none [] e = absurd cc
     none (k ∷ between) (inl a, rest) = false≢true a.0
     none (k ∷ between) (inr b, rest) = let e = b.1 in absurd cc
@@ -214,19 +214,19 @@ passes_over = code_of (main (at 2 (op.Jump 0) ∷ at 3 nop ∷ at 5 ends ∷ [])
 passed_over : Refuses passes_over 3 code.V6
 passed_over = (0, omega arith, WellFormed.at_item 1 code.V6 (omega arith) (WellFormed.is_unreached none))
   where
-    from_end : (between : List ℕ) → ¬ (Path (function passes_over 0) 2 between 1)
+    from_end : (between : List ℕ) → ¬ (IsPath (function passes_over 0) 2 between 1)
     from_end [] e = absurd cc
     from_end (k ∷ between) (inl a, rest) = false≢true a.0
     from_end (k ∷ between) (inr b, rest) = let e = b.1 in absurd cc
 
-    none : (between : List ℕ) → ¬ (Path (function passes_over 0) 0 between 1)
+    none : (between : List ℕ) → ¬ (IsPath (function passes_over 0) 0 between 1)
     none [] e = absurd cc
     none (k ∷ between) (inl a, rest) = false≢true a.0
     none (k ∷ between) (inr b, rest) =
         let e = b.1 in
         let same : 0 ≡ b.0 = cc in
         let there : k ≡ 2 = b.2 ∙ ap (λ n. (label_of (function passes_over 0) n).item) (sym same) in
-        from_end between (subst (λ (n : ℕ). Path (function passes_over 0) n between 1) there rest)
+        from_end between (subst (λ (n : ℕ). IsPath (function passes_over 0) n between 1) there rest)
 
 jumped_to : Passes passes_over 2 code.V6
 jumped_to (WellFormed.is_unreached none) = none (2 ∷ []) (inr (0, refl, refl), refl)
@@ -316,7 +316,7 @@ ends_holding = (0, omega arith, WellFormed.at_item 1 code.V10 (omega arith) (Wel
 ends_free : Passes (one (at 2 (takes 0) ∷ at 3 (gives 0) ∷ at 4 ends ∷ [])) 2 code.V10
 ends_free (WellFormed.leaves_holding (leaves, ne)) = ne refl
 
-calls_what_schedules : Refuses (calls_holding (at 21 (serve service.Schedule 0 0) ∷ at 22 op.Return ∷ [])) 3 code.V10
+calls_what_schedules : Refuses (calls_holding (at 21 (service_op service.Schedule 0 0) ∷ at 22 op.Return ∷ [])) 3 code.V10
 calls_what_schedules = (
   0,
   omega arith,
@@ -337,7 +337,7 @@ calls_what_returns (WellFormed.leaves_holding ((g, i, s, object, mask, reach, is
     alone (suc i) o is = absurd (omega (arith, is.inside))
 
     by : Reaches calls_plainly 1 g → ⊥
-    by (inl e) = let here : op.Return ≡ serve s object mask = alone i _ (subst (λ (n : ℕ). IsItem calls_plainly n i (serve s object mask)) (sym e) is) in cc
+    by (inl e) = let here : op.Return ≡ service_op s object mask = alone i _ (subst (λ (n : ℕ). IsItem calls_plainly n i (service_op s object mask)) (sym e) is) in cc
     by (inr ([], calls)) = let there : op.Return ≡ op.Invoke g = alone calls.0 _ calls.1 in cc
     by (inr (h ∷ between, chain)) = let there : op.Return ≡ op.Invoke h = alone chain.0.0 _ chain.0.1 in cc
 
@@ -346,19 +346,19 @@ calls_what_returns (WellFormed.leaves_holding ((g, i, s, object, mask, reach, is
 task_returns : Refuses (one (at 2 op.Return ∷ [])) 2 code.V11
 task_returns = (0, omega arith, WellFormed.at_item 0 code.V11 (omega arith) (WellFormed.leaves_wrongly (0, refl)))
 
-function_ends : Refuses (code_of (main (at 2 ends ∷ []) [] ∷ func (at 21 (serve service.ChainTask 1 0) ∷ []) ∷ [])) 21 code.V11
+function_ends : Refuses (code_of (main (at 2 ends ∷ []) [] ∷ func (at 21 (service_op service.ChainTask 1 0) ∷ []) ∷ [])) 21 code.V11
 function_ends = (1, omega arith, WellFormed.at_item 0 code.V11 (omega arith) (WellFormed.leaves_wrongly (inr refl, refl)))
 
 task_ends : Passes (one (at 2 ends ∷ [])) 0 code.V11
 task_ends (WellFormed.leaves_wrongly (ending, none)) = absurd cc
 
-task_chains : Passes (one (at 2 (serve service.ChainTask 1 0) ∷ [])) 0 code.V11
+task_chains : Passes (one (at 2 (service_op service.ChainTask 1 0) ∷ [])) 0 code.V11
 task_chains (WellFormed.leaves_wrongly (ending, none)) = absurd cc
 
 -- ---- V12
 
 abbrev serves : Service → (object mask : ℕ) → App
-serves s object mask = one (at 2 (serve s object mask) ∷ at 3 ends ∷ [])
+serves s object mask = one (at 2 (service_op s object mask) ∷ at 3 ends ∷ [])
 
 takes_unlisted : Refuses (serves service.GetResource 1 0) 2 code.V12
 takes_unlisted = (
@@ -393,7 +393,7 @@ calls_nothing r (WellFormed.on_cycle f between chain) = none f between chain
     no_call zero (suc i) g is = omega (arith, is.inside)
     no_call (suc f) i g is = omega (arith, is.known)
 
-    none : (f : ℕ) (between : List ℕ) → CallChain (one (at 2 ends ∷ [])) f between f → ⊥
+    none : (f : ℕ) (between : List ℕ) → IsCallChain (one (at 2 ends ∷ [])) f between f → ⊥
     none f [] calls = no_call f calls.0 f calls.1
     none f (h ∷ between) chain = no_call f chain.0.0 h chain.0.1
 
@@ -409,7 +409,7 @@ calls_once r (WellFormed.on_cycle f between chain) = none f between chain
     call_is (suc zero) (suc i) g is = absurd (omega (arith, is.inside))
     call_is (suc (suc f)) i g is = absurd (omega (arith, is.known))
 
-    none : (f : ℕ) (between : List ℕ) → CallChain (calling (at 21 op.Return ∷ [])) f between f → ⊥
+    none : (f : ℕ) (between : List ℕ) → IsCallChain (calling (at 21 op.Return ∷ [])) f between f → ⊥
     none f [] calls = let e = call_is f calls.0 f calls.1 in omega (arith, e.0, e.1)
     none f (h ∷ []) chain =
         let e = call_is f chain.0.0 h chain.0.1 in let d = call_is h chain.1.0 f chain.1.1 in omega (arith, e.1, d.0)

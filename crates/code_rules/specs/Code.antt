@@ -18,8 +18,8 @@ pub record IsItem (app : App) (f i : ℕ) (o : Op) : Type 0 where
   pub is : operation app f i ≡ o
 
 -- a service with its object and its mask of events
-abbrev pub serve : Service → (object mask : ℕ) → Op
-serve s object mask = op.Serve (record { service = s; object = object; mask = mask })
+abbrev pub service_op : Service → (object mask : ℕ) → Op
+service_op s object mask = op.Serve (record { service = s; object = object; mask = mask })
 
 -- ---- calls
 
@@ -28,13 +28,13 @@ abbrev pub Calls : App → ℕ → ℕ → Type 0
 Calls app f g = (i : ℕ) × IsItem app f i (op.Invoke g)
 
 -- f calls the first of these, each calls the next, and the last calls g
-abbrev pub CallChain : App → ℕ → List ℕ → ℕ → Type 0
-CallChain app f [] g = Calls app f g
-CallChain app f (h ∷ between) g = Calls app f h × CallChain app h between g
+abbrev pub IsCallChain : App → ℕ → List ℕ → ℕ → Type 0
+IsCallChain app f [] g = Calls app f g
+IsCallChain app f (h ∷ between) g = Calls app f h × IsCallChain app h between g
 
 -- g is f, or there is a chain of calls from f to g
 abbrev pub Reaches : App → ℕ → ℕ → Type 0
-Reaches app f g = (f ≡ g) ⊎ ((between : List ℕ) × CallChain app f between g)
+Reaches app f g = (f ≡ g) ⊎ ((between : List ℕ) × IsCallChain app f between g)
 
 -- the body of task t reaches function f
 abbrev pub TaskReaches : App → ℕ → ℕ → Type 0
@@ -55,11 +55,11 @@ Ends s = (s ≡ service.TerminateTask) ⊎ (s ≡ service.ChainTask)
 
 -- function f reaches an item that takes resource r
 abbrev pub ReachesTaking : App → ℕ → ℕ → Type 0
-ReachesTaking app f r = (g : ℕ) × (i : ℕ) × (mask : ℕ) × Reaches app f g × IsItem app g i (serve service.GetResource r mask)
+ReachesTaking app f r = (g : ℕ) × (i : ℕ) × (mask : ℕ) × Reaches app f g × IsItem app g i (service_op service.GetResource r mask)
 
 -- function f reaches a WaitEvent or a Schedule
 abbrev pub ReachesPause : App → ℕ → Type 0
-ReachesPause app f = (g : ℕ) × (i : ℕ) × (s : Service) × (object : ℕ) × (mask : ℕ) × Reaches app f g × IsItem app g i (serve s object mask) × Pauses s
+ReachesPause app f = (g : ℕ) × (i : ℕ) × (s : Service) × (object : ℕ) × (mask : ℕ) × Reaches app f g × IsItem app g i (service_op s object mask) × Pauses s
 
 -- ---- paths
 
@@ -88,9 +88,9 @@ GoesOn f i j =
     ⊎ ((k : ℕ) × (way (item_of f i).op ≡ Some k) × (j ≡ (label_of f k).item))
 
 -- a path from item i of a body by way of these items to item j
-abbrev pub Path : Func → ℕ → List ℕ → ℕ → Type 0
-Path f i [] j = i ≡ j
-Path f i (k ∷ between) j = GoesOn f i k × Path f k between j
+abbrev pub IsPath : Func → ℕ → List ℕ → ℕ → Type 0
+IsPath f i [] j = i ≡ j
+IsPath f i (k ∷ between) j = GoesOn f i k × IsPath f k between j
 
 -- ---- held resources
 
@@ -123,9 +123,9 @@ held_after (op.Serve call) held = held_behind call.service call.object held
 held_after _ held = held
 
 -- what is held behind the labels at place i: the list of the last of them, or what is held without one
-abbrev pub held_at_labels : ℕ → List Label → List ℕ → List ℕ
-held_at_labels i [] held = held
-held_at_labels i (l ∷ labels) held = held_at_labels i labels (cond (l.item == i) l.holds held)
+abbrev pub held_list_at_labels : ℕ → List Label → List ℕ → List ℕ
+held_list_at_labels i [] held = held
+held_list_at_labels i (l ∷ labels) held = held_list_at_labels i labels (cond (l.item == i) l.holds held)
 
 -- one of the labels stands at place i, or it is so without one
 abbrev pub mark_at_labels : ℕ → List Label → Bool → Bool
@@ -133,14 +133,14 @@ mark_at_labels i [] into = into
 mark_at_labels i (l ∷ labels) into = mark_at_labels i labels ((l.item == i) || into)
 
 -- What is held before item i: nothing before the first, else what is held behind the item before; but behind a label its list.
-abbrev pub held_at : Func → ℕ → List ℕ
-held_at f zero = held_at_labels 0 f.labels []
-held_at f (suc i) = held_at_labels (suc i) f.labels (held_after (item_of f i).op (held_at f i))
+abbrev pub held_list_at : Func → ℕ → List ℕ
+held_list_at f zero = held_list_at_labels 0 f.labels []
+held_list_at f (suc i) = held_list_at_labels (suc i) f.labels (held_after (item_of f i).op (held_list_at f i))
 
 -- what is held where place i is fallen into
-abbrev pub held_fallen_into : Func → ℕ → List ℕ
-held_fallen_into f zero = []
-held_fallen_into f (suc i) = held_after (item_of f i).op (held_at f i)
+abbrev pub held_list_fallen_into : Func → ℕ → List ℕ
+held_list_fallen_into f zero = []
+held_list_fallen_into f (suc i) = held_after (item_of f i).op (held_list_at f i)
 
 -- place i is fallen into: the body begins there, or the item before may go on to it
 abbrev pub is_fallen_into : Func → ℕ → Bool
@@ -152,5 +152,5 @@ abbrev pub is_entered : Func → ℕ → Bool
 is_entered f k = let at = (label_of f k).item in mark_at_labels at (take k f.labels) (is_fallen_into f at)
 
 -- what is held where label k is fallen into: the list of the label before it at the same place, or what is held there without one
-abbrev pub held_entering : Func → ℕ → List ℕ
-held_entering f k = let at = (label_of f k).item in held_at_labels at (take k f.labels) (held_fallen_into f at)
+abbrev pub held_list_entering : Func → ℕ → List ℕ
+held_list_entering f k = let at = (label_of f k).item in held_list_at_labels at (take k f.labels) (held_list_fallen_into f at)

@@ -15,7 +15,7 @@ use Rattle.sloth_base.specs.declared.service.Service.TheVariants as service
 use Rattle.least_fault.specs.Order.{NoFault}
 use Rattle.sloth_base.specs.Named.{declaration, function, item_of, operation, label_of, symbol_size}
 use Rattle.code_rules.specs.AppRange.{AppInRange}
-use Rattle.code_rules.specs.Code.{CallChain, TaskReaches, Pauses, Ends, ReachesTaking, ReachesPause, way, GoesOn, Path, is_in, is_last, held_at, is_entered, held_entering}
+use Rattle.code_rules.specs.Code.{IsCallChain, TaskReaches, Pauses, Ends, ReachesTaking, ReachesPause, way, GoesOn, IsPath, is_in, is_last, held_list_at, is_entered, held_list_entering}
 use Rattle.sloth_base.specs.Arithmetic.{size_of}
 use Rattle.sloth_base.specs.ConfigRange.{scheduler_number}
 
@@ -49,7 +49,7 @@ RunsOut f i = (j : ℕ) × GoesOn f i j × (length f.items ≤ j)
 
 -- V6: an item that no path from the body's first item reaches
 abbrev pub IsUnreached : Func → ℕ → Type 0
-IsUnreached f i = (between : List ℕ) → ¬ (Path f 0 between i)
+IsUnreached f i = (between : List ℕ) → ¬ (IsPath f 0 between i)
 
 -- V7: a jump or branch to a label whose list is not the held one
 abbrev pub HoldsOther : Func → List ℕ → Op → Type 0
@@ -115,8 +115,8 @@ UsesUndeclared config app f _ = ⊥
 -- ---- faults
 
 -- the resources that are held before an item
-abbrev pub held_before : App → ℕ → ℕ → List ℕ
-held_before app f i = held_at (function app f) i
+abbrev pub held_list_before : App → ℕ → ℕ → List ℕ
+held_list_before app f i = held_list_at (function app f) i
 
 -- the rules that item i of body f breaks
 pub data Breaks (config : Config) (app : App) (f i : ℕ) : Code → Type 0 where
@@ -125,29 +125,29 @@ pub data Breaks (config : Config) (app : App) (f i : ℕ) : Code → Type 0 wher
   masks_past : MasksPast app (operation app f i) → Breaks config app f i code.V4
   runs_out : RunsOut (function app f) i → Breaks config app f i code.V5
   is_unreached : IsUnreached (function app f) i → Breaks config app f i code.V6
-  holds_other : HoldsOther (function app f) (held_before app f i) (operation app f i) → Breaks config app f i code.V7
-  releases_other : ReleasesOther (held_before app f i) (operation app f i) → Breaks config app f i code.V8
-  takes_held : TakesHeld app (held_before app f i) (operation app f i) → Breaks config app f i code.V9
-  leaves_holding : LeavesHolding app (held_before app f i) (operation app f i) → Breaks config app f i code.V10
+  holds_other : HoldsOther (function app f) (held_list_before app f i) (operation app f i) → Breaks config app f i code.V7
+  releases_other : ReleasesOther (held_list_before app f i) (operation app f i) → Breaks config app f i code.V8
+  takes_held : TakesHeld app (held_list_before app f i) (operation app f i) → Breaks config app f i code.V9
+  leaves_holding : LeavesHolding app (held_list_before app f i) (operation app f i) → Breaks config app f i code.V10
   leaves_wrongly : LeavesWrongly (function app f) (operation app f i) → Breaks config app f i code.V11
   uses_undeclared : UsesUndeclared config app f (operation app f i) → Breaks config app f i code.V12
 
 -- V7 at label k: it is fallen into with another list, or it stands before the first item with a list that is not empty
 pub data Differs (f : Func) (k : ℕ) : Type 0 where
-  falling_in : is_entered f k ≡ true → (label_of f k).holds ≢ held_entering f k → Differs f k
+  falling_in : is_entered f k ≡ true → (label_of f k).holds ≢ held_list_entering f k → Differs f k
   at_begin : (label_of f k).item ≡ 0 → (label_of f k).holds ≢ [] → Differs f k
 
 -- a fault of the task source on a line
-abbrev pub at_line : ℕ → Code → Refusal
-at_line line c = record { part = part.Src; line = line; code = c }
+abbrev pub fault_at_line : ℕ → Code → Refusal
+fault_at_line line c = record { part = part.Src; line = line; code = c }
 
 -- V2 to V12 of body f
 pub data BodyFault (config : Config) (app : App) (f : ℕ) : Refusal → Type 0 where
-  at_header : length (function app f).items ≡ 0 → BodyFault config app f (at_line (function app f).line code.V5)
+  at_header : length (function app f).items ≡ 0 → BodyFault config app f (fault_at_line (function app f).line code.V5)
   at_label : (k : ℕ) → k < length (function app f).labels → Differs (function app f) k
-      → BodyFault config app f (at_line (label_of (function app f) k).line code.V7)
+      → BodyFault config app f (fault_at_line (label_of (function app f) k).line code.V7)
   at_item : (i : ℕ) (c : Code) → i < length (function app f).items → Breaks config app f i c
-      → BodyFault config app f (at_line (item_of (function app f) i).line c)
+      → BodyFault config app f (fault_at_line (item_of (function app f) i).line c)
 
 -- V2 to V12
 abbrev pub RuleFault : Config → App → Refusal → Type 0
@@ -155,7 +155,7 @@ RuleFault config app r = (f : ℕ) × (f < length app.funcs) × BodyFault config
 
 -- V1: functions that lie on a cycle of calls, each at its header
 pub data CycleFault (app : App) : Refusal → Type 0 where
-  on_cycle : (f : ℕ) (between : List ℕ) → CallChain app f between f → CycleFault app (at_line (function app f).line code.V1)
+  on_cycle : (f : ℕ) (between : List ℕ) → IsCallChain app f between f → CycleFault app (fault_at_line (function app f).line code.V1)
 
 -- task code that keeps every rule
 pub record WellFormed (config : Config) (app : App) : Type 0 where

@@ -1,5 +1,5 @@
 //! The words of a command.
-ghost use Rattle.std.specs.Prelude.{◌≡◌, ◌≤◌, ℕ, List, IfSome, IfNone, decimal, length, codes, true};
+ghost use Rattle.std.specs.Prelude.{◌≡◌, ℕ, List, IfSome, IfNone, length, codes, true};
 ghost use Rattle.trace_text.specs.declared.printing.Form.{Form as AnyForm};
 ghost use Rattle.command_line.specs.Command.{Command, Execution, Executes, IsCommand, NoCommand, ToolAtMost, word_of, words_of};
 ghost use Rattle.command_line.specs.Words.{command_of, execution_of};

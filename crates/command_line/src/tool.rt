@@ -25,7 +25,8 @@ pub enum Tool {
     Check,
     /// `bounds OIL SRC`: how much work of lower tasks may stand before each task.
     Bounds,
-    /// `bounds OIL SRC latency`: the same, and how long the task of highest priority may wait.
+    /// `bounds OIL SRC latency`: the same, and within how many instructions of an arrival behind boot the task of highest priority is entered,
+    /// the time of ticks on the way aside.
     Latency,
     /// `map OIL SRC`: what the image takes of memory.
     Map,

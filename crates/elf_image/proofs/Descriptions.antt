@@ -13,17 +13,17 @@ use Rattle.image_file.specs.declared.header.Sizes.{Sizes}
 use Rattle.image_file.proofs.Headers.{FitWords, same_with, words_fit}
 use Rattle.image_file.proofs.Unique.{Splits, four, lists, mark, mark_fits}
 use Rattle.image_file.proofs.Faulted.{one_body}
-use Rattle.elf_image.specs.Faults.{AreRight, Described, IsWithin, described_bytes}
-use Rattle.elf_image.specs.Reading.{AreRead, BeginsWith, IsDescription, described_at, numbers_before}
+use Rattle.elf_image.specs.Faults.{AreRight, Description, IsWithin, described_bytes}
+use Rattle.elf_image.specs.Reading.{AreRead, BeginsWith, IsDescription, description_at, numbers_before}
 
 -- its numbers, and its parts: there is no memory
-abbrev pub sizes_of : Described → Sizes
+abbrev pub sizes_of : Description → Sizes
 sizes_of d = record { tasks = length d.tasks; funcs = length d.funcs; counters = length d.counters; memory = 0; marks = d.count }
 
-abbrev pub parts_of : Described → Parts
+abbrev pub parts_of : Description → Parts
 parts_of d = record { tasks = d.tasks; funcs = d.funcs; counters = d.counters; memory = []; count = d.count; marks = d.marks }
 
-sizes-fit : (d : Described) → IsWithin d → SizesFit (sizes_of d)
+sizes-fit : (d : Description) → IsWithin d → SizesFit (sizes_of d)
 sizes-fit d w = record {
   few_tasks = w.few_tasks;
   few_functions = w.few_functions;
@@ -33,7 +33,7 @@ sizes-fit d w = record {
   few_marks = w.few_marks;
 }
 
-pub begins : (d : Described) → IsWithin d → BeginsWith (described_bytes d) (sizes_of d)
+pub begins : (d : Description) → IsWithin d → BeginsWith (described_bytes d) (sizes_of d)
 unfolding four_bytes
 begins d w = record { within = sizes-fit d w; no_memory = refl; long = omega arith; are = refl }
 
@@ -68,12 +68,12 @@ unfolding four_bytes
 numbers-stand description t f c k a b d e =
     a ∙ ap (λ x. four_bytes t ++ x) (b ∙ ap (λ x. four_bytes f ++ x) (d ∙ ap (λ x. four_bytes c ++ x) e))
 
-behind-numbers : (d : Described) → drop 16 (described_bytes d) ≡ flat_map name_bytes d.tasks ++ (flat_map name_bytes d.funcs ++ (flat_map name_bytes d.counters ++ d.marks))
+behind-numbers : (d : Description) → drop 16 (described_bytes d) ≡ flat_map name_bytes d.tasks ++ (flat_map name_bytes d.funcs ++ (flat_map name_bytes d.counters ++ d.marks))
 unfolding four_bytes
 behind-numbers d = refl
 
 -- its parts stand behind its numbers
-pub stands : (description : List ℕ) (s : Sizes) (d : Described) → BeginsWith description s → IsWithin d → description ≡ described_bytes d
+pub stands : (description : List ℕ) (s : Sizes) (d : Description) → BeginsWith description s → IsWithin d → description ≡ described_bytes d
     → PartsStand description 16 s (parts_of d) []
 stands description s d has w e =
     let P : List ℕ → Type 0 = λ x. BeginsWith x (sizes_of d) in
@@ -90,7 +90,7 @@ stands description s d has w e =
     }
 
 -- a description has its parts once
-pub one-described : (d e : Described) → IsWithin d → IsWithin e → described_bytes d ≡ described_bytes e → d ≡ e
+pub one-described : (d e : Description) → IsWithin d → IsWithin e → described_bytes d ≡ described_bytes e → d ≡ e
 one-described d e w v same =
     let parts = one_body (described_bytes d) 16 (sizes_of d) (parts_of d) (parts_of e) [] [] (stands (described_bytes d) (sizes_of d) d (begins d w) w refl)
     (stands (described_bytes d) (sizes_of d) e (begins d w) v same) in
@@ -131,7 +131,7 @@ module _ (description : List ℕ) (s : Sizes) (tasks funcs counters : List (List
       }
 
   -- and where the marks are not its end it is none
-  pub no-end : (count : ℕ) → count ≡ s.marks → (at + count * 12 ≡ length description → ⊥) → (d : Described) → IsWithin d → description ≢ described_bytes d
+  pub no-end : (count : ℕ) → count ≡ s.marks → (at + count * 12 ≡ length description → ⊥) → (d : Description) → IsWithin d → description ≢ described_bytes d
   no-end count counted differs d w e =
       let same = one_body description 16 s (parts_at description tasks funcs counters at s.memory s.marks) (parts_of d)
       (drop (at + s.memory + s.marks * 12) description) [] read.parts (stands description s d has w e) in
@@ -153,7 +153,7 @@ all-marks file at count ends =
     take_whole xs = ap (λ x. take (length xs) x) (sym (append-nil xs)) ∙ take-append_seam xs []
 
 pub right-read : (file : List ℕ) (tasks funcs counters : List (List ℕ)) (at count size : ℕ) (image : Image) → IsDescription file tasks funcs counters at count
-    → AreRead file tasks funcs counters at count size image → AreRight size (described_at file tasks funcs counters at count) image.marks
+    → AreRead file tasks funcs counters at count size image → AreRight size (description_at file tasks funcs counters at count) image.marks
 right-read file tasks funcs counters at count size image is read =
     let ends = is.ends in
     let counted : length image.marks * 12 ≡ count * 12 = ap (λ n. n * 12) read.counted in
@@ -168,7 +168,7 @@ right-read file tasks funcs counters at count size image is read =
     }
 
 pub read-right : (file : List ℕ) (tasks funcs counters : List (List ℕ)) (at count size : ℕ) (memory : List ℕ) (marks : List Mark) → IsDescription file tasks funcs counters at count
-    → AreRight size (described_at file tasks funcs counters at count) marks
+    → AreRight size (description_at file tasks funcs counters at count) marks
     → AreRead file tasks funcs counters at count size (record { tasks = tasks; funcs = funcs; counters = counters; memory = memory; marks = marks })
 read-right file tasks funcs counters at count size memory marks is right =
     let ends = is.ends in

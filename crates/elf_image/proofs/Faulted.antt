@@ -1,48 +1,47 @@
 -- A file is an image's ELF file or has one first fault.
 use Rattle.std.proofs.Common.{◌≡◌, ◌<◌, ◌≤◌, ◌+◌, ◌^◌, ℕ, zero, suc, List, [], ◌∷◌, ◌++◌, length, take, drop, refl, sym, ◌∙◌, ap, subst, arith, get_or, ◌⊎◌, inl, inr}
-use Rattle.std.specs.Prelude.{Result, Ok, Err, IfErr, ⊤}
+use Rattle.std.specs.Prelude.{⊤}
 use Rattle.std.specs.List.{flat_map}
 use Rattle.std.proofs.lemmas.Bool.{cases_lt}
 use Rattle.std.proofs.lemmas.List.{take-append-drop}
 use Rattle.sloth_base.specs.declared.image.Image.{Image}
-use Rattle.sloth_base.specs.declared.image.Mark.{Mark}
-use Rattle.image_file.specs.ImageText.{ImageText, counter_bytes, four_bytes, image_bytes, magic_bytes, mark_bytes, name_bytes}
+use Rattle.image_file.specs.ImageText.{counter_bytes, four_bytes, image_bytes, magic_bytes, name_bytes}
 use Rattle.image_file.proofs.Images.{image-unique}
-use Rattle.elf_image.specs.ElfText.{ElfText, elf_header, elf_magic, note_bytes}
-use Rattle.elf_image.specs.Faults.{AreRight, Described, FaultIsOne, Fails, Faulty, HasElfHeader, HasElfMagic, HasLoadHeader, HasNote, HasNoteHeader, IsFramed, IsWithin, NoneIsBoth, NoneIsNeither, described_bytes}
+use Rattle.elf_image.specs.ElfText.{ElfText, elf_header, note_bytes}
+use Rattle.elf_image.specs.Faults.{AreRight, Description, FaultIsOne, Fails, IsFirstElfFault, HasElfHeader, HasElfMagic, HasLoadHeader, HasNote, HasNoteHeader, IsFramed, NoneIsBoth, NoneIsNeither, described_bytes}
 use Rattle.elf_image.specs.declared.fault.ElfFault.{ElfFault}
 use Rattle.elf_image.specs.declared.fault.ElfFault.TheVariants as fault
-use Rattle.elf_image.specs.declared.fault.ElfError.{ElfError}
-use Rattle.elf_image.specs.declared.fault.ElfError.TheVariants as failure
+use Rattle.image_file.specs.declared.fault.FileError.{FileError}
+use Rattle.image_file.specs.declared.fault.FileError.TheVariants as failure
 use Rattle.elf_image.proofs.Frames.{one-load, one-note}
 use Rattle.elf_image.proofs.Descriptions.{one-described}
 use Rattle.elf_image.proofs.Notes.{length-note, one-description}
-use Rattle.elf_image.proofs.Whole.{described_of, framed-of, image_of, is-elf, memory_in, memory-of, note-length, note_of, noted-of, right-of, within-of}
+use Rattle.elf_image.proofs.Whole.{described_of, framed-of, image_of, is-elf, memory_in, memory-of, note-length, note_of, noted-of, right-of}
 
 -- ---- one frame, one description
 
 pub one-size : (file : List ℕ) (n m a b : ℕ) → IsFramed file n a → IsFramed file m b → n ≡ m
 one-size file n m a b h i = one-load file n m h.headers.load i.headers.load
 
-pub short-note : (file : List ℕ) (size note : ℕ) (d : Described) → IsFramed file size note → HasNote file size d → length (described_bytes d) < 2 ^ 32
+pub short-note : (file : List ℕ) (size note : ℕ) (d : Description) → IsFramed file size note → HasNote file size d → length (described_bytes d) < 2 ^ 32
 short-note file size note d h has =
     let e = length-note (described_bytes d) in
     let n : length (note_bytes (described_bytes d)) ≡ note = ap (λ x. length x) (sym has.are) ∙ note-length file size note h in
     let word = h.headers.note_size.word in
     omega (arith, e, n, word)
 
-pub one-noted : (file : List ℕ) (size note : ℕ) (d e : Described) → IsFramed file size note → HasNote file size d → HasNote file size e → d ≡ e
+pub one-noted : (file : List ℕ) (size note : ℕ) (d e : Description) → IsFramed file size note → HasNote file size d → HasNote file size e → d ≡ e
 one-noted file size note d e h has other =
     one-described d e has.within other.within
     (one-description (described_bytes d) (described_bytes e) (short-note file size note d h has) (short-note file size note e h other) (sym has.are ∙ other.are))
 
-same-noted : (file : List ℕ) (n m a b : ℕ) (d e : Described) → IsFramed file n a → IsFramed file m b → HasNote file n d → HasNote file m e → d ≡ e
+same-noted : (file : List ℕ) (n m a b : ℕ) (d e : Description) → IsFramed file n a → IsFramed file m b → HasNote file n d → HasNote file m e → d ≡ e
 same-noted file n m a b d e h i has other =
     let same = one-size file n m a b h i in
     one-noted file n a d e h has (subst (λ x. HasNote file x e) (sym same) other)
 
 -- the bytes of the image file
-abbrev image_file_bytes : Described → List ℕ → List ℕ
+abbrev image_file_bytes : Description → List ℕ → List ℕ
 image_file_bytes d memory =
     (magic_bytes (length d.counters) ++ four_bytes (length d.tasks) ++ four_bytes (length d.funcs) ++ counter_bytes (length d.counters)
     ++ four_bytes (length memory) ++ four_bytes d.count)
@@ -99,7 +98,7 @@ Passes (suc (suc (suc zero))) file = HasElfHeader file
 Passes (suc (suc (suc (suc zero)))) file = (size : ℕ) × HasLoadHeader file size
 Passes (suc (suc (suc (suc (suc zero))))) file = (size : ℕ) × (note : ℕ) × HasNoteHeader file size note
 Passes (suc (suc (suc (suc (suc (suc zero)))))) file = (size : ℕ) × (note : ℕ) × IsFramed file size note
-Passes (suc (suc (suc (suc (suc (suc (suc zero))))))) file = (size : ℕ) × (note : ℕ) × (d : Described) × IsFramed file size note × HasNote file size d
+Passes (suc (suc (suc (suc (suc (suc (suc zero))))))) file = (size : ℕ) × (note : ℕ) × (d : Description) × IsFramed file size note × HasNote file size d
 Passes (suc (suc (suc (suc (suc (suc (suc (suc more)))))))) file = (image : Image) × ElfText file image
 
 down : (file : List ℕ) (k : ℕ) → Passes (suc k) file → Passes k file
@@ -134,7 +133,7 @@ number fault.E7 = suc (suc (suc (suc (suc (suc zero)))))
 number fault.E8 = suc (suc (suc (suc (suc (suc (suc zero))))))
 
 -- a faulty file has no fault of lower number
-before : (file : List ℕ) (f : ElfFault) → Faulty f file → Passes (number f) file
+before : (file : List ℕ) (f : ElfFault) → IsFirstElfFault f file → Passes (number f) file
 before file fault.E1 p = tt
 before file fault.E2 p = p.0
 before file fault.E3 p = (p.0, p.1)
@@ -145,7 +144,7 @@ before file fault.E7 p = (p.0, p.1, p.2)
 before file fault.E8 p = (p.0, p.1, p.2, p.3, p.4)
 
 -- and does not pass its own
-beyond : (file : List ℕ) (f : ElfFault) → Faulty f file → Passes (suc (number f)) file → ⊥
+beyond : (file : List ℕ) (f : ElfFault) → IsFirstElfFault f file → Passes (suc (number f)) file → ⊥
 beyond file fault.E1 p q = p q
 beyond file fault.E2 p q = let short = p.1 in let long = q.1 in omega (arith, short, long)
 beyond file fault.E3 p q = p.2 q
@@ -186,7 +185,7 @@ number-few fault.E6 = omega arith
 number-few fault.E7 = omega arith
 number-few fault.E8 = omega arith
 
-not-lower : (file : List ℕ) (one other : ElfFault) → Faulty one file → Faulty other file → number one < number other → ⊥
+not-lower : (file : List ℕ) (one other : ElfFault) → IsFirstElfFault one file → IsFirstElfFault other file → number one < number other → ⊥
 not-lower file one other p q lower = beyond file one p (descend file (number other) (suc (number one)) (omega (arith, lower)) (before file other q))
 
 pub fault_is_one : FaultIsOne
@@ -206,10 +205,10 @@ none_is_both file image f is bad =
 
 -- ---- what a reader may say
 
-pub only_memory : (f : ElfError) (file : List ℕ) (image : Image) → ElfText file image → Fails f file → f ≡ failure.Memory
+pub only_memory : (f : FileError ElfFault) (file : List ℕ) (image : Image) → ElfText file image → Fails f file → f ≡ failure.Memory
 only_memory (failure.Fault f) file image is bad = absurd (none_is_both file image f is bad)
 only_memory failure.Memory file image is bad = refl
 
-pub this_or_memory : (f : ElfError) (file : List ℕ) (one : ElfFault) → Faulty one file → Fails f file → (f ≡ failure.Fault one) ⊎ (f ≡ failure.Memory)
+pub this_or_memory : (f : FileError ElfFault) (file : List ℕ) (one : ElfFault) → IsFirstElfFault one file → Fails f file → (f ≡ failure.Fault one) ⊎ (f ≡ failure.Memory)
 this_or_memory (failure.Fault f) file one bad told = inl (ap (λ x. failure.Fault x) (fault_is_one file f one told bad))
 this_or_memory failure.Memory file one bad told = inr refl

@@ -1,10 +1,9 @@
 -- The numbers that headers say are those that stand in the file.
-use Rattle.std.proofs.Common.{◌≡◌, ◌<◌, ◌≤◌, ◌+◌, ◌^◌, ℕ, List, [], ◌∷◌, ◌++◌, length, take, drop, sym, ◌∙◌, ap, subst, arith}
+use Rattle.std.proofs.Common.{◌≡◌, ◌<◌, ◌+◌, ◌^◌, ℕ, List, [], ◌∷◌, ◌++◌, take, drop, sym, ◌∙◌, ap, arith}
 use Rattle.std.specs.List.{flat_map}
 use Rattle.std.proofs.lemmas.List.{take-append-drop, drop-drop}
 use Rattle.image_file.specs.ImageText.{four_bytes}
 use Rattle.image_file.proofs.Unique.{four}
-use Rattle.elf_image.specs.ElfText.{elf_header, load_header, note_header}
 use Rattle.elf_image.specs.Faults.{HasLoadHeader, HasNoteHeader}
 
 -- the fifth of the numbers that stand at a place

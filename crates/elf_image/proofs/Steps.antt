@@ -1,15 +1,15 @@
 -- What the steps of reading tell of the whole file.
-use Rattle.std.proofs.Common.{◌≡◌, ◌<◌, ◌≤◌, ◌+◌, ◌^◌, ℕ, List, [], ◌∷◌, ◌++◌, length, take, drop, sym, ◌∙◌, ap, subst, arith}
+use Rattle.std.proofs.Common.{◌≡◌, ◌<◌, ◌+◌, ◌^◌, ℕ, List, [], length, take, drop, sym, ◌∙◌, ap, subst, arith}
 use Rattle.std.specs.Prelude.{Result, Ok, Err, IfOk}
 use Rattle.sloth_base.specs.declared.image.Image.{Image}
-use Rattle.sloth_base.specs.declared.image.Mark.{Mark}
 use Rattle.image_file.specs.declared.header.Sizes.{Sizes}
 use Rattle.elf_image.specs.ElfText.{ElfText, note_bytes}
-use Rattle.elf_image.specs.Faults.{Described, Fails, HasNote, IsFramed, described_bytes}
-use Rattle.elf_image.specs.Reading.{AreRead, BeginsWith, ContentsFail, DescriptionFails, IsDescription, IsNote, NoteFails, PartsMiss, described_at}
+use Rattle.elf_image.specs.Faults.{Description, Fails, HasNote, IsFramed, described_bytes}
+use Rattle.elf_image.specs.Reading.{AreRead, BeginsWith, ContentsFail, DescriptionFails, IsDescription, IsNote, NoteFails, PartsMiss, description_at}
 use Rattle.elf_image.specs.declared.fault.ElfFault.TheVariants as fault
-use Rattle.elf_image.specs.declared.fault.ElfError.{ElfError}
-use Rattle.elf_image.specs.declared.fault.ElfError.TheVariants as failure
+use Rattle.elf_image.specs.declared.fault.ElfFault.{ElfFault}
+use Rattle.image_file.specs.declared.fault.FileError.{FileError}
+use Rattle.image_file.specs.declared.fault.FileError.TheVariants as failure
 use Rattle.elf_image.proofs.Faulted.{short-note}
 use Rattle.elf_image.proofs.Descriptions.{parts_of, read-right, right-read, stands}
 use Rattle.elf_image.proofs.Notes.{length-note, one-description}
@@ -21,7 +21,7 @@ both-ok (Ok a) P Q R h p q = h a p q
 both-ok (Err e) P Q R h p q = tt
 
 -- parts that are missing are a fault of the description
-pub parts-miss : (f : ElfError) (description : List ℕ) (s : Sizes) → BeginsWith description s → PartsMiss f description 16 s → DescriptionFails f description
+pub parts-miss : (f : FileError ElfFault) (description : List ℕ) (s : Sizes) → BeginsWith description s → PartsMiss f description 16 s → DescriptionFails f description
 parts-miss (failure.Fault fault.E7) description s has h = λ d w e. h (parts_of d) [] (stands description s d has w e)
 parts-miss (failure.Fault fault.E1) description s has h = absurd h
 parts-miss (failure.Fault fault.E2) description s has h = absurd h
@@ -34,7 +34,7 @@ parts-miss failure.Memory description s has h = h
 
 module _ (file : List ℕ) (size note : ℕ) (frame : IsFramed file size note) where
   -- a note that is none's is a fault
-  pub note-fails : (f : ElfError) → NoteFails f (drop (116 + size) file) → Fails f file
+  pub note-fails : (f : FileError ElfFault) → NoteFails f (drop (116 + size) file) → Fails f file
   note-fails (failure.Fault fault.E7) h =
       (size, note, frame, λ d has. h (described_bytes d) (short-note file size note d frame has) has.are)
   note-fails (failure.Fault fault.E1) h = absurd h
@@ -55,7 +55,7 @@ module _ (file : List ℕ) (size note : ℕ) (frame : IsFramed file size note) w
         omega (arith, e, whole, word)
 
     -- a description that is none is a fault
-    pub description-fails : (f : ElfError) → DescriptionFails f (take n (drop 20 (drop (116 + size) file))) → Fails f file
+    pub description-fails : (f : FileError ElfFault) → DescriptionFails f (take n (drop 20 (drop (116 + size) file))) → Fails f file
     description-fails (failure.Fault fault.E7) h = (
       size,
       note,
@@ -76,18 +76,18 @@ module _ (file : List ℕ) (size note : ℕ) (frame : IsFramed file size note) w
 
     module _ (tasks funcs counters : List (List ℕ)) (at count : ℕ)
         (whole : IsDescription (take n (drop 20 (drop (116 + size) file))) tasks funcs counters at count) where
-      has-note : HasNote file size (described_at (take n (drop 20 (drop (116 + size) file))) tasks funcs counters at count)
+      has-note : HasNote file size (description_at (take n (drop 20 (drop (116 + size) file))) tasks funcs counters at count)
       has-note = record {
         within = whole.within;
         are = is.are ∙ ap note_bytes whole.are;
       }
 
       -- names or marks that are not right are a fault
-      pub contents-fail : (f : ElfError) → ContentsFail f (take n (drop 20 (drop (116 + size) file))) tasks funcs counters at count size → Fails f file
+      pub contents-fail : (f : FileError ElfFault) → ContentsFail f (take n (drop 20 (drop (116 + size) file))) tasks funcs counters at count size → Fails f file
       contents-fail (failure.Fault fault.E8) h = (
         size,
         note,
-        described_at (take n (drop 20 (drop (116 + size) file))) tasks funcs counters at count,
+        description_at (take n (drop 20 (drop (116 + size) file))) tasks funcs counters at count,
         frame,
         has-note,
         λ marks right.
@@ -104,7 +104,7 @@ module _ (file : List ℕ) (size note : ℕ) (frame : IsFramed file size note) w
       contents-fail failure.Memory h = h
 
       same-image : (image : Image) (memory : List ℕ) → image.tasks ≡ tasks → image.funcs ≡ funcs → image.counters ≡ counters → image.memory ≡ memory
-          → image_of memory (described_at [] tasks funcs counters 0 0) image.marks ≡ image
+          → image_of memory (description_at [] tasks funcs counters 0 0) image.marks ≡ image
       same-image image memory t f c m =
           ap (λ x. record { tasks = x; funcs = funcs; counters = counters; memory = memory; marks = image.marks }) (sym t)
           ∙ ap (λ x. record { tasks = image.tasks; funcs = x; counters = counters; memory = memory; marks = image.marks }) (sym f)
@@ -115,7 +115,7 @@ module _ (file : List ℕ) (size note : ℕ) (frame : IsFramed file size note) w
       pub elf-read : (image : Image) → AreRead (take n (drop 20 (drop (116 + size) file))) tasks funcs counters at count size image
           → image.memory ≡ memory_in file size → ElfText file image
       elf-read image read memory =
-          let d : Described = described_at (take n (drop 20 (drop (116 + size) file))) tasks funcs counters at count in
+          let d : Description = description_at (take n (drop 20 (drop (116 + size) file))) tasks funcs counters at count in
           let right = right-read (take n (drop 20 (drop (116 + size) file))) tasks funcs counters at count size image whole read in
           let is_elf = is-elf file size note d image.marks frame has-note right in
           subst (λ x. ElfText file x) (same-image image (memory_in file size) read.tasks_are read.funcs_are read.counters_are memory) is_elf

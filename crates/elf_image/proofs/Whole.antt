@@ -1,5 +1,5 @@
 -- A file that is right in its parts is an image's ELF file, and an image's ELF file is right in its parts.
-use Rattle.std.proofs.Common.{◌≡◌, ◌<◌, ◌≤◌, ◌+◌, ◌-◌, ◌*◌, ◌%◌, ◌^◌, ℕ, List, [], ◌∷◌, ◌++◌, length, take, drop, refl, sym, ◌∙◌, ap, subst, arith, All}
+use Rattle.std.proofs.Common.{◌≡◌, ◌≤◌, ◌+◌, ◌-◌, ◌*◌, ◌%◌, ℕ, List, [], ◌∷◌, ◌++◌, length, take, drop, refl, sym, ◌∙◌, ap, subst, arith, All}
 use Rattle.std.specs.List.{flat_map, AllByRecursion}
 use Rattle.std.proofs.lemmas.List.Elements.{recursion_from_All}
 use Rattle.std.proofs.Math.Seq.{take-append_seam, drop-append_seam}
@@ -9,8 +9,8 @@ use Rattle.sloth_base.specs.declared.image.Image.{Image}
 use Rattle.sloth_base.specs.declared.image.Mark.{Mark}
 use Rattle.image_file.specs.ImageText.{four_bytes, two_bytes, mark_bytes, name_bytes}
 use Rattle.image_file.proofs.RightParts.{length-marks}
-use Rattle.elf_image.specs.ElfText.{ElfText, elf_header, elf_magic, load_header, note_header, note_bytes, padding, file_bytes, description_bytes}
-use Rattle.elf_image.specs.Faults.{AreRight, Described, HasElfHeader, HasElfMagic, HasLoadHeader, HasNote, HasNoteHeader, IsFramed, IsMemorySize, IsNoteSize, IsWithin, described_bytes}
+use Rattle.elf_image.specs.ElfText.{ElfText, elf_header, load_header, note_header, note_bytes, file_bytes, description_bytes}
+use Rattle.elf_image.specs.Faults.{AreRight, Description, HasNote, IsFramed, IsNoteSize, IsWithin, described_bytes}
 use Rattle.elf_image.proofs.Notes.{length-note, length-padding}
 
 -- ---- the lengths of descriptions
@@ -27,7 +27,7 @@ pub names-length : (names : List (List ℕ)) → All IsName names → length (fl
 names-length names h = names-short names (recursion_from_All IsName names h)
 
 -- numbers, names and marks within the limits
-pub described-short : (d : Described) → IsWithin d → All IsName d.tasks → All IsName d.funcs → All IsName d.counters → length (described_bytes d) ≤ 300000
+pub described-short : (d : Description) → IsWithin d → All IsName d.tasks → All IsName d.funcs → All IsName d.counters → length (described_bytes d) ≤ 300000
 unfolding four_bytes
 described-short d w t f c =
     let a = names-length d.tasks t in
@@ -43,13 +43,13 @@ described-short d w t f c =
     let h = length-append (flat_map name_bytes d.counters) d.marks in
     omega (arith, a, b, u, few, functions, counters, marks, twelve, e, g, h)
 
-described-long : (d : Described) → 16 ≤ length (described_bytes d)
+described-long : (d : Description) → 16 ≤ length (described_bytes d)
 unfolding four_bytes
 described-long d = omega arith
 
 -- ---- from the parts to the file
 
-abbrev pub described_of : Image → Described
+abbrev pub described_of : Image → Description
 described_of image = record {
   tasks = image.tasks;
   funcs = image.funcs;
@@ -59,7 +59,7 @@ described_of image = record {
 }
 
 -- the image of a memory, a description and marks
-abbrev pub image_of : List ℕ → Described → List Mark → Image
+abbrev pub image_of : List ℕ → Description → List Mark → Image
 image_of memory d marks = record { tasks = d.tasks; funcs = d.funcs; counters = d.counters; memory = memory; marks = marks }
 
 -- the memory of a file
@@ -85,7 +85,7 @@ file-is file size note h =
     sym (take-append-drop 52 file) ∙ ap (λ x. x ++ drop 52 file) h.headers.load.elf.header
     ∙ ap (λ x. elf_header ++ x) (first ∙ ap (λ x. load_header size ++ x) (second ∙ ap (λ x. note_header size note ++ x) memory))
 
-pub is-elf : (file : List ℕ) (size note : ℕ) (d : Described) (marks : List Mark) → IsFramed file size note → HasNote file size d → AreRight size d marks
+pub is-elf : (file : List ℕ) (size note : ℕ) (d : Description) (marks : List Mark) → IsFramed file size note → HasNote file size d → AreRight size d marks
     → ElfText file (image_of (memory_in file size) d marks)
 is-elf file size note d marks h has right =
     let w = has.within in

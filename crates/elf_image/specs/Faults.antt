@@ -9,8 +9,8 @@ use Rattle.image_file.specs.Parts.{AreRightNames}
 use Rattle.elf_image.specs.ElfText.{ElfText, elf_magic, elf_header, load_header, note_header, note_bytes}
 use Rattle.elf_image.specs.declared.fault.ElfFault.{ElfFault}
 use Rattle.elf_image.specs.declared.fault.ElfFault.TheVariants as fault
-use Rattle.elf_image.specs.declared.fault.ElfError.{ElfError}
-use Rattle.elf_image.specs.declared.fault.ElfError.TheVariants as failure
+use Rattle.image_file.specs.declared.fault.FileError.{FileError}
+use Rattle.image_file.specs.declared.fault.FileError.TheVariants as failure
 
 -- the file begins as each ELF file does
 abbrev pub HasElfMagic : List ℕ → Type 0
@@ -50,7 +50,7 @@ pub record IsFramed (file : List ℕ) (size note : ℕ) : Type 0 where
   pub ends : length file ≡ 116 + size + note
 
 -- what a description has, before anything is asked of it: names of any bytes, the number of marks, and the bytes in which they stand
-pub record Described : Type 0 where
+pub record Description : Type 0 where
   pub tasks : List (List ℕ)
   pub funcs : List (List ℕ)
   pub counters : List (List ℕ)
@@ -58,7 +58,7 @@ pub record Described : Type 0 where
   pub marks : List ℕ
 
 -- its numbers keep the limits, and each mark has twelve bytes
-pub record IsWithin (d : Described) : Type 0 where
+pub record IsWithin (d : Description) : Type 0 where
   pub few_tasks : length d.tasks ≤ 30
   pub few_functions : length d.funcs ≤ 64
   pub few_counters : length d.counters ≤ 2
@@ -66,18 +66,18 @@ pub record IsWithin (d : Described) : Type 0 where
   pub twelve_each : length d.marks ≡ d.count * 12
 
 -- its bytes
-abbrev pub described_bytes : Described → List ℕ
+abbrev pub described_bytes : Description → List ℕ
 described_bytes d =
     flat_map four_bytes (length d.tasks ∷ length d.funcs ∷ length d.counters ∷ d.count ∷ [])
     ++ (flat_map name_bytes d.tasks ++ (flat_map name_bytes d.funcs ++ (flat_map name_bytes d.counters ++ d.marks)))
 
 -- the file's note has this description
-pub record HasNote (file : List ℕ) (size : ℕ) (d : Described) : Type 0 where
+pub record HasNote (file : List ℕ) (size : ℕ) (d : Description) : Type 0 where
   pub within : IsWithin d
   pub are : drop (116 + size) file ≡ note_bytes (described_bytes d)
 
 -- the names are right, and these marks are written there, each on a word of so many bytes of memory and with fields in range
-pub record AreRight (size : ℕ) (d : Described) (marks : List Mark) : Type 0 where
+pub record AreRight (size : ℕ) (d : Description) (marks : List Mark) : Type 0 where
   pub names : AreRightNames d.tasks d.funcs d.counters
   pub counted : length marks ≡ d.count
   pub written : d.marks ≡ flat_map mark_bytes marks
@@ -85,30 +85,30 @@ pub record AreRight (size : ℕ) (d : Described) (marks : List Mark) : Type 0 wh
   pub ascending : AreAscending marks
 
 -- where a fault is the first of a file
-abbrev pub Faulty : ElfFault → List ℕ → Type 0
-Faulty fault.E1 file = ¬ (HasElfMagic file)
-Faulty fault.E2 file = HasElfMagic file × (length file < 116)
-Faulty fault.E3 file = HasElfMagic file × (116 ≤ length file) × ¬ (HasElfHeader file)
-Faulty fault.E4 file = HasElfHeader file × ((size : ℕ) → ¬ (HasLoadHeader file size))
-Faulty fault.E5 file = (size : ℕ) × HasLoadHeader file size × ((note : ℕ) → ¬ (HasNoteHeader file size note))
-Faulty fault.E6 file = (size : ℕ) × (note : ℕ) × HasNoteHeader file size note × (length file ≢ 116 + size + note)
-Faulty fault.E7 file = (size : ℕ) × (note : ℕ) × IsFramed file size note × ((d : Described) → ¬ (HasNote file size d))
-Faulty fault.E8 file =
-    (size : ℕ) × (note : ℕ) × (d : Described) × IsFramed file size note × HasNote file size d × ((marks : List Mark) → ¬ (AreRight size d marks))
+abbrev pub IsFirstElfFault : ElfFault → List ℕ → Type 0
+IsFirstElfFault fault.E1 file = ¬ (HasElfMagic file)
+IsFirstElfFault fault.E2 file = HasElfMagic file × (length file < 116)
+IsFirstElfFault fault.E3 file = HasElfMagic file × (116 ≤ length file) × ¬ (HasElfHeader file)
+IsFirstElfFault fault.E4 file = HasElfHeader file × ((size : ℕ) → ¬ (HasLoadHeader file size))
+IsFirstElfFault fault.E5 file = (size : ℕ) × HasLoadHeader file size × ((note : ℕ) → ¬ (HasNoteHeader file size note))
+IsFirstElfFault fault.E6 file = (size : ℕ) × (note : ℕ) × HasNoteHeader file size note × (length file ≢ 116 + size + note)
+IsFirstElfFault fault.E7 file = (size : ℕ) × (note : ℕ) × IsFramed file size note × ((d : Description) → ¬ (HasNote file size d))
+IsFirstElfFault fault.E8 file =
+    (size : ℕ) × (note : ℕ) × (d : Description) × IsFramed file size note × HasNote file size d × ((marks : List Mark) → ¬ (AreRight size d marks))
 
 -- what an error says of a file; want of memory says nothing
-abbrev pub Fails : ElfError → List ℕ → Type 0
-Fails (failure.Fault fault) file = Faulty fault file
+abbrev pub Fails : FileError ElfFault → List ℕ → Type 0
+Fails (failure.Fault fault) file = IsFirstElfFault fault file
 Fails failure.Memory file = ⊤
 
 -- each list of bytes is some image's ELF file or has a first fault: none is neither
 abbrev pub NoneIsNeither : Type 0
-NoneIsNeither = (file : List ℕ) → ((image : Image) → ¬ (ElfText file image)) → ((fault : ElfFault) → ¬ (Faulty fault file)) → ⊥
+NoneIsNeither = (file : List ℕ) → ((image : Image) → ¬ (ElfText file image)) → ((fault : ElfFault) → ¬ (IsFirstElfFault fault file)) → ⊥
 
 -- none is both
 abbrev pub NoneIsBoth : Type 0
-NoneIsBoth = (file : List ℕ) (image : Image) (fault : ElfFault) → ElfText file image → ¬ (Faulty fault file)
+NoneIsBoth = (file : List ℕ) (image : Image) (fault : ElfFault) → ElfText file image → ¬ (IsFirstElfFault fault file)
 
 -- the first fault is one
 abbrev pub FaultIsOne : Type 0
-FaultIsOne = (file : List ℕ) (one other : ElfFault) → Faulty one file → Faulty other file → one ≡ other
+FaultIsOne = (file : List ℕ) (one other : ElfFault) → IsFirstElfFault one file → IsFirstElfFault other file → one ≡ other

@@ -8,23 +8,24 @@ use Rattle.image_file.specs.Parts.{AreRightNames, Parts, PartsStand, SizesFit}
 use Rattle.image_file.specs.Reading.{MarksStand, NoMarks}
 use Rattle.image_file.specs.declared.header.Sizes.{Sizes}
 use Rattle.elf_image.specs.ElfText.{note_bytes}
-use Rattle.elf_image.specs.Faults.{Described, IsFramed, IsWithin, described_bytes}
+use Rattle.elf_image.specs.Faults.{Description, IsFramed, IsWithin, described_bytes}
 use Rattle.elf_image.specs.declared.fault.ElfFault.TheVariants as fault
-use Rattle.elf_image.specs.declared.fault.ElfError.{ElfError}
-use Rattle.elf_image.specs.declared.fault.ElfError.TheVariants as failure
+use Rattle.elf_image.specs.declared.fault.ElfFault.{ElfFault}
+use Rattle.image_file.specs.declared.fault.FileError.{FileError}
+use Rattle.image_file.specs.declared.fault.FileError.TheVariants as failure
 
 -- the file has the headers of so many bytes of memory and of the note with which it ends
 abbrev pub IsFramedAt : List ℕ → ℕ → Type 0
 IsFramedAt file size = (note : ℕ) × IsFramed file size note
 
 -- what an error says of parts of these numbers at a place: the fault, that none stand there
-abbrev pub PartsMiss : ElfError → List ℕ → ℕ → Sizes → Type 0
+abbrev pub PartsMiss : FileError ElfFault → List ℕ → ℕ → Sizes → Type 0
 PartsMiss (failure.Fault fault.E7) file at sizes = (parts : Parts) (rest : List ℕ) → ¬ (PartsStand file at sizes parts rest)
 PartsMiss (failure.Fault _) file at sizes = ⊥
 PartsMiss failure.Memory file at sizes = ⊤
 
 -- what an error says of so many marks from a place on
-abbrev pub MarksMiss : ElfError → List ℕ → ℕ → ℕ → ℕ → ℕ → ℕ → Type 0
+abbrev pub MarksMiss : FileError ElfFault → List ℕ → ℕ → ℕ → ℕ → ℕ → ℕ → Type 0
 MarksMiss (failure.Fault fault.E8) file at count services funcs size = NoMarks file at count services funcs size
 MarksMiss (failure.Fault _) file at count services funcs size = ⊥
 MarksMiss failure.Memory file at count services funcs size = ⊤
@@ -35,7 +36,7 @@ pub record IsNote (note : List ℕ) (size : ℕ) : Type 0 where
   pub are : note ≡ note_bytes (take size (drop 20 note))
 
 -- what an error says of a note: the fault, that it is the note of no description; want of memory says nothing
-abbrev pub NoteFails : ElfError → List ℕ → Type 0
+abbrev pub NoteFails : FileError ElfFault → List ℕ → Type 0
 NoteFails (failure.Fault fault.E7) note = (description : List ℕ) → length description < 2 ^ 32 → note ≢ note_bytes description
 NoteFails (failure.Fault _) note = ⊥
 NoteFails failure.Memory note = ⊤
@@ -52,8 +53,8 @@ pub record BeginsWith (description : List ℕ) (sizes : Sizes) : Type 0 where
   pub are : description ≡ numbers_before sizes (drop 16 description)
 
 -- what a description has whose marks begin at `at`
-abbrev pub described_at : List ℕ → (tasks funcs counters : List (List ℕ)) → ℕ → ℕ → Described
-described_at description tasks funcs counters at count = record {
+abbrev pub description_at : List ℕ → (tasks funcs counters : List (List ℕ)) → ℕ → ℕ → Description
+description_at description tasks funcs counters at count = record {
   tasks = tasks;
   funcs = funcs;
   counters = counters;
@@ -63,13 +64,13 @@ described_at description tasks funcs counters at count = record {
 
 -- a description has these names, and ends with so many marks from `at` on
 pub record IsDescription (description : List ℕ) (tasks funcs counters : List (List ℕ)) (at count : ℕ) : Type 0 where
-  pub within : IsWithin (described_at description tasks funcs counters at count)
-  pub are : description ≡ described_bytes (described_at description tasks funcs counters at count)
+  pub within : IsWithin (description_at description tasks funcs counters at count)
+  pub are : description ≡ described_bytes (description_at description tasks funcs counters at count)
   pub ends : at + count * 12 ≡ length description
 
 -- what an error says of a description: the fault, that it is none
-abbrev pub DescriptionFails : ElfError → List ℕ → Type 0
-DescriptionFails (failure.Fault fault.E7) description = (d : Described) → IsWithin d → description ≢ described_bytes d
+abbrev pub DescriptionFails : FileError ElfFault → List ℕ → Type 0
+DescriptionFails (failure.Fault fault.E7) description = (d : Description) → IsWithin d → description ≢ described_bytes d
 DescriptionFails (failure.Fault _) description = ⊥
 DescriptionFails failure.Memory description = ⊤
 
@@ -84,7 +85,7 @@ pub record AreRead (file : List ℕ) (tasks funcs counters : List (List ℕ)) (a
   pub ascending : AreAscending image.marks
 
 -- what an error says of the names and marks: the fault, that no marks there are right with these names
-abbrev pub ContentsFail : ElfError → List ℕ → (tasks funcs counters : List (List ℕ)) → ℕ → ℕ → ℕ → Type 0
+abbrev pub ContentsFail : FileError ElfFault → List ℕ → (tasks funcs counters : List (List ℕ)) → ℕ → ℕ → ℕ → Type 0
 ContentsFail (failure.Fault fault.E8) file tasks funcs counters at count size =
     (image : Image) → ¬ (AreRead file tasks funcs counters at count size image)
 ContentsFail (failure.Fault _) file tasks funcs counters at count size = ⊥

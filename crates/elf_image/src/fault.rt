@@ -1,9 +1,8 @@
 //! What may be wrong with an ELF file.
 ghost use Rattle.std.specs.Prelude.{◌≡◌};
-ghost use Rattle.elf_image.specs.declared.fault.ElfError.TheVariants.{Fault, Memory};
+ghost use Rattle.image_file.specs.declared.fault.FileError.TheVariants.{Fault};
 
-use sloth_base::memory::NoMemory;
-use std::alloc::{AllocError, AllocFailed};
+use image_file::fault::FileError;
 
 /// A fault of a file, by its code. The first in this order is told.
 #[derive(Clone, Copy, Debug, PartialEq, Eq)]
@@ -27,41 +26,13 @@ pub enum ElfFault {
     E8,
 }
 
-/// Why no image was read.
-#[derive(Clone, Copy, Debug, PartialEq, Eq)]
-pub enum ElfError {
-    Fault(ElfFault),
-    Memory,
-}
+/// Why no image was read from an ELF file.
+pub type ElfError = FileError<ElfFault>;
 
 impl From<ElfFault> for ElfError {
     ghost from_gives = { λ fault e. e ≡ Fault fault };
 
     fn from(fault: ElfFault) -> ElfError {
-        ElfError::Fault(fault)
-    }
-}
-
-impl From<NoMemory> for ElfError {
-    ghost from_gives = { λ _ e. e ≡ Memory };
-
-    fn from(_: NoMemory) -> ElfError {
-        ElfError::Memory
-    }
-}
-
-impl From<AllocError> for ElfError {
-    ghost from_gives = { λ _ e. e ≡ Memory };
-
-    fn from(_: AllocError) -> ElfError {
-        ElfError::Memory
-    }
-}
-
-impl<T: Drop> From<AllocFailed<T>> for ElfError {
-    ghost from_gives = { λ _ e. e ≡ Memory };
-
-    fn from(_: AllocFailed<T>) -> ElfError {
-        ElfError::Memory
+        FileError::Fault(fault)
     }
 }

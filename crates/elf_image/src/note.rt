@@ -1,5 +1,5 @@
 //! The note of an ELF file.
-ghost use Rattle.std.specs.Prelude.{◌≡◌, ◌≤◌, ◌<◌, ◌+◌, ◌++◌, OnOk, length};
+ghost use Rattle.std.specs.Prelude.{◌≡◌, ◌≤◌, ◌<◌, ◌++◌, OnOk, length};
 ghost use Rattle.elf_image.specs.ElfText.{note_bytes, padding};
 
 use crate::headers::put_words;

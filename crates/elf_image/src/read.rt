@@ -5,10 +5,10 @@ ghost use Rattle.image_file.specs.declared.header.Sizes.{Sizes as AnySizes};
 ghost use Rattle.sloth_base.specs.ImageRange.{service_limit};
 ghost use Rattle.sloth_base.specs.declared.image.Image.{Image as ImageOf};
 ghost use Rattle.elf_image.specs.ElfText.{ElfText, load_header, note_header, note_bytes};
-ghost use Rattle.elf_image.specs.Faults.{Fails, Faulty, HasElfHeader, HasElfMagic, HasLoadHeader, HasNoteHeader, IsMemorySize, IsNoteSize};
+ghost use Rattle.elf_image.specs.Faults.{Fails, IsFirstElfFault, HasElfHeader, HasElfMagic, HasLoadHeader, HasNoteHeader, IsMemorySize, IsNoteSize};
 ghost use Rattle.elf_image.specs.Reading.{IsFramedAt, PartsMiss, MarksMiss, IsNote, NoteFails, BeginsWith, IsDescription, DescriptionFails, AreRead, ContentsFail};
 ghost use Rattle.elf_image.specs.declared.fault.ElfFault.{ElfFault as FaultOf};
-ghost use Rattle.elf_image.specs.declared.fault.ElfError.TheVariants as failed_by;
+ghost use Rattle.image_file.specs.declared.fault.FileError.TheVariants as failed_by;
 
 use crate::fault::{ElfError, ElfFault};
 use crate::headers::{
@@ -34,9 +34,9 @@ pub fn read_elf(alloc: Global, bytes: &[u8]) -> Result<Image, ElfError>
     ensures read { IfOk result (λ image. ElfText bytes.now image) }
     ensures failed { IfErr result (λ failure. Fails failure bytes.now) }
     ensures refuses_no_image { IfErr result (λ failure. (image : ImageOf) → ElfText bytes.now image → failure ≡ failed_by.Memory) }
-    ensures tells_the_fault { IfErr result (λ failure. (fault : FaultOf) → Faulty fault bytes.now →
+    ensures tells_the_fault { IfErr result (λ failure. (fault : FaultOf) → IsFirstElfFault fault bytes.now →
         (failure ≡ failed_by.Fault fault) ⊎ (failure ≡ failed_by.Memory)) }
-    ensures reads_no_fault { IfOk result (λ image. (fault : FaultOf) → ¬ (Faulty fault bytes.now)) }
+    ensures reads_no_fault { IfOk result (λ image. (fault : FaultOf) → ¬ (IsFirstElfFault fault bytes.now)) }
     ensures reads_back { IfOk result (λ image. (written : ImageOf) → ElfText bytes.now written → image ≡ written) }
 {
     read_whole(alloc, bytes)

@@ -7,7 +7,7 @@ use Rattle.rv32_instr.specs.declared.InstrKind.{InstrKind}
 use Rattle.rv32_instr.specs.Ram.{word_at}
 use Rattle.masked_code.specs.Owes.{◌▸◌, writes, loads, Owes}
 use Rattle.masked_code.proofs.Leave.{behind}
-use Rattle.event_gen.specs.Pieces.{finds_own}
+use Rattle.event_gen.specs.Pieces.{own_finding_code}
 
 -- the end of the running task's words, which x1 then holds
 abbrev pub own_end : ℕ → ℕ
@@ -18,7 +18,7 @@ module _ (from to task : ℕ) (E : List ℕ → State → State → Type 0) (sta
   -- by x3
   pub finds_by_x3 : (o : ℕ)
       → Owes from to (behind 5 o) rest 0 E start (record c { registers = 0 ∷ own_end task ∷ x2 ∷ 8 * (task + 1) ∷ memory_base ∷ tail })
-      → Owes from to o (finds_own 3 ++ rest) 0 E start (record c { registers = 0 ∷ x1 ∷ x2 ∷ x3 ∷ memory_base ∷ tail })
+      → Owes from to o (own_finding_code 3 ++ rest) 0 E start (record c { registers = 0 ∷ x1 ∷ x2 ∷ x3 ∷ memory_base ∷ tail })
   finds_by_x3 o go =
       loads cur (record { is = refl; aligned = refl; inside = omega arith }) (task + 1) runs
       ▸ writes (8 * (task + 1)) (omega arith)
@@ -31,7 +31,7 @@ module _ (from to task : ℕ) (E : List ℕ → State → State → Type 0) (sta
   pub finds_by_x10 : (o x5 x6 x7 x8 x9 x10 : ℕ) (more : List ℕ)
       → Owes from to (behind 5 o) rest 0 E start
       (record c { registers = 0 ∷ own_end task ∷ x2 ∷ x3 ∷ memory_base ∷ x5 ∷ x6 ∷ x7 ∷ x8 ∷ x9 ∷ 8 * (task + 1) ∷ more })
-      → Owes from to o (finds_own 10 ++ rest) 0 E start (record c { registers = 0 ∷ x1 ∷ x2 ∷ x3 ∷ memory_base ∷ x5 ∷ x6 ∷ x7 ∷ x8 ∷ x9 ∷ x10 ∷ more })
+      → Owes from to o (own_finding_code 10 ++ rest) 0 E start (record c { registers = 0 ∷ x1 ∷ x2 ∷ x3 ∷ memory_base ∷ x5 ∷ x6 ∷ x7 ∷ x8 ∷ x9 ∷ x10 ∷ more })
   finds_by_x10 o x5 x6 x7 x8 x9 x10 more go =
       loads cur (record { is = refl; aligned = refl; inside = omega arith }) (task + 1) runs
       ▸ writes (8 * (task + 1)) (omega arith)

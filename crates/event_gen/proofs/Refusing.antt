@@ -7,7 +7,7 @@ use Rattle.sloth_base.specs.Status.{E_OS_STATE}
 use Rattle.sloth_region.specs.Layout.{controller_base}
 use Rattle.rv32_instr.specs.declared.InstrKind.{InstrKind}
 use Rattle.masked_code.specs.Owes.{◌▸◌, writes, Owes}
-use Rattle.masked_code.specs.Place.{at}
+use Rattle.masked_code.specs.Place.{offset_state}
 use Rattle.masked_code.proofs.Leave.{behind}
 use Rattle.masked_code.proofs.Routines.{masked}
 use Rattle.masked_code.proofs.Spread.{based, spread_from}
@@ -16,7 +16,7 @@ use Rattle.block_parts.proofs.Landing.{lands}
 use Rattle.block_parts.proofs.Returning.{goes_back}
 use Rattle.block_parts.specs.Back.{CanGoBack, WentBack, a0}
 use Rattle.block_parts.specs.Looks.{LooksSuspended}
-use Rattle.block_parts.specs.Pieces.{back}
+use Rattle.block_parts.specs.Pieces.{back_code}
 use Rattle.event_gen.specs.Pieces.{refusal_code}
 
 -- code that is passed is owed nothing
@@ -34,15 +34,15 @@ module _ (offset to task : ℕ) (code : List InstrKind) (c : Core) (can : CanGoB
 
   -- the start, with these lines pending
   abbrev begun : List ℕ → State
-  begun p = at offset (record (based c) { pending = p })
+  begun p = offset_state offset (record (based c) { pending = p })
 
   -- the look found v: of a Suspended task the service goes back with its status, of another it goes on with `first`
   pub refuses_owe : (first : List InstrKind) (o : ℕ) (p : List ℕ) (v x10 : ℕ) → o + 4 ≤ 0x20_0000 → length first ≤ 68 → Finds task (record c { pending = p }) v
       → (LooksSuspended task (record c { pending = p }) → (end : State) → slice_index end.core.registers a0 ≡ E_OS_STATE
       → WentBack a0 (record (based c) { pending = p }) (begun p) end → E [] (begun p) end)
-      → ((LooksSuspended task (record c { pending = p }) → ⊥) → Owes offset to (behind 2 o) (first ++ back) 0 E (begun p)
+      → ((LooksSuspended task (record c { pending = p }) → ⊥) → Owes offset to (behind 2 o) (first ++ back_code) 0 E (begun p)
       (record (masked (based c)) { registers = 0 ∷ v ∷ x2 ∷ controller_base ∷ memory_base ∷ set tail 5 E_OS_STATE; pending = p }))
-      → Owes offset to o (refusal_code (length first) ++ (first ++ back)) 0 E (begun p)
+      → Owes offset to o (refusal_code (length first) ++ (first ++ back_code)) 0 E (begun p)
       (record (masked (based c)) { registers = 0 ∷ v ∷ x2 ∷ controller_base ∷ memory_base ∷ set tail 5 x10; pending = p })
   refuses_owe first o p v x10 small few found suspended other =
       writes E_OS_STATE refl
@@ -50,7 +50,7 @@ module _ (offset to task : ℕ) (code : List InstrKind) (c : Core) (can : CanGoB
         passed = length first;
         lands = lands (o + 4) (4 + 4 * length first) (length first) small few refl;
         when_taken = λ t. ⊎_elim
-            (λ s. passes offset to first back E (begun p) _ (behind 2 o)
+            (λ s. passes offset to first back_code E (begun p) _ (behind 2 o)
             (λ o'. goes_back offset code c can E v E_OS_STATE p p c.ram (λ end is went. suspended s.0 end is went)))
             (λ s. let f : not (eqb v 0) ≡ false = ap (λ x. not (eqb x 0)) s.1 in absurd (cc))
             found;

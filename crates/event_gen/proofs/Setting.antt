@@ -9,7 +9,7 @@ use Rattle.sloth_base.specs.MemoryMap.{memory_base}
 use Rattle.sloth_region.specs.Layout.{active, events, wait, controller_base}
 use Rattle.rv32_instr.specs.declared.InstrKind.{InstrKind}
 use Rattle.rv32_instr.specs.Ram.{word_at, with_word}
-use Rattle.masked_code.specs.Place.{at}
+use Rattle.masked_code.specs.Place.{offset_state}
 use Rattle.masked_code.specs.Masked.{FromOpening}
 use Rattle.masked_code.specs.Kernel.{masking}
 use Rattle.masked_code.specs.Owes.{◌▸◌, writes, loads, stores, raises, sets_enabled, Owes}
@@ -23,17 +23,18 @@ use Rattle.block_parts.proofs.Landing.{lands}
 use Rattle.block_parts.proofs.Serving.{opens}
 use Rattle.block_parts.specs.Looks.{LooksSuspended}
 use Rattle.block_parts.specs.Back.{CanGoBack}
-use Rattle.block_parts.specs.Pieces.{looking_code, raising_code, back}
+use Rattle.block_parts.specs.Pieces.{looking_code, raising_code, back_code}
 use Rattle.event_gen.proofs.Refusing.{refuses_owe}
-use Rattle.event_gen.specs.Pieces.{refusal_code, adds_events, asks_awaited, enabling_code}
+use Rattle.event_gen.specs.Pieces.{refusal_code, mask_adding_code, awaited_mask_test, enabling_code}
 use Rattle.event_gen.specs.SetEvent.{MaySet, EventsSet, SetsEvents, with_mask}
 
+-- the code behind the masking instruction
 abbrev pub body : ℕ → List InstrKind
-body task = looking_code task ++ (refusal_code 10 ++ (adds_events task ++ (asks_awaited task ++ (raising_code task ++ (enabling_code task ++ back)))))
+body task = looking_code task ++ (refusal_code 10 ++ (mask_adding_code task ++ (awaited_mask_test task ++ (raising_code task ++ (enabling_code task ++ back_code)))))
 
 module _ (offset task : ℕ) (c : Core) (h : MaySet offset task (masking ∷ body task) c) where
   abbrev st : List ℕ → State
-  st p = at offset (record (based c) { pending = p })
+  st p = offset_state offset (record (based c) { pending = p })
 
   abbrev x2 : ℕ
   x2 = get_or c.registers 2 0
@@ -68,7 +69,7 @@ module _ (offset task : ℕ) (c : Core) (h : MaySet offset task (masking ∷ bod
 
   -- the look at the awaited events
   asked_owe : (o : ℕ) (p : List ℕ) → o + 12 ≤ 0x20_0000 → (LooksSuspended task (record c { pending = p }) → ⊥)
-      → Owes offset (offset + 4 + 76) o (asks_awaited task ++ (raising_code task ++ (enabling_code task ++ back))) 0 (λ u. EventsSet task (task ∷ u)) (st p)
+      → Owes offset (offset + 4 + 76) o (awaited_mask_test task ++ (raising_code task ++ (enabling_code task ++ back_code))) 0 (λ u. EventsSet task (task ∷ u)) (st p)
       (record (masked (based c)) { registers = 0 ∷ grown ∷ x2 ∷ controller_base ∷ memory_base ∷ set tail 5 E_OS_STATE; pending = p; ram = ram })
   asked_owe o p small not_suspended =
       let few = h.is_task in
@@ -110,11 +111,11 @@ module _ (offset task : ℕ) (c : Core) (h : MaySet offset task (masking ∷ bod
 
   -- what is passed where the task is Suspended
   abbrev passed_code : List InstrKind
-  passed_code = adds_events task ++ (asks_awaited task ++ (raising_code task ++ enabling_code task))
+  passed_code = mask_adding_code task ++ (awaited_mask_test task ++ (raising_code task ++ enabling_code task))
 
   -- the code behind the look at the task
   abbrev further : List InstrKind
-  further = refusal_code 10 ++ (passed_code ++ back)
+  further = refusal_code 10 ++ (passed_code ++ back_code)
 
   -- behind the look, which found v
   looked_owe : (o : ℕ) (p : List ℕ) (v : ℕ) → o + 40 ≤ 0x20_0000 → Finds task (record c { pending = p }) v
@@ -133,15 +134,16 @@ module _ (offset task : ℕ) (c : Core) (h : MaySet offset task (masking ∷ bod
       ▸ stores (events task) (record { is = omega arith; aligned = omega arith; inside = omega arith }) (inl (omega arith))
       ▸ asked_owe (behind 5 o) p (omega arith) not_suspended)
 
-  body_owes : Owes offset (offset + 4 + 76) (offset + 4) (body task) 0 (EventsSet task) (at offset (based c)) (masked (based c))
+  body_owes : Owes offset (offset + 4 + 76) (offset + 4) (body task) 0 (EventsSet task) (offset_state offset (based c)) (masked (based c))
   body_owes =
       let fits = h.goes_back.can_run.inside in
       looks_owe offset (offset + 4 + 76) task (EventsSet task) further c h.is_task h.goes_back.can_run.lines
       h.active_bit h.pending_bit h.enabled_bit (offset + 4) (get_or c.registers 1 0) (get_or c.registers 10 0)
       (λ lines v only found. looked_owe (behind 5 (offset + 4)) (arrive lines c.pending) v (omega arith) found)
 
-  runs_it : FromOpening 19 (at offset c) (EventsSet task)
+  runs_it : FromOpening 19 (offset_state offset c) (EventsSet task)
   runs_it = opens offset 19 (body task) c (EventsSet task) h.goes_back.can_run h.goes_back.bases (omega arith) body_owes
 
+-- for each task
 pub sets : (task : ℕ) → SetsEvents task (masking ∷ body task)
 sets task = record { size = refl; masks = (body task, refl); runs = λ offset core h. runs_it offset task core h }

@@ -10,7 +10,7 @@ use Rattle.sloth_region.specs.Layout.{cur, active, events, wait, resume, below_w
 use Rattle.rv32_instr.specs.declared.InstrKind.{InstrKind}
 use Rattle.rv32_instr.specs.declared.InstrKind.TheVariants.{Addi}
 use Rattle.rv32_instr.specs.Ram.{word_at, with_word, with_words}
-use Rattle.masked_code.specs.Place.{at}
+use Rattle.masked_code.specs.Place.{offset_state}
 use Rattle.masked_code.specs.Masked.{FromOpening}
 use Rattle.masked_code.specs.Pieces.{saving_code, registers_from}
 use Rattle.masked_code.specs.Kernel.{IsBelow, HasLeft, leaving_code, masking}
@@ -23,9 +23,9 @@ use Rattle.masked_code.proofs.Leave.{leave_owes, behind}
 use Rattle.block_parts.proofs.Returning.{goes_back}
 use Rattle.block_parts.proofs.Landing.{lands}
 use Rattle.block_parts.proofs.Serving.{opens_within}
-use Rattle.block_parts.specs.Pieces.{back}
+use Rattle.block_parts.specs.Pieces.{back_code}
 use Rattle.event_gen.proofs.Finding.{own_end, finds_by_x3}
-use Rattle.event_gen.specs.Pieces.{finds_own, asks_set, holds_controller, answers_set, goes_to_rest, keeping_code, disabling_code}
+use Rattle.event_gen.specs.Pieces.{own_finding_code, set_events_test, controller_address_code, set_answer_code, resting_code, keeping_code, disabling_code}
 use Rattle.event_gen.specs.WaitEvent.{MayWait, Waited, HasWaited, Waits, set_of, rested_ram, kept_ram}
 
 -- the registers are saved before this code
@@ -34,14 +34,15 @@ saved_first rest = Addi 1 2 (neg_ℤ (pos context_bytes)) ∷ (saving_code 27 5 
 
 -- behind the saved registers
 abbrev saved_then : List InstrKind
-saved_then = keeping_code ++ (holds_controller ++ (disabling_code ++ leaving_code))
+saved_then = keeping_code ++ (controller_address_code ++ (disabling_code ++ leaving_code))
 
+-- the code behind the masking instruction
 abbrev pub body : List InstrKind
-body = finds_own 3 ++ (asks_set ++ (holds_controller ++ (answers_set ++ (back ++ (goes_to_rest ++ saved_first saved_then)))))
+body = own_finding_code 3 ++ (set_events_test ++ (controller_address_code ++ (set_answer_code ++ (back_code ++ (resting_code ++ saved_first saved_then)))))
 
 module _ (offset task place own : ℕ) (c : Core) (h : MayWait offset task place own (masking ∷ body) c) where
   abbrev st : State
-  st = at offset (based c)
+  st = offset_state offset (based c)
 
   abbrev sp : ℕ
   sp = get_or c.registers 2 0
@@ -193,7 +194,7 @@ module _ (offset task place own : ℕ) (c : Core) (h : MayWait offset task place
   rested_owe : (rest : List InstrKind) (E : List ℕ → State → State → Type 0) (o : ℕ)
       → Owes offset end (behind 2 o) rest 0 E st
       (record (masked (based c)) { registers = 0 ∷ own_end task ∷ sp ∷ found ∷ memory_base ∷ tail; ram = rested_ram (based c) task })
-      → Owes offset end o (goes_to_rest ++ rest) 0 E st (record (masked (based c)) { registers = 0 ∷ own_end task ∷ sp ∷ found ∷ memory_base ∷ tail })
+      → Owes offset end o (resting_code ++ rest) 0 E st (record (masked (based c)) { registers = 0 ∷ own_end task ∷ sp ∷ found ∷ memory_base ∷ tail })
   rested_owe rest E o go =
       let small = h.is_task in
       let under = low in
@@ -204,11 +205,11 @@ module _ (offset task place own : ℕ) (c : Core) (h : MayWait offset task place
   -- the look at the events; whatever stands behind the way back
   looked_owe : (rest : List InstrKind)
       → (found ≡ 0 → Owes offset end (behind 12 (offset + 4)) rest 0 (Waited task place own) st (record (masked (based c)) { registers = 0 ∷ own_end task ∷ sp ∷ found ∷ memory_base ∷ tail }))
-      → Owes offset end (offset + 4) (finds_own 3 ++ (asks_set ++ (holds_controller ++ (answers_set ++ (back ++ rest))))) 0 (Waited task place own) st (masked (based c))
+      → Owes offset end (offset + 4) (own_finding_code 3 ++ (set_events_test ++ (controller_address_code ++ (set_answer_code ++ (back_code ++ rest))))) 0 (Waited task place own) st (masked (based c))
   looked_owe rest go =
       let small = h.is_task in
       let fits = h.goes_back.can_run.inside in
-      finds_by_x3 offset end task (Waited task place own) st (asks_set ++ (holds_controller ++ (answers_set ++ (back ++ rest)))) (masked (based c)) (get_or c.registers 1 0) sp
+      finds_by_x3 offset end task (Waited task place own) st (set_events_test ++ (controller_address_code ++ (set_answer_code ++ (back_code ++ rest)))) (masked (based c)) (get_or c.registers 1 0) sp
       controller_base tail small h.runs (offset + 4) (
       loads (events task) (record { is = omega arith; aligned = omega arith; inside = omega arith }) (word_at c.ram (events task)) refl
       ▸ writes found refl
@@ -233,13 +234,14 @@ module _ (offset task place own : ℕ) (c : Core) (h : MayWait offset task place
   body_owes =
       let fits = h.goes_back.can_run.inside in
       let near : behind 3 (behind 12 (offset + 4)) + 108 + 32 ≤ 0x20_0000 = omega arith in
-      looked_owe (goes_to_rest ++ saved_first saved_then)
+      looked_owe (resting_code ++ saved_first saved_then)
       (λ none. rested_owe (saved_first saved_then) (Waited task place own) (behind 12 (offset + 4))
       (saved_owe saved_then (Waited task place own) (behind 2 (behind 12 (offset + 4))) (own_end task) found (rested_ram (based c) task)
       (kept_owe (behind 3 (behind 12 (offset + 4)) + 108) near none)))
 
-  runs_it : FromOpening 85 (at offset c) (Waited task place own)
+  runs_it : FromOpening 85 (offset_state offset c) (Waited task place own)
   runs_it = opens_within offset 85 body c (Waited task place own) h.goes_back.can_run h.goes_back.bases (omega arith) body_owes
 
+-- the task goes to rest with its context, or goes on where one of the events is set
 pub waits : Waits (masking ∷ body)
 waits = record { size = refl; masks = (body, refl); runs = λ offset task place own core h. runs_it offset task place own core h }

@@ -7,7 +7,7 @@ use Rattle.sloth_region.specs.Layout.{cur, events}
 use Rattle.rv32_instr.specs.declared.InstrKind.{InstrKind}
 use Rattle.rv32_instr.specs.Ram.{word_at, with_word}
 use Rattle.masked_code.specs.Masked.{FromOpening}
-use Rattle.masked_code.specs.Place.{at}
+use Rattle.masked_code.specs.Place.{offset_state}
 use Rattle.block_parts.specs.ServiceCode.{IsServiceCode}
 use Rattle.block_parts.specs.Back.{CanGoBack, WentBack, a0}
 
@@ -35,4 +35,4 @@ pub record EventsCleared (task : ℕ) (touched : List ℕ) (start end : State) :
 -- Code of ClearEvent: behind its first instruction at most 12 more lead to its effect, whatever lines arrive.
 abbrev pub ClearsEvents : List InstrKind → Type 0
 ClearsEvents code =
-    IsServiceCode service.ClearEvent code ((offset task : ℕ) (core : Core) → MayClear offset task code core → FromOpening 12 (at offset core) (EventsCleared task))
+    IsServiceCode service.ClearEvent code ((offset task : ℕ) (core : Core) → MayClear offset task code core → FromOpening 12 (offset_state offset core) (EventsCleared task))

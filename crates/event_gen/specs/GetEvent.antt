@@ -7,7 +7,7 @@ use Rattle.sloth_region.specs.Layout.{active, events}
 use Rattle.rv32_instr.specs.declared.InstrKind.{InstrKind}
 use Rattle.rv32_instr.specs.Ram.{word_at}
 use Rattle.masked_code.specs.Masked.{FromOpening}
-use Rattle.masked_code.specs.Place.{at}
+use Rattle.masked_code.specs.Place.{offset_state}
 use Rattle.block_parts.specs.ServiceCode.{IsServiceCode}
 use Rattle.block_parts.specs.Back.{CanGoBack, WentBack, a0, a1}
 use Rattle.block_parts.specs.Looks.{LooksSuspended}
@@ -41,4 +41,4 @@ pub record EventsTold (task : ℕ) (touched : List ℕ) (start end : State) : Ty
 -- Code of GetEvent: behind its first instruction at most 11 more lead to its effect, whatever lines arrive.
 abbrev pub TellsEvents : ℕ → List InstrKind → Type 0
 TellsEvents task code =
-    IsServiceCode service.GetEvent code ((offset : ℕ) (core : Core) → MayGet offset task code core → FromOpening 11 (at offset core) (EventsTold task))
+    IsServiceCode service.GetEvent code ((offset : ℕ) (core : Core) → MayGet offset task code core → FromOpening 11 (offset_state offset core) (EventsTold task))

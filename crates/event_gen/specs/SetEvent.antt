@@ -7,7 +7,7 @@ use Rattle.sloth_region.specs.Layout.{active, events, wait}
 use Rattle.rv32_instr.specs.declared.InstrKind.{InstrKind}
 use Rattle.rv32_instr.specs.Ram.{word_at, with_word}
 use Rattle.masked_code.specs.Masked.{FromOpening}
-use Rattle.masked_code.specs.Place.{at}
+use Rattle.masked_code.specs.Place.{offset_state}
 use Rattle.block_parts.specs.ServiceCode.{IsServiceCode}
 use Rattle.block_parts.specs.Back.{CanGoBack, WentBack, a0}
 use Rattle.block_parts.specs.Looks.{LooksSuspended}
@@ -65,4 +65,4 @@ pub record EventsSet (task : ℕ) (touched : List ℕ) (start end : State) : Typ
 -- Code of SetEvent: behind its first instruction at most 19 more lead to its effect, whatever lines arrive.
 abbrev pub SetsEvents : ℕ → List InstrKind → Type 0
 SetsEvents task code =
-    IsServiceCode service.SetEvent code ((offset : ℕ) (core : Core) → MaySet offset task code core → FromOpening 19 (at offset core) (EventsSet task))
+    IsServiceCode service.SetEvent code ((offset : ℕ) (core : Core) → MaySet offset task code core → FromOpening 19 (offset_state offset core) (EventsSet task))

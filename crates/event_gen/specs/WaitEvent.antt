@@ -8,7 +8,7 @@ use Rattle.sloth_region.specs.Layout.{cur, active, events, wait, resume, below_w
 use Rattle.rv32_instr.specs.declared.InstrKind.{InstrKind}
 use Rattle.rv32_instr.specs.Ram.{word_at, with_word, with_words}
 use Rattle.masked_code.specs.Masked.{FromOpening}
-use Rattle.masked_code.specs.Place.{at}
+use Rattle.masked_code.specs.Place.{offset_state}
 use Rattle.masked_code.specs.Pieces.{registers_from}
 use Rattle.masked_code.specs.Kernel.{IsBelow, LeftAs}
 use Rattle.block_parts.specs.ServiceCode.{IsServiceCode}
@@ -77,4 +77,4 @@ pub record Waited (task place own : ℕ) (touched : List ℕ) (start end : State
 abbrev pub Waits : List InstrKind → Type 0
 Waits code =
     IsServiceCode service.WaitEvent code ((offset task place own : ℕ) (core : Core) → MayWait offset task place own code core
-    → FromOpening 85 (at offset core) (Waited task place own))
+    → FromOpening 85 (offset_state offset core) (Waited task place own))

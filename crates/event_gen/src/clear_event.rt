@@ -1,6 +1,6 @@
 //! ClearEvent: the events of the mask are no longer set for the running task.
 ghost use Rattle.std.specs.Prelude.{◌≡◌, ◌++◌, IfOk, OnOk};
-ghost use Rattle.event_gen.specs.Pieces.{clears_own};
+ghost use Rattle.event_gen.specs.Pieces.{own_clearing_code};
 ghost use Rattle.event_gen.specs.ClearEvent.{ClearsEvents};
 
 use crate::pieces::find_own;
@@ -25,7 +25,7 @@ pub fn code(alloc: Global) -> Result<Vec<Instr>, AllocError>
 
 /// Takes the events of the mask in x30 out of those at x1, with the status E_OK.
 fn clear_own(code: &mut Vec<Instr>) -> Result<(), AllocError>
-    ensures { OnOk result (code.new.items ≡ code.old.items ++ clears_own) }
+    ensures { OnOk result (code.new.items ≡ code.old.items ++ own_clearing_code) }
 {
     let cleared = [
         lw(A0, X1, OWN_EVENTS),

@@ -1,6 +1,6 @@
 //! GetEvent: the events of a task that isn't Suspended.
 ghost use Rattle.std.specs.Prelude.{◌≡◌, ◌<◌, ◌++◌, IfOk, OnOk};
-ghost use Rattle.event_gen.specs.Pieces.{tells_events};
+ghost use Rattle.event_gen.specs.Pieces.{events_telling_code};
 ghost use Rattle.event_gen.specs.GetEvent.{TellsEvents};
 
 use crate::pieces::refuse;
@@ -32,7 +32,7 @@ pub fn code(alloc: Global, task: u8) -> Result<Vec<Instr>, AllocError>
 /// a1 := the task's events, with the status E_OK.
 fn tell(code: &mut Vec<Instr>, task: u8) -> Result<(), AllocError>
     requires { task < 30 }
-    ensures { OnOk result (code.new.items ≡ code.old.items ++ tells_events task) }
+    ensures { OnOk result (code.new.items ≡ code.old.items ++ events_telling_code task) }
 {
     let told = [addi(A0, ZERO, E_OK as i32), lw(A1, X4, events(task))];
     emit(code, &told)

@@ -1,6 +1,6 @@
 //! Pieces of code that several services have.
 ghost use Rattle.std.specs.Prelude.{◌≡◌, ◌<◌, ◌++◌, OnOk};
-ghost use Rattle.event_gen.specs.Pieces.{finds_own, refusal_code};
+ghost use Rattle.event_gen.specs.Pieces.{own_finding_code, refusal_code};
 
 use masked_code::emit::{emit, past};
 use rv32_instr::Instr;
@@ -13,7 +13,7 @@ use std::alloc::AllocError;
 /// x1 := the place of the running task's words: they stand there and directly before. Uses another register.
 pub fn find_own(code: &mut Vec<Instr>, other: Reg) -> Result<(), AllocError>
     requires { other < 32 }
-    ensures { OnOk result (code.new.items ≡ code.old.items ++ finds_own other) }
+    ensures { OnOk result (code.new.items ≡ code.old.items ++ own_finding_code other) }
 {
     let found = [
         lw(X1, X4, CUR),

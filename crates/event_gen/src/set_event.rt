@@ -1,7 +1,7 @@
 //! SetEvent: the events of the mask are set for a task that isn't Suspended, and it becomes Ready where it waits for one of
 //! its set events.
 ghost use Rattle.std.specs.Prelude.{◌≡◌, ◌<◌, ◌++◌, IfOk, OnOk};
-ghost use Rattle.event_gen.specs.Pieces.{adds_events, asks_awaited, enabling_code};
+ghost use Rattle.event_gen.specs.Pieces.{mask_adding_code, awaited_mask_test, enabling_code};
 ghost use Rattle.event_gen.specs.SetEvent.{SetsEvents};
 
 use crate::pieces::refuse;
@@ -42,7 +42,7 @@ pub fn code(alloc: Global, task: u8) -> Result<Vec<Instr>, AllocError>
 /// Adds the events of the mask in x30 to the task's, which stay in x1.
 fn add_events(code: &mut Vec<Instr>, task: u8) -> Result<(), AllocError>
     requires { task < 30 }
-    ensures { OnOk result (code.new.items ≡ code.old.items ++ adds_events task) }
+    ensures { OnOk result (code.new.items ≡ code.old.items ++ mask_adding_code task) }
 {
     let added = [
         lw(X1, X4, events(task)),
@@ -55,7 +55,7 @@ fn add_events(code: &mut Vec<Instr>, task: u8) -> Result<(), AllocError>
 /// The status E_OK, and on behind what wakes the task where it waits for none of the events in x1.
 fn ask_awaited(code: &mut Vec<Instr>, task: u8) -> Result<(), AllocError>
     requires { task < 30 }
-    ensures { OnOk result (code.new.items ≡ code.old.items ++ asks_awaited task) }
+    ensures { OnOk result (code.new.items ≡ code.old.items ++ awaited_mask_test task) }
 {
     let asked = [
         lw(A0, X4, wait(task)),

@@ -1,6 +1,6 @@
 //! WaitEvent: the running task goes on where one of the events is set; else it waits, and what runs below it goes on.
 ghost use Rattle.std.specs.Prelude.{◌≡◌, ◌++◌, IfOk, OnOk};
-ghost use Rattle.event_gen.specs.Pieces.{asks_set, holds_controller, answers_set, goes_to_rest, saves_own, keeping_code, disabling_code};
+ghost use Rattle.event_gen.specs.Pieces.{set_events_test, controller_address_code, set_answer_code, resting_code, own_saving_code, keeping_code, disabling_code};
 ghost use Rattle.event_gen.specs.WaitEvent.{Waits};
 
 use crate::pieces::find_own;
@@ -46,7 +46,7 @@ pub fn code(alloc: Global) -> Result<Vec<Instr>, AllocError>
 
 /// Goes on behind the way back where none of the events of the mask in x30 is set at x1.
 fn ask_set(code: &mut Vec<Instr>) -> Result<(), AllocError>
-    ensures { OnOk result (code.new.items ≡ code.old.items ++ asks_set) }
+    ensures { OnOk result (code.new.items ≡ code.old.items ++ set_events_test) }
 {
     let asked = [
         lw(X3, X1, OWN_EVENTS),
@@ -58,21 +58,21 @@ fn ask_set(code: &mut Vec<Instr>) -> Result<(), AllocError>
 
 /// x3 := the controller's address again.
 fn hold_controller(code: &mut Vec<Instr>) -> Result<(), AllocError>
-    ensures { OnOk result (code.new.items ≡ code.old.items ++ holds_controller) }
+    ensures { OnOk result (code.new.items ≡ code.old.items ++ controller_address_code) }
 {
     emit(code, &[lui(X3, CONTROLLER_HIGH)])
 }
 
 /// The status E_OK.
 fn answer_set(code: &mut Vec<Instr>) -> Result<(), AllocError>
-    ensures { OnOk result (code.new.items ≡ code.old.items ++ answers_set) }
+    ensures { OnOk result (code.new.items ≡ code.old.items ++ set_answer_code) }
 {
     emit(code, &[addi(A0, ZERO, E_OK as i32)])
 }
 
 /// The running task, whose words are at x1, isn't Active, and waits for the events of the mask in x30.
 fn go_to_rest(code: &mut Vec<Instr>) -> Result<(), AllocError>
-    ensures { OnOk result (code.new.items ≡ code.old.items ++ goes_to_rest) }
+    ensures { OnOk result (code.new.items ≡ code.old.items ++ resting_code) }
 {
     let rested = [sw(ZERO, X1, OWN_ACTIVE), sw(X30, X1, OWN_WAIT)];
     emit(code, &rested)
@@ -80,7 +80,7 @@ fn go_to_rest(code: &mut Vec<Instr>) -> Result<(), AllocError>
 
 /// Saves the registers in the context directly below x2.
 fn save_own(code: &mut Vec<Instr>) -> Result<(), AllocError>
-    ensures { OnOk result (code.new.items ≡ code.old.items ++ saves_own) }
+    ensures { OnOk result (code.new.items ≡ code.old.items ++ own_saving_code) }
 {
     emit(code, &[addi(X1, X2, -CONTEXT_BYTES)])?;
     save(code, 5, 32, X1)

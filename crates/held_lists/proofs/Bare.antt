@@ -5,15 +5,15 @@ use Rattle.std.proofs.lemmas.List.{length-map, ext_get_or}
 use Rattle.sloth_base.specs.declared.app.App.{App}
 use Rattle.sloth_base.specs.declared.app.Func.{Func}
 use Rattle.sloth_base.specs.declared.app.Label.{Label}
-use Rattle.sloth_base.specs.Named.{missing, function, nowhere, label_of, item_of}
-use Rattle.code_rules.specs.Code.{is_followed, way, GoesOn, Path}
+use Rattle.sloth_base.specs.Named.{no_function, function, no_label, label_of, item_of}
+use Rattle.code_rules.specs.Code.{is_followed, way, GoesOn, IsPath}
 use Rattle.held_lists.specs.Filling.{bare_label, bare_func, bare_app, SameButLists}
 
 pub bare_label_of : (f : Func) (k : ℕ) → label_of (bare_func f) k ≡ bare_label (label_of f k)
-bare_label_of f k = get_or-map bare_label f.labels k nowhere
+bare_label_of f k = get_or-map bare_label f.labels k no_label
 
 pub bare_function : (app : App) (b : ℕ) → function (bare_app app) b ≡ bare_func (function app b)
-bare_function app b = get_or-map bare_func app.funcs b missing
+bare_function app b = get_or-map bare_func app.funcs b no_function
 
 pub functions_same : (app other : App) → SameButLists app other → (b : ℕ) → bare_func (function app b) ≡ bare_func (function other b)
 functions_same app other e b = sym (bare_function app b) ∙ ap (λ x. function x b) e ∙ bare_function other b
@@ -41,7 +41,7 @@ module _ (f g : Func) (same : bare_func f ≡ bare_func g) where
   goes_same i j (inl a) = inl (ap (λ x. is_followed x.op) (sym (item_same i)) ∙ a.0, a.1)
   goes_same i j (inr a) = inr (a.0, ap (λ x. way x.op) (sym (item_same i)) ∙ a.1, a.2 ∙ place_same a.0)
 
-  pub path_same : (i j : ℕ) (between : List ℕ) → Path f i between j → Path g i between j
+  pub path_same : (i j : ℕ) (between : List ℕ) → IsPath f i between j → IsPath g i between j
   path_same i j [] p = p
   path_same i j (k ∷ between) p = (goes_same i k p.0, path_same k j between p.1)
 
@@ -55,7 +55,7 @@ module _ (f g : Func) (same : bare_func f ≡ bare_func g) where
           ∙ ap (λ (x : Label). record { name = x.name; line = x.line; item = x.item; holds = (label_of g k).holds }) (labels_same k)
 
       labels : f.labels ≡ g.labels
-      labels = ext_get_or nowhere f.labels g.labels count_same label
+      labels = ext_get_or no_label f.labels g.labels count_same label
 
       rest : record { name = f.name; line = f.line; task = f.task; frame_words = f.frame_words; items = f.items; labels = g.labels } ≡ g
       rest = ap (λ (x : Func). record { name = x.name; line = x.line; task = x.task; frame_words = x.frame_words; items = x.items; labels = g.labels }) same
@@ -63,5 +63,5 @@ module _ (f g : Func) (same : bare_func f ≡ bare_func g) where
 -- with the same bodies all is the same
 pub app_same : (app other : App) → SameButLists app other → ((b : ℕ) → b < length app.funcs → function app b ≡ function other b) → app ≡ other
 app_same app other e h =
-    ap (λ fs. record { funcs = fs; symbols = app.symbols }) (ext_get_or missing app.funcs other.funcs (count_functions app other e) h)
+    ap (λ fs. record { funcs = fs; symbols = app.symbols }) (ext_get_or no_function app.funcs other.funcs (count_functions app other e) h)
     ∙ ap (λ (x : App). record { funcs = other.funcs; symbols = x.symbols }) e

@@ -8,7 +8,7 @@ use Rattle.sloth_base.specs.declared.app.App.{App}
 use Rattle.sloth_base.specs.declared.app.Func.{Func}
 use Rattle.sloth_base.specs.declared.app.Item.{Item}
 use Rattle.sloth_base.specs.declared.app.Label.{Label}
-use Rattle.sloth_base.specs.Named.{missing, function, nowhere, no_item, label_of, item_of}
+use Rattle.sloth_base.specs.Named.{no_function, function, no_label, no_item, label_of, item_of}
 use Rattle.sloth_base.specs.declared.refusal.Refusal.{Refusal}
 use Rattle.least_fault.specs.Order.{NoFault}
 use Rattle.code_rules.specs.AppRange.{IsResource, AppInRange}
@@ -18,7 +18,7 @@ use Rattle.call_graph.specs.Ranks.{RanksOf}
 use Rattle.task_verify.specs.Cases.{AreOps}
 use Rattle.task_verify.proofs.Acyclic.{no_cycle}
 use Rattle.task_verify.proofs.Tests.{leads}
-use Rattle.code_rules.specs.Code.{held_at}
+use Rattle.code_rules.specs.Code.{held_list_at}
 use Rattle.task_verify.proofs.Paths.{reached_of}
 use Rattle.held_lists.specs.Filling.{bare_label, bare_func, SameButLists, IsClear, AreClear, IsFilling}
 use Rattle.held_lists.specs.RightLists.{HasRightLists}
@@ -40,7 +40,7 @@ module _ (f : Func) (lists : Lists) (are : AreLists f lists) where
 
   -- the list of a label
   label_list : (k : ℕ) → k < length f.labels → (label_of (relisted_func lists f) k).holds ≡ list_at lists (label_of f k).item
-  label_list k l = ap (λ (x : Label). x.holds) (get_or-map (relisted_label lists) f.labels k nowhere nowhere l)
+  label_list k l = ap (λ (x : Label). x.holds) (get_or-map (relisted_label lists) f.labels k no_label no_label l)
 
   past : (place : ℕ) → length f.items ≤ place → list_at lists place ≡ []
   past place l = let n = are.count in ap list_or (get_or_past lists place None (omega (arith, n, l)))
@@ -50,7 +50,7 @@ module _ (f : Func) (lists : Lists) (are : AreLists f lists) where
       (λ inside.
       let there : (label_of (relisted_func lists f) k).item ≡ (label_of f k).item = sym (place_same f (relisted_func lists f) same k) in
       label_list k inside ∙ past (label_of f k).item (omega (arith, l, there)))
-      (λ out. ap (λ (x : Label). x.holds) (get_or_past (map (relisted_label lists) f.labels) k nowhere (let n = length-map f.labels (relisted_label lists) in omega (arith, n, out))))
+      (λ out. ap (λ (x : Label). x.holds) (get_or_past (map (relisted_label lists) f.labels) k no_label (let n = length-map f.labels (relisted_label lists) in omega (arith, n, out))))
       (cases_lt k (length f.labels))
 
   known : (config : Config) (o : Option (List ℕ)) → ((list : List ℕ) → o ≡ Some list → All (IsResource config) list) → All (IsResource config) (list_or o)
@@ -60,7 +60,7 @@ module _ (f : Func) (lists : Lists) (are : AreLists f lists) where
   resources : (config : Config) (app : App) → AreOps config app f → HasResourceLists config (relisted_func lists f)
   resources config app ops k d l =
       let m : k < length f.labels = let n = length-map f.labels (relisted_label lists) in omega (arith, n, l) in
-      subst (λ (x : Label). All (IsResource config) x.holds) (sym (get_or-map (relisted_label lists) f.labels k nowhere d m))
+      subst (λ (x : Label). All (IsResource config) x.holds) (sym (get_or-map (relisted_label lists) f.labels k no_label d m))
       (known config (get_or lists (label_of f k).item None) (are.resources config app ops (label_of f k).item))
 
   marked : (g : Func) → bare_func f ≡ bare_func g → HasRightLists g → (i : ℕ) → i < length f.items → is_some (get_or lists i None) ≡ true
@@ -83,7 +83,7 @@ module _ (f : Func) (lists : Lists) (are : AreLists f lists) where
           (λ inside.
           label_list k l
           ∙ are.true_lists g alike right place (list_at lists place) (listed (get_or lists place None) (marked g alike right place inside))
-          ∙ ap (held_at g) there
+          ∙ ap (held_list_at g) there
           ∙ held_of_label g right k (subst (λ (m : ℕ). k < m) (count_same f g alike) l))
           (λ out.
           label_list k l ∙ past place out
@@ -96,14 +96,14 @@ module _ (f : Func) (lists : Lists) (are : AreLists f lists) where
 -- ---- all bodies
 
 -- one body more
-pub fillings_more : (fs made more : List Func) (b : ℕ) (g : Func) → IsBodyFilling (get_or fs b missing) g → more ≡ made ++ g ∷ [] → length made ≡ b
-    → ((k : ℕ) → k < b → IsBodyFilling (get_or fs k missing) (get_or made k missing)) → (k : ℕ) → k < b + 1 → IsBodyFilling (get_or fs k missing) (get_or more k missing)
+pub fillings_more : (fs made more : List Func) (b : ℕ) (g : Func) → IsBodyFilling (get_or fs b no_function) g → more ≡ made ++ g ∷ [] → length made ≡ b
+    → ((k : ℕ) → k < b → IsBodyFilling (get_or fs k no_function) (get_or made k no_function)) → (k : ℕ) → k < b + 1 → IsBodyFilling (get_or fs k no_function) (get_or more k no_function)
 fillings_more fs made more b g here e n before k l = ⊎_elim
-    (λ same. subst (λ (x : ℕ). IsBodyFilling (get_or fs x missing) (get_or more x missing)) (sym same)
-    (subst (IsBodyFilling (get_or fs b missing)) (sym (ap (λ (xs : List Func). get_or xs b missing) e ∙ get_or_push made g missing b n)) here))
+    (λ same. subst (λ (x : ℕ). IsBodyFilling (get_or fs x no_function) (get_or more x no_function)) (sym same)
+    (subst (IsBodyFilling (get_or fs b no_function)) (sym (ap (λ (xs : List Func). get_or xs b no_function) e ∙ get_or_push made g no_function b n)) here))
     (λ other.
     let less : k < length made = omega (arith, l, other, n) in
-    subst (IsBodyFilling (get_or fs k missing)) (sym (ap (λ (xs : List Func). get_or xs k missing) e ∙ get_or_append_left made (g ∷ []) missing k less)) (before k (omega (arith, less, n))))
+    subst (IsBodyFilling (get_or fs k no_function)) (sym (ap (λ (xs : List Func). get_or xs k no_function) e ∙ get_or_append_left made (g ∷ []) no_function k less)) (before k (omega (arith, less, n))))
     (cases_eq k b)
 
 -- the whole, from its parts
@@ -117,23 +117,23 @@ module _ (app : App) (fs : List Func) (are : AreBodyFillings app.funcs fs) where
 
   pub filled : SameButLists app other
   filled = ap (λ xs. record { funcs = xs; symbols = app.symbols })
-      (ext_get_or (bare_func missing) (map bare_func app.funcs) (map bare_func fs)
+      (ext_get_or (bare_func no_function) (map bare_func app.funcs) (map bare_func fs)
       (length-map app.funcs bare_func ∙ sym are.count ∙ sym (length-map fs bare_func))
       (λ b l.
       let m : b < length app.funcs = let n = length-map app.funcs bare_func in omega (arith, n, l) in
-      get_or-map bare_func app.funcs b missing (bare_func missing) m ∙ (are.each b m).same
-      ∙ sym (get_or-map bare_func fs b missing (bare_func missing) (let n = are.count in omega (arith, n, m)))))
+      get_or-map bare_func app.funcs b no_function (bare_func no_function) m ∙ (are.each b m).same
+      ∙ sym (get_or-map bare_func fs b no_function (bare_func no_function) (let n = are.count in omega (arith, n, m)))))
 
   pub all_clear : AreClear other
   all_clear b = ⊎_elim
       (λ l. (are.each b l).clear)
-      (λ out. subst IsClear (sym (get_or_past fs b missing (let n = are.count in omega (arith, n, out)))) (λ k l. refl))
+      (λ out. subst IsClear (sym (get_or_past fs b no_function (let n = are.count in omega (arith, n, out)))) (λ k l. refl))
       (cases_lt b (length app.funcs))
 
   pub all_resources : (config : Config) → AppInRange config app → (b : ℕ) → b < length other.funcs → HasResourceLists config (function other b)
   all_resources config range b l =
       let m : b < length app.funcs = let n = are.count in omega (arith, n, l) in
-      (are.each b m).resources config app (λ i known. (range.bodies b missing m).items i no_item known)
+      (are.each b m).resources config app (λ i known. (range.bodies b no_function m).items i no_item known)
 
   -- if some lists keep the rules, they are these
   pub the_one : (config : Config) (h : App) → IsFilling config app h → other ≡ h
@@ -176,4 +176,4 @@ module _ (config : Config) (app found : App) (ranks : Ranks) (are : AreBodyFilli
 
 pub have_labels : (config : Config) (app : App) → AppInRange config app → HaveTheirLabels app.funcs
 have_labels config app range b l i known =
-    leads config app (function app b) (item_of (function app b) i).op ((range.bodies b missing l).items i no_item known)
+    leads config app (function app b) (item_of (function app b) i).op ((range.bodies b no_function l).items i no_item known)

@@ -12,9 +12,9 @@ use Rattle.sloth_base.specs.declared.app.Symbol.{Symbol}
 use Rattle.sloth_base.specs.declared.app.Op.{Op}
 use Rattle.sloth_base.specs.declared.app.Op.TheVariants as op
 use Rattle.sloth_base.specs.ImageRange.{AreNames}
-use Rattle.sloth_base.specs.Named.{missing, function, nowhere, label_of, item_of, IsBodyOf}
+use Rattle.sloth_base.specs.Named.{no_function, function, no_label, label_of, item_of, IsBodyOf}
 use Rattle.code_rules.specs.AppRange.{AppInRange, IsBody, IsOp}
-use Rattle.code_rules.specs.Code.{IsItem, Calls, CallChain, Reaches, TaskReaches, ReachesTaking, ReachesPause}
+use Rattle.code_rules.specs.Code.{IsItem, Calls, IsCallChain, Reaches, TaskReaches, ReachesTaking, ReachesPause}
 use Rattle.call_graph.specs.declared.ranking.Ranks.{Ranks}
 use Rattle.call_graph.specs.Ranks.{RanksOf}
 use Rattle.held_lists.specs.Filling.{bare_label, bare_func, SameButLists}
@@ -38,7 +38,7 @@ module _ (app other : App) (e : SameButLists app other) where
   pub calls_there : (f g : ℕ) → Calls app f g → Calls other f g
   calls_there f g h = (h.0, item_there f h.0 (op.Invoke g) h.1)
 
-  chain_there : (f g : ℕ) (between : List ℕ) → CallChain app f between g → CallChain other f between g
+  chain_there : (f g : ℕ) (between : List ℕ) → IsCallChain app f between g → IsCallChain other f between g
   chain_there f g [] h = calls_there f g h
   chain_there f g (k ∷ between) h = (calls_there f k h.0, chain_there k g between h.1)
 
@@ -136,8 +136,8 @@ module _ (config : Config) (app other : App) (e : SameButLists app other)
           → (get_or f.labels k d).item ≤ length f.items → (get_or g.labels k d).item ≤ length g.items
       placed f g same items count k d l m p =
           let here : (get_or f.labels k d).item ≡ (get_or g.labels k d).item =
-          ap (λ (x : Label). x.item) (get_or_default f.labels k d nowhere m) ∙ place_at f g same k
-          ∙ ap (λ (x : Label). x.item) (sym (get_or_default g.labels k d nowhere l)) in
+          ap (λ (x : Label). x.item) (get_or_default f.labels k d no_label m) ∙ place_at f g same k
+          ∙ ap (λ (x : Label). x.item) (sym (get_or_default g.labels k d no_label l)) in
           subst (λ (n : ℕ). n ≤ length g.items) here (subst (λ (xs : List Item). (get_or f.labels k d).item ≤ length xs) items p)
 
   pub range_there : AppInRange config app → AppInRange config other
@@ -159,6 +159,6 @@ module _ (config : Config) (app other : App) (e : SameButLists app other)
     };
     bodies = λ b d l.
         let m : b < length app.funcs = subst (λ (n : ℕ). b < n) (sym (count_functions app other e)) l in
-        subst (IsBody config other) (get_or_default other.funcs b missing d l)
-        (body_in (function app b) (function other b) (functions_same app other e b) (resources b l) (h.bodies b missing m));
+        subst (IsBody config other) (get_or_default other.funcs b no_function d l)
+        (body_in (function app b) (function other b) (functions_same app other e b) (resources b l) (h.bodies b no_function m));
   }

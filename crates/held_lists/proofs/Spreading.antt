@@ -17,13 +17,13 @@ use Rattle.sloth_base.specs.declared.service.Service.{Service}
 use Rattle.sloth_base.specs.declared.service.Service.TheVariants as service
 use Rattle.sloth_base.specs.Named.{item_of}
 use Rattle.code_rules.specs.AppRange.{IsResource, IsOp, AreOperands}
-use Rattle.code_rules.specs.Code.{way, is_in, without_last, held_behind, held_after, held_at, GoesOn}
+use Rattle.code_rules.specs.Code.{way, is_in, without_last, held_behind, held_after, held_list_at, GoesOn}
 use Rattle.task_verify.specs.Ways.{next_of, jump_of, Visited, unmarked_count}
 use Rattle.task_verify.proofs.Paths.{next_goes, jump_goes, goes_from_inside}
 use Rattle.task_verify.proofs.Searches.{taken, gone_on, begun, ended, next_inside, jump_inside}
 use Rattle.held_lists.specs.Filling.{bare_func}
 use Rattle.held_lists.specs.RightLists.{HasRightLists}
-use Rattle.held_lists.specs.Spread.{Lists, list_behind, list_after, list_or, list_at, marks, Placed, AreTrueLists, Spreading, AreLists}
+use Rattle.held_lists.specs.Spread.{Lists, list_behind, list_after, list_or, list_at, marks, Placed, AreTrueLists, AreSpreading, AreLists}
 use Rattle.held_lists.proofs.Held.{held_first, held_falls, held_turns}
 use Rattle.held_lists.proofs.Bare.{item_same, goes_same}
 
@@ -61,16 +61,16 @@ way_keeps (op.Jump l) k held e = refl
 way_keeps _ k held e = absurd cc
 
 -- what is held where an item of a body with right lists goes on
-pub held_on : (g : Func) → HasRightLists g → (i j : ℕ) → GoesOn g i j → list_after (item_of g i).op (held_at g i) ≡ held_at g j
+pub held_on : (g : Func) → HasRightLists g → (i j : ℕ) → GoesOn g i j → list_after (item_of g i).op (held_list_at g i) ≡ held_list_at g j
 held_on g right i j (inl a) =
     let l = goes_from_inside g i j (inl a) in
     let next = a.1 in
     let up : suc i ≡ j = omega (arith, next) in
-    after_same (item_of g i).op (held_at g i) (λ call e s. right.taking i call l e s)
-    ∙ sym (held_falls g right i a.0) ∙ ap (held_at g) up
+    after_same (item_of g i).op (held_list_at g i) (λ call e s. right.taking i call l e s)
+    ∙ sym (held_falls g right i a.0) ∙ ap (held_list_at g) up
 held_on g right i j (inr a) =
     let l = goes_from_inside g i j (inr a) in
-    way_keeps (item_of g i).op a.0 (held_at g i) a.1 ∙ sym (held_turns g right i a.0 l a.1) ∙ ap (held_at g) (sym a.2)
+    way_keeps (item_of g i).op a.0 (held_list_at g i) a.1 ∙ sym (held_turns g right i a.0 l a.1) ∙ ap (held_list_at g) (sym a.2)
 
 -- ---- lists
 
@@ -113,11 +113,11 @@ listed (Some held) e = refl
 
 -- the list that is given to the place where it goes on is the one that is held there
 pub leaves_true : (f : Func) (lists : Lists) (x j : ℕ) (behind : List ℕ) → Leaving f lists x behind → AreTrueLists f lists → GoesOn f x j
-    → (g : Func) → bare_func f ≡ bare_func g → HasRightLists g → behind ≡ held_at g j
+    → (g : Func) → bare_func f ≡ bare_func g → HasRightLists g → behind ≡ held_list_at g j
 leaves_true f lists x j behind leaving all goes g same right =
-    let here : list_at lists x ≡ held_at g x = all g same right x (list_at lists x) (listed (get_or lists x None) leaving.marked) in
+    let here : list_at lists x ≡ held_list_at g x = all g same right x (list_at lists x) (listed (get_or lists x None) leaving.marked) in
     leaving.is ∙ ap (list_after (item_of f x).op) here
-    ∙ ap (λ (y : Item). list_after y.op (held_at g x)) (item_same f g same x)
+    ∙ ap (λ (y : Item). list_after y.op (held_list_at g x)) (item_same f g same x)
     ∙ held_on g right x j (goes_same f g same x j goes)
 
 -- a visit from there keeps the lists true
@@ -125,9 +125,9 @@ pub visit_true : (f : Func) (lists old new : Lists) (pending kept : List ℕ) (x
     → Leaving f lists x behind → AreTrueLists f lists → GoesOn f x at ⊎ (x ≡ at) → ((i : ℕ) → is_some (get_or lists i None) ≡ true → is_some (get_or old i None) ≡ true)
     → Placed old new pending kept at behind → AreTrueLists f old → AreTrueLists f new
 visit_true f lists old new pending kept x at behind leaving true_lists goes keeps placed before g same right =
-    placed_lists (λ i list. list ≡ held_at g i) old new pending kept at behind placed own (before g same right)
+    placed_lists (λ i list. list ≡ held_list_at g i) old new pending kept at behind placed own (before g same right)
   where
-    own : is_some (get_or old at None) ≡ false → behind ≡ held_at g at
+    own : is_some (get_or old at None) ≡ false → behind ≡ held_list_at g at
     own fresh = ⊎_elim
         (λ w. leaves_true f lists x at behind leaving true_lists w g same right)
         (λ itself. absurd (true≢false (sym (keeps at (subst (λ (y : ℕ). is_some (get_or lists y None) ≡ true) itself leaving.marked)) ∙ fresh)))
@@ -185,14 +185,14 @@ placed_keeps old new pending kept at held p i m = by (is_some (get_or old at Non
 
 -- what is known as item x is taken from the places that are kept
 pub record Turn (f : Func) (lists mid new : Lists) (pending rest more kept : List ℕ) (x : ℕ) (behind : List ℕ) : Type 0 where
-  pub spreading : Spreading f lists pending
+  pub spreading : AreSpreading f lists pending
   pub taken_from : pending ≡ rest ++ x ∷ []
   pub behind_is : behind ≡ list_after (item_of f x).op (list_at lists x)
   pub next : Placed lists mid rest more (next_of f x) behind
   pub jump : Placed mid new more kept (jump_of f x) behind
 
 pub turned : (f : Func) (lists mid new : Lists) (pending rest more kept : List ℕ) (x : ℕ) (behind : List ℕ)
-    → Turn f lists mid new pending rest more kept x behind → Spreading f new kept
+    → Turn f lists mid new pending rest more kept x behind → AreSpreading f new kept
 turned f lists mid new pending rest more kept x behind t =
     let s = t.spreading in
     let o = taken f (marks lists) pending rest x t.taken_from s.searching in
@@ -213,26 +213,26 @@ turned f lists mid new pending rest more kept x behind t =
     }
 
 pub taken_inside : (f : Func) (lists : Lists) (pending rest : List ℕ) (x : ℕ) → pending ≡ rest ++ x ∷ []
-    → Spreading f lists pending → (x < length f.items) × (length lists ≡ length f.items)
+    → AreSpreading f lists pending → (x < length f.items) × (length lists ≡ length f.items)
 taken_inside f lists pending rest x e s =
     let o = taken f (marks lists) pending rest x e s.searching in (o.known, sym (length-map lists is_some) ∙ o.count)
 
 pub spread_begun : (f : Func) (lists new : Lists) (pending kept : List ℕ) → length lists ≡ length f.items → 0 < length f.items
-    → ((i : ℕ) → get_or lists i None ≡ None) → pending ≡ [] → Placed lists new pending kept 0 [] → Spreading f new kept
+    → ((i : ℕ) → get_or lists i None ≡ None) → pending ≡ [] → Placed lists new pending kept 0 [] → AreSpreading f new kept
 spread_begun f lists new pending kept count some clear none placed =
     let n = length-map lists is_some in
     let no_list : (i : ℕ) (list : List ℕ) → get_or lists i None ≡ Some list → ⊥ = λ i list e. let w : None ≡ Some list = sym (clear i) ∙ e in absurd cc in
     record {
       searching = begun f (marks lists) (marks new) pending kept (n ∙ count) (omega (arith, n, count, some))
           (λ i l. mark_at lists i ∙ ap is_some (clear i)) none (visits lists new pending kept 0 [] placed);
-      true_lists = λ g same right. placed_lists (λ i list. list ≡ held_at g i) lists new pending kept 0 [] placed (λ _. sym (held_first g right))
+      true_lists = λ g same right. placed_lists (λ i list. list ≡ held_list_at g i) lists new pending kept 0 [] placed (λ _. sym (held_first g right))
           (λ i list e. absurd (no_list i list e));
       resources = λ config app ops. placed_lists (λ i list. All (IsResource config) list) lists new pending kept 0 [] placed (λ _. all_none (IsResource config))
           (λ i list e. absurd (no_list i list e));
     }
 
 -- where nothing is kept any more, all that is reached has its list
-pub spread_done : (f : Func) (lists : Lists) (pending : List ℕ) → length pending ≡ 0 → Spreading f lists pending → AreLists f lists
+pub spread_done : (f : Func) (lists : Lists) (pending : List ℕ) → length pending ≡ 0 → AreSpreading f lists pending → AreLists f lists
 spread_done f lists pending none s = record {
   count = sym (length-map lists is_some) ∙ s.searching.count;
   reached = λ i l r. (ended f (marks lists) pending none s.searching i).1 r;

@@ -4,7 +4,7 @@ use Rattle.sloth_base.specs.declared.config.Config.{Config}
 use Rattle.sloth_base.specs.declared.app.App.{App}
 use Rattle.sloth_base.specs.declared.app.Func.{Func}
 use Rattle.sloth_base.specs.declared.app.Label.{Label}
-use Rattle.sloth_base.specs.Named.{missing}
+use Rattle.sloth_base.specs.Named.{no_function}
 use Rattle.code_rules.specs.AppRange.{IsResource}
 use Rattle.task_verify.specs.Cases.{AreOps}
 use Rattle.held_lists.specs.Filling.{bare_func, IsClear}
@@ -16,7 +16,7 @@ HasResourceLists config f = All (λ (l : Label). All (IsResource config) l.holds
 
 -- so it is in each of these bodies
 abbrev pub HaveTheirLabels : List Func → Type 0
-HaveTheirLabels fs = (b : ℕ) → b < length fs → HasItsLabels (get_or fs b missing)
+HaveTheirLabels fs = (b : ℕ) → b < length fs → HasItsLabels (get_or fs b no_function)
 
 -- g is f with lists of resources; if f has right lists at all, they are those of g
 pub record IsBodyFilling (f g : Func) : Type 0 where
@@ -28,4 +28,4 @@ pub record IsBodyFilling (f g : Func) : Type 0 where
 -- so it is of each of these bodies
 pub record AreBodyFillings (fs gs : List Func) : Type 0 where
   pub count : length gs ≡ length fs
-  pub each : (b : ℕ) → b < length fs → IsBodyFilling (get_or fs b missing) (get_or gs b missing)
+  pub each : (b : ℕ) → b < length fs → IsBodyFilling (get_or fs b no_function) (get_or gs b no_function)

@@ -9,8 +9,8 @@ use Rattle.sloth_base.specs.declared.app.Op.TheVariants as op
 use Rattle.sloth_base.specs.declared.service.Service.{Service}
 use Rattle.sloth_base.specs.declared.service.Service.TheVariants as service
 use Rattle.code_rules.specs.AppRange.{IsResource}
-use Rattle.code_rules.specs.Code.{is_in, without_last, held_at}
-use Rattle.task_verify.specs.Ways.{Reached, Marked, Searching}
+use Rattle.code_rules.specs.Code.{is_in, without_last, held_list_at}
+use Rattle.task_verify.specs.Ways.{IsReachedItem, IsMarked, IsMarking}
 use Rattle.task_verify.specs.Cases.{AreOps}
 use Rattle.held_lists.specs.Filling.{bare_func}
 use Rattle.held_lists.specs.RightLists.{HasRightLists}
@@ -52,7 +52,7 @@ Placed old new pending kept at held = MatchBool (is_some (get_or old at None))
 -- the lists are those that are held there, whatever right lists the labels have
 abbrev pub AreTrueLists : Func → Lists → Type 0
 AreTrueLists f lists =
-    (g : Func) → bare_func f ≡ bare_func g → HasRightLists g → (i : ℕ) (held : List ℕ) → get_or lists i None ≡ Some held → held ≡ held_at g i
+    (g : Func) → bare_func f ≡ bare_func g → HasRightLists g → (i : ℕ) (held : List ℕ) → get_or lists i None ≡ Some held → held ≡ held_list_at g i
 
 -- where the operations are in range, the lists are lists of resources
 abbrev pub AreResourceLists : Func → Lists → Type 0
@@ -60,15 +60,15 @@ AreResourceLists f lists =
     (config : Config) (app : App) → AreOps config app f → (i : ℕ) (held : List ℕ) → get_or lists i None ≡ Some held → All (IsResource config) held
 
 -- lists are spread so far
-pub record Spreading (f : Func) (lists : Lists) (pending : List ℕ) : Type 0 where
-  pub searching : Searching f (marks lists) pending
+pub record AreSpreading (f : Func) (lists : Lists) (pending : List ℕ) : Type 0 where
+  pub searching : IsMarking f (marks lists) pending
   pub true_lists : AreTrueLists f lists
   pub resources : AreResourceLists f lists
 
 -- lists for all places of a body that are reached
 pub record AreLists (f : Func) (lists : Lists) : Type 0 where
   pub count : length lists ≡ length f.items
-  pub reached : (i : ℕ) → i < length f.items → Reached f i → Marked (marks lists) i
+  pub reached : (i : ℕ) → i < length f.items → IsReachedItem f i → IsMarked (marks lists) i
   pub true_lists : AreTrueLists f lists
   pub resources : AreResourceLists f lists
 

@@ -1,10 +1,10 @@
 //! The held lists at the items of a body, spread along its ways.
-ghost use Rattle.std.specs.Prelude.{◌≡◌, ◌==◌, ℕ, ◌<◌, length, get_or, [], None, is_some, IfOk, OnOk};
+ghost use Rattle.std.specs.Prelude.{◌≡◌, ◌==◌, ℕ, ◌<◌, length, get_or, None, IfOk, OnOk};
 ghost use Rattle.std.specs.List.{list_any};
 ghost use Rattle.sloth_base.specs.Named.{item_of};
 ghost use Rattle.code_rules.specs.Code.{is_in};
 ghost use Rattle.held_lists.specs.RightLists.{HasItsLabels};
-ghost use Rattle.held_lists.specs.Spread.{list_behind, list_after, list_at, Placed, AreLists, Spreading};
+ghost use Rattle.held_lists.specs.Spread.{list_behind, list_after, list_at, Placed, AreLists, AreSpreading};
 
 use sloth_base::app::{Call, Func, Op};
 use sloth_base::list::List;
@@ -105,7 +105,7 @@ fn spread(
     pending: &mut Vec<usize>,
 ) -> Result<(), NoMemory>
     requires labels { HasItsLabels func.now }
-    requires spreading { Spreading func.now lists.old pending.old.items }
+    requires spreading { AreSpreading func.now lists.old pending.old.items }
     ensures { OnOk result (AreLists func.now lists.new) }
 {
     loop {

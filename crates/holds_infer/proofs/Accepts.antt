@@ -22,7 +22,7 @@ use Rattle.least_fault.specs.Search.{SomeFrom}
 use Rattle.least_fault.proofs.Nowhere.{case_false}
 use Rattle.std.specs.List.{flat_map}
 use Rattle.std.proofs.lemmas.List.Elements.{All-append, All-map}
-use Rattle.sloth_base.specs.Named.{missing}
+use Rattle.sloth_base.specs.Named.{no_function}
 use Rattle.code_rules.specs.AppRange.{IsResource, AppInRange}
 use Rattle.code_rules.specs.WellFormed.{WellFormed}
 use Rattle.text_pieces.specs.Bytes.{is_name}
@@ -45,7 +45,7 @@ use Rattle.asm_parse.proofs.Read.{IsRead}
 use Rattle.asm_parse.proofs.LinesRead.{all_read}
 use Rattle.sloth_source.specs.SourceText.{HasApp, SourceText}
 use Rattle.held_lists.specs.Filling.{bare_app, SameButLists}
-use Rattle.holds_infer.specs.Relabel.{func_holds, all_holds, resource_name, resource_names, relabel, AreInPlace}
+use Rattle.holds_infer.specs.Relabel.{func_holds, all_holds, resource_name, resource_names, relabeled_lines, AreInPlace}
 use Rattle.holds_infer.specs.FilledText.{filled_text}
 use Rattle.held_lists.proofs.Spreading.{all_none}
 use Rattle.holds_infer.proofs.Written.{AreWritten}
@@ -169,16 +169,16 @@ module _ (config : Config) (range : InRange config) (text : List ℕ) (before ap
   held_known : (k : ℕ) → All (IsResource config) (get_or (all_holds app) k [])
   held_known k = ⊎_elim (λ l. known k [] l) (λ l. subst (All (IsResource config)) (sym (get_or_past (all_holds app) k [] l)) (all_none (IsResource config))) (cases_lt k (length (all_holds app)))
 
-  out_lines : source_lines (filled_text text config app) ≡ relabel config (all_holds app) (source_lines text)
+  out_lines : source_lines (filled_text text config app) ≡ relabeled_lines config (all_holds app) (source_lines text)
   out_lines = text_filled config text app (λ k. written_names config range (get_or (all_holds app) k []) (held_known k)) (all_named (source_lines text) (all_read text lines_none))
 
   pub out_has_app : HasApp (filled_text text config app) config app
   out_has_app = record { no_fault = no_fault; says = says }
     where
-      lines_spared : NoFault (SourceFault (relabel config (all_holds app) (source_lines text)))
+      lines_spared : NoFault (SourceFault (relabeled_lines config (all_holds app) (source_lines text)))
       lines_spared = source_spared config (all_holds app) (source_lines text) lines_none
 
-      all_spared : NoFault (NameFault config (relabel config (all_holds app) (source_lines text)))
+      all_spared : NoFault (NameFault config (relabeled_lines config (all_holds app) (source_lines text)))
       all_spared = names_spared config (all_holds app) (source_lines text)
           (λ k. good_names config range (scope_of config (source_lines text) (bodies_of (source_lines text))) refl refl (get_or (all_holds app) k []) (held_known k)) names_none
 
@@ -202,7 +202,7 @@ out_accepted config text before app has filled whole known = record {
 
 -- ---- the lists of task code in range are lists of resources
 
-lists_known : (config : Config) (fs : List Func) → ((b : ℕ) → b < length fs → All (λ (l : Label). All (IsResource config) l.holds) (get_or fs b missing).labels)
+lists_known : (config : Config) (fs : List Func) → ((b : ℕ) → b < length fs → All (λ (l : Label). All (IsResource config) l.holds) (get_or fs b no_function).labels)
     → All (λ held. All (IsResource config) held) (flat_map func_holds fs)
 lists_known config [] h = all_none (λ held. All (IsResource config) held)
 lists_known config (f ∷ fs) h =
@@ -211,4 +211,4 @@ lists_known config (f ∷ fs) h =
     (lists_known config fs (λ b l. h (suc b) (omega (arith, l))))
 
 pub range_known : (config : Config) (app : App) → AppInRange config app → All (λ held. All (IsResource config) held) (all_holds app)
-range_known config app h = lists_known config app.funcs (λ b l k d n. ((h.bodies b missing l).labels k d n).holds)
+range_known config app h = lists_known config app.funcs (λ b l k d n. ((h.bodies b no_function l).labels k d n).holds)

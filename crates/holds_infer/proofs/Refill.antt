@@ -12,7 +12,7 @@ use Rattle.sloth_base.specs.declared.config.Config.{Config}
 use Rattle.sloth_base.specs.declared.app.App.{App}
 use Rattle.sloth_base.specs.declared.app.Func.{Func}
 use Rattle.sloth_base.specs.declared.app.Label.{Label}
-use Rattle.sloth_base.specs.Named.{nowhere}
+use Rattle.sloth_base.specs.Named.{no_label}
 use Rattle.code_rules.specs.AppRange.{IsResource}
 use Rattle.asm_lines.specs.declared.operands.Operand.TheVariants.{Name}
 use Rattle.asm_lines.specs.declared.source_line.SourceLine.{SourceLine}
@@ -26,7 +26,7 @@ use Rattle.asm_scopes.specs.Scopes.{scope_of, is_scheduler}
 use Rattle.asm_items.specs.Operations.{number_of, resource_number}
 use Rattle.asm_items.specs.Apps.{holds_of, label_holds, app_of}
 use Rattle.held_lists.specs.Filling.{bare_func, bare_app}
-use Rattle.holds_infer.specs.Relabel.{func_holds, all_holds, resource_name, resource_names, label_statement, first_list, other_lists, relabel, AreInPlace}
+use Rattle.holds_infer.specs.Relabel.{func_holds, all_holds, resource_name, resource_names, label_statement, first_list, other_lists, relabeled_lines, AreInPlace}
 use Rattle.held_lists.proofs.Bare.{body_same, count_same}
 use Rattle.holds_infer.proofs.Relabels.{relabel_fills, holds_are}
 
@@ -82,7 +82,7 @@ module _ (config : Config) (range : InRange config) (scope : Scope) (named : sco
 
   -- the lists of the labels' lines are these
   pub lists_back : (hs : List (List ℕ)) (ls : List SourceLine) → length hs ≡ length (filter is_label ls) → All (λ held. All (IsResource config) held) hs
-      → map (label_holds scope) (filter is_label (relabel config hs ls)) ≡ hs
+      → map (label_holds scope) (filter is_label (relabeled_lines config hs ls)) ≡ hs
   lists_back [] [] n h = refl
   lists_back (x ∷ hs) [] n h = absurd (omega (arith, n))
   lists_back hs (l ∷ ls) n h = by (is_label l) refl hs n h (λ xs c k. lists_back xs ls c k)
@@ -90,15 +90,15 @@ module _ (config : Config) (range : InRange config) (scope : Scope) (named : sco
       by : (b : Bool) → is_label l ≡ b → (hs : List (List ℕ)) → length hs ≡ length (cond (is_label l) (l ∷ filter is_label ls) (filter is_label ls))
           → All (λ held. All (IsResource config) held) hs
           → ((xs : List (List ℕ)) → length xs ≡ length (filter is_label ls) → All (λ held. All (IsResource config) held) xs
-          → map (label_holds scope) (filter is_label (relabel config xs ls)) ≡ xs)
-          → map (label_holds scope) (filter is_label (cond b (label_statement (name_of l) (resource_names config (first_list hs)) ∷ relabel config (other_lists hs) ls) (l ∷ relabel config hs ls))) ≡ hs
+          → map (label_holds scope) (filter is_label (relabeled_lines config xs ls)) ≡ xs)
+          → map (label_holds scope) (filter is_label (cond b (label_statement (name_of l) (resource_names config (first_list hs)) ∷ relabeled_lines config (other_lists hs) ls) (l ∷ relabeled_lines config hs ls))) ≡ hs
       by true e [] n h ih = let k = ap (λ b. length (cond b (l ∷ filter is_label ls) (filter is_label ls))) e in absurd (omega (arith, n, k))
       by true e (x ∷ hs) n h ih =
           let k = ap (λ b. length (cond b (l ∷ filter is_label ls) (filter is_label ls))) e in
-          ap (λ y. y ∷ map (label_holds scope) (filter is_label (relabel config hs ls))) (label_back (name_of l) x (h 0 x (omega arith)))
+          ap (λ y. y ∷ map (label_holds scope) (filter is_label (relabeled_lines config hs ls))) (label_back (name_of l) x (h 0 x (omega arith)))
           ∙ ap (λ ys. x ∷ ys) (ih hs (omega (arith, n, k)) (λ i d less. h (suc i) d (omega (arith, less))))
       by false e hs n h ih =
-          ap (λ b. map (label_holds scope) (cond b (l ∷ filter is_label (relabel config hs ls)) (filter is_label (relabel config hs ls)))) e
+          ap (λ b. map (label_holds scope) (cond b (l ∷ filter is_label (relabeled_lines config hs ls)) (filter is_label (relabeled_lines config hs ls)))) e
           ∙ ih hs (n ∙ ap (λ b. length (cond b (l ∷ filter is_label ls) (filter is_label ls))) e) h
 
 label_place : (inside : Bool) (l : SourceLine) → is_label l ≡ true → (names : List (List ℕ))
@@ -107,15 +107,15 @@ label_place inside (Statement m.Label os) e names = (refl, refl)
 label_place inside _ e names = absurd (false≢true e)
 
 -- relabelled lines stand where the lines stood
-pub in_place : (config : Config) (inside : Bool) (hs : List (List ℕ)) (ls : List SourceLine) → AreInPlace inside ls → AreInPlace inside (relabel config hs ls)
+pub in_place : (config : Config) (inside : Bool) (hs : List (List ℕ)) (ls : List SourceLine) → AreInPlace inside ls → AreInPlace inside (relabeled_lines config hs ls)
 in_place config inside hs [] h = tt
 in_place config inside hs (l ∷ ls) h = by (is_label l) refl (in_place config (after_line inside l) (other_lists hs) ls h.1) (in_place config (after_line inside l) hs ls h.1)
   where
-    by : (b : Bool) → is_label l ≡ b → AreInPlace (after_line inside l) (relabel config (other_lists hs) ls) → AreInPlace (after_line inside l) (relabel config hs ls)
-        → AreInPlace inside (cond b (label_statement (name_of l) (resource_names config (first_list hs)) ∷ relabel config (other_lists hs) ls) (l ∷ relabel config hs ls))
+    by : (b : Bool) → is_label l ≡ b → AreInPlace (after_line inside l) (relabeled_lines config (other_lists hs) ls) → AreInPlace (after_line inside l) (relabeled_lines config hs ls)
+        → AreInPlace inside (cond b (label_statement (name_of l) (resource_names config (first_list hs)) ∷ relabeled_lines config (other_lists hs) ls) (l ∷ relabeled_lines config hs ls))
     by true e one two =
         let w = label_place inside l e (resource_names config (first_list hs)) in
-        (w.0 ∙ h.0, subst (λ (b : Bool). AreInPlace b (relabel config (other_lists hs) ls)) (sym w.1) one)
+        (w.0 ∙ h.0, subst (λ (b : Bool). AreInPlace b (relabeled_lines config (other_lists hs) ls)) (sym w.1) one)
     by false e one two = (h.0, two)
 
 -- ---- task code is known by its lists
@@ -129,8 +129,8 @@ split_lists xs ys us vs n e = (
 func_by_lists : (f g : Func) → bare_func f ≡ bare_func g → func_holds f ≡ func_holds g → f ≡ g
 func_by_lists f g e h = body_same f g e (λ k l.
     let m : k < length g.labels = let n = count_same f g e in omega (arith, n, l) in
-    sym (get_or-map (λ (x : Label). x.holds) f.labels k nowhere [] l) ∙ ap (λ (xs : List (List ℕ)). get_or xs k []) h
-    ∙ get_or-map (λ (x : Label). x.holds) g.labels k nowhere [] m)
+    sym (get_or-map (λ (x : Label). x.holds) f.labels k no_label [] l) ∙ ap (λ (xs : List (List ℕ)). get_or xs k []) h
+    ∙ get_or-map (λ (x : Label). x.holds) g.labels k no_label [] m)
 
 funcs_by_lists : (fs gs : List Func) → map bare_func fs ≡ map bare_func gs → flat_map func_holds fs ≡ flat_map func_holds gs → fs ≡ gs
 funcs_by_lists [] [] e h = refl
@@ -166,10 +166,10 @@ count_lists (f ∷ fs) (g ∷ gs) e =
 
 -- the lines that get the lists of this task code say this task code
 pub relabelled_app : (config : Config) → InRange config → (ls : List SourceLine) → AreInPlace false ls → (app : App) → bare_app (app_of config ls) ≡ bare_app app
-    → All (λ held. All (IsResource config) held) (all_holds app) → app_of config (relabel config (all_holds app) ls) ≡ app
+    → All (λ held. All (IsResource config) held) (all_holds app) → app_of config (relabeled_lines config (all_holds app) ls) ≡ app
 relabelled_app config range ls placed app filled known =
     let hs = all_holds app in
-    let ms = relabel config hs ls in
+    let ms = relabeled_lines config hs ls in
     let count : length hs ≡ length (filter is_label ls) =
     sym (count_lists (app_of config ls).funcs app.funcs (ap (λ (x : App). x.funcs) filled))
     ∙ ap length (holds_are config ls placed)

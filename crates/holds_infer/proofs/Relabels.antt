@@ -20,7 +20,7 @@ use Rattle.asm_scopes.specs.Scopes.{scope_of}
 use Rattle.asm_items.specs.Operations.{op_of}
 use Rattle.asm_items.specs.Apps.{item_by, item_of, items_from, label_of, label_holds, labels_from, count_op, body_task, func_of, symbol_of, app_of}
 use Rattle.held_lists.specs.Filling.{bare_label, bare_func, bare_app}
-use Rattle.holds_infer.specs.Relabel.{func_holds, all_holds, label_statement, first_list, other_lists, resource_names, relabel, AreInPlace}
+use Rattle.holds_infer.specs.Relabel.{func_holds, all_holds, label_statement, first_list, other_lists, resource_names, relabeled_lines, AreInPlace}
 
 -- ---- lines without the resources of their labels
 
@@ -188,21 +188,21 @@ pub strip_statement : (l : SourceLine) (names : List (List ℕ)) → is_label l 
 strip_statement (Statement m.Label os) names e = refl
 strip_statement _ names e = absurd (false≢true e)
 
-pub strip_relabel : (config : Config) (hs : List (List ℕ)) (ls : List SourceLine) → strip_all (relabel config hs ls) ≡ strip_all ls
+pub strip_relabel : (config : Config) (hs : List (List ℕ)) (ls : List SourceLine) → strip_all (relabeled_lines config hs ls) ≡ strip_all ls
 strip_relabel config hs [] = refl
 strip_relabel config hs (l ∷ ls) = by (is_label l) refl (strip_relabel config (other_lists hs) ls) (strip_relabel config hs ls)
   where
-    by : (b : Bool) → is_label l ≡ b → strip_all (relabel config (other_lists hs) ls) ≡ strip_all ls → strip_all (relabel config hs ls) ≡ strip_all ls
-        → strip_all (cond b (label_statement (name_of l) (resource_names config (first_list hs)) ∷ relabel config (other_lists hs) ls) (l ∷ relabel config hs ls)) ≡ strip l ∷ strip_all ls
+    by : (b : Bool) → is_label l ≡ b → strip_all (relabeled_lines config (other_lists hs) ls) ≡ strip_all ls → strip_all (relabeled_lines config hs ls) ≡ strip_all ls
+        → strip_all (cond b (label_statement (name_of l) (resource_names config (first_list hs)) ∷ relabeled_lines config (other_lists hs) ls) (l ∷ relabeled_lines config hs ls)) ≡ strip l ∷ strip_all ls
     by true e one two =
-        ap (λ x. x ∷ strip_all (relabel config (other_lists hs) ls)) (strip_statement l (resource_names config (first_list hs)) e)
+        ap (λ x. x ∷ strip_all (relabeled_lines config (other_lists hs) ls)) (strip_statement l (resource_names config (first_list hs)) e)
         ∙ ap (λ x. strip l ∷ x) one
     by false e one two = ap (λ x. strip l ∷ x) two
 
 -- the core: other lists at the labels change the lists of the task code alone
-pub relabel_fills : (config : Config) (hs : List (List ℕ)) (ls : List SourceLine) → bare_app (app_of config (relabel config hs ls)) ≡ bare_app (app_of config ls)
+pub relabel_fills : (config : Config) (hs : List (List ℕ)) (ls : List SourceLine) → bare_app (app_of config (relabeled_lines config hs ls)) ≡ bare_app (app_of config ls)
 relabel_fills config hs ls =
-    sym (stripped_app config (relabel config hs ls)) ∙ ap (λ x. bare_app (app_of config x)) (strip_relabel config hs ls) ∙ stripped_app config ls
+    sym (stripped_app config (relabeled_lines config hs ls)) ∙ ap (λ x. bare_app (app_of config x)) (strip_relabel config hs ls) ∙ stripped_app config ls
 
 -- ---- the lists of the task code are those of the lines that are labels
 

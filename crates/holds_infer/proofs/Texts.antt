@@ -17,7 +17,7 @@ use Rattle.asm_lines.specs.SourceLines.{source_line}
 use Rattle.asm_lines.specs.Faults.{source_lines}
 use Rattle.asm_lines.proofs.Cuts.{has_in, has_here, last_is, but_last, ends_there}
 use Rattle.asm_scopes.specs.Said.{is_label, name_of}
-use Rattle.holds_infer.specs.Relabel.{all_holds, resource_names, first_list, other_lists, label_statement, relabel}
+use Rattle.holds_infer.specs.Relabel.{all_holds, resource_names, first_list, other_lists, label_statement, relabeled_lines}
 use Rattle.holds_infer.specs.FilledText.{label_text, line_end, lists_behind, filled_parts, filled_text}
 use Rattle.holds_infer.proofs.Written.{AreWritten, text_lacks, label_read}
 
@@ -148,15 +148,15 @@ module _ (config : Config) where
 
   -- the lines of the parts with lists
   lines_filled : (hs ps : List (List ℕ)) → AreKnown config hs → AreNamed (map source_line (without_returns ps))
-      → map source_line (without_returns (filled_parts config hs ps)) ≡ relabel config hs (map source_line (without_returns ps))
+      → map source_line (without_returns (filled_parts config hs ps)) ≡ relabeled_lines config hs (map source_line (without_returns ps))
   lines_filled hs [] k n = refl
   lines_filled hs (p ∷ ps) k n = by (is_label (line ps p)) refl (λ xs w. lines_filled xs ps w n.1)
     where
       by : (b : Bool) → is_label (line ps p) ≡ b
-          → ((xs : List (List ℕ)) → AreKnown config xs → map source_line (without_returns (filled_parts config xs ps)) ≡ relabel config xs (map source_line (without_returns ps)))
+          → ((xs : List (List ℕ)) → AreKnown config xs → map source_line (without_returns (filled_parts config xs ps)) ≡ relabeled_lines config xs (map source_line (without_returns ps)))
           → map source_line (without_returns (filled_by b hs p ps))
-          ≡ cond b (label_statement (name_of (line ps p)) (resource_names config (first_list hs)) ∷ relabel config (other_lists hs) (map source_line (without_returns ps)))
-          (line ps p ∷ relabel config hs (map source_line (without_returns ps)))
+          ≡ cond b (label_statement (name_of (line ps p)) (resource_names config (first_list hs)) ∷ relabeled_lines config (other_lists hs) (map source_line (without_returns ps)))
+          (line ps p ∷ relabeled_lines config hs (map source_line (without_returns ps)))
       by true e ih =
           let t = label hs (line ps p) in
           let w = first_known config hs k in
@@ -172,7 +172,7 @@ module _ (config : Config) where
 
 -- the text with the lists says the lines with the lists
 pub text_filled : (config : Config) (text : List ℕ) (app : App) → AreKnown config (all_holds app) → AreNamed (source_lines text)
-    → source_lines (filled_text text config app) ≡ relabel config (all_holds app) (source_lines text)
+    → source_lines (filled_text text config app) ≡ relabeled_lines config (all_holds app) (source_lines text)
 unfolding filled_text lines
 text_filled config text app k n =
     let hs = all_holds app in

@@ -14,7 +14,7 @@ use Rattle.asm_lines.specs.Bytes.{is_shown, trim}
 use Rattle.asm_lines.specs.Table.{mnemonic_of, alu_of, imm_of, shift_of, load_of, store_of, branch_of, plain_of}
 use Rattle.asm_lines.specs.Operands.{before}
 use Rattle.asm_lines.specs.SourceLines.{source_line, statement_of, known_statement, read_operands, has_empty}
-use Rattle.asm_lines.specs.Grammar.{starts_bare, Bare, IsTrimmed, is_whole, IsOperands, is_last, is_more, is_something, IsShape}
+use Rattle.asm_lines.specs.Grammar.{starts_bare, HasBareEnds, IsTrimmed, is_whole, IsOperands, is_last, is_more, is_something, IsShape}
 use Rattle.asm_lines.proofs.Cuts.{lacks, all_weaker}
 use Rattle.asm_lines.proofs.Shapes.{remains_made, shape_made}
 use Rattle.asm_lines.proofs.PlacesMade.{name_bare, end_on}
@@ -74,7 +74,7 @@ ends a name (n ∷ ns) h w =
 
 -- ---- the parts of a line
 
-untrimmed : (t : List ℕ) → Bare t → IsTrimmed t t
+untrimmed : (t : List ℕ) → HasBareEnds t → IsTrimmed t t
 untrimmed t b = record { before = []; behind = []; blanks_before = refl; blanks_behind = refl; text = sym (append-nil t); bare = b }
 
 behind_blank : (n : List ℕ) → is_name n ≡ true → IsTrimmed (32 ∷ n) n
@@ -122,7 +122,7 @@ pub label_read : (name : List ℕ) (ns : List (List ℕ)) → is_name name ≡ t
 unfolding source_line
 label_read name ns h w =
     let t = label_text name ns in
-    let bare : Bare t = record { front = refl; end = ends (codes "label ") name ns h w } in
+    let bare : HasBareEnds t = record { front = refl; end = ends (codes "label ") name ns h w } in
     let kept : trim (before 35 t) ≡ t = remains_made t t (is_whole t t (text_lacks 35 refl name ns h w) (untrimmed t bare)) in
     ap (λ x. cond (length x == 0) Empty (statement_of x)) kept
     ∙ ap (λ b. cond b Empty (statement_of t)) (not_empty t (omega arith))

@@ -4,7 +4,7 @@ use Rattle.sloth_base.specs.declared.config.Config.{Config}
 use Rattle.sloth_base.specs.declared.app.App.{App}
 use Rattle.sloth_base.specs.declared.refusal.BuildError.{BuildError}
 use Rattle.sloth_base.specs.declared.refusal.BuildError.TheVariants as build
-use Rattle.sloth_source.specs.Texts.{Accepted}
+use Rattle.sloth_source.specs.Texts.{AreAccepted}
 use Rattle.sloth_source.specs.Ranked.{HasRanks, EarlyRefusal}
 use Rattle.held_lists.specs.Filling.{IsFilling}
 use Rattle.held_lists.specs.declared.inference.InferError.{InferError}
@@ -21,7 +21,7 @@ pub record IsFilledSource (oil src out : List ℕ) : Type 0 where
   pub has_ranks : HasRanks oil src config before
   pub filling : IsFilling config before app
   pub text : out ≡ filled_text src config app
-  pub accepted : Accepted oil out config app
+  pub accepted : AreAccepted oil out config app
 
 -- no choice of lists keeps every rule
 pub record HasNoLists (oil src : List ℕ) : Type 0 where

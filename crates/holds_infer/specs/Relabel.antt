@@ -47,12 +47,12 @@ other_lists [] = []
 other_lists (held ∷ rest) = rest
 
 -- the lines, with these lists at the labels in turn
-abbrev pub relabel : Config → List (List ℕ) → List SourceLine → List SourceLine
-relabel config lists [] = []
-relabel config lists (line ∷ lines) =
+abbrev pub relabeled_lines : Config → List (List ℕ) → List SourceLine → List SourceLine
+relabeled_lines config lists [] = []
+relabeled_lines config lists (line ∷ lines) =
     if is_label line
-    then label_statement (name_of line) (resource_names config (first_list lists)) ∷ relabel config (other_lists lists) lines
-    else line ∷ relabel config lists lines
+    then label_statement (name_of line) (resource_names config (first_list lists)) ∷ relabeled_lines config (other_lists lists) lines
+    else line ∷ relabeled_lines config lists lines
 
 -- the lines stand where they may: inside a body what belongs there, and outside what belongs there
 abbrev pub AreInPlace : Bool → List SourceLine → Type 0

@@ -1,7 +1,7 @@
 //! Task source with the lists of task code at its labels.
 ghost use Rattle.std.specs.Prelude.{◌≡◌, ◌++◌, ◌+◌, ◌^◌, ◌<◌, [], ◌∷◌, cond, length, map, get_or, IfOk, OnOk};
 ghost use Rattle.std.specs.List.{join_with_byte};
-ghost use Rattle.text_pieces.specs.Names.{now};
+ghost use Rattle.text_pieces.specs.Names.{referent};
 ghost use Rattle.least_fault.specs.Order.{NoFault};
 ghost use Rattle.asm_lines.specs.Lines.{without_returns};
 ghost use Rattle.asm_lines.specs.SourceLines.{source_line};
@@ -27,7 +27,7 @@ use std::alloc::Global;
 use text_pieces::growth::push;
 
 fn push_lists<'a>(lists: &mut Vec<&'a [ResId]>, func: &'a Func) -> Result<(), NoMemory>
-    ensures { OnOk result (map now lists.new.items ≡ map now lists.old.items ++ func_holds func.now) }
+    ensures { OnOk result (map referent lists.new.items ≡ map referent lists.old.items ++ func_holds func.now) }
 {
     for label in func.labels.items() {
         push(lists, label.holds.items())?;
@@ -37,7 +37,7 @@ fn push_lists<'a>(lists: &mut Vec<&'a [ResId]>, func: &'a Func) -> Result<(), No
 
 // The lists of all labels, in the order of the text.
 fn lists_of<'a>(alloc: Global, app: &'a App) -> Result<Vec<&'a [ResId]>, NoMemory>
-    ensures { IfOk result (λ lists. map now lists.items ≡ all_holds app.now) }
+    ensures { IfOk result (λ lists. map referent lists.items ≡ all_holds app.now) }
 {
     let mut lists = Vec::new(alloc);
     for func in app.funcs.items() {
@@ -47,7 +47,7 @@ fn lists_of<'a>(alloc: Global, app: &'a App) -> Result<Vec<&'a [ResId]>, NoMemor
 }
 
 fn list_at<'a>(lists: &[&'a [ResId]], number: usize) -> &'a [ResId]
-    ensures { result.now ≡ get_or (map now lists.now) number [] }
+    ensures { result.now ≡ get_or (map referent lists.now) number [] }
 {
     match lists.get(number) {
         Some(list) => *list,
@@ -101,8 +101,8 @@ fn filled_parts(
     lines: &[SourceLine],
     parts: &[&[u8]],
 ) -> Result<Vec<u8>, NoMemory>
-    requires { lines.now ≡ map source_line (without_returns (map now parts.now)) }
-    ensures { IfOk result (λ out. out.items ≡ join_with_byte 10 (filled_parts config.now (map now lists.now) (map now parts.now))) }
+    requires { lines.now ≡ map source_line (without_returns (map referent parts.now)) }
+    ensures { IfOk result (λ out. out.items ≡ join_with_byte 10 (filled_parts config.now (map referent lists.now) (map referent parts.now))) }
 {
     let mut out = Vec::new(alloc);
     let mut number = 0;

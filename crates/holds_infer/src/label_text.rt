@@ -1,5 +1,5 @@
 //! Writes the line of a label.
-ghost use Rattle.std.specs.Prelude.{◌≡◌, ◌++◌, codes, IfOk, OnOk};
+ghost use Rattle.std.specs.Prelude.{◌≡◌, ◌++◌, codes, OnOk};
 ghost use Rattle.std.specs.List.{flat_map};
 ghost use Rattle.holds_infer.specs.Relabel.{resource_name, resource_names};
 ghost use Rattle.holds_infer.specs.FilledText.{label_text, line_end, filled_part};

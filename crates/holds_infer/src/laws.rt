@@ -7,7 +7,7 @@ ghost use Rattle.asm_lines.specs.declared.source_line.SourceLine.{SourceLine};
 ghost use Rattle.asm_items.specs.Apps.{app_of};
 ghost use Rattle.sloth_source.specs.SourceText.{HasApp, SourceText};
 ghost use Rattle.held_lists.specs.Filling.{SameButLists};
-ghost use Rattle.holds_infer.specs.Relabel.{relabel};
+ghost use Rattle.holds_infer.specs.Relabel.{relabeled_lines};
 ghost use Rattle.sloth_source.specs.Ranked.{EarlyRefusal};
 ghost use Rattle.sloth_base.specs.declared.refusal.Refusal.{Refusal};
 ghost use Rattle.holds_infer.specs.FilledText.{filled_text};
@@ -16,7 +16,7 @@ ghost use Rattle.holds_infer.specs.FilledSource.{IsFilledSource, HasNoLists};
 /// Other lists at the lines of labels change the lists of the labels alone.
 pub fn lists_alone()
     ensures { (config : Config) (lists : List (List ℕ)) (lines : List SourceLine) →
-        SameButLists (app_of config (relabel config lists lines)) (app_of config lines) }
+        SameButLists (app_of config (relabeled_lines config lists lines)) (app_of config lines) }
 {}
 
 /// A text with the lists of well-formed task code, which is its own but for the lists, says that task code and has no fault.

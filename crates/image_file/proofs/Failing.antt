@@ -10,11 +10,11 @@ use Rattle.image_file.specs.declared.header.Sizes.{Sizes}
 use Rattle.image_file.proofs.Parted.{body_of}
 use Rattle.image_file.specs.declared.fault.ImageFault.{ImageFault}
 use Rattle.image_file.specs.declared.fault.ImageFault.TheVariants as fault
-use Rattle.image_file.specs.declared.fault.ImageError.{ImageError}
-use Rattle.image_file.specs.declared.fault.ImageError.TheVariants as failure
+use Rattle.image_file.specs.declared.fault.FileError.{FileError}
+use Rattle.image_file.specs.declared.fault.FileError.TheVariants as failure
 
 -- names that are missing are a fault of the parts, where without them none stand there
-pub names_fail : (f : ImageError) (file : List ℕ) (at count place : ℕ) (s : Sizes)
+pub names_fail : (f : FileError ImageFault) (file : List ℕ) (at count place : ℕ) (s : Sizes)
     → (NoNames file at count → (p : Parts) (rest : List ℕ) → ¬ (PartsStand file place s p rest)) → NamesFail f file at count → PartsFail f file place s
 names_fail (failure.Fault fault.I1) file at count place s none h = absurd h
 names_fail (failure.Fault fault.I2) file at count place s none h = none h
@@ -24,7 +24,7 @@ names_fail (failure.Fault fault.I5) file at count place s none h = absurd h
 names_fail failure.Memory file at count place s none h = h
 
 -- parts that are missing behind the header are a fault of the file
-pub parts_fail : (f : ImageError) (file : List ℕ) (s : Sizes) → HasMagic file → HasSizes file s → PartsFail f file (header_size s.counters) s → Fails f file
+pub parts_fail : (f : FileError ImageFault) (file : List ℕ) (s : Sizes) → HasMagic file → HasSizes file s → PartsFail f file (header_size s.counters) s → Fails f file
 parts_fail (failure.Fault fault.I1) file s magic has h = absurd h
 parts_fail (failure.Fault fault.I2) file s magic has h = (magic, λ p rest parts. h p rest (body_of file s p rest has parts))
 parts_fail (failure.Fault fault.I3) file s magic has h = absurd h

@@ -7,8 +7,9 @@ use Rattle.image_file.specs.ImageText.{mark_bytes, name_bytes}
 use Rattle.image_file.specs.Parts.{Parts, HasParts, PartsStand, SizesFit, header_before, header_size}
 use Rattle.image_file.specs.declared.header.Sizes.{Sizes}
 use Rattle.image_file.specs.declared.fault.ImageFault.TheVariants as fault
-use Rattle.image_file.specs.declared.fault.ImageError.{ImageError}
-use Rattle.image_file.specs.declared.fault.ImageError.TheVariants as failure
+use Rattle.image_file.specs.declared.fault.ImageFault.{ImageFault}
+use Rattle.image_file.specs.declared.fault.FileError.{FileError}
+use Rattle.image_file.specs.declared.fault.FileError.TheVariants as failure
 
 -- the header holds these numbers, within the limits
 pub record HasSizes (file : List ℕ) (sizes : Sizes) : Type 0 where
@@ -26,7 +27,7 @@ abbrev pub NoNames : List ℕ → ℕ → ℕ → Type 0
 NoNames file at count = (names : List (List ℕ)) (rest : List ℕ) → length names ≡ count → drop at file ≢ flat_map name_bytes names ++ rest
 
 -- what an error says of so many names from this place on
-abbrev pub NamesFail : ImageError → List ℕ → ℕ → ℕ → Type 0
+abbrev pub NamesFail : FileError ImageFault → List ℕ → ℕ → ℕ → Type 0
 NamesFail (failure.Fault fault.I1) file at count = ⊥
 NamesFail (failure.Fault fault.I2) file at count = NoNames file at count
 NamesFail (failure.Fault fault.I3) file at count = ⊥
@@ -52,7 +53,7 @@ pub record NamedPartsStand (file : List ℕ) (at : ℕ) (sizes : Sizes) (tasks f
   pub long : memory + sizes.memory + sizes.marks * 12 ≤ length file
 
 -- what an error says of parts of these numbers at a place: the fault, that none stand there
-abbrev pub PartsFail : ImageError → List ℕ → ℕ → Sizes → Type 0
+abbrev pub PartsFail : FileError ImageFault → List ℕ → ℕ → Sizes → Type 0
 PartsFail (failure.Fault fault.I1) file at sizes = ⊥
 PartsFail (failure.Fault fault.I2) file at sizes = (parts : Parts) (rest : List ℕ) → ¬ (PartsStand file at sizes parts rest)
 PartsFail (failure.Fault fault.I3) file at sizes = ⊥
@@ -85,7 +86,7 @@ NoMarks file at count services funcs size = (marks : List Mark) (rest : List ℕ
     → drop at file ≢ flat_map mark_bytes marks ++ rest
 
 -- what an error says of so many marks from this place on
-abbrev pub MarksFail : ImageError → List ℕ → ℕ → ℕ → ℕ → ℕ → ℕ → Type 0
+abbrev pub MarksFail : FileError ImageFault → List ℕ → ℕ → ℕ → ℕ → ℕ → ℕ → Type 0
 MarksFail (failure.Fault fault.I1) file at count services funcs size = ⊥
 MarksFail (failure.Fault fault.I2) file at count services funcs size = ⊥
 MarksFail (failure.Fault fault.I3) file at count services funcs size = NoMarks file at count services funcs size

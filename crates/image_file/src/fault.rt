@@ -1,6 +1,6 @@
 //! What may be wrong with an image file.
 ghost use Rattle.std.specs.Prelude.{◌≡◌};
-ghost use Rattle.image_file.specs.declared.fault.ImageError.TheVariants.{Fault, Memory};
+ghost use Rattle.image_file.specs.declared.fault.FileError.TheVariants.{Fault, Memory};
 
 use sloth_base::memory::NoMemory;
 use std::alloc::{AllocError, AllocFailed};
@@ -21,12 +21,15 @@ pub enum ImageFault {
     I5,
 }
 
-/// Why no image was read.
+/// Why no image was read: for one of these faults of the file, or for want of memory.
 #[derive(Clone, Copy, Debug, PartialEq, Eq)]
-pub enum ImageError {
-    Fault(ImageFault),
+pub enum FileError<F> {
+    Fault(F),
     Memory,
 }
+
+/// Why no image was read from an image file.
+pub type ImageError = FileError<ImageFault>;
 
 impl From<ImageFault> for ImageError {
     ghost from_gives = { λ fault e. e ≡ Fault fault };
@@ -36,26 +39,26 @@ impl From<ImageFault> for ImageError {
     }
 }
 
-impl From<NoMemory> for ImageError {
+impl<F> From<NoMemory> for FileError<F> {
     ghost from_gives = { λ _ e. e ≡ Memory };
 
-    fn from(_: NoMemory) -> ImageError {
-        ImageError::Memory
+    fn from(_: NoMemory) -> FileError<F> {
+        FileError::Memory
     }
 }
 
-impl From<AllocError> for ImageError {
+impl<F> From<AllocError> for FileError<F> {
     ghost from_gives = { λ _ e. e ≡ Memory };
 
-    fn from(_: AllocError) -> ImageError {
-        ImageError::Memory
+    fn from(_: AllocError) -> FileError<F> {
+        FileError::Memory
     }
 }
 
-impl<T: Drop> From<AllocFailed<T>> for ImageError {
+impl<T: Drop, F> From<AllocFailed<T>> for FileError<F> {
     ghost from_gives = { λ _ e. e ≡ Memory };
 
-    fn from(_: AllocFailed<T>) -> ImageError {
-        ImageError::Memory
+    fn from(_: AllocFailed<T>) -> FileError<F> {
+        FileError::Memory
     }
 }

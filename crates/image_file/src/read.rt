@@ -1,12 +1,12 @@
 //! Reading an image.
 ghost use Rattle.std.specs.Prelude.{◌⊎◌, ◌≡◌, ◌≤◌, IfOk, IfErr, length};
 ghost use Rattle.image_file.specs.ImageText.{ImageText};
-ghost use Rattle.image_file.specs.Faults.{Fails, Faulty, HasMagic};
+ghost use Rattle.image_file.specs.Faults.{Fails, IsFirstImageFault, HasMagic};
 ghost use Rattle.image_file.specs.Parts.{SizesFit};
 ghost use Rattle.image_file.specs.Reading.{HasOutline, HasSizes, NamedPartsStand, PartsFail};
 ghost use Rattle.sloth_base.specs.declared.image.Image.{Image as ImageOf};
 ghost use Rattle.image_file.specs.declared.fault.ImageFault.{ImageFault as FaultOf};
-ghost use Rattle.image_file.specs.declared.fault.ImageError.TheVariants as failed_by;
+ghost use Rattle.image_file.specs.declared.fault.FileError.TheVariants as failed_by;
 
 use crate::fault::{ImageError, ImageFault};
 use crate::header::{Sizes, has_magic, read_sizes};
@@ -22,9 +22,9 @@ pub fn read_image(alloc: Global, bytes: &[u8]) -> Result<Image, ImageError>
     ensures read { IfOk result (λ image. ImageText bytes.now image) }
     ensures failed { IfErr result (λ failure. Fails failure bytes.now) }
     ensures refuses_no_image { IfErr result (λ failure. (image : ImageOf) → ImageText bytes.now image → failure ≡ failed_by.Memory) }
-    ensures tells_the_fault { IfErr result (λ failure. (fault : FaultOf) → Faulty fault bytes.now →
+    ensures tells_the_fault { IfErr result (λ failure. (fault : FaultOf) → IsFirstImageFault fault bytes.now →
         (failure ≡ failed_by.Fault fault) ⊎ (failure ≡ failed_by.Memory)) }
-    ensures reads_no_fault { IfOk result (λ image. (fault : FaultOf) → ¬ (Faulty fault bytes.now)) }
+    ensures reads_no_fault { IfOk result (λ image. (fault : FaultOf) → ¬ (IsFirstImageFault fault bytes.now)) }
 {
     read_whole(alloc, bytes)
 }

@@ -8,7 +8,7 @@ use Rattle.std.proofs.lemmas.List.Sums.{sum-map}
 use Rattle.std.proofs.lemmas.List.Elements.{All-nil, All-cons, All-append, Contains-get_or, Contains-append_left, Contains-append_right}
 use Rattle.std.proofs.lemmas.Option.{same_Some}
 use Rattle.sloth_base.specs.ImageRange.{AreFields, service_limit}
-use Rattle.sloth_base.specs.Named.{function, missing, no_item, operation}
+use Rattle.sloth_base.specs.Named.{function, no_function, no_item, operation}
 use Rattle.sloth_base.proofs.Services.{of_code}
 use Rattle.sloth_base.specs.ServiceCodes.{code_of, service_of}
 use Rattle.sloth_base.specs.declared.app.App.{App}
@@ -39,9 +39,9 @@ use Rattle.vector_gen.specs.Idle.{Idles, idle_mark}
 use Rattle.vector_gen.specs.Vectors.{AreJumps}
 use Rattle.mem_map.proofs.Bounds.{before_all}
 use Rattle.mem_map.proofs.Wanting.{all_places}
-use Rattle.mem_map.specs.Plan.{code_bytes, code_end, code_extents, idle_bytes}
+use Rattle.mem_map.specs.Plan.{code_byte_count, code_end, code_extents, idle_bytes}
 use Rattle.mem_map.specs.Wanted.{wanted_blocks}
-use Rattle.sim_image.specs.Generated.{Has, HasCode, HasItemBlocks}
+use Rattle.sim_image.specs.Generated.{HasBlockWith, HasCode, HasItemBlocks}
 use Rattle.sim_image.specs.Rooms.{FitRooms, FitsRoom, FollowClosely}
 use Rattle.sim_image.proofs.Housed.{blocks_follow_closely}
 use Rattle.image_gen.specs.Gathered.{MayGenerate, IsGathered, IsInFormat, MarksInFormat}
@@ -51,7 +51,7 @@ use Rattle.sloth_link.proofs.ItemBlocks.{item_among, items_own}
 use Rattle.sloth_link.proofs.Joined.{front}
 use Rattle.image_gen.specs.Prologues.{Each, IsPrologue}
 use Rattle.image_gen.specs.Ticks.{IsTickBlock}
-use Rattle.image_gen.specs.Services.{AreServices, IsService, wanted_from}
+use Rattle.image_gen.specs.Services.{AreServices, IsService, wanted_services_from}
 use Rattle.image_gen.proofs.Called.{called_with, calls, in_marks}
 use Rattle.image_gen.proofs.Places.{code_found}
 use Rattle.sloth_link.proofs.Counting.{Located, few_items, located, block_at, length_blocks}
@@ -61,7 +61,7 @@ use Rattle.image_gen.proofs.Rooming.{none, plain, marked, prologues_fit, ticks_f
 -- ---- services by their numbers
 
 -- a wanted one is there
-found : (R : ℕ → Block → Type 0) (n : ℕ) (wanted : List Bool) (blocks : List Block) (k : ℕ) → get_or wanted k false ≡ true → AllZip R (wanted_from n wanted) blocks
+found : (R : ℕ → Block → Type 0) (n : ℕ) (wanted : List Bool) (blocks : List Block) (k : ℕ) → get_or wanted k false ≡ true → AllZip R (wanted_services_from n wanted) blocks
     → (block : Block) × Contains blocks block × R (n + k) block
 found R n [] blocks zero e h = absurd cc
 found R n [] blocks (suc k) e h = absurd cc
@@ -98,7 +98,7 @@ zip_all R P [] (y ∷ ys) f h = absurd h
 zip_all R P (x ∷ xs) [] f h = absurd h
 zip_all R P (x ∷ xs) (y ∷ ys) f h = All-cons P y ys (f x y h.0) (zip_all R P xs ys f h.1)
 
-wanted_long : (n : ℕ) (wanted : List Bool) → length (wanted_from n wanted) ≤ length wanted
+wanted_long : (n : ℕ) (wanted : List Bool) → length (wanted_services_from n wanted) ≤ length wanted
 wanted_long n [] = omega arith
 wanted_long n (true ∷ wanted) = let h = wanted_long (n + 1) wanted in omega (arith, h)
 wanted_long n (false ∷ wanted) = let h = wanted_long (n + 1) wanted in omega (arith, h)
@@ -137,7 +137,7 @@ module _ (config : Config) (app : App) (levels : Levels) (map : Map) (may : MayG
   -- those of services
   served_format : (served : List Block) → AreServices config levels map (wanted_blocks app) served → All (MarksInFormat config app) served
   served_format served serve = λ k d l.
-      let numbers : List ℕ = wanted_from 0 (wanted_blocks app) in
+      let numbers : List ℕ = wanted_services_from 0 (wanted_blocks app) in
       let long = AllZip-long (IsService config levels map) numbers served serve in
       let h = zip_at (IsService config levels map) numbers served k 0 d serve (omega (arith, l, long)) in
       let b : Block = get_or served k d in
@@ -200,7 +200,7 @@ module _ (config : Config) (app : App) (levels : Levels) (map : Map) (may : MayG
       (Contains-append_right starts (counted ++ (served ++ own)) b (Contains-append_right counted (served ++ own) b (Contains-append_right served own b c)))
 
   has_service : (func item : ℕ) (call : Call) → IsItem app func item → operation app func item ≡ op.Serve call
-      → Has all (block_address map.places call.service call.object)
+      → HasBlockWith all (block_address map.places call.service call.object)
       (opening (block_address map.places call.service call.object) (code_of call.service) ∷ further_marks call.service (block_address map.places call.service call.object))
       (ServesCall config call.service call.object levels)
   has_service func item call is e =
@@ -264,7 +264,7 @@ module _ (config : Config) (app : App) (levels : Levels) (map : Map) (may : MayG
       each_block (MarksAreOfItems app map.places) (without vectors made.vectors_made.marks_are) (without boot made.boot_made.marks_are) (with_one idle (idle_mark map.idle) made.idle_made.marks_are tt)
       (λ k d l. without (get_or starts k d) (made.each k d l).marks)
       (λ k d l. without (get_or counted k d) (made.each_tick k d l).marks)
-      (zip_all (IsService config levels map) (MarksAreOfItems app map.places) (wanted_from 0 wanted) served
+      (zip_all (IsService config levels map) (MarksAreOfItems app map.places) (wanted_services_from 0 wanted) served
       (λ n b h. subst (All (IsOwnMark app map.places)) (sym h.marks)
       (All-cons (IsOwnMark app map.places) (opening b.at (block_code n)) (further_marks h.service b.at) tt (by_further (IsOwnMark app map.places) h.service b.at tt))) made.serve)
       (subst (All (MarksAreOfItems app map.places)) (sym made.items) (items_own app map.places))
@@ -285,7 +285,7 @@ module _ (config : Config) (app : App) (levels : Levels) (map : Map) (may : MayG
       let word = may.planned.covers.items func index is in
       let few = few_items app (config, may.well_formed) func is.declared in
       let inside = is.inside in
-      let own = (may.well_formed.in_range.bodies func missing is.declared).items index no_item is.inside in
+      let own = (may.well_formed.in_range.bodies func no_function is.declared).items index no_item is.inside in
       one_mark (item_block app map.places func index) (item_mark app map.places func index) refl (
         (let even = word.2 in omega (arith, even)),
         fields_of config app (function app func) (operation app func index) (service_limit (length config.counters)) (length app.funcs) func index own is.declared (omega (arith, few, inside))
@@ -314,7 +314,7 @@ module _ (config : Config) (app : App) (levels : Levels) (map : Map) (may : MayG
       let few = may.well_formed.in_range.configuration.few_tasks in
       let numbers = all_places app in
       let wanted_few = wanted_long 0 wanted in
-      let served_long = AllZip-long (IsService config levels map) (wanted_from 0 wanted) served made.serve in
+      let served_long = AllZip-long (IsService config levels map) (wanted_services_from 0 wanted) served made.serve in
       let own_long : length own ≡ items_before app.funcs (length app.funcs) = ap length made.items ∙ length_blocks app map.places (length app.funcs) in
       let total = before_all app.funcs in
       let sum = sum-map (λ (f : Func). length f.items) app.funcs in
@@ -334,7 +334,7 @@ module _ (config : Config) (app : App) (levels : Levels) (map : Map) (may : MayG
       let is = may.planned.addresses.idle in
       let even = may.planned.zones.idle_aligned in
       let first = plain (record { base = 0x8000_0400; len = 128 }) vectors made.vectors_made.at (omega arith) refl (omega (arith, many)) made.vectors_made.marks_are in
-      let second = plain (record { base = 0x8000_0480; len = code_bytes may.planned.lengths.boot }) boot made.boot_made.at (omega arith) refl (omega (arith, few, told)) made.boot_made.marks_are in
+      let second = plain (record { base = 0x8000_0480; len = code_byte_count may.planned.lengths.boot }) boot made.boot_made.at (omega arith) refl (omega (arith, few, told)) made.boot_made.marks_are in
       let third = marked (record { base = map.idle; len = idle_bytes }) idle (idle_mark map.idle) made.idle_made.at (omega (arith, is)) even (omega (arith, word)) made.idle_made.marks_are
       (omega (arith, made.idle_made.at)) (omega (arith, made.idle_made.at, word)) in
       let rest = zip_append FitsRoom _ starts _ (counted ++ (served ++ own)) (prologues_fit config app levels map may starts made.count made.each)

@@ -1,7 +1,7 @@
 -- What items call has code that is generated.
 use Rattle.std.proofs.Common.{◌≡◌, ◌<◌, ◌≤◌, ◌==◌, ℕ, Bool, cond, true, false, length, get_or, sym, ap, ◌∙◌, subst, arith}
 use Rattle.std.proofs.lemmas.Bool.{ne_eqb}
-use Rattle.sloth_base.specs.Named.{function, missing, no_item, operation, undeclared_alarm}
+use Rattle.sloth_base.specs.Named.{function, no_function, no_item, operation, undeclared_alarm}
 use Rattle.sloth_base.specs.ConfigRange.{InRange}
 use Rattle.sloth_base.specs.ImageRange.{service_limit}
 use Rattle.sloth_base.specs.ServiceCodes.{code_of, service_of, object_kind}
@@ -44,7 +44,7 @@ has_code config range object.Alarm number h = h
 pub called_with : (config : Config) (app : App) → WellFormed config app → (func item : ℕ) (call : Call) → IsItem app func item
     → operation app func item ≡ op.Serve call → IsCalledWith config call.service call.object
 called_with config app well func item call is e =
-    let own = (well.in_range.bodies func missing is.declared).items item no_item is.inside in
+    let own = (well.in_range.bodies func no_function is.declared).items item no_item is.inside in
     let operands : AreOperands config call.service call.object call.mask = subst (IsOp config app (function app func)) e own in
     has_code config well.in_range.configuration (object_kind call.service) call.object operands.0
 

@@ -7,7 +7,7 @@ use Rattle.std.proofs.lemmas.List.{get_or-take, length-append, length-take-le}
 use Rattle.std.proofs.lemmas.List.Elements.{All-nil, All-cons}
 use Rattle.std.proofs.lemmas.Option.{get_or_from_slice_get, slice_get_within}
 use Rattle.std.proofs.Math.ListN.{get_or-map, length-map}
-use Rattle.sloth_base.specs.Named.{operation, missing}
+use Rattle.sloth_base.specs.Named.{operation, no_function}
 use Rattle.sloth_base.specs.Owners.{counter_line}
 use Rattle.sloth_base.specs.declared.app.App.{App}
 use Rattle.sloth_base.specs.declared.app.Func.{Func}
@@ -37,10 +37,10 @@ use Rattle.masked_code.specs.Kernel.{masking}
 use Rattle.sloth_base.specs.Arithmetic.{sum32}
 use Rattle.sloth_base.specs.Blocks.{block_count, block_code, block_object}
 use Rattle.mem_map.specs.declared.all_lengths.CodeLengths.{CodeLengths}
-use Rattle.mem_map.specs.Plan.{code_bytes, items_at, prologues_at, ticks_at, tick_starts, services_at, some_extents}
+use Rattle.mem_map.specs.Plan.{code_byte_count, items_at, prologues_at, ticks_at, tick_starts, services_at, some_extents}
 use Rattle.mem_map.specs.Run.{extents_of, starts}
 use Rattle.mem_map.specs.Wanted.{wanted_blocks}
-use Rattle.mem_map.specs.Zones.{nowhere}
+use Rattle.mem_map.specs.Zones.{no_extent}
 use Rattle.mem_map.proofs.Starts.{end_above, length_starts, stands}
 use Rattle.mem_map.proofs.Wanting.{all_places, at_place}
 use Rattle.sim_image.proofs.Fitting.{end_of_code}
@@ -51,7 +51,7 @@ use Rattle.image_gen.specs.Gathered.{MayGenerate}
 use Rattle.sloth_link.specs.Items.{item_block, item_blocks}
 use Rattle.image_gen.specs.Prologues.{Each, IsPrologue}
 use Rattle.image_gen.specs.Ticks.{IsTickBlock}
-use Rattle.image_gen.specs.Services.{IsService, wanted_from}
+use Rattle.image_gen.specs.Services.{IsService, wanted_services_from}
 use Rattle.sloth_link.proofs.Counting.{located, block_at, length_blocks}
 use Rattle.image_gen.proofs.Each.{zip_from}
 use Rattle.image_gen.proofs.Sizing.{size_of_item}
@@ -135,11 +135,11 @@ start_long : (config : Config) (app : App) (levels : Levels) (map : Map) (t : �
 start_long config app levels map t code size bodies e is =
     let long = length_is e.decl.extended t (start_level e.decl t levels) (first_item map.places e.body) (frame_at (slice_index map.tops t) e.func.frame_words) e.func.frame_words code e.enters in
     let decl : e.decl ≡ is.decl = same_decl e.decl is.decl (sym e.is_decl ∙ is.is_decl) in
-    let its = get_or_from_slice_get app.funcs e.body e.func missing e.is_func in
-    let other = get_or_from_slice_get app.funcs is.body is.func missing is.is_func in
+    let its = get_or_from_slice_get app.funcs e.body e.func no_function e.is_func in
+    let other = get_or_from_slice_get app.funcs is.body is.func no_function is.is_func in
     let body : e.body ≡ is.body = bodies.one t e.body is.body (slice_get_within app.funcs e.body e.func e.is_func, ap (λ (f : Func). f.task) its ∙ e.is_body)
     (slice_get_within app.funcs is.body is.func is.is_func, ap (λ (f : Func). f.task) other ∙ is.is_body) in
-    let func : e.func ≡ is.func = sym its ∙ ap (λ (k : ℕ). get_or app.funcs k missing) body ∙ other in
+    let func : e.func ≡ is.func = sym its ∙ ap (λ (k : ℕ). get_or app.funcs k no_function) body ∙ other in
     long ∙ ap (λ (d : TaskDecl). prologue_length d.extended e.func.frame_words) decl ∙ ap (λ (f : Func). prologue_length is.decl.extended f.frame_words) func ∙ sym is.is
 
 module _ (config : Config) (app : App) (levels : Levels) (map : Map) (may : MayGenerate config app levels map) where
@@ -150,46 +150,46 @@ module _ (config : Config) (app : App) (levels : Levels) (map : Map) (may : MayG
   lengths = may.planned.lengths
 
   prologue_room : (k : ℕ) (block : Block) → k < length config.tasks → IsPrologue config app levels map k block
-      → FitsRoom (record { base = slice_index map.handlers k; len = code_bytes (get_or lengths.prologues k 0) }) block
+      → FitsRoom (record { base = slice_index map.handlers k; len = code_byte_count (get_or lengths.prologues k 0) }) block
   prologue_room k block l p =
       let few = may.well_formed.in_range.configuration.few_tasks in
       let near = may.planned.reach k (omega (arith, l, few)) in
       let behind = near.1 in
       let long = start_long config app levels map k block.code (get_or lengths.prologues k 0) may.well_formed.in_range.tasks p.enters (may.planned.are_lengths.each_prologue k l) in
-      plain (record { base = slice_index map.handlers k; len = code_bytes (get_or lengths.prologues k 0) }) block p.at (omega (arith, behind)) near.0 (omega (arith, long)) p.marks
+      plain (record { base = slice_index map.handlers k; len = code_byte_count (get_or lengths.prologues k 0) }) block p.at (omega (arith, behind)) near.0 (omega (arith, long)) p.marks
 
   pub prologues_fit : (starts : List Block) → length starts ≡ length config.tasks → Each (IsPrologue config app levels map) starts
-      → FitRooms (extents_of (take (length config.tasks) map.handlers) (prelude.map code_bytes lengths.prologues)) starts
+      → FitRooms (extents_of (take (length config.tasks) map.handlers) (prelude.map code_byte_count lengths.prologues)) starts
   prologues_fit starts n each =
       let few = may.well_formed.in_range.configuration.few_tasks in
       let lines = may.planned.addresses.lines in
       let count = may.planned.are_lengths.prologues in
       let long = length-take-le (length config.tasks) map.handlers (omega (arith, few, lines)) in
-      let all = length-map lengths.prologues code_bytes in
-      let same : length (take (length config.tasks) map.handlers) ≡ length (prelude.map code_bytes lengths.prologues) = omega (arith, long, all, count) in
-      let rooms = extents_long (take (length config.tasks) map.handlers) (prelude.map code_bytes lengths.prologues) same in
-      zip_from FitsRoom (extents_of (take (length config.tasks) map.handlers) (prelude.map code_bytes lengths.prologues)) starts nowhere none (omega (arith, rooms, all, count, n))
+      let all = length-map lengths.prologues code_byte_count in
+      let same : length (take (length config.tasks) map.handlers) ≡ length (prelude.map code_byte_count lengths.prologues) = omega (arith, long, all, count) in
+      let rooms = extents_long (take (length config.tasks) map.handlers) (prelude.map code_byte_count lengths.prologues) same in
+      zip_from FitsRoom (extents_of (take (length config.tasks) map.handlers) (prelude.map code_byte_count lengths.prologues)) starts no_extent none (omega (arith, rooms, all, count, n))
       (λ k l.
       let below : k < length config.tasks = omega (arith, l, rooms, all, count) in
-      let room = extent_at (take (length config.tasks) map.handlers) (prelude.map code_bytes lengths.prologues) k same (omega (arith, l, rooms)) in
+      let room = extent_at (take (length config.tasks) map.handlers) (prelude.map code_byte_count lengths.prologues) k same (omega (arith, l, rooms)) in
       let at : get_or (take (length config.tasks) map.handlers) k 0 ≡ slice_index map.handlers k = get_or-take (length config.tasks) map.handlers k 0 below in
-      let len : get_or (prelude.map code_bytes lengths.prologues) k 0 ≡ code_bytes (get_or lengths.prologues k 0) = get_or-map code_bytes lengths.prologues k 0 in
+      let len : get_or (prelude.map code_byte_count lengths.prologues) k 0 ≡ code_byte_count (get_or lengths.prologues k 0) = get_or-map code_byte_count lengths.prologues k 0 in
       let P : Extent → Type 0 = λ r. FitsRoom r (get_or starts k none) in
-      let B : ℕ → Type 0 = λ b. FitsRoom (record { base = b; len = code_bytes (get_or lengths.prologues k 0) }) (get_or starts k none) in
+      let B : ℕ → Type 0 = λ b. FitsRoom (record { base = b; len = code_byte_count (get_or lengths.prologues k 0) }) (get_or starts k none) in
       let L : ℕ → Type 0 = λ m. FitsRoom (record { base = get_or (take (length config.tasks) map.handlers) k 0; len = m }) (get_or starts k none) in
       subst P (sym room) (subst L (sym len) (subst B (sym at) (prologue_room k (get_or starts k none) below (each k none (omega (arith, below, n)))))))
 
   -- ---- ticks
 
   pub ticks_fit : (counted : List Block) → length counted ≡ length config.counters → Each (IsTickBlock config map) counted
-      → FitRooms (extents_of (tick_starts lengths) (prelude.map code_bytes lengths.ticks)) counted
+      → FitRooms (extents_of (tick_starts lengths) (prelude.map code_byte_count lengths.ticks)) counted
   ticks_fit counted n each =
       let count = may.planned.are_lengths.ticks in
-      let all = length-map lengths.ticks code_bytes in
-      let begun = length_starts (ticks_at lengths) (prelude.map code_bytes lengths.ticks) in
-      let same : length (tick_starts lengths) ≡ length (prelude.map code_bytes lengths.ticks) = begun in
-      let rooms = extents_long (tick_starts lengths) (prelude.map code_bytes lengths.ticks) same in
-      zip_from FitsRoom (extents_of (tick_starts lengths) (prelude.map code_bytes lengths.ticks)) counted nowhere none (omega (arith, rooms, all, count, n))
+      let all = length-map lengths.ticks code_byte_count in
+      let begun = length_starts (ticks_at lengths) (prelude.map code_byte_count lengths.ticks) in
+      let same : length (tick_starts lengths) ≡ length (prelude.map code_byte_count lengths.ticks) = begun in
+      let rooms = extents_long (tick_starts lengths) (prelude.map code_byte_count lengths.ticks) same in
+      zip_from FitsRoom (extents_of (tick_starts lengths) (prelude.map code_byte_count lengths.ticks)) counted no_extent none (omega (arith, rooms, all, count, n))
       (λ k l.
       let below : k < length config.counters = omega (arith, l, rooms, all, count) in
       let t = each k none (omega (arith, below, n)) in
@@ -198,39 +198,39 @@ module _ (config : Config) (app : App) (levels : Levels) (map : Map) (may : MayG
       let behind = near.1 in
       let long = t.is_tick.size ∙ sym (may.planned.are_lengths.each_tick k below) in
       let at : slice_index map.handlers (counter_line k) ≡ get_or (tick_starts lengths) k 0 = may.planned.addresses.ticks k below in
-      let len : get_or (prelude.map code_bytes lengths.ticks) k 0 ≡ code_bytes (get_or lengths.ticks k 0) = get_or-map code_bytes lengths.ticks k 0 in
-      let room = extent_at (tick_starts lengths) (prelude.map code_bytes lengths.ticks) k same (omega (arith, l, rooms)) in
+      let len : get_or (prelude.map code_byte_count lengths.ticks) k 0 ≡ code_byte_count (get_or lengths.ticks k 0) = get_or-map code_byte_count lengths.ticks k 0 in
+      let room = extent_at (tick_starts lengths) (prelude.map code_byte_count lengths.ticks) k same (omega (arith, l, rooms)) in
       let P : Extent → Type 0 = λ r. FitsRoom r (get_or counted k none) in
       subst P (sym room)
-      (plain (record { base = get_or (tick_starts lengths) k 0; len = get_or (prelude.map code_bytes lengths.ticks) k 0 }) (get_or counted k none)
+      (plain (record { base = get_or (tick_starts lengths) k 0; len = get_or (prelude.map code_byte_count lengths.ticks) k 0 }) (get_or counted k none)
       (t.at ∙ at) (omega (arith, behind, at)) (subst (λ a. a % 4 ≡ 0) at near.0) (omega (arith, long, len)) t.marks))
 
   -- ---- services
 
   blocks_long : length map.places.blocks ≡ block_count
   blocks_long =
-      ap length may.planned.addresses.blocks ∙ length_starts (services_at lengths) (prelude.map code_bytes lengths.services) ∙ length-map lengths.services code_bytes
+      ap length may.planned.addresses.blocks ∙ length_starts (services_at lengths) (prelude.map code_byte_count lengths.services) ∙ length-map lengths.services code_byte_count
       ∙ may.planned.are_lengths.services
 
   service_room : (number : ℕ) (block : Block) → number < block_count → get_or lengths.services number 0 ≡ block_length number → IsService config levels map number block
-      → FitsRoom (record { base = slice_index map.places.blocks number; len = code_bytes (block_length number) }) block
+      → FitsRoom (record { base = slice_index map.places.blocks number; len = code_byte_count (block_length number) }) block
   service_room number block l sized h =
       let at = h.at in
       let all_long = h.long in
-      let bytes : List ℕ = prelude.map code_bytes lengths.services in
+      let bytes : List ℕ = prelude.map code_byte_count lengths.services in
       let from : ℕ = services_at lengths in
       let long = blocks_long in
       let all = may.planned.are_lengths.services in
-      let counted = length-map lengths.services code_bytes in
+      let counted = length-map lengths.services code_byte_count in
       let is : slice_index map.places.blocks number ≡ get_or (starts from bytes) number 0 = ap (λ (blocks : List ℕ). get_or blocks number 0) may.planned.addresses.blocks in
       let stood = stands from bytes number (omega (arith, counted, all, l)) in
       let above = stood.above in
       let below = stood.below in
-      let own_bytes : get_or bytes number 0 ≡ code_bytes (get_or lengths.services number 0) = get_or-map code_bytes lengths.services number 0 in
-      let first = end_above (prologues_at lengths) (prelude.map code_bytes lengths.prologues) in
-      let second = end_above (ticks_at lengths) (prelude.map code_bytes lengths.ticks) in
+      let own_bytes : get_or bytes number 0 ≡ code_byte_count (get_or lengths.services number 0) = get_or-map code_byte_count lengths.services number 0 in
+      let first = end_above (prologues_at lengths) (prelude.map code_byte_count lengths.prologues) in
+      let second = end_above (ticks_at lengths) (prelude.map code_byte_count lengths.ticks) in
       let end = may.planned.addresses.code_to in
-      let items = end_above (items_at lengths) (prelude.map code_bytes lengths.items) in
+      let items = end_above (items_at lengths) (prelude.map code_byte_count lengths.items) in
       let last = end_of_code config app map may.bounds 0 [] may.planned.zones in
       let even = may.planned.zones.blocks_aligned number 0 (omega (arith, long, l)) in
       let marks = service_marks config h.service (block_object number) levels block.code block.at (block_code number) (omega (arith, at, is, below, own_bytes, sized, all_long, items, end, last)) h.serves in
@@ -264,7 +264,7 @@ module _ (config : Config) (app : App) (levels : Levels) (map : Map) (may : MayG
       (here.0 ∙ ap (slice_index map.places.blocks) k1, here.1 ∙ ap (λ j. get_or lengths.services j 0) k1)
 
   services_fit_from : (n : ℕ) (addresses sizes : List ℕ) (rest : List Bool) (blocks : List Block) → length addresses ≡ length rest → length sizes ≡ length rest → n + length rest ≡ block_count
-      → Of n addresses sizes → Sized n sizes rest → AllZip (IsService config levels map) (wanted_from n rest) blocks → FitRooms (some_extents addresses sizes) blocks
+      → Of n addresses sizes → Sized n sizes rest → AllZip (IsService config levels map) (wanted_services_from n rest) blocks → FitRooms (some_extents addresses sizes) blocks
   services_fit_from n [] [] [] blocks e f all of sized h = fit_none blocks h
     where
       fit_none : (bs : List Block) → AllZip (IsService config levels map) [] bs → FitRooms [] bs
@@ -290,13 +290,13 @@ module _ (config : Config) (app : App) (levels : Levels) (map : Map) (may : MayG
       let is : a ≡ slice_index map.places.blocks n = here.0 ∙ ap (slice_index map.places.blocks) zero_more in
       let own : suc size ≡ block_length n = sized 0 (omega arith) ∙ ap block_length zero_more in
       let its : get_or lengths.services n 0 ≡ block_length n = sym (here.1 ∙ ap (λ j. get_or lengths.services j 0) zero_more) ∙ own in
-      let P : ℕ → Type 0 = λ base. FitsRoom (record { base = base; len = code_bytes (suc size) }) b in
-      let L : ℕ → Type 0 = λ m. FitsRoom (record { base = slice_index map.places.blocks n; len = code_bytes m }) b in (
+      let P : ℕ → Type 0 = λ base. FitsRoom (record { base = base; len = code_byte_count (suc size) }) b in
+      let L : ℕ → Type 0 = λ m. FitsRoom (record { base = slice_index map.places.blocks n; len = code_byte_count m }) b in (
         subst P (sym is) (subst L (sym own) (service_room n b (omega (arith, all)) its h.0)),
         services_fit_from (n + 1) addresses sizes rest blocks (omega (arith, e)) (omega (arith, f)) (omega (arith, all)) (next_of n a (suc size) addresses sizes of) (next_sized n (suc size) sizes true rest sized) h.1,
       )
 
-  pub services_fit : (blocks : List Block) → AllZip (IsService config levels map) (wanted_from 0 wanted) blocks → FitRooms (some_extents map.places.blocks lengths.services) blocks
+  pub services_fit : (blocks : List Block) → AllZip (IsService config levels map) (wanted_services_from 0 wanted) blocks → FitRooms (some_extents map.places.blocks lengths.services) blocks
   services_fit blocks h =
       let long = blocks_long in
       let all = all_places app in
@@ -309,28 +309,28 @@ module _ (config : Config) (app : App) (levels : Levels) (map : Map) (may : MayG
   -- ---- items
 
   item_room : (func index : ℕ) → IsItem app func index
-      → FitsRoom (record { base = item_address map.places func index; len = code_bytes (get_or may.planned.lengths.items (items_before app.funcs func + index) 0) }) (item_block app map.places func index)
+      → FitsRoom (record { base = item_address map.places func index; len = code_byte_count (get_or may.planned.lengths.items (items_before app.funcs func + index) 0) }) (item_block app map.places func index)
   item_room func index is =
       let word = may.planned.covers.items func index is in
       let size = size_of_item app (config, may.well_formed) map.places may.planned.agree may.planned.lengths.items may.planned.are_lengths.items func index is in
       let some = expanded_some app map.places func (item_address map.places func index) (is_long map.places func index) (operation app func index) in
-      marked (record { base = item_address map.places func index; len = code_bytes (get_or may.planned.lengths.items (items_before app.funcs func + index) 0) }) (item_block app map.places func index)
+      marked (record { base = item_address map.places func index; len = code_byte_count (get_or may.planned.lengths.items (items_before app.funcs func + index) 0) }) (item_block app map.places func index)
       (item_mark app map.places func index) refl word.0 word.2 (omega (arith, size)) refl (omega arith) (omega (arith, some))
 
-  pub items_fit : FitRooms (extents_of map.places.items (prelude.map code_bytes may.planned.lengths.items)) (item_blocks app map.places (length app.funcs))
+  pub items_fit : FitRooms (extents_of map.places.items (prelude.map code_byte_count may.planned.lengths.items)) (item_blocks app map.places (length app.funcs))
   items_fit =
       let sizes : List ℕ = may.planned.lengths.items in
       let count = may.planned.are_lengths.items.count in
-      let all = length-map sizes code_bytes in
+      let all = length-map sizes code_byte_count in
       let own = items_long config app levels map may in
-      let same : length map.places.items ≡ length (prelude.map code_bytes sizes) = omega (arith, count, all, own) in
-      let rooms = extents_long map.places.items (prelude.map code_bytes sizes) same in
+      let same : length map.places.items ≡ length (prelude.map code_byte_count sizes) = omega (arith, count, all, own) in
+      let rooms = extents_long map.places.items (prelude.map code_byte_count sizes) same in
       let many = length_blocks app map.places (length app.funcs) in
-      zip_from FitsRoom (extents_of map.places.items (prelude.map code_bytes sizes)) (item_blocks app map.places (length app.funcs)) nowhere none (omega (arith, rooms, all, count, many))
+      zip_from FitsRoom (extents_of map.places.items (prelude.map code_byte_count sizes)) (item_blocks app map.places (length app.funcs)) no_extent none (omega (arith, rooms, all, count, many))
       (λ k l. one k (omega (arith, l, rooms, all, count)) (omega (arith, l, rooms)) same)
     where
-      one : (k : ℕ) → k < items_before app.funcs (length app.funcs) → k < length (prelude.map code_bytes may.planned.lengths.items) → length map.places.items ≡ length (prelude.map code_bytes may.planned.lengths.items)
-          → FitsRoom (get_or (extents_of map.places.items (prelude.map code_bytes may.planned.lengths.items)) k nowhere) (get_or (item_blocks app map.places (length app.funcs)) k none)
+      one : (k : ℕ) → k < items_before app.funcs (length app.funcs) → k < length (prelude.map code_byte_count may.planned.lengths.items) → length map.places.items ≡ length (prelude.map code_byte_count may.planned.lengths.items)
+          → FitsRoom (get_or (extents_of map.places.items (prelude.map code_byte_count may.planned.lengths.items)) k no_extent) (get_or (item_blocks app map.places (length app.funcs)) k none)
       one k l m same =
           let at = located app.funcs (length app.funcs) k l in
           let is : IsItem app at.func at.index = record { declared = at.declared; inside = at.inside } in
@@ -338,11 +338,11 @@ module _ (config : Config) (app : App) (levels : Levels) (map : Map) (may : MayG
           ap (λ j. get_or (item_blocks app map.places (length app.funcs)) j none) at.is ∙ block_at app map.places (length app.funcs) at.func at.index none at.declared at.inside in
           let base : item_address map.places at.func at.index ≡ get_or map.places.items k 0 =
           ap (λ n. get_or map.places.items (n + at.index) 0) (first_is config app levels map may at.func at.declared) ∙ ap (λ j. get_or map.places.items j 0) (sym at.is) in
-          let len : code_bytes (get_or may.planned.lengths.items (items_before app.funcs at.func + at.index) 0) ≡ get_or (prelude.map code_bytes may.planned.lengths.items) k 0 =
-          ap (λ j. code_bytes (get_or may.planned.lengths.items j 0)) (sym at.is) ∙ sym (get_or-map code_bytes may.planned.lengths.items k 0) in
-          let room = extent_at map.places.items (prelude.map code_bytes may.planned.lengths.items) k same m in
-          let B : ℕ → Type 0 = λ b. FitsRoom (record { base = b; len = code_bytes (get_or may.planned.lengths.items (items_before app.funcs at.func + at.index) 0) }) (item_block app map.places at.func at.index) in
+          let len : code_byte_count (get_or may.planned.lengths.items (items_before app.funcs at.func + at.index) 0) ≡ get_or (prelude.map code_byte_count may.planned.lengths.items) k 0 =
+          ap (λ j. code_byte_count (get_or may.planned.lengths.items j 0)) (sym at.is) ∙ sym (get_or-map code_byte_count may.planned.lengths.items k 0) in
+          let room = extent_at map.places.items (prelude.map code_byte_count may.planned.lengths.items) k same m in
+          let B : ℕ → Type 0 = λ b. FitsRoom (record { base = b; len = code_byte_count (get_or may.planned.lengths.items (items_before app.funcs at.func + at.index) 0) }) (item_block app map.places at.func at.index) in
           let L : ℕ → Type 0 = λ n. FitsRoom (record { base = get_or map.places.items k 0; len = n }) (item_block app map.places at.func at.index) in
           let R : Extent → Type 0 = λ r. FitsRoom r (item_block app map.places at.func at.index) in
-          let Q : Block → Type 0 = λ b. FitsRoom (get_or (extents_of map.places.items (prelude.map code_bytes may.planned.lengths.items)) k nowhere) b in
+          let Q : Block → Type 0 = λ b. FitsRoom (get_or (extents_of map.places.items (prelude.map code_byte_count may.planned.lengths.items)) k no_extent) b in
           subst Q (sym block) (subst R (sym room) (subst L len (subst B base (item_room at.func at.index is))))

@@ -4,19 +4,19 @@ use Rattle.std.specs.Prelude.{All}
 use Rattle.std.specs.Prelude as prelude
 use Rattle.std.proofs.lemmas.List.{get_or_default}
 use Rattle.std.proofs.Math.ListN.{length-map}
-use Rattle.sloth_base.specs.Named.{missing, body_of}
+use Rattle.sloth_base.specs.Named.{no_function, body_of}
 use Rattle.sloth_base.specs.declared.app.App.{App}
 use Rattle.sloth_base.specs.declared.app.Func.{Func}
 use Rattle.sloth_base.specs.declared.config.Config.{Config}
 use Rattle.sloth_base.specs.declared.places.Levels.{Levels}
 use Rattle.sloth_region.specs.declared.map.Map.{Map}
-use Rattle.prologue_gen.specs.Places.{IsTop}
+use Rattle.prologue_gen.specs.Places.{IsStackTop}
 use Rattle.rv32_expand.specs.Sizes.{items_before}
 use Rattle.rv32_expand.proofs.Verified.{has_first}
-use Rattle.mem_map.specs.Plan.{code_bytes}
+use Rattle.mem_map.specs.Plan.{code_byte_count}
 use Rattle.sim_image.proofs.Fitting.{part_inside, code_from, code_to}
 use Rattle.mem_map.proofs.Starts.{length_starts}
-use Rattle.image_gen.specs.Prologues.{MayStart}
+use Rattle.image_gen.specs.Prologues.{MayStartTasks}
 use Rattle.image_gen.specs.Gathered.{MayGenerate}
 use Rattle.image_gen.proofs.Called.{room_for_calls}
 use Rattle.sloth_link.proofs.Counting.{count_of, starts_at, before_within}
@@ -26,7 +26,7 @@ module _ (config : Config) (app : App) (levels : Levels) (map : Map) (may : MayG
   pub items_long : length map.places.items ≡ items_before app.funcs (length app.funcs)
   items_long =
       let sizes = may.planned.lengths.items in
-      ap length may.planned.addresses.items ∙ length_starts _ (prelude.map code_bytes sizes) ∙ length-map sizes code_bytes ∙ may.planned.are_lengths.items.count
+      ap length may.planned.addresses.items ∙ length_starts _ (prelude.map code_byte_count sizes) ∙ length-map sizes code_byte_count ∙ may.planned.are_lengths.items.count
 
   pub first_long : length map.places.first ≡ length app.funcs
   first_long = ap length may.planned.addresses.first ∙ length_starts 0 (prelude.map count_of app.funcs) ∙ length-map app.funcs count_of
@@ -45,7 +45,7 @@ module _ (config : Config) (app : App) (levels : Levels) (map : Map) (may : MayG
       let within = before_within app.funcs (length app.funcs) k 0 (omega (arith, n, l)) (has_first config app may.well_formed k (omega (arith, n, l))).inside in
       omega (arith, is, same, within, long)
 
-  tops : All IsTop map.tops
+  tops : All IsStackTop map.tops
   tops = λ k d l.
       let p = may.planned in
       let count = p.stacks.tops in
@@ -57,14 +57,14 @@ module _ (config : Config) (app : App) (levels : Levels) (map : Map) (may : MayG
       let same = get_or_default map.tops k 0 d l in
       (omega (arith, i.0, f, t, enough, same), omega (arith, i.1, same))
 
-  pub may_start : MayStart config app levels map
+  pub may_start : MayStartTasks config app levels map
   may_start = record {
     few = may.well_formed.in_range.configuration.few_tasks;
     levels_fit = may.small;
     bodies = λ t l.
         let b = may.well_formed.in_range.tasks.body t l in
         let task = b.1.1 in
-        (b.0, (b.1.0, λ d. ap (λ (f : Func). f.task) (get_or_default app.funcs b.0 d missing b.1.0) ∙ task));
+        (b.0, (b.1.0, λ d. ap (λ (f : Func). f.task) (get_or_default app.funcs b.0 d no_function b.1.0) ∙ task));
     frames = λ k d l. (may.well_formed.in_range.bodies k d l).frame;
     tops = (may.planned.stacks.tops, tops);
     items = (let n = first_long in omega (arith, n), firsts_inside);

@@ -14,20 +14,20 @@ use Rattle.block_parts.specs.Marks.{opening}
 use Rattle.service_blocks.specs.Calls.{IsCalledWith, ServesCall}
 
 -- the wanted ones, the first of which has this number; a number is a place in the table of blocks
-abbrev pub wanted_from : ℕ → List Bool → List ℕ
-wanted_from number [] = []
-wanted_from number (true ∷ wanted) = number ∷ wanted_from (number + 1) wanted
-wanted_from number (false ∷ wanted) = wanted_from (number + 1) wanted
+abbrev pub wanted_services_from : ℕ → List Bool → List ℕ
+wanted_services_from number [] = []
+wanted_services_from number (true ∷ wanted) = number ∷ wanted_services_from (number + 1) wanted
+wanted_services_from number (false ∷ wanted) = wanted_services_from (number + 1) wanted
 
 -- the number is that of a service with an object
-pub record IsServed (config : Config) (number : ℕ) : Type 0 where
+pub record IsServiceNumber (config : Config) (number : ℕ) : Type 0 where
   pub service : Service
   pub is : service_of (block_code number) ≡ Some service
   pub called_with : IsCalledWith config service (block_object number)
 
 -- so is that of each wanted one
 abbrev pub AreServed : Config → List Bool → Type 0
-AreServed config wanted = (number : ℕ) → get_or wanted number false ≡ true → IsServed config number
+AreServed config wanted = (number : ℕ) → get_or wanted number false ≡ true → IsServiceNumber config number
 
 -- the code of a service by its number
 pub record IsService (config : Config) (levels : Levels) (map : Map) (number : ℕ) (block : Block) : Type 0 where
@@ -41,4 +41,4 @@ pub record IsService (config : Config) (levels : Levels) (map : Map) (number : �
 
 -- the code of the wanted ones, in the order of their numbers
 abbrev pub AreServices : Config → Levels → Map → List Bool → List Block → Type 0
-AreServices config levels map wanted blocks = AllZip (IsService config levels map) (wanted_from 0 wanted) blocks
+AreServices config levels map wanted blocks = AllZip (IsService config levels map) (wanted_services_from 0 wanted) blocks

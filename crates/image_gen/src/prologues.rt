@@ -1,6 +1,6 @@
 //! The prologues of all tasks.
 ghost use Rattle.std.specs.Prelude.{◌≡◌, ◌<◌, ◌++◌, ◌∷◌, [], IfOk, OnOk, length};
-ghost use Rattle.image_gen.specs.Prologues.{MayStart, IsPrologue, Each};
+ghost use Rattle.image_gen.specs.Prologues.{MayStartTasks, IsPrologue, Each};
 
 use prologue_gen::prologue;
 use rv32_instr::Block;
@@ -31,7 +31,7 @@ fn one(
     levels: &Levels,
     map: &Map,
 ) -> Result<Block, NoMemory>
-    requires may_start { MayStart config.now app.now levels.now map.now }
+    requires may_start { MayStartTasks config.now app.now levels.now map.now }
     requires exists { task < length config.now.tasks }
     ensures { IfOk result (IsPrologue config.now app.now levels.now map.now task) }
 {
@@ -46,7 +46,7 @@ pub fn prologues(
     levels: &Levels,
     map: &Map,
 ) -> Result<Vec<Block>, NoMemory>
-    requires may_start { MayStart config.now app.now levels.now map.now }
+    requires may_start { MayStartTasks config.now app.now levels.now map.now }
     ensures count { IfOk result (λ blocks. length blocks.items ≡ length config.now.tasks) }
     ensures each { IfOk result (λ blocks. Each (IsPrologue config.now app.now levels.now map.now) blocks.items) }
 {

@@ -1,12 +1,8 @@
 //! The code of the services that are wanted.
-ghost use Rattle.std.specs.Prelude.{◌≡◌, ◌+◌, ◌*◌, ◌<◌, ◌≤◌, ◌∷◌, IfOk, length, slice_index};
+ghost use Rattle.std.specs.Prelude.{◌<◌, IfOk};
 ghost use Rattle.sloth_base.specs.ConfigRange.{InRange};
-ghost use Rattle.sloth_base.specs.Blocks.{block_count, block_number};
-ghost use Rattle.sloth_base.specs.ServiceCodes.{code_of};
-ghost use Rattle.service_gen.specs.Block.{further_marks};
-ghost use Rattle.block_parts.specs.Marks.{opening};
-ghost use Rattle.service_blocks.specs.Calls.{IsCalledWith, ServesCall};
-ghost use Rattle.image_gen.specs.Services.{IsServed, AreServed, IsService, AreServices};
+ghost use Rattle.sloth_base.specs.Blocks.{block_count};
+ghost use Rattle.image_gen.specs.Services.{IsServiceNumber, AreServed, IsService, AreServices};
 
 use crate::prologues::push;
 use rv32_instr::Block;
@@ -25,7 +21,7 @@ fn one(
     levels: &Levels,
     map: &Map,
 ) -> Result<Block, NoMemory>
-    requires served { IsServed config.now number }
+    requires served { IsServiceNumber config.now number }
     requires range { InRange config.now }
     requires below { number < block_count }
     ensures { IfOk result (IsService config.now levels.now map.now number) }

@@ -1,5 +1,5 @@
 //! The pending, enable and level bytes of 32 lines.
-ghost use Rattle.std.specs.Prelude.{◌≡◌, ◌<◌, ◌+◌, ◌==◌, slice_set, slice_index};
+ghost use Rattle.std.specs.Prelude.{◌≡◌, ◌<◌, ◌==◌, slice_set, slice_index};
 ghost use Rattle.std.specs.Option.{ForSome};
 
 use sloth_base::numbers::Line;
@@ -80,7 +80,7 @@ impl LineBytes {
 
     /// The line to be taken where this level runs: of the pending and enabled lines above it the one of highest level,
     /// and of equal levels the one of least number. None where there is none.
-    #[tactic(auto, using(std::proofs::lemmas::Bool::Decides::nat_tests), unfolding(sloth_base::specs::Choose::best_below, sloth_base::specs::Choose::choose_line))]
+    #[tactic(auto, using(std::proofs::lemmas::Bool::Decides::nat_tests), unfolding(sloth_base::specs::Choose::best_line_below, sloth_base::specs::Choose::choose_line))]
     pub fn choose(&self, level: u8) -> Option<Line>
         ensures is { result ≡ choose_line self.now level }
         ensures chosen { IsChosen self.now level result }

@@ -5,7 +5,7 @@ use Rattle.std.proofs.lemmas.List.{append-nil}
 use Rattle.lane_drawing.specs.declared.bars.Bar.{Bar}
 use Rattle.lane_drawing.specs.declared.bars.Look.{Look}
 use Rattle.lane_drawing.specs.Bars.{IsEmpty, IsBar, AreBars}
-use Rattle.lane_drawing.specs.Strips.{Lane, bar_of, last_bar, EndBelow, IsApart, IsStrip}
+use Rattle.lane_drawing.specs.Strips.{Lane, bar_of, last_bar, EndBelow, HasEndedBars, IsStrip}
 
 module _ (looks : ℕ → Option Look) where
   -- nothing is shown up to a count, nor at it
@@ -102,7 +102,7 @@ module _ (looks : ℕ → Option Look) where
   end-below [] from k are = tt
   end-below (b ∷ bars) from k are = (let w = are.0.within in omega (arith, w), end-below bars b.to k are.1)
 
-  apart-more : (bars : List Bar) (from k : ℕ) (look : Option Look) → AreBars looks from k bars → IsApart (k + 1) look bars
+  apart-more : (bars : List Bar) (from k : ℕ) (look : Option Look) → AreBars looks from k bars → HasEndedBars (k + 1) look bars
   apart-more bars from k None are = end-below bars from k are
   apart-more bars from k (Some look) are = tt
 
@@ -110,8 +110,8 @@ module _ (looks : ℕ → Option Look) where
 
   -- it shows the same as before
   goes-on : (from since k : ℕ) (shown : Option Look) (bars : List Bar) → from ≤ k → AreBars looks from k (bars ++ bar_of shown since k)
-      → IsApart k shown bars → looks k ≡ shown
-      → AreBars looks from (k + 1) (bars ++ bar_of shown since (k + 1)) × IsApart (k + 1) shown bars
+      → HasEndedBars k shown bars → looks k ≡ shown
+      → AreBars looks from (k + 1) (bars ++ bar_of shown since (k + 1)) × HasEndedBars (k + 1) shown bars
   goes-on from since k None bars a are apart here =
       let whole : AreBars looks from k bars = subst (λ l. AreBars looks from k l) (append-nil bars) are in
       (idle-more bars from k None a whole apart here, end-below bars from k whole)
@@ -119,8 +119,8 @@ module _ (looks : ℕ → Option Look) where
 
   -- it shows something else
   turns : (from since k : ℕ) (shown look : Option Look) (bars : List Bar) → from ≤ k → AreBars looks from k (bars ++ bar_of shown since k)
-      → IsApart k shown bars → looks k ≡ look → (shown ≡ look → ⊥)
-      → AreBars looks from (k + 1) ((bars ++ bar_of shown since k) ++ bar_of look k (k + 1)) × IsApart (k + 1) look (bars ++ bar_of shown since k)
+      → HasEndedBars k shown bars → looks k ≡ look → (shown ≡ look → ⊥)
+      → AreBars looks from (k + 1) ((bars ++ bar_of shown since k) ++ bar_of look k (k + 1)) × HasEndedBars (k + 1) look (bars ++ bar_of shown since k)
   turns from since k None look bars a are apart here other =
       let whole : AreBars looks from k bars = subst (λ l. AreBars looks from k l) (append-nil bars) are in
       let more : AreBars looks from (k + 1) (bars ++ bar_of look k (k + 1)) = idle-more bars from k look a whole apart here in
@@ -139,7 +139,7 @@ module _ (looks : ℕ → Option Look) where
       let more = turns from old.since k old.shown new.shown old.bars a is.are_bars is.apart here other in record {
         are_bars = subst (λ l. AreBars looks from (k + 1) (l ++ bar_of new.shown new.since (k + 1))) (sym bars)
             (subst (λ s. AreBars looks from (k + 1) ((old.bars ++ last_bar old k) ++ bar_of new.shown s (k + 1))) (sym since) more.0);
-        apart = subst (λ l. IsApart (k + 1) new.shown l) (sym bars) more.1;
+        apart = subst (λ l. HasEndedBars (k + 1) new.shown l) (sym bars) more.1;
       }
 
   -- the bars of a strip that ends at a count

@@ -84,8 +84,8 @@ shown_arrivals scale arrivals task = filter (is_shown scale task) arrivals
 -- ---- the frame
 
 -- how far the lanes begin from the left, for the length of the longest name
-abbrev pub left_of : (longest : ℕ) → ℕ
-left_of longest = 24 + 8 * longest
+abbrev pub left_margin : (longest : ℕ) → ℕ
+left_margin longest = 24 + 8 * longest
 
 -- the first line, with the size in pixels: so many rows behind the axis, and the legend
 unfoldable pub head_line : Scale → (rows : ℕ) → List ℕ

@@ -29,14 +29,14 @@ EndBelow count [] = Unit {0}
 EndBelow count (bar ∷ bars) = (bar.to < count) × EndBelow count bars
 
 -- a lane that shows nothing now has bars that end below this count
-abbrev pub IsApart : ℕ → Option Look → List Bar → Type 0
-IsApart count None bars = EndBelow count bars
-IsApart count (Some look) bars = Unit {0}
+abbrev pub HasEndedBars : ℕ → Option Look → List Bar → Type 0
+HasEndedBars count None bars = EndBelow count bars
+HasEndedBars count (Some look) bars = Unit {0}
 
 -- A strip stands at a count: with what it has shown last, its bars are those of the counts up to this one.
 pub record IsStrip (looks : ℕ → Option Look) (from count : ℕ) (strip : Lane) : Type 0 where
   pub are_bars : AreBars looks from count (strip.bars ++ last_bar strip count)
-  pub apart : IsApart count strip.shown strip.bars
+  pub apart : HasEndedBars count strip.shown strip.bars
 
 -- it stands at the first count, whatever is shown
 abbrev pub IsFresh : (from : ℕ) → Lane → Type 0

@@ -1,5 +1,5 @@
 //! The lanes of a picture, a line for each bar and mark.
-ghost use Rattle.std.specs.Prelude.{◌≡◌, ◌≤◌, ◌<◌, ◌+◌, ◌++◌, OnOk, All, length};
+ghost use Rattle.std.specs.Prelude.{◌≡◌, ◌≤◌, ◌++◌, OnOk, All, length};
 ghost use Rattle.std.specs.List.{flat_map};
 ghost use Rattle.lane_drawing.specs.Bars.{IsInside};
 ghost use Rattle.lane_drawing.specs.Scale.{IsScale};

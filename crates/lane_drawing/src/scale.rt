@@ -1,5 +1,5 @@
 //! Where counts stand in a picture.
-ghost use Rattle.std.specs.Prelude.{◌≡◌, ◌≤◌, ◌+◌, ◌*◌, ◌++◌, length};
+ghost use Rattle.std.specs.Prelude.{◌≡◌, ◌≤◌, ◌+◌, ◌++◌, length};
 ghost use Rattle.lane_drawing.specs.Scale.{IsScale, span, place, pixels, axis_step, steps, first_step, first_multiple, last_multiple};
 
 use trace_text::line_text::LineText;

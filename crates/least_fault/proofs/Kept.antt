@@ -4,8 +4,8 @@ use Rattle.std.proofs.lemmas.Bool.Decides.{eqb_tells, leb_tells}
 use Rattle.std.proofs.lemmas.Bool.{cases_lt, lt-ltb, le-ltb}
 use Rattle.sloth_base.specs.declared.refusal.Refusal.{Refusal}
 use Rattle.least_fault.specs.Order.{number, Precedes, is_before, IsLeast, NoFault}
-use Rattle.least_fault.specs.Search.{lesser, Beaten, Kept, Finds, merge, when, SomeFrom, Somewhere}
-use Rattle.std.proofs.Common.{not, List, [], ◌∷◌, ◌++◌, take, drop, get_or, length, ◌+◌, add-one, suc}
+use Rattle.least_fault.specs.Search.{lesser, IsBeaten, KeepsLeast, Finds, merge, when, SomeFrom, Somewhere}
+use Rattle.std.proofs.Common.{List, [], ◌∷◌, ◌++◌, take, drop, get_or, length, ◌+◌, add-one, suc}
 use Rattle.std.proofs.Math.Seq.{drop-cons, take-suc}
 use Rattle.std.proofs.Math.ListN.{drop_of_length-le}
 
@@ -47,21 +47,21 @@ unfolding lesser
 lesser_is F None r h f = f
 lesser_is F (Some m) r h f = elim (is_before m r) as (λ u. F (cond u m r)) [ true ↦ h m refl | false ↦ f ]
 
-pub beaten_lesser : (o : Option Refusal) (m r : Refusal) → Beaten o r → Precedes (lesser o m) r
+pub beaten_lesser : (o : Option Refusal) (m r : Refusal) → IsBeaten o r → Precedes (lesser o m) r
 beaten_lesser None m r b = absurd b
 beaten_lesser (Some k) m r b = precedes_trans (lesser (Some k) m) k r (lesser_left k m) b
 
 module _ (F : Refusal → Type 0) where
-  pub kept_start : Kept F F None
+  pub kept_start : KeepsLeast F F None
   kept_start = record { own = λ m e. cc; to_come = λ r f. f; all = λ r f. inl f }
 
   -- One place had no fault.
-  pub kept_on : (G H : Refusal → Type 0) (o : Option Refusal) → ((r : Refusal) → G r → H r) → ((r : Refusal) → H r → G r) → Kept F G o → Kept F H o
+  pub kept_on : (G H : Refusal → Type 0) (o : Option Refusal) → ((r : Refusal) → G r → H r) → ((r : Refusal) → H r → G r) → KeepsLeast F G o → KeepsLeast F H o
   kept_on G H o to from k = record { own = k.own; to_come = λ r h. k.to_come r (from r h); all = λ r f. ⊎_elim (λ g. inl (to r g)) inr (k.all r f) }
 
   -- One fault was met.
-  pub kept_found : (G H : Refusal → Type 0) (o : Option Refusal) (m : Refusal) → G m → ((r : Refusal) → G r → (r ≡ m) ⊎ H r) → ((r : Refusal) → H r → G r) → Kept F G o
-      → Kept F H (Some (lesser o m))
+  pub kept_found : (G H : Refusal → Type 0) (o : Option Refusal) (m : Refusal) → G m → ((r : Refusal) → G r → (r ≡ m) ⊎ H r) → ((r : Refusal) → H r → G r) → KeepsLeast F G o
+      → KeepsLeast F H (Some (lesser o m))
   kept_found G H o m g to from k = record {
     own = λ n e. let q : lesser o m ≡ n = cc in subst F q (lesser_is F o m k.own (k.to_come m g));
     to_come = λ r h. k.to_come r (from r h);
@@ -72,10 +72,10 @@ module _ (F : Refusal → Type 0) where
   }
 
   -- All are met.
-  pub kept_none : (G : Refusal → Type 0) → ((r : Refusal) → G r → ⊥) → Kept F G None → NoFault F
+  pub kept_none : (G : Refusal → Type 0) → ((r : Refusal) → G r → ⊥) → KeepsLeast F G None → NoFault F
   kept_none G e k r f = ⊎_elim (e r) (λ b. b) (k.all r f)
 
-  pub kept_least : (G : Refusal → Type 0) (m : Refusal) → ((r : Refusal) → G r → ⊥) → Kept F G (Some m) → IsLeast F m
+  pub kept_least : (G : Refusal → Type 0) (m : Refusal) → ((r : Refusal) → G r → ⊥) → KeepsLeast F G (Some m) → IsLeast F m
   kept_least G m e k = record { is_fault = k.own m refl; is_least = λ r f. ⊎_elim (λ g. absurd (e r g)) (λ b. b) (k.all r f) }
 
 -- The same sets have the same least.
@@ -84,7 +84,7 @@ least_same F G to from r l = record { is_fault = to r l.is_fault; is_least = λ 
 
 -- One search more: G is what it looked for, and the rest H.
 pub kept_merge : (F G I H : Refusal → Type 0) (o m : Option Refusal) → Finds I m → ((r : Refusal) → G r → I r ⊎ H r) → ((r : Refusal) → I r → G r) → ((r : Refusal) → H r → G r)
-    → Kept F G o → Kept F H (merge o m)
+    → KeepsLeast F G o → KeepsLeast F H (merge o m)
 unfolding merge
 kept_merge F G I H o None f to from back k = record {
   own = k.own;
@@ -100,17 +100,17 @@ kept_merge F G I H o (Some m) f to from back k = record {
       (k.all r x);
 }
 
-pub kept_finds : (F G : Refusal → Type 0) (o : Option Refusal) → ((r : Refusal) → G r → ⊥) → Kept F G o → Finds F o
+pub kept_finds : (F G : Refusal → Type 0) (o : Option Refusal) → ((r : Refusal) → G r → ⊥) → KeepsLeast F G o → Finds F o
 kept_finds F G None e k = kept_none F G e k
 kept_finds F G (Some m) e k = kept_least F G m e k
 
 -- Two searches, merged, find the faults of both.
 pub finds_both : (F G : Refusal → Type 0) (a b : Option Refusal) → Finds F a → Finds G b → Finds (λ r. F r ⊎ G r) (merge a b)
 finds_both F G a b f g =
-    let s : Kept (λ r. F r ⊎ G r) G a = after_first a f in
+    let s : KeepsLeast (λ r. F r ⊎ G r) G a = after_first a f in
     kept_finds (λ r. F r ⊎ G r) (λ r. ⊥) (merge a b) (λ r x. x) (kept_merge (λ r. F r ⊎ G r) G G (λ r. ⊥) a b g (λ r x. inl x) (λ r x. x) (λ r x. absurd x) s)
   where
-    after_first : (o : Option Refusal) → Finds F o → Kept (λ r. F r ⊎ G r) G o
+    after_first : (o : Option Refusal) → Finds F o → KeepsLeast (λ r. F r ⊎ G r) G o
     after_first None f = record { own = λ m e. cc; to_come = λ r g. inr g; all = λ r x. ⊎_elim (λ y. absurd (f r y)) inl x }
     after_first (Some m) f = record {
       own = λ n e. let q : m ≡ n = cc in inl (subst F q f.is_fault);
@@ -130,13 +130,13 @@ finds_same F G (Some m) to from f = least_same F G to from m f
 -- A loop over a list: at the start, at each element, at the end.
 module _ {X : Type 0} (P : List X → X → Refusal → Type 0) (xs : List X) where
   abbrev pub Loop : ℕ → Option Refusal → Type 0
-  Loop i o = Kept (Somewhere P xs) (SomeFrom P (take i xs) (drop i xs)) o
+  Loop i o = KeepsLeast (Somewhere P xs) (SomeFrom P (take i xs) (drop i xs)) o
 
   pub loop_step : (i : ℕ) (x : X) (o m : Option Refusal) → i < length xs → x ≡ get_or xs i x → Finds (P (take i xs) x) m → Loop i o → Loop (i + 1) (merge o m)
   loop_step i x o m h e f k =
       let d : drop i xs ≡ x ∷ drop (i + 1) xs = rw add-one (drop-cons xs i x h ∙ ap (λ y. y ∷ drop (suc i) xs) (sym e)) in
       let t : take (i + 1) xs ≡ take i xs ++ x ∷ [] = rw add-one (take-suc xs i x h ∙ ap (λ y. take i xs ++ y ∷ []) (sym e)) in
-      subst (λ (y : List X). Kept (Somewhere P xs) (SomeFrom P y (drop (i + 1) xs)) (merge o m)) (sym t)
+      subst (λ (y : List X). KeepsLeast (Somewhere P xs) (SomeFrom P y (drop (i + 1) xs)) (merge o m)) (sym t)
       (kept_merge (Somewhere P xs) (SomeFrom P (take i xs) (drop i xs)) (P (take i xs) x) (SomeFrom P (take i xs ++ x ∷ []) (drop (i + 1) xs)) o m f
       (λ r g. subst (λ (y : List X). SomeFrom P (take i xs) y r) d g)
       (λ r g. subst (λ (y : List X). SomeFrom P (take i xs) y r) (sym d) (inl g))

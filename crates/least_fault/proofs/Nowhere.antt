@@ -1,11 +1,11 @@
 -- What holds of each element where a rule finds no fault.
-use Rattle.std.proofs.Common.{◌≡◌, inl, inr, ℕ, ◌<◌, ◌+◌, Bool, true, false, List, [], ◌∷◌, ◌++◌, length, take, get_or, suc, zero, refl, sym, subst, append_assoc, append-nil, arith}
+use Rattle.std.proofs.Common.{◌≡◌, inl, inr, ℕ, ◌<◌, Bool, true, false, List, [], ◌∷◌, ◌++◌, length, take, get_or, suc, zero, refl, sym, subst, append_assoc, append-nil, arith}
 use Rattle.sloth_base.specs.declared.refusal.Part.{Part}
 use Rattle.sloth_base.specs.declared.refusal.Code.{Code}
 use Rattle.sloth_base.specs.declared.refusal.Refusal.{Refusal}
 use Rattle.least_fault.specs.Order.{NoFault}
 use Rattle.least_fault.specs.Search.{SomeFrom, Somewhere}
-use Rattle.least_fault.specs.Cases.{at, CaseOf}
+use Rattle.least_fault.specs.Cases.{fault_at, CaseOf}
 
 nowhere_from : {X : Type 0} (P : List X → X → Refusal → Type 0) (xs front : List X) → NoFault (SomeFrom P front xs) → (i : ℕ) (d : X) → i < length xs
     → NoFault (P (front ++ take i xs) (get_or xs i d))
@@ -20,5 +20,5 @@ nowhere P xs n i d h = nowhere_from P xs [] n i d h
 
 -- the test of a case that is no fault
 pub case_false : (part : Part) (b : Bool) (line : ℕ) (code : Code) → NoFault (CaseOf part b line code) → b ≡ false
-case_false part true line code n = absurd (n (at part line code) (refl, refl))
+case_false part true line code n = absurd (n (fault_at part line code) (refl, refl))
 case_false part false line code n = refl

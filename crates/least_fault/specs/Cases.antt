@@ -5,9 +5,9 @@ use Rattle.sloth_base.specs.declared.refusal.Code.{Code}
 use Rattle.sloth_base.specs.declared.refusal.Refusal.{Refusal}
 
 -- a fault of this part on a line
-abbrev pub at : Part → ℕ → Code → Refusal
-at part line code = record { part = part; line = line; code = code }
+abbrev pub fault_at : Part → ℕ → Code → Refusal
+fault_at part line code = record { part = part; line = line; code = code }
 
 -- The test says that the text has a fault of this code on this line, and it is r.
 abbrev pub CaseOf : Part → Bool → ℕ → Code → Refusal → Type 0
-CaseOf part test line code r = (test ≡ true) × (r ≡ at part line code)
+CaseOf part test line code r = (test ≡ true) × (r ≡ fault_at part line code)

@@ -32,12 +32,12 @@ abbrev pub Somewhere : {X : Type 0} → (List X → X → Refusal → Type 0) �
 Somewhere P xs r = SomeFrom P [] xs r
 
 -- the least so far stands no later than r
-abbrev pub Beaten : Option Refusal → Refusal → Type 0
-Beaten None r = ⊥
-Beaten (Some m) r = Precedes m r
+abbrev pub IsBeaten : Option Refusal → Refusal → Type 0
+IsBeaten None r = ⊥
+IsBeaten (Some m) r = Precedes m r
 
 -- Of the faults F those of G are still to be met; the least of the others is kept.
-pub record Kept (F G : Refusal → Type 0) (o : Option Refusal) : Type 0 where
+pub record KeepsLeast (F G : Refusal → Type 0) (o : Option Refusal) : Type 0 where
   pub own : (m : Refusal) → o ≡ Some m → F m
   pub to_come : (r : Refusal) → G r → F r
-  pub all : (r : Refusal) → F r → G r ⊎ Beaten o r
+  pub all : (r : Refusal) → F r → G r ⊎ IsBeaten o r

@@ -1,6 +1,6 @@
 // The events of a run whose steps are written out by hand.
 ghost use Rattle.std.specs.Prelude.{◌≡◌, ◌<◌, ◌^◌, [], length, OnOk};
-ghost use Rattle.observe.specs.Progress.{expected_of, remaining};
+ghost use Rattle.observe.specs.Progress.{expected_count, remaining};
 
 use observe::Observer;
 use sloth_base::event::{Arrival, Event, Stamp, Stamped};
@@ -154,7 +154,7 @@ fn step_of(count: u32, before: (bool, u32), row: Row) -> Step
 
 fn drain(observer: &mut Observer, seen: &mut Vec<Stamped>) -> Result<(), AllocError>
     ensures drained { OnOk result (remaining observer.new ≡ []) }
-    ensures expected { expected_of observer.new ≡ expected_of observer.old }
+    ensures expected { expected_count observer.new ≡ expected_count observer.old }
 {
     while let Some(event) = observer.next() {
         seen.push(event)?;
@@ -168,7 +168,7 @@ fn events_of(
     rows: &[Row],
 ) -> Result<Vec<Stamped>, AllocError>
     requires few { length rows.now < 2 ^ 32 }
-    requires new { expected_of observer.old ≡ 0 }
+    requires new { expected_count observer.old ≡ 0 }
     requires drained { remaining observer.old ≡ [] }
 {
     let mut seen = Vec::new(alloc);

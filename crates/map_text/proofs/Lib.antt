@@ -1,3 +1,4 @@
+pub mod ExactRows
 pub mod Listing
 pub mod OneNeed
 pub mod OneRow

@@ -11,7 +11,7 @@ use Rattle.map_text.specs.declared.rows.Kind.{Kind}
 use Rattle.map_text.specs.declared.rows.Kind.TheVariants as kind
 use Rattle.map_text.specs.declared.rows.Row.{Row}
 use Rattle.map_text.specs.declared.rows.Start.{Start}
-use Rattle.map_text.specs.Rows.{first_at, numbered, own_rows, row_of, row_to, rows_between, sum_of}
+use Rattle.map_text.specs.Rows.{first_at, numbered_starts, own_rows, row_of, row_to, rows_between, sum_of}
 
 -- ---- starts
 
@@ -47,12 +47,12 @@ between_more starts end i rows more all to inside next is before =
 
 -- one start more of those that are numbered
 pub numbered_more : (k : Kind) (addresses : List ℕ) (i : ℕ) (starts more all : List Start) → i < length addresses
-    → more ≡ starts ++ record { kind = k; number = i; at = get_or addresses i 0 } ∷ [] → starts ++ numbered k i (drop i addresses) ≡ all
-    → more ++ numbered k (i + 1) (drop (i + 1) addresses) ≡ all
+    → more ≡ starts ++ record { kind = k; number = i; at = get_or addresses i 0 } ∷ [] → starts ++ numbered_starts k i (drop i addresses) ≡ all
+    → more ++ numbered_starts k (i + 1) (drop (i + 1) addresses) ≡ all
 numbered_more k addresses i starts more all inside is before =
     let s : Start = record { kind = k; number = i; at = get_or addresses i 0 } in
-    let rest = numbered k (i + 1) (drop (i + 1) addresses) in
-    ap (λ l. l ++ rest) is ∙ append_assoc starts (s ∷ []) rest ∙ ap (λ l. starts ++ numbered k i l) (sym (drop_more addresses i 0 inside)) ∙ before
+    let rest = numbered_starts k (i + 1) (drop (i + 1) addresses) in
+    ap (λ l. l ++ rest) is ∙ append_assoc starts (s ∷ []) rest ∙ ap (λ l. starts ++ numbered_starts k i l) (sym (drop_more addresses i 0 inside)) ∙ before
 
 -- ---- stacks
 

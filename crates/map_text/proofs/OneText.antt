@@ -1,5 +1,5 @@
 -- Texts have one list of lines at most.
-use Rattle.std.proofs.Common.{◌≡◌, ◌+◌, ◌∙◌, ℕ, zero, suc, List, ◌++◌, [], ◌∷◌, cond, length, get_or, refl, sym, ap, subst, arith}
+use Rattle.std.proofs.Common.{◌≡◌, ◌∙◌, ℕ, zero, suc, List, ◌++◌, [], ◌∷◌, cond, length, get_or, refl, sym, ap, subst, arith}
 use Rattle.std.proofs.lemmas.List.{ext_get_or}
 use Rattle.sloth_base.specs.declared.app.App.{App}
 use Rattle.sloth_base.specs.declared.config.Config.{Config}
@@ -9,8 +9,9 @@ use Rattle.sloth_region.specs.declared.map.Map.{Map}
 use Rattle.code_rules.specs.WellFormed.{WellFormed}
 use Rattle.sloth_source.proofs.Unique.{one_meaning}
 use Rattle.stack_bounds.specs.Bounds.{AreBounds, AreStacked, CallsInTurn, IsGreatest, stacked_bytes, total, used_bytes}
+use Rattle.stack_bounds.proofs.Parts.{one_greatest}
 use Rattle.mem_map.specs.Planned.{IsPlanned}
-use Rattle.mem_map.specs.Stacks.{behind_data, is_extended}
+use Rattle.mem_map.specs.Stacks.{address_behind_data, is_extended}
 use Rattle.mem_map.specs.Zones.{stack_of}
 use Rattle.mem_map.proofs.OnePlan.{AreAlike, one_plan}
 use Rattle.map_text.specs.MapText.{OneText, lines_of, map_text}
@@ -37,8 +38,8 @@ module _ (config : Config) (m : Map) (tops : List ℕ) (words : Extent) where
 
   rows_alike : map_rows config other ≡ map_rows config m
   rows_alike =
-      ap (λ (l : List Start). rows_between l (behind_data m) ++ shared_rows config m ++ own_rows config other (length config.tasks)) starts_alike
-      ∙ ap (λ (l : List Row). rows_between (starts_of config m) (behind_data m) ++ shared_rows config m ++ l) (own_alike (length config.tasks))
+      ap (λ (l : List Start). rows_between l (address_behind_data m) ++ shared_rows config m ++ own_rows config other (length config.tasks)) starts_alike
+      ∙ ap (λ (l : List Row). rows_between (starts_of config m) (address_behind_data m) ++ shared_rows config m ++ l) (own_alike (length config.tasks))
 
 same_rows : (config : Config) (m n : Map) → AreAlike m n → map_rows config m ≡ map_rows config n
 same_rows config m n h =
@@ -51,14 +52,6 @@ same_rows config m n h =
 
 -- ---- bounds
 
-greatest_same : (Kind : List ℕ → Type 0) (size : List ℕ → ℕ) (m n : ℕ) → IsGreatest Kind size m → IsGreatest Kind size n → m ≡ n
-greatest_same Kind size m n h k =
-    let one = h.none_greater k.some.0 k.some.1 in
-    let other = k.none_greater h.some.0 h.some.1 in
-    let e = h.some.2 in
-    let f = k.some.2 in
-    omega (arith, one, other, e, f)
-
 same_bounds : (config : Config) (app : App) (a b : Bounds) → WellFormed config app → AreBounds config app a → AreBounds config app b → a ≡ b
 same_bounds config app a b well p q =
     let count = p.count in
@@ -66,9 +59,9 @@ same_bounds config app a b well p q =
     ext_get_or 0 a.bytes b.bytes (p.count ∙ sym q.count)
     (λ t l.
     let body = well.in_range.tasks.body t (omega (arith, l, count)) in
-    greatest_same (CallsInTurn app body.0) (used_bytes app body.0) (get_or a.bytes t 0) (get_or b.bytes t 0) (p.bytes t body.0 body.1) (q.bytes t body.0 body.1)) in
+    one_greatest (CallsInTurn app body.0) (used_bytes app body.0) (get_or a.bytes t 0) (get_or b.bytes t 0) (p.bytes t body.0 body.1) (q.bytes t body.0 body.1)) in
     let G : List ℕ → Type 0 = λ l. IsGreatest (AreStacked config app) (total (λ t. get_or l t 0)) a.shared in
-    let shared : a.shared ≡ b.shared = greatest_same (AreStacked config app) (stacked_bytes b) a.shared b.shared (subst G bytes p.shared) q.shared in
+    let shared : a.shared ≡ b.shared = one_greatest (AreStacked config app) (stacked_bytes b) a.shared b.shared (subst G bytes p.shared) q.shared in
     ap (λ x. record { bytes = x; shared = a.shared }) bytes ∙ ap (λ x. record { bytes = b.bytes; shared = x }) shared
 
 -- ---- the text

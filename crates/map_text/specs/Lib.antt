@@ -1,3 +1,4 @@
+pub mod ExactRows
 pub mod Listable
 pub mod MapText
 pub mod Rows

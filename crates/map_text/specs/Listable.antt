@@ -2,11 +2,12 @@
 use Rattle.std.specs.Prelude.{◌<◌, ◌≤◌, length}
 use Rattle.sloth_base.specs.declared.config.Config.{Config}
 use Rattle.sloth_region.specs.declared.map.Map.{Map}
-use Rattle.mem_map.specs.Stacks.{behind_data}
-use Rattle.map_text.specs.Rows.{behind_code}
+use Rattle.mem_map.specs.Stacks.{address_behind_data}
+use Rattle.map_text.specs.Rows.{address_behind_code}
 
--- its zones end at addresses of 32 bits, and there are at most 30 tasks
+-- its zones end at addresses of 32 bits, and there are at most 30 tasks and 2 counters
 pub record IsListable (config : Config) (map : Map) : Type 0 where
-  pub code : behind_code map < 4294967296
-  pub data_zone : behind_data map < 4294967296
+  pub code : address_behind_code map < 4294967296
+  pub data_zone : address_behind_data map < 4294967296
   pub few_tasks : length config.tasks ≤ 30
+  pub few_counters : length config.counters ≤ 2

@@ -1,5 +1,5 @@
 -- The lines of the command `map`.
-use Rattle.std.specs.Prelude.{ℕ, zero, suc, ◌+◌, ◌≡◌, ◌==◌, cond, List, [], ◌++◌, codes, decimal, length, get_or, Option, Some, None}
+use Rattle.std.specs.Prelude.{ℕ, zero, suc, ◌≡◌, ◌==◌, cond, List, [], ◌++◌, codes, decimal, length, get_or, Option, Some, None}
 use Rattle.std.specs.List.{flat_map}
 use Rattle.sloth_base.specs.declared.app.App.{App}
 use Rattle.sloth_base.specs.declared.config.Config.{Config}
@@ -9,14 +9,14 @@ use Rattle.sloth_base.specs.declared.service.ObjectKind.TheVariants as object
 use Rattle.sloth_base.specs.declared.service.Service.{Service}
 use Rattle.sloth_base.specs.Blocks.{block_service, block_object}
 use Rattle.sloth_base.specs.ConfigRange.{scheduler_number}
-use Rattle.sloth_base.specs.Named.{alarm_declaration, declaration, function, no_symbol}
+use Rattle.sloth_base.specs.Named.{alarm_declaration, counter_declaration, declaration, function, no_symbol}
 use Rattle.sloth_base.specs.ServiceCodes.{object_kind, service_name}
 use Rattle.sloth_region.specs.declared.map.Map.{Map}
 use Rattle.trace_text.specs.Listing.{word_text}
 use Rattle.code_rules.specs.WellFormed.{WellFormed}
 use Rattle.stack_bounds.specs.Bounds.{AreBounds, bytes_of}
 use Rattle.mem_map.specs.Planned.{IsPlanned}
-use Rattle.sloth_source.specs.Texts.{Accepted}
+use Rattle.sloth_source.specs.Texts.{AreAccepted}
 use Rattle.map_text.specs.Rows.{map_rows, sum_of}
 use Rattle.map_text.specs.declared.rows.Kind.{Kind}
 use Rattle.map_text.specs.declared.rows.Kind.TheVariants as kind
@@ -47,6 +47,7 @@ piece_text config app kind.Vectors number = codes "vectors"
 piece_text config app kind.Boot number = codes "boot"
 piece_text config app kind.Idle number = codes "idle"
 piece_text config app kind.Prologue number = codes "prologue " ++ (declaration config number).name
+piece_text config app kind.Tick number = codes "tick " ++ (counter_declaration config number).name
 piece_text config app kind.Service number = codes "service " ++ service_text config (block_service number) (block_object number)
 piece_text config app kind.Code number = codes "code " ++ (function app number).name
 piece_text config app kind.Data number = codes "data " ++ (get_or app.symbols number no_symbol).name
@@ -92,7 +93,7 @@ pub record HasMap (config : Config) (app : App) (bounds : Bounds) (text : List �
 pub record IsMapText (oil src text : List ℕ) : Type 0 where
   pub config : Config
   pub app : App
-  pub accepted : Accepted oil src config app
+  pub accepted : AreAccepted oil src config app
   pub well_formed : WellFormed config app
   pub bounds : Bounds
   pub are_bounds : AreBounds config app bounds

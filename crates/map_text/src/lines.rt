@@ -1,7 +1,7 @@
 //! The lines of a map.
 ghost use Rattle.std.specs.Prelude.{◌≡◌, ◌<◌, ◌++◌, IfOk, OnOk, length, get_or};
 ghost use Rattle.sloth_base.specs.Blocks.{block_object, block_service};
-ghost use Rattle.sloth_base.specs.Named.{alarm_declaration, declaration, function, no_symbol};
+ghost use Rattle.sloth_base.specs.Named.{alarm_declaration, counter_declaration, declaration, function, no_symbol};
 ghost use Rattle.map_text.specs.MapText.{need_line, object_text, piece_text, resource_name, row_line, service_text, sum_line};
 
 use crate::rows::{Kind, Row};
@@ -21,6 +21,16 @@ fn task_name(config: &Config, number: usize) -> &[u8]
 {
     match config.tasks.items().get(number) {
         Some(task) => task.name.bytes(),
+        None => b"",
+    }
+}
+
+// The name of a counter.
+fn counter_name(config: &Config, number: usize) -> &[u8]
+    ensures { result.now ≡ (counter_declaration config.now number).name }
+{
+    match config.counters.items().get(number) {
+        Some(counter) => counter.name.bytes(),
         None => b"",
     }
 }
@@ -146,6 +156,7 @@ fn push_piece(
         Kind::Boot => push(text, b"boot"),
         Kind::Idle => push(text, b"idle"),
         Kind::Prologue => push_both(text, b"prologue ", task_name(config, row.number)),
+        Kind::Tick => push_both(text, b"tick ", counter_name(config, row.number)),
         Kind::Service => {
             let service = block_text(alloc, config, row.number)?;
             push_both(text, b"service ", service.as_slice())

@@ -20,6 +20,8 @@ pub enum Kind {
     Idle,
     /// The prologue of a task.
     Prologue,
+    /// The handler of a counter's line.
+    Tick,
     /// The code of a service with its object.
     Service,
     /// The code of a function.
@@ -34,7 +36,7 @@ pub enum Kind {
     Stack,
 }
 
-/// Where a piece begins: the task, service block, function or symbol of this number, or the one piece of its kind, with the number 0.
+/// Where a piece begins: the task, counter, service block, function or symbol of this number, or the one piece of its kind, with the number 0.
 #[derive(Clone, Copy)]
 pub struct Start {
     pub kind: Kind,

@@ -1,11 +1,13 @@
 //! Where each piece of code and data begins.
-ghost use Rattle.std.specs.Prelude.{◌≡◌, ◌<◌, ◌≤◌, ◌+◌, ◌++◌, ◌∷◌, [], IfOk, OnOk, get_or, take};
-ghost use Rattle.mem_map.specs.Zones.{nowhere};
+ghost use Rattle.std.specs.Prelude.{◌≡◌, ◌<◌, ◌≤◌, ◌+◌, ◌++◌, ◌∷◌, [], IfOk, OnOk, drop, get_or, take};
+ghost use Rattle.sloth_base.specs.Owners.{first_counter_line};
+ghost use Rattle.mem_map.specs.Zones.{no_extent};
 ghost use Rattle.map_text.specs.Listable.{IsListable};
-ghost use Rattle.map_text.specs.Rows.{behind_code, code_places, numbered, single, starts_of};
+ghost use Rattle.map_text.specs.Rows.{address_behind_code, code_places, numbered_starts, single_start, starts_of};
 
 use crate::rows::{Kind, Start};
 use sloth_base::config::Config;
+use sloth_base::lines::COUNTER_LINE;
 use sloth_base::memory::NoMemory;
 use sloth_base::memory_map::{BOOT_BASE, MEMORY_BASE, VECTORS_BASE};
 use sloth_region::extent::Extent;
@@ -26,7 +28,7 @@ pub const STACKS: usize = 3;
 
 /// An extent of a list, or none.
 pub fn extent_at(extents: &[Extent], place: usize) -> Extent
-    ensures { result ≡ get_or extents.now place nowhere }
+    ensures { result ≡ get_or extents.now place no_extent }
 {
     match extents.get(place) {
         Some(extent) => *extent,
@@ -54,7 +56,7 @@ fn number_or(numbers: &[u32], place: usize, other: u32) -> u32
 
 // Where the code of each function begins.
 fn code_places(alloc: Global, map: &Map) -> Result<Vec<u32>, NoMemory>
-    requires { behind_code map.now < 4294967296 }
+    requires { address_behind_code map.now < 4294967296 }
     ensures { IfOk result (λ places. places.items ≡ code_places map.now) }
 {
     let end = behind(extent_at(map.extents.items(), CODE));
@@ -69,7 +71,7 @@ fn code_places(alloc: Global, map: &Map) -> Result<Vec<u32>, NoMemory>
 
 // Appends where a piece begins of which there is one.
 fn push_single(starts: &mut Vec<Start>, kind: Kind, at: u32) -> Result<(), NoMemory>
-    ensures { OnOk result (starts.new.items ≡ starts.old.items ++ single kind at ∷ []) }
+    ensures { OnOk result (starts.new.items ≡ starts.old.items ++ single_start kind at ∷ []) }
 {
     starts
         .push(Start {
@@ -83,7 +85,7 @@ fn push_single(starts: &mut Vec<Start>, kind: Kind, at: u32) -> Result<(), NoMem
 // Appends where the pieces of a kind begin that have these addresses.
 #[tactic(auto, using(crate::proofs::OneRow::numbered_more))]
 fn push_numbered(starts: &mut Vec<Start>, kind: Kind, addresses: &[u32]) -> Result<(), NoMemory>
-    ensures { OnOk result (starts.new.items ≡ starts.old.items ++ numbered kind 0 addresses.now) }
+    ensures { OnOk result (starts.new.items ≡ starts.old.items ++ numbered_starts kind 0 addresses.now) }
 {
     for number in 0..addresses.len() {
         let start = Start {
@@ -104,6 +106,15 @@ fn prologues(map: &Map, tasks: usize) -> &[u32]
     &map.handlers[..tasks]
 }
 
+// Those of the ticks of so many counters.
+fn ticks(map: &Map, counters: usize) -> &[u32]
+    requires { counters ≤ 2 }
+    ensures { result.now ≡ take counters (drop first_counter_line map.now.handlers) }
+{
+    let first = usize::from(COUNTER_LINE);
+    &map.handlers[first..first + counters]
+}
+
 /// Where each piece begins, in the order of the addresses.
 #[tactic(auto, unfolding(crate::specs::Rows::starts_of))]
 pub fn starts(alloc: Global, config: &Config, map: &Map) -> Result<Vec<Start>, NoMemory>
@@ -112,6 +123,7 @@ pub fn starts(alloc: Global, config: &Config, map: &Map) -> Result<Vec<Start>, N
 {
     let code = code_places(alloc, map)?;
     let tasks = config.tasks.items().len();
+    let counters = config.counters.items().len();
     let end = behind(extent_at(map.extents.items(), DATA)).saturating_sub(WORD);
     let mut starts = Vec::new(alloc);
     push_single(&mut starts, Kind::Words, MEMORY_BASE)?;
@@ -119,6 +131,7 @@ pub fn starts(alloc: Global, config: &Config, map: &Map) -> Result<Vec<Start>, N
     push_single(&mut starts, Kind::Boot, BOOT_BASE)?;
     push_single(&mut starts, Kind::Idle, map.idle)?;
     push_numbered(&mut starts, Kind::Prologue, prologues(map, tasks))?;
+    push_numbered(&mut starts, Kind::Tick, ticks(map, counters))?;
     push_numbered(&mut starts, Kind::Service, &map.places.blocks)?;
     push_numbered(&mut starts, Kind::Code, code.as_slice())?;
     push_numbered(&mut starts, Kind::Data, map.places.symbols.items())?;

@@ -5,13 +5,15 @@ use Rattle.std.proofs.lemmas.Bool.{cases_eq, eq-eqb, ne_eqb, cases_Bool}
 use Rattle.std.proofs.lemmas.List.{length-set, get_or-set_same, get_or-set_other, ext_get_or, set_comm}
 use Rattle.std.proofs.Math.Bool.{or-false, and-false}
 use Rattle.sloth_base.specs.Arrive.{arrive}
-use Rattle.masked_code.specs.Owes.{AreOf}
-use Rattle.masked_code.specs.Trace.{Trace, is_touched_line, touched_of, untouched_of, early, late}
+use Rattle.masked_code.specs.Owes.{AreOfLine}
+use Rattle.masked_code.specs.Trace.{Trace, is_touched_line, touched_lines_of, untouched_lines_of, early_arrivals, late_arrivals}
 
+-- lines that arrive behind others
 pub arrive-append : (a b p : List ℕ) → arrive (a ++ b) p ≡ arrive b (arrive a p)
 arrive-append [] b p = refl
 arrive-append (l ∷ a) b p = arrive-append a b (set p l 1)
 
+-- it does not matter whether a line becomes pending before others arrive or behind them
 pub arrive-set : (a p : List ℕ) (t : ℕ) → arrive a (set p t 1) ≡ set (arrive a p) t 1
 arrive-set [] p t = refl
 arrive-set (l ∷ a) p t =
@@ -39,6 +41,7 @@ both_one : (b : Bool) → ◌≡◌ {A = ℕ} (cond b 1 1) 1
 both_one true = refl
 both_one false = refl
 
+-- a line is among both where it is among one of them
 pub has-append : (a b : List ℕ) (k : ℕ) → has (a ++ b) k ≡ (has a k || has b k)
 has-append [] b k = refl
 has-append (l ∷ a) b k = ap (λ x. eqb l k || x) (has-append a b k) ∙ sym (or_assoc (eqb l k) (has a k) (has b k))
@@ -72,6 +75,7 @@ abbrev pub of_line : ℕ → List ℕ → List ℕ
 of_line k [] = []
 of_line k (l ∷ a) = cond (eqb l k) (l ∷ of_line k a) (of_line k a)
 
+-- those that are not line k
 abbrev pub not_line : ℕ → List ℕ → List ℕ
 not_line k [] = []
 not_line k (l ∷ a) = cond (eqb l k) (not_line k a) (l ∷ not_line k a)
@@ -124,6 +128,7 @@ parted k a p =
 pub others_leave : (k : ℕ) (a p : List ℕ) → k < length p → get_or (arrive (not_line k a) p) k 0 ≡ get_or p k 0
 others_leave k a p h = byte_after (not_line k a) p k h ∙ ap (λ b. cond b 1 (get_or p k 0)) (has_not_same k a)
 
+-- the byte of a line is what the arrivals of that line alone make it
 pub found_of_line : (k : ℕ) (a p : List ℕ) → k < length p → get_or (arrive a p) k 0 ≡ get_or (arrive (of_line k a) p) k 0
 found_of_line k a p h =
     let n = length-arrive (of_line k a) p in
@@ -142,6 +147,7 @@ not_line-set k v (l ∷ a) p =
     ∙ ap (λ b. set (arrive (cond b (not_line k a) (l ∷ not_line k a)) p) k v) (sym (ne_eqb l k n)))
     (cases_eq l k)
 
+-- a store to the byte of a line comes before the arrivals of all others
 pub stored_parted : (k v : ℕ) (a p : List ℕ) → set (arrive a p) k v ≡ arrive (not_line k a) (set (arrive (of_line k a) p) k v)
 stored_parted k v a p = ap (λ q. set q k v) (sym (parted k a p)) ∙ sym (not_line-set k v a (arrive (of_line k a) p))
 
@@ -153,14 +159,17 @@ abbrev pub taken_at : Option ℕ → List ℕ → (List ℕ → List ℕ) → Li
 taken_at None waiting go = go waiting
 taken_at (Some k) waiting go = of_line k waiting ++ go (not_line k waiting)
 
+-- the same of those that are left
 abbrev pub left_at : Option ℕ → List ℕ → (List ℕ → List ℕ) → List ℕ
 left_at None waiting go = go waiting
 left_at (Some k) waiting go = go (not_line k waiting)
 
+-- those that a touch in the trace takes up
 abbrev pub taken : Trace → List ℕ → List ℕ
 taken [] waiting = []
 taken (e ∷ t) waiting = taken_at e.1 (waiting ++ e.0) (λ w. taken t w)
 
+-- those that still wait behind the trace
 abbrev pub left : Trace → List ℕ → List ℕ
 left [] waiting = waiting
 left (e ∷ t) waiting = left_at e.1 (waiting ++ e.0) (λ w. left t w)
@@ -185,17 +194,17 @@ spread_or f l k a =
     (λ n. ap (λ b. (f l && b) || (f k && a)) (ne_eqb l k n) ∙ ap (λ b. b || (f k && a)) (and-false (f l)) ∙ ap (λ b. f k && (b || a)) (sym (ne_eqb l k n)))
     (cases_eq l k)
 
-has_touched : (t : Trace) (a : List ℕ) (k : ℕ) → has (touched_of t a) k ≡ (is_touched_line t k && has a k)
+has_touched : (t : Trace) (a : List ℕ) (k : ℕ) → has (touched_lines_of t a) k ≡ (is_touched_line t k && has a k)
 has_touched t [] k = sym (and-false (is_touched_line t k))
 has_touched t (l ∷ a) k =
-    pick (is_touched_line t l) l (touched_of t a) k
+    pick (is_touched_line t l) l (touched_lines_of t a) k
     ∙ ap (λ x. (is_touched_line t l && eqb l k) || x) (has_touched t a k)
     ∙ spread_or (is_touched_line t) l k (has a k)
 
-has_untouched : (t : Trace) (a : List ℕ) (k : ℕ) → has (untouched_of t a) k ≡ (not (is_touched_line t k) && has a k)
+has_untouched : (t : Trace) (a : List ℕ) (k : ℕ) → has (untouched_lines_of t a) k ≡ (not (is_touched_line t k) && has a k)
 has_untouched t [] k = sym (and-false (not (is_touched_line t k)))
 has_untouched t (l ∷ a) k =
-    leave_out (is_touched_line t l) l (untouched_of t a) k
+    leave_out (is_touched_line t l) l (untouched_lines_of t a) k
     ∙ ap (λ x. (not (is_touched_line t l) && eqb l k) || x) (has_untouched t a k)
     ∙ spread_or (λ j. not (is_touched_line t j)) l k (has a k)
 
@@ -207,23 +216,23 @@ later false l a e = refl
 here : (t l a e : Bool) → ((l || a) || ((t && false) || e)) ≡ (l || (a || e))
 here t l a e = ap (λ x. (l || a) || (x || e)) (and-false t) ∙ or_assoc l a e
 
-taken_has : (t : Trace) (w : List ℕ) (k : ℕ) → has (taken t w) k ≡ ((is_touched_line t k && has w k) || has (early t) k)
+taken_has : (t : Trace) (w : List ℕ) (k : ℕ) → has (taken t w) k ≡ ((is_touched_line t k && has w k) || has (early_arrivals t) k)
 taken_has [] w k = refl
 taken_has ((a, None) ∷ t) w k =
     taken_has t (w ++ a) k
-    ∙ ap (λ x. (is_touched_line t k && x) || has (early t) k) (has-append w a k)
-    ∙ later (is_touched_line t k) (has w k) (has a k) (has (early t) k)
-    ∙ ap (λ x. (is_touched_line t k && has w k) || (x || has (early t) k)) (sym (has_touched ((a, None) ∷ t) a k))
-    ∙ ap (λ x. (is_touched_line t k && has w k) || x) (sym (has-append (touched_of ((a, None) ∷ t) a) (early t) k))
+    ∙ ap (λ x. (is_touched_line t k && x) || has (early_arrivals t) k) (has-append w a k)
+    ∙ later (is_touched_line t k) (has w k) (has a k) (has (early_arrivals t) k)
+    ∙ ap (λ x. (is_touched_line t k && has w k) || (x || has (early_arrivals t) k)) (sym (has_touched ((a, None) ∷ t) a k))
+    ∙ ap (λ x. (is_touched_line t k && has w k) || x) (sym (has-append (touched_lines_of ((a, None) ∷ t) a) (early_arrivals t) k))
 taken_has ((a, Some j) ∷ t) w k =
     let m = w ++ a in
     let b = is_touched_line ((a, Some j) ∷ t) k in
     let later_too = is_touched_line t k in
     let waits = has w k in
     let arrives = has a k in
-    let rest = has (early t) k in
-    let last : has (early ((a, Some j) ∷ t)) k ≡ ((b && arrives) || rest) =
-    has-append (touched_of ((a, Some j) ∷ t) a) (early t) k ∙ ap (λ x. x || rest) (has_touched ((a, Some j) ∷ t) a k)
+    let rest = has (early_arrivals t) k in
+    let last : has (early_arrivals ((a, Some j) ∷ t)) k ≡ ((b && arrives) || rest) =
+    has-append (touched_lines_of ((a, Some j) ∷ t) a) (early_arrivals t) k ∙ ap (λ x. x || rest) (has_touched ((a, Some j) ∷ t) a k)
     in
     has-append (of_line j m) (taken t (not_line j m)) k
     ∙ ap (λ x. has (of_line j m) k || x) (taken_has t (not_line j m) k)
@@ -241,23 +250,23 @@ taken_has ((a, Some j) ∷ t) w k =
     (cases_eq k j)
     ∙ ap (λ x. (b && waits) || x) (sym last)
 
-left_has : (t : Trace) (w : List ℕ) (k : ℕ) → has (left t w) k ≡ ((not (is_touched_line t k) && has w k) || has (late t) k)
+left_has : (t : Trace) (w : List ℕ) (k : ℕ) → has (left t w) k ≡ ((not (is_touched_line t k) && has w k) || has (late_arrivals t) k)
 left_has [] w k = sym (or-false (has w k))
 left_has ((a, None) ∷ t) w k =
     left_has t (w ++ a) k
-    ∙ ap (λ x. (not (is_touched_line t k) && x) || has (late t) k) (has-append w a k)
-    ∙ later (not (is_touched_line t k)) (has w k) (has a k) (has (late t) k)
-    ∙ ap (λ x. (not (is_touched_line t k) && has w k) || (x || has (late t) k)) (sym (has_untouched ((a, None) ∷ t) a k))
-    ∙ ap (λ x. (not (is_touched_line t k) && has w k) || x) (sym (has-append (untouched_of ((a, None) ∷ t) a) (late t) k))
+    ∙ ap (λ x. (not (is_touched_line t k) && x) || has (late_arrivals t) k) (has-append w a k)
+    ∙ later (not (is_touched_line t k)) (has w k) (has a k) (has (late_arrivals t) k)
+    ∙ ap (λ x. (not (is_touched_line t k) && has w k) || (x || has (late_arrivals t) k)) (sym (has_untouched ((a, None) ∷ t) a k))
+    ∙ ap (λ x. (not (is_touched_line t k) && has w k) || x) (sym (has-append (untouched_lines_of ((a, None) ∷ t) a) (late_arrivals t) k))
 left_has ((a, Some j) ∷ t) w k =
     let m = w ++ a in
     let b = is_touched_line ((a, Some j) ∷ t) k in
     let later_too = is_touched_line t k in
     let waits = has w k in
     let arrives = has a k in
-    let rest = has (late t) k in
-    let last : has (late ((a, Some j) ∷ t)) k ≡ ((not b && arrives) || rest) =
-    has-append (untouched_of ((a, Some j) ∷ t) a) (late t) k ∙ ap (λ x. x || rest) (has_untouched ((a, Some j) ∷ t) a k)
+    let rest = has (late_arrivals t) k in
+    let last : has (late_arrivals ((a, Some j) ∷ t)) k ≡ ((not b && arrives) || rest) =
+    has-append (untouched_lines_of ((a, Some j) ∷ t) a) (late_arrivals t) k ∙ ap (λ x. x || rest) (has_untouched ((a, Some j) ∷ t) a k)
     in
     left_has t (not_line j m) k
     ∙ ⊎_elim
@@ -273,21 +282,23 @@ left_has ((a, Some j) ∷ t) w k =
     ∙ ap (λ x. (not b && waits) || x) (sym last)
 
 -- with none that wait, those taken up are the early ones, and those left the late ones
-pub taken_early : (t : Trace) (p : List ℕ) → arrive (taken t []) p ≡ arrive (early t) p
-taken_early t p = same_arrivals (taken t []) (early t) p (λ k. taken_has t [] k ∙ ap (λ x. x || has (early t) k) (and-false (is_touched_line t k)))
+pub taken_early : (t : Trace) (p : List ℕ) → arrive (taken t []) p ≡ arrive (early_arrivals t) p
+taken_early t p = same_arrivals (taken t []) (early_arrivals t) p (λ k. taken_has t [] k ∙ ap (λ x. x || has (early_arrivals t) k) (and-false (is_touched_line t k)))
 
-pub left_late : (t : Trace) (p : List ℕ) → arrive (left t []) p ≡ arrive (late t) p
-left_late t p = same_arrivals (left t []) (late t) p (λ k. left_has t [] k ∙ ap (λ x. x || has (late t) k) (and-false (not (is_touched_line t k))))
+-- those that are left are the late ones
+pub left_late : (t : Trace) (p : List ℕ) → arrive (left t []) p ≡ arrive (late_arrivals t) p
+left_late t p = same_arrivals (left t []) (late_arrivals t) p (λ k. left_has t [] k ∙ ap (λ x. x || has (late_arrivals t) k) (and-false (not (is_touched_line t k))))
 
-pub are_of : (k : ℕ) (a : List ℕ) → AreOf k (of_line k a)
+-- the arrivals of one line are of that line
+pub are_of : (k : ℕ) (a : List ℕ) → AreOfLine k (of_line k a)
 are_of k [] = tt
 are_of k (l ∷ a) =
     ⊎_elim
-    (λ e. subst (λ b. AreOf k (cond b (l ∷ of_line k a) (of_line k a))) (sym (eq-eqb l k e)) (e, are_of k a))
-    (λ n. subst (λ b. AreOf k (cond b (l ∷ of_line k a) (of_line k a))) (sym (ne_eqb l k n)) (are_of k a))
+    (λ e. subst (λ b. AreOfLine k (cond b (l ∷ of_line k a) (of_line k a))) (sym (eq-eqb l k e)) (e, are_of k a))
+    (λ n. subst (λ b. AreOfLine k (cond b (l ∷ of_line k a) (of_line k a))) (sym (ne_eqb l k n)) (are_of k a))
     (cases_eq l k)
 
 -- arrivals of a line leave the bytes of the others
-pub other_bytes : (k : ℕ) (a p : List ℕ) (j : ℕ) → AreOf k a → j ≢ k → get_or (arrive a p) j 0 ≡ get_or p j 0
+pub other_bytes : (k : ℕ) (a p : List ℕ) (j : ℕ) → AreOfLine k a → j ≢ k → get_or (arrive a p) j 0 ≡ get_or p j 0
 other_bytes k [] p j h ne = refl
 other_bytes k (l ∷ a) p j h ne = other_bytes k a (set p l 1) j h.1 ne ∙ get_or-set_other p l j 1 0 (λ e. ne (e ∙ h.0))

@@ -9,7 +9,7 @@ use Rattle.sloth_region.specs.Layout.{cur, below_word, context_bytes, context_le
 use Rattle.rv32_instr.specs.declared.InstrKind.TheVariants.{Mret}
 use Rattle.rv32_instr.specs.Ram.{word_at, with_word}
 use Rattle.masked_code.specs.Owes.{◌▸◌, writes, loads, stores, accesses, Owes}
-use Rattle.masked_code.specs.Kernel.{HoldBases, IsBelow, asks_idle, leaving_code, HasLeft}
+use Rattle.masked_code.specs.Kernel.{HoldBases, IsBelow, idle_loop_test, leaving_code, HasLeft}
 use Rattle.masked_code.specs.Pieces.{restoring_code, restored_registers}
 use Rattle.masked_code.proofs.Words.{word_at-other}
 use Rattle.masked_code.proofs.Runs.{restores_owes, length-restored, restored_other, restored_at}
@@ -87,7 +87,7 @@ module _ (from to : ℕ) (E : List ℕ → State → State → Type 0) (start : 
 
   -- the registers are restored where a task runs below
   asked_owe : (o : ℕ) → o ≤ 0x20_1000 → ((end : State) → HasLeft place c end → E [] start end)
-      → Owes from to o (asks_idle ++ (restoring_code 27 5 1 ++ Mret ∷ [])) 0 E start d
+      → Owes from to o (idle_loop_test ++ (restoring_code 27 5 1 ++ Mret ∷ [])) 0 E start d
   asked_owe o small go =
       let al = b.aligned in
       let fits = b.inside in
@@ -103,6 +103,7 @@ module _ (from to : ℕ) (E : List ℕ → State → State → Type 0) (start : 
             (λ some i low high. restored_at 27 5 ram2 place regs i low high (omega arith) ∙ same (4 * i))));
       }
 
+  -- what is owed of going back: of the state that it ends in, whatever runs below
   pub leave_owes : (o : ℕ) → o ≤ 0x20_0000 → ((end : State) → HasLeft place c end → E [] start end)
       → Owes from to o leaving_code 0 E start (record c { registers = 0 ∷ x1 ∷ x2 ∷ controller_base ∷ memory_base ∷ x5 ∷ tail })
   leave_owes o small go =

@@ -28,6 +28,7 @@ abbrev pub only : ℤ → Following
 only (pos n) = cond (nat_le n 2097152) (Only ((n - 4) / 4)) Any
 only (negsuc n) = Any
 
+-- by the kind of the instruction
 abbrev pub following : InstrKind → Following
 following (Beq rs1 rs2 imm) = past imm
 following (Bne rs1 rs2 imm) = past imm
@@ -112,6 +113,7 @@ module _ (n o : ℕ) (code : List InstrKind) (inside : o + 4 ≤ 0x20_0000) wher
           subst (λ p. longest code p ≤ n) is (omega (arith, l))
       by false small l = λ passed e. let all = longest_le code passed in omega (arith, l, all)
 
+  -- of all that may follow an instruction at most so many are executed
   pub leaves_few : (kind : InstrKind) (x : List ℕ) → longest (kind ∷ code) 0 ≤ suc n → LeavesFew n o code (effect kind (memory_base + o) x)
   leaves_few (Beq rs1 rs2 imm) x h = branch_leaves imm true h
   leaves_few (Bne rs1 rs2 imm) x h = branch_leaves imm true h

@@ -7,11 +7,13 @@ use Rattle.rv32_instr.specs.Execute.{Next, Going, Stopped, step, touched}
 use Rattle.masked_code.specs.Trace.{Trace}
 use Rattle.masked_code.specs.Masked.{OnGoing, Masked, Steps}
 
+-- a stretch may end where it begins
 pub masked_here : (n : ℕ) (state : State) (P : Trace → State → Type 0) → P [] state → Masked n state P
 unfolding Masked
 masked_here zero state P h = h
 masked_here (suc n) state P h = inl h
 
+-- or behind one step more, whatever lines arrive before it
 pub masked_step : (n : ℕ) (state : State) (P : Trace → State → Type 0) → state.core.mie ≡ false → ((lines : List ℕ) → OnGoing (step (state_arrive lines state)) (λ next. Masked n next (λ trace end. P ((lines, touched (state_arrive lines state)) ∷ trace) end))) → Masked (suc n) state P
 unfolding Masked
 masked_step n state P z h = inr (z, h)
@@ -20,12 +22,14 @@ pub ongoing_map : (x : Next) (P R : State → Type 0) → ((state : State) → P
 ongoing_map (Going next) P R f h = f next h
 ongoing_map (Stopped why) P R f h = h
 
+-- what holds at the end of a stretch may be weakened
 pub masked_map : (n : ℕ) (state : State) (P Q : Trace → State → Type 0) → ((trace : Trace) (end : State) → P trace end → Q trace end) → Masked n state P → Masked n state Q
 unfolding Masked
 masked_map zero state P Q f h = f [] state h
 masked_map (suc n) state P Q f (inl h) = inl (f [] state h)
 masked_map (suc n) state P Q f (inr h) = inr (h.0, λ lines. ongoing_map (step (state_arrive lines state)) _ _ (λ next k. masked_map n next _ _ (λ trace end. f ((lines, touched (state_arrive lines state)) ∷ trace) end) k) (h.1 lines))
 
+-- a stretch of few steps is one of at most so many more
 pub masked_more : (n k : ℕ) (state : State) (P : Trace → State → Type 0) → n ≤ k → Masked n state P → Masked k state P
 unfolding Masked
 masked_more zero k state P le h = masked_here k state P h

@@ -12,23 +12,26 @@ use Rattle.rv32_instr.specs.declared.effect.Change.TheVariants.{Keep, Replace, S
 use Rattle.rv32_instr.specs.declared.effect.Effect.TheVariants.{Load, Store}
 use Rattle.rv32_instr.specs.Ram.{word_at, with_word}
 use Rattle.rv32_instr.specs.Memory.{memory_of, with_memory, refusal, loaded_number, stored_memory}
-use Rattle.rv32_instr.specs.Execute.{perform, touched_by, pending_line, goes_on, unless_refused, with_register, with_csr, changed_core}
+use Rattle.rv32_instr.specs.Execute.{perform, touched_line_by, pending_line, goes_on, unless_refused, with_register, with_csr, changed_core}
 use Rattle.masked_code.specs.Owes.{IsWordAt, Pending, Enabled, Level, IsAt}
 use Rattle.masked_code.proofs.Machine.{word_allowed, word_loaded, word_stored, byte_allowed, store_allowed, pending_loaded, enabled_loaded, level_loaded, pending_stored, enabled_stored, level_stored}
 
 -- ---- which line an address is the pending byte of
 
+-- the first 32 bytes of the controller
 pub a_line : (l : ℕ) → l < 32 → pending_line (0x1000_0000 + l) ≡ Some l
 a_line l h =
     let e : 0x1000_0000 + l - 0x1000_0000 ≡ l = omega arith in
     ap (λ b. cond b (Some (0x1000_0000 + l - 0x1000_0000)) None) (and_from _ _ (le-leb 0x1000_0000 (0x1000_0000 + l) (omega arith)) (lt-ltb (0x1000_0000 + l) 0x1000_0020 (omega arith)))
     ∙ ap Some e
 
+-- no byte behind them
 pub no_line : (a : ℕ) → 0x1000_0020 ≤ a → pending_line a ≡ None
 no_line a h = ap (λ b. cond b (Some (a - 0x1000_0000)) None) (and_right _ _ (le-ltb a 0x1000_0020 h))
 
 -- ---- words of RAM
 
+-- loads and stores of words of RAM
 pub load_word : (c : Core) (rd address place word pc : ℕ) → IsWordAt address place → perform (Load width.Word rd address) word pc c ≡ goes_on pc (with_register c rd (word_at c.ram place))
 unfolding perform
 load_word c rd address place word pc w =
@@ -46,12 +49,13 @@ both_none : (b : Bool) → ◌≡◌ {A = Option ℕ} (cond b None None) None
 both_none true = refl
 both_none false = refl
 
-pub load_word_quiet : (rd address place : ℕ) → IsWordAt address place → touched_by (Load width.Word rd address) ≡ None
-unfolding touched_by
+-- they touch no line
+pub load_word_quiet : (rd address place : ℕ) → IsWordAt address place → touched_line_by (Load width.Word rd address) ≡ None
+unfolding touched_line_by
 load_word_quiet rd address place w = let e = w.is in no_line address (omega arith)
 
-pub store_word_quiet : (address place v : ℕ) → IsWordAt address place → touched_by (Store width.Word address v) ≡ None
-unfolding touched_by
+pub store_word_quiet : (address place v : ℕ) → IsWordAt address place → touched_line_by (Store width.Word address v) ≡ None
+unfolding touched_line_by
 store_word_quiet address place v w =
     let e = w.is in
     ap (λ x. cond (eqb (v % 256) 0) x None) (no_line address (omega arith)) ∙ both_none (eqb (v % 256) 0)
@@ -64,6 +68,7 @@ load_byte c rd address k word pc there e h =
     ap (λ x. unless_refused (refusal (memory_of c) x width.ByteU) x (goes_on pc (with_register c rd (loaded_number (memory_of c) x width.ByteU)))) e
     ∙ rw (byte_allowed c k there h)
 
+-- loads of a line's bytes
 pub load_pending : (c : Core) (rd address l word pc : ℕ) → c.controller ≡ true → IsAt address (Pending l) → perform (Load width.ByteU rd address) word pc c ≡ goes_on pc (with_register c rd (get_or c.pending l 0))
 load_pending c rd address l word pc there i =
     let below = i.1 in
@@ -79,12 +84,14 @@ load_level c rd address l word pc there i =
     let below = i.1 in
     load_byte c rd address (64 + l) word pc there i.0 (omega arith) ∙ ap (λ v. goes_on pc (with_register c rd v)) (level_loaded c l below)
 
-pub load_touches : (rd address l : ℕ) → IsAt address (Pending l) → touched_by (Load width.ByteU rd address) ≡ Some l
-unfolding touched_by
+-- a load of a pending byte touches its line
+pub load_touches : (rd address l : ℕ) → IsAt address (Pending l) → touched_line_by (Load width.ByteU rd address) ≡ Some l
+unfolding touched_line_by
 load_touches rd address l i = ap pending_line i.0 ∙ a_line l i.1
 
-pub load_quiet : (rd address : ℕ) → 0x1000_0020 ≤ address → touched_by (Load width.ByteU rd address) ≡ None
-unfolding touched_by
+-- one of an enable byte or a level touches none
+pub load_quiet : (rd address : ℕ) → 0x1000_0020 ≤ address → touched_line_by (Load width.ByteU rd address) ≡ None
+unfolding touched_line_by
 load_quiet rd address h = no_line address h
 
 store_byte : (c : Core) (address k v word pc : ℕ) → c.controller ≡ true → address ≡ 0x1000_0000 + k → k < 96 → perform (Store width.Byte address v) word pc c ≡ goes_on pc (with_memory c (stored_memory (memory_of c) (0x1000_0000 + k) width.Byte v))
@@ -93,6 +100,7 @@ store_byte c address k v word pc there e h =
     ap (λ x. unless_refused (refusal (memory_of c) x width.Byte) x (goes_on pc (with_memory c (stored_memory (memory_of c) x width.Byte v)))) e
     ∙ rw (store_allowed c k there h)
 
+-- stores to a line's bytes
 pub store_pending : (c : Core) (address l v word pc : ℕ) → c.controller ≡ true → IsAt address (Pending l) → perform (Store width.Byte address v) word pc c ≡ goes_on pc (record c { pending = set c.pending l (flag_of (v % 256)) })
 store_pending c address l v word pc there i =
     let below = i.1 in
@@ -108,18 +116,22 @@ store_level c address l v word pc there i =
     let below = i.1 in
     store_byte c address (64 + l) v word pc there i.0 (omega arith) ∙ ap (goes_on pc) (level_stored c l v below)
 
-pub store_touches : (address l v : ℕ) → IsAt address (Pending l) → v % 256 ≡ 0 → touched_by (Store width.Byte address v) ≡ Some l
-unfolding touched_by
+-- a store of 0 to a pending byte touches its line
+pub store_touches : (address l v : ℕ) → IsAt address (Pending l) → v % 256 ≡ 0 → touched_line_by (Store width.Byte address v) ≡ Some l
+unfolding touched_line_by
 store_touches address l v i z = ap (λ b. cond b (pending_line address) None) (eq-eqb (v % 256) 0 z) ∙ ap pending_line i.0 ∙ a_line l i.1
 
-pub raise_quiet : (address v : ℕ) → v % 256 ≢ 0 → touched_by (Store width.Byte address v) ≡ None
-unfolding touched_by
+-- one of another value does not, as it does what an arrival does
+pub raise_quiet : (address v : ℕ) → v % 256 ≢ 0 → touched_line_by (Store width.Byte address v) ≡ None
+unfolding touched_line_by
 raise_quiet address v ne = ap (λ b. cond b (pending_line address) None) (ne_eqb (v % 256) 0 ne)
 
-pub store_quiet : (address v : ℕ) → 0x1000_0020 ≤ address → touched_by (Store width.Byte address v) ≡ None
-unfolding touched_by
+-- nor one to an enable byte or a level
+pub store_quiet : (address v : ℕ) → 0x1000_0020 ≤ address → touched_line_by (Store width.Byte address v) ≡ None
+unfolding touched_line_by
 store_quiet address v h = ap (λ x. cond (eqb (v % 256) 0) x None) (no_line address h) ∙ both_none (eqb (v % 256) 0)
 
+-- what a flag keeps of a value
 pub flag-zero : (v : ℕ) → v ≡ 0 → flag_of v ≡ 0
 flag-zero v e = ap (λ b. cond b 0 1) (eq-eqb v 0 e)
 
@@ -128,6 +140,7 @@ flag-other v ne = ap (λ b. cond b 0 1) (ne_eqb v 0 ne)
 
 -- ---- registers and CSRs
 
+-- a register may be written before the arrivals
 pub with_register-arrive : (c : Core) (rd v : ℕ) (m : List ℕ) → with_register (core_arrive m c) rd v ≡ core_arrive m (with_register c rd v)
 with_register-arrive c zero v m = refl
 with_register-arrive c (suc rd) v m = refl
@@ -158,6 +171,7 @@ written_changes m c v false false false false false = record { arrives = refl; r
 with_csr_changes : (m : List ℕ) (c : Core) (csr v : ℕ) → Changed m c (with_csr (core_arrive m c) csr v) (with_csr c csr v)
 with_csr_changes m c csr v = written_changes m c v (csr == MSTATUS) (csr == MSCRATCH) (csr == MEPC) (csr == ILEVEL) (csr == PLEVEL)
 
+-- a change of a CSR may come before the arrivals
 pub changed_changes : (m : List ℕ) (c : Core) (change : Change) (csr old : ℕ) → Changed m c (changed_core change csr old (core_arrive m c)) (changed_core change csr old c)
 changed_changes m c Keep csr old = record { arrives = refl; ram_is = refl; pending_is = refl; controller_is = refl }
 changed_changes m c (Replace v) csr old = with_csr_changes m c csr v

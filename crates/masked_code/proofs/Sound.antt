@@ -14,11 +14,11 @@ use Rattle.rv32_instr.specs.Encode.{Encode}
 use Rattle.rv32_instr.specs.Table.{Decode}
 use Rattle.rv32_instr.specs.Ram.{with_word}
 use Rattle.rv32_instr.specs.Effect.{effect}
-use Rattle.rv32_instr.specs.Execute.{Next, Going, step, touched, perform, touched_by, goes_on, jumps, with_register, changed_core, csr_access}
+use Rattle.rv32_instr.specs.Execute.{Next, Going, step, touched, perform, touched_line_by, goes_on, jumps, with_register, changed_core, csr_access}
 use Rattle.masked_code.specs.Trace.{Trace, touched_lines}
 use Rattle.masked_code.specs.Masked.{OnGoing, Masked}
-use Rattle.masked_code.specs.Place.{at, InPlace}
-use Rattle.masked_code.specs.Owes.{◌▸◌, IsApart, Pending, Enabled, Level, Raised, Cleared, Switched, Levelled, Ways, owes_one, Owes}
+use Rattle.masked_code.specs.Place.{offset_state, InPlace}
+use Rattle.masked_code.specs.Owes.{◌▸◌, IsApart, Pending, Enabled, Level, Raised, Cleared, Switched, Levelled, Ways, OwesOne, Owes}
 use Rattle.masked_code.proofs.Arrivals.{arrive-append, arrive-set, length-arrive, of_line, not_line, are_of, parted, found_of_line, stored_parted, taken, left}
 use Rattle.masked_code.proofs.Words.{get_or-with_word, word_at-agree}
 use Rattle.masked_code.proofs.Longest.{longest, LeavesFew, leaves_few}
@@ -86,14 +86,14 @@ module _ (from to : ℕ) (ram : List ℕ) (inside : to ≤ 0x20_0000) where
 
   -- the code behind it does what is owed of it
   abbrev pub Rest : ℕ → ℕ → List InstrKind → Type 1
-  Rest n o code = (skip u : ℕ) (c : Core) (w : List ℕ) (E : List ℕ → State → State → Type 0) (start : State) → longest code skip ≤ n → u ≡ o + 4 + 4 * skip → Inside c → Owes from to (o + 4) code skip E start c → Masked n (at u (core_arrive w c)) (Ended E start w)
+  Rest n o code = (skip u : ℕ) (c : Core) (w : List ℕ) (E : List ℕ → State → State → Type 0) (start : State) → longest code skip ≤ n → u ≡ o + 4 + 4 * skip → Inside c → Owes from to (o + 4) code skip E start c → Masked n (offset_state u (core_arrive w c)) (Ended E start w)
 
   module _ (n o : ℕ) (code : List InstrKind) (aligned : o % 4 ≡ 0) (fits : o + 4 ≤ to) (rest : Rest n o code) (E : List ℕ → State → State → Type 0) (start : State) (w a : List ℕ) where
     -- an instruction that touches no line, and then the one at u
-    onward : (skip u : ℕ) (d : Core) (x : Next) (t : Option ℕ) → longest code skip ≤ n → u ≡ o + 4 + 4 * skip → x ≡ Going (at u (core_arrive (w ++ a) d)) → t ≡ None → Inside d → Owes from to (o + 4) code skip E start d → OnGoing x (λ next. Masked n next (λ trace end. Ended E start w ((a, t) ∷ trace) end))
+    onward : (skip u : ℕ) (d : Core) (x : Next) (t : Option ℕ) → longest code skip ≤ n → u ≡ o + 4 + 4 * skip → x ≡ Going (offset_state u (core_arrive (w ++ a) d)) → t ≡ None → Inside d → Owes from to (o + 4) code skip E start d → OnGoing x (λ next. Masked n next (λ trace end. Ended E start w ((a, t) ∷ trace) end))
     onward skip u d x t few eu e f i h =
         subst (λ y. OnGoing y (λ next. Masked n next (λ trace end. Ended E start w ((a, t) ∷ trace) end))) (sym e)
-        (subst (λ y. Masked n (at u (core_arrive (w ++ a) d)) (λ trace end. Ended E start w ((a, y) ∷ trace) end)) (sym f) (rest skip u d (w ++ a) E start few eu i h))
+        (subst (λ y. Masked n (offset_state u (core_arrive (w ++ a) d)) (λ trace end. Ended E start w ((a, y) ∷ trace) end)) (sym f) (rest skip u d (w ++ a) E start few eu i h))
 
     quiet : longest code 0 ≤ n → (d : Core) (x : Next) (t : Option ℕ) → x ≡ goes_on (memory_base + o) (core_arrive (w ++ a) d) → t ≡ None → Inside d → Owes from to (o + 4) code 0 E start d → OnGoing x (λ next. Masked n next (λ trace end. Ended E start w ((a, t) ∷ trace) end))
     quiet few d x t e f i h = onward 0 (o + 4) d x t few (omega arith) (e ∙ next_at o (core_arrive (w ++ a) d) (omega arith)) f i h
@@ -102,12 +102,12 @@ module _ (from to : ℕ) (ram : List ℕ) (inside : to ≤ 0x20_0000) where
     touch : longest code 0 ≤ n → (l : ℕ) (d : Core) (x : Next) (t : Option ℕ) → x ≡ goes_on (memory_base + o) (core_arrive (not_line l (w ++ a)) d) → t ≡ Some l → Inside d → Owes from to (o + 4) code 0 (λ touched. E (l ∷ touched)) (state_arrive (of_line l (w ++ a)) start) d → OnGoing x (λ next. Masked n next (λ trace end. Ended E start w ((a, t) ∷ trace) end))
     touch few l d x t e f i h =
         subst (λ y. OnGoing y (λ next. Masked n next (λ trace end. Ended E start w ((a, t) ∷ trace) end))) (sym (e ∙ next_at o (core_arrive (not_line l (w ++ a)) d) (omega arith)))
-        (subst (λ y. Masked n (at (o + 4) (core_arrive (not_line l (w ++ a)) d)) (λ trace end. Ended E start w ((a, y) ∷ trace) end)) (sym f)
-        (masked_map n (at (o + 4) (core_arrive (not_line l (w ++ a)) d)) _ _ (touch_before E start (w ++ a) w a l refl)
+        (subst (λ y. Masked n (offset_state (o + 4) (core_arrive (not_line l (w ++ a)) d)) (λ trace end. Ended E start w ((a, y) ∷ trace) end)) (sym f)
+        (masked_map n (offset_state (o + 4) (core_arrive (not_line l (w ++ a)) d)) _ _ (touch_before E start (w ++ a) w a l refl)
         (rest 0 (o + 4) d (not_line l (w ++ a)) (λ touched. E (l ∷ touched)) (state_arrive (of_line l (w ++ a)) start) few (omega arith) i h)))
 
-    one : (e : Effect) (word : ℕ) (c : Core) → LeavesFew n o code e → Inside c → owes_one from to o e c (ways o code E start c) → OnGoing (perform e word (memory_base + o) (core_arrive (w ++ a) c)) (λ next. Masked n next (λ trace end. Ended E start w ((a, touched_by e) ∷ trace) end))
-    unfolding perform touched_by
+    one : (e : Effect) (word : ℕ) (c : Core) → LeavesFew n o code e → Inside c → OwesOne from to o e c (ways o code E start c) → OnGoing (perform e word (memory_base + o) (core_arrive (w ++ a) c)) (λ next. Masked n next (λ trace end. Ended E start w ((a, touched_line_by e) ∷ trace) end))
+    unfolding perform touched_line_by
     one Nothing word c few i h = quiet few c _ None refl refl i h
     one (Write rd value) word c few i (◌▸◌ {named} said h) =
         let pc = memory_base + o in
@@ -207,7 +207,8 @@ module _ (from to : ℕ) (ram : List ℕ) (inside : to ≤ 0x20_0000) where
 
 -- code whose first `skip` instructions are passed
 module _ (from to : ℕ) (ram : List ℕ) (inside : to ≤ 0x20_0000) where
-  pub run : (code : List InstrKind) (skip n o u : ℕ) (c : Core) (w : List ℕ) (E : List ℕ → State → State → Type 0) (start : State) → longest code skip ≤ n → u ≡ o + 4 * skip → o % 4 ≡ 0 → from ≤ o → o + 4 * length code ≤ to → InPlace ram o code → Inside from to ram inside c → Owes from to o code skip E start c → Masked n (at u (core_arrive w c)) (Ended E start w)
+  -- what is owed of code in place holds of the stretch that it runs, whatever arrives before each of its instructions
+  pub run : (code : List InstrKind) (skip n o u : ℕ) (c : Core) (w : List ℕ) (E : List ℕ → State → State → Type 0) (start : State) → longest code skip ≤ n → u ≡ o + 4 * skip → o % 4 ≡ 0 → from ≤ o → o + 4 * length code ≤ to → InPlace ram o code → Inside from to ram inside c → Owes from to o code skip E start c → Masked n (offset_state u (core_arrive w c)) (Ended E start w)
   run [] skip n o u c w E start en eu al lo hi p i h = absurd h
   run (kind ∷ code) (suc skip) n o u c w E start en eu al lo hi p i h =
       run code skip n (o + 4) u c w E start en (omega arith) (omega arith) (omega arith) (omega arith) p.1 i h
@@ -217,12 +218,12 @@ module _ (from to : ℕ) (ram : List ℕ) (inside : to ≤ 0x20_0000) where
       let euo : o ≡ u = omega arith in
       let here = here_in from to ram inside c o kind code lo (omega arith) i p in
       let rest : Rest from to ram inside n1 o code = λ skip u c w E start few eu i h. run code skip n1 (o + 4) u c w E start few eu (omega arith) (omega arith) (omega arith) p.1 i h in
-      subst (λ k. Masked k (at u (core_arrive w c)) (Ended E start w)) en1 (subst (λ v. Masked (suc n1) (at v (core_arrive w c)) (Ended E start w)) euo
-      (masked_step n1 (at o (core_arrive w c)) (Ended E start w) i.masked (λ a.
+      subst (λ k. Masked k (offset_state u (core_arrive w c)) (Ended E start w)) en1 (subst (λ v. Masked (suc n1) (offset_state v (core_arrive w c)) (Ended E start w)) euo
+      (masked_step n1 (offset_state o (core_arrive w c)) (Ended E start w) i.masked (λ a.
       let m = w ++ a in
       let e1 : core_arrive a (core_arrive w c) ≡ core_arrive m c = ap (λ q. record c { pending = q }) (sym (arrive-append w a c.pending)) in
-      let e2 = ap (λ x. step (at o x)) e1 ∙ step_at o (core_arrive m c) kind here in
-      let e3 = ap (λ x. touched (at o x)) e1 ∙ touched_at o (core_arrive m c) kind here.0 in
-      subst (λ x. OnGoing x (λ next. Masked n1 next (λ trace end. Ended E start w ((a, touched (at o (core_arrive a (core_arrive w c)))) ∷ trace) end))) (sym e2)
+      let e2 = ap (λ x. step (offset_state o x)) e1 ∙ step_at o (core_arrive m c) kind here in
+      let e3 = ap (λ x. touched (offset_state o x)) e1 ∙ touched_at o (core_arrive m c) kind here.0 in
+      subst (λ x. OnGoing x (λ next. Masked n1 next (λ trace end. Ended E start w ((a, touched (offset_state o (core_arrive a (core_arrive w c)))) ∷ trace) end))) (sym e2)
       (subst (λ x. OnGoing (perform (effect kind (memory_base + o) c.registers) (Encode kind) (memory_base + o) (core_arrive m c)) (λ next. Masked n1 next (λ trace end. Ended E start w ((a, x) ∷ trace) end))) (sym e3)
       (one from to ram inside n1 o code al (omega arith) rest E start w a (effect kind (memory_base + o) c.registers) (Encode kind) c (leaves_few n1 o code (omega arith) kind c.registers (omega arith)) i h)))))

@@ -21,6 +21,7 @@ spread_list (suc n) k xs h =
 abbrev pub spread : Core → Core
 spread c = record c { registers = 0 ∷ spread_from 31 1 c.registers }
 
+-- writing out changes nothing
 pub spread_is : (c : Core) → length c.registers ≡ 32 → get_or c.registers 0 0 ≡ 0 → spread c ≡ c
 spread_is c n z =
     let e = spread_list 32 0 c.registers (omega arith) in
@@ -31,6 +32,7 @@ spread_is c n z =
 abbrev pub based : Core → Core
 based c = record c { registers = 0 ∷ get_or c.registers 1 0 ∷ get_or c.registers 2 0 ∷ controller_base ∷ memory_base ∷ spread_from 27 5 c.registers }
 
+-- this changes nothing either
 pub based_is : (c : Core) → length c.registers ≡ 32 → get_or c.registers 0 0 ≡ 0 → HoldBases c.registers → based c ≡ c
 based_is c n z bases =
     let tail : List ℕ = spread_from 27 5 c.registers in

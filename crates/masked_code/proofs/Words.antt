@@ -4,6 +4,7 @@ use Rattle.std.specs.Prelude.{set}
 use Rattle.std.proofs.lemmas.List.{get_or-set_same, get_or-set_other, length-set}
 use Rattle.rv32_instr.specs.Ram.{word_at, with_word, with_words}
 
+-- RAM is as long as before
 pub length-with_word : (ram : List ℕ) (o v : ℕ) → length (with_word ram o v) ≡ length ram
 unfolding with_word
 length-with_word ram o v = simp length-set
@@ -26,6 +27,7 @@ word_at-other ram p v o h =
 bytes_of : (v : ℕ) → v < 4294967296 → v % 256 + v / 256 % 256 * 256 + v / 65536 % 256 * 65536 + v / 16777216 % 256 * 16777216 ≡ v
 bytes_of v h = omega arith
 
+-- the word that was written is there
 pub word_at-same : (ram : List ℕ) (o v : ℕ) → o + 4 ≤ length ram → v < 4294967296 → word_at (with_word ram o v) o ≡ v
 unfolding word_at with_word
 word_at-same ram o v h l =
@@ -52,6 +54,7 @@ word_at-agree r s o h =
     let e3 = h (o + 3) (omega arith) (omega arith) in
     cc
 
+-- a word of bytes has 32 bits
 pub word_below : (ram : List ℕ) (o : ℕ) → ((i : ℕ) → get_or ram i 0 < 256) → word_at ram o < 4294967296
 unfolding word_at
 word_below ram o h = omega (arith, h o, h (o + 1), h (o + 2), h (o + 3))
@@ -68,6 +71,7 @@ get_or-with_words (w ∷ ws) ram o i h =
     get_or-with_words ws (with_word ram o w) (o + 4) i (grind (arith, h))
     ∙ get_or-with_word ram o w i (grind (arith, h))
 
+-- and all words apart from them
 pub word_at-others : (ws ram : List ℕ) (o p : ℕ) → (p + 4 ≤ o) ⊎ (o + 4 * length ws ≤ p) → word_at (with_words ram o ws) p ≡ word_at ram p
 word_at-others ws ram o p h =
     word_at-agree (with_words ram o ws) ram p (λ i a b. get_or-with_words ws ram o i (⊎_elim (λ x. inl (omega arith)) (λ x. inr (omega arith)) h))

@@ -39,19 +39,19 @@ abbrev pub masking : InstrKind
 masking = Csrrci 0 8 MSTATUS
 
 -- x1 := the address of the context of what runs below; what it says goes to mepc, plevel, the service words and x2; its `cur` stays in x5
-abbrev pub takes_up : List InstrKind
-takes_up =
+abbrev pub taking_up_code : List InstrKind
+taking_up_code =
     Lw 1 4 (pos below_word) ∷ Lw 2 1 (pos context_pc) ∷ Csrrw 0 2 MEPC ∷ Lw 2 1 (pos context_level) ∷ Csrrw 0 2 PLEVEL
     ∷ Lw 5 1 (pos context_cur) ∷ Sw 4 5 (pos cur) ∷ Lw 2 1 (pos context_below) ∷ Sw 4 2 (pos below_word)
     ∷ Addi 2 1 (pos context_bytes) ∷ []
 
 -- passes what restores the registers where the idle loop runs below: `cur` in x5 is 0
-abbrev pub asks_idle : List InstrKind
-asks_idle = Beq 5 0 (past (restoring_code 27 5 1)) ∷ []
+abbrev pub idle_loop_test : List InstrKind
+idle_loop_test = Beq 5 0 (past (restoring_code 27 5 1)) ∷ []
 
 -- back to what runs below
 abbrev pub leaving_code : List InstrKind
-leaving_code = takes_up ++ (asks_idle ++ (restoring_code 27 5 1 ++ Mret ∷ []))
+leaving_code = taking_up_code ++ (idle_loop_test ++ (restoring_code 27 5 1 ++ Mret ∷ []))
 
 -- The machine is left as in this core, with interrupts open, and plevel is the level that runs; of the registers and mepc it says nothing but
 -- that x0 is zero and that x3 and x4 hold the bases.
@@ -71,8 +71,8 @@ pub record LeftAs (core end : Core) : Type 0 where
   pub controller : end.controller ≡ core.controller
 
 -- the core in which what is below runs, by the words of its context
-abbrev pub below_again : ℕ → Core → Core
-below_again place core =
+abbrev pub resumed_core : ℕ → Core → Core
+resumed_core place core =
     record core {
       ilevel = word_at core.ram (place + context_level);
       ram = with_word (with_word core.ram cur (word_at core.ram (place + context_cur))) below_word (word_at core.ram (place + context_below));
@@ -80,7 +80,7 @@ below_again place core =
 
 -- The state after it, where MPIE was 1: all is as the context says. Of the idle loop it says nothing of x5 to x31.
 pub record HasLeft (place : ℕ) (core : Core) (end : State) : Type 0 where
-  pub left : LeftAs (below_again place core) end.core
+  pub left : LeftAs (resumed_core place core) end.core
   pub pc : end.pc ≡ word_at core.ram place
   pub x2 : slice_index end.core.registers 2 ≡ memory_base + (place + context_bytes)
   pub loaded : word_at core.ram (place + context_cur) ≢ 0 → (i : ℕ) → 5 ≤ i → i < 32

@@ -3,7 +3,7 @@ use Rattle.std.specs.Prelude.{ℕ, zero, suc, ◌≡◌, ◌⊎◌, false, List,
 use Rattle.sloth_base.specs.Machine.{State}
 use Rattle.sloth_base.specs.Arrive.{state_arrive}
 use Rattle.rv32_instr.specs.Execute.{Next, Going, Stopped, step, touched}
-use Rattle.masked_code.specs.Trace.{Trace, touched_lines, early, late}
+use Rattle.masked_code.specs.Trace.{Trace, touched_lines, early_arrivals, late_arrivals}
 
 -- the instruction doesn't stop the machine, and leaves such a state
 abbrev pub OnGoing : Next → (State → Type 0) → Type 0
@@ -24,7 +24,7 @@ Masked (suc n) state P =
 -- The effect holds from the start with the early arrivals, and the late ones come after it.
 abbrev pub WithArrivals : (List ℕ → State → State → Type 0) → State → Trace → State → Type 0
 WithArrivals Effect start trace end =
-    (last : State) × Effect (touched_lines trace) (state_arrive (early trace) start) last × (end ≡ state_arrive (late trace) last)
+    (last : State) × Effect (touched_lines trace) (state_arrive (early_arrivals trace) start) last × (end ≡ state_arrive (late_arrivals trace) last)
 
 -- From a state in which MIE may be 1, one instruction leads into a stretch of at most `most` more, with this effect.
 abbrev pub FromOpening : ℕ → State → (List ℕ → State → State → Type 0) → Type 0

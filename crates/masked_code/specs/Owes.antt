@@ -131,28 +131,28 @@ pub record Ways : Type 1 where
   pub done : State → Type 0
 
 -- arrivals of this line alone
-abbrev pub AreOf : ℕ → List ℕ → Type 0
-AreOf line [] = Unit {0}
-AreOf line (arrived ∷ lines) = (arrived ≡ line) × AreOf line lines
+abbrev pub AreOfLine : ℕ → List ℕ → Type 0
+AreOfLine line [] = Unit {0}
+AreOfLine line (arrived ∷ lines) = (arrived ≡ line) × AreOfLine line lines
 
 -- behind a load of a controller byte; that of a pending byte is a touch
-abbrev pub owes_load : ℕ → Core → Ways → LineByte → Type 0
-owes_load rd core ways (Pending line) =
-    (lines : List ℕ) → AreOf line lines →
+abbrev pub OwesLoad : ℕ → Core → Ways → LineByte → Type 0
+OwesLoad rd core ways (Pending line) =
+    (lines : List ℕ) → AreOfLine line lines →
     let now = core_arrive lines core in
     ways.touch line lines (with_register now rd (slice_index now.pending line))
-owes_load rd core ways (Enabled line) = ways.next (with_register core rd (slice_index core.enabled line))
-owes_load rd core ways (Level line) = ways.next (with_register core rd (slice_index core.levels line))
+OwesLoad rd core ways (Enabled line) = ways.next (with_register core rd (slice_index core.enabled line))
+OwesLoad rd core ways (Level line) = ways.next (with_register core rd (slice_index core.levels line))
 
 -- behind a store of a value's low byte to a controller byte; that a line is no longer pending is a touch
-abbrev pub owes_store : ℕ → Core → Ways → LineChange → Type 0
-owes_store value core ways (Raised line) = ways.next (record core { pending = slice_set core.pending line 1 })
-owes_store value core ways (Cleared line) =
-    (lines : List ℕ) → AreOf line lines →
+abbrev pub OwesStore : ℕ → Core → Ways → LineChange → Type 0
+OwesStore value core ways (Raised line) = ways.next (record core { pending = slice_set core.pending line 1 })
+OwesStore value core ways (Cleared line) =
+    (lines : List ℕ) → AreOfLine line lines →
     let now = core_arrive lines core in
     ways.touch line lines (record now { pending = slice_set now.pending line 0 })
-owes_store value core ways (Switched line) = ways.next (record core { enabled = slice_set core.enabled line (flag_of (value % 256)) })
-owes_store value core ways (Levelled line) = ways.next (record core { levels = slice_set core.levels line (value % 256) })
+OwesStore value core ways (Switched line) = ways.next (record core { enabled = slice_set core.enabled line (flag_of (value % 256)) })
+OwesStore value core ways (Levelled line) = ways.next (record core { levels = slice_set core.levels line (value % 256) })
 
 -- a branch at an offset: where it is taken it passes `passed` instructions
 pub record OwesBranch (offset target : ℕ) (taken next : Type 0) (skip : ℕ → Type 0) : Type 0 where
@@ -169,30 +169,30 @@ pub record OwesJump (offset target : ℕ) (skip : ℕ → Type 0) : Type 0 where
 
 -- One instruction with this effect at an offset; the code's bytes stand from `from` up to `to`. The proof names each
 -- address and each value that is loaded.
-abbrev pub owes_one : ℕ → ℕ → ℕ → Effect → Core → Ways → Type 0
-owes_one from to offset Nothing core ways = ways.next core
-owes_one from to offset (Write rd value) core ways = Owed ℕ (HasValue value) (λ named. ways.next (with_register core rd named))
-owes_one from to offset (Branch taken target) core ways = OwesBranch offset target (taken ≡ true) (ways.next core) (λ passed. ways.skip passed core)
-owes_one from to offset (Jump rd target) core ways =
+abbrev pub OwesOne : ℕ → ℕ → ℕ → Effect → Core → Ways → Type 0
+OwesOne from to offset Nothing core ways = ways.next core
+OwesOne from to offset (Write rd value) core ways = Owed ℕ (HasValue value) (λ named. ways.next (with_register core rd named))
+OwesOne from to offset (Branch taken target) core ways = OwesBranch offset target (taken ≡ true) (ways.next core) (λ passed. ways.skip passed core)
+OwesOne from to offset (Jump rd target) core ways =
     Owed ℕ (HasValue (sum32 (memory_base + offset) 4)) (λ named. OwesJump offset target (λ passed. ways.skip passed (with_register core rd named)))
-owes_one from to offset (Load width.Word rd address) core ways = Owed ℕ (LoadsWord core address) (λ named. ways.next (with_register core rd named))
-owes_one from to offset (Load width.ByteU rd address) core ways = Owed LineByte (LoadsByte address) (owes_load rd core ways)
-owes_one from to offset (Load width rd address) core ways = ⊥
-owes_one from to offset (Store width.Word address value) core ways =
+OwesOne from to offset (Load width.Word rd address) core ways = Owed ℕ (LoadsWord core address) (λ named. ways.next (with_register core rd named))
+OwesOne from to offset (Load width.ByteU rd address) core ways = Owed LineByte (LoadsByte address) (OwesLoad rd core ways)
+OwesOne from to offset (Load width rd address) core ways = ⊥
+OwesOne from to offset (Store width.Word address value) core ways =
     Owed ℕ (StoresWord from to address) (λ place. ways.next (record core { ram = with_word core.ram place value }))
-owes_one from to offset (Store width.Byte address value) core ways = Owed LineChange (StoresByte address value) (owes_store value core ways)
-owes_one from to offset (Store width address value) core ways = ⊥
-owes_one from to offset (Csr rd csr change) core ways =
+OwesOne from to offset (Store width.Byte address value) core ways = Owed LineChange (StoresByte address value) (OwesStore value core ways)
+OwesOne from to offset (Store width address value) core ways = ⊥
+OwesOne from to offset (Csr rd csr change) core ways =
     Owed ℕ (AccessesCsr core csr change) (λ old. ways.next (with_register (changed_core change csr old core) rd old))
-owes_one from to offset Environment core ways = ⊥
-owes_one from to offset Return core ways = ways.done (record { pc = core.mepc; core = record core { ilevel = core.plevel; mie = core.mpie; mpie = true } })
+OwesOne from to offset Environment core ways = ⊥
+OwesOne from to offset Return core ways = ways.done (record { pc = core.mepc; core = record core { ilevel = core.plevel; mie = core.mpie; mpie = true } })
 
 -- What is owed of code whose first `skip` instructions are passed: it goes back by `mret`, and then `Effect` holds of the
 -- lines that it touched, of the state `start` at its start, and of the state at its end. `start` has the early arrivals.
 abbrev pub Owes : ℕ → ℕ → ℕ → List InstrKind → ℕ → (List ℕ → State → State → Type 0) → State → Core → Type 0
 Owes from to offset [] skip Effect start core = ⊥
 Owes from to offset (kind ∷ code) (suc skip) Effect start core = Owes from to (offset + 4) code skip Effect start core
-Owes from to offset (kind ∷ code) zero Effect start core = owes_one from to offset (effect kind (memory_base + offset) core.registers) core (record {
+Owes from to offset (kind ∷ code) zero Effect start core = OwesOne from to offset (effect kind (memory_base + offset) core.registers) core (record {
   next = λ now. Owes from to (offset + 4) code 0 Effect start now;
   touch = λ line lines now. Owes from to (offset + 4) code 0 (λ touched. Effect (line ∷ touched)) (state_arrive lines start) now;
   skip = λ passed now. Owes from to (offset + 4) code passed Effect start now;

@@ -24,9 +24,9 @@ clearing_code zero first = []
 clearing_code (suc count) first = Addi first 0 (pos 0) ∷ clearing_code count (suc first)
 
 -- stores zero to `count` words, from the one of this number behind the address in a register on
-abbrev pub clears_words : ℕ → ℕ → ℕ → List InstrKind
-clears_words zero number base = []
-clears_words (suc count) number base = Sw base 0 (pos (4 * number)) ∷ clears_words count (suc number) base
+abbrev pub words_clearing_code : ℕ → ℕ → ℕ → List InstrKind
+words_clearing_code zero number base = []
+words_clearing_code (suc count) number base = Sw base 0 (pos (4 * number)) ∷ words_clearing_code count (suc number) base
 
 -- the values of `count` registers from x_first on
 abbrev pub registers_from : ℕ → ℕ → List ℕ → List ℕ

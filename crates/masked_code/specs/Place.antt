@@ -7,8 +7,8 @@ use Rattle.rv32_instr.specs.Table.{Decode, Encode}
 use Rattle.rv32_instr.specs.Ram.{word_at}
 
 -- the state whose pc is at an offset in RAM
-abbrev pub at : ℕ → Core → State
-at offset core = record { pc = memory_base + offset; core = core }
+abbrev pub offset_state : ℕ → Core → State
+offset_state offset core = record { pc = memory_base + offset; core = core }
 
 -- the words of RAM from an offset on are these instructions
 abbrev pub InPlace : List ℕ → ℕ → List InstrKind → Type 0

@@ -26,21 +26,21 @@ is_touched_line [] line = false
 is_touched_line (entry ∷ trace) line = is_number line entry.1 || is_touched_line trace line
 
 -- of these lines, those that a trace touches, and the others
-abbrev pub touched_of : Trace → List ℕ → List ℕ
-touched_of trace [] = []
-touched_of trace (line ∷ lines) = if is_touched_line trace line then line ∷ touched_of trace lines else touched_of trace lines
+abbrev pub touched_lines_of : Trace → List ℕ → List ℕ
+touched_lines_of trace [] = []
+touched_lines_of trace (line ∷ lines) = if is_touched_line trace line then line ∷ touched_lines_of trace lines else touched_lines_of trace lines
 
 -- of these lines, those that the trace does not touch
-abbrev pub untouched_of : Trace → List ℕ → List ℕ
-untouched_of trace [] = []
-untouched_of trace (line ∷ lines) = if is_touched_line trace line then untouched_of trace lines else line ∷ untouched_of trace lines
+abbrev pub untouched_lines_of : Trace → List ℕ → List ℕ
+untouched_lines_of trace [] = []
+untouched_lines_of trace (line ∷ lines) = if is_touched_line trace line then untouched_lines_of trace lines else line ∷ untouched_lines_of trace lines
 
 -- the arrivals whose line that instruction or a later one of the stretch touches, and the others
-abbrev pub early : Trace → List ℕ
-early [] = []
-early (entry ∷ trace) = touched_of (entry ∷ trace) entry.0 ++ early trace
+abbrev pub early_arrivals : Trace → List ℕ
+early_arrivals [] = []
+early_arrivals (entry ∷ trace) = touched_lines_of (entry ∷ trace) entry.0 ++ early_arrivals trace
 
 -- the arrivals that stand at the end of the trace: those whose line it does not touch from their step on
-abbrev pub late : Trace → List ℕ
-late [] = []
-late (entry ∷ trace) = untouched_of (entry ∷ trace) entry.0 ++ late trace
+abbrev pub late_arrivals : Trace → List ℕ
+late_arrivals [] = []
+late_arrivals (entry ∷ trace) = untouched_lines_of (entry ∷ trace) entry.0 ++ late_arrivals trace

@@ -1,7 +1,7 @@
 //! Instructions, added to the code of a block.
 ghost use Rattle.std.specs.Prelude.{◌≡◌, ◌≤◌, ◌<◌, ◌+◌, ◌-◌, ◌*◌, ◌++◌, ◌∷◌, [], OnOk, pos};
-ghost use Rattle.rv32_instr.specs.Range.{InRange, AreInRange, Signed};
-ghost use Rattle.masked_code.specs.Pieces.{saving_code, restoring_code, clearing_code, clears_words};
+ghost use Rattle.rv32_instr.specs.Range.{InRange, AreInRange, IsSigned};
+ghost use Rattle.masked_code.specs.Pieces.{saving_code, restoring_code, clearing_code, words_clearing_code};
 
 use rv32_instr::asm::{ZERO, addi, lw, sw};
 use rv32_instr::{Instr, InstrKind};
@@ -15,7 +15,7 @@ pub const X5: Reg = Reg(5);
 fn offset_of(words: u32) -> i32
     requires { words < 500 }
     ensures is { result ≡ pos (4 * words) }
-    ensures fits { Signed 12 result }
+    ensures fits { IsSigned 12 result }
 {
     4 * words as i32
 }
@@ -84,7 +84,7 @@ pub fn clear(code: &mut Vec<Instr>, first: u8, end: u8) -> Result<(), AllocError
 /// Stores zero to `count` words from the address in `base` on.
 pub fn clear_words(code: &mut Vec<Instr>, count: u32, base: Reg) -> Result<(), AllocError>
     requires { (count ≤ 500) × (base < 32) }
-    ensures { OnOk result (code.new.items ≡ code.old.items ++ clears_words count 0 base) }
+    ensures { OnOk result (code.new.items ≡ code.old.items ++ words_clearing_code count 0 base) }
 {
     for number in 0..count {
         put(code, sw(ZERO, base, offset_of(number)))?;

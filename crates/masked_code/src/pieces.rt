@@ -1,6 +1,6 @@
 //! Pieces of code that several routines have.
 ghost use Rattle.std.specs.Prelude.{◌≡◌, ◌++◌, OnOk};
-ghost use Rattle.masked_code.specs.Kernel.{leaving_code, takes_up, asks_idle};
+ghost use Rattle.masked_code.specs.Kernel.{leaving_code, taking_up_code, idle_loop_test};
 
 use crate::emit::{X5, emit, past, restore};
 use rv32_instr::Instr;
@@ -27,14 +27,14 @@ pub fn leave(code: &mut Vec<Instr>) -> Result<(), AllocError>
 
 /// Passes what restores the registers where the idle loop runs below.
 fn ask_idle(code: &mut Vec<Instr>) -> Result<(), AllocError>
-    ensures { OnOk result (code.new.items ≡ code.old.items ++ asks_idle) }
+    ensures { OnOk result (code.new.items ≡ code.old.items ++ idle_loop_test) }
 {
     emit(code, &[beq(X5, ZERO, past(REGISTERS))])
 }
 
 /// What the context says of all but the registers; its `cur` stays in x5.
 fn take_up(code: &mut Vec<Instr>) -> Result<(), AllocError>
-    ensures { OnOk result (code.new.items ≡ code.old.items ++ takes_up) }
+    ensures { OnOk result (code.new.items ≡ code.old.items ++ taking_up_code) }
 {
     let taken_up = [
         lw(X1, X4, BELOW_WORD),

@@ -4,7 +4,7 @@ use Rattle.std.specs.Prelude.{◌==◌, nat_lt, nat_le, All, map, sum_by}
 use Rattle.std.proofs.lemmas.Bool.{cases_lt, eq-eqb, lt-ltb, le-leb}
 use Rattle.std.proofs.lemmas.Grind.{get_or_default_zero}
 use Rattle.std.proofs.lemmas.List.Sums.{sum_by-cons}
-use Rattle.sloth_base.specs.Named.{function, missing, item_of}
+use Rattle.sloth_base.specs.Named.{function, no_function, item_of}
 use Rattle.sloth_base.specs.declared.app.App.{App}
 use Rattle.sloth_base.specs.declared.app.Func.{Func}
 use Rattle.sloth_base.specs.declared.app.Symbol.{Symbol}
@@ -16,12 +16,12 @@ use Rattle.sloth_base.specs.Blocks.{block_count, block_service, block_object}
 use Rattle.sloth_base.specs.ServiceCodes.{object_kind, IsObjectNumber}
 use Rattle.code_rules.specs.AppRange.{AppInRange}
 use Rattle.rv32_expand.specs.InPlace.{IsItem}
-use Rattle.rv32_expand.specs.Sizes.{AreSizes, items_before}
+use Rattle.rv32_expand.specs.Sizes.{AreItemSizes, items_before}
 use Rattle.rv32_expand.proofs.Counts.{size_few}
 use Rattle.rv32_expand.proofs.InRangeOf.{frame_of}
 use Rattle.mem_map.specs.Run.{end_of}
 use Rattle.mem_map.specs.Wanted.{IsServicePlace}
-use Rattle.mem_map.specs.Plan.{IsSmallPrologue, IsSmallTick, code_bytes, symbol_bytes}
+use Rattle.mem_map.specs.Plan.{IsSmallPrologue, IsSmallTick, code_byte_count, symbol_bytes}
 
 -- ---- sizes of items
 
@@ -47,10 +47,11 @@ locate (body ∷ bodies) k d h =
 abbrev pub IsSize : ℕ → Type 0
 IsSize size = (1 ≤ size) × (size ≤ 36)
 
-pub sizes_few : (config : Config) (app : App) (sizes : List ℕ) → AppInRange config app → AreSizes app sizes → All IsSize sizes
+-- the length of each item is so
+pub sizes_few : (config : Config) (app : App) (sizes : List ℕ) → AppInRange config app → AreItemSizes app sizes → All IsSize sizes
 sizes_few config app sizes range are = λ k d l.
     let n = are.count in
-    let at = locate app.funcs k missing (omega (arith, n, l)) in
+    let at = locate app.funcs k no_function (omega (arith, n, l)) in
     let item : IsItem app at.func at.index = record { declared = at.declared; inside = at.inside } in
     let zero_is = get_or_default_zero sizes k d l in
     let place = ap (λ (i : ℕ). get_or sizes i 0) at.is in
@@ -60,6 +61,7 @@ sizes_few config app sizes range are = λ k d l.
     let most = few.few in
     (omega (arith, zero_is, place, each, some), omega (arith, zero_is, place, each, most))
 
+-- all items are those of all functions
 pub before_all : (funcs : List Func) → items_before funcs (length funcs) ≡ sum_by (λ (f : Func). length f.items) funcs
 before_all [] = refl
 before_all (body ∷ funcs) =
@@ -69,7 +71,8 @@ before_all (body ∷ funcs) =
 
 -- ---- ends
 
-pub items_end : (from : ℕ) (sizes : List ℕ) → All IsSize sizes → end_of from (map code_bytes sizes) ≤ from + 144 * length sizes
+-- at most 144 bytes for each item
+pub items_end : (from : ℕ) (sizes : List ℕ) → All IsSize sizes → end_of from (map code_byte_count sizes) ≤ from + 144 * length sizes
 items_end from [] few = omega arith
 items_end from (size ∷ sizes) few =
     let h = few 0 0 (omega arith) in
@@ -77,7 +80,8 @@ items_end from (size ∷ sizes) few =
     let r = items_end (from + 4 * size) sizes (λ k d l. few (suc k) d (omega (arith, l))) in
     omega (arith, most, r)
 
-pub prologues_end : (from : ℕ) (sizes : List ℕ) → All IsSmallPrologue sizes → end_of from (map code_bytes sizes) ≤ from + 576 * length sizes
+-- at most 576 for each prologue
+pub prologues_end : (from : ℕ) (sizes : List ℕ) → All IsSmallPrologue sizes → end_of from (map code_byte_count sizes) ≤ from + 576 * length sizes
 prologues_end from [] few = omega arith
 prologues_end from (size ∷ sizes) few =
     let h = few 0 0 (omega arith) in
@@ -85,7 +89,8 @@ prologues_end from (size ∷ sizes) few =
     let r = prologues_end (from + 4 * size) sizes (λ k d l. few (suc k) d (omega (arith, l))) in
     omega (arith, most, r)
 
-pub ticks_end : (from : ℕ) (sizes : List ℕ) → All IsSmallTick sizes → end_of from (map code_bytes sizes) ≤ from + 4396 * length sizes
+-- at most 4,396 for each tick
+pub ticks_end : (from : ℕ) (sizes : List ℕ) → All IsSmallTick sizes → end_of from (map code_byte_count sizes) ≤ from + 4396 * length sizes
 ticks_end from [] few = omega arith
 ticks_end from (size ∷ sizes) few =
     let h = few 0 0 (omega arith) in
@@ -93,6 +98,7 @@ ticks_end from (size ∷ sizes) few =
     let r = ticks_end (from + 4 * size) sizes (λ k d l. few (suc k) d (omega (arith, l))) in
     omega (arith, most, r)
 
+-- at most three bytes more than each symbol has
 pub symbols_end : (from : ℕ) (symbols : List Symbol) → end_of from (map symbol_bytes symbols) ≤ from + sum_by (λ (y : Symbol). length y.bytes) symbols + 3 * length symbols
 symbols_end from [] = omega arith
 symbols_end from (symbol ∷ symbols) =
@@ -138,7 +144,7 @@ unfolding one_if
 is_one k place = ap (λ s. one_if (may_have s (block_object k))) place.is ∙ ap one_if (has_object (object_kind place.service) (block_object k) place.object)
 
 wanted_end : (from k : ℕ) (sizes : List ℕ) → All (λ size. size ≤ 256) sizes → ((j : ℕ) → get_or sizes j 0 ≢ 0 → IsServicePlace (k + j))
-    → end_of from (map code_bytes sizes) ≤ from + 1024 * allowed k (length sizes)
+    → end_of from (map code_byte_count sizes) ≤ from + 1024 * allowed k (length sizes)
 unfolding allowed
 wanted_end from k [] few places = omega arith
 wanted_end from k (zero ∷ sizes) few places =
@@ -155,7 +161,7 @@ wanted_end from k (suc size ∷ sizes) few places =
 
 -- 349 services with their objects, each of at most 256 instructions
 pub services_end : (from : ℕ) (sizes : List ℕ) → length sizes ≡ block_count → All (λ size. size ≤ 256) sizes → ((j : ℕ) → get_or sizes j 0 ≢ 0 → IsServicePlace j)
-    → end_of from (map code_bytes sizes) ≤ from + 357376
+    → end_of from (map code_byte_count sizes) ≤ from + 357376
 services_end from sizes n few places =
     let r = wanted_end from 0 sizes few (λ j e. let s : j ≡ 0 + j = omega arith in subst IsServicePlace s (places j e)) in
     let a = ap (allowed 0) n ∙ all_allowed in

@@ -10,7 +10,7 @@ use Rattle.sloth_base.specs.declared.app.Func.{Func}
 use Rattle.sloth_base.specs.declared.app.Item.{Item}
 use Rattle.sloth_base.specs.declared.app.Op.{Op}
 use Rattle.sloth_base.specs.declared.app.Op.TheVariants as op
-use Rattle.sloth_base.specs.Named.{function, missing, item_of, no_item, operation}
+use Rattle.sloth_base.specs.Named.{function, no_function, item_of, no_item, operation}
 use Rattle.sloth_base.specs.Blocks.{block_count, block_number}
 use Rattle.rv32_expand.specs.InPlace.{IsItem}
 use Rattle.mem_map.specs.Wanted.{calls, is_called_by, is_wanted}
@@ -53,7 +53,7 @@ in_function number func is =
 pub caller : (number : ℕ) (app : App) → is_wanted number app ≡ true → Caller app number
 caller number app is =
     let found = Any-from_list_any (is_called_by number) app.funcs is in
-    let is_function : function app found.0 ≡ found.1 = get_or_default app.funcs found.0 missing found.1 found.2 ∙ found.3 in
+    let is_function : function app found.0 ≡ found.1 = get_or_default app.funcs found.0 no_function found.1 found.2 ∙ found.3 in
     let item = in_function number (function app found.0) (ap (is_called_by number) is_function ∙ found.4) in
     let called = call_of number (operation app found.0 item.0) item.2 in
     record {
@@ -70,7 +70,7 @@ pub called : (app : App) (func item : ℕ) (call : Call) → IsItem app func ite
     → is_wanted (block_number call.service call.object) app ≡ true
 called app func item call is e =
     let number : ℕ = block_number call.service call.object in
-    list_any_at (is_called_by number) app.funcs func missing is.declared
+    list_any_at (is_called_by number) app.funcs func no_function is.declared
     (list_any_at (λ (item : Item). calls number item.op) (function app func).items item no_item is.inside (ap (calls number) e ∙ eq-eqb number number refl))
 
 -- a number that is marked has a caller

@@ -10,8 +10,8 @@ use Rattle.sloth_region.specs.Region.{AreApartWithin}
 use Rattle.sloth_base.specs.declared.places.Bounds.{Bounds}
 use Rattle.mem_map.specs.declared.all_lengths.CodeLengths.{CodeLengths}
 use Rattle.mem_map.specs.Run.{starts, end_of}
-use Rattle.mem_map.specs.Zones.{code_zone, data_zone, all_stacks, nowhere, HasZones}
-use Rattle.mem_map.specs.Plan.{MayPlan, HasAddresses, idle_at, prologues_at, tick_starts, services_at, items_at, code_end, code_bytes, symbol_bytes}
+use Rattle.mem_map.specs.Zones.{code_zone, data_zone, all_stacks, no_extent, HasZones}
+use Rattle.mem_map.specs.Plan.{MayPlan, HasAddresses, idle_at, prologues_at, tick_starts, services_at, items_at, code_end, code_byte_count, symbol_bytes}
 use Rattle.mem_map.proofs.Planned.{few_tasks, prologues_above, services_above, items_above, symbols_above, items_all_even, blocks_all_even}
 
 module _ (config : Config) (app : App) (lengths : CodeLengths) (bounds : Bounds) (offsets : List ℕ) (may : MayPlan config app lengths bounds offsets) (plan : Map) where
@@ -32,22 +32,22 @@ module _ (config : Config) (app : App) (lengths : CodeLengths) (bounds : Bounds)
 
   module _ (code data_extent : Extent) (code_to data_to : ℕ) (has : HasExtents code data_extent code_to data_to) where
     code_zone_is : code_zone plan ≡ code
-    code_zone_is = ap (λ (l : List Extent). get_or l 1 nowhere) has.extents
+    code_zone_is = ap (λ (l : List Extent). get_or l 1 no_extent) has.extents
 
     data_zone_is : data_zone plan ≡ data_extent
-    data_zone_is = ap (λ (l : List Extent). get_or l 2 nowhere) has.extents
+    data_zone_is = ap (λ (l : List Extent). get_or l 2 no_extent) has.extents
 
     ends : end_of code_to (map symbol_bytes app.symbols) ≡ end_of end (map symbol_bytes app.symbols)
     ends = ap (λ (from : ℕ). end_of from (map symbol_bytes app.symbols)) has.code_end_is
 
     -- what the calls give
     pub addressed : plan.idle ≡ idle_at lengths → length plan.handlers ≡ 32
-        → take (length lengths.prologues) plan.handlers ≡ starts (prologues_at lengths) (map code_bytes lengths.prologues)
+        → take (length lengths.prologues) plan.handlers ≡ starts (prologues_at lengths) (map code_byte_count lengths.prologues)
         → ((c : ℕ) → c < length lengths.ticks → slice_index plan.handlers (counter_line c) ≡ get_or (tick_starts lengths) c 0)
         → ((line : ℕ) → length lengths.prologues ≤ line → line < 32 → (line < first_counter_line) ⊎ (counter_line (length lengths.ticks) ≤ line)
         → slice_index plan.handlers line ≡ plan.idle)
-        → plan.places.blocks ≡ starts (services_at lengths) (map code_bytes lengths.services)
-        → plan.places.items ≡ starts (items_at lengths) (map code_bytes lengths.items)
+        → plan.places.blocks ≡ starts (services_at lengths) (map code_byte_count lengths.services)
+        → plan.places.items ≡ starts (items_at lengths) (map code_byte_count lengths.items)
         → plan.places.first ≡ starts 0 (map (λ f. length f.items) app.funcs)
         → plan.places.symbols ≡ starts code_to (map symbol_bytes app.symbols)
         → HasAddresses config app lengths plan
@@ -84,9 +84,11 @@ module _ (config : Config) (app : App) (lengths : CodeLengths) (bounds : Bounds)
           data_to = omega (arith, data_from, data_len, e, f, g, start, low, mid, high);
         }
 
+    -- behind the third extent there are the stacks
     pub all_stacks_are : all_stacks plan ≡ has.all
     all_stacks_are = ap (λ (l : List Extent). drop 3 l) has.extents
 
+    -- so it has its zones
     pub zoned : HasAddresses config app lengths plan → plan.words ≡ record { base = 0x8000_0004; len = 1020 } → AreApartWithin 0x8000_0004 0x8020_0000 plan.extents
         → HasZones plan config
     zoned at words apart = record {

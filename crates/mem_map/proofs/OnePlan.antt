@@ -5,7 +5,7 @@ use Rattle.std.proofs.lemmas.Bool.{cases_lt}
 use Rattle.std.proofs.lemmas.List.{ext_get_or, get_or-take}
 use Rattle.std.proofs.lemmas.Option.{get_or_from_slice_get, slice_get_within}
 use Rattle.sloth_base.specs.Blocks.{block_count}
-use Rattle.sloth_base.specs.Named.{IsBodyOf, missing}
+use Rattle.sloth_base.specs.Named.{IsBodyOf, no_function}
 use Rattle.sloth_base.specs.Owners.{first_counter_line, counter_line}
 use Rattle.sloth_base.specs.declared.app.App.{App}
 use Rattle.sloth_base.specs.declared.app.Func.{Func}
@@ -20,11 +20,11 @@ use Rattle.code_rules.specs.AppRange.{AppInRange}
 use Rattle.rv32_expand.proofs.Least.{sizes_are_one}
 use Rattle.mem_map.specs.declared.all_lengths.CodeLengths.{CodeLengths}
 use Rattle.mem_map.specs.Lengths.{AreLengths}
-use Rattle.mem_map.specs.Plan.{code_bytes, code_end, data_end, idle_at, items_at, prologues_at, services_at, symbol_bytes, tick_starts}
+use Rattle.mem_map.specs.Plan.{code_byte_count, code_end, data_end, idle_at, items_at, prologues_at, services_at, symbol_bytes, tick_starts}
 use Rattle.mem_map.specs.Planned.{IsPlanned}
 use Rattle.mem_map.specs.Run.{run, starts}
 use Rattle.mem_map.specs.Stacks.{lengths_before, stack_number}
-use Rattle.mem_map.specs.Zones.{all_stacks, code_zone, data_zone, nowhere}
+use Rattle.mem_map.specs.Zones.{all_stacks, code_zone, data_zone, no_extent}
 
 -- two maps have the same addresses and extents
 pub record AreAlike (m n : Map) : Type 0 where
@@ -60,7 +60,7 @@ one_length config app t a b range p q =
   where
     is_body : (f : ℕ) (func : Func) → slice_get app.funcs f ≡ Some func → func.task ≡ Some t → IsBodyOf app t f
     is_body f func found is =
-        (slice_get_within app.funcs f func found, ap (λ (x : Func). x.task) (get_or_from_slice_get app.funcs f func missing found) ∙ is)
+        (slice_get_within app.funcs f func found, ap (λ (x : Func). x.task) (get_or_from_slice_get app.funcs f func no_function found) ∙ is)
 
 same_lengths : (a b : CodeLengths) → a.boot ≡ b.boot → a.prologues ≡ b.prologues → a.ticks ≡ b.ticks → a.services ≡ b.services → a.items ≡ b.items → a ≡ b
 same_lengths a b o p t s i =
@@ -97,7 +97,7 @@ module _ (config : Config) (app : App) (range : AppInRange config app) (bounds :
   idle = p.addresses.idle ∙ ap idle_at lengths ∙ sym q.addresses.idle
 
   first : take tasks m.handlers ≡ take tasks n.handlers
-  first = p.addresses.prologues ∙ ap (λ l. starts (prologues_at l) (map code_bytes l.prologues)) lengths ∙ sym q.addresses.prologues
+  first = p.addresses.prologues ∙ ap (λ l. starts (prologues_at l) (map code_byte_count l.prologues)) lengths ∙ sym q.addresses.prologues
 
   -- where a line that is neither a task's nor a counter's goes
   unused : (line : ℕ) → tasks ≤ line → line < 32 → (line < first_counter_line) ⊎ (counter_line (length config.counters) ≤ line) → get_or m.handlers line 0 ≡ get_or n.handlers line 0
@@ -132,10 +132,10 @@ module _ (config : Config) (app : App) (range : AppInRange config app) (bounds :
   places : m.places ≡ n.places
   places =
       same_places m.places n.places
-      (p.addresses.items ∙ ap (λ l. starts (items_at l) (map code_bytes l.items)) lengths ∙ sym q.addresses.items)
+      (p.addresses.items ∙ ap (λ l. starts (items_at l) (map code_byte_count l.items)) lengths ∙ sym q.addresses.items)
       (p.addresses.first ∙ sym q.addresses.first)
       (p.addresses.symbols ∙ ap (λ l. starts (code_end l) (map symbol_bytes app.symbols)) lengths ∙ sym q.addresses.symbols)
-      (p.addresses.blocks ∙ ap (λ l. starts (services_at l) (map code_bytes l.services)) lengths ∙ sym q.addresses.blocks)
+      (p.addresses.blocks ∙ ap (λ l. starts (services_at l) (map code_byte_count l.services)) lengths ∙ sym q.addresses.blocks)
 
   code : code_zone m ≡ code_zone n
   code =
@@ -161,13 +161,14 @@ module _ (config : Config) (app : App) (range : AppInRange config app) (bounds :
       ∙ sym q.zones.extents
 
   stacks : m.stacks ≡ n.stacks
-  stacks = ext_get_or nowhere m.stacks n.stacks (p.stacks.count ∙ sym q.stacks.count) each
+  stacks = ext_get_or no_extent m.stacks n.stacks (p.stacks.count ∙ sym q.stacks.count) each
     where
-      each : (t : ℕ) → t < length m.stacks → get_or m.stacks t nowhere ≡ get_or n.stacks t nowhere
+      each : (t : ℕ) → t < length m.stacks → get_or m.stacks t no_extent ≡ get_or n.stacks t no_extent
       each t below =
           let count = p.stacks.count in
           let there : t < tasks = omega (arith, below, count) in
-          p.stacks.number t there ∙ ap (λ (l : List Extent). get_or l (stack_number config.tasks t) nowhere) all ∙ sym (q.stacks.number t there)
+          p.stacks.number t there ∙ ap (λ (l : List Extent). get_or l (stack_number config.tasks t) no_extent) all ∙ sym (q.stacks.number t there)
 
+  -- two plans of one app are alike
   pub one_plan : AreAlike m n
   one_plan = record { extents = extents; places = places; stacks = stacks; idle = idle; handlers = handlers }

@@ -16,7 +16,7 @@ use Rattle.std.proofs.lemmas.Bool.{cases_lt}
 use Rattle.sloth_base.specs.declared.places.Bounds.{Bounds}
 use Rattle.mem_map.specs.Run.{end_of, extents_of, starts, AreClose}
 use Rattle.mem_map.specs.declared.all_lengths.CodeLengths.{CodeLengths}
-use Rattle.mem_map.specs.Plan.{MayPlan, HasAddresses, IsNear, prologues_at, ticks_at, tick_starts, services_at, items_at, code_end, data_end, code_bytes, symbol_bytes, some_extents, code_extents, data_extents}
+use Rattle.mem_map.specs.Plan.{MayPlan, HasAddresses, IsInVectorReach, prologues_at, ticks_at, tick_starts, services_at, items_at, code_end, data_end, code_byte_count, symbol_bytes, some_extents, code_extents, data_extents}
 use Rattle.mem_map.proofs.Bounds.{sizes_few, before_all, items_end, prologues_end, ticks_end, symbols_end, services_end, IsSize}
 use Rattle.mem_map.proofs.Covering.{ArePlaced, code_bytes_aligned}
 use Rattle.mem_map.proofs.Starts.{stands, end_above, end_aligned, starts_aligned, length_starts, follow_from, extents_follow, extents_before, some_follow, extents_close, close_before, some_close}
@@ -27,6 +27,7 @@ module _ (config : Config) (app : App) (lengths : CodeLengths) (bounds : Bounds)
   abbrev n : ℕ
   n = length config.tasks
 
+  -- what is asked of task code limits the tasks
   pub few_tasks : n ≤ 30
   few_tasks = may.in_range.configuration.few_tasks
 
@@ -36,15 +37,18 @@ module _ (config : Config) (app : App) (lengths : CodeLengths) (bounds : Bounds)
   symbols_sum : sum_by (λ (y : Symbol). length y.bytes) app.symbols ≤ 32768
   symbols_sum = let s = sum-map (λ (y : Symbol). length y.bytes) app.symbols in let h = may.in_range.limits.few_bytes in omega (arith, s, h)
 
+  -- the items of each function
   pub counts_few : All (λ (f : Func). length f.items ≤ 4096) app.funcs
   counts_few = λ k d l. let o = get_or-le-sum_by (λ (f : Func). length f.items) app.funcs k d l in let h = items_sum in omega (arith, h, o)
 
+  -- the bytes of each symbol
   pub symbols_few : All (λ (y : Symbol). length y.bytes ≤ 32768) app.symbols
   symbols_few = λ k d l. let o = get_or-le-sum_by (λ (y : Symbol). length y.bytes) app.symbols k d l in let h = symbols_sum in omega (arith, h, o)
 
   sizes_are : All IsSize lengths.items
   sizes_are = sizes_few config app lengths.items may.in_range may.code.items
 
+  -- and the length of each piece of code
   pub sizes_small : All (λ (size : ℕ). size ≤ 2048) lengths.items
   sizes_small = λ k d l. let s = sizes_are k d l in let most = s.1 in omega (arith, most)
 
@@ -54,6 +58,7 @@ module _ (config : Config) (app : App) (lengths : CodeLengths) (bounds : Bounds)
   pub ticks_small : All (λ (size : ℕ). size ≤ 2048) lengths.ticks
   ticks_small = λ k d l. let s = may.code.ticks_fit k d l in let most = s.1 in omega (arith, most)
 
+  -- a prologue for each task, and a tick for each counter
   pub few_starts : length lengths.prologues ≤ 30
   few_starts = let c = may.code.prologues in let f = few_tasks in omega (arith, c, f)
 
@@ -72,9 +77,11 @@ module _ (config : Config) (app : App) (lengths : CodeLengths) (bounds : Bounds)
       let f = few_starts in
       omega (arith, e, f)
 
+  -- how long the services are at most
   pub services_short : items_at lengths ≤ services_at lengths + 357376
   services_short = services_end (services_at lengths) lengths.services may.code.services may.code.services_fit may.code.objects
 
+  -- how long the items
   pub items_short : code_end lengths ≤ items_at lengths + 589824
   items_short =
       let e = items_end (items_at lengths) lengths.items sizes_are in
@@ -87,9 +94,11 @@ module _ (config : Config) (app : App) (lengths : CodeLengths) (bounds : Bounds)
   pub code_short : code_end lengths ≤ 0x8010_0370
   code_short = let a = services_short in let b = items_short in let c = prologues_short in let d = ticks_short in let f = may.code.boot.1 in omega (arith, a, b, c, d, f)
 
+  -- and in reach of the vector words
   pub code_near : code_end lengths < 0x8010_0400
   code_near = let h = code_short in omega (arith, h)
 
+  -- how long the symbols
   pub symbols_short : data_end app (code_end lengths) ≤ code_end lengths + 33540
   symbols_short =
       let e = symbols_end (code_end lengths) app.symbols in
@@ -99,32 +108,34 @@ module _ (config : Config) (app : App) (lengths : CodeLengths) (bounds : Bounds)
 
   -- ---- multiples of 4
 
+  -- every part of the code begins at a multiple of 4
   pub ticks_even : ticks_at lengths % 4 ≡ 0
-  ticks_even = end_aligned (prologues_at lengths) (map code_bytes lengths.prologues) (omega arith) (code_bytes_aligned lengths.prologues)
+  ticks_even = end_aligned (prologues_at lengths) (map code_byte_count lengths.prologues) (omega arith) (code_bytes_aligned lengths.prologues)
 
   pub services_even : services_at lengths % 4 ≡ 0
-  services_even = end_aligned (ticks_at lengths) (map code_bytes lengths.ticks) ticks_even (code_bytes_aligned lengths.ticks)
+  services_even = end_aligned (ticks_at lengths) (map code_byte_count lengths.ticks) ticks_even (code_bytes_aligned lengths.ticks)
 
   pub items_even : items_at lengths % 4 ≡ 0
-  items_even = end_aligned (services_at lengths) (map code_bytes lengths.services) services_even (code_bytes_aligned lengths.services)
+  items_even = end_aligned (services_at lengths) (map code_byte_count lengths.services) services_even (code_bytes_aligned lengths.services)
 
   pub code_even : code_end lengths % 4 ≡ 0
-  code_even = end_aligned (items_at lengths) (map code_bytes lengths.items) items_even (code_bytes_aligned lengths.items)
+  code_even = end_aligned (items_at lengths) (map code_byte_count lengths.items) items_even (code_bytes_aligned lengths.items)
 
+  -- and no part before the end of the one below it
   pub ticks_behind : prologues_at lengths ≤ ticks_at lengths
-  ticks_behind = end_above (prologues_at lengths) (map code_bytes lengths.prologues)
+  ticks_behind = end_above (prologues_at lengths) (map code_byte_count lengths.prologues)
 
   pub ticks_above : ticks_at lengths ≤ services_at lengths
-  ticks_above = end_above (ticks_at lengths) (map code_bytes lengths.ticks)
+  ticks_above = end_above (ticks_at lengths) (map code_byte_count lengths.ticks)
 
   pub prologues_above : prologues_at lengths ≤ services_at lengths
   prologues_above = let a = ticks_behind in let b = ticks_above in omega (arith, a, b)
 
   pub services_above : services_at lengths ≤ items_at lengths
-  services_above = end_above (services_at lengths) (map code_bytes lengths.services)
+  services_above = end_above (services_at lengths) (map code_byte_count lengths.services)
 
   pub items_above : items_at lengths ≤ code_end lengths
-  items_above = end_above (items_at lengths) (map code_bytes lengths.items)
+  items_above = end_above (items_at lengths) (map code_byte_count lengths.items)
 
   pub symbols_above : code_end lengths ≤ end_of (code_end lengths) (map symbol_bytes app.symbols)
   symbols_above = end_above (code_end lengths) (map symbol_bytes app.symbols)
@@ -137,6 +148,7 @@ module _ (config : Config) (app : App) (lengths : CodeLengths) (bounds : Bounds)
     pub even : (code_to - 0x8000_0400) % 4 ≡ 0
     pub room : 1024 + (code_to - 0x8000_0400) + 3 + (data_to + 4 - code_to) + 3 + 983490 ≤ 0x20_0000
 
+  -- those of the code and of the symbols are so
   pub ends_are : (code_to data_to : ℕ) → code_to ≡ code_end lengths → data_to ≡ end_of code_to (map symbol_bytes app.symbols) → AreEnds code_to data_to
   ends_are code_to data_to e f =
       let g = ap (λ (from : ℕ). end_of from (map symbol_bytes app.symbols)) e in
@@ -158,18 +170,19 @@ module _ (config : Config) (app : App) (lengths : CodeLengths) (bounds : Bounds)
   symbol_some : All (λ (y : ℕ). 1 ≤ y) (map symbol_bytes app.symbols)
   symbol_some = All-map (λ (y : ℕ). 1 ≤ y) symbol_bytes app.symbols (λ k d l. let h = may.in_range.symbols k d l in omega (arith, h))
 
-  start_some : All (λ (y : ℕ). 1 ≤ y) (map code_bytes lengths.prologues)
-  start_some = All-map (λ (y : ℕ). 1 ≤ y) code_bytes lengths.prologues (λ k d l. let h = may.code.prologues_fit k d l in let s = h.0 in omega (arith, s))
+  start_some : All (λ (y : ℕ). 1 ≤ y) (map code_byte_count lengths.prologues)
+  start_some = All-map (λ (y : ℕ). 1 ≤ y) code_byte_count lengths.prologues (λ k d l. let h = may.code.prologues_fit k d l in let s = h.0 in omega (arith, s))
 
-  tick_some : All (λ (y : ℕ). 1 ≤ y) (map code_bytes lengths.ticks)
-  tick_some = All-map (λ (y : ℕ). 1 ≤ y) code_bytes lengths.ticks (λ k d l. let h = may.code.ticks_fit k d l in let s = h.0 in omega (arith, s))
+  tick_some : All (λ (y : ℕ). 1 ≤ y) (map code_byte_count lengths.ticks)
+  tick_some = All-map (λ (y : ℕ). 1 ≤ y) code_byte_count lengths.ticks (λ k d l. let h = may.code.ticks_fit k d l in let s = h.0 in omega (arith, s))
 
-  item_some : All (λ (y : ℕ). 1 ≤ y) (map code_bytes lengths.items)
-  item_some = All-map (λ (y : ℕ). 1 ≤ y) code_bytes lengths.items (λ k d l. let h = sizes_are k d l in let s = h.0 in omega (arith, s))
+  item_some : All (λ (y : ℕ). 1 ≤ y) (map code_byte_count lengths.items)
+  item_some = All-map (λ (y : ℕ). 1 ≤ y) code_byte_count lengths.items (λ k d l. let h = sizes_are k d l in let s = h.0 in omega (arith, s))
 
   -- ---- of a map with these addresses
 
   module _ (plan : Map) (at : HasAddresses config app lengths plan) where
+    -- the items, the symbols and the services stand where these begin
     pub placed : ArePlaced app lengths.items lengths.services plan.places (services_at lengths) (items_at lengths) (code_end lengths)
     placed = record {
       first = at.first;
@@ -189,19 +202,20 @@ module _ (config : Config) (app : App) (lengths : CodeLengths) (bounds : Bounds)
     }
 
     -- the address of a prologue
-    pub start_is : (task : ℕ) → task < n → slice_index plan.handlers task ≡ get_or (starts (prologues_at lengths) (map code_bytes lengths.prologues)) task 0
+    pub start_is : (task : ℕ) → task < n → slice_index plan.handlers task ≡ get_or (starts (prologues_at lengths) (map code_byte_count lengths.prologues)) task 0
     start_is task l = sym (get_or-take n plan.handlers task 0 l) ∙ ap (λ (starts : List ℕ). get_or starts task 0) at.prologues
 
-    pub start_near : (task : ℕ) → task < n → IsNear (slice_index plan.handlers task)
+    -- a vector word can jump to it
+    pub start_near : (task : ℕ) → task < n → IsInVectorReach (slice_index plan.handlers task)
     start_near task l =
         let is = start_is task l in
         let count = may.code.prologues in
-        let long = length-map lengths.prologues code_bytes in
-        let all = length_starts (prologues_at lengths) (map code_bytes lengths.prologues) in
-        let s = stands (prologues_at lengths) (map code_bytes lengths.prologues) task (omega (arith, l, count, long)) in
+        let long = length-map lengths.prologues code_byte_count in
+        let all = length_starts (prologues_at lengths) (map code_byte_count lengths.prologues) in
+        let s = stands (prologues_at lengths) (map code_byte_count lengths.prologues) task (omega (arith, l, count, long)) in
         let low = s.above in
         let high = s.below in
-        let four = starts_aligned (prologues_at lengths) (map code_bytes lengths.prologues) (omega arith) (code_bytes_aligned lengths.prologues) task 0 (omega (arith, l, count, long, all)) in
+        let four = starts_aligned (prologues_at lengths) (map code_byte_count lengths.prologues) (omega arith) (code_bytes_aligned lengths.prologues) task 0 (omega (arith, l, count, long, all)) in
         let short = code_short in
         let ticks = ticks_above in
         let mid = services_above in
@@ -209,28 +223,29 @@ module _ (config : Config) (app : App) (lengths : CodeLengths) (bounds : Bounds)
         (omega (arith, is, four), omega (arith, is, low), omega (arith, is, high, short, ticks, mid, items))
 
     -- that of a tick
-    pub tick_near : (c : ℕ) → c < length config.counters → IsNear (slice_index plan.handlers (counter_line c))
+    pub tick_near : (c : ℕ) → c < length config.counters → IsInVectorReach (slice_index plan.handlers (counter_line c))
     tick_near c l =
         let is = at.ticks c l in
         let count = may.code.ticks in
-        let long = length-map lengths.ticks code_bytes in
-        let all = length_starts (ticks_at lengths) (map code_bytes lengths.ticks) in
-        let s = stands (ticks_at lengths) (map code_bytes lengths.ticks) c (omega (arith, l, count, long)) in
+        let long = length-map lengths.ticks code_byte_count in
+        let all = length_starts (ticks_at lengths) (map code_byte_count lengths.ticks) in
+        let s = stands (ticks_at lengths) (map code_byte_count lengths.ticks) c (omega (arith, l, count, long)) in
         let low = s.above in
         let high = s.below in
-        let four = starts_aligned (ticks_at lengths) (map code_bytes lengths.ticks) ticks_even (code_bytes_aligned lengths.ticks) c 0 (omega (arith, l, count, long, all)) in
+        let four = starts_aligned (ticks_at lengths) (map code_byte_count lengths.ticks) ticks_even (code_bytes_aligned lengths.ticks) c 0 (omega (arith, l, count, long, all)) in
         let short = code_short in
         let first = ticks_behind in
         let mid = services_above in
         let items = items_above in
         (omega (arith, is, four), omega (arith, is, low, first), omega (arith, is, high, short, mid, items))
 
-    pub reach : (line : ℕ) → line < 32 → IsNear (slice_index plan.handlers line)
+    -- a vector word can jump to the code of each line
+    pub reach : (line : ℕ) → line < 32 → IsInVectorReach (slice_index plan.handlers line)
     reach line h =
         let few = may.code.boot.1 in
         let e = at.idle in
         let counters : ℕ = length config.counters in
-        let idle : (l : n ≤ line) (other : (line < 30) ⊎ (counter_line counters ≤ line)) → IsNear (slice_index plan.handlers line) = λ l other.
+        let idle : (l : n ≤ line) (other : (line < 30) ⊎ (counter_line counters ≤ line)) → IsInVectorReach (slice_index plan.handlers line) = λ l other.
         let a = at.unused line l h other in
         (omega (arith, a, e), omega (arith, a, e), omega (arith, a, e, few))
         in
@@ -241,27 +256,28 @@ module _ (config : Config) (app : App) (lengths : CodeLengths) (bounds : Bounds)
         (λ (m : 30 ≤ line). ⊎_elim
         (λ (f : line - 30 < counters).
         let same : counter_line (line - 30) ≡ line = omega (arith, m) in
-        subst (λ k. IsNear (slice_index plan.handlers k)) same (tick_near (line - 30) f))
+        subst (λ k. IsInVectorReach (slice_index plan.handlers k)) same (tick_near (line - 30) f))
         (λ (f : counters ≤ line - 30). idle l (inr (omega (arith, m, f))))
         (cases_lt (line - 30) counters))
         (cases_lt line 30))
         (cases_lt line n)
 
+    -- the extents of the code follow one another
     pub code_follows : FollowWithin 0x8000_0400 (code_end lengths) (code_extents plan n lengths)
     code_follows =
         let e = at.idle in
         let some = may.code.boot.0 in
         let end : ℕ = code_end lengths in
-        let P : List ℕ → Type 0 = λ addresses. FollowWithin (items_at lengths) end (extents_of addresses (map code_bytes lengths.items)) in
-        let items = subst P (sym at.items) (extents_follow (items_at lengths) end (map code_bytes lengths.items) item_some (omega arith)) in
-        let Q : List ℕ → Type 0 = λ addresses. FollowWithin (services_at lengths) end (some_extents addresses lengths.services ++ extents_of plan.places.items (map code_bytes lengths.items)) in
-        let services = subst Q (sym at.blocks) (some_follow (services_at lengths) end lengths.services (extents_of plan.places.items (map code_bytes lengths.items)) items) in
-        let served : List Extent = some_extents plan.places.blocks lengths.services ++ extents_of plan.places.items (map code_bytes lengths.items) in
-        let rest : List Extent = extents_of (tick_starts lengths) (map code_bytes lengths.ticks) ++ served in
-        let ticks = extents_before (ticks_at lengths) end (map code_bytes lengths.ticks) served tick_some services in
-        let R : List ℕ → Type 0 = λ addresses. FollowWithin (prologues_at lengths) end (extents_of addresses (map code_bytes lengths.prologues) ++ rest) in
-        let prologues = subst R (sym at.prologues) (extents_before (prologues_at lengths) end (map code_bytes lengths.prologues) rest start_some ticks) in
-        let behind = follow_from (plan.idle + 4) (prologues_at lengths) end (extents_of (take n plan.handlers) (map code_bytes lengths.prologues) ++ rest) (omega (arith, e)) prologues in
+        let P : List ℕ → Type 0 = λ addresses. FollowWithin (items_at lengths) end (extents_of addresses (map code_byte_count lengths.items)) in
+        let items = subst P (sym at.items) (extents_follow (items_at lengths) end (map code_byte_count lengths.items) item_some (omega arith)) in
+        let Q : List ℕ → Type 0 = λ addresses. FollowWithin (services_at lengths) end (some_extents addresses lengths.services ++ extents_of plan.places.items (map code_byte_count lengths.items)) in
+        let services = subst Q (sym at.blocks) (some_follow (services_at lengths) end lengths.services (extents_of plan.places.items (map code_byte_count lengths.items)) items) in
+        let served : List Extent = some_extents plan.places.blocks lengths.services ++ extents_of plan.places.items (map code_byte_count lengths.items) in
+        let rest : List Extent = extents_of (tick_starts lengths) (map code_byte_count lengths.ticks) ++ served in
+        let ticks = extents_before (ticks_at lengths) end (map code_byte_count lengths.ticks) served tick_some services in
+        let R : List ℕ → Type 0 = λ addresses. FollowWithin (prologues_at lengths) end (extents_of addresses (map code_byte_count lengths.prologues) ++ rest) in
+        let prologues = subst R (sym at.prologues) (extents_before (prologues_at lengths) end (map code_byte_count lengths.prologues) rest start_some ticks) in
+        let behind = follow_from (plan.idle + 4) (prologues_at lengths) end (extents_of (take n plan.handlers) (map code_byte_count lengths.prologues) ++ rest) (omega (arith, e)) prologues in
         (omega arith, omega arith, (omega arith, omega (arith, some), (omega (arith, e), omega arith, behind)))
 
     -- there is no hole in the code
@@ -269,37 +285,40 @@ module _ (config : Config) (app : App) (lengths : CodeLengths) (bounds : Bounds)
     code_close =
         let e = at.idle in
         let end : ℕ = code_end lengths in
-        let P : List ℕ → Type 0 = λ addresses. AreClose (items_at lengths) end (extents_of addresses (map code_bytes lengths.items)) in
-        let items = subst P (sym at.items) (extents_close (items_at lengths) (map code_bytes lengths.items)) in
-        let Q : List ℕ → Type 0 = λ addresses. AreClose (services_at lengths) end (some_extents addresses lengths.services ++ extents_of plan.places.items (map code_bytes lengths.items)) in
-        let services = subst Q (sym at.blocks) (some_close (services_at lengths) end lengths.services (extents_of plan.places.items (map code_bytes lengths.items)) items) in
-        let served : List Extent = some_extents plan.places.blocks lengths.services ++ extents_of plan.places.items (map code_bytes lengths.items) in
-        let rest : List Extent = extents_of (tick_starts lengths) (map code_bytes lengths.ticks) ++ served in
-        let ticks = close_before (ticks_at lengths) end (map code_bytes lengths.ticks) served services in
-        let R : List ℕ → Type 0 = λ addresses. AreClose (prologues_at lengths) end (extents_of addresses (map code_bytes lengths.prologues) ++ rest) in
-        let prologues = subst R (sym at.prologues) (close_before (prologues_at lengths) end (map code_bytes lengths.prologues) rest ticks) in
-        let S : ℕ → Type 0 = λ free. AreClose free end (extents_of (take n plan.handlers) (map code_bytes lengths.prologues) ++ rest) in
+        let P : List ℕ → Type 0 = λ addresses. AreClose (items_at lengths) end (extents_of addresses (map code_byte_count lengths.items)) in
+        let items = subst P (sym at.items) (extents_close (items_at lengths) (map code_byte_count lengths.items)) in
+        let Q : List ℕ → Type 0 = λ addresses. AreClose (services_at lengths) end (some_extents addresses lengths.services ++ extents_of plan.places.items (map code_byte_count lengths.items)) in
+        let services = subst Q (sym at.blocks) (some_close (services_at lengths) end lengths.services (extents_of plan.places.items (map code_byte_count lengths.items)) items) in
+        let served : List Extent = some_extents plan.places.blocks lengths.services ++ extents_of plan.places.items (map code_byte_count lengths.items) in
+        let rest : List Extent = extents_of (tick_starts lengths) (map code_byte_count lengths.ticks) ++ served in
+        let ticks = close_before (ticks_at lengths) end (map code_byte_count lengths.ticks) served services in
+        let R : List ℕ → Type 0 = λ addresses. AreClose (prologues_at lengths) end (extents_of addresses (map code_byte_count lengths.prologues) ++ rest) in
+        let prologues = subst R (sym at.prologues) (close_before (prologues_at lengths) end (map code_byte_count lengths.prologues) rest ticks) in
+        let S : ℕ → Type 0 = λ free. AreClose free end (extents_of (take n plan.handlers) (map code_byte_count lengths.prologues) ++ rest) in
         let behind : prologues_at lengths ≡ plan.idle + 4 = omega (arith, e) in
         (refl, (refl, (e, subst S behind prologues)))
 
+    -- and so do those of the symbols
     pub data_follows : FollowWithin (code_end lengths) (data_end app (code_end lengths)) (data_extents plan app)
     data_follows =
         let from : ℕ = code_end lengths in
         let P : List ℕ → Type 0 = λ addresses. FollowWithin from (data_end app from) (extents_of addresses (map symbol_bytes app.symbols)) in
         subst P (sym at.symbols) (extents_follow from (data_end app from) (map symbol_bytes app.symbols) symbol_some (omega arith))
 
+    -- nor is there one in the data
     pub data_close : AreClose (code_end lengths) (end_of (code_end lengths) (map symbol_bytes app.symbols)) (data_extents plan app)
     data_close =
         let from : ℕ = code_end lengths in
         let P : List ℕ → Type 0 = λ addresses. AreClose from (end_of from (map symbol_bytes app.symbols)) (extents_of addresses (map symbol_bytes app.symbols)) in
         subst P (sym at.symbols) (extents_close from (map symbol_bytes app.symbols))
 
+    -- items and services stand at multiples of 4
     pub items_all_even : All (λ address. address % 4 ≡ 0) plan.places.items
     items_all_even =
         let P : List ℕ → Type 0 = λ addresses. All (λ address. address % 4 ≡ 0) addresses in
-        subst P (sym at.items) (starts_aligned (items_at lengths) (map code_bytes lengths.items) items_even (code_bytes_aligned lengths.items))
+        subst P (sym at.items) (starts_aligned (items_at lengths) (map code_byte_count lengths.items) items_even (code_bytes_aligned lengths.items))
 
     pub blocks_all_even : All (λ address. address % 4 ≡ 0) plan.places.blocks
     blocks_all_even =
         let P : List ℕ → Type 0 = λ addresses. All (λ address. address % 4 ≡ 0) addresses in
-        subst P (sym at.blocks) (starts_aligned (services_at lengths) (map code_bytes lengths.services) services_even (code_bytes_aligned lengths.services))
+        subst P (sym at.blocks) (starts_aligned (services_at lengths) (map code_byte_count lengths.services) services_even (code_bytes_aligned lengths.services))

@@ -6,11 +6,11 @@ use Rattle.std.proofs.Math.Seq.{get_or-append_seam}
 use Rattle.std.proofs.lemmas.Option.{get_or_from_slice_get, slice_get_within}
 use Rattle.std.proofs.Math.ListN.{get_or-eq_default}
 use Rattle.sloth_base.specs.Blocks.{block_count}
-use Rattle.sloth_base.specs.Named.{missing}
+use Rattle.sloth_base.specs.Named.{no_function}
 use Rattle.sloth_base.specs.declared.app.App.{App}
 use Rattle.sloth_base.specs.declared.app.Func.{Func}
 use Rattle.sloth_base.specs.declared.config.Config.{Config}
-use Rattle.code_lengths.specs.Bodies.{IsBody}
+use Rattle.code_lengths.specs.Bodies.{IsBodyPlace}
 use Rattle.code_lengths.specs.CodeLengths.{tick_length, block_length, IsPrologueLength}
 use Rattle.code_lengths.proofs.Short.{short_lines, short_prologue, short_tick, short_block}
 use Rattle.code_rules.specs.WellFormed.{WellFormed}
@@ -21,10 +21,10 @@ use Rattle.mem_map.specs.declared.all_lengths.CodeLengths.{CodeLengths}
 use Rattle.mem_map.proofs.Wanting.{wanted_services}
 
 -- a task has a body
-pub has_body : (config : Config) (app : App) → WellFormed config app → (t : ℕ) → t < length config.tasks → (body : ℕ) × IsBody app.funcs t body
+pub has_body : (config : Config) (app : App) → WellFormed config app → (t : ℕ) → t < length config.tasks → (body : ℕ) × IsBodyPlace app.funcs t body
 has_body config app well t declared =
     let b = well.in_range.tasks.body t declared in
-    (b.0, (b.1.0, λ d. subst (λ (f : Func). f.task ≡ Some t) (get_or_default app.funcs b.0 missing d b.1.0) b.1.1))
+    (b.0, (b.1.0, λ d. subst (λ (f : Func). f.task ≡ Some t) (get_or_default app.funcs b.0 no_function d b.1.0) b.1.1))
 
 -- the lengths of ticks, and one more
 pub one_more_tick : (config : Config) (xs ys : List ℕ) (n size : ℕ) → ys ≡ xs ++ size ∷ []
@@ -66,8 +66,8 @@ one_more config app xs ys n size e before is =
 small_prologue : (config : Config) (app : App) (t size : ℕ) → WellFormed config app → IsPrologueLength t config app size → IsSmallPrologue size
 small_prologue config app t size well p =
     let inside = slice_get_within app.funcs p.body p.func p.is_func in
-    let its = get_or_from_slice_get app.funcs p.body p.func missing p.is_func in
-    let words : p.func.frame_words ≤ 32 = subst (λ (f : Func). f.frame_words ≤ 32) its ((well.in_range.bodies p.body missing inside).frame) in
+    let its = get_or_from_slice_get app.funcs p.body p.func no_function p.is_func in
+    let words : p.func.frame_words ≤ 32 = subst (λ (f : Func). f.frame_words ≤ 32) its ((well.in_range.bodies p.body no_function inside).frame) in
     let is = p.is in
     let bound = short_prologue p.decl.extended p.func.frame_words in
     (omega (arith, is, bound.0), omega (arith, is, bound.1, words))
@@ -100,6 +100,7 @@ module _ (config : Config) (app : App) (lengths : CodeLengths) (well : WellForme
       by true is length_is = wanted_services config app well number is
       by false is length_is = absurd (some (length_is ∙ ap (λ b. cond b (block_length number) 0) is))
 
+  -- all of them are so
   pub small : AreSmall config app lengths
   small = record {
     boot =

@@ -8,16 +8,16 @@ use Rattle.sloth_base.specs.declared.config.TaskDecl.{TaskDecl}
 use Rattle.sloth_base.specs.declared.places.Bounds.{Bounds}
 use Rattle.stack_bounds.specs.Bounds.{bytes_of}
 use Rattle.mem_map.specs.Run.{room_for}
-use Rattle.mem_map.specs.Stacks.{is_extended, own_before, first_own, lengths_before, AreLengths}
+use Rattle.mem_map.specs.Stacks.{is_extended, own_before, first_own, lengths_before, AreStackLengths}
 use Rattle.mem_map.proofs.StackNumbers.{skipped, rises}
 
 room_more : (lengths : List ℕ) (len : ℕ) → room_for 16 (lengths ++ len ∷ []) ≡ room_for 16 lengths + 15 + len
 room_more [] len = omega arith
 room_more (l ∷ lengths) len = let r = room_more lengths len in omega (arith, r)
 
-module _ (tasks : List TaskDecl) (bounds : Bounds) (end : ℕ) (lengths : List ℕ) (h : AreLengths tasks bounds end lengths) where
+module _ (tasks : List TaskDecl) (bounds : Bounds) (end : ℕ) (lengths : List ℕ) (h : AreStackLengths tasks bounds end lengths) where
   -- behind a basic task
-  pub same : is_extended tasks end ≡ false → AreLengths tasks bounds (suc end) lengths
+  pub same : is_extended tasks end ≡ false → AreStackLengths tasks bounds (suc end) lengths
   same basic =
       let s = skipped tasks end basic in
       let c = h.count in
@@ -35,7 +35,7 @@ module _ (tasks : List TaskDecl) (bounds : Bounds) (end : ℕ) (lengths : List �
       }
 
   -- behind an extended one
-  pub more : (len : ℕ) → is_extended tasks end ≡ true → len ≡ bytes_of bounds end → 1 ≤ len → len ≤ 8572 → AreLengths tasks bounds (suc end) (lengths ++ len ∷ [])
+  pub more : (len : ℕ) → is_extended tasks end ≡ true → len ≡ bytes_of bounds end → 1 ≤ len → len ≤ 8572 → AreStackLengths tasks bounds (suc end) (lengths ++ len ∷ [])
   more len extended is some small =
       let one_more : own_before tasks (suc end) ≡ own_before tasks end + 1 = counted extended in
       let c = h.count in

@@ -12,6 +12,7 @@ module _ (tasks : List TaskDecl) where
   counted : (t : ℕ) → is_extended tasks t ≡ true → own_before tasks (suc t) ≡ own_before tasks t + 1
   counted t e = ap (λ b. own_before tasks t + cond b 1 0) e
 
+  -- none more where it is basic
   pub skipped : (t : ℕ) → is_extended tasks t ≡ false → own_before tasks (suc t) ≡ own_before tasks t
   skipped t e = let z : own_before tasks (suc t) ≡ own_before tasks t + 0 = ap (λ b. own_before tasks t + cond b 1 0) e in omega (arith, z)
 
@@ -35,6 +36,7 @@ module _ (tasks : List TaskDecl) where
       let same : suc (t + more) ≡ u = omega (arith, e) in
       subst (λ x. Between t x (suc more)) same (omega (arith, r.0, s.0), omega (arith, r.1, s.1))
 
+  -- a later task has no fewer before it
   pub no_less : (t u : ℕ) → t ≤ u → Between t u (u - t)
   no_less t u l = grows (u - t) t u (omega (arith, l))
 
@@ -53,6 +55,7 @@ module _ (tasks : List TaskDecl) where
       (λ no. let ne = eqb-false (own_before tasks n) n no in inr (omega (arith, l, ne), cond-false (own_before tasks n == n) 0 1 no))
       (cases_Bool (own_before tasks n == n))
 
+  -- there are no more stacks than tasks
   pub few_stacks : stack_count tasks ≤ n
   few_stacks = ⊎_elim (λ a. let e = a.1 in let f = a.0 in omega (arith, e, f)) (λ a. let e = a.1 in let f = a.0 in omega (arith, e, f)) all_or_less
 
@@ -68,12 +71,15 @@ module _ (tasks : List TaskDecl) where
       (λ a. a.1)
       all_or_less
 
+  -- the stack of an extended task is behind those of all before it
   pub number_own : (t : ℕ) → is_extended tasks t ≡ true → stack_number tasks t ≡ first_own tasks + own_before tasks t
   number_own t e = cond-true (is_extended tasks t) (first_own tasks + own_before tasks t) 0 e
 
+  -- a basic task has the first
   pub number_shared : (t : ℕ) → is_extended tasks t ≡ false → stack_number tasks t ≡ 0
   number_shared t e = cond-false (is_extended tasks t) (first_own tasks + own_before tasks t) 0 e
 
+  -- each task's number is that of a stack
   pub number_below : (t : ℕ) → t < n → stack_number tasks t < stack_count tasks
   number_below t l = ⊎_elim
       (λ yes. let e = number_own t yes in let r = rises t n l yes in omega (arith, e, r))
@@ -116,6 +122,7 @@ module _ (tasks : List TaskDecl) where
       (λ no. (end, omega arith, no))
       (cases_Bool (is_extended tasks end))
 
+  -- a shared stack is that of some basic task
   pub has_basic : 0 < first_own tasks → (t : ℕ) × (t < n) × (is_extended tasks t ≡ false)
   has_basic some = ⊎_elim (λ a. let e = a.1 in absurd (omega (arith, e, some))) (λ a. basic_found n a.0) all_or_less
 

@@ -15,9 +15,9 @@ use Rattle.sloth_region.specs.Region.{AreApartWithin, IsBelow}
 use Rattle.stack_bounds.specs.Bounds.{IsBasic, MayBePreempted, MayMeet, bytes_of, offset_of}
 use Rattle.stack_bounds.specs.Bounds.MayMeet.{waits, meets_waiting, is_over, is_under}
 use Rattle.mem_map.specs.Run.{run}
-use Rattle.mem_map.specs.Zones.{data_zone, stack_of, nowhere, all_stacks}
+use Rattle.mem_map.specs.Zones.{data_zone, stack_of, no_extent, all_stacks}
 use Rattle.mem_map.specs.Plan.{AreNeeds}
-use Rattle.mem_map.specs.Stacks.{is_extended, first_own, stack_number, stack_count, shared_length, AreLengths, HasStack, AreOf, top_of, behind_data, PartsApart, HasStacks}
+use Rattle.mem_map.specs.Stacks.{is_extended, first_own, stack_number, stack_count, shared_length, AreStackLengths, HasStack, AreStacksBefore, top_of, address_behind_data, PartsApart, HasStacks}
 use Rattle.mem_map.proofs.StackNumbers.{number_own, number_shared, number_below, shares, differ, has_basic, found}
 
 clash : {X : Type 0} → true ≡ false → X
@@ -36,6 +36,7 @@ module _ (config : Config) (app : App) (bounds : Bounds) (offsets : List ℕ) (n
     pub small : bytes_of bounds t ≤ 8572
     pub words : bytes_of bounds t % 4 ≡ 0
 
+  -- each task's bytes are so
   pub part : (t : ℕ) → t < n → IsPart t
   part t l =
       let count = needs.are_bounds.count in
@@ -53,19 +54,19 @@ module _ (config : Config) (app : App) (bounds : Bounds) (offsets : List ℕ) (n
 
   -- ---- the stacks, one behind the other
 
-  module _ (from : ℕ) (lengths : List ℕ) (all : List Extent) (are : AreLengths tasks bounds n lengths) (lens : map (λ (e : Extent). e.len) all ≡ lengths)
+  module _ (from : ℕ) (lengths : List ℕ) (all : List Extent) (are : AreStackLengths tasks bounds n lengths) (lens : map (λ (e : Extent). e.len) all ≡ lengths)
       (apart : AreApartWithin from 0x8020_0000 all) (aligned : All (λ (e : Extent). e.base % 16 ≡ 0) all) where
     count : length all ≡ stack_count tasks
     count = sym (length-map all (λ (e : Extent). e.len)) ∙ ap length lens ∙ are.count
 
     abbrev own : ℕ → Extent
-    own t = get_or all (stack_number tasks t) nowhere
+    own t = get_or all (stack_number tasks t) no_extent
 
     there : (t : ℕ) → t < n → stack_number tasks t < length all
     there t l = let b = number_below tasks t l in let c = count in omega (arith, b, c)
 
-    len_is : (k : ℕ) → (get_or all k nowhere).len ≡ get_or lengths k 0
-    len_is k = sym (get_or-map (λ (e : Extent). e.len) all k nowhere) ∙ ap (λ (l : List ℕ). get_or l k 0) lens
+    len_is : (k : ℕ) → (get_or all k no_extent).len ≡ get_or lengths k 0
+    len_is k = sym (get_or-map (λ (e : Extent). e.len) all k no_extent) ∙ ap (λ (l : List ℕ). get_or l k 0) lens
 
     shared_len : (t : ℕ) → IsBasic config t → (own t).len ≡ shared_length bounds
     shared_len t basic =
@@ -92,24 +93,25 @@ module _ (config : Config) (app : App) (bounds : Bounds) (offsets : List ℕ) (n
         (cases_Bool (is_extended tasks t))
 
     inside : (t : ℕ) → t < n → (from ≤ (own t).base) × ((own t).base + (own t).len ≤ 0x8020_0000)
-    inside t l = let i = apart.inside (stack_number tasks t) nowhere (there t l) in (i.0, i.2)
+    inside t l = let i = apart.inside (stack_number tasks t) no_extent (there t l) in (i.0, i.2)
 
+    -- each task has its stack among these
     pub has_stack : (t : ℕ) → t < n → HasStack tasks all offsets t
     has_stack t l =
         let f = fits t l in
         let i = (inside t l).1 in
         record { there = there t l; below = omega (arith, f); short = omega (arith, i) }
 
-    apart_at : (j k : ℕ) → j < length all → k < length all → j ≢ k → IsBelow (get_or all j nowhere) (get_or all k nowhere) ⊎ IsBelow (get_or all k nowhere) (get_or all j nowhere)
+    apart_at : (j k : ℕ) → j < length all → k < length all → j ≢ k → IsBelow (get_or all j no_extent) (get_or all k no_extent) ⊎ IsBelow (get_or all k no_extent) (get_or all j no_extent)
     apart_at j k lj lk ne = ⊎_elim
-        (λ l. inl (apart.apart j k nowhere l lk))
-        (λ l. inr (apart.apart k j nowhere (omega (arith, l, ne)) lj))
+        (λ l. inl (apart.apart j k no_extent l lk))
+        (λ l. inr (apart.apart k j no_extent (omega (arith, l, ne)) lj))
         (cases_lt j k)
 
     -- ---- a map with these
 
-    module _ (plan : Map) (is : AreOf tasks all offsets n plan.stacks plan.tops) (all_is : all_stacks plan ≡ all) (behind : ℕ)
-        (run_is : all ≡ run 16 behind lengths) (data_is : behind_data plan ≡ behind) where
+    module _ (plan : Map) (is : AreStacksBefore tasks all offsets n plan.stacks plan.tops) (all_is : all_stacks plan ≡ all) (behind : ℕ)
+        (run_is : all ≡ run 16 behind lengths) (data_is : address_behind_data plan ≡ behind) where
       stack_is : (t : ℕ) → t < n → stack_of plan t ≡ own t
       stack_is t l = is.stack t l
 
@@ -137,7 +139,7 @@ module _ (config : Config) (app : App) (bounds : Bounds) (offsets : List ℕ) (n
       -- the same end of both parts' stack
       same_end : (t u : ℕ) → IsBasic config t → IsBasic config u → top_of plan t + offset_of offsets t ≡ top_of plan u + offset_of offsets u
       same_end t u bt bu =
-          let P : ℕ → Type 0 = λ k. (get_or all (stack_number tasks t) nowhere).base + (get_or all (stack_number tasks t) nowhere).len ≡ (get_or all k nowhere).base + (get_or all k nowhere).len in
+          let P : ℕ → Type 0 = λ k. (get_or all (stack_number tasks t) no_extent).base + (get_or all (stack_number tasks t) no_extent).len ≡ (get_or all k no_extent).base + (get_or all k no_extent).len in
           let e : (own t).base + (own t).len ≡ (own u).base + (own u).len = subst P (number_shared tasks t bt.1 ∙ sym (number_shared tasks u bu.1)) refl in
           top_is t bt.0 ∙ e ∙ sym (top_is u bu.0)
 
@@ -159,12 +161,13 @@ module _ (config : Config) (app : App) (bounds : Bounds) (offsets : List ℕ) (n
           by false e false f (is_over may less) = inl (over t u (lt, e) (lu, f) may less)
           by false e false f (is_under may less) = inr (over u t (lu, f) (lt, e) may less)
 
+      -- the parts of all tasks have room, and two that may be in use at once are apart
       pub has_stacks : HasStacks config app bounds plan
       has_stacks = record {
         count = is.stacks_count;
         tops = is.tops_count;
         shared = λ t u bt bu.
-            stack_is t bt.0 ∙ ap (λ k. get_or all k nowhere) (number_shared tasks t bt.1 ∙ sym (number_shared tasks u bu.1)) ∙ sym (stack_is u bu.0);
+            stack_is t bt.0 ∙ ap (λ k. get_or all k no_extent) (number_shared tasks t bt.1 ∙ sym (number_shared tasks u bu.1)) ∙ sym (stack_is u bu.0);
         shared_long = λ t basic. len_of t basic.0 ∙ shared_len t basic;
         own_long = λ t l e. len_of t l ∙ own_len t l e;
         own = λ t u lt lu ne e.
@@ -174,27 +177,27 @@ module _ (config : Config) (app : App) (bounds : Bounds) (offsets : List ℕ) (n
         aligned = λ k d l.
             let c = is.stacks_count in
             let k_below : k < n = omega (arith, c, l) in
-            let a = aligned (stack_number tasks k) nowhere (there k k_below) in
+            let a = aligned (stack_number tasks k) no_extent (there k k_below) in
             let b = base_is k k_below in
-            let s = ap (λ (e : Extent). e.base) (get_or_default plan.stacks k nowhere d l) in
+            let s = ap (λ (e : Extent). e.base) (get_or_default plan.stacks k no_extent d l) in
             omega (arith, a, b, s);
-        placed = all_is ∙ run_is ∙ ap (λ k. run 16 k lengths) (sym data_is) ∙ ap (run 16 (behind_data plan)) are.is;
-        number = λ t l. stack_is t l ∙ sym (ap (λ (l : List Extent). get_or l (stack_number tasks t) nowhere) all_is);
+        placed = all_is ∙ run_is ∙ ap (λ k. run 16 k lengths) (sym data_is) ∙ ap (run 16 (address_behind_data plan)) are.is;
+        number = λ t l. stack_is t l ∙ sym (ap (λ (l : List Extent). get_or l (stack_number tasks t) no_extent) all_is);
         among = λ t l.
             let same = ap length all_is in
             let b = there t l in
-            (stack_number tasks t, omega (arith, same, b), stack_is t l ∙ sym (ap (λ (l : List Extent). get_or l (stack_number tasks t) nowhere) all_is));
+            (stack_number tasks t, omega (arith, same, b), stack_is t l ∙ sym (ap (λ (l : List Extent). get_or l (stack_number tasks t) no_extent) all_is));
         no_other = λ k l.
             let c = count in
             let same = ap length all_is in
             let f = found tasks k (omega (arith, c, same, l)) in
-            (f.0, f.1, stack_is f.0 f.1 ∙ ap (λ j. get_or all j nowhere) f.2 ∙ sym (ap (λ (l : List Extent). get_or l k nowhere) all_is));
+            (f.0, f.1, stack_is f.0 f.1 ∙ ap (λ j. get_or all j no_extent) f.2 ∙ sym (ap (λ (l : List Extent). get_or l k no_extent) all_is));
         above = λ t l. let f = fits t l in let e = top_is t l in let b = base_is t l in omega (arith, f, e, b);
         within = λ t l. let e = top_is t l in let b = base_is t l in let m = len_of t l in omega (arith, e, b, m);
         whole = λ t l.
             let e = top_is t l in
             let w = whole t l in
-            let a = aligned (stack_number tasks t) nowhere (there t l) in
+            let a = aligned (stack_number tasks t) no_extent (there t l) in
             let o = needs.parts.words t in
             omega (arith, e, w, a, o);
         apart = meet;
@@ -216,7 +219,7 @@ behind_three from end words code data_extent extents all is apart =
 -- what the calls give: the lengths, and the stacks behind the data
 pub record ArePlaced (config : Config) (bounds : Bounds) (declared : List TaskDecl) (lengths : List ℕ) (extents all : List Extent) : Type 0 where
   pub declared_is : declared ≡ config.tasks
-  pub are : AreLengths declared bounds (length declared) lengths
+  pub are : AreStackLengths declared bounds (length declared) lengths
   pub words : Extent
   pub code : Extent
   pub data_extent : Extent
@@ -228,22 +231,24 @@ pub record ArePlaced (config : Config) (bounds : Bounds) (declared : List TaskDe
 
 module _ (config : Config) (app : App) (bounds : Bounds) (offsets : List ℕ) (needs : AreNeeds config app bounds offsets) (declared : List TaskDecl) (lengths : List ℕ) (extents all : List Extent)
     (h : ArePlaced config bounds declared lengths extents all) (slice : List Extent) (slice_is : slice ≡ all) where
-  are : AreLengths config.tasks bounds (length config.tasks) lengths
-  are = subst (λ (l : List TaskDecl). AreLengths l bounds (length l) lengths) h.declared_is h.are
+  are : AreStackLengths config.tasks bounds (length config.tasks) lengths
+  are = subst (λ (l : List TaskDecl). AreStackLengths l bounds (length l) lengths) h.declared_is h.are
 
   apart : AreApartWithin 0x8000_0004 0x8020_0000 all
   apart = behind_three 0x8000_0004 0x8020_0000 h.words h.code h.data_extent extents all h.extents_are h.apart
 
+  -- each task has its stack among those that are placed
   pub fit : (t : ℕ) → t < length declared → HasStack declared slice offsets t
   fit =
       subst (λ (l : List TaskDecl). (t : ℕ) → t < length l → HasStack l slice offsets t) (sym h.declared_is)
       (subst (λ (x : List Extent). (t : ℕ) → t < length config.tasks → HasStack config.tasks x offsets t) (sym slice_is)
       (has_stack config app bounds offsets needs 0x8000_0004 lengths all are h.lens apart h.aligned))
 
-  pub placed : (plan : Map) → AreOf declared slice offsets (length declared) plan.stacks plan.tops → all_stacks plan ≡ all → data_zone plan ≡ h.data_extent
+  -- so a map with these has the stacks of all tasks
+  pub placed : (plan : Map) → AreStacksBefore declared slice offsets (length declared) plan.stacks plan.tops → all_stacks plan ≡ all → data_zone plan ≡ h.data_extent
       → HasStacks config app bounds plan
   placed plan is all_is data_is =
       has_stacks config app bounds offsets needs 0x8000_0004 lengths all are h.lens apart h.aligned plan
-      (subst (λ (x : List Extent). AreOf config.tasks x offsets (length config.tasks) plan.stacks plan.tops) slice_is
-      (subst (λ (l : List TaskDecl). AreOf l slice offsets (length l) plan.stacks plan.tops) h.declared_is is))
+      (subst (λ (x : List Extent). AreStacksBefore config.tasks x offsets (length config.tasks) plan.stacks plan.tops) slice_is
+      (subst (λ (l : List TaskDecl). AreStacksBefore l slice offsets (length l) plan.stacks plan.tops) h.declared_is is))
       all_is (h.data_extent.base + h.data_extent.len) h.run_is (ap (λ (e : Extent). e.base + e.len) data_is)

@@ -6,13 +6,14 @@ use Rattle.std.proofs.lemmas.List.Elements.{All-cons}
 use Rattle.sloth_region.specs.declared.extent.Extent.{Extent}
 use Rattle.sloth_region.specs.Region.{FollowWithin}
 use Rattle.mem_map.specs.Run.{starts, end_of, extents_of, AreClose}
-use Rattle.mem_map.specs.Plan.{code_bytes, some_extents}
+use Rattle.mem_map.specs.Plan.{code_byte_count, some_extents}
 
 -- the end is not below the start
 pub end_above : (from : ℕ) (lengths : List ℕ) → from ≤ end_of from lengths
 end_above from [] = omega arith
 end_above from (len ∷ lengths) = let r = end_above (from + len) lengths in omega (arith, r)
 
+-- each piece has a start
 pub length_starts : (from : ℕ) (lengths : List ℕ) → length (starts from lengths) ≡ length lengths
 length_starts from [] = refl
 length_starts from (len ∷ lengths) = ap suc (length_starts (from + len) lengths)
@@ -22,6 +23,7 @@ pub record Stands (from : ℕ) (lengths : List ℕ) (k : ℕ) : Type 0 where
   pub above : from ≤ get_or (starts from lengths) k 0
   pub below : get_or (starts from lengths) k 0 + get_or lengths k 0 ≤ end_of from lengths
 
+-- each piece does so
 pub stands : (from : ℕ) (lengths : List ℕ) (k : ℕ) → k < length lengths → Stands from lengths k
 stands from [] k h = absurd (omega (arith, h))
 stands from (len ∷ lengths) zero h = record { above = omega arith; below = end_above (from + len) lengths }
@@ -48,15 +50,16 @@ next_fits free bound lengths i h e fits =
     omega (arith, cut, e, a, fits)
 
 -- the next piece of code ends by the end
-pub next_code_fits : (free bound : ℕ) (sizes : List ℕ) (i : ℕ) → i < length sizes → end_of free (map code_bytes (drop i sizes)) ≡ bound → bound < 4294967296
+pub next_code_fits : (free bound : ℕ) (sizes : List ℕ) (i : ℕ) → i < length sizes → end_of free (map code_byte_count (drop i sizes)) ≡ bound → bound < 4294967296
     → free + 4 * get_or sizes i 0 < 4294967296
 next_code_fits free bound sizes i h e fits =
-    let cut = ap (λ rest. end_of free (map code_bytes rest)) (drop_more sizes i 0 h) in
-    let a = end_above (free + 4 * get_or sizes i 0) (map code_bytes (drop (i + 1) sizes)) in
+    let cut = ap (λ rest. end_of free (map code_byte_count rest)) (drop_more sizes i 0 h) in
+    let a = end_above (free + 4 * get_or sizes i 0) (map code_byte_count (drop (i + 1) sizes)) in
     omega (arith, cut, e, a, fits)
 
 -- ---- multiples of 4
 
+-- pieces of whole words begin at multiples of 4
 pub starts_aligned : (from : ℕ) (lengths : List ℕ) → from % 4 ≡ 0 → All (λ len. len % 4 ≡ 0) lengths → All (λ address. address % 4 ≡ 0) (starts from lengths)
 starts_aligned from [] e all = λ k d l. absurd (omega (arith, l))
 starts_aligned from (len ∷ lengths) e all =
@@ -64,6 +67,7 @@ starts_aligned from (len ∷ lengths) e all =
     All-cons (λ address. address % 4 ≡ 0) from (starts (from + len) lengths) e
     (starts_aligned (from + len) lengths (omega (arith, e, f)) (λ k d l. all (suc k) d (omega (arith, l))))
 
+-- and end at one
 pub end_aligned : (from : ℕ) (lengths : List ℕ) → from % 4 ≡ 0 → All (λ len. len % 4 ≡ 0) lengths → end_of from lengths % 4 ≡ 0
 end_aligned from [] e all = e
 end_aligned from (len ∷ lengths) e all =
@@ -72,10 +76,12 @@ end_aligned from (len ∷ lengths) e all =
 
 -- ---- extents
 
+-- they may begin later
 pub follow_from : (from free end : ℕ) (extents : List Extent) → from ≤ free → FollowWithin free end extents → FollowWithin from end extents
 follow_from from free end [] le f = omega (arith, le, f)
 follow_from from free end (e ∷ extents) le f = let h = f.0 in (omega (arith, le, h), f.1, f.2)
 
+-- pieces that are right behind one another follow one another
 pub extents_follow : (from end : ℕ) (lengths : List ℕ) → All (λ len. 1 ≤ len) lengths → end_of from lengths ≤ end
     → FollowWithin from end (extents_of (starts from lengths) lengths)
 extents_follow from end [] some le = le
@@ -90,11 +96,11 @@ extents_before from end (len ∷ lengths) rest some f =
     (omega arith, some 0 0 (omega arith), extents_before (from + len) end lengths rest (λ k d l. some (suc k) d (omega (arith, l))) f)
 
 -- pieces of code of which some have no instruction
-pub some_follow : (from end : ℕ) (sizes : List ℕ) (rest : List Extent) → FollowWithin (end_of from (map code_bytes sizes)) end rest
-    → FollowWithin from end (some_extents (starts from (map code_bytes sizes)) sizes ++ rest)
+pub some_follow : (from end : ℕ) (sizes : List ℕ) (rest : List Extent) → FollowWithin (end_of from (map code_byte_count sizes)) end rest
+    → FollowWithin from end (some_extents (starts from (map code_byte_count sizes)) sizes ++ rest)
 some_follow from end [] rest f = f
 some_follow from end (zero ∷ sizes) rest f =
-    follow_from from (from + 0) end (some_extents (starts (from + 0) (map code_bytes sizes)) sizes ++ rest) (omega arith)
+    follow_from from (from + 0) end (some_extents (starts (from + 0) (map code_byte_count sizes)) sizes ++ rest) (omega arith)
     (some_follow (from + 0) end sizes rest f)
 some_follow from end (suc size ∷ sizes) rest f = (omega arith, omega arith, some_follow (from + 4 * suc size) end sizes rest f)
 
@@ -112,11 +118,11 @@ close_before from end [] rest c = c
 close_before from end (len ∷ lengths) rest c = (refl, close_before (from + len) end lengths rest c)
 
 -- pieces of code of which some have no instruction
-pub some_close : (from end : ℕ) (sizes : List ℕ) (rest : List Extent) → AreClose (end_of from (map code_bytes sizes)) end rest
-    → AreClose from end (some_extents (starts from (map code_bytes sizes)) sizes ++ rest)
+pub some_close : (from end : ℕ) (sizes : List ℕ) (rest : List Extent) → AreClose (end_of from (map code_byte_count sizes)) end rest
+    → AreClose from end (some_extents (starts from (map code_byte_count sizes)) sizes ++ rest)
 some_close from end [] rest c = c
 some_close from end (zero ∷ sizes) rest c =
     let same : from + 0 ≡ from = omega arith in
-    let P : ℕ → Type 0 = λ free. AreClose free end (some_extents (starts (from + 0) (map code_bytes sizes)) sizes ++ rest) in
+    let P : ℕ → Type 0 = λ free. AreClose free end (some_extents (starts (from + 0) (map code_byte_count sizes)) sizes ++ rest) in
     subst P same (some_close (from + 0) end sizes rest c)
 some_close from end (suc size ∷ sizes) rest c = (refl, some_close (from + 4 * suc size) end sizes rest c)

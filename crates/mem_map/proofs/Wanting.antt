@@ -1,7 +1,7 @@
 -- What is wanted has a caller, so it is a service with an object that it may have.
 use Rattle.std.proofs.Common.{◌≡◌, ◌∙◌, ◌<◌, ℕ, Bool, true, false, List, length, get_or, ap, subst, arith}
 use Rattle.std.proofs.lemmas.List.FromFn.{length-map-range_with_len, get_or-map-range_with_len, fill_by_all}
-use Rattle.sloth_base.specs.Named.{function, missing, no_item, operation}
+use Rattle.sloth_base.specs.Named.{function, no_function, no_item, operation}
 use Rattle.sloth_base.specs.ServiceCodes.{code_of, service_of, object_kind, IsObjectNumber}
 use Rattle.sloth_base.specs.declared.app.App.{App}
 use Rattle.sloth_base.specs.declared.app.Call.{Call}
@@ -36,7 +36,7 @@ places_are app xs long are = fill_by_all (λ number. is_wanted number app) xs bl
 has_object : (config : Config) (app : App) → WellFormed config app → (func item : ℕ) (call : Call) → IsItem app func item → operation app func item ≡ op.Serve call
     → IsObjectNumber (object_kind call.service) call.object
 has_object config app well func item call is e =
-    let own = (well.in_range.bodies func missing is.declared).items item no_item is.inside in
+    let own = (well.in_range.bodies func no_function is.declared).items item no_item is.inside in
     let operands : AreOperands config call.service call.object call.mask = subst (IsOp config app (function app func)) e own in
     object_number config well.in_range.configuration (object_kind call.service) call.object operands.0
 

@@ -4,7 +4,7 @@ use Rattle.sloth_base.specs.Blocks.{block_count}
 use Rattle.sloth_base.specs.declared.app.App.{App}
 use Rattle.sloth_base.specs.declared.config.Config.{Config}
 use Rattle.code_lengths.specs.CodeLengths.{boot_length, tick_length, block_length, IsPrologueLength}
-use Rattle.rv32_expand.specs.Sizes.{AreSizes}
+use Rattle.rv32_expand.specs.Sizes.{AreItemSizes}
 use Rattle.mem_map.specs.declared.all_lengths.CodeLengths.{CodeLengths}
 use Rattle.mem_map.specs.Wanted.{is_wanted}
 
@@ -21,4 +21,4 @@ pub record AreLengths (config : Config) (app : App) (lengths : CodeLengths) : Ty
   pub each_tick : (c : ℕ) → c < length config.counters → get_or lengths.ticks c 0 ≡ tick_length c config.alarms
   pub services : length lengths.services ≡ block_count
   pub each_service : (number : ℕ) → number < block_count → get_or lengths.services number 0 ≡ wanted_length app number
-  pub items : AreSizes app lengths.items
+  pub items : AreItemSizes app lengths.items

@@ -13,7 +13,7 @@ use Rattle.sloth_region.specs.declared.extent.Extent.{Extent}
 use Rattle.sloth_region.specs.declared.map.Map.{Map}
 use Rattle.sloth_region.specs.Region.{aligned}
 use Rattle.code_rules.specs.AppRange.{AppInRange}
-use Rattle.rv32_expand.specs.Sizes.{AreSizes}
+use Rattle.rv32_expand.specs.Sizes.{AreItemSizes}
 use Rattle.stack_bounds.specs.Bounds.{AreBounds, AreParts}
 use Rattle.mem_map.specs.declared.all_lengths.CodeLengths.{CodeLengths}
 use Rattle.mem_map.specs.Run.{starts, end_of, extents_of}
@@ -22,8 +22,8 @@ use Rattle.mem_map.specs.Zones.{code_zone, data_zone}
 -- ---- bytes of each piece
 
 -- code of so many instructions
-abbrev pub code_bytes : ℕ → ℕ
-code_bytes instructions = 4 * instructions
+abbrev pub code_byte_count : ℕ → ℕ
+code_byte_count instructions = 4 * instructions
 
 -- the idle loop: one instruction
 abbrev pub idle_bytes : ℕ
@@ -37,7 +37,7 @@ symbol_bytes symbol = aligned (length symbol.bytes) 4
 
 -- the idle loop, behind boot
 abbrev pub idle_at : CodeLengths → ℕ
-idle_at lengths = boot_base + code_bytes lengths.boot
+idle_at lengths = boot_base + code_byte_count lengths.boot
 
 -- the first prologue
 abbrev pub prologues_at : CodeLengths → ℕ
@@ -45,19 +45,19 @@ prologues_at lengths = idle_at lengths + idle_bytes
 
 -- the first tick, behind all prologues
 abbrev pub ticks_at : CodeLengths → ℕ
-ticks_at lengths = end_of (prologues_at lengths) (prelude.map code_bytes lengths.prologues)
+ticks_at lengths = end_of (prologues_at lengths) (prelude.map code_byte_count lengths.prologues)
 
 -- the first service, behind all ticks
 abbrev pub services_at : CodeLengths → ℕ
-services_at lengths = end_of (ticks_at lengths) (prelude.map code_bytes lengths.ticks)
+services_at lengths = end_of (ticks_at lengths) (prelude.map code_byte_count lengths.ticks)
 
 -- the first item, behind all services
 abbrev pub items_at : CodeLengths → ℕ
-items_at lengths = end_of (services_at lengths) (prelude.map code_bytes lengths.services)
+items_at lengths = end_of (services_at lengths) (prelude.map code_byte_count lengths.services)
 
 -- the end of all code
 abbrev pub code_end : CodeLengths → ℕ
-code_end lengths = end_of (items_at lengths) (prelude.map code_bytes lengths.items)
+code_end lengths = end_of (items_at lengths) (prelude.map code_byte_count lengths.items)
 
 -- the end of the zone of data, which begins at an address: one word behind all symbols, so that it is never empty
 abbrev pub data_end : App → ℕ → ℕ
@@ -65,20 +65,20 @@ data_end app from = end_of from (prelude.map symbol_bytes app.symbols) + 4
 
 -- the addresses of the ticks
 abbrev pub tick_starts : CodeLengths → List ℕ
-tick_starts lengths = starts (ticks_at lengths) (prelude.map code_bytes lengths.ticks)
+tick_starts lengths = starts (ticks_at lengths) (prelude.map code_byte_count lengths.ticks)
 
 -- the addresses of a map
 pub record HasAddresses (config : Config) (app : App) (lengths : CodeLengths) (map : Map) : Type 0 where
   pub idle : map.idle ≡ idle_at lengths
   pub lines : length map.handlers ≡ 32
-  pub prologues : take (length config.tasks) map.handlers ≡ starts (prologues_at lengths) (prelude.map code_bytes lengths.prologues)
+  pub prologues : take (length config.tasks) map.handlers ≡ starts (prologues_at lengths) (prelude.map code_byte_count lengths.prologues)
   pub ticks : (c : ℕ) → c < length config.counters → slice_index map.handlers (counter_line c) ≡ get_or (tick_starts lengths) c 0
   -- a line that is neither a task's nor a counter's goes to the idle loop
   pub unused :
       (line : ℕ) → length config.tasks ≤ line → line < 32 → (line < first_counter_line) ⊎ (counter_line (length config.counters) ≤ line)
       → slice_index map.handlers line ≡ map.idle
-  pub blocks : map.places.blocks ≡ starts (services_at lengths) (prelude.map code_bytes lengths.services)
-  pub items : map.places.items ≡ starts (items_at lengths) (prelude.map code_bytes lengths.items)
+  pub blocks : map.places.blocks ≡ starts (services_at lengths) (prelude.map code_byte_count lengths.services)
+  pub items : map.places.items ≡ starts (items_at lengths) (prelude.map code_byte_count lengths.items)
   -- the number of items before those of each function
   pub first : map.places.first ≡ starts 0 (prelude.map (λ f. length f.items) app.funcs)
   pub symbols : map.places.symbols ≡ starts (code_end lengths) (prelude.map symbol_bytes app.symbols)
@@ -89,8 +89,8 @@ pub record HasAddresses (config : Config) (app : App) (lengths : CodeLengths) (m
   pub data_to : (data_zone map).base + (data_zone map).len ≡ data_end app (code_end lengths)
 
 -- code to which a vector word can jump
-abbrev pub IsNear : ℕ → Type 0
-IsNear address = (address % 4 ≡ 0) × (boot_base ≤ address) × (address < 0x8010_0400)
+abbrev pub IsInVectorReach : ℕ → Type 0
+IsInVectorReach address = (address % 4 ≡ 0) × (boot_base ≤ address) × (address < 0x8010_0400)
 
 -- ---- the extent of each piece, in the order of the addresses
 
@@ -99,15 +99,15 @@ abbrev pub some_extents : List ℕ → List ℕ → List Extent
 some_extents [] sizes = []
 some_extents (address ∷ addresses) [] = []
 some_extents (address ∷ addresses) (zero ∷ sizes) = some_extents addresses sizes
-some_extents (address ∷ addresses) (suc size ∷ sizes) = record { base = address; len = code_bytes (suc size) } ∷ some_extents addresses sizes
+some_extents (address ∷ addresses) (suc size ∷ sizes) = record { base = address; len = code_byte_count (suc size) } ∷ some_extents addresses sizes
 
 -- vector words, boot, the idle loop, the prologues of so many tasks, the ticks, the wanted services, the items
 abbrev pub code_extents : Map → ℕ → CodeLengths → List Extent
 code_extents map tasks lengths =
-    record { base = vectors_base; len = 128 } ∷ record { base = boot_base; len = code_bytes lengths.boot } ∷ record { base = map.idle; len = idle_bytes }
-    ∷ (extents_of (take tasks map.handlers) (prelude.map code_bytes lengths.prologues)
-    ++ (extents_of (tick_starts lengths) (prelude.map code_bytes lengths.ticks)
-    ++ (some_extents map.places.blocks lengths.services ++ extents_of map.places.items (prelude.map code_bytes lengths.items))))
+    record { base = vectors_base; len = 128 } ∷ record { base = boot_base; len = code_byte_count lengths.boot } ∷ record { base = map.idle; len = idle_bytes }
+    ∷ (extents_of (take tasks map.handlers) (prelude.map code_byte_count lengths.prologues)
+    ++ (extents_of (tick_starts lengths) (prelude.map code_byte_count lengths.ticks)
+    ++ (some_extents map.places.blocks lengths.services ++ extents_of map.places.items (prelude.map code_byte_count lengths.items))))
 
 -- the symbols
 abbrev pub data_extents : Map → App → List Extent
@@ -134,7 +134,7 @@ pub record AreSmall (config : Config) (app : App) (lengths : CodeLengths) : Type
   pub services_fit : All (λ size. size ≤ 256) lengths.services
   -- what has code there is a service with an object that it may have
   pub objects : (number : ℕ) → get_or lengths.services number 0 ≢ 0 → IsServicePlace number
-  pub items : AreSizes app lengths.items
+  pub items : AreItemSizes app lengths.items
 
 -- what the tasks need of the stacks: the bytes of each, enough for all its calls and a context, and a part of the shared stack
 pub record AreNeeds (config : Config) (app : App) (bounds : Bounds) (offsets : List ℕ) : Type 0 where

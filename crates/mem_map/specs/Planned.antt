@@ -1,5 +1,5 @@
 -- What a plan gives: each piece of code and data that task code needs has room of its own, at the address that the map has for it.
-use Rattle.std.specs.Prelude.{ℕ, ◌<◌, ◌≡◌, length, slice_index}
+use Rattle.std.specs.Prelude.{ℕ, ◌<◌, length, slice_index}
 use Rattle.std.specs.Prelude as prelude
 use Rattle.sloth_base.specs.declared.app.App.{App}
 use Rattle.sloth_base.specs.declared.config.Config.{Config}
@@ -10,7 +10,7 @@ use Rattle.sloth_region.specs.Region.{FollowWithin}
 use Rattle.rv32_expand.specs.Sizes.{AgreeWithSizes, Covers}
 use Rattle.mem_map.specs.declared.all_lengths.CodeLengths.{CodeLengths}
 use Rattle.mem_map.specs.Lengths.{AreLengths}
-use Rattle.mem_map.specs.Plan.{HasAddresses, IsNear, code_end, code_extents, data_end, data_extents, symbol_bytes}
+use Rattle.mem_map.specs.Plan.{HasAddresses, IsInVectorReach, code_end, code_extents, data_end, data_extents, symbol_bytes}
 use Rattle.mem_map.specs.Run.{AreClose, end_of}
 use Rattle.mem_map.specs.Stacks.{HasStacks}
 use Rattle.mem_map.specs.Zones.{HasZones}
@@ -23,7 +23,7 @@ pub record IsPlanned (config : Config) (app : App) (bounds : Bounds) (map : Map)
   pub stacks : HasStacks config app bounds map
   pub addresses : HasAddresses config app lengths map
   -- the vector words can jump to their routines, and all code spans less than 1 MiB
-  pub reach : (line : ℕ) → line < 32 → IsNear (slice_index map.handlers line)
+  pub reach : (line : ℕ) → line < 32 → IsInVectorReach (slice_index map.handlers line)
   pub near : code_end lengths < 0x8010_0400
   -- the extents of all code, and those of the symbols, follow one another without a hole
   pub code_follows : FollowWithin vectors_base (code_end lengths) (code_extents map (length config.tasks) lengths)

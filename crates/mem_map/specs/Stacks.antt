@@ -1,6 +1,6 @@
 -- The stacks of an image: one for all basic tasks, one for each extended task, and each task's part of its stack.
 use Rattle.std.specs.Prelude.{ℕ, zero, suc, ◌+◌, ◌*◌, ◌%◌, ◌<◌, ◌≤◌, ◌≡◌, ◌≢◌, ◌⊎◌, ◌==◌, Bool, true, List, [], ◌∷◌, ◌++◌, cond, length, get_or, All}
-use Rattle.sloth_base.specs.Named.{undeclared, declaration}
+use Rattle.sloth_base.specs.Named.{undeclared_task, declaration}
 use Rattle.sloth_base.specs.declared.app.App.{App}
 use Rattle.sloth_base.specs.declared.config.Config.{Config}
 use Rattle.sloth_base.specs.declared.config.TaskDecl.{TaskDecl}
@@ -9,14 +9,14 @@ use Rattle.sloth_region.specs.declared.extent.Extent.{Extent}
 use Rattle.sloth_region.specs.declared.map.Map.{Map}
 use Rattle.sloth_region.specs.Region.{aligned, IsBelow}
 use Rattle.stack_bounds.specs.Bounds.{IsBasic, MayBePreempted, MayMeet, bytes_of}
-use Rattle.mem_map.specs.Zones.{data_zone, stack_of, nowhere, all_stacks}
+use Rattle.mem_map.specs.Zones.{data_zone, stack_of, no_extent, all_stacks}
 use Rattle.mem_map.specs.Run.{room_for, run}
 
 -- ---- which stack each task has
 
 -- whether a task has events
 abbrev pub is_extended : List TaskDecl → ℕ → Bool
-is_extended tasks t = (get_or tasks t undeclared).extended
+is_extended tasks t = (get_or tasks t undeclared_task).extended
 
 -- how many of the tasks before this one are extended
 abbrev pub own_before : List TaskDecl → ℕ → ℕ
@@ -47,7 +47,7 @@ lengths_before tasks bounds zero = cond (first_own tasks == 1) (shared_length bo
 lengths_before tasks bounds (suc t) = lengths_before tasks bounds t ++ cond (is_extended tasks t) (bytes_of bounds t ∷ []) []
 
 -- the same lengths, and what they are for
-pub record AreLengths (tasks : List TaskDecl) (bounds : Bounds) (end : ℕ) (lengths : List ℕ) : Type 0 where
+pub record AreStackLengths (tasks : List TaskDecl) (bounds : Bounds) (end : ℕ) (lengths : List ℕ) : Type 0 where
   pub is : lengths ≡ lengths_before tasks bounds end
   pub count : length lengths ≡ first_own tasks + own_before tasks end
   pub shared : 0 < first_own tasks → get_or lengths 0 0 ≡ shared_length bounds
@@ -60,16 +60,16 @@ pub record AreLengths (tasks : List TaskDecl) (bounds : Bounds) (end : ℕ) (len
 -- a task's part has room in the stack that it has among these
 pub record HasStack (tasks : List TaskDecl) (all : List Extent) (offsets : List ℕ) (t : ℕ) : Type 0 where
   pub there : stack_number tasks t < length all
-  pub below : get_or offsets t 0 ≤ (get_or all (stack_number tasks t) nowhere).len
-  pub short : (get_or all (stack_number tasks t) nowhere).base + (get_or all (stack_number tasks t) nowhere).len < 4294967296
+  pub below : get_or offsets t 0 ≤ (get_or all (stack_number tasks t) no_extent).len
+  pub short : (get_or all (stack_number tasks t) no_extent).base + (get_or all (stack_number tasks t) no_extent).len < 4294967296
 
 -- the stacks and the tops of the tasks before this one
-pub record AreOf (tasks : List TaskDecl) (all : List Extent) (offsets : List ℕ) (end : ℕ) (stacks : List Extent) (tops : List ℕ) : Type 0 where
+pub record AreStacksBefore (tasks : List TaskDecl) (all : List Extent) (offsets : List ℕ) (end : ℕ) (stacks : List Extent) (tops : List ℕ) : Type 0 where
   pub stacks_count : length stacks ≡ end
   pub tops_count : length tops ≡ end
-  pub stack : (t : ℕ) → t < end → get_or stacks t nowhere ≡ get_or all (stack_number tasks t) nowhere
+  pub stack : (t : ℕ) → t < end → get_or stacks t no_extent ≡ get_or all (stack_number tasks t) no_extent
   pub top : (t : ℕ) → t < end
-      → get_or tops t 0 + get_or offsets t 0 ≡ (get_or all (stack_number tasks t) nowhere).base + (get_or all (stack_number tasks t) nowhere).len
+      → get_or tops t 0 + get_or offsets t 0 ≡ (get_or all (stack_number tasks t) no_extent).base + (get_or all (stack_number tasks t) no_extent).len
 
 -- ---- what a map has of stacks
 
@@ -78,8 +78,8 @@ abbrev pub top_of : Map → ℕ → ℕ
 top_of map t = get_or map.tops t 0
 
 -- the address behind the zone of data
-abbrev pub behind_data : Map → ℕ
-behind_data map = (data_zone map).base + (data_zone map).len
+abbrev pub address_behind_data : Map → ℕ
+address_behind_data map = (data_zone map).base + (data_zone map).len
 
 -- the parts of two tasks have no address in common
 abbrev pub PartsApart : Bounds → Map → (t u : ℕ) → Type 0
@@ -97,11 +97,11 @@ pub record HasStacks (config : Config) (app : App) (bounds : Bounds) (map : Map)
       → IsBelow (stack_of map t) (stack_of map u) ⊎ IsBelow (stack_of map u) (stack_of map t)
   pub aligned : All (λ e. e.base % 16 ≡ 0) map.stacks
   -- they stand one behind the other, each at the least multiple of 16 behind the data and the stacks before it
-  pub placed : all_stacks map ≡ run 16 (behind_data map) (lengths_before config.tasks bounds (length config.tasks))
-  pub number : (t : ℕ) → t < length config.tasks → stack_of map t ≡ get_or (all_stacks map) (stack_number config.tasks t) nowhere
+  pub placed : all_stacks map ≡ run 16 (address_behind_data map) (lengths_before config.tasks bounds (length config.tasks))
+  pub number : (t : ℕ) → t < length config.tasks → stack_of map t ≡ get_or (all_stacks map) (stack_number config.tasks t) no_extent
   -- the stacks are the extents behind that of the data, and there is no other
-  pub among : (t : ℕ) → t < length config.tasks → (k : ℕ) × (k < length (all_stacks map)) × (stack_of map t ≡ get_or (all_stacks map) k nowhere)
-  pub no_other : (k : ℕ) → k < length (all_stacks map) → (t : ℕ) × (t < length config.tasks) × (stack_of map t ≡ get_or (all_stacks map) k nowhere)
+  pub among : (t : ℕ) → t < length config.tasks → (k : ℕ) × (k < length (all_stacks map)) × (stack_of map t ≡ get_or (all_stacks map) k no_extent)
+  pub no_other : (k : ℕ) → k < length (all_stacks map) → (t : ℕ) × (t < length config.tasks) × (stack_of map t ≡ get_or (all_stacks map) k no_extent)
   pub above : (t : ℕ) → t < length config.tasks → (stack_of map t).base + bytes_of bounds t ≤ top_of map t
   pub within : (t : ℕ) → t < length config.tasks → top_of map t ≤ (stack_of map t).base + (stack_of map t).len
   pub whole : (t : ℕ) → t < length config.tasks → top_of map t % 4 ≡ 0

@@ -7,20 +7,20 @@ use Rattle.sloth_region.specs.declared.map.Map.{Map}
 use Rattle.sloth_region.specs.Region.{AreApartWithin}
 
 -- what stands in the place of an extent that is not there
-abbrev pub nowhere : Extent
-nowhere = record { base = 0; len = 0 }
+abbrev pub no_extent : Extent
+no_extent = record { base = 0; len = 0 }
 
 -- the zone of code, which is the second extent
 abbrev pub code_zone : Map → Extent
-code_zone map = slice_index_or map.extents 1 nowhere
+code_zone map = slice_index_or map.extents 1 no_extent
 
 -- the zone of data, which is the third
 abbrev pub data_zone : Map → Extent
-data_zone map = slice_index_or map.extents 2 nowhere
+data_zone map = slice_index_or map.extents 2 no_extent
 
 -- the stack of a task
 abbrev pub stack_of : Map → ℕ → Extent
-stack_of map task = slice_index_or map.stacks task nowhere
+stack_of map task = slice_index_or map.stacks task no_extent
 
 -- the stacks, each once: all extents behind the zone of data
 abbrev pub all_stacks : Map → List Extent

@@ -2,7 +2,7 @@
 ghost use Rattle.std.specs.Prelude.{ℕ, ◌≡◌, ◌≤◌, ◌<◌, ◌⊎◌, IfOk, length, map, get_or, slice_index, take};
 ghost use Rattle.sloth_base.specs.Owners.{first_counter_line, counter_line};
 ghost use Rattle.mem_map.specs.Run.{starts, end_of};
-ghost use Rattle.mem_map.specs.Plan.{code_bytes};
+ghost use Rattle.mem_map.specs.Plan.{code_byte_count};
 
 use sloth_base::lines::COUNTER_LINE;
 use sloth_base::list::List;
@@ -51,9 +51,9 @@ pub struct Services {
 
 /// The addresses of services of so many instructions, the first at `from`. One that has none takes no room.
 pub fn place_services(from: u32, sizes: &[u32; BLOCK_COUNT]) -> Services
-    requires { end_of from (map code_bytes sizes.now) < 4294967296 }
-    ensures starts { result.starts ≡ starts from (map code_bytes sizes.now) }
-    ensures end { result.end ≡ end_of from (map code_bytes sizes.now) }
+    requires { end_of from (map code_byte_count sizes.now) < 4294967296 }
+    ensures starts { result.starts ≡ starts from (map code_byte_count sizes.now) }
+    ensures end { result.end ≡ end_of from (map code_byte_count sizes.now) }
 {
     let mut starts = [0; BLOCK_COUNT];
     let mut end = from;

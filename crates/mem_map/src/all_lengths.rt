@@ -1,5 +1,5 @@
 //! How long the code of an image is.
-ghost use Rattle.std.specs.Prelude.{ℕ, ◌≡◌, ◌<◌, ◌≤◌, IfOk, All, cond, length, get_or};
+ghost use Rattle.std.specs.Prelude.{ℕ, ◌≡◌, ◌<◌, ◌≤◌, IfOk, cond, length, get_or};
 ghost use Rattle.code_lengths.specs.CodeLengths.{block_length, tick_length, IsPrologueLength};
 ghost use Rattle.code_rules.specs.WellFormed.{WellFormed};
 ghost use Rattle.sloth_base.specs.Blocks.{block_count};

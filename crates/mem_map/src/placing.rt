@@ -1,6 +1,6 @@
 //! Extents of given lengths, placed in a region one behind the other.
 ghost use Rattle.std.specs.Prelude.{◌≡◌, ◌≤◌, ◌<◌, ◌+◌, ◌-◌, ◌⊎◌, ◌++◌, ◌∷◌, [], IfOk, All, length};
-ghost use Rattle.sloth_region.specs.Region.{Area, aligned, first_free};
+ghost use Rattle.sloth_region.specs.Region.{aligned, first_free_address};
 ghost use Rattle.mem_map.specs.Run.{run, room_for, AreRun};
 
 use sloth_region::extent::Extent;
@@ -12,8 +12,8 @@ pub fn put(region: &mut Region, len: u32, align: u32) -> Extent
     requires some { 1 ≤ len }
     requires word { (align ≡ 4) ⊎ (align ≡ 16) }
     requires few { length region.old.placed < 96 }
-    requires room { first_free region.old.base region.old.placed + ((align - 1) + len) ≤ region.old.end }
-    ensures is { result ≡ record { base = aligned (first_free region.old.base region.old.placed) align; len = len } }
+    requires room { first_free_address region.old.base region.old.placed + ((align - 1) + len) ≤ region.old.end }
+    ensures is { result ≡ record { base = aligned (first_free_address region.old.base region.old.placed) align; len = len } }
     ensures placed { region.new ≡ record region.old { placed = region.old.placed ++ result ∷ [] } }
 {
     match region.place(len, align) {
@@ -32,9 +32,9 @@ pub fn place_all(
     requires some { All (λ len. 1 ≤ len) lengths.now }
     requires word { (align ≡ 4) ⊎ (align ≡ 16) }
     requires few { length region.old.placed + length lengths.now ≤ 96 }
-    requires room { first_free region.old.base region.old.placed + room_for align lengths.now ≤ region.old.end }
-    ensures is { IfOk result (λ extents. extents.items ≡ run align (first_free region.old.base region.old.placed) lengths.now) }
-    ensures run { IfOk result (λ extents. AreRun align (first_free region.old.base region.old.placed) region.old.end lengths.now extents.items) }
+    requires room { first_free_address region.old.base region.old.placed + room_for align lengths.now ≤ region.old.end }
+    ensures is { IfOk result (λ extents. extents.items ≡ run align (first_free_address region.old.base region.old.placed) lengths.now) }
+    ensures run { IfOk result (λ extents. AreRun align (first_free_address region.old.base region.old.placed) region.old.end lengths.now extents.items) }
     ensures placed { IfOk result (λ extents. region.new ≡ record region.old { placed = region.old.placed ++ extents.items }) }
 {
     let mut extents = Vec::new(alloc);

@@ -5,7 +5,7 @@ ghost use Rattle.stack_bounds.specs.Bounds.{AreBounds};
 ghost use Rattle.mem_map.specs.Run.{starts, end_of};
 ghost use Rattle.mem_map.specs.Zones.{HasZones};
 ghost use Rattle.mem_map.specs.Stacks.{HasStacks};
-ghost use Rattle.mem_map.specs.Plan.{MayPlan, HasAddresses, idle_at, prologues_at, ticks_at, tick_starts, services_at, items_at, code_end, code_bytes, symbol_bytes};
+ghost use Rattle.mem_map.specs.Plan.{MayPlan, HasAddresses, idle_at, prologues_at, ticks_at, tick_starts, services_at, items_at, code_end, code_byte_count, symbol_bytes};
 ghost use Rattle.sloth_base.specs.Owners.{first_counter_line, counter_line};
 ghost use Rattle.mem_map.specs.Planned.{IsPlanned};
 
@@ -40,9 +40,9 @@ struct Code {
 // The addresses of pieces of code of so many instructions, the first at `from`.
 fn place_code(alloc: Global, from: u32, sizes: &[u32]) -> Result<Pieces, AllocError>
     requires small { All (λ size. size ≤ 2048) sizes.now }
-    requires fits { end_of from (map code_bytes sizes.now) < 4294967296 }
-    ensures starts { IfOk result (λ pieces. pieces.starts ≡ starts from (map code_bytes sizes.now)) }
-    ensures end { IfOk result (λ pieces. pieces.end ≡ end_of from (map code_bytes sizes.now)) }
+    requires fits { end_of from (map code_byte_count sizes.now) < 4294967296 }
+    ensures starts { IfOk result (λ pieces. pieces.starts ≡ starts from (map code_byte_count sizes.now)) }
+    ensures end { IfOk result (λ pieces. pieces.end ≡ end_of from (map code_byte_count sizes.now)) }
 {
     let lengths = code_in_bytes(alloc, sizes)?;
     place_pieces(alloc, from, &lengths)
@@ -60,13 +60,13 @@ fn plan_code(alloc: Global, lengths: &CodeLengths) -> Result<Code, AllocError>
     ensures idle { IfOk result (λ code. code.idle ≡ idle_at lengths.now) }
     ensures lines { IfOk result (λ code. length code.handlers ≡ 32) }
     ensures prologues { IfOk result (λ code. take (length lengths.now.prologues) code.handlers
-        ≡ starts (prologues_at lengths.now) (map code_bytes lengths.now.prologues)) }
+        ≡ starts (prologues_at lengths.now) (map code_byte_count lengths.now.prologues)) }
     ensures ticks { IfOk result (λ code. (c : ℕ) → c < length lengths.now.ticks → slice_index code.handlers (counter_line c)
         ≡ get_or (tick_starts lengths.now) c 0) }
     ensures unused { IfOk result (λ code. (line : ℕ) → length lengths.now.prologues ≤ line → line < 32
         → (line < first_counter_line) ⊎ (counter_line (length lengths.now.ticks) ≤ line) → slice_index code.handlers line ≡ code.idle) }
-    ensures services { IfOk result (λ code. code.services ≡ starts (services_at lengths.now) (map code_bytes lengths.now.services)) }
-    ensures items { IfOk result (λ code. code.items ≡ starts (items_at lengths.now) (map code_bytes lengths.now.items)) }
+    ensures services { IfOk result (λ code. code.services ≡ starts (services_at lengths.now) (map code_byte_count lengths.now.services)) }
+    ensures items { IfOk result (λ code. code.items ≡ starts (items_at lengths.now) (map code_byte_count lengths.now.items)) }
     ensures end { IfOk result (λ code. code.end ≡ code_end lengths.now) }
 {
     let idle = BOOT_BASE + WORD * lengths.boot;

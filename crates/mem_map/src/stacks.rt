@@ -1,8 +1,7 @@
 //! The stacks of the tasks: how long each is, which of them a task has, and where its part of it ends.
-ghost use Rattle.std.specs.Prelude.{ℕ, ◌≡◌, ◌<◌, ◌≤◌, ◌+◌, ◌%◌, IfOk, All, length, get_or, cond, true};
-ghost use Rattle.stack_bounds.specs.Bounds.{IsLength, bytes_of};
-ghost use Rattle.mem_map.specs.Run.{room_for};
-ghost use Rattle.mem_map.specs.Stacks.{is_extended, own_before, first_own, stack_number, shared_length, AreLengths, HasStack, AreOf};
+ghost use Rattle.std.specs.Prelude.{ℕ, ◌≡◌, ◌<◌, ◌≤◌, IfOk, length};
+ghost use Rattle.stack_bounds.specs.Bounds.{bytes_of};
+ghost use Rattle.mem_map.specs.Stacks.{own_before, first_own, stack_number, AreStackLengths, HasStack, AreStacksBefore};
 
 use sloth_base::config::TaskDecl;
 use sloth_base::list::List;
@@ -61,7 +60,7 @@ fn shared_lengths(
 ) -> Result<Vec<u32>, AllocError>
     requires some { 0 < first_own tasks.now → 1 ≤ bounds.now.shared }
     requires small { bounds.now.shared ≤ 269824 }
-    ensures { IfOk result (λ lengths. AreLengths tasks.now bounds.now 0 lengths.items) }
+    ensures { IfOk result (λ lengths. AreStackLengths tasks.now bounds.now 0 lengths.items) }
 {
     let mut lengths = Vec::new(alloc);
     if first_own(tasks) == 1 {
@@ -80,7 +79,7 @@ pub fn stack_lengths(
     requires some { 0 < first_own tasks.now → 1 ≤ bounds.now.shared }
     requires lengths { (t : ℕ) → t < length tasks.now → (1 ≤ bytes_of bounds.now t) × (bytes_of bounds.now t ≤ 8572) }
     requires small { bounds.now.shared ≤ 269824 }
-    ensures { IfOk result (λ lengths. AreLengths tasks.now bounds.now (length tasks.now) lengths.items) }
+    ensures { IfOk result (λ lengths. AreStackLengths tasks.now bounds.now (length tasks.now) lengths.items) }
 {
     let mut lengths = shared_lengths(alloc, tasks, bounds)?;
     let bytes = bounds.bytes.items();
@@ -109,7 +108,7 @@ pub fn task_parts(
     requires few { length tasks.now ≤ 30 }
     requires count { length offsets.now ≡ length tasks.now }
     requires fit { (t : ℕ) → t < length tasks.now → HasStack tasks.now all.now offsets.now t }
-    ensures { IfOk result (λ parts. AreOf tasks.now all.now offsets.now (length tasks.now) parts.stacks parts.tops) }
+    ensures { IfOk result (λ parts. AreStacksBefore tasks.now all.now offsets.now (length tasks.now) parts.stacks parts.tops) }
 {
     let mut stacks = Vec::new(alloc);
     let mut tops = Vec::new(alloc);

@@ -15,24 +15,24 @@ use Rattle.osek_scheduler.specs.declared.state.TaskState.{TaskState}
 use Rattle.osek_scheduler.specs.declared.state.TaskState.TheVariants as mode
 use Rattle.osek_scheduler.specs.State.{Frame, System, task, opening}
 use Rattle.osek_scheduler.specs.Priority.{rank, IsDue, NoTicks, IsNextTick, IsTop}
-use Rattle.osek_scheduler.specs.Meaning.{Meant, meaning}
+use Rattle.osek_scheduler.specs.Meaning.{ItemMeaning, meaning}
 use Rattle.osek_scheduler.specs.Services.{Outcome, GoesOn, Leaves}
 use Rattle.osek_scheduler.specs.Outcomes.{outcome}
 use Rattle.osek_scheduler.specs.Steps.{IsAt, Executes, ServesCall, OsekStep}
 use Rattle.osek_scheduler.specs.Runs.{Leads}
 use Rattle.osek_scheduler.proofs.Leading.{one_step}
-use Rattle.osek_valid.specs.Valid.{Valid}
-use Rattle.osek_valid.specs.Apart.{Apart, Excludes, static_priority}
+use Rattle.osek_valid.specs.Valid.{IsValid}
+use Rattle.osek_valid.specs.Apart.{TasksAreApart, Excludes, static_priority}
 use Rattle.osek_valid.proofs.Apart.{rank_active, rank_ready, step_apart, opening_apart}
 use Rattle.osek_valid.proofs.Excluding.{excludes}
 use Rattle.osek_valid.proofs.Facts.{Facts, facts}
 use Rattle.osek_valid.proofs.Steps.{step_valid, opening_valid}
 use Rattle.osek_valid.proofs.Reached.{run_valid}
-use Rattle.next_events.specs.NextEvents.{IsOwn, AreOwn, OneNextEvent, OneRun}
+use Rattle.next_events.specs.NextEvents.{IsNoAdmission, AreOwn, OneNextEvent, OneRun}
 
 -- ---- the event of the task that is due
 
-abbrev shown : Option Meant → ℕ
+abbrev shown : Option ItemMeaning → ℕ
 shown None = 0
 shown (Some meant) = meant.result
 
@@ -73,7 +73,7 @@ module _ (config : Config) (app : App) (s : System) (t : ℕ) where
   at_operation o at = ap of_state at.active ∙ (ap of_owed at.free ∙ (ap of_frames at.frames ∙ ap (of_operation at.frame at.outer) at.next))
 
   -- what has a meaning is no service
-  of_meaning : (o : Op) (frame : Frame) (outer : List Frame) (m : Meant) → meaning app o (task s t).registers frame outer s.symbols ≡ Some m
+  of_meaning : (o : Op) (frame : Frame) (outer : List Frame) (m : ItemMeaning) → meaning app o (task s t).registers frame outer s.symbols ≡ Some m
       → of_operation frame outer o ≡ event.Run t frame.func frame.item (shown (meaning app o (task s t).registers frame outer s.symbols))
   of_meaning (op.Serve call) frame outer m e = absurd cc
   of_meaning o frame outer m e = refl
@@ -96,7 +96,7 @@ module _ (config : Config) (app : App) (s : System) (t : ℕ) where
 
 -- ---- one task is due
 
-module _ (config : Config) (app : App) (s : System) (w : Facts config app) (v : Valid config app s) (x : Excludes config s) where
+module _ (config : Config) (app : App) (s : System) (w : Facts config app) (v : IsValid config app s) (x : Excludes config s) where
   static_differ : (t u : ℕ) → t < length config.tasks → u < length config.tasks → t ≢ u → static_priority config t ≢ static_priority config u
   static_differ t u lt lu n e = by (cases_lt t u)
     where
@@ -136,7 +136,7 @@ module _ (config : Config) (app : App) (s : System) (w : Facts config app) (v : 
   with_none : (t : ℕ) → s.fresh ≡ [] → IsTop config s s.fresh t → IsTop config s [] t
   with_none t none top = subst (λ (xs : List ℕ). IsTop config s xs t) none top
 
-  next_of : (e : Event) (after : System) → s.fresh ≡ [] → IsOwn e → OsekStep config app e s after → Next e
+  next_of : (e : Event) (after : System) → s.fresh ≡ [] → IsNoAdmission e → OsekStep config app e s after → Next e
   next_of event.Boot after none own h = begins h.0 refl
   next_of (event.Admit t) after none own h = absurd cc
   next_of (event.Enter t) after none own h = acts h.0 t h.1 (entering config app s t h.2)
@@ -181,7 +181,7 @@ module _ (config : Config) (app : App) (s : System) (w : Facts config app) (v : 
   one_of e f (ticks p c tick a) (acts q u top b) = absurd (not_quiet c tick top.no_ticks)
   one_of e f (ticks p c tick a) (ticks q d other b) = a ∙ (ap event.Tick (one_tick c d tick other) ∙ sym b)
 
-  pub one_event : (e f : Event) (after other : System) → s.fresh ≡ [] → IsOwn e → OsekStep config app e s after → IsOwn f → OsekStep config app f s other → e ≡ f
+  pub one_event : (e f : Event) (after other : System) → s.fresh ≡ [] → IsNoAdmission e → OsekStep config app e s after → IsNoAdmission f → OsekStep config app f s other → e ≡ f
   one_event e f after other none p a q b = one_of e f (next_of e after none p a) (next_of f other none q b)
 
 -- ---- laws
@@ -193,7 +193,7 @@ one_next_event config app events s e f after other wf leads none p a q b =
     one_event config app s w reached.0 reached.2 e f after other none p a q b
 
 -- an event that is no admission leaves nothing fresh
-pub settles : (config : Config) (app : App) (e : Event) (s after : System) → IsOwn e → OsekStep config app e s after → after.fresh ≡ []
+pub settles : (config : Config) (app : App) (e : Event) (s after : System) → IsNoAdmission e → OsekStep config app e s after → after.fresh ≡ []
 settles config app event.Boot s after own h = ap (λ (x : System). x.fresh) h.1
 settles config app (event.Admit t) s after own h = absurd cc
 settles config app (event.Enter t) s after own h = ap (λ (x : System). x.fresh) h.4
@@ -211,7 +211,7 @@ module _ (config : Config) (app : App) (w : Facts config app) where
   one_after e f s after other same a b =
       one_step config app f s after other (subst (λ (x : Event). OsekStep config app x s after) same a) b
 
-  one_from : (events others : List Stamped) (s r end other : System) → s ≡ r → Valid config app s → Apart config s → s.fresh ≡ [] → length events ≡ length others
+  one_from : (events others : List Stamped) (s r end other : System) → s ≡ r → IsValid config app s → TasksAreApart config s → s.fresh ≡ [] → length events ≡ length others
       → AreOwn events → Leads config app events s end → AreOwn others → Leads config app others r other
       → (map (λ e. e.event) events ≡ map (λ e. e.event) others) × (end ≡ other)
   one_from [] [] s r end other same v a none long p h q k = (refl, h ∙ (same ∙ sym k))

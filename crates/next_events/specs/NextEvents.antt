@@ -11,19 +11,19 @@ use Rattle.osek_scheduler.specs.Steps.{OsekStep}
 use Rattle.osek_scheduler.specs.Runs.{Leads, OsekRun}
 
 -- an event is no admission of an arrival
-abbrev pub IsOwn : Event → Type 0
-IsOwn e = admitted_line e ≡ None
+abbrev pub IsNoAdmission : Event → Type 0
+IsNoAdmission e = admitted_line e ≡ None
 
 -- no event is an admission
 abbrev pub AreOwn : List Stamped → Type 0
 AreOwn [] = Unit {0}
-AreOwn (e ∷ events) = IsOwn e.event × AreOwn events
+AreOwn (e ∷ events) = IsNoAdmission e.event × AreOwn events
 
 -- From a state of a run in which no task is fresh, two steps of events that are no admissions are of one event: where a counter is due, its tick.
 abbrev pub OneNextEvent : Type 0
 OneNextEvent = (config : Config) (app : App) (events : List Stamped) (s : System) (e f : Event) (after other : System)
     → WellFormed config app → Leads config app events (opening config app) s → s.fresh ≡ []
-    → IsOwn e → OsekStep config app e s after → IsOwn f → OsekStep config app f s other → e ≡ f
+    → IsNoAdmission e → OsekStep config app e s after → IsNoAdmission f → OsekStep config app f s other → e ≡ f
 
 -- two runs of one length without admissions have the same events, and end in the same state
 abbrev pub OneRun : Type 0

@@ -3,27 +3,27 @@ use Rattle.std.proofs.Common.{◌≡◌, ◌↔◌, ◌+◌, true, suc, arith, L
 use Rattle.sloth_base.specs.declared.event.Arrival.{Arrival}
 use Rattle.sloth_base.specs.declared.event.Stamped.{Stamped}
 use Rattle.sloth_base.specs.declared.step.Step.{Step}
-use Rattle.observe.specs.Pieces.{begins, cut_off}
+use Rattle.observe.specs.Pieces.{begins, cut_off_steps}
 use Rattle.observe.specs.Observe.{View, observe}
 use Rattle.observe.specs.Touched.{HasPlace}
-use Rattle.observe.specs.Progress.{Progress, left_over, advanced_progress, one_or_none, FedProgress, from}
+use Rattle.observe.specs.Progress.{Progress, left_over_events, advanced_progress, one_or_none, FedProgress, arrivals_from}
 use Rattle.observe.proofs.Cutting.{cut_off-append}
 use Rattle.observe.proofs.Growing.{observe-more}
 use Rattle.observe.proofs.Turning.{Ready, Turned, turned}
 
 pub fed-keeps : (view : View) (arrivals : List Arrival) (p : Progress) (step : Step) (run : List Step) (events : List Stamped)
-    → FedProgress view arrivals p run events → left_over view p ≡ [] → step.count ≡ p.expected → IfSome p.first (λ first. HasPlace step) → (begins step ≡ true → HasPlace step)
+    → FedProgress view arrivals p run events → left_over_events view p ≡ [] → step.count ≡ p.expected → IfSome p.first (λ first. HasPlace step) → (begins step ≡ true → HasPlace step)
     → FedProgress view arrivals (advanced_progress view p step) (run ++ step ∷ []) events
 fed-keeps view arrivals p step run events f drained e joins opens =
     let r : Ready arrivals p step = record { ordered = f.ordered; joins = joins; opens = opens; coming = rw e f.coming; count = e } in
-    let t : Turned view arrivals (advanced_progress view p step) (cut_off [] run) step = turned view arrivals p step p.first (cut_off [] run) r refl f.stretch in
+    let t : Turned view arrivals (advanced_progress view p step) (cut_off_steps [] run) step = turned view arrivals p step p.first (cut_off_steps [] run) r refl f.stretch in
     record {
       ordered = f.ordered;
       told =
           let all : events ≡ observe view arrivals run = sym (append-nil events) ∙ ap (λ more. events ++ more) (sym drained) ∙ f.told in
-          rw all (sym (observe-more view arrivals run step (left_over view (advanced_progress view p step)) t.brings));
+          rw all (sym (observe-more view arrivals run step (left_over_events view (advanced_progress view p step)) t.brings));
       expected = t.expected ∙ ap (λ n. n + 1) (e ∙ f.expected) ∙ sym (length-append run (step ∷ []));
-      coming = t.coming ∙ ap (λ n. from n arrivals) (sym t.expected);
+      coming = t.coming ∙ ap (λ n. arrivals_from n arrivals) (sym t.expected);
       stretch = rw (cut_off-append [] run (step ∷ [])) t.stretch;
     }
 
@@ -40,5 +40,5 @@ told-exact (Some event) events before after whole told pops none = (
 )
 
 -- where nothing is kept to be handed out, no event is left
-pub nothing_left : (view : View) (p : Progress) → p.found ≡ [] → p.before ≡ [] → p.event ≡ None → p.after ≡ [] → left_over view p ≡ []
+pub nothing_left : (view : View) (p : Progress) → p.found ≡ [] → p.before ≡ [] → p.event ≡ None → p.after ≡ [] → left_over_events view p ≡ []
 nothing_left view p found before event after = rw (found, before, event, after) refl

@@ -6,7 +6,7 @@ use Rattle.std.proofs.lemmas.Grind.{flat_map-append}
 use Rattle.sloth_base.specs.declared.event.Arrival.{Arrival}
 use Rattle.sloth_base.specs.declared.event.Stamped.{Stamped}
 use Rattle.sloth_base.specs.declared.step.Step.{Step}
-use Rattle.observe.specs.Pieces.{Piece, Stretch, pieces, cut_off}
+use Rattle.observe.specs.Pieces.{Piece, Stretch, pieces, cut_off_steps}
 use Rattle.observe.specs.Observe.{View, observe, piece_events, found_admits, stretch_events}
 use Rattle.observe.proofs.Cutting.{pieces-append, cut_off-append}
 
@@ -15,7 +15,7 @@ abbrev pub ending : List Step → Step → List Piece
 ending opened step = pieces opened (step ∷ [])
 
 abbrev pub kept : List Step → Step → List Step
-kept opened step = cut_off opened (step ∷ [])
+kept opened step = cut_off_steps opened (step ∷ [])
 
 -- these events are added to those of the run, of which these steps are the open stretch, by the next step
 abbrev pub Brings : View → List Arrival → List Step → Step → List Stamped → Type 0
@@ -23,11 +23,11 @@ Brings view arrivals opened step events =
     flat_map (piece_events view arrivals) (ending opened step) ++ found_admits view arrivals (kept opened step) ≡ found_admits view arrivals opened ++ events
 
 -- the events of the run with one step more, from those of the run
-pub observe-more : (view : View) (arrivals : List Arrival) (run : List Step) (step : Step) (events : List Stamped) → Brings view arrivals (cut_off [] run) step events
+pub observe-more : (view : View) (arrivals : List Arrival) (run : List Step) (step : Step) (events : List Stamped) → Brings view arrivals (cut_off_steps [] run) step events
     → observe view arrivals (run ++ step ∷ []) ≡ observe view arrivals run ++ events
 unfolding observe
 observe-more view arrivals run step events h =
-    rw (pieces-append [] run (step ∷ []), cut_off-append [] run (step ∷ []), flat_map-append, append_assoc, h) (sym (append_assoc (flat_map (piece_events view arrivals) (pieces [] run)) (found_admits view arrivals (cut_off [] run)) events))
+    rw (pieces-append [] run (step ∷ []), cut_off-append [] run (step ∷ []), flat_map-append, append_assoc, h) (sym (append_assoc (flat_map (piece_events view arrivals) (pieces [] run)) (found_admits view arrivals (cut_off_steps [] run)) events))
 
 -- a step brings events, and takes none back
 grow-one : (view : View) (arrivals : List Arrival) (opened : List Step) (step : Step) → (events : List Stamped) × Brings view arrivals opened step events
@@ -42,7 +42,7 @@ grow-one view arrivals (first ∷ more) step =
 pub observe-front : (view : View) (arrivals : List Arrival) (run later : List Step) → (events : List Stamped) × (observe view arrivals (run ++ later) ≡ observe view arrivals run ++ events)
 observe-front view arrivals run [] = ([], ap (observe view arrivals) (append-nil run) ∙ sym (append-nil (observe view arrivals run)))
 observe-front view arrivals run (step ∷ later) =
-    let one = grow-one view arrivals (cut_off [] run) step in
+    let one = grow-one view arrivals (cut_off_steps [] run) step in
     let more = observe-front view arrivals (run ++ step ∷ []) later in (
       one.0 ++ more.0,
       ap (observe view arrivals) (sym (append_assoc run (step ∷ []) later)) ∙ more.1 ∙ ap (λ events. events ++ more.0) (observe-more view arrivals run step one.0 one.1)

@@ -3,7 +3,7 @@ use Rattle.std.proofs.Common.{◌≡◌, ◌⊎◌, ℕ, Bool, true, false, List
 use Rattle.std.specs.Bool.{if◌then◌else◌}
 use Rattle.std.specs.Prelude.{not, ◌||◌, ◌&&◌, is_some}
 use Rattle.sloth_base.specs.declared.step.Step.{Step}
-use Rattle.observe.specs.Pieces.{Piece, Outside, Stretch, pieces, cut_off, is_outside, GoesOn, StartsAtZero, FindsMasked, RestFindsMasked, FindsEnabled}
+use Rattle.observe.specs.Pieces.{Piece, Outside, Stretch, pieces, cut_off_steps, is_outside, GoesOn, StartsAtZero, FindsMasked, RestFindsMasked, FindsEnabled}
 use Rattle.std.specs.List.{AllByRecursion}
 
 -- before a run goes on: outside the stretches MIE is 1, but before the step of count 0; inside one it is 0
@@ -47,11 +47,11 @@ pub record Enabled (parts : List Piece) (rest : List Step) : Type 0 where
   pub left : RestFindsMasked rest
 
 enabled-step : (b d : Bool) (opened run : List Step) (enabled : Bool) (step : Step) → is_outside opened step ≡ b → step.enabled_after ≡ d → Finds opened enabled (step ∷ run) → step.enabled_before ≡ enabled
-    → (step.enabled_after ≡ true → Enabled (pieces [] run) (cut_off [] run))
-    → (Finds (opened ++ step ∷ []) step.enabled_after run → Enabled (pieces (opened ++ step ∷ []) run) (cut_off (opened ++ step ∷ []) run))
+    → (step.enabled_after ≡ true → Enabled (pieces [] run) (cut_off_steps [] run))
+    → (Finds (opened ++ step ∷ []) step.enabled_after run → Enabled (pieces (opened ++ step ∷ []) run) (cut_off_steps (opened ++ step ∷ []) run))
     → Enabled
     (if b then Outside step ∷ pieces [] run else if d then Stretch (opened ++ step ∷ []) ∷ pieces [] run else pieces (opened ++ step ∷ []) run)
-    (if b then cut_off [] run else if d then cut_off [] run else cut_off (opened ++ step ∷ []) run)
+    (if b then cut_off_steps [] run else if d then cut_off_steps [] run else cut_off_steps (opened ++ step ∷ []) run)
 enabled-step true d opened run enabled step out a f e none more =
     let o = outside-is opened run enabled step out f e in
     let n = none o.1.2 in
@@ -59,12 +59,12 @@ enabled-step true d opened run enabled step out a f e none more =
 enabled-step false true opened run enabled step out a f e none more = let n = none a in record { each = (more-is opened run enabled step f e, n.each); left = n.left }
 enabled-step false false opened run enabled step out a f e none more = more (finds-more opened run step (more-is opened run enabled step f e) a)
 
-enabled-from : (opened run : List Step) (enabled : Bool) → Finds opened enabled run → GoesOn enabled run → Enabled (pieces opened run) (cut_off opened run)
+enabled-from : (opened run : List Step) (enabled : Bool) → Finds opened enabled run → GoesOn enabled run → Enabled (pieces opened run) (cut_off_steps opened run)
 enabled-from [] [] enabled f g = record { each = tt; left = tt }
 enabled-from (first ∷ more) [] enabled f g = record { each = tt; left = f.1 }
 enabled-from opened (step ∷ run) enabled f g =
     enabled-step (is_outside opened step) step.enabled_after opened run enabled step refl refl f g.0 (λ on. enabled-from [] run step.enabled_after (inl on) g.1) (λ h. enabled-from (opened ++ step ∷ []) run step.enabled_after h g.1)
 
 -- a run from count 0 on, in which each step finds MIE as the one before it left it
-pub enabled-outside : (run : List Step) (enabled : Bool) → StartsAtZero run → GoesOn enabled run → Enabled (pieces [] run) (cut_off [] run)
+pub enabled-outside : (run : List Step) (enabled : Bool) → StartsAtZero run → GoesOn enabled run → Enabled (pieces [] run) (cut_off_steps [] run)
 enabled-outside run enabled z g = enabled-from [] run enabled (inr z) g

@@ -3,7 +3,7 @@ use Rattle.std.specs.Bool.{if◌then◌else◌}
 use Rattle.std.specs.List.{flat_map, AllByRecursion}
 use Rattle.std.proofs.lemmas.Bool.{not-false, not-true}
 use Rattle.sloth_base.specs.declared.step.Step.{Step}
-use Rattle.observe.specs.Pieces.{Piece, Outside, Stretch, pieces, cut_off, is_outside, begins, steps_of, AllMasked, Begins, IsPiece, IsOpenPart, IsCut}
+use Rattle.observe.specs.Pieces.{Piece, Outside, Stretch, pieces, cut_off_steps, is_outside, begins, steps_of, AllMasked, Begins, IsPiece, IsOpenPart, IsCut}
 
 masked-push : (steps : List Step) (step : Step) → AllMasked steps → step.enabled_after ≡ false → AllMasked (steps ++ step ∷ [])
 masked-push [] step h e = (e, tt)
@@ -49,19 +49,19 @@ cut-more : (opened : List Step) (step : Step) (run : List Step) (parts : List Pi
 cut-more opened step run parts rest c = record { joined = c.joined ∙ append_assoc opened (step ∷ []) run; each = c.each; left = c.left }
 
 cut-step : (b d : Bool) (opened : List Step) (step : Step) (run : List Step) → is_outside opened step ≡ b → step.enabled_after ≡ d → IsOpenPart opened
-    → CutFrom [] run (pieces [] run) (cut_off [] run)
-    → (IsOpenPart (opened ++ step ∷ []) → CutFrom (opened ++ step ∷ []) run (pieces (opened ++ step ∷ []) run) (cut_off (opened ++ step ∷ []) run))
+    → CutFrom [] run (pieces [] run) (cut_off_steps [] run)
+    → (IsOpenPart (opened ++ step ∷ []) → CutFrom (opened ++ step ∷ []) run (pieces (opened ++ step ∷ []) run) (cut_off_steps (opened ++ step ∷ []) run))
     → CutFrom opened (step ∷ run)
     (if b then Outside step ∷ pieces [] run else if d then Stretch (opened ++ step ∷ []) ∷ pieces [] run else pieces (opened ++ step ∷ []) run)
-    (if b then cut_off [] run else if d then cut_off [] run else cut_off (opened ++ step ∷ []) run)
+    (if b then cut_off_steps [] run else if d then cut_off_steps [] run else cut_off_steps (opened ++ step ∷ []) run)
 cut-step true d opened step run h e o none more = cut-outside opened step run _ _ h none
 cut-step false true opened step run h e o none more = cut-whole opened step run _ _ h o e none
 cut-step false false opened step run h e o none more = cut-more opened step run _ _ (more (open-more opened step h o e))
 
-cut-from : (opened run : List Step) → IsOpenPart opened → CutFrom opened run (pieces opened run) (cut_off opened run)
+cut-from : (opened run : List Step) → IsOpenPart opened → CutFrom opened run (pieces opened run) (cut_off_steps opened run)
 cut-from opened [] o = record { joined = sym (append-nil opened); each = tt; left = o }
 cut-from opened (step ∷ run) o = cut-step (is_outside opened step) step.enabled_after opened step run refl refl o (cut-from [] run tt) (λ p. cut-from (opened ++ step ∷ []) run p)
 
 -- a run is cut by the rule of stretches
-pub is-cut : (run : List Step) → IsCut run (pieces [] run) (cut_off [] run)
+pub is-cut : (run : List Step) → IsCut run (pieces [] run) (cut_off_steps [] run)
 is-cut run = let c = cut-from [] run tt in record { joined = c.joined; each = c.each; left = c.left }

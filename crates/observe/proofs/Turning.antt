@@ -10,18 +10,18 @@ use Rattle.sloth_base.specs.declared.image.MarkKind.TheVariants as kind
 use Rattle.sloth_base.specs.declared.step.Step.{Step}
 use Rattle.sloth_base.specs.Arrivals.{NeverFalls, moments}
 use Rattle.observe.specs.Pieces.{Outside, Stretch, begins}
-use Rattle.observe.specs.Observe.{View, piece_events, found_admits, placed_events, masked_from, admission, last_of, outside_events, events_of_kind, mark_at, stamp, stretch_event}
+use Rattle.observe.specs.Observe.{View, piece_events, found_admits, placed_events, first_masked_moment, admission, last_of, outside_events, events_of_kind, mark_at, stamp, stretch_event}
 use Rattle.observe.specs.Touched.{was_touched, noted_touches, HasPlace, Tells}
-use Rattle.observe.specs.Progress.{Progress, left_over, advanced_from, passed_progress, begun, joined_progress, noted_progress, stood_outside, only_element, here, behind, arrivals_within, one_or_none, IsOpen, IsStretch, from, behind_stretch}
+use Rattle.observe.specs.Progress.{Progress, left_over_events, advanced_progress_from, passed_progress, begun_progress, joined_progress, noted_progress, outside_progress, only_element, arrivals_due, arrivals_behind, arrivals_within, one_or_none, IsOpen, IsStretch, arrivals_from, progress_behind_stretch}
 use Rattle.observe.proofs.Growing.{kept, Brings}
 use Rattle.observe.proofs.Moments.{here-from, behind-from, within-from, moments-none}
 use Rattle.observe.proofs.Touching.{noted-keeps, tells-none, filter-early, filter-late}
 
 -- what the observer is after the step, where these are the steps of the stretch that is open before it
 pub record Turned (view : View) (arrivals : List Arrival) (p : Progress) (opened : List Step) (step : Step) : Type 0 where
-  pub brings : Brings view arrivals opened step (left_over view p)
+  pub brings : Brings view arrivals opened step (left_over_events view p)
   pub expected : p.expected ≡ step.count + 1
-  pub coming : p.coming ≡ from (step.count + 1) arrivals
+  pub coming : p.coming ≡ arrivals_from (step.count + 1) arrivals
   pub stretch : IsOpen arrivals p p.first (kept opened step)
 
 -- what a turn rests on
@@ -29,7 +29,7 @@ pub record Ready (arrivals : List Arrival) (p : Progress) (step : Step) : Type 0
   pub ordered : NeverFalls 0 arrivals
   pub joins : IfSome p.first (λ first. HasPlace step)
   pub opens : begins step ≡ true → HasPlace step
-  pub coming : p.coming ≡ from step.count arrivals
+  pub coming : p.coming ≡ arrivals_from step.count arrivals
   pub count : step.count ≡ p.expected
 
 last-more : (first : Step) (more : List Step) (step : Step) → last_of first (more ++ step ∷ []) ≡ step
@@ -38,16 +38,16 @@ last-more first (next ∷ more) step = last-more next more step
 
 -- what the end of a stretch brings
 ending-is : (view : View) (arrivals : List Arrival) (first step : Step) (steps : List Step) (inside coming : List Arrival) (table : List ℕ) (count : ℕ)
-    → inside ≡ from (masked_from first) arrivals → coming ≡ from (step.count + 1) arrivals → masked_from first ≤ step.count + 1 → NeverFalls 0 arrivals → Tells table count steps
+    → inside ≡ arrivals_from (first_masked_moment first) arrivals → coming ≡ arrivals_from (step.count + 1) arrivals → first_masked_moment first ≤ step.count + 1 → NeverFalls 0 arrivals → Tells table count steps
     → map (admission view) (filter (was_touched table) (arrivals_within inside coming))
     ++ (stamp first.count step.count (stretch_event view first step) ∷ map (admission view) (filter (λ arrival. not (was_touched table arrival)) (arrivals_within inside coming)))
-    ≡ placed_events view steps (moments (masked_from first) (step.count + 1) arrivals) first step
+    ≡ placed_events view steps (moments (first_masked_moment first) (step.count + 1) arrivals) first step
 ending-is view arrivals first step steps inside coming table count i c le ordered t =
-    let between : arrivals_within inside coming ≡ moments (masked_from first) (step.count + 1) arrivals = rw (i, c) (within-from 0 (masked_from first) (step.count + 1) arrivals ordered le) in
+    let between : arrivals_within inside coming ≡ moments (first_masked_moment first) (step.count + 1) arrivals = rw (i, c) (within-from 0 (first_masked_moment first) (step.count + 1) arrivals ordered le) in
     rw (
       between,
-      filter-early table count steps (moments (masked_from first) (step.count + 1) arrivals) t,
-      filter-late table count steps (moments (masked_from first) (step.count + 1) arrivals) t,
+      filter-early table count steps (moments (first_masked_moment first) (step.count + 1) arrivals) t,
+      filter-late table count steps (moments (first_masked_moment first) (step.count + 1) arrivals) t,
     )
     refl
 
@@ -62,16 +62,16 @@ one-event view step (Some mark) = kinds mark.kind
     kinds kind.Idle = refl
     kinds kind.Back = refl
 
-coming-is : (arrivals : List Arrival) (p : Progress) (step : Step) → Ready arrivals p step → behind step.count p.coming ≡ from (step.count + 1) arrivals
+coming-is : (arrivals : List Arrival) (p : Progress) (step : Step) → Ready arrivals p step → arrivals_behind step.count p.coming ≡ arrivals_from (step.count + 1) arrivals
 coming-is arrivals p step r = rw r.coming (behind-from 0 step.count arrivals r.ordered)
 
-here-is : (arrivals : List Arrival) (p : Progress) (step : Step) → Ready arrivals p step → here step.count p.coming ≡ moments step.count (step.count + 1) arrivals
+here-is : (arrivals : List Arrival) (p : Progress) (step : Step) → Ready arrivals p step → arrivals_due step.count p.coming ≡ moments step.count (step.count + 1) arrivals
 here-is arrivals p step r = rw r.coming (here-from 0 step.count arrivals r.ordered)
 
 expected-is : (arrivals : List Arrival) (p : Progress) (step : Step) → Ready arrivals p step → p.expected + 1 ≡ step.count + 1
 expected-is arrivals p step r = ap (λ n. n + 1) (sym r.count)
 
-turned-outside : (view : View) (arrivals : List Arrival) (p : Progress) (step : Step) → Ready arrivals p step → p.first ≡ None → begins step ≡ false → Turned view arrivals (stood_outside view p step) [] step
+turned-outside : (view : View) (arrivals : List Arrival) (p : Progress) (step : Step) → Ready arrivals p step → p.first ≡ None → begins step ≡ false → Turned view arrivals (outside_progress view p step) [] step
 turned-outside view arrivals p step r none off = record {
   brings = rw (off, here-is arrivals p step r, one-event view step (mark_at view step.pc)) (simp (append-nil, append_assoc));
   expected = expected-is arrivals p step r;
@@ -84,15 +84,15 @@ turned-next : (view : View) (arrivals : List Arrival) (p : Progress) (first : St
     → Turned view arrivals (joined_progress view (passed_progress p step) first step) (first ∷ more) step
 turned-next view arrivals p first more step r h place true on = record {
   brings =
-      let masked : masked_from first ≤ step.count + 1 = (let b : masked_from first ≤ p.expected = h.begun in let e : step.count ≡ p.expected = r.count in omega arith) in
+      let masked : first_masked_moment first ≤ step.count + 1 = (let b : first_masked_moment first ≤ p.expected = h.begun in let e : step.count ≡ p.expected = r.count in omega arith) in
       let m : Progress = noted_progress (passed_progress p step) step in
       let P : Bool → Type 0 = λ b.
       flat_map (piece_events view arrivals) (if b then Stretch (first ∷ (more ++ step ∷ [])) ∷ [] else []) ++ found_admits view arrivals (if b then [] else first ∷ (more ++ step ∷ []))
-      ≡ found_admits view arrivals (first ∷ more) ++ left_over view (if b then behind_stretch view m first step else record m { first = Some first }) in
+      ≡ found_admits view arrivals (first ∷ more) ++ left_over_events view (if b then progress_behind_stretch view m first step else record m { first = Some first }) in
       let body : P true =
       rw (
         last-more first more step,
-        ending-is view arrivals first step (first ∷ (more ++ step ∷ [])) p.inside (behind step.count p.coming) (noted_touches step.touched step.count p.touched) (p.expected + 1) h.inside (coming-is arrivals p step r) masked r.ordered
+        ending-is view arrivals first step (first ∷ (more ++ step ∷ [])) p.inside (arrivals_behind step.count p.coming) (noted_touches step.touched step.count p.touched) (p.expected + 1) h.inside (coming-is arrivals p step r) masked r.ordered
             (noted-keeps p.touched p.expected (first ∷ more) step place h.tells r.count),
       )
       (simp append-nil) in
@@ -107,13 +107,13 @@ turned-next view arrivals p first more step r h place false off = record {
   coming = rw off (coming-is arrivals p step r);
   stretch =
       let m : Progress = noted_progress (passed_progress p step) step in
-      let now : Bool → Progress = λ b. if b then behind_stretch view m first step else record m { first = Some first } in
+      let now : Bool → Progress = λ b. if b then progress_behind_stretch view m first step else record m { first = Some first } in
       let P : Bool → Type 0 = λ b. IsOpen arrivals (now b) (now b).first (if b then [] else first ∷ (more ++ step ∷ [])) in
       subst P (sym off) (
         refl,
         record {
           inside = h.inside;
-          begun = (let b : masked_from first ≤ p.expected = h.begun in omega arith);
+          begun = (let b : first_masked_moment first ≤ p.expected = h.begun in omega arith);
           tells = noted-keeps p.touched p.expected (first ∷ more) step place h.tells r.count;
         },
       );
@@ -121,33 +121,33 @@ turned-next view arrivals p first more step r h place false off = record {
 
 -- where a stretch that begins with the step finds itself
 first-inside : (arrivals : List Arrival) (p : Progress) (step : Step) → Ready arrivals p step → (b : Bool) → step.enabled_before ≡ b
-    → (if step.enabled_before then behind step.count p.coming else p.coming) ≡ from (masked_from step) arrivals
+    → (if step.enabled_before then arrivals_behind step.count p.coming else p.coming) ≡ arrivals_from (first_masked_moment step) arrivals
 first-inside arrivals p step r true on = rw on (coming-is arrivals p step r)
 first-inside arrivals p step r false off = rw off r.coming
 
 first-found : (view : View) (arrivals : List Arrival) (p : Progress) (step : Step) → Ready arrivals p step → (b : Bool) → step.enabled_before ≡ b
-    → map (admission view) (if step.enabled_before then here step.count p.coming else []) ≡ map (admission view) (moments step.count (masked_from step) arrivals)
+    → map (admission view) (if step.enabled_before then arrivals_due step.count p.coming else []) ≡ map (admission view) (moments step.count (first_masked_moment step) arrivals)
 first-found view arrivals p step r true on = rw on (ap (map (admission view)) (here-is arrivals p step r))
 first-found view arrivals p step r false off = rw off (ap (map (admission view)) (sym (moments-none step.count arrivals)))
 
-first-masked : (step : Step) → masked_from step ≤ step.count + 1
+first-masked : (step : Step) → first_masked_moment step ≤ step.count + 1
 first-masked step = elim step.enabled_before as (λ b. (if b then step.count + 1 else step.count) ≤ step.count + 1) [ true ↦ omega arith | false ↦ omega arith ]
 
 -- the step begins a stretch
 turned-first : (view : View) (arrivals : List Arrival) (p : Progress) (step : Step) → Ready arrivals p step → begins step ≡ true → (b : Bool) → step.enabled_after ≡ b
-    → Turned view arrivals (joined_progress view (begun p step) step step) [] step
+    → Turned view arrivals (joined_progress view (begun_progress p step) step step) [] step
 turned-first view arrivals p step r opens true on = record {
   brings =
-      let m : Progress = noted_progress (begun p step) step in
+      let m : Progress = noted_progress (begun_progress p step) step in
       let P : Bool → Type 0 = λ b.
       flat_map (piece_events view arrivals) (if not (begins step) then Outside step ∷ [] else if b then Stretch (step ∷ []) ∷ [] else [])
       ++ found_admits view arrivals (if not (begins step) then [] else if b then [] else step ∷ [])
-      ≡ left_over view (if b then behind_stretch view m step step else record m { first = Some step }) in
+      ≡ left_over_events view (if b then progress_behind_stretch view m step step else record m { first = Some step }) in
       let body : P true =
       rw (
         opens,
         first-found view arrivals p step r step.enabled_before refl,
-        ending-is view arrivals step step (step ∷ []) (if step.enabled_before then behind step.count p.coming else p.coming) (behind step.count p.coming) (noted_touches step.touched step.count (replicate 256 0)) (step.count + 1)
+        ending-is view arrivals step step (step ∷ []) (if step.enabled_before then arrivals_behind step.count p.coming else p.coming) (arrivals_behind step.count p.coming) (noted_touches step.touched step.count (replicate 256 0)) (step.count + 1)
             (first-inside arrivals p step r step.enabled_before refl) (coming-is arrivals p step r) (first-masked step) r.ordered
             (noted-keeps (replicate 256 0) step.count [] step (r.opens opens) (tells-none step.count) refl),
       )
@@ -162,8 +162,8 @@ turned-first view arrivals p step r opens false off = record {
   expected = rw off (expected-is arrivals p step r);
   coming = rw off (coming-is arrivals p step r);
   stretch =
-      let m : Progress = noted_progress (begun p step) step in
-      let now : Bool → Progress = λ b. if b then behind_stretch view m step step else record m { first = Some step } in
+      let m : Progress = noted_progress (begun_progress p step) step in
+      let now : Bool → Progress = λ b. if b then progress_behind_stretch view m step step else record m { first = Some step } in
       let P : Bool → Type 0 = λ b. IsOpen arrivals (now b) (now b).first (if not (begins step) then [] else if b then [] else step ∷ []) in
       let Q : ℕ → Type 0 = λ n. Tells (noted_touches step.touched step.count (replicate 256 0)) n (step ∷ []) in
       let K : Bool → Type 0 = λ b. IsOpen arrivals (now false) (Some step) (if not b then [] else step ∷ []) in
@@ -171,7 +171,7 @@ turned-first view arrivals p step r opens false off = record {
         refl,
         record {
           inside = first-inside arrivals p step r step.enabled_before refl;
-          begun = (let e : step.count ≡ p.expected = r.count in let b : masked_from step ≤ step.count + 1 = first-masked step in omega arith);
+          begun = (let e : step.count ≡ p.expected = r.count in let b : first_masked_moment step ≤ step.count + 1 = first-masked step in omega arith);
           tells = subst Q (ap (λ n. n + 1) r.count) (noted-keeps (replicate 256 0) step.count [] step (r.opens opens) (tells-none step.count) refl);
         },
       ) in
@@ -180,10 +180,10 @@ turned-first view arrivals p step r opens false off = record {
 
 -- one step more
 pub turned : (view : View) (arrivals : List Arrival) (p : Progress) (step : Step) (first : Option Step) (opened : List Step) → Ready arrivals p step → p.first ≡ first → IsOpen arrivals p first opened
-    → Turned view arrivals (advanced_from first view p step) opened step
+    → Turned view arrivals (advanced_progress_from first view p step) opened step
 turned view arrivals p step None [] r is h = by_begin (begins step) refl
   where
-    by_begin : (b : Bool) → begins step ≡ b → Turned view arrivals (advanced_from None view p step) [] step
+    by_begin : (b : Bool) → begins step ≡ b → Turned view arrivals (advanced_progress_from None view p step) [] step
     by_begin true on = rw on (turned-first view arrivals p step r on step.enabled_after refl)
     by_begin false off = rw off (turned-outside view arrivals p step r is off)
 turned view arrivals p step None (next ∷ more) r is h = absurd h

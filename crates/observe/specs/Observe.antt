@@ -18,7 +18,7 @@ use Rattle.sloth_base.specs.Owners.{first_counter_line, line_kind, owners_named}
 use Rattle.sloth_base.specs.declared.lines.Owners.{Owners}
 use Rattle.sloth_base.specs.declared.lines.LineKind.{LineKind}
 use Rattle.sloth_base.specs.declared.lines.LineKind.TheVariants as line_of
-use Rattle.observe.specs.Pieces.{Piece, Outside, Stretch, pieces, cut_off}
+use Rattle.observe.specs.Pieces.{Piece, Outside, Stretch, pieces, cut_off_steps}
 
 -- what a run is observed by: the marks of the image, and the owners of lines
 pub record View : Type 0 where
@@ -132,8 +132,8 @@ abbrev pub is_early : List Step → Arrival → Bool
 is_early steps arrival = list_any (is_touch arrival.at arrival.line) steps
 
 -- the first moment of a stretch that finds MIE 0
-abbrev pub masked_from : Step → ℕ
-masked_from first = if first.enabled_before then first.count + 1 else first.count
+abbrev pub first_masked_moment : Step → ℕ
+first_masked_moment first = if first.enabled_before then first.count + 1 else first.count
 
 -- the last of steps that begin with this one
 abbrev pub last_of : Step → List Step → Step
@@ -143,7 +143,7 @@ last_of step (next ∷ more) = last_of next more
 -- an arrival that the first moment of a stretch finds with MIE 1
 abbrev pub found_admits : View → List Arrival → List Step → List Stamped
 found_admits view arrivals [] = []
-found_admits view arrivals (first ∷ more) = map (admission view) (moments first.count (masked_from first) arrivals)
+found_admits view arrivals (first ∷ more) = map (admission view) (moments first.count (first_masked_moment first) arrivals)
 
 -- The event of a stretch, with the arrivals inside it: the early ones before it and the late ones behind it.
 abbrev pub placed_events : View → List Step → List Arrival → Step → Step → List Stamped
@@ -156,7 +156,7 @@ placed_events view steps inside first last =
 abbrev pub stretch_events : View → List Arrival → List Step → List Stamped
 stretch_events view arrivals [] = []
 stretch_events view arrivals (first ∷ more) =
-    placed_events view (first ∷ more) (moments (masked_from first) ((last_of first more).count + 1) arrivals) first (last_of first more)
+    placed_events view (first ∷ more) (moments (first_masked_moment first) ((last_of first more).count + 1) arrivals) first (last_of first more)
 
 -- the events of a piece of a run
 abbrev pub piece_events : View → List Arrival → Piece → List Stamped
@@ -168,4 +168,4 @@ piece_events view arrivals (Stretch steps) = found_admits view arrivals steps ++
 -- The events of a run. A stretch that the end of the run cuts off shows no event, and none of the arrivals inside it.
 unfoldable pub observe : View → List Arrival → List Step → List Stamped
 observe view arrivals steps =
-    flat_map (piece_events view arrivals) (pieces [] steps) ++ found_admits view arrivals (cut_off [] steps)
+    flat_map (piece_events view arrivals) (pieces [] steps) ++ found_admits view arrivals (cut_off_steps [] steps)

@@ -5,8 +5,8 @@ use Rattle.sloth_base.specs.declared.event.Stamped.{Stamped}
 use Rattle.sloth_base.specs.declared.step.Step.{Step}
 use Rattle.sloth_base.specs.Arrivals.{NeverFalls}
 use Rattle.observe.specs.declared.observing.Observer.{Observer}
-use Rattle.observe.specs.Pieces.{begins, cut_off}
-use Rattle.observe.specs.Observe.{View, mark_at, outside_events, stretch_event, stamp, admission, masked_from, observe}
+use Rattle.observe.specs.Pieces.{begins, cut_off_steps}
+use Rattle.observe.specs.Observe.{View, mark_at, outside_events, stretch_event, stamp, admission, first_masked_moment, observe}
 use Rattle.observe.specs.Touched.{was_touched, noted_touches, Tells}
 
 -- an observer without its references, its view and its list of arrivals
@@ -52,8 +52,8 @@ abbrev pub arrivals_of : Observer → List Arrival
 arrivals_of o = o.arrivals.now
 
 -- the count that it expects next
-abbrev pub expected_of : Observer → ℕ
-expected_of o = o.expected
+abbrev pub expected_count : Observer → ℕ
+expected_count o = o.expected
 
 -- ---- what is still to be handed out
 
@@ -63,8 +63,8 @@ one_or_none None = []
 one_or_none (Some what) = what ∷ []
 
 -- the events that are still to be told
-abbrev pub left_over : View → Progress → List Stamped
-left_over view p =
+abbrev pub left_over_events : View → Progress → List Stamped
+left_over_events view p =
     map (admission view) p.found
     ++ (map (admission view) (filter (was_touched p.touched) p.before)
     ++ (one_or_none p.event
@@ -72,25 +72,25 @@ left_over view p =
 
 -- the finished events that the observer has not handed out
 abbrev pub remaining : Observer → List Stamped
-remaining o = left_over (view_of o) (progress_of o)
+remaining o = left_over_events (view_of o) (progress_of o)
 
 -- ---- one step more
 
 -- the arrivals of this moment or earlier, and those of later moments
-abbrev pub here : ℕ → List Arrival → List Arrival
-here count coming = take_while (λ arrival. nat_le arrival.at count) coming
+abbrev pub arrivals_due : ℕ → List Arrival → List Arrival
+arrivals_due count coming = take_while (λ arrival. nat_le arrival.at count) coming
 
 -- the arrivals behind those of a count
-abbrev pub behind : ℕ → List Arrival → List Arrival
-behind count coming = drop (length (here count coming)) coming
+abbrev pub arrivals_behind : ℕ → List Arrival → List Arrival
+arrivals_behind count coming = drop (length (arrivals_due count coming)) coming
 
 -- of the arrivals from the start of a stretch on those inside it, where these are coming behind it
 abbrev pub arrivals_within : List Arrival → List Arrival → List Arrival
 arrivals_within inside coming = take (length inside - length coming) inside
 
 -- after the last step of a stretch
-abbrev pub behind_stretch : View → Progress → Step → Step → Progress
-behind_stretch view p first last = record p {
+abbrev pub progress_behind_stretch : View → Progress → Step → Step → Progress
+progress_behind_stretch view p first last = record p {
   first = None;
   before = arrivals_within p.inside p.coming;
   event = Some (stamp first.count last.count (stretch_event view first last));
@@ -104,18 +104,18 @@ noted_progress p step = record p { touched = noted_touches step.touched step.cou
 -- the stretch of the first step goes on with this one
 abbrev pub joined_progress : View → Progress → Step → Step → Progress
 joined_progress view p first step =
-    if step.enabled_after then behind_stretch view (noted_progress p step) first step else record (noted_progress p step) { first = Some first }
+    if step.enabled_after then progress_behind_stretch view (noted_progress p step) first step else record (noted_progress p step) { first = Some first }
 
 -- the step is counted, and its arrivals have passed
 abbrev pub passed_progress : Progress → Step → Progress
-passed_progress p step = record p { expected = p.expected + 1; coming = behind step.count p.coming; found = []; before = []; event = None; after = [] }
+passed_progress p step = record p { expected = p.expected + 1; coming = arrivals_behind step.count p.coming; found = []; before = []; event = None; after = [] }
 
 -- after the first step of a stretch
-abbrev pub begun : Progress → Step → Progress
-begun p step = record (passed_progress p step) {
+abbrev pub begun_progress : Progress → Step → Progress
+begun_progress p step = record (passed_progress p step) {
   touched = replicate 256 0;
-  inside = if step.enabled_before then behind step.count p.coming else p.coming;
-  found = if step.enabled_before then here step.count p.coming else [];
+  inside = if step.enabled_before then arrivals_behind step.count p.coming else p.coming;
+  found = if step.enabled_before then arrivals_due step.count p.coming else [];
 }
 
 -- the only element
@@ -124,20 +124,20 @@ only_element [] = None
 only_element (what ∷ more) = Some what
 
 -- after a step outside the stretches
-abbrev pub stood_outside : View → Progress → Step → Progress
-stood_outside view p step = record (passed_progress p step) {
-  found = here step.count p.coming;
+abbrev pub outside_progress : View → Progress → Step → Progress
+outside_progress view p step = record (passed_progress p step) {
+  found = arrivals_due step.count p.coming;
   event = only_element (map (stamp step.count step.count) (outside_events (mark_at view step.pc) view step));
 }
 
 -- after a step; the first step of the stretch that it may be in is given
-abbrev pub advanced_from : Option Step → View → Progress → Step → Progress
-advanced_from None view p step = if begins step then joined_progress view (begun p step) step step else stood_outside view p step
-advanced_from (Some first) view p step = joined_progress view (passed_progress p step) first step
+abbrev pub advanced_progress_from : Option Step → View → Progress → Step → Progress
+advanced_progress_from None view p step = if begins step then joined_progress view (begun_progress p step) step step else outside_progress view p step
+advanced_progress_from (Some first) view p step = joined_progress view (passed_progress p step) first step
 
 -- after a step
 abbrev pub advanced_progress : View → Progress → Step → Progress
-advanced_progress view p step = advanced_from p.first view p step
+advanced_progress view p step = advanced_progress_from p.first view p step
 
 -- all but what is to be handed out
 abbrev pub settled_progress : Progress → Progress
@@ -146,13 +146,13 @@ settled_progress p = record p { found = []; before = []; event = None; after = [
 -- ---- what holds of an observer
 
 -- the arrivals of this moment and of later ones
-abbrev pub from : ℕ → List Arrival → List Arrival
-from moment arrivals = filter (λ arrival. nat_le moment arrival.at) arrivals
+abbrev pub arrivals_from : ℕ → List Arrival → List Arrival
+arrivals_from moment arrivals = filter (λ arrival. nat_le moment arrival.at) arrivals
 
 -- what is kept of the stretch that began with `first`, after these steps of it
 pub record IsStretch (arrivals : List Arrival) (p : Progress) (first : Step) (steps : List Step) : Type 0 where
-  pub inside : p.inside ≡ from (masked_from first) arrivals
-  pub begun : masked_from first ≤ p.expected
+  pub inside : p.inside ≡ arrivals_from (first_masked_moment first) arrivals
+  pub begun : first_masked_moment first ≤ p.expected
   pub tells : Tells p.touched p.expected steps
 
 -- the open stretch is that of these steps
@@ -165,10 +165,10 @@ IsOpen arrivals p (Some first) (step ∷ steps) = (first ≡ step) × IsStretch 
 -- what is kept after these steps, when these events have been told
 pub record FedProgress (view : View) (arrivals : List Arrival) (p : Progress) (steps : List Step) (events : List Stamped) : Type 0 where
   pub ordered : NeverFalls 0 arrivals
-  pub told : events ++ left_over view p ≡ observe view arrivals steps
+  pub told : events ++ left_over_events view p ≡ observe view arrivals steps
   pub expected : p.expected ≡ length steps
-  pub coming : p.coming ≡ from p.expected arrivals
-  pub stretch : IsOpen arrivals p p.first (cut_off [] steps)
+  pub coming : p.coming ≡ arrivals_from p.expected arrivals
+  pub stretch : IsOpen arrivals p p.first (cut_off_steps [] steps)
 
 -- The observer was fed these steps and has handed out these events: they are the front of the run's events, of
 -- which the rest remains; it expects the next count; and its open stretch is that of the steps.

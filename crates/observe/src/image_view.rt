@@ -28,7 +28,7 @@ impl<'a> Model for ImageView<'a> {
 
 impl ImageView<'_> {
     ghost use Rattle.std.specs.Prelude.{◌≡◌, map, slice_index};
-    ghost use Rattle.observe.specs.Observe.{running_task, entry_event, arrival_event, mark_at, service_event, marked_event, unentered_event, stretch_event, outside_events, stamp};
+    ghost use Rattle.observe.specs.Observe.{running_task, entry_event, arrival_event, mark_at, service_event, unentered_event, stretch_event, outside_events, stamp};
     ghost use Rattle.sloth_base.specs.Owners.{line_kind};
     ghost use Rattle.sloth_base.specs.ServiceCodes.{service_of};
     ghost use Rattle.observe.specs.Progress.{only_element};

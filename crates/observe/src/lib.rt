@@ -6,4 +6,4 @@ pub mod laws;
 pub mod observing;
 mod touched;
 
-pub use observing::Observer;
+pub use observing::{Observer, passing};

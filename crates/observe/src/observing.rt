@@ -1,5 +1,5 @@
 //! An observer that is fed one step at a time.
-ghost use Rattle.std.specs.Prelude.{◌≡◌, ◌<◌, ◌≤◌, ◌+◌, ◌++◌, ◌∷◌, [], true, List, length, take_while, nat_le, IfSome, IfNone, OnSome, IsOk, IfOk, IsNone, ◌↔◌};
+ghost use Rattle.std.specs.Prelude.{◌≡◌, ◌<◌, ◌+◌, ◌++◌, ◌∷◌, [], true, List, length, take_while, nat_le, IfSome, IfNone, OnSome, IsOk, IfOk, IsNone, ◌↔◌};
 ghost use Rattle.observe.specs.Pieces.{begins};
 ghost use Rattle.observe.specs.Observe.{admission, observe, view_of_image};
 ghost use Rattle.sloth_base.specs.ImageRange.{AreAscending};
@@ -39,7 +39,7 @@ impl<'a> Observer<'a> {
     ghost use Rattle.sloth_base.specs.declared.event.Stamped.{Stamped as AnyStamped};
     ghost use Rattle.sloth_base.specs.Arrivals.{NeverFalls};
     ghost use Rattle.observe.specs.Touched.{HasPlace};
-    ghost use Rattle.observe.specs.Progress.{Fed, progress_of, view_of, arrivals_of, expected_of, remaining, left_over, here, passed_progress, joined_progress, behind_stretch, advanced_progress, one_or_none, settled_progress, noted_progress};
+    ghost use Rattle.observe.specs.Progress.{Fed, progress_of, view_of, arrivals_of, expected_count, remaining, arrivals_due, passed_progress, joined_progress, progress_behind_stretch, advanced_progress, one_or_none, settled_progress, noted_progress};
 
     /// An observer of a run of the image with these arrivals, which has seen no step. It needs no memory of its own.
     pub fn new(
@@ -53,7 +53,7 @@ impl<'a> Observer<'a> {
         ensures fed { IfOk result (λ o. Fed o [] []) }
         ensures view { IfOk result (λ o. view_of o ≡ view_of_image image.now) }
         ensures arrivals { IfOk result (λ o. arrivals_of o ≡ arrivals.now) }
-        ensures expected { IfOk result (λ o. expected_of o ≡ 0) }
+        ensures expected { IfOk result (λ o. expected_count o ≡ 0) }
         ensures drained { IfOk result (λ o. remaining o ≡ []) }
     {
         let none: &[Arrival] = &[];
@@ -80,9 +80,9 @@ impl<'a> Observer<'a> {
     // Counts the step, and gives the arrivals of its moment.
     #[inline(always)]
     fn pass(&mut self, step: &Step) -> &'a [Arrival]
-        requires expected { step.now.count ≡ expected_of self.old }
+        requires expected { step.now.count ≡ expected_count self.old }
         ensures passed { progress_of self.new ≡ passed_progress (progress_of self.old) step.now }
-        ensures here { result.now ≡ here step.now.count self.old.coming.now }
+        ensures here { result.now ≡ arrivals_due step.now.count self.old.coming.now }
         ensures view { view_of self.new ≡ view_of self.old }
         ensures arrivals { arrivals_of self.new ≡ arrivals_of self.old }
     {
@@ -116,7 +116,7 @@ impl<'a> Observer<'a> {
     // The stretch of the first step ends with this one.
     #[inline(never)]
     fn close(&mut self, first: &Step, last: &Step)
-        ensures closed { progress_of self.new ≡ behind_stretch (view_of self.old) (progress_of self.old) first.now last.now }
+        ensures closed { progress_of self.new ≡ progress_behind_stretch (view_of self.old) (progress_of self.old) first.now last.now }
         ensures view { view_of self.new ≡ view_of self.old }
         ensures arrivals { arrivals_of self.new ≡ arrivals_of self.old }
     {
@@ -150,7 +150,7 @@ impl<'a> Observer<'a> {
     // One step more.
     #[inline(always)]
     fn advance(&mut self, step: &Step)
-        requires expected { step.now.count ≡ expected_of self.old }
+        requires expected { step.now.count ≡ expected_count self.old }
         ensures joins { IfSome self.old.first (λ first. HasPlace step.now) }
         ensures opens { begins step.now ≡ true → HasPlace step.now }
         ensures advanced { progress_of self.new ≡ advanced_progress (view_of self.old) (progress_of self.old) step.now }
@@ -182,12 +182,12 @@ impl<'a> Observer<'a> {
     /// Feeds the step of the expected count; all finished events are handed out.
     #[inline(always)]
     pub fn feed(&mut self, step: &Step)
-        requires expected { step.now.count ≡ expected_of self.old }
+        requires expected { step.now.count ≡ expected_count self.old }
         requires drained { remaining self.old ≡ [] }
         ensures fed { (steps : List AnyStep) (events : List AnyStamped) → Fed self.old steps events → Fed self.new (steps ++ step.now ∷ []) events }
         ensures view { view_of self.new ≡ view_of self.old }
         ensures arrivals { arrivals_of self.new ≡ arrivals_of self.old }
-        ensures expected { expected_of self.new ≡ expected_of self.old + 1 }
+        ensures expected { expected_count self.new ≡ expected_count self.old + 1 }
     {
         self.advance(step)
     }
@@ -263,14 +263,14 @@ impl<'a> Observer<'a> {
         ensures shorter { OnSome result (length (remaining self.new) < length (remaining self.old)) }
         ensures view { view_of self.new ≡ view_of self.old }
         ensures arrivals { arrivals_of self.new ≡ arrivals_of self.old }
-        ensures expected { expected_of self.new ≡ expected_of self.old }
+        ensures expected { expected_count self.new ≡ expected_count self.old }
     {
         self.pop()
     }
 }
 
-// How many arrivals at the front are of this moment or an earlier one.
-fn passing(coming: &[Arrival], count: u32) -> usize
+/// How many arrivals at the front are of this moment or an earlier one.
+pub fn passing(coming: &[Arrival], count: u32) -> usize
     ensures { result ≡ length (take_while (λ arrival. nat_le arrival.at count) coming.now) }
 {
     coming

@@ -1,5 +1,5 @@
 //! What the action and the start of an alarm lack, and what an attribute in their blocks says wrongly.
-ghost use Rattle.std.specs.Prelude.{◌≡◌, ◌&&◌, option_copied};
+ghost use Rattle.std.specs.Prelude.{◌≡◌, option_copied};
 ghost use Rattle.std.specs.List.{list_any};
 ghost use Rattle.oil_alarms.specs.AlarmFaults.{lacks_inner, place_behind, lacks_behind, lacks_part, lists_event, leaves_out, is_left_out, sets_event, is_unlisted, is_number_beyond, is_value_beyond, is_beyond};
 

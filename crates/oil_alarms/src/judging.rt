@@ -1,5 +1,5 @@
 //! The least fault in the blocks of alarms.
-ghost use Rattle.std.specs.Prelude.{◌≡◌, [], IfOk};
+ghost use Rattle.std.specs.Prelude.{[], IfOk};
 ghost use Rattle.least_fault.specs.Search.{Finds, Somewhere};
 ghost use Rattle.oil_alarms.specs.Blocks.{blocks_of};
 ghost use Rattle.oil_alarms.specs.Limits.{limits_of};

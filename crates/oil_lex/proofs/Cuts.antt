@@ -15,7 +15,7 @@ use Rattle.sloth_base.specs.declared.refusal.BuildError.TheVariants.{Refused, Me
 use Rattle.oil_lex.specs.declared.pieces.PieceKind.{PieceKind}
 use Rattle.oil_lex.specs.declared.pieces.PieceKind.TheVariants as kind
 use Rattle.oil_lex.specs.Bytes.{class_of}
-use Rattle.oil_lex.specs.Pieces.{IsPiece, is_one_blank, is_line_comment, is_block_comment, is_word, is_decimal, is_hexadecimal, is_text, is_sign, is_slash, is_stray, is_unclosed_comment, is_unclosed_text_lf, is_unclosed_text_end, Piece, Cut, BeginsWith}
+use Rattle.oil_lex.specs.Pieces.{IsPiece, is_one_blank, is_line_comment, is_block_comment, is_word, is_decimal, is_hexadecimal, is_text, is_sign, is_slash, is_stray, is_unclosed_comment, is_unclosed_text_lf, is_unclosed_text_end, Piece, IsCutInto, BeginsWith}
 use Rattle.oil_lex.specs.declared.kinds.Token.{Token}
 use Rattle.oil_lex.specs.declared.lexer.Cutter.{Cutter}
 use Rattle.oil_lex.specs.Tokens.{Lexeme, lexeme, tokens_of, lexemes_by, slice_at, tokens_by, tokens_at, FaultOf, FaultBy, meaning, line_ends, TextFault, AreTokens, AreSlices, IsNoFault}
@@ -54,24 +54,24 @@ piece_some (is_unclosed_text_lf a) = omega arith
 piece_some (is_unclosed_text_end a) = omega arith
 
 -- The end of the text has no piece.
-cut_end : (ps : List Piece) → Cut [] ps → ps ≡ []
+cut_end : (ps : List Piece) → IsCutInto [] ps → ps ≡ []
 cut_end [] c = refl
 cut_end (p ∷ ps) c = absurd (let s = piece_some c.2 in let e = ap length c.1 in omega (arith, s, e, length-append p.bytes c.0))
 
-pub cut_one : (ps qs : List Piece) (t : List ℕ) → Cut t ps → Cut t qs → ps ≡ qs
-cut_one [] qs t c d = sym (cut_end qs (subst (λ (x : List ℕ). Cut x qs) c d))
-cut_one (p ∷ ps) [] t c d = cut_end (p ∷ ps) (subst (λ (x : List ℕ). Cut x (p ∷ ps)) d c)
+pub cut_one : (ps qs : List Piece) (t : List ℕ) → IsCutInto t ps → IsCutInto t qs → ps ≡ qs
+cut_one [] qs t c d = sym (cut_end qs (subst (λ (x : List ℕ). IsCutInto x qs) c d))
+cut_one (p ∷ ps) [] t c d = cut_end (p ∷ ps) (subst (λ (x : List ℕ). IsCutInto x (p ∷ ps)) d c)
 cut_one (p ∷ ps) (q ∷ qs) t c d =
     let e = piece_one c.2 d.2 (sym c.1 ∙ d.1) in
     let head = same_piece p q e.0 e.1 in
-    let tail = cut_one ps qs d.0 (subst (λ (x : List ℕ). Cut x ps) e.2 c.3) d.3 in
+    let tail = cut_one ps qs d.0 (subst (λ (x : List ℕ). IsCutInto x ps) e.2 c.3) d.3 in
     cc
 
 -- A text has one list of tokens.
 pub tokens_one : (t : List ℕ) (ts us : List Lexeme) → AreTokens t ts → AreTokens t us → ts ≡ us
 tokens_one t ts us a b = a.2 ∙ (ap (tokens_of 1) (cut_one a.0 b.0 t a.1 b.1) ∙ sym b.2)
 
-cut_by : (n : ℕ) (t : List ℕ) → length t ≤ n → (ps : List Piece) × Cut t ps
+cut_by : (n : ℕ) (t : List ℕ) → length t ≤ n → (ps : List Piece) × IsCutInto t ps
 cut_by n [] h = ([], refl)
 cut_by zero (b ∷ t) h = absurd (omega arith)
 cut_by (suc n) (b ∷ t) h =
@@ -80,7 +80,7 @@ cut_by (suc n) (b ∷ t) h =
     let c = cut_by n (drop k.1 (b ∷ t)) (omega (arith, s.1, s.2, length-drop k.1 (b ∷ t))) in
     (record { kind = k.0; bytes = take k.1 (b ∷ t) } ∷ c.0, (drop k.1 (b ∷ t), sym (take-append-drop k.1 (b ∷ t)), s.0, c.1))
 
-pub cut_of : (t : List ℕ) → (ps : List Piece) × Cut t ps
+pub cut_of : (t : List ℕ) → (ps : List Piece) × IsCutInto t ps
 cut_of t = cut_by (length t) t (omega arith)
 
 -- A fault stands on the line where its pieces begin, or below.
@@ -97,7 +97,7 @@ o1_first : (n : ℕ) (s : Refusal) → n ≤ s.line → Precedes (record { part 
 o1_first n s h = elim (cases_lt n s.line) [ inl l ↦ inl l | inr g ↦ inr (omega arith, omega arith) ]
 
 -- Behind a line end the pieces begin on the next line.
-below_lf : (rest : List ℕ) (ps : List Piece) → Cut (10 ∷ rest) ps → (n : ℕ) (s : Refusal) → FaultOf n ps s → n < s.line
+below_lf : (rest : List ℕ) (ps : List Piece) → IsCutInto (10 ∷ rest) ps → (n : ℕ) (s : Refusal) → FaultOf n ps s → n < s.line
 unfolding class_of
 below_lf rest [] c n s f = absurd f
 below_lf rest (p ∷ ps) c n s f =
@@ -107,12 +107,12 @@ below_lf rest (p ∷ ps) c n s f =
     let g = subst (λ (x : Piece). FaultOf n (x ∷ ps) s) (sym (same_piece lf p e.0 e.1)) f in
     ⊎_elim (λ z. absurd z) (λ z. let h = fault_line ps (n + 1) s z in omega (arith, h)) g
 
-nothing_behind : (ps : List Piece) → Cut [] ps → (n : ℕ) (s : Refusal) → FaultOf n ps s → ⊥
+nothing_behind : (ps : List Piece) → IsCutInto [] ps → (n : ℕ) (s : Refusal) → FaultOf n ps s → ⊥
 nothing_behind ps c n s f = subst (λ (x : List Piece). FaultOf n x s) (cut_end ps c) f
 
 -- What stands behind a fault stands no earlier.
 after_fault : {k : PieceKind} {p b : List ℕ} → IsPiece k p b → (n : ℕ) (r : Refusal) → FaultBy (meaning k p) n r
-    → (ps : List Piece) → Cut b ps → (s : Refusal) → FaultOf (n + line_ends p) ps s → Precedes r s
+    → (ps : List Piece) → IsCutInto b ps → (s : Refusal) → FaultOf (n + line_ends p) ps s → Precedes r s
 after_fault (is_one_blank c) n r f ps cut s g = absurd f
 after_fault (is_line_comment a e) n r f ps cut s g = absurd f
 after_fault (is_block_comment w z) n r f ps cut s g = absurd f
@@ -133,12 +133,12 @@ after_fault (is_unclosed_text_end {w} a) n r f ps cut s g = absurd (nothing_behi
 -- the same faults.
 pub record Completed (text : Bor (List ℕ)) (ts : List Token) (n place : ℕ) (ps : List Piece) : Type 0 where
   pub pieces : List Piece
-  pub cut : Cut text.now pieces
+  pub cut : IsCutInto text.now pieces
   pub tokens : tokens_at text 1 0 pieces ≡ ts ++ tokens_at text n place ps
   pub faults : (r : Refusal) → FaultOf 1 pieces r ↔ FaultOf n ps r
 
 abbrev pub GoesOn : Bor (List ℕ) → ℕ → ℕ → List Token → Type 0
-GoesOn text n place ts = (ps : List Piece) → Cut (drop place text.now) ps → Completed text ts n place ps
+GoesOn text n place ts = (ps : List Piece) → IsCutInto (drop place text.now) ps → Completed text ts n place ps
 
 -- the tokens in memory are those that the grammar sees
 pub lexemes_at : (text : Bor (List ℕ)) (n place : ℕ) (ps : List Piece) → map lexeme (tokens_at text n place ps) ≡ tokens_of n ps
@@ -172,7 +172,7 @@ goes_further text n place ts k on s z = λ ps c.
     let p : Piece = record { kind = k.0; bytes = take k.1 rest } in
     let first = tokens_by (front_meaning k rest) n (slice_at text place (take k.1 rest)) in
     let later = λ (m : ℕ). tokens_at text (n + line_ends (take k.1 rest)) (place + m) ps in
-    let w = on (p ∷ ps) (drop k.1 rest, sym (take-append-drop k.1 rest), s.0, subst (λ (x : List ℕ). Cut x ps) (sym (drop-drop k.1 place text.now)) c) in
+    let w = on (p ∷ ps) (drop k.1 rest, sym (take-append-drop k.1 rest), s.0, subst (λ (x : List ℕ). IsCutInto x ps) (sym (drop-drop k.1 place text.now)) c) in
     record {
       pieces = w.pieces;
       cut = w.cut;
@@ -212,7 +212,7 @@ pub begun : (text : Bor (List ℕ)) (c : Cutter) → c.text ≡ text → c.place
 begun text c same p l e = (
   same,
   λ ps cut.
-      let whole : Cut text.now ps = subst (λ (i : ℕ). Cut (drop i text.now) ps) p cut in
+      let whole : IsCutInto text.now ps = subst (λ (i : ℕ). IsCutInto (drop i text.now) ps) p cut in
       record {
         pieces = ps;
         cut = whole;

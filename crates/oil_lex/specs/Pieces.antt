@@ -59,9 +59,9 @@ pub record Piece : Type 0 where
   pub bytes : List ℕ
 
 -- The whole text is cut into these pieces.
-abbrev pub Cut : List ℕ → List Piece → Type 0
-Cut text [] = text ≡ []
-Cut text (p ∷ ps) = (behind : List ℕ) × (text ≡ p.bytes ++ behind) × IsPiece p.kind p.bytes behind × Cut behind ps
+abbrev pub IsCutInto : List ℕ → List Piece → Type 0
+IsCutInto text [] = text ≡ []
+IsCutInto text (p ∷ ps) = (behind : List ℕ) × (text ≡ p.bytes ++ behind) × IsPiece p.kind p.bytes behind × IsCutInto behind ps
 
 -- Something stands at the front of a text: its kind, and its length.
 abbrev pub BeginsWith : List ℕ → PieceKind × ℕ → Type 0

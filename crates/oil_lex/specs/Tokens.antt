@@ -14,7 +14,7 @@ use Rattle.oil_lex.specs.declared.pieces.Meaning.TheVariants.{Nothing, IsToken, 
 use Rattle.oil_lex.specs.declared.pieces.PieceKind.{PieceKind}
 use Rattle.oil_lex.specs.declared.pieces.PieceKind.TheVariants as kind
 use Rattle.text_pieces.specs.Digits.{value_from, capped_value}
-use Rattle.oil_lex.specs.Pieces.{Piece, Cut}
+use Rattle.oil_lex.specs.Pieces.{Piece, IsCutInto}
 
 -- how many lines end in these bytes
 abbrev pub line_ends : List ℕ → ℕ
@@ -64,7 +64,7 @@ FaultOf n (p ∷ ps) r = FaultBy (meaning p.kind p.bytes) n r ⊎ FaultOf (n + l
 
 -- these are the tokens of the text
 abbrev pub AreTokens : List ℕ → List Lexeme → Type 0
-AreTokens t ts = (ps : List Piece) × Cut t ps × (ts ≡ tokens_of 1 ps)
+AreTokens t ts = (ps : List Piece) × IsCutInto t ps × (ts ≡ tokens_of 1 ps)
 
 -- the slice of a text in memory that begins at a place and has these bytes
 abbrev pub slice_at : Bor (List ℕ) → ℕ → List ℕ → Bor (List ℕ)
@@ -83,11 +83,11 @@ tokens_at text n place (p ∷ ps) =
 
 -- these are the tokens of the text, and the span of each is the slice of the text at its place
 abbrev pub AreSlices : Bor (List ℕ) → List Token → Type 0
-AreSlices text ts = (ps : List Piece) × Cut text.now ps × (ts ≡ tokens_at text 1 0 ps)
+AreSlices text ts = (ps : List Piece) × IsCutInto text.now ps × (ts ≡ tokens_at text 1 0 ps)
 
 -- a fault of the text
 abbrev pub TextFault : List ℕ → Refusal → Type 0
-TextFault t r = (ps : List Piece) × Cut t ps × FaultOf 1 ps r
+TextFault t r = (ps : List Piece) × IsCutInto t ps × FaultOf 1 ps r
 
 -- the piece is no fault
 abbrev pub IsNoFault : Meaning → Type 0

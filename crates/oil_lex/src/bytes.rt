@@ -1,6 +1,6 @@
 //! Bytes by their classes, and runs of bytes.
 
-ghost use Rattle.std.specs.Prelude.{◌≡◌, ◌<◌, ◌≤◌, length, IsTrue};
+ghost use Rattle.std.specs.Prelude.{◌≡◌, ◌≤◌, length, IsTrue};
 ghost use Rattle.std.specs.List.{prefix_len};
 ghost use Rattle.oil_lex.specs.Bytes.{class_of};
 ghost use Rattle.oil_lex.specs.Pieces.{begins_hex, is_comment_end};

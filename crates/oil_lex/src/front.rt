@@ -1,6 +1,6 @@
 //! The piece at the front of a text.
 
-ghost use Rattle.std.specs.Prelude.{◌≡◌, ◌+◌, ◌^◌, ◌<◌, length};
+ghost use Rattle.std.specs.Prelude.{◌≡◌, ◌^◌, ◌<◌, length};
 ghost use Rattle.oil_lex.specs.Pieces.{BeginsWith};
 ghost use Rattle.oil_lex.specs.Front.{comment_piece, text_piece, slash_piece, number_piece, front_piece};
 

@@ -1,9 +1,9 @@
 -- What holds of the first use of an attribute in a block of an alarm of a tree without a fault.
-use Rattle.std.proofs.Common.{◌≡◌, ◌∙◌, inl, inr, ℕ, ◌<◌, Bool, true, false, cond, Option, Some, List, [], length, take, get_or, refl, ap, sym, subst, arith}
-use Rattle.std.specs.Prelude.{◌||◌, ◌&&◌, ◌==◌, codes, find}
+use Rattle.std.proofs.Common.{◌≡◌, ◌∙◌, inl, inr, ℕ, ◌<◌, true, false, cond, Option, Some, List, [], length, take, get_or, ap, sym, subst}
+use Rattle.std.specs.Prelude.{◌==◌, codes, find}
 use Rattle.std.specs.Str.{bytes_eq}
 use Rattle.std.proofs.lemmas.Slice.Eq.{bytes_eq-Decides}
-use Rattle.std.proofs.lemmas.Bool.{not-false, and_parts, or_parts, eqb-true}
+use Rattle.std.proofs.lemmas.Bool.{not-false, and_parts, eqb-true}
 use Rattle.sloth_base.specs.declared.refusal.Code.TheVariants.{O10, O11, O12}
 use Rattle.sloth_base.specs.declared.refusal.Part.TheVariants.{Oil}
 use Rattle.least_fault.specs.Order.{NoFault}
@@ -26,7 +26,7 @@ use Rattle.oil_alarms.specs.ModelFaults.{ModelFault}
 use Rattle.oil_model.proofs.NoFaults.{part_at}
 use Rattle.oil_model.proofs.Lists.{IsFirst, first_of}
 use Rattle.oil_model.proofs.Attributes.{attribute_at}
-use Rattle.oil_model.proofs.InBlocks.{InFirst, in_first, IsBlock, is_block}
+use Rattle.oil_model.proofs.InBlocks.{InFirst, in_first, is_block}
 
 some_is : (a b : OilAttr) → Some a ≡ Some b → a ≡ b
 some_is a b e = cc

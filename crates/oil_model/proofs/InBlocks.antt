@@ -1,9 +1,9 @@
 -- The block behind the first use of an attribute, among all attributes of an object and among its blocks.
-use Rattle.std.proofs.Common.{◌≡◌, ◌∙◌, ℕ, ◌<◌, Bool, true, false, cond, Option, Some, List, [], ◌∷◌, length, take, get_or, suc, zero, refl, ap, sym, subst, arith}
-use Rattle.std.specs.Prelude.{◌&&◌, ◌==◌, not, fold, find}
+use Rattle.std.proofs.Common.{◌≡◌, ◌∙◌, ℕ, ◌<◌, Bool, true, false, cond, Some, List, [], ◌∷◌, length, take, get_or, suc, zero, refl, ap, sym, subst, arith}
+use Rattle.std.specs.Prelude.{◌==◌, not, fold, find}
 use Rattle.std.specs.List.{take_while}
 use Rattle.std.specs.Str.{bytes_eq}
-use Rattle.std.proofs.lemmas.Bool.{not-false, and_parts}
+use Rattle.std.proofs.lemmas.Bool.{and_parts}
 use Rattle.std.proofs.lemmas.List.Sums.{take_while-cons}
 use Rattle.oil_parse.specs.declared.tree.OilAttr.{OilAttr}
 use Rattle.oil_rules.specs.declared.table.Place.{Place}

@@ -1,9 +1,8 @@
 -- The alarms of a tree without a fault are in range.
-use Rattle.std.proofs.Common.{◌≡◌, ◌∙◌, ◌⊎◌, inl, inr, ⊎_elim, ℕ, ◌<◌, ◌≤◌, Bool, true, false, cond, Option, Some, None, List, [], ◌∷◌, length, take, get_or, refl, ap, sym, subst, arith}
-use Rattle.std.specs.Prelude.{◌||◌, ◌&&◌, ◌==◌, not, nat_lt, nat_le, bit_and, codes, All, find, map, filter, unwrap_or}
+use Rattle.std.proofs.Common.{◌≡◌, ◌∙◌, ◌⊎◌, inl, inr, ⊎_elim, ℕ, ◌<◌, ◌≤◌, Bool, true, false, cond, Option, Some, List, length, get_or, refl, ap, sym, subst, arith}
+use Rattle.std.specs.Prelude.{◌||◌, ◌&&◌, ◌==◌, not, nat_lt, bit_and, codes, find, filter, unwrap_or}
 use Rattle.std.specs.List.{list_any}
 use Rattle.std.specs.Str.{bytes_eq}
-use Rattle.std.specs.Int.{bit_at}
 use Rattle.std.proofs.lemmas.Bool.{leb-true, ltb-false, not-false, and_parts, or_parts, eqb-true}
 use Rattle.std.proofs.lemmas.List.{length-map, get_or-map, get_or_default}
 use Rattle.std.proofs.lemmas.Nat.Bits.{bit_at_and, same_from_bits}
@@ -13,7 +12,7 @@ use Rattle.sloth_base.specs.declared.config.Config.{Config}
 use Rattle.sloth_base.specs.declared.config.TaskDecl.{TaskDecl}
 use Rattle.sloth_base.specs.declared.config.CounterDecl.{CounterDecl}
 use Rattle.sloth_base.specs.declared.config.Action.TheVariants as action
-use Rattle.sloth_base.specs.Named.{declaration, undeclared, counter_declaration, undeclared_counter}
+use Rattle.sloth_base.specs.Named.{declaration, undeclared_task, counter_declaration, undeclared_counter}
 use Rattle.sloth_base.specs.ConfigRange.{IsAlarm, IsAction, IsCycle, no_event}
 use Rattle.least_fault.specs.Order.{NoFault}
 use Rattle.oil_parse.specs.declared.tree.OilValue.{OilValue}
@@ -29,21 +28,20 @@ use Rattle.oil_rules.specs.Table.{attribute_of, is_allowed, is_word, block_place
 use Rattle.oil_rules.specs.Objects.{is_of_kind, is_use, is_used, is_given, first_is, first_number, number_of, number_given, has_scheduler, names_of}
 use Rattle.oil_rules.specs.Events.{events_of, mask_named, mask_given, number_masks}
 use Rattle.oil_rules.specs.AttributeFaults.{misses_value}
-use Rattle.oil_rules.specs.ObjectFaults.{lacks_task_attribute, is_endless, is_idle}
+use Rattle.oil_rules.specs.ObjectFaults.{lacks_task_attribute, is_endless}
 use Rattle.oil_alarms.specs.declared.limits.Limits.{Limits}
-use Rattle.oil_alarms.specs.Limits.{object_named, limit_by, limits_given, limits_of}
+use Rattle.oil_alarms.specs.Limits.{object_named, limit_by, limits_given}
 use Rattle.oil_alarms.specs.Blocks.{first_block, is_inner_use, is_used_in, first_in, number_in}
-use Rattle.oil_alarms.specs.AlarmFaults.{lacks_inner, place_behind, lacks_behind, lists_event, leaves_out, is_left_out, sets_event, is_unlisted, is_number_beyond, is_value_beyond, is_beyond}
+use Rattle.oil_alarms.specs.AlarmFaults.{lacks_inner, place_behind, lacks_behind, lists_event, leaves_out, is_left_out, is_unlisted, is_value_beyond, is_beyond}
 use Rattle.oil_alarms.specs.ModelFaults.{ModelFault}
-use Rattle.oil_model.specs.Clocks.{declared_counter, counters_of, number_named, mask_of_value, mask_named_by, action_of, started, declared_alarm}
+use Rattle.oil_model.specs.Clocks.{declared_counter, number_named, mask_of_value, mask_named_by, action_of, started, declared_alarm}
 use Rattle.oil_model.specs.Configs.{resource_names, listed_mask, event_mask, declared_task, config_of}
 use Rattle.text_pieces.proofs.Tests.{All-kept}
-use Rattle.oil_model.proofs.NoFaults.{few_tasks}
 use Rattle.oil_model.proofs.Lists.{IsFirst, first_of}
 use Rattle.oil_model.proofs.Attributes.{allowed, refers}
-use Rattle.oil_model.proofs.AlarmParts.{attrs, limits, inner, behind, lacks_none, first_inner, allowed_inside, refers_inside, is_listed, is_inside}
+use Rattle.oil_model.proofs.AlarmParts.{attrs, limits, inner, lacks_none, first_inner, allowed_inside, refers_inside, is_listed, is_inside}
 use Rattle.oil_model.proofs.RangeCounters.{none_found, lacking, max_limit, cycle_limit}
-use Rattle.oil_model.proofs.RangeNamed.{IsNamed, counter_named, task_named, IsEventWord, event_named}
+use Rattle.oil_model.proofs.RangeNamed.{IsNamed, counter_named, task_named, event_named}
 use Rattle.oil_model.proofs.RangeExtended.{declared}
 use Rattle.oil_model.proofs.RangeUnions.{listed_within}
 use Rattle.oil_model.proofs.Unions.{Within}
@@ -430,7 +428,7 @@ module _ (tree : OilTree) (none : NoFault (ModelFault tree)) where
         ∙ ap (λ (o : Option OilObject). leaves_out o word.word) ((task_is place.Setting h).object d))
         ∙ behind_true (is_inner_use (codes "EVENT") g.item) (is_left_out tree.objects inner g.item.value) g.used g.lists in
         let own : declaration config k ≡ declared_task (resource_names tree.objects) events task =
-        get_or-map (declared_task (resource_names tree.objects) events) (filter (is_of_kind (codes "TASK")) tree.objects) k d undeclared (task_is place.Setting h).within in
+        get_or-map (declared_task (resource_names tree.objects) events) (filter (is_of_kind (codes "TASK")) tree.objects) k d undeclared_task (task_is place.Setting h).within in
         let event = is_event_of tree.objects word.word (sym (declared (number_masks tree.objects) tree.objects word.word) ∙ word.declared) in
         let set : IsAction config (action.Set k (mask_named events word.word)) = (
           task_within place.Setting h,

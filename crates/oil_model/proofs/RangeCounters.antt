@@ -1,8 +1,8 @@
 -- The counters of a tree without a fault are in range.
-use Rattle.std.proofs.Common.{◌≡◌, ◌∙◌, inl, inr, ℕ, ◌<◌, ◌≤◌, Bool, true, false, cond, Option, Some, None, List, [], ◌∷◌, length, take, get_or, refl, ap, sym, subst, arith}
-use Rattle.std.specs.Prelude.{◌||◌, ◌&&◌, not, nat_le, codes, find, unwrap_or}
+use Rattle.std.proofs.Common.{◌≡◌, ◌∙◌, inl, inr, ℕ, ◌<◌, ◌≤◌, Bool, true, false, cond, Some, None, List, [], ◌∷◌, length, get_or, refl, ap, sym, arith}
+use Rattle.std.specs.Prelude.{◌||◌, ◌&&◌, nat_le, codes, find, unwrap_or}
 use Rattle.std.specs.List.{list_any}
-use Rattle.std.proofs.lemmas.Bool.{leb-true, le-leb, not-false, and_parts, or_parts}
+use Rattle.std.proofs.lemmas.Bool.{leb-true, le-leb, and_parts}
 use Rattle.sloth_base.specs.ConfigRange.{IsCounter}
 use Rattle.sloth_base.specs.declared.refusal.Code.TheVariants.{O11}
 use Rattle.sloth_base.specs.declared.refusal.Part.TheVariants.{Oil}
@@ -16,12 +16,12 @@ use Rattle.oil_parse.specs.declared.tree.OilTree.{OilTree}
 use Rattle.oil_rules.specs.declared.table.Attribute.TheVariants.{Limit}
 use Rattle.oil_rules.specs.Table.{attribute_of, place_of, is_allowed, greatest_value}
 use Rattle.oil_rules.specs.Objects.{is_of_kind, is_use, is_used, first_number, number_of, number_given}
-use Rattle.oil_rules.specs.ObjectFaults.{lacks_task_attribute, is_endless, is_idle, lacks_attribute}
+use Rattle.oil_rules.specs.ObjectFaults.{lacks_attribute}
 use Rattle.oil_alarms.specs.Limits.{limit_by}
 use Rattle.oil_alarms.specs.ModelFaults.{ModelFault}
 use Rattle.oil_model.specs.Clocks.{declared_counter}
 use Rattle.oil_model.proofs.NoFaults.{inner_at}
-use Rattle.oil_model.proofs.Lists.{IsFirst, first_of}
+use Rattle.oil_model.proofs.Lists.{first_of}
 use Rattle.oil_model.proofs.Attributes.{allowed}
 
 -- where no element passes, none is found

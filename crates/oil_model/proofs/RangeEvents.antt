@@ -18,7 +18,7 @@ use Rattle.oil_parse.specs.declared.tree.OilTree.{OilTree}
 use Rattle.oil_rules.specs.declared.table.Attribute.TheVariants.{Mask}
 use Rattle.oil_rules.specs.Table.{is_allowed, is_word}
 use Rattle.oil_rules.specs.Objects.{is_of_kind, is_use, is_used, is_given, number_of, number_given}
-use Rattle.oil_rules.specs.Events.{bits, is_event, is_auto, number_mask, number_masks, free_bit, mask_by, taken_more, taken_before, lacks_bit, event_decls, events_of, BitFault}
+use Rattle.oil_rules.specs.Events.{bits, is_event, is_auto, number_mask, number_masks, free_bit, mask_by, taken_more, taken_bits_before, lacks_bit, event_decls, events_of, BitFault}
 use Rattle.oil_alarms.specs.ModelFaults.{ModelFault}
 use Rattle.least_fault.proofs.Nowhere.{nowhere, case_false}
 use Rattle.sloth_base.specs.declared.refusal.Part.TheVariants.{Oil}
@@ -69,10 +69,10 @@ number_positive (Number number) a w = leb-true 1 number a
 number_positive (Text bytes) a w = cc
 
 module _ (tree : OilTree) (none : NoFault (ModelFault tree)) where
-  finds_bit : (i : ℕ) (d : OilObject) → i < length tree.objects → lacks_bit (taken_before tree.objects (take i tree.objects)) (get_or tree.objects i d) ≡ false
+  finds_bit : (i : ℕ) (d : OilObject) → i < length tree.objects → lacks_bit (taken_bits_before tree.objects (take i tree.objects)) (get_or tree.objects i d) ≡ false
   finds_bit i d h =
       let o = get_or tree.objects i d in
-      case_false Oil (lacks_bit (taken_before tree.objects (take i tree.objects)) o) o.line O15 (nowhere (BitFault tree.objects) tree.objects (λ r f. none r (inl (inr (inl f)))) i d h)
+      case_false Oil (lacks_bit (taken_bits_before tree.objects (take i tree.objects)) o) o.line O15 (nowhere (BitFault tree.objects) tree.objects (λ r f. none r (inl (inr (inl f)))) i d h)
 
   number_mask_positive : (i : ℕ) (d : OilObject) → i < length tree.objects → is_event (get_or tree.objects i d) ≡ true → is_auto (get_or tree.objects i d) ≡ false
       → 0 < number_mask (get_or tree.objects i d)
@@ -93,7 +93,7 @@ module _ (tree : OilTree) (none : NoFault (ModelFault tree)) where
       second false b e = e
 
   pub mask_positive : (i : ℕ) (d : OilObject) → i < length tree.objects → is_event (get_or tree.objects i d) ≡ true
-      → 0 < mask_by (taken_before tree.objects (take i tree.objects)) (get_or tree.objects i d)
+      → 0 < mask_by (taken_bits_before tree.objects (take i tree.objects)) (get_or tree.objects i d)
   mask_positive i d h ev = by (is_auto (get_or tree.objects i d)) refl
     where
       lacking : (a b c : Bool) → a ≡ true → b ≡ true → (a && (b && c)) ≡ false → c ≡ false
@@ -101,13 +101,13 @@ module _ (tree : OilTree) (none : NoFault (ModelFault tree)) where
       lacking false b c p q e = cc
       lacking true false c p q e = cc
 
-      by : (b : Bool) → is_auto (get_or tree.objects i d) ≡ b → 0 < mask_by (taken_before tree.objects (take i tree.objects)) (get_or tree.objects i d)
-      by true t = rw t (free_positive (taken_before tree.objects (take i tree.objects))
+      by : (b : Bool) → is_auto (get_or tree.objects i d) ≡ b → 0 < mask_by (taken_bits_before tree.objects (take i tree.objects)) (get_or tree.objects i d)
+      by true t = rw t (free_positive (taken_bits_before tree.objects (take i tree.objects))
           (lacking (is_event (get_or tree.objects i d)) (is_auto (get_or tree.objects i d)) _ ev t (finds_bit i d h)))
       by false t = rw t (number_mask_positive i d h ev t)
 
   positive_from : (rest : List OilObject) (i : ℕ) → drop i tree.objects ≡ rest
-      → All (λ (e : EventDecl). 0 < e.mask) (event_decls (taken_before tree.objects (take i tree.objects)) rest)
+      → All (λ (e : EventDecl). 0 < e.mask) (event_decls (taken_bits_before tree.objects (take i tree.objects)) rest)
   positive_from [] i e = All-nil (λ (e : EventDecl). 0 < e.mask)
   positive_from (o ∷ rest) i e = by (positive_from rest (i + 1) behind) (is_event o) refl
     where
@@ -120,23 +120,23 @@ module _ (tree : OilTree) (none : NoFault (ModelFault tree)) where
       behind : drop (i + 1) tree.objects ≡ rest
       behind = rw add-one (tails_same (get_or tree.objects i o) o (drop (suc i) tree.objects) rest (sym (drop-cons tree.objects i o within) ∙ e))
 
-      more : taken_before tree.objects (take (i + 1) tree.objects) ≡ taken_more (taken_before tree.objects (take i tree.objects)) o
-      more = fold_more taken_more (number_masks tree.objects) tree.objects i o within ∙ ap (taken_more (taken_before tree.objects (take i tree.objects))) stands
+      more : taken_bits_before tree.objects (take (i + 1) tree.objects) ≡ taken_more (taken_bits_before tree.objects (take i tree.objects)) o
+      more = fold_more taken_more (number_masks tree.objects) tree.objects i o within ∙ ap (taken_more (taken_bits_before tree.objects (take i tree.objects))) stands
 
-      by : All (λ (e : EventDecl). 0 < e.mask) (event_decls (taken_before tree.objects (take (i + 1) tree.objects)) rest) → (b : Bool) → is_event o ≡ b
-          → All (λ (e : EventDecl). 0 < e.mask) (event_decls (taken_before tree.objects (take i tree.objects)) (o ∷ rest))
+      by : All (λ (e : EventDecl). 0 < e.mask) (event_decls (taken_bits_before tree.objects (take (i + 1) tree.objects)) rest) → (b : Bool) → is_event o ≡ b
+          → All (λ (e : EventDecl). 0 < e.mask) (event_decls (taken_bits_before tree.objects (take i tree.objects)) (o ∷ rest))
       by ih true t =
-          let T = taken_before tree.objects (take i tree.objects) in
+          let T = taken_bits_before tree.objects (take i tree.objects) in
           let m : 0 < mask_by T o = subst (λ (x : OilObject). 0 < mask_by T x) stands (mask_positive i o within (ap is_event stands ∙ t)) in
-          let next : taken_before tree.objects (take (i + 1) tree.objects) ≡ bit_or T (mask_by T o) = more ∙ ap (λ b. cond b (bit_or T (mask_by T o)) T) t in
+          let next : taken_bits_before tree.objects (take (i + 1) tree.objects) ≡ bit_or T (mask_by T o) = more ∙ ap (λ b. cond b (bit_or T (mask_by T o)) T) t in
           let D : EventDecl = record { name = o.name; mask = mask_by T o } in
           subst (λ b. All (λ (e : EventDecl). 0 < e.mask) (cond b (D ∷ event_decls (bit_or T (mask_by T o)) rest) (event_decls T rest))) (sym t)
           (All-cons (λ (e : EventDecl). 0 < e.mask) D (event_decls (bit_or T (mask_by T o)) rest) m
           (subst (λ n. All (λ (e : EventDecl). 0 < e.mask) (event_decls n rest)) next ih))
       by ih false t =
-          let T = taken_before tree.objects (take i tree.objects) in
+          let T = taken_bits_before tree.objects (take i tree.objects) in
           let D : EventDecl = record { name = o.name; mask = mask_by T o } in
-          let next : taken_before tree.objects (take (i + 1) tree.objects) ≡ T = more ∙ ap (λ b. cond b (bit_or T (mask_by T o)) T) t in
+          let next : taken_bits_before tree.objects (take (i + 1) tree.objects) ≡ T = more ∙ ap (λ b. cond b (bit_or T (mask_by T o)) T) t in
           subst (λ b. All (λ (e : EventDecl). 0 < e.mask) (cond b (D ∷ event_decls (bit_or T (mask_by T o)) rest) (event_decls T rest))) (sym t)
           (subst (λ n. All (λ (e : EventDecl). 0 < e.mask) (event_decls n rest)) next ih)
 

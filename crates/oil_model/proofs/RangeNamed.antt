@@ -1,6 +1,6 @@
 -- Objects that attributes name, and their numbers.
-use Rattle.std.proofs.Common.{◌≡◌, ◌∙◌, ℕ, ◌<◌, Bool, true, false, Option, Some, None, List, length, get_or, slice_get, refl, ap, sym, arith}
-use Rattle.std.specs.Prelude.{not, codes, find, position, filter, is_some, unwrap_or}
+use Rattle.std.proofs.Common.{◌≡◌, ◌∙◌, ℕ, ◌<◌, Bool, true, false, Option, Some, None, List, length, get_or, refl, ap, sym, arith}
+use Rattle.std.specs.Prelude.{codes, position, filter, is_some, unwrap_or}
 use Rattle.std.specs.Str.{bytes_eq}
 use Rattle.std.proofs.lemmas.Bool.{not-false}
 use Rattle.std.proofs.lemmas.Option.{slice_get-get_or}
@@ -11,7 +11,7 @@ use Rattle.oil_parse.specs.declared.tree.OilValue.TheVariants.{Word, Number, Tex
 use Rattle.oil_parse.specs.declared.tree.OilObject.{OilObject}
 use Rattle.oil_rules.specs.declared.table.Attribute.TheVariants.{Counter, ActionTask, ActionEvent}
 use Rattle.oil_rules.specs.Table.{is_allowed}
-use Rattle.oil_rules.specs.Objects.{is_of_kind, is_declaration, is_declared, names_of}
+use Rattle.oil_rules.specs.Objects.{is_of_kind, is_declared, names_of}
 use Rattle.oil_rules.specs.AttributeFaults.{misses_value}
 use Rattle.oil_rules.proofs.Names.{place_in, declared_at, numbered}
 use Rattle.oil_alarms.specs.Limits.{object_of_value}

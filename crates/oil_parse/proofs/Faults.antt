@@ -14,7 +14,7 @@ use Rattle.oil_parse.specs.declared.machine.Expect.TheVariants.{Start, Ending, D
 use Rattle.oil_parse.specs.Shapes.{shape}
 use Rattle.oil_parse.specs.declared.tree.OilTree.{OilTree}
 use Rattle.oil_parse.specs.Grammar.{IsSection, IsHead, IsFile, file}
-use Rattle.oil_parse.specs.Faults.{Viable, InCpu, is_too_big, last_line, EndFault, GrammarFault}
+use Rattle.oil_parse.specs.Faults.{IsViable, InCpu, IsTooBig, last_line, EndFault, GrammarFault}
 use Rattle.oil_parse.specs.Machine.{next, closed_construct, nothing_built}
 use Rattle.oil_parse.proofs.Steps.{step, TooBig, MachineFault}
 use Rattle.oil_parse.proofs.Steps.{none_done, step_append, step_none}
@@ -22,7 +22,7 @@ use Rattle.oil_parse.proofs.Sound.{file_read}
 use Rattle.oil_parse.proofs.Complete.{Takes, cpu_takes, file_takes}
 use Rattle.oil_parse.proofs.Finish.{finish}
 
-pub viable : (ts : List Lexeme) (e : Expect) → step (Some Start) ts ≡ Some e → Viable ts
+pub viable : (ts : List Lexeme) (e : Expect) → step (Some Start) ts ≡ Some e → IsViable ts
 viable ts e h =
     let f = finish e in
     let r = file_read (ts ++ f.0) (step_append (Some Start) ts f.0 ∙ (ap (λ o. step o f.0) h ∙ f.1)) in
@@ -35,7 +35,7 @@ some_step : (o : Option Expect) (more : List Lexeme) → step o more ≡ Some Do
 some_step None more h = absurd (none_done more h)
 some_step (Some e) more h = (e, refl)
 
-pub viable_step : (ts : List Lexeme) → Viable ts → (e : Expect) × (step (Some Start) ts ≡ Some e)
+pub viable_step : (ts : List Lexeme) → IsViable ts → (e : Expect) × (step (Some Start) ts ≡ Some e)
 viable_step ts v = some_step (step (Some Start) ts) v.0 (sym (step_append (Some Start) ts v.0) ∙ file_done (ts ++ v.0) v.1 v.2)
 
 -- the states behind the word CPU, that right behind it apart
@@ -151,11 +151,11 @@ after_file (file c n o z hs xs us f h s k w q a y g) front more e p t l =
 after_in_cpu : (front : List Lexeme) (e : Expect) → step (Some Start) front ≡ Some e → is_later e ≡ true → InCpu front
 after_in_cpu front e t l = let v = viable front e t in after_file v.2 front v.0 e refl t l
 
-too_big_is : (e : Expect) (x : Shape) (t : Lexeme) (r : Refusal) → TooBig e x t r → (is_later e ≡ true) × is_too_big x × (r ≡ record { part = Oil; line = t.line; code = code.O4 })
+too_big_is : (e : Expect) (x : Shape) (t : Lexeme) (r : Refusal) → TooBig e x t r → (is_later e ≡ true) × IsTooBig x × (r ≡ record { part = Oil; line = t.line; code = code.O4 })
 too_big_is (AttrValue d) (Number v) t r h = (refl, h.0, h.1)
 too_big_is _ _ t r h = absurd h
 
-too_big_to : (e : Expect) (x : Shape) (t : Lexeme) (r : Refusal) (e' : Expect) → is_after e ≡ true → is_too_big x → next e x ≡ Some e' → r ≡ record { part = Oil; line = t.line; code = code.O4 } → TooBig e x t r
+too_big_to : (e : Expect) (x : Shape) (t : Lexeme) (r : Refusal) (e' : Expect) → is_after e ≡ true → IsTooBig x → next e x ≡ Some e' → r ≡ record { part = Oil; line = t.line; code = code.O4 } → TooBig e x t r
 unfolding next
 too_big_to (AttrValue d) (Number v) t r e' a b h q = (b, q)
 too_big_to _ (Number v) t r e' a b h q = cc

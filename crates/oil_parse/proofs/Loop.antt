@@ -9,7 +9,7 @@ use Rattle.sloth_base.specs.declared.refusal.BuildError.TheVariants.{Refused, Me
 use Rattle.sloth_base.specs.declared.refusal.Part.TheVariants.{Oil}
 use Rattle.sloth_base.specs.declared.refusal.Code.TheVariants as code
 use Rattle.least_fault.specs.Order.{IsLeast, NoFault, ErrorIs}
-use Rattle.least_fault.specs.Search.{lesser, Kept}
+use Rattle.least_fault.specs.Search.{lesser, KeepsLeast}
 use Rattle.least_fault.proofs.Kept.{kept_on, kept_found, kept_none, kept_least, least_same}
 use Rattle.oil_lex.specs.declared.kinds.TokenKind.{TokenKind}
 use Rattle.oil_lex.specs.declared.kinds.TokenKind.TheVariants as token
@@ -28,9 +28,9 @@ use Rattle.oil_parse.specs.Shapes.{shape_by}
 use Rattle.oil_parse.specs.declared.tree.OilTree.{OilTree}
 use Rattle.oil_parse.specs.Grammar.{IsFile}
 use Rattle.oil_parse.specs.Faults.{GrammarFault}
-use Rattle.oil_parse.specs.Machine.{next, built_after, Built, nothing_built, too_big, TakesFit, expected_behind, behind}
+use Rattle.oil_parse.specs.Machine.{next, partial_tree_after, PartialTree, nothing_built, too_big, TakesFit, expectation_behind, behind}
 use Rattle.oil_parse.proofs.Steps.{step, build, TooBig, MachineFault}
-use Rattle.oil_parse.specs.Parser.{draft, Moved, Stopped}
+use Rattle.oil_parse.specs.Parser.{draft, Moved, StopsWith}
 use Rattle.oil_parse.proofs.Sound.{file_read}
 use Rattle.oil_parse.proofs.Complete.{file_takes}
 use Rattle.oil_parse.proofs.Faults.{FaultBy, same_faults}
@@ -42,7 +42,7 @@ Within _ i = Unit {0}
 
 -- Of all these tokens the parser has the rest to read.
 pub record Reads (all : List Lexeme) (p : Parser) (rest : List Lexeme) : Type 0 where
-  pub kept : Kept (MachineFault Start 1 all) (MachineFault p.expect p.last rest) p.least
+  pub kept : KeepsLeast (MachineFault Start 1 all) (MachineFault p.expect p.last rest) p.least
   pub steps : step (Some p.expect) rest ≡ step (Some Start) all
   pub builds : p.least ≡ None → build (Some p.expect) (draft p.draft) rest ≡ build (Some Start) nothing_built all
 
@@ -71,8 +71,8 @@ small_is (AttrValue d) (Number v) t r h f = let l = ltb-false 4294967295 v h in 
 small_is _ _ t r h f = f
 
 kept_next : (all : List Lexeme) (e e' : Expect) (n m : ℕ) (t : Lexeme) (rest : List Lexeme) (o : Option Refusal) (b : Bool) → too_big e (shape t) ≡ b → next e (shape t) ≡ Some e' → m ≡ t.line
-    → Kept (MachineFault Start 1 all) (MachineFault e n (t ∷ rest)) o
-    → Kept (MachineFault Start 1 all) (MachineFault e' m rest) (cond b (Some (lesser o (record { part = Oil; line = t.line; code = code.O4 }))) o)
+    → KeepsLeast (MachineFault Start 1 all) (MachineFault e n (t ∷ rest)) o
+    → KeepsLeast (MachineFault Start 1 all) (MachineFault e' m rest) (cond b (Some (lesser o (record { part = Oil; line = t.line; code = code.O4 }))) o)
 kept_next all e e' n m t rest o true h q l k =
     let g = goes_faults e e' n m t rest q l in
     let b = λ (r : Refusal). big_is e (shape t) t r h in
@@ -92,24 +92,24 @@ none_before false o m h = h
 
 pub reads_next : (all : List Lexeme) (p q : Parser) (t : Lexeme) (rest : List Lexeme) → Reads all p (t ∷ rest) → Moved p q t → Reads all q rest
 reads_next all p q t rest r m = record {
-  kept = subst (λ (o : Option Refusal). Kept (MachineFault Start 1 all) (MachineFault q.expect q.last rest) o) (sym m.least)
+  kept = subst (λ (o : Option Refusal). KeepsLeast (MachineFault Start 1 all) (MachineFault q.expect q.last rest) o) (sym m.least)
       (kept_next all p.expect q.expect p.last q.last t rest p.least (too_big p.expect (shape t)) refl m.goes m.last r.kept);
   steps = sym (ap (λ o. step o rest) m.goes) ∙ r.steps;
   builds = λ h.
       let n : p.least ≡ None = none_before (too_big p.expect (shape t)) p.least (lesser p.least (record { part = Oil; line = t.line; code = code.O4 })) (sym m.least ∙ h) in
-      ap (λ x. build (Some q.expect) x rest) (m.built h) ∙ (sym (ap (λ o. build o (built_after p.expect (shape t) t (draft p.draft)) rest) m.goes) ∙ r.builds n);
+      ap (λ x. build (Some q.expect) x rest) (m.built h) ∙ (sym (ap (λ o. build o (partial_tree_after p.expect (shape t) t (draft p.draft)) rest) m.goes) ∙ r.builds n);
 }
 
 to_grammar_least : (all : List Lexeme) (r : Refusal) → IsLeast (MachineFault Start 1 all) r → IsLeast (GrammarFault all) r
 to_grammar_least all r l = least_same (MachineFault Start 1 all) (GrammarFault all) (λ s. (same_faults all s).1) (λ s. (same_faults all s).0) r l
 
 -- one fault is left, and met
-last_fault : (all : List Lexeme) (G : Refusal → Type 0) (o : Option Refusal) (m : Refusal) → G m → ((r : Refusal) → G r → r ≡ m) → Kept (MachineFault Start 1 all) G o → IsLeast (GrammarFault all) (lesser o m)
+last_fault : (all : List Lexeme) (G : Refusal → Type 0) (o : Option Refusal) (m : Refusal) → G m → ((r : Refusal) → G r → r ≡ m) → KeepsLeast (MachineFault Start 1 all) G o → IsLeast (GrammarFault all) (lesser o m)
 last_fault all G o m g only k =
     to_grammar_least all (lesser o m) (kept_least (MachineFault Start 1 all) (λ r. ⊥) (lesser o m) (λ r f. f)
     (kept_found (MachineFault Start 1 all) G (λ r. ⊥) o m g (λ r f. inl (only r f)) (λ r f. absurd f) k))
 
-pub stuck : (all : List Lexeme) (p : Parser) (t : Lexeme) (rest : List Lexeme) → Reads all p (t ∷ rest) → (e : BuildError) → Stopped p t e → ErrorIs (GrammarFault all) e
+pub stuck : (all : List Lexeme) (p : Parser) (t : Lexeme) (rest : List Lexeme) → Reads all p (t ∷ rest) → (e : BuildError) → StopsWith p t e → ErrorIs (GrammarFault all) e
 stuck all p t rest k Memory s = tt
 stuck all p t rest k (Refused r) s =
     let m : Refusal = record { part = Oil; line = t.line; code = code.O5 } in
@@ -124,7 +124,7 @@ unfinished all p k n = last_fault all (MachineFault p.expect p.last []) p.least 
 pub refused : (all : List Lexeme) (p : Parser) (m : Refusal) → Reads all p [] → p.expect ≡ Done → p.least ≡ Some m → IsLeast (GrammarFault all) m
 refused all p m k d e =
     to_grammar_least all m (kept_least (MachineFault Start 1 all) (MachineFault p.expect p.last []) m (λ r f. f.0 d)
-    (subst (λ (o : Option Refusal). Kept (MachineFault Start 1 all) (MachineFault p.expect p.last []) o) e k.kept))
+    (subst (λ (o : Option Refusal). KeepsLeast (MachineFault Start 1 all) (MachineFault p.expect p.last []) o) e k.kept))
 
 pub whole : (all : List Lexeme) (p : Parser) → Reads all p [] → p.expect ≡ Done → p.least ≡ None
     → IsFile all (record { cpu_line = (draft p.draft).cpu_line; objects = (draft p.draft).objects }) × NoFault (GrammarFault all)
@@ -134,15 +134,15 @@ whole all p k d e =
     let b = file_takes f.1 nothing_built in
     let q : draft p.draft ≡ b.0 = k.builds e ∙ b.1.builds in
     let same : f.0 ≡ record { cpu_line = (draft p.draft).cpu_line; objects = (draft p.draft).objects } =
-    ap (λ (x : ℕ). record f.0 { cpu_line = x }) (sym b.2 ∙ ap (λ (x : Built). x.cpu_line) (sym q))
-    ∙ ap (λ x. record { cpu_line = (draft p.draft).cpu_line; objects = x }) (sym b.3 ∙ ap (λ (x : Built). x.objects) (sym q)) in (
+    ap (λ (x : ℕ). record f.0 { cpu_line = x }) (sym b.2 ∙ ap (λ (x : PartialTree). x.cpu_line) (sym q))
+    ∙ ap (λ x. record { cpu_line = (draft p.draft).cpu_line; objects = x }) (sym b.3 ∙ ap (λ (x : PartialTree). x.objects) (sym q)) in (
       subst (λ (x : OilTree). IsFile all x) same f.1,
       λ r g. kept_none (MachineFault Start 1 all) (MachineFault p.expect p.last []) (λ x h. h.0 d)
-          (subst (λ (o : Option Refusal). Kept (MachineFault Start 1 all) (MachineFault p.expect p.last []) o) e k.kept) r ((same_faults all r).0 g),
+          (subst (λ (o : Option Refusal). KeepsLeast (MachineFault Start 1 all) (MachineFault p.expect p.last []) o) e k.kept) r ((same_faults all r).0 g),
     )
 
 -- one more token, one more brace at most
-within_left : (n i : ℕ) → n ≤ i → Within (expected_behind n) (i + 1)
+within_left : (n i : ℕ) → n ≤ i → Within (expectation_behind n) (i + 1)
 within_left zero i h = tt
 within_left (suc n) i h = omega arith
 
@@ -196,7 +196,7 @@ tokens_at ts i d h = rw (add-one, drop-cons ts i d h) refl
 
 -- The same at the token i of a slice.
 pub stuck_at : (ts : List Token) (p : Parser) (i : ℕ) (d : Token) → i < length ts → Reads (map lexeme ts) p (map lexeme (drop i ts)) → (e : BuildError)
-    → Stopped p (lexeme (get_or ts i d)) e → ErrorIs (GrammarFault (map lexeme ts)) e
+    → StopsWith p (lexeme (get_or ts i d)) e → ErrorIs (GrammarFault (map lexeme ts)) e
 stuck_at ts p i d h r e s =
     stuck (map lexeme ts) p (lexeme (get_or ts i d)) (map lexeme (drop (i + 1) ts)) (subst (λ (x : List Lexeme). Reads (map lexeme ts) p x) (tokens_at ts i d h) r) e s
 

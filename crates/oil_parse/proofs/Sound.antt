@@ -15,7 +15,7 @@ use Rattle.oil_parse.specs.Shapes.{shape, IsWordToken}
 use Rattle.oil_parse.specs.declared.tree.OilObject.{OilObject}
 use Rattle.oil_parse.specs.declared.tree.OilTree.{OilTree}
 use Rattle.oil_parse.specs.Grammar.{IsValue, IsEnd, bare, described, IsAttrs, no_attr, attr, block, attr_of, IsObject, plain_object, block_object, IsObjects, no_object, object, IsBalanced, no_token, token_in, braces, IsSection, no_section, section, head, IsFile, file}
-use Rattle.oil_parse.specs.Machine.{next, behind, closed_construct, expected_behind}
+use Rattle.oil_parse.specs.Machine.{next, behind, closed_construct, expectation_behind}
 use Rattle.oil_parse.proofs.Steps.{step}
 use Rattle.oil_parse.proofs.Steps.{none_done}
 
@@ -201,7 +201,7 @@ objects_read zero (t ∷ ts) l h = absurd (omega arith)
 objects_read (suc m) (t ∷ ts) l h = objects_by m (objects_read m) t ts (shape t) refl (omega arith) h
 
 abbrev BalancedRead : ℕ → List Lexeme → Type 0
-BalancedRead n ts = (us : List Lexeme) × (c : Lexeme) × (rest : List Lexeme) × (ts ≡ us ++ c ∷ rest) × IsBalanced us × (shape c ≡ Close) × Accepts (expected_behind n) rest
+BalancedRead n ts = (us : List Lexeme) × (c : Lexeme) × (rest : List Lexeme) × (ts ≡ us ++ c ∷ rest) × IsBalanced us × (shape c ≡ Close) × Accepts (expectation_behind n) rest
 
 abbrev AllBalanced : ℕ → Type 0
 AllBalanced m = (n : ℕ) (us : List Lexeme) → length us ≤ m → Accepts (Inside n) us → BalancedRead n us

@@ -9,7 +9,7 @@ use Rattle.oil_parse.specs.declared.machine.Shape.TheVariants.{Number}
 use Rattle.oil_parse.specs.declared.machine.Expect.{Expect}
 use Rattle.oil_parse.specs.declared.machine.Expect.TheVariants.{AttrValue, Done}
 use Rattle.oil_parse.specs.Shapes.{shape}
-use Rattle.oil_parse.specs.Machine.{next, built_after, Built}
+use Rattle.oil_parse.specs.Machine.{next, partial_tree_after, PartialTree}
 
 -- what is to come behind these tokens
 abbrev pub step : Option Expect → List Lexeme → Option Expect
@@ -18,10 +18,10 @@ step None (t ∷ ts) = None
 step (Some e) (t ∷ ts) = step (next e (shape t)) ts
 
 -- what these tokens add
-abbrev pub build : Option Expect → Built → List Lexeme → Built
+abbrev pub build : Option Expect → PartialTree → List Lexeme → PartialTree
 build o b [] = b
 build None b (t ∷ ts) = b
-build (Some e) b (t ∷ ts) = build (next e (shape t)) (built_after e (shape t) t b) ts
+build (Some e) b (t ∷ ts) = build (next e (shape t)) (partial_tree_after e (shape t) t b) ts
 
 -- a value above the greatest number, as a fault
 abbrev pub TooBig : Expect → Shape → Lexeme → Refusal → Type 0

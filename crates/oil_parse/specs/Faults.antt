@@ -12,17 +12,17 @@ use Rattle.oil_parse.specs.Shapes.{shape}
 use Rattle.oil_parse.specs.Grammar.{IsSection, IsHead, IsFile}
 
 -- Some file begins so.
-abbrev pub Viable : List Lexeme → Type 0
-Viable ts = (more : List Lexeme) × (tree : OilTree) × IsFile (ts ++ more) tree
+abbrev pub IsViable : List Lexeme → Type 0
+IsViable ts = (more : List Lexeme) × (tree : OilTree) × IsFile (ts ++ more) tree
 
 -- The tokens go on behind the word CPU, so they have left the section IMPLEMENTATION.
 abbrev pub InCpu : List Lexeme → Type 0
 InCpu ts = (hs xs front : List Lexeme) × (c : Lexeme) × (ts ≡ hs ++ (xs ++ c ∷ front)) × IsHead hs × IsSection xs × (shape c ≡ Word Cpu)
 
 -- a number above 2^32 - 1
-abbrev pub is_too_big : Shape → Type 0
-is_too_big (Number n) = 4294967295 < n
-is_too_big _ = ⊥
+abbrev pub IsTooBig : Shape → Type 0
+IsTooBig (Number n) = 4294967295 < n
+IsTooBig _ = ⊥
 
 -- the line of the last token, or n
 abbrev pub last_line : ℕ → List Lexeme → ℕ
@@ -36,8 +36,8 @@ pub record NumberFault (ts : List Lexeme) (r : Refusal) : Type 0 where
   pub behind : List Lexeme
   pub place : ts ≡ before ++ at ∷ behind
   pub inside : InCpu before
-  pub allowed : Viable (before ++ at ∷ [])
-  pub too_big : is_too_big (shape at)
+  pub allowed : IsViable (before ++ at ∷ [])
+  pub too_big : IsTooBig (shape at)
   pub is : r ≡ record { part = Oil; line = at.line; code = code.O4 }
 
 -- The first token that the grammar does not allow there.
@@ -46,13 +46,13 @@ pub record TokenFault (ts : List Lexeme) (r : Refusal) : Type 0 where
   pub at : Lexeme
   pub behind : List Lexeme
   pub place : ts ≡ before ++ at ∷ behind
-  pub allowed : Viable before
-  pub refused : Viable (before ++ at ∷ []) → ⊥
+  pub allowed : IsViable before
+  pub refused : IsViable (before ++ at ∷ []) → ⊥
   pub is : r ≡ record { part = Oil; line = at.line; code = code.O5 }
 
 -- The tokens end before the grammar does.
 pub record EndFault (ts : List Lexeme) (r : Refusal) : Type 0 where
-  pub allowed : Viable ts
+  pub allowed : IsViable ts
   pub unfinished : (tree : OilTree) → IsFile ts tree → ⊥
   pub is : r ≡ record { part = Oil; line = last_line 1 ts; code = code.O6 }
 

@@ -33,9 +33,9 @@ closed_construct zero = Object
 closed_construct (suc d) = Attr d
 
 -- what comes behind a `}` in a section IMPLEMENTATION
-abbrev pub expected_behind : ℕ → Expect
-expected_behind zero = Ending Section
-expected_behind (suc n) = Inside n
+abbrev pub expectation_behind : ℕ → Expect
+expectation_behind zero = Ending Section
+expectation_behind (suc n) = Inside n
 
 -- what comes behind a token of this shape, if it may stand here
 unfoldable pub next : Expect → Shape → Option Expect
@@ -51,7 +51,7 @@ next Body (Word Cpu) = Some CpuName
 next SectionName (Word k) = Some SectionOpen
 next SectionOpen Open = Some (Inside 0)
 next (Inside n) Open = Some (Inside (suc n))
-next (Inside n) Close = Some (expected_behind n)
+next (Inside n) Close = Some (expectation_behind n)
 next (Inside n) (Word k) = Some (Inside n)
 next (Inside n) (Number v) = Some (Inside n)
 next (Inside n) Text = Some (Inside n)
@@ -80,12 +80,12 @@ next (AttrTail d) Semicolon = Some (Attrs d)
 next _ _ = None
 
 -- Fewer braces are open than a number of 64 bits counts.
-abbrev pub Shallow : Expect → Type 0
-Shallow (Inside n) = n + 1 < 18446744073709551616
-Shallow _ = Unit {0}
+abbrev pub IsShallow : Expect → Type 0
+IsShallow (Inside n) = n + 1 < 18446744073709551616
+IsShallow _ = Unit {0}
 
 -- What has been read so far: the objects, and the parts of the next.
-pub record Built : Type 0 where
+pub record PartialTree : Type 0 where
   pub cpu_line : ℕ
   pub objects : List OilObject
   pub kind : List ℕ
@@ -96,29 +96,29 @@ pub record Built : Type 0 where
   pub attr_line : ℕ
 
 -- the object is whole
-abbrev pub whole_object : Built → Built
+abbrev pub whole_object : PartialTree → PartialTree
 whole_object b = record b { objects = b.objects ++ record { kind = b.kind; name = b.name; line = b.line; attrs = b.attrs } ∷ []; attrs = [] }
 
 -- a construct is whole
-abbrev pub at_end : Construct → Built → Built
-at_end Object b = whole_object b
-at_end _ b = b
+abbrev pub whole_construct : Construct → PartialTree → PartialTree
+whole_construct Object b = whole_object b
+whole_construct _ b = b
 
 -- what is read so far behind a token that may stand there
-unfoldable pub built_after : Expect → Shape → Lexeme → Built → Built
-built_after Body x t b = record b { cpu_line = t.line }
-built_after CpuWord x t b = record b { cpu_line = t.line }
-built_after Objects (Word k) t b = record b { kind = t.bytes; line = t.line; attrs = [] }
-built_after ObjectName x t b = record b { name = t.bytes }
-built_after ObjectTail Semicolon t b = whole_object b
-built_after (Ending p) Semicolon t b = at_end p b
-built_after (Closing p) x t b = at_end p b
-built_after (Attrs d) (Word k) t b = record b { attr_name = t.bytes; attr_line = t.line }
-built_after (AttrValue d) x t b = record b { attrs = b.attrs ++ record { name = b.attr_name; value = value_by t.kind t.bytes; line = b.attr_line; depth = d } ∷ [] }
-built_after _ _ t b = b
+unfoldable pub partial_tree_after : Expect → Shape → Lexeme → PartialTree → PartialTree
+partial_tree_after Body x t b = record b { cpu_line = t.line }
+partial_tree_after CpuWord x t b = record b { cpu_line = t.line }
+partial_tree_after Objects (Word k) t b = record b { kind = t.bytes; line = t.line; attrs = [] }
+partial_tree_after ObjectName x t b = record b { name = t.bytes }
+partial_tree_after ObjectTail Semicolon t b = whole_object b
+partial_tree_after (Ending p) Semicolon t b = whole_construct p b
+partial_tree_after (Closing p) x t b = whole_construct p b
+partial_tree_after (Attrs d) (Word k) t b = record b { attr_name = t.bytes; attr_line = t.line }
+partial_tree_after (AttrValue d) x t b = record b { attrs = b.attrs ++ record { name = b.attr_name; value = value_by t.kind t.bytes; line = b.attr_line; depth = d } ∷ [] }
+partial_tree_after _ _ t b = b
 
 -- nothing has been read
-abbrev pub nothing_built : Built
+abbrev pub nothing_built : PartialTree
 nothing_built = record { cpu_line = 0; objects = []; kind = []; name = []; line = 0; attrs = []; attr_name = []; attr_line = 0 }
 
 -- a value above the greatest number
@@ -127,8 +127,8 @@ too_big (AttrValue d) (Number v) = nat_lt 4294967295 v
 too_big _ _ = false
 
 -- the least fault with that of a token
-abbrev pub least_after : Option Refusal → Expect → Shape → ℕ → Option Refusal
-least_after o e x n = if too_big e x then Some (lesser o (record { part = Oil; line = n; code = code.O4 })) else o
+abbrev pub least_fault_after : Option Refusal → Expect → Shape → ℕ → Option Refusal
+least_fault_after o e x n = if too_big e x then Some (lesser o (record { part = Oil; line = n; code = code.O4 })) else o
 
 -- a number is at most 4,294,967,295
 abbrev pub ValueFits : TokenKind → Type 0
@@ -141,5 +141,5 @@ TakesFit (AttrValue d) k = ValueFits k
 TakesFit _ k = Unit {0}
 
 -- an attribute more
-abbrev pub with_attr : Built → ℕ → TokenKind → List ℕ → Built
+abbrev pub with_attr : PartialTree → ℕ → TokenKind → List ℕ → PartialTree
 with_attr b d k bs = record b { attrs = b.attrs ++ record { name = b.attr_name; value = value_by k bs; line = b.attr_line; depth = d } ∷ [] }

@@ -9,10 +9,10 @@ use Rattle.oil_lex.specs.Tokens.{Lexeme}
 use Rattle.oil_parse.specs.declared.draft.Draft.{Draft}
 use Rattle.oil_parse.specs.declared.parser.Parser.{Parser}
 use Rattle.oil_parse.specs.Shapes.{shape}
-use Rattle.oil_parse.specs.Machine.{next, built_after, Built, least_after}
+use Rattle.oil_parse.specs.Machine.{next, partial_tree_after, PartialTree, least_fault_after}
 
 -- the draft without where it lies in memory
-abbrev pub draft : Draft → Built
+abbrev pub draft : Draft → PartialTree
 draft d = record {
   cpu_line = d.cpu_line;
   objects = d.objects.items;
@@ -28,10 +28,10 @@ draft d = record {
 pub record Moved (p q : Parser) (t : Lexeme) : Type 0 where
   pub goes : next p.expect (shape t) ≡ Some q.expect
   pub last : q.last ≡ t.line
-  pub least : q.least ≡ least_after p.least p.expect (shape t) t.line
-  pub built : q.least ≡ None → draft q.draft ≡ built_after p.expect (shape t) t (draft p.draft)
+  pub least : q.least ≡ least_fault_after p.least p.expect (shape t) t.line
+  pub built : q.least ≡ None → draft q.draft ≡ partial_tree_after p.expect (shape t) t (draft p.draft)
 
 -- The parser refuses a token, or memory is short.
-abbrev pub Stopped : Parser → Lexeme → BuildError → Type 0
-Stopped p t Memory = Unit {0}
-Stopped p t (Refused r) = (next p.expect (shape t) ≡ None) × (r ≡ lesser p.least (record { part = Oil; line = t.line; code = code.O5 }))
+abbrev pub StopsWith : Parser → Lexeme → BuildError → Type 0
+StopsWith p t Memory = Unit {0}
+StopsWith p t (Refused r) = (next p.expect (shape t) ≡ None) × (r ≡ lesser p.least (record { part = Oil; line = t.line; code = code.O5 }))

@@ -3,7 +3,7 @@
 ghost use Rattle.std.specs.Prelude.{◌≡◌, IfOk, OnOk};
 ghost use Rattle.oil_lex.specs.Tokens.{lexeme};
 ghost use Rattle.oil_parse.specs.Grammar.{value_by};
-ghost use Rattle.oil_parse.specs.Machine.{built_after, whole_object, nothing_built, ValueFits, TakesFit, with_attr};
+ghost use Rattle.oil_parse.specs.Machine.{partial_tree_after, whole_object, nothing_built, ValueFits, TakesFit, with_attr};
 ghost use Rattle.oil_parse.specs.Parser.{draft};
 
 use crate::machine::{Construct, Expect, Shape};
@@ -101,7 +101,7 @@ impl<'a> Draft<'a> {
     }
 
     /// Takes what a token adds where it stands.
-    #[tactic(auto, unfolding(crate::specs::Machine::built_after))]
+    #[tactic(auto, unfolding(crate::specs::Machine::partial_tree_after))]
     pub fn take(
         &mut self,
         alloc: Global,
@@ -110,7 +110,7 @@ impl<'a> Draft<'a> {
         token: &Token<'a>,
     ) -> Result<(), NoMemory>
         requires { TakesFit expect token.now.kind }
-        ensures { OnOk result (draft self.new ≡ built_after expect shape (lexeme token.now) (draft self.old)) }
+        ensures { OnOk result (draft self.new ≡ partial_tree_after expect shape (lexeme token.now) (draft self.old)) }
     {
         match (expect, shape) {
             (Expect::Body | Expect::CpuWord, _) => {

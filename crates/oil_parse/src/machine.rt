@@ -1,9 +1,9 @@
 //! What may come next: a machine that goes over the tokens one by one.
 
-ghost use Rattle.std.specs.Prelude.{◌≡◌, ◌+◌, ◌<◌, ◌↔◌, IsTrue};
+ghost use Rattle.std.specs.Prelude.{◌≡◌, ◌↔◌, IsTrue};
 ghost use Rattle.oil_lex.specs.Tokens.{lexeme};
 ghost use Rattle.oil_parse.specs.Shapes.{shape, key_of, sign_of};
-ghost use Rattle.oil_parse.specs.Machine.{next, behind, closed_construct, expected_behind, Shallow};
+ghost use Rattle.oil_parse.specs.Machine.{next, behind, closed_construct, expectation_behind, IsShallow};
 
 use oil_lex::{Token, TokenKind};
 
@@ -138,7 +138,7 @@ fn closed(depth: u32) -> Construct
 
 /// What comes behind a `}` in a section IMPLEMENTATION.
 fn left(count: usize) -> Expect
-    ensures { result ≡ expected_behind count }
+    ensures { result ≡ expectation_behind count }
 {
     if count == 0 {
         Expect::Ending(Construct::Section)
@@ -150,7 +150,7 @@ fn left(count: usize) -> Expect
 /// What comes behind a token of this shape, if it may stand here.
 #[tactic(auto, unfolding(crate::specs::Machine::next))]
 pub fn next(expect: Expect, shape: Shape) -> Option<Expect>
-    requires { Shallow expect }
+    requires { IsShallow expect }
     ensures { result ≡ next expect shape }
 {
     match (expect, shape) {

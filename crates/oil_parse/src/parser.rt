@@ -9,8 +9,8 @@ ghost use Rattle.oil_parse.specs.Grammar.{IsFile};
 ghost use Rattle.oil_parse.specs.Faults.{GrammarFault};
 ghost use Rattle.oil_parse.specs.Text.{HasTree, BreaksGrammar};
 ghost use Rattle.oil_parse.specs.Words.{IsObjectOfWords};
-ghost use Rattle.oil_parse.specs.Machine.{too_big, Shallow};
-ghost use Rattle.oil_parse.specs.Parser.{Moved, Stopped};
+ghost use Rattle.oil_parse.specs.Machine.{too_big, IsShallow};
+ghost use Rattle.oil_parse.specs.Parser.{Moved, StopsWith};
 
 use crate::draft::Draft;
 use crate::machine::{Expect, Shape, next, shape_of};
@@ -53,9 +53,9 @@ fn too_big(expect: Expect, shape: Shape) -> bool
 impl<'a> Parser<'a> {
     /// Reads a token, or refuses it.
     fn read(&mut self, alloc: Global, token: &Token<'a>) -> Result<(), BuildError>
-        requires { Shallow self.old.expect }
+        requires { IsShallow self.old.expect }
         ensures moved { OnOk result (Moved self.old self.new (lexeme token.now)) }
-        ensures stopped { IfErr result (λ error. Stopped self.old (lexeme token.now) error) }
+        ensures stopped { IfErr result (λ error. StopsWith self.old (lexeme token.now) error) }
     {
         let shape = shape_of(token);
         let line = token.line;

@@ -48,8 +48,8 @@ abbrev pub taken_more : ℕ → OilObject → ℕ
 taken_more taken object = if is_event object then bit_or taken (mask_by taken object) else taken
 
 -- the bits that are taken for an event behind these objects
-abbrev pub taken_before : List OilObject → List OilObject → ℕ
-taken_before objects front = fold taken_more (number_masks objects) front
+abbrev pub taken_bits_before : List OilObject → List OilObject → ℕ
+taken_bits_before objects front = fold taken_more (number_masks objects) front
 
 -- an EVENT object is to get a bit, and none is free
 abbrev pub lacks_bit : ℕ → OilObject → Bool
@@ -57,7 +57,7 @@ lacks_bit taken object = is_event object && (is_auto object && is_none (free_bit
 
 -- O15: an AUTO event finds no free bit
 abbrev pub BitFault : List OilObject → List OilObject → OilObject → Refusal → Type 0
-BitFault objects front object r = Case (lacks_bit (taken_before objects front) object) object.line O15 r
+BitFault objects front object r = Case (lacks_bit (taken_bits_before objects front) object) object.line O15 r
 
 -- the declarations of the events among these objects, where these bits are taken
 abbrev pub event_decls : ℕ → List OilObject → List EventDecl

@@ -8,7 +8,7 @@ use Rattle.oil_rules.specs.Objects.{is_use}
 use Rattle.oil_rules.specs.TaskFaults.{is_event_clash}
 
 -- the attributes of a task before one, and the events of the tree
-pub record Referring : Type 0 where
+pub record ReferenceContext : Type 0 where
   pub events : List EventDecl
   pub attrs : List OilAttr
 

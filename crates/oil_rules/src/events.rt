@@ -1,6 +1,6 @@
 //! Events and their masks. AUTO events, in the order of their objects, take the lowest bit that is in no number mask and was given
 //! to no earlier AUTO event (OIL 2.5, section 3.2.6).
-ghost use Rattle.std.specs.Prelude.{◌≡◌, ◌<◌, All, IfOk, find};
+ghost use Rattle.std.specs.Prelude.{◌≡◌, ◌<◌, All, IfOk};
 ghost use Rattle.least_fault.specs.Search.{Finds, Somewhere};
 ghost use Rattle.oil_rules.specs.Events.{is_event, number_bits, number_masks, free_bit, is_auto, mask_by, taken_more, number_mask, lacks_bit, BitFault, events_of};
 

@@ -2,7 +2,7 @@
 ghost use Rattle.std.specs.Prelude.{◌≡◌, ◌||◌, ◌==◌, bit_and, [], ◌∷◌, ◌++◌, IfOk, option_copied};
 ghost use Rattle.std.specs.List.{list_any};
 ghost use Rattle.oil_rules.specs.TaskFaults.{shares_bit};
-ghost use Rattle.oil_rules.specs.References.{Referring, event_word, refers_to_clash};
+ghost use Rattle.oil_rules.specs.References.{ReferenceContext, event_word, refers_to_clash};
 ghost use Rattle.oil_rules.specs.KeptReferences.{is_to, is_clash};
 
 use crate::event_table::EventTable;
@@ -35,9 +35,9 @@ pub struct References<'t> {
 }
 
 impl<'t> Model for References<'t> {
-    ghost use Rattle.oil_rules.specs.References.{Referring};
+    ghost use Rattle.oil_rules.specs.References.{ReferenceContext};
 
-    ghost Value = { Referring };
+    ghost Value = { ReferenceContext };
 
     ghost use Rattle.oil_rules.specs.KeptReferences.{AreKept};
 

@@ -15,7 +15,7 @@ use Rattle.osek_scheduler.specs.Priority.{is_in, IsTop}
 use Rattle.osek_scheduler.specs.Services.{activated_state, started_task, Outcome, GoesOn, Leaves, IsAfter}
 use Rattle.osek_scheduler.specs.Steps.{admitted_state, ServesCall, OsekStep}
 use Rattle.osek_scheduler.specs.Runs.{Leads}
-use Rattle.osek_valid.specs.Apart.{IsActive, Apart}
+use Rattle.osek_valid.specs.Apart.{IsActive, TasksAreApart}
 use Rattle.osek_valid.proofs.Apart.{Same, Acts, boot_calm, admit_calm, tick_calm, enter_acts, run_acts, call_acts, left_acts, back_acts, step_apart, opening_apart}
 use Rattle.osek_valid.proofs.Steps.{length-autostarted, autostarted_at}
 use Rattle.osek_scheduler.proofs.Outcomes.{by_suspended}
@@ -28,7 +28,7 @@ IsReady s u = (task s u).state ≡ mode.Ready
 -- what every event keeps: a record for each task of the configuration, and the order of the tasks that were entered
 pub record Ordered (config : Config) (s : System) : Type 0 where
   pub count : length s.tasks ≡ length config.tasks
-  pub apart : Apart config s
+  pub apart : TasksAreApart config s
 
 -- the same where the data change, or what is fresh
 settled_stays : (t : ℕ) (s a b : System) → Stays t s a → b.tasks ≡ a.tasks → Stays t s b

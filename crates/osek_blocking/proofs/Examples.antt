@@ -14,7 +14,7 @@ use Rattle.osek_scheduler.specs.Next.{system_after, is_ready}
 use Rattle.osek_scheduler.proofs.Examples.{full, system, body, code, serve, accepts}
 use Rattle.osek_scheduler.proofs.Next.{step_of}
 use Rattle.osek_valid.specs.Apart.{priority_of, static_priority}
-use Rattle.osek_blocking.specs.Blocking.{up_to_entry, IsRaisedTo, FindsFresh, IsBlockedBy, BlocksOnce}
+use Rattle.osek_blocking.specs.Blocking.{events_up_to_entry, IsRaisedTo, FindsFresh, IsBlockedBy, BlocksOnce}
 use Rattle.osek_blocking.specs.Protocol.{GetsResource}
 
 -- ---- two tasks that share resource 0: Low, 0, which starts by itself, and High, 1
@@ -87,12 +87,12 @@ taking-low_is_raised = refl
 
 -- ---- the events up to an entry
 
-up_to_it : up_to_entry 1 (stamped (event.Enter 0) ∷ stamped (event.Run 0 0 2 1) ∷ stamped (event.Enter 1) ∷ stamped (event.Left 1 service.TerminateTask) ∷ []) ≡ stamped (event.Enter 0) ∷ stamped (event.Run 0 0 2 1) ∷ []
+up_to_it : events_up_to_entry 1 (stamped (event.Enter 0) ∷ stamped (event.Run 0 0 2 1) ∷ stamped (event.Enter 1) ∷ stamped (event.Left 1 service.TerminateTask) ∷ []) ≡ stamped (event.Enter 0) ∷ stamped (event.Run 0 0 2 1) ∷ []
 up_to_it = refl
 
 -- ---- what the definition says of a run: whoever blocks High is Low
 
-low_blocks : (b : ℕ) → IsBlockedBy two two_app 1 (after two two_app holding) (up_to_entry 1 (stamped (event.Run 0 0 2 1) ∷ stamped (event.Enter 1) ∷ [])) b → 0 ≡ b
+low_blocks : (b : ℕ) → IsBlockedBy two two_app 1 (after two two_app holding) (events_up_to_entry 1 (stamped (event.Run 0 0 2 1) ∷ stamped (event.Enter 1) ∷ [])) b → 0 ≡ b
 low_blocks b h = h.of_one [] [] (stamped (event.Run 0 0 2 1)) 0 refl (record { works = refl; lower = omega arith })
 
 -- ---- lists that are no run
@@ -101,7 +101,7 @@ low_blocks b h = h.of_one [] [] (stamped (event.Run 0 0 2 1)) 0 refl (record { w
 abbrev running_on : List Event
 running_on = event.Run 0 0 2 1 ∷ []
 
-running_on-nobody_may : (b : ℕ) → ¬ (IsBlockedBy two two_app 1 (after two two_app passing) (up_to_entry 1 (map stamped running_on)) b)
+running_on-nobody_may : (b : ℕ) → ¬ (IsBlockedBy two two_app 1 (after two two_app passing) (events_up_to_entry 1 (map stamped running_on)) b)
 running_on-nobody_may b h =
     refuses (h.raised [] [] (stamped (event.Run 0 0 2 1)) 0 (after two two_app passing) refl (record { works = refl; lower = omega arith }) refl)
   where
@@ -135,7 +135,7 @@ both_run = event.Run 0 0 0 1 ∷ event.Run 1 1 0 1 ∷ event.Enter 2 ∷ []
 both_run-is_no_run : accepts three three_app (event.Boot ∷ event.Admit 2 ∷ both_run) ≡ false
 both_run-is_no_run = refl
 
-both_run-nobody_may : (s : System) (b : ℕ) → ¬ (IsBlockedBy three three_app 2 s (up_to_entry 2 (map stamped both_run)) b)
+both_run-nobody_may : (s : System) (b : ℕ) → ¬ (IsBlockedBy three three_app 2 s (events_up_to_entry 2 (map stamped both_run)) b)
 both_run-nobody_may s b h =
     refuses (h.of_one [] (stamped (event.Run 1 1 0 1) ∷ []) (stamped (event.Run 0 0 0 1)) 0 refl (record { works = refl; lower = omega arith }))
     (h.of_one (stamped (event.Run 0 0 0 1) ∷ []) [] (stamped (event.Run 1 1 0 1)) 1 refl (record { works = refl; lower = omega arith }))

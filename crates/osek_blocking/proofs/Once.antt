@@ -19,7 +19,7 @@ use Rattle.osek_scheduler.proofs.Leading.{follows_leads, leads-parts, one_step, 
 use Rattle.osek_scheduler.proofs.Tests.{Decides-is_active, Decides-leb}
 use Rattle.osek_valid.specs.Apart.{priority_of, static_priority, IsActive, IsOver}
 use Rattle.osek_valid.proofs.Apart.{Same, rank_active, rank_ready}
-use Rattle.osek_blocking.specs.Blocking.{is_entry_of, up_to_entry, IsOfLower, IsRaisedTo, FindsFresh, IsBlockedBy, BlocksOnce}
+use Rattle.osek_blocking.specs.Blocking.{is_entry_of, events_up_to_entry, IsOfLower, IsRaisedTo, FindsFresh, IsBlockedBy, BlocksOnce}
 use Rattle.osek_blocking.proofs.Effects.{IsReady, Ordered, Moves, Enters, Works, Calls, Effect, effect, step_ordered, opening_ordered, leads_ordered}
 
 -- ---- lists
@@ -298,13 +298,13 @@ module _ (config : Config) (app : App) (h : ℕ) (declared : h < length config.t
   onward next e b further P (inl g) first second = subst P (sym g.1.1) (first g.0 g.1.0)
   onward next e b further P (inr g) first second = second (behind_event config h e b further) g.0 g.1
 
-  opened : (e : Stamped) (events front rest : List Stamped) (x : Stamped) → up_to_entry h (e ∷ events) ≡ front ++ x ∷ rest
-      → (is_entry_of h e.event ≡ false) × (e ∷ up_to_entry h events ≡ front ++ x ∷ rest)
+  opened : (e : Stamped) (events front rest : List Stamped) (x : Stamped) → events_up_to_entry h (e ∷ events) ≡ front ++ x ∷ rest
+      → (is_entry_of h e.event ≡ false) × (e ∷ events_up_to_entry h events ≡ front ++ x ∷ rest)
   opened e events front rest x is = by (is_entry_of h e.event) refl
     where
-      by : (c : Bool) → is_entry_of h e.event ≡ c → (is_entry_of h e.event ≡ false) × (e ∷ up_to_entry h events ≡ front ++ x ∷ rest)
-      by true c = absurd (no_end front x rest (sym (cond-true _ [] (e ∷ up_to_entry h events) c) ∙ is))
-      by false c = (c, sym (cond-false _ [] (e ∷ up_to_entry h events) c) ∙ is)
+      by : (c : Bool) → is_entry_of h e.event ≡ c → (is_entry_of h e.event ≡ false) × (e ∷ events_up_to_entry h events ≡ front ++ x ∷ rest)
+      by true c = absurd (no_end front x rest (sym (cond-true _ [] (e ∷ events_up_to_entry h events) c) ∙ is))
+      by false c = (c, sym (cond-false _ [] (e ∷ events_up_to_entry h events) c) ∙ is)
 
   -- the state that the event behind `front` finds, and what is said of the event
   record Found (s : System) (front : List Stamped) (e : Event) (u b : ℕ) : Type 0 where
@@ -318,7 +318,7 @@ module _ (config : Config) (app : App) (h : ℕ) (declared : h < length config.t
   further_on y front e s next u b step f = record { found = f.found; leads = (next, step, f.leads); of = f.of; raised = f.raised }
 
   late : (events front rest : List Stamped) (x : Stamped) (s end : System) (u b : ℕ) → Ordered config s → IsReady s h
-      → is_in h s.fresh ≡ false → BlocksAlone config h s b → Leads config app events s end → up_to_entry h events ≡ front ++ x ∷ rest
+      → is_in h s.fresh ≡ false → BlocksAlone config h s b → Leads config app events s end → events_up_to_entry h events ≡ front ++ x ∷ rest
       → IsOfLower config h x.event u → Found s front x.event u b
   late [] front rest x s end u b o ready out alone leads is lower = absurd (no_end front x rest is)
   late (e ∷ events) [] rest x s end u b o ready out alone leads is lower =
@@ -337,7 +337,7 @@ module _ (config : Config) (app : App) (h : ℕ) (declared : h < length config.t
       (stays_out s next ready e.event f out) (λ v k. alone v (old s next ready e.event f out v k)) leads.2 p.1 lower)
 
   early : (events front rest : List Stamped) (x : Stamped) (s end : System) (u b : ℕ) → Ordered config s → IsReady s h
-      → is_in h s.fresh ≡ true → BlocksAlone config h s b → Leads config app events s end → up_to_entry h events ≡ front ++ x ∷ rest
+      → is_in h s.fresh ≡ true → BlocksAlone config h s b → Leads config app events s end → events_up_to_entry h events ≡ front ++ x ∷ rest
       → IsOfLower config h x.event u → Found s front x.event u (behind_all config h events b)
   early [] front rest x s end u b o ready fresh alone leads is lower = absurd (no_end front x rest is)
   early (e ∷ events) [] rest x s end u b o ready fresh alone leads is lower =
@@ -373,7 +373,7 @@ module _ (config : Config) (app : App) (h : ℕ) (declared : h < length config.t
   }
 
   once : (events : List Stamped) (s end : System) → Ordered config s → IsReady s h → Leads config app events s end
-      → (b : ℕ) × IsBlockedBy config app h s (up_to_entry h events) b
+      → (b : ℕ) × IsBlockedBy config app h s (events_up_to_entry h events) b
   once events s end o ready leads = by (cases_Bool (is_in h s.fresh))
     where
       b : ℕ
@@ -382,13 +382,13 @@ module _ (config : Config) (app : App) (h : ℕ) (declared : h < length config.t
       alone : BlocksAlone config h s b
       alone = (blocker config h s o).1
 
-      by : (is_in h s.fresh ≡ true) ⊎ (is_in h s.fresh ≡ false) → (b : ℕ) × IsBlockedBy config app h s (up_to_entry h events) b
+      by : (is_in h s.fresh ≡ true) ⊎ (is_in h s.fresh ≡ false) → (b : ℕ) × IsBlockedBy config app h s (events_up_to_entry h events) b
       by (inl fresh) = (
         behind_all config h events b,
-        blocked_by (up_to_entry h events) s (behind_all config h events b)
+        blocked_by (events_up_to_entry h events) s (behind_all config h events b)
             (λ front rest e u is lower. early events front rest e s end u b o ready fresh alone leads is lower),
       )
-      by (inr out) = (b, blocked_by (up_to_entry h events) s b (λ front rest e u is lower. late events front rest e s end u b o ready out alone leads is lower))
+      by (inr out) = (b, blocked_by (events_up_to_entry h events) s b (λ front rest e u is lower. late events front rest e s end u b o ready out alone leads is lower))
 
 -- ---- runs
 

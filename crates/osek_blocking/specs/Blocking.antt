@@ -1,5 +1,5 @@
 -- Blocking: which events of lower tasks stand between the one that makes a task Ready and its entry (OSEK OS 2.2.3, section 8).
-use Rattle.std.specs.Prelude.{ℕ, ◌<◌, ◌≤◌, ◌≡◌, ◌⊎◌, List, [], ◌∷◌, ◌++◌, Bool, true, false, cond, length, Option, Some, None}
+use Rattle.std.specs.Prelude.{ℕ, ◌<◌, ◌≤◌, ◌≡◌, ◌⊎◌, List, [], ◌∷◌, ◌++◌, Bool, true, cond, length, Some}
 use Rattle.sloth_base.specs.declared.config.Config.{Config}
 use Rattle.sloth_base.specs.declared.app.App.{App}
 use Rattle.sloth_base.specs.declared.event.Event.{Event}
@@ -21,9 +21,9 @@ abbrev pub is_entry_of : (h : ℕ) → Event → Bool
 is_entry_of h e = is_number h (entered_task e)
 
 -- the events in front of the first `enter` of task h, or all where there is none
-abbrev pub up_to_entry : (h : ℕ) → List Stamped → List Stamped
-up_to_entry h [] = []
-up_to_entry h (e ∷ events) = cond (is_entry_of h e.event) [] (e ∷ up_to_entry h events)
+abbrev pub events_up_to_entry : (h : ℕ) → List Stamped → List Stamped
+events_up_to_entry h [] = []
+events_up_to_entry h (e ∷ events) = cond (is_entry_of h e.event) [] (e ∷ events_up_to_entry h events)
 
 -- the event makes task h Ready, which was not Ready before it
 pub record MakesReady (config : Config) (app : App) (h : ℕ) (made : Event) (found next : System) : Type 0 where
@@ -59,4 +59,4 @@ abbrev pub BlocksOnce : Config → App → List Stamped → Type 0
 BlocksOnce config app events =
     (before behind : List Stamped) (made : Stamped) (h : ℕ) (found s : System) → events ≡ before ++ made ∷ behind
     → Leads config app before (opening config app) found → MakesReady config app h made.event found s
-    → (b : ℕ) × IsBlockedBy config app h s (up_to_entry h behind) b
+    → (b : ℕ) × IsBlockedBy config app h s (events_up_to_entry h behind) b

@@ -17,25 +17,25 @@ use Rattle.sloth_base.specs.declared.app.Op.TheVariants as op
 use Rattle.sloth_base.specs.declared.event.Event.TheVariants as event
 use Rattle.sloth_base.specs.declared.service.Service.{Service}
 use Rattle.sloth_base.specs.declared.service.Service.TheVariants as service
-use Rattle.sloth_base.specs.Named.{function, missing, no_item, declaration, body_of}
+use Rattle.sloth_base.specs.Named.{function, no_function, no_item, declaration, body_of}
 use Rattle.osek_scheduler.specs.declared.state.TaskState.{TaskState}
 use Rattle.osek_scheduler.specs.declared.state.TaskState.TheVariants as mode
 use Rattle.osek_scheduler.specs.State.{Frame, Task, System, sleeping_task, task, with_task}
 use Rattle.osek_scheduler.specs.Priority.{is_active}
-use Rattle.osek_scheduler.specs.Meaning.{Meant, execution, accessed_bytes, loaded_word, bytes_after_store, register, going_on, write_meaning, is_own, registers_of, on_some, if_true}
+use Rattle.osek_scheduler.specs.Meaning.{ItemMeaning, execution, accessed_bytes, loaded_word, bytes_after_store, register, going_on_frame, write_meaning, is_own, registers_of, on_some, if_true}
 use Rattle.osek_scheduler.specs.Services.{if_suspended, is_there, woken_state, with_events, set_events, Outcome, started_task}
-use Rattle.osek_scheduler.specs.Outcomes.{shown, Decision, Does, IfSuspended, If, plan_in, outcome_of, OnPlans, decision, outcome}
+use Rattle.osek_scheduler.specs.Outcomes.{shown_outcome, Decision, Does, IfSuspended, If, plan_in, outcome_of, OnPlans, decision, outcome}
 use Rattle.osek_scheduler.specs.Outcomes as one_by_one
 use Rattle.osek_scheduler.proofs.Outcomes.{on_tested}
 use Rattle.osek_scheduler.specs.declared.change.TaskChange.{TaskChange}
 use Rattle.osek_scheduler.specs.declared.plan.Other.{Other}
 use Rattle.osek_scheduler.specs.Steps.{settled_state}
-use Rattle.osek_scheduler.specs.Next.{is_ready, is_top, is_position, operation_of, operation_at, meaning_of, served_outcome, going_on_with, left_state, executed_state, answer_to, next_state}
+use Rattle.osek_scheduler.specs.Next.{is_ready, is_top, is_position, operation_of, operation_at, meaning_of, served_outcome, going_on_system, left_state, executed_state, answer_to, next_state}
 use Rattle.osek_scheduler.specs.declared.change.TaskChange.TheVariants as change
 use Rattle.osek_scheduler.specs.declared.plan.Other.TheVariants as other
 use Rattle.osek_scheduler.specs.declared.plan.Plan.{Plan}
-use Rattle.osek_plans.specs.Changes.{changed_task, woken_by}
-use Rattle.osek_plans.specs.Plans.{with_change, with_other, carried_out, plan, write_plan, service_plan, item_plan, item_behind, is_inside}
+use Rattle.osek_plans.specs.Changes.{changed_task, woken_task_state}
+use Rattle.osek_plans.specs.Plans.{with_change, with_other, planned_system, plan, write_plan, service_plan, item_plan, item_behind, is_inside}
 use Rattle.osek_plans.specs.Running.{next_operation, own_operation, run_plan, call_in, call_plan, serving_plan, running_plan, entry_change, entry_plan, back_plan}
 use Rattle.osek_plans.specs.Steps.{answer_plan, leave_plan, followed_state}
 
@@ -87,7 +87,7 @@ or_missing (x ∷ xs) (suc i) d f none = or_missing xs i d f none
 next-operation : (app : App) (frames : List Frame) → next_operation app frames ≡ operation_of app frames
 next-operation app [] = refl
 next-operation app (frame ∷ outer) =
-    or_missing app.funcs frame.func missing (λ (f : Func). on_some (slice_get f.items frame.item) (λ (item : Item). Some item.op)) refl
+    or_missing app.funcs frame.func no_function (λ (f : Func). on_some (slice_get f.items frame.item) (λ (item : Item). Some item.op)) refl
     ∙ at_number (function app frame.func).items frame.item no_item (λ (item : Item). Some item.op)
 
 pub own-operation : (app : App) (k : Task) → own_operation app k ≡ operation_at app k
@@ -105,7 +105,7 @@ by_operation app k b go planned out same =
 
 -- ---- items
 
-abbrev does : ℕ → System → Task → ℕ → Meant → Option System
+abbrev does : ℕ → System → Task → ℕ → ItemMeaning → Option System
 does t s k result m =
     if_true (m.result == result) (Some (settled_state (record (with_task s t (record k { registers = m.registers; frames = m.frames })) { symbols = m.symbols })))
 
@@ -123,7 +123,7 @@ module _ (app : App) (t : ℕ) (s : System) (k0 : Task) (result : ℕ) (frame : 
       ≡ on_some (item_plan app o (function app frame.func) frame (length (frame ∷ outer)) k0.registers s.symbols) (plans t s (own outer) result)
 
   -- an operation that needs an item of a list
-  from_list : (outer : List Frame) {A : Type 0} (xs : List A) (i : ℕ) (d : A) (m : Option Meant) (planned : A → Plan)
+  from_list : (outer : List Frame) {A : Type 0} (xs : List A) (i : ℕ) (d : A) (m : Option ItemMeaning) (planned : A → Plan)
       → on_some m (does t s (own outer) result) ≡ plans t s (own outer) result (planned (get_or xs i d))
       → on_some (if_true (ltb i (length xs)) m) (does t s (own outer) result)
       ≡ on_some (on_some (slice_get xs i) (λ x. Some (planned x))) (plans t s (own outer) result)
@@ -134,7 +134,7 @@ module _ (app : App) (t : ℕ) (s : System) (k0 : Task) (result : ℕ) (frame : 
       ∙ sym (chained (slice_get xs i) (λ x. Some (planned x)) (plans t s (own outer) result))))
 
   -- an operation that needs what there may be
-  from_option : (outer : List Frame) {A : Type 0} (o : Option A) (means : A → Option Meant) (planned : A → Option Plan)
+  from_option : (outer : List Frame) {A : Type 0} (o : Option A) (means : A → Option ItemMeaning) (planned : A → Option Plan)
       → ((a : A) → on_some (means a) (does t s (own outer) result) ≡ on_some (planned a) (plans t s (own outer) result))
       → on_some (on_some o means) (does t s (own outer) result) ≡ on_some (on_some o planned) (plans t s (own outer) result)
   from_option outer None means planned same = refl
@@ -149,7 +149,7 @@ module _ (app : App) (t : ℕ) (s : System) (k0 : Task) (result : ℕ) (frame : 
   data-stored : (outer : List Frame) (w : Width) (rs y offset : ℕ) (b : Bool)
       → on_some (on_some (cond b (Some (get_or s.symbols y [])) None) (λ bytes. Some (record {
         registers = k0.registers;
-        frames = going_on frame ∷ outer;
+        frames = going_on_frame frame ∷ outer;
         symbols = set s.symbols y (bytes_after_store w bytes offset (register k0.registers rs));
         result = register k0.registers rs;
       }))) (does t s (own outer) result)
@@ -181,7 +181,7 @@ module _ (app : App) (t : ℕ) (s : System) (k0 : Task) (result : ℕ) (frame : 
   item-same outer (op.Branch kind a b label) = from_option outer (item_behind (function app frame.func) label) _ _ (λ _. refl)
   item-same outer (op.Jump label) = from_option outer (item_behind (function app frame.func) label) _ _ (λ _. refl)
   item-same outer (op.Invoke g) =
-      from_list outer app.funcs g missing _ (λ called. plan (Some 0) (change.Invoke g called.frame_words) other.Nothing) refl
+      from_list outer app.funcs g no_function _ (λ called. plan (Some 0) (change.Invoke g called.frame_words) other.Nothing) refl
   item-same outer op.Return = returned-so outer
   item-same outer (op.Serve call) = refl
 
@@ -203,12 +203,12 @@ module _ (app : App) (t : ℕ) (s : System) (k0 : Task) (result : ℕ) (o : Op) 
       let planned = λ (f : Func). item_plan app o f frame (length (frame ∷ outer)) k0.registers s.symbols in
       tested b (execution app o k0.registers frame outer s.symbols) (does t s k result)
       ∙ (ap (if_true b) (item-same app t s k0 result frame outer o)
-      ∙ (sym (ap (λ x. if_true b (on_some (on_some x planned) (plans t s k result))) (slice_get-get_or app.funcs frame.func missing h))
+      ∙ (sym (ap (λ x. if_true b (on_some (on_some x planned) (plans t s k result))) (slice_get-get_or app.funcs frame.func no_function h))
       ∙ sym (tested b (on_some (slice_get app.funcs frame.func) planned) (plans t s k result))))
 
 module _ (config : Config) (app : App) (t : ℕ) (s : System) where
   abbrev after : Plan → Option System
-  after p = Some (settled_state (carried_out t p s))
+  after p = Some (settled_state (planned_system t p s))
 
   abbrev k : Task
   k = task s t
@@ -225,7 +225,7 @@ module _ (config : Config) (app : App) (t : ℕ) (s : System) where
 
 -- the outcome that a plan of task t has
 abbrev outcome_by : ℕ → System → Plan → Outcome
-outcome_by t s p = shown p.answer (carried_out t p s)
+outcome_by t s p = shown_outcome p.answer (planned_system t p s)
 
 -- one of two plans, by the state of a task
 by_state : (t : ℕ) (s : System) (m : TaskState) (a b : Outcome) (p q : Plan) → (m ≡ mode.Suspended → a ≡ outcome_by t s p)
@@ -261,7 +261,7 @@ module _ (s : System) (t mask : ℕ) (lt : t < length s.tasks) where
       ap (λ (k : Task). record s { tasks = set (set s.tasks t one) t (record k { state = mode.Ready }) }) (get_or-set_same s.tasks t one sleeping_task lt)
       ∙ ap (λ (ks : List Task). record s { tasks = ks }) (set-set s.tasks t one (with_found mode.Ready))
 
-  by_mode : (m : TaskState) → (task s t).state ≡ m → woken_state m found t (with_events s t found) ≡ with_task s t (with_found (woken_by m found))
+  by_mode : (m : TaskState) → (task s t).state ≡ m → woken_state m found t (with_events s t found) ≡ with_task s t (with_found (woken_task_state m found))
   by_mode mode.Suspended e = kept mode.Suspended e
   by_mode mode.Ready e = kept mode.Ready e
   by_mode mode.Active e = kept mode.Active e
@@ -293,7 +293,7 @@ module _ (t : ℕ) (s : System) where
 
   -- the outcome of a decision is that of the plan that is taken
   decision-planned : (d : Decision) → OnPlans s (λ p. IsReached s p.other) d → outcome_of t s d ≡ outcome_by t s (plan_in s d)
-  decision-planned (Does p) h = ap (shown p.answer) (besides-same p.change p.other h)
+  decision-planned (Does p) h = ap (shown_outcome p.answer) (besides-same p.change p.other h)
   decision-planned (IfSuspended u first second) h =
       by_state t s (task s u).state (outcome_of t s first) (outcome_of t s second) (plan_in s first) (plan_in s second)
       (λ e. decision-planned first (h.0 e)) (λ n. decision-planned second (h.1 n))
@@ -342,7 +342,7 @@ module _ (config : Config) (app : App) (t : ℕ) (s : System) (count : length s.
   serving = serving_plan config app t srv s
 
   abbrev settling : Plan → Option System
-  settling p = Some (settled_state (carried_out t p s))
+  settling p = Some (settled_state (planned_system t p s))
 
   answer-planned : answer_to config app t srv s ≡ on_some serving (λ p. Some (outcome_by t s p))
   answer-planned =
@@ -357,20 +357,20 @@ module _ (config : Config) (app : App) (t : ℕ) (s : System) (count : length s.
       ∙ (chained serving (λ p. Some (outcome_by t s p)) go
       ∙ (under serving (λ p. go (outcome_by t s p)) (λ p. if_true (test p) (settling p)) same ∙ sym (filtered serving test settling)))
 
-  going-on : (status : ℕ) (answer : Option ℕ) (x : System) → going_on_with status (shown answer x) ≡ if_true (is_number status answer) (Some (settled_state x))
+  going-on : (status : ℕ) (answer : Option ℕ) (x : System) → going_on_system status (shown_outcome answer x) ≡ if_true (is_number status answer) (Some (settled_state x))
   going-on status (Some v) x = refl
   going-on status None x = refl
 
-  leaving-so : (answer : Option ℕ) (x : System) → left_state (shown answer x) ≡ if_true (not (is_some answer)) (Some (settled_state x))
+  leaving-so : (answer : Option ℕ) (x : System) → left_state (shown_outcome answer x) ≡ if_true (not (is_some answer)) (Some (settled_state x))
   leaving-so (Some v) x = refl
   leaving-so None x = refl
 
   pub call-follows : (status : ℕ) → next_state config app (event.Call t srv status) s ≡ followed_state t s (answer_plan config app t srv status s)
   call-follows status =
-      by_outcome (going_on_with status) (λ p. is_number status p.answer) (λ p. going-on status p.answer (carried_out t p s))
+      by_outcome (going_on_system status) (λ p. is_number status p.answer) (λ p. going-on status p.answer (planned_system t p s))
 
   pub left-follows : next_state config app (event.Left t srv) s ≡ followed_state t s (leave_plan config app t srv s)
-  left-follows = by_outcome left_state (λ p. not (is_some p.answer)) (λ p. leaving-so p.answer (carried_out t p s))
+  left-follows = by_outcome left_state (λ p. not (is_some p.answer)) (λ p. leaving-so p.answer (planned_system t p s))
 
 -- ---- entries
 
@@ -406,18 +406,18 @@ module _ (config : Config) (app : App) (t : ℕ) (s : System) where
   entering f = entry_change body f.frame_words (length (task s t).frames) non
 
   abbrev done : Plan → Option System
-  done p = Some (settled_state (carried_out t p s))
+  done p = Some (settled_state (planned_system t p s))
 
   pub enter-follows : next_state config app (event.Enter t) s ≡ followed_state t s (entry_plan config app t s)
   enter-follows =
       let b = s.booted && (top && ready) in
       let found = slice_get app.funcs body in
       sym (tested b (on_some found (λ f. Some (entering f))) done
-      ∙ (ap (if_true b) (chained found (λ f. Some (entering f)) done ∙ at_number app.funcs body missing (λ f. done (entering f)))
+      ∙ (ap (if_true b) (chained found (λ f. Some (entering f)) done ∙ at_number app.funcs body no_function (λ f. done (entering f)))
       ∙ (fourth s.booted top ready (ltb body (length app.funcs)) (done (entering (function app body)))
       ∙ ap (λ x. if_true (s.booted && (top && (ready && ltb body (length app.funcs)))) (Some (settled_state x))) (sym (entered-so (task s t) (task s t).frames)))))
 
   pub back-follows : next_state config app (event.Back t) s ≡ followed_state t s (back_plan config t s)
   back-follows =
       let b = s.booted && (is_top config s [] t && (is_active (task s t).state && (task s t).owed)) in
-      sym (tested b (Some (plan None (change.ComeBack non) other.Nothing)) (λ p. Some (settled_state (carried_out t p s))))
+      sym (tested b (Some (plan None (change.ComeBack non) other.Nothing)) (λ p. Some (settled_state (planned_system t p s))))

@@ -25,7 +25,7 @@ use Rattle.sloth_base.specs.declared.event.Event.{Event}
 use Rattle.sloth_base.specs.declared.event.Event.TheVariants as event
 use Rattle.sloth_base.specs.declared.service.Service.{Service}
 use Rattle.sloth_base.specs.declared.service.Service.TheVariants as service
-use Rattle.sloth_base.specs.Named.{function, missing, body_of, declaration, counter_declaration, undeclared_counter, alarm_declaration, undeclared_alarm}
+use Rattle.sloth_base.specs.Named.{function, no_function, body_of, declaration, counter_declaration, undeclared_counter, alarm_declaration, undeclared_alarm}
 use Rattle.code_rules.specs.AppRange.{IsOp}
 use Rattle.code_rules.specs.Code.{is_in}
 use Rattle.osek_scheduler.specs.declared.state.TaskState.{TaskState}
@@ -41,7 +41,7 @@ use Rattle.osek_scheduler.specs.Steps.{settled_state}
 use Rattle.osek_scheduler.specs.Next.{is_ready, is_top, is_position, operation_of, next_state}
 use Rattle.osek_scheduler.proofs.Next.{step_of}
 use Rattle.osek_scheduler.proofs.Tests.{if_true_some, on_some_from, Decides-is_top}
-use Rattle.osek_valid.specs.Valid.{IsFrame, IsCalledFrom, AreCalls, AreDistinct, Valid}
+use Rattle.osek_valid.specs.Valid.{IsFrame, IsCalledFrom, AreCalls, AreDistinct, IsValid}
 use Rattle.osek_valid.proofs.Apart.{at_task}
 use Rattle.osek_valid.proofs.Facts.{Facts, facts}
 use Rattle.osek_valid.proofs.Steps.{step_valid}
@@ -51,9 +51,9 @@ use Rattle.osek_scheduler.specs.declared.plan.Other.{Other}
 use Rattle.osek_scheduler.specs.declared.plan.Other.TheVariants as other
 use Rattle.osek_scheduler.specs.declared.plan.Plan.{Plan}
 use Rattle.osek_plans.specs.Clocked.{NamesTask, IsClocked}
-use Rattle.osek_plans.specs.Frames.{CanMove, HasWord, out_of}
+use Rattle.osek_plans.specs.Frames.{CanMove, HasWord, outer_frames}
 use Rattle.osek_plans.specs.Changes.{changed_task, Allows}
-use Rattle.osek_plans.specs.Plans.{with_change, with_other, carried_out, plan, write_plan, service_plan, item_plan, item_behind, load_of, is_inside, HasOther, HasRoom}
+use Rattle.osek_plans.specs.Plans.{with_change, with_other, planned_system, plan, write_plan, service_plan, item_plan, item_behind, load_of, is_inside, HasOther, HasPlanRoom}
 use Rattle.osek_plans.specs.Running.{IsComputed, own_operation, run_plan, call_in, call_plan, serving_plan, running_plan, entry_change, entry_plan, back_plan}
 use Rattle.osek_plans.specs.Steps.{answer_plan, leave_plan, followed_state, IsRead}
 use Rattle.osek_machine.specs.Steps.{IsSound}
@@ -157,7 +157,7 @@ in_range-so config app f (op.Serve call) h = tt
 -- an event and its plan, if it has one: it leads to the next state, and there is room for it
 pub record IsPlanned (config : Config) (app : App) (s : System) (t : ℕ) (e : Event) (o : Option Plan) : Type 0 where
   pub leads : next_state config app e s ≡ followed_state t s o
-  pub room : IfSome o (λ p. HasRoom t p s)
+  pub room : IfSome o (λ p. HasPlanRoom t p s)
 
 module _ {config : Config} {app : App} {s : System} (sound : IsSound config app s) where
   abbrev w : Facts config app
@@ -169,7 +169,7 @@ module _ {config : Config} {app : App} {s : System} (sound : IsSound config app 
     where
       past : length app.funcs ≤ f → f < length app.funcs
       past ge =
-          let none : length (function app f).items ≡ 0 = ap (λ (x : Func). length x.items) (get_or-eq_default app.funcs missing ge) in
+          let none : length (function app f).items ≡ 0 = ap (λ (x : Func). length x.items) (get_or-eq_default app.funcs no_function ge) in
           absurd (omega (arith, inside, none))
 
   computed-in : (frames : List Frame) (o : Op) → operation_of app frames ≡ Some o → IsComputed o
@@ -183,7 +183,7 @@ module _ {config : Config} {app : App} {s : System} (sound : IsSound config app 
   item-small : (frame : Frame) → IsFrame app frame → frame.item < 4294967295
   item-small frame h =
       let inside = h.inside in
-      let part = get_or-le-sum_by (λ (f : Func). length f.items) app.funcs frame.func missing h.known in
+      let part = get_or-le-sum_by (λ (f : Func). length f.items) app.funcs frame.func no_function h.known in
       let whole = sum-map (λ (f : Func). length f.items) app.funcs in
       let few = w.in_range.limits.few_items in
       omega (arith, inside, part, whole, few)
@@ -192,7 +192,7 @@ module _ {config : Config} {app : App} {s : System} (sound : IsSound config app 
   calls-move t [] h = tt
   calls-move t (frame ∷ outer) h = item-small frame h.0
 
-  calls-leave : (t : ℕ) (frames : List Frame) → AreCalls app t frames → CanMove (out_of frames)
+  calls-leave : (t : ℕ) (frames : List Frame) → AreCalls app t frames → CanMove (outer_frames frames)
   calls-leave t [] h = tt
   calls-leave t (frame ∷ []) h = tt
   calls-leave t (frame ∷ caller ∷ outer) h = item-small caller h.1.0
@@ -213,8 +213,8 @@ module _ {config : Config} {app : App} {s : System} (sound : IsSound config app 
   moves : (t : ℕ) → CanMove (task s t).frames
   moves t = calls-of CanMove calls-move t
 
-  returns : (t : ℕ) → CanMove (out_of (task s t).frames)
-  returns t = calls-of (λ frames. CanMove (out_of frames)) calls-leave t
+  returns : (t : ℕ) → CanMove (outer_frames (task s t).frames)
+  returns t = calls-of (λ frames. CanMove (outer_frames frames)) calls-leave t
 
   in_function : (t : ℕ) → InFunction app (task s t).frames
   in_function t = calls-of (InFunction app) calls-in t
@@ -249,8 +249,8 @@ module _ {config : Config} {app : App} {s : System} (sound : IsSound config app 
 
   words-of : (f : ℕ) (found : Func) → slice_get app.funcs f ≡ Some found → found.frame_words ≤ 32
   words-of f found e =
-      subst (λ (g : Func). g.frame_words ≤ 32) (get_or_from_slice_get app.funcs f found missing e)
-      (w.in_range.bodies f missing (slice_get_within app.funcs f found e)).frame
+      subst (λ (g : Func). g.frame_words ≤ 32) (get_or_from_slice_get app.funcs f found no_function e)
+      (w.in_range.bodies f no_function (slice_get_within app.funcs f found e)).frame
 
   -- the system has each task of the configuration
   in_tasks : (t : ℕ) → t < length config.tasks → t < length s.tasks
@@ -258,32 +258,32 @@ module _ {config : Config} {app : App} {s : System} (sound : IsSound config app 
 
   -- ---- the state behind the event is sound too
 
-  module _ (e : Event) (t : ℕ) (lt : t < length config.tasks) (p : Plan) (next : next_state config app e s ≡ Some (settled_state (carried_out t p s))) where
-    behind : Valid config app (settled_state (carried_out t p s))
-    behind = step_valid config app e s (settled_state (carried_out t p s)) w (step_of config app s (settled_state (carried_out t p s)) e next) sound.valid
+  module _ (e : Event) (t : ℕ) (lt : t < length config.tasks) (p : Plan) (next : next_state config app e s ≡ Some (settled_state (planned_system t p s))) where
+    behind : IsValid config app (settled_state (planned_system t p s))
+    behind = step_valid config app e s (settled_state (planned_system t p s)) w (step_of config app s (settled_state (planned_system t p s)) e next) sound.valid
 
     -- a part of the task that nothing changes besides
     part-behind : {X : Type 0} (get : Task → X) → ((k : Task) → get (changed_task change.Activate k) ≡ get k)
         → ((mask : ℕ) (k : Task) → get (changed_task (change.AddEvents mask) k) ≡ get k)
-        → get (task (settled_state (carried_out t p s)) t) ≡ get (changed_task p.change (task s t))
+        → get (task (settled_state (planned_system t p s)) t) ≡ get (changed_task p.change (task s t))
     part-behind get a b =
         kept-besides get p.other (with_change t p.change s) t a b
         ∙ ap get (get_or-set_same s.tasks t (changed_task p.change (task s t)) sleeping_task (in_tasks t lt))
 
     few_frames : length (changed_task p.change (task s t)).frames ≤ 64
     few_frames =
-        let own = tidy config app w (settled_state (carried_out t p s)) t behind lt in
-        let most = at_most (map (λ x. x.func) (task (settled_state (carried_out t p s)) t).frames) (length app.funcs) own.frames_differ
-        (calls-known app t (task (settled_state (carried_out t p s)) t).frames own.calls) in
-        let long = length-map (task (settled_state (carried_out t p s)) t).frames (λ (x : Frame). x.func) in
+        let own = tidy config app w (settled_state (planned_system t p s)) t behind lt in
+        let most = at_most (map (λ x. x.func) (task (settled_state (planned_system t p s)) t).frames) (length app.funcs) own.frames_differ
+        (calls-known app t (task (settled_state (planned_system t p s)) t).frames own.calls) in
+        let long = length-map (task (settled_state (planned_system t p s)) t).frames (λ (x : Frame). x.func) in
         let same = ap length (part-behind (λ (k : Task). k.frames) (λ k. refl) (λ mask k. refl)) in
         let few = w.in_range.limits.few_bodies in
         omega (arith, most, long, same, few)
 
     few_held : length (changed_task p.change (task s t)).held ≤ 33
     few_held =
-        let own = tidy config app w (settled_state (carried_out t p s)) t behind lt in
-        let most = at_most (task (settled_state (carried_out t p s)) t).held 33 (behind.each t lt).distinct own.few in
+        let own = tidy config app w (settled_state (planned_system t p s)) t behind lt in
+        let most = at_most (task (settled_state (planned_system t p s)) t).held 33 (behind.each t lt).distinct own.few in
         let same = ap length (part-behind (λ (k : Task). k.held) (λ k. refl) (λ mask k. refl)) in
         omega (arith, most, same)
 
@@ -300,7 +300,7 @@ module _ {config : Config} {app : App} {s : System} (sound : IsSound config app 
     from_some : (p q : Plan) → Some p ≡ Some q → Roomy p → Roomy q
     from_some p q e r = subst Roomy (same_Some p q e) r
 
-    room-of : (p q : Plan) → Some p ≡ Some q → Roomy p → HasRoom t q s
+    room-of : (p q : Plan) → Some p ≡ Some q → Roomy p → HasPlanRoom t q s
     room-of p q e r = let same = from_some p q e r in record { declared = in_tasks t lt; allows = same.0; besides = same.1 }
 
     from_on : {A : Type 0} (o : Option A) (make : A → Plan) (q : Plan) → on_some o (λ a. Some (make a)) ≡ Some q → ((a : A) → o ≡ Some a → Roomy (make a)) → Roomy q
@@ -408,7 +408,7 @@ module _ {config : Config} {app : App} {s : System} (sound : IsSound config app 
   passes None test p e = absurd cc
   passes (Some x) test p e = (if_true_some (test x) (Some x) p e).1
 
-  entry-room : (t : ℕ) (p : Plan) → entry_plan config app t s ≡ Some p → HasRoom t p s
+  entry-room : (t : ℕ) (p : Plan) → entry_plan config app t s ≡ Some p → HasPlanRoom t p s
   entry-room t p e =
       let top = if_true_some (s.booted && (is_top config s [] t && is_ready (task s t).state)) _ p e in
       let lt = declared [] t (and_parts _ _ (and_parts _ _ top.0).1).0 in
@@ -425,13 +425,13 @@ module _ {config : Config} {app : App} {s : System} (sound : IsSound config app 
       by true body non f h t = (h, tt)
       by false body non f h t = (tt, tt)
 
-  back-room : (t : ℕ) (p : Plan) → back_plan config t s ≡ Some p → HasRoom t p s
+  back-room : (t : ℕ) (p : Plan) → back_plan config t s ≡ Some p → HasPlanRoom t p s
   back-room t p e =
       let top = if_true_some (s.booted && (is_top config s [] t && (is_active (task s t).state && (task s t).owed))) _ p e in
       let lt = declared [] t (and_parts _ _ (and_parts _ _ top.0).1).0 in
       room-of t lt _ p top.1 (tt, tt)
 
-  run-room : (t func item result : ℕ) (p : Plan) → running_plan config app t func item result s ≡ Some p → HasRoom t p s
+  run-room : (t func item result : ℕ) (p : Plan) → running_plan config app t func item result s ≡ Some p → HasPlanRoom t p s
   run-room t func item result p e =
       let top = if_true_some (s.booted && (is_top config s [] t && is_position func item (task s t).frames)) _ p e in
       let lt = declared [] t (and_parts _ _ (and_parts _ _ top.0).1).0 in
@@ -443,8 +443,8 @@ module _ {config : Config} {app : App} {s : System} (sound : IsSound config app 
       let f = on_some_from (slice_get app.funcs frame.0.func) _ p frame.2 in
       room-of t lt p p refl (item-room t lt o.0 f.0 frame.0 p frame.1 f.2 (few_frames (event.Run t func item result) t lt p next))
 
-  serving-room : (e : Event) (t : ℕ) (srv : Service) (p : Plan) → next_state config app e s ≡ Some (settled_state (carried_out t p s))
-      → serving_plan config app t srv s ≡ Some p → HasRoom t p s
+  serving-room : (e : Event) (t : ℕ) (srv : Service) (p : Plan) → next_state config app e s ≡ Some (settled_state (planned_system t p s))
+      → serving_plan config app t srv s ≡ Some p → HasPlanRoom t p s
   serving-room e t srv p next planned =
       let top = if_true_some (s.booted && is_top config s s.fresh t) _ p planned in
       let lt = declared s.fresh t (and_parts _ _ top.0).1 in
@@ -455,12 +455,12 @@ module _ {config : Config} {app : App} {s : System} (sound : IsSound config app 
       let holds = subst (λ (q : Plan). length (changed_task q.change (task s t)).held ≤ 33) (sym same) (few_held e t lt p next) in
       room-of t lt _ p found.1 (service-room t lt srv call.0.object call.0.mask (and_parts _ _ found.0).1 holds)
 
-  call-room : (t : ℕ) (srv : Service) (status : ℕ) (p : Plan) → answer_plan config app t srv status s ≡ Some p → HasRoom t p s
+  call-room : (t : ℕ) (srv : Service) (status : ℕ) (p : Plan) → answer_plan config app t srv status s ≡ Some p → HasPlanRoom t p s
   call-room t srv status p e =
       serving-room (event.Call t srv status) t srv p (call-follows config app t s sound.valid.count srv status ∙ ap (followed_state t s) e)
       (passes (serving_plan config app t srv s) (λ x. is_number status x.answer) p e)
 
-  left-room : (t : ℕ) (srv : Service) (p : Plan) → leave_plan config app t srv s ≡ Some p → HasRoom t p s
+  left-room : (t : ℕ) (srv : Service) (p : Plan) → leave_plan config app t srv s ≡ Some p → HasPlanRoom t p s
   left-room t srv p e =
       serving-room (event.Left t srv) t srv p (left-follows config app t s sound.valid.count srv ∙ ap (followed_state t s) e)
       (passes (serving_plan config app t srv s) (λ x. not (is_some x.answer)) p e)
@@ -473,11 +473,11 @@ module _ {config : Config} {app : App} {s : System} (sound : IsSound config app 
 
   -- an event and the plan that was made, by the event of this name and the plan that it has
   planned : {e named : Event} {o plan : Option Plan} (t : ℕ) → e ≡ named → o ≡ plan → next_state config app named s ≡ followed_state t s plan
-      → ((p : Plan) → plan ≡ Some p → HasRoom t p s) → IsPlanned config app s t e o
+      → ((p : Plan) → plan ≡ Some p → HasPlanRoom t p s) → IsPlanned config app s t e o
   planned {o = o} t is made leads room =
       record { leads = by_name is ∙ (leads ∙ sym (ap (followed_state t s) made)); room = by o (λ p e. room p (sym made ∙ e)) }
     where
-      by : (x : Option Plan) → ((p : Plan) → x ≡ Some p → HasRoom t p s) → IfSome x (λ p. HasRoom t p s)
+      by : (x : Option Plan) → ((p : Plan) → x ≡ Some p → HasPlanRoom t p s) → IfSome x (λ p. HasPlanRoom t p s)
       by None h = tt
       by (Some p) h = h p refl
 

@@ -18,7 +18,7 @@ use Rattle.osek_valid.specs.Valid.{AreDistinct}
 use Rattle.osek_valid.proofs.Apart.{step_apart}
 use Rattle.osek_valid.proofs.Facts.{facts}
 use Rattle.osek_valid.proofs.Steps.{step_valid}
-use Rattle.next_events.specs.NextEvents.{IsOwn}
+use Rattle.next_events.specs.NextEvents.{IsNoAdmission}
 use Rattle.osek_machine.specs.Steps.{IsSound, Machine}
 use Rattle.next_events.proofs.Only.{settles}
 use Rattle.osek_machine.proofs.Rooms.{not_among}
@@ -30,7 +30,7 @@ module _ (config : Config) (app : App) (s : System) (sound : IsSound config app 
   admitted-differ t mode.Active e = sound.distinct
   admitted-differ t (mode.Waiting mask) e = sound.distinct
 
-  settled-differ : (e : Event) (next : System) → IsOwn e → OsekStep config app e s next → AreDistinct next.fresh
+  settled-differ : (e : Event) (next : System) → IsNoAdmission e → OsekStep config app e s next → AreDistinct next.fresh
   settled-differ e next own h = subst AreDistinct (sym (settles config app e s next own h)) tt
 
   fresh-differ : (e : Event) (next : System) → OsekStep config app e s next → AreDistinct next.fresh

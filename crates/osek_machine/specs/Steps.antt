@@ -3,8 +3,8 @@ use Rattle.sloth_base.specs.declared.config.Config.{Config}
 use Rattle.sloth_base.specs.declared.app.App.{App}
 use Rattle.code_rules.specs.WellFormed.{WellFormed}
 use Rattle.osek_scheduler.specs.State.{System}
-use Rattle.osek_valid.specs.Valid.{Valid, AreDistinct}
-use Rattle.osek_valid.specs.Apart.{Apart}
+use Rattle.osek_valid.specs.Valid.{IsValid, AreDistinct}
+use Rattle.osek_valid.specs.Apart.{TasksAreApart}
 
 -- a configuration, its task code, and the state of a run
 pub record Machine : Type 0 where
@@ -15,6 +15,6 @@ pub record Machine : Type 0 where
 -- a state that a run of well-formed task code may lead to
 pub record IsSound (config : Config) (app : App) (s : System) : Type 0 where
   pub well_formed : WellFormed config app
-  pub valid : Valid config app s
-  pub apart : Apart config s
+  pub valid : IsValid config app s
+  pub apart : TasksAreApart config s
   pub distinct : AreDistinct s.fresh

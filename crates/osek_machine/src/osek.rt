@@ -10,7 +10,7 @@ ghost use Rattle.sloth_base.specs.declared.event.Event.TheVariants as event;
 ghost use Rattle.osek_scheduler.specs.declared.state.TaskState.TheVariants as mode;
 ghost use Rattle.osek_plans.specs.Above.{is_line_above};
 ghost use Rattle.osek_plans.specs.Clocked.{IsClocked};
-ghost use Rattle.osek_plans.specs.Plans.{HasRoom};
+ghost use Rattle.osek_plans.specs.Plans.{HasPlanRoom};
 ghost use Rattle.osek_plans.specs.Steps.{followed_state};
 ghost use Rattle.osek_machine.specs.Steps.{IsSound, Machine};
 
@@ -55,7 +55,7 @@ impl Model for Osek {
 
 // Carries out a plan of a task, if there is one.
 fn act(store: &mut Store, t: u32, plan: Option<Plan>) -> Result<(), NotARun>
-    requires { IfSome plan (λ p. HasRoom t p store.old) }
+    requires { IfSome plan (λ p. HasPlanRoom t p store.old) }
     ensures next { OnOk result (followed_state t store.old plan ≡ Some store.new) }
     ensures none { OnErr result (followed_state t store.old plan ≡ None) }
     ensures same { OnErr result (store.new ≡ store.old) }

@@ -1,11 +1,11 @@
 //! Ticks of counters.
-ghost use Rattle.std.specs.Prelude.{◌≡◌, ◌<◌, ◌≤◌, ◌-◌, ℕ, length};
+ghost use Rattle.std.specs.Prelude.{◌≡◌, ◌<◌, ◌≤◌, ℕ, length};
 ghost use Rattle.sloth_base.specs.Named.{alarm_declaration};
 ghost use Rattle.osek_scheduler.specs.State.{counter};
-ghost use Rattle.osek_scheduler.specs.Services.{counted_on, next_value, ticked_state};
-ghost use Rattle.osek_scheduler.specs.Steps.{made_due};
+ghost use Rattle.osek_scheduler.specs.Services.{counted_on_state, next_value, ticked_state};
+ghost use Rattle.osek_scheduler.specs.Steps.{due_state};
 ghost use Rattle.osek_plans.specs.Clocked.{IsClocked, NamesTask};
-ghost use Rattle.osek_machine.specs.Ticks.{acted_by, alarm_ticked_by, alarms_ticked_by, ticked_by};
+ghost use Rattle.osek_machine.specs.Ticks.{acted_system, alarm_ticked_system, alarms_ticked_system, ticked_system};
 
 use osek_plans::store::{Store, is_suspended};
 use osek_scheduler::change::TaskChange;
@@ -24,7 +24,7 @@ fn next_value(max: u32, value: u32) -> u32
 fn count_on(store: &mut Store, c: usize, max: u32)
     requires declared { c < length store.old.clock.counters }
     requires value { (counter store.old c).value ≤ max }
-    ensures { store.new ≡ counted_on c max store.old }
+    ensures { store.new ≡ counted_on_state c max store.old }
 {
     let value = next_value(max, store.counter(c).value);
     store.set_counter(c, Counter { value, due: false });
@@ -33,7 +33,7 @@ fn count_on(store: &mut Store, c: usize, max: u32)
 // What an alarm does as it expires.
 fn act(store: &mut Store, does: Action)
     requires { NamesTask (length store.old.tasks) does }
-    ensures { store.new ≡ acted_by does store.old }
+    ensures { store.new ≡ acted_system does store.old }
 {
     match does {
         Action::Activate(task) => {
@@ -53,7 +53,7 @@ fn act(store: &mut Store, does: Action)
 fn tick_alarm(store: &mut Store, does: Action, a: usize)
     requires declared { a < length store.old.clock.alarms }
     requires names { NamesTask (length store.old.tasks) does }
-    ensures { store.new ≡ alarm_ticked_by does a store.old }
+    ensures { store.new ≡ alarm_ticked_system does a store.old }
 {
     let alarm = store.alarm(a);
     let cycle = alarm.cycle;
@@ -71,7 +71,7 @@ fn tick_alarms(store: &mut Store, config: &Config, c: u32)
     requires tasks { length store.old.tasks ≡ length config.now.tasks }
     requires alarms { length store.old.clock.alarms ≡ length config.now.alarms }
     requires actions { (a : ℕ) → a < length config.now.alarms → NamesTask (length config.now.tasks) (alarm_declaration config.now a).action }
-    ensures { store.new ≡ alarms_ticked_by c 0 config.now.alarms store.old }
+    ensures { store.new ≡ alarms_ticked_system c 0 config.now.alarms store.old }
 {
     for a in 0..config.alarms.items().len() {
         let alarm = &config.alarms.items()[a];
@@ -86,7 +86,7 @@ fn count_tick(store: &mut Store, config: &Config, c: u32)
     requires declared { c < length config.now.counters }
     requires tasks { length store.old.tasks ≡ length config.now.tasks }
     requires clocked { IsClocked config.now store.old }
-    ensures { store.new ≡ ticked_by config.now c store.old }
+    ensures { store.new ≡ ticked_system config.now c store.old }
 {
     count_on(store, c as usize, config.counters.items()[c as usize].max);
     tick_alarms(store, config, c);
@@ -105,7 +105,7 @@ pub fn tick(store: &mut Store, config: &Config, c: u32)
 /// A counter's line arrived.
 pub fn make_due(store: &mut Store, c: u32)
     requires { c < length store.old.clock.counters }
-    ensures { store.new ≡ made_due c store.old }
+    ensures { store.new ≡ due_state c store.old }
 {
     let value = store.counter(c as usize).value;
     store.set_counter(c as usize, Counter { value, due: true });

@@ -2,7 +2,7 @@
 use Rattle.std.proofs.Common.{◌≡◌, ◌∙◌, ℕ, zero, suc, ◌+◌, ◌≤◌, ◌<◌, List, [], ◌∷◌, Bool, true, false, cond, length, get_or, set, refl, sym, ap, arith, add-one}
 use Rattle.std.proofs.lemmas.List.{get_or_default}
 use Rattle.sloth_base.specs.declared.config.TaskDecl.{TaskDecl}
-use Rattle.sloth_base.specs.Named.{undeclared}
+use Rattle.sloth_base.specs.Named.{undeclared_task}
 use Rattle.osek_scheduler.specs.State.{Task, sleeping_task}
 use Rattle.osek_scheduler.specs.declared.state.TaskState.TheVariants as mode
 use Rattle.osek_scheduler.specs.Steps.{autostarted_tasks}
@@ -40,24 +40,24 @@ behind true x ys zs = refl
 behind false x ys zs = refl
 
 pub started-more : (n : ℕ) (ds : List TaskDecl) (ts : List Task) → n < length ds → n < length ts → started (suc n) ds ts
-    ≡ cond (get_or ds n undeclared).autostart (set (started n ds ts) n (changed_task change.Activate (get_or (started n ds ts) n sleeping_task))) (started n ds ts)
+    ≡ cond (get_or ds n undeclared_task).autostart (set (started n ds ts) n (changed_task change.Activate (get_or (started n ds ts) n sleeping_task))) (started n ds ts)
 started-more n [] ts h k = absurd (omega (arith, h))
 started-more n (d ∷ ds) [] h k = absurd (omega (arith, k))
 started-more zero (d ∷ ds) (t ∷ ts) h k = here d.autostart t ts
 started-more (suc n) (d ∷ ds) (t ∷ ts) h k =
     let first = cond d.autostart (record t { state = mode.Ready }) t in
     ap (λ (rest : List Task). first ∷ rest) (started-more n ds ts (omega (arith, h)) (omega (arith, k)))
-    ∙ behind (get_or ds n undeclared).autostart first
+    ∙ behind (get_or ds n undeclared_task).autostart first
     (set (started n ds ts) n (changed_task change.Activate (get_or (started n ds ts) n sleeping_task))) (started n ds ts)
 
 module _ (n : ℕ) (ds : List TaskDecl) (ts now next : List Task) (x : TaskDecl) (h : n < length ds) (k : n < length ts) (is : now ≡ started n ds ts) (at : x ≡ get_or ds n x) where
-  declared : x ≡ get_or ds n undeclared
-  declared = at ∙ get_or_default ds n x undeclared h
+  declared : x ≡ get_or ds n undeclared_task
+  declared = at ∙ get_or_default ds n x undeclared_task h
 
   step : (b : Bool) → x.autostart ≡ b → started (suc n) ds ts ≡ cond b (set now n (changed_task change.Activate (get_or now n sleeping_task))) now
   step b e =
       started-more n ds ts h k
-      ∙ (ap (λ (y : List Task). cond (get_or ds n undeclared).autostart (set y n (changed_task change.Activate (get_or y n sleeping_task))) y) (sym is)
+      ∙ (ap (λ (y : List Task). cond (get_or ds n undeclared_task).autostart (set y n (changed_task change.Activate (get_or y n sleeping_task))) y) (sym is)
       ∙ ap (λ c. cond c (set now n (changed_task change.Activate (get_or now n sleeping_task))) now) (ap (λ (y : TaskDecl). y.autostart) (sym declared) ∙ e))
 
   -- the task is activated

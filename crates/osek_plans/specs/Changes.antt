@@ -3,8 +3,8 @@ use Rattle.std.specs.Prelude.{◌<◌, ◌≤◌, length}
 use Rattle.osek_scheduler.specs.State.{Task}
 use Rattle.osek_scheduler.specs.declared.change.TaskChange.{TaskChange}
 use Rattle.osek_scheduler.specs.declared.change.TaskChange.TheVariants as change
-pub use Rattle.osek_scheduler.specs.Changes.{changed_task, entry, woken_by, with_change}
-use Rattle.osek_plans.specs.Frames.{out_of, CanMove, HasWord}
+pub use Rattle.osek_scheduler.specs.Changes.{changed_task, entry, woken_task_state, with_change}
+use Rattle.osek_plans.specs.Frames.{outer_frames, CanMove, HasWord}
 
 -- the task has room for a change
 abbrev pub Allows : TaskChange → Task → Type 0
@@ -26,4 +26,4 @@ Allows (change.GoTo item) k = Unit {0}
 Allows change.MoveOn k = CanMove k.frames
 Allows (change.StoreWord word value) k = CanMove k.frames × HasWord word k.frames
 Allows (change.Invoke func words) k = (length k.frames < 64) × (words ≤ 32)
-Allows change.Return k = CanMove (out_of k.frames)
+Allows change.Return k = CanMove (outer_frames k.frames)

@@ -10,7 +10,7 @@ use Rattle.sloth_base.specs.declared.app.Op.TheVariants as op
 use Rattle.sloth_base.specs.declared.app.Width.{Width}
 use Rattle.sloth_base.specs.declared.service.Service.{Service}
 use Rattle.osek_scheduler.specs.State.{Frame, System, task, with_alarm}
-use Rattle.osek_scheduler.specs.Meaning.{register, seen_in, on_some, if_true, accessed_bytes, loaded_word, bytes_after_store}
+use Rattle.osek_scheduler.specs.Meaning.{register, shown_value, on_some, if_true, accessed_bytes, loaded_word, bytes_after_store}
 pub use Rattle.osek_scheduler.specs.Outcomes.{plan}
 use Rattle.osek_scheduler.specs.Outcomes.{plan_in, decision}
 use Rattle.osek_scheduler.specs.declared.change.TaskChange.TheVariants as change
@@ -29,8 +29,8 @@ with_other (other.Store y w offset value) s = record s { symbols = set s.symbols
 with_other (other.SetAlarm a left cycle) s = with_alarm s a (record { left = left; cycle = cycle })
 
 -- the system after a plan of task t
-abbrev pub carried_out : ℕ → Plan → System → System
-carried_out t p s = with_other p.other (with_change t p.change s)
+abbrev pub planned_system : ℕ → Plan → System → System
+planned_system t p s = with_other p.other (with_change t p.change s)
 
 -- what else an event does is there
 abbrev pub HasOther : Other → System → Type 0
@@ -41,7 +41,7 @@ HasOther (other.Store y w offset value) s = (y < length s.symbols) × (offset + 
 HasOther (other.SetAlarm a left cycle) s = a < length s.clock.alarms
 
 -- the system has room for a plan of task t
-pub record HasRoom (t : ℕ) (p : Plan) (s : System) : Type 0 where
+pub record HasPlanRoom (t : ℕ) (p : Plan) (s : System) : Type 0 where
   pub declared : t < length s.tasks
   pub allows : Allows p.change (task s t)
   pub besides : HasOther p.other s
@@ -56,7 +56,7 @@ service_plan config served object mask caller s = plan_in s (decision config ser
 
 -- a value is written to rd
 abbrev pub write_plan : ℕ → ℕ → Plan
-write_plan rd value = plan (Some (seen_in rd value)) (change.Write rd value) other.Nothing
+write_plan rd value = plan (Some (shown_value rd value)) (change.Write rd value) other.Nothing
 
 -- the word that a load gives, where the access lies inside the symbol
 abbrev pub load_of : List (List ℕ) → Width → ℕ → ℕ → Option ℕ

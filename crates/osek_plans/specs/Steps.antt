@@ -11,7 +11,7 @@ use Rattle.osek_scheduler.specs.Steps.{settled_state}
 use Rattle.osek_scheduler.specs.declared.plan.Plan.{Plan}
 use Rattle.osek_plans.specs.Clocked.{IsClocked}
 use Rattle.osek_plans.specs.Frames.{CanMove}
-use Rattle.osek_plans.specs.Plans.{carried_out}
+use Rattle.osek_plans.specs.Plans.{planned_system}
 use Rattle.osek_plans.specs.Running.{IsComputed, own_operation, serving_plan}
 
 -- the plan of a service by which its caller goes on with this status
@@ -25,7 +25,7 @@ leave_plan config app t served s = on_some (serving_plan config app t served s) 
 
 -- the system after a plan of task t
 abbrev pub followed_state : ℕ → System → Option Plan → Option System
-followed_state t s o = on_some o (λ p. Some (settled_state (carried_out t p s)))
+followed_state t s o = on_some o (λ p. Some (settled_state (planned_system t p s)))
 
 -- what is read of task code is in range, whatever the state
 pub record IsRead (config : Config) (app : App) (s : System) : Type 0 where

@@ -3,7 +3,7 @@ ghost use Rattle.std.specs.Prelude.{◌≡◌, ◌<◌, ◌≤◌, Some};
 ghost use Rattle.sloth_base.specs.Named.{alarm_declaration, counter_of};
 ghost use Rattle.osek_scheduler.specs.State.{alarm, counter};
 ghost use Rattle.osek_scheduler.specs.Services.{allows_absolute, allows_cycle, allows_relative, is_in_use, ticks_to};
-ghost use Rattle.osek_scheduler.specs.Outcomes.{answers_after, plan_in, sets_alarm, tells, uses_alarm};
+ghost use Rattle.osek_scheduler.specs.Outcomes.{other_decision, plan_in, alarm_setting_decision, value_decision, alarm_use_decision};
 ghost use Rattle.osek_plans.specs.Plans.{plan};
 
 use crate::services::{answers, goes_on};
@@ -95,7 +95,7 @@ fn set_alarm(alarm: u32, left: u32, cycle: u32) -> Plan
 
 /// SetRelAlarm.
 pub fn set_relative(config: &Config, store: &Store, a: u32, ticks: u32, cycle: u32) -> Plan
-    ensures { result ≡ plan_in store.now (sets_alarm a (allows_relative (counter_of config.now a) ticks cycle) ticks cycle store.now) }
+    ensures { result ≡ plan_in store.now (alarm_setting_decision a (allows_relative (counter_of config.now a) ticks cycle) ticks cycle store.now) }
 {
     if is_in_use(store, a) {
         return goes_on(E_OS_STATE, Other::Nothing);
@@ -110,7 +110,7 @@ pub fn set_relative(config: &Config, store: &Store, a: u32, ticks: u32, cycle: u
 pub fn set_absolute(config: &Config, store: &Store, a: u32, start: u32, cycle: u32) -> Plan
     requires small { (counter_of config.now a).max < 2147483648 }
     requires value { (counter store.now (alarm_declaration config.now a).counter).value ≤ (counter_of config.now a).max }
-    ensures { result ≡ plan_in store.now (sets_alarm a (allows_absolute (counter_of config.now a) start cycle)
+    ensures { result ≡ plan_in store.now (alarm_setting_decision a (allows_absolute (counter_of config.now a) start cycle)
         (ticks_to (counter_of config.now a).max (counter store.now (alarm_declaration config.now a).counter).value start) cycle store.now) }
 {
     if is_in_use(store, a) {
@@ -125,7 +125,7 @@ pub fn set_absolute(config: &Config, store: &Store, a: u32, start: u32, cycle: u
 
 /// CancelAlarm.
 pub fn cancel_alarm(store: &Store, a: u32) -> Plan
-    ensures { result ≡ plan_in store.now (uses_alarm a (answers_after (Other.SetAlarm a 0 (alarm store.now a).cycle)) store.now) }
+    ensures { result ≡ plan_in store.now (alarm_use_decision a (other_decision (Other.SetAlarm a 0 (alarm store.now a).cycle)) store.now) }
 {
     if is_in_use(store, a) {
         return set_alarm(a, 0, store.alarm(a as usize).cycle);
@@ -135,7 +135,7 @@ pub fn cancel_alarm(store: &Store, a: u32) -> Plan
 
 /// GetAlarm.
 pub fn get_alarm(store: &Store, a: u32) -> Plan
-    ensures { result ≡ plan_in store.now (uses_alarm a (tells (alarm store.now a).left) store.now) }
+    ensures { result ≡ plan_in store.now (alarm_use_decision a (value_decision (alarm store.now a).left) store.now) }
 {
     if is_in_use(store, a) {
         return answers(E_OK, TaskChange::AnswerWith(store.alarm(a as usize).left));

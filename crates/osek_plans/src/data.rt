@@ -1,5 +1,5 @@
 //! The bytes of a symbol.
-ghost use Rattle.std.specs.Prelude.{◌≡◌, ◌<◌, ◌≤◌, ◌+◌, ◌*◌, ◌%◌, ◌^◌, length, take, drop, set, slice_index, IfOk};
+ghost use Rattle.std.specs.Prelude.{◌≡◌, ◌<◌, ◌≤◌, ◌+◌, ◌%◌, ◌^◌, length, take, drop, set, slice_index, IfOk};
 ghost use Rattle.sloth_base.specs.Arithmetic.{size_of};
 ghost use Rattle.osek_scheduler.specs.Meaning.{loaded_word, number_of, bytes_after_store};
 

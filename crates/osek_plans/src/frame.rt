@@ -1,5 +1,5 @@
 //! Functions in progress.
-ghost use Rattle.std.specs.Prelude.{◌≡◌, ◌<◌, ◌≤◌, ◌+◌, length, replicate, set, slice_get, get_or};
+ghost use Rattle.std.specs.Prelude.{◌≡◌, ◌<◌, ◌≤◌, length, replicate, set, slice_get};
 
 use std::marker::Model;
 

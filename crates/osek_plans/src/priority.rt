@@ -1,14 +1,14 @@
 //! Priorities, and the task that is due.
-ghost use Rattle.std.specs.Prelude.{◌≡◌, ◌<◌, ◌≤◌, not, true, length, map, filter};
-ghost use Rattle.osek_scheduler.specs.Priority.{ceiling, current_priority, greatest, highest_priority, is_active, is_in, rank};
+ghost use Rattle.std.specs.Prelude.{◌≡◌, ◌<◌, ◌≤◌, not, true, length, map};
+ghost use Rattle.osek_scheduler.specs.Priority.{ceiling, current_priority, greatest, is_active, is_in, rank};
 ghost use Rattle.osek_scheduler.specs.State.{counter};
 ghost use Rattle.osek_scheduler.specs.Next.{all_below, is_due, is_next_tick, is_ready, is_top, no_ticks, yields_to};
 
 use crate::room::TaskRoom;
 use crate::store::Store;
+use osek_scheduler::ceilings::{ceiling, highest};
 use osek_scheduler::state::TaskState;
 use sloth_base::config::{Config, TaskDecl};
-use sloth_base::numbers::{RES_SCHEDULER, ResId};
 
 /// Whether a task in this state is Ready.
 pub fn is_ready(state: TaskState) -> bool
@@ -40,52 +40,6 @@ fn is_in(number: u32, numbers: &[u32]) -> bool
         }
     }
     false
-}
-
-// Whether a task lists a resource.
-fn lists(task: &TaskDecl, resource: u32) -> bool
-    ensures { result ≡ is_in resource task.now.resources }
-{
-    for other in task.resources.items() {
-        if *other == ResId(resource) {
-            return true;
-        }
-    }
-    false
-}
-
-// The highest task priority.
-fn highest(config: &Config) -> u32
-    ensures { result ≡ highest_priority config.now }
-{
-    let mut top = 0;
-    for task in config.tasks.items() {
-        top = task.priority.max(top);
-    }
-    top
-}
-
-// The highest priority of the tasks that list a resource.
-fn highest_user(config: &Config, resource: u32) -> u32
-    ensures { result ≡ greatest (map (λ d. d.priority) (filter (λ d. is_in resource d.resources) config.now.tasks)) }
-{
-    let mut top = 0;
-    for task in config.tasks.items() {
-        if lists(task, resource) {
-            top = task.priority.max(top);
-        }
-    }
-    top
-}
-
-// The ceiling of a resource.
-fn ceiling(config: &Config, resource: u32) -> u32
-    ensures { result ≡ ceiling config.now resource }
-{
-    if resource == RES_SCHEDULER {
-        return highest(config);
-    }
-    highest_user(config, resource)
 }
 
 // The greatest ceiling of these resources.

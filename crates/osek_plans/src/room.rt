@@ -4,9 +4,9 @@ ghost use Rattle.std.specs.Option.{option_copied};
 ghost use Rattle.code_rules.specs.Code.{is_last};
 ghost use Rattle.osek_scheduler.specs.State.{sleeping_task};
 ghost use Rattle.osek_scheduler.specs.Meaning.{register, with_register};
-ghost use Rattle.osek_scheduler.specs.Services.{answers, answers_with, first_operand, second_operand};
+ghost use Rattle.osek_scheduler.specs.Services.{answered_task, answered_task_with, first_operand, second_operand};
 ghost use Rattle.osek_plans.specs.Frames.{CanMove};
-ghost use Rattle.osek_plans.specs.Changes.{Allows, changed_task, entry, woken_by};
+ghost use Rattle.osek_plans.specs.Changes.{Allows, changed_task, woken_task_state};
 
 use crate::frame::FrameRoom;
 use crate::held::Held;
@@ -33,7 +33,7 @@ const VALUE: usize = 6;
 
 // The state of a task behind a setting of events: one of those that it waits for wakes it.
 fn woken(state: TaskState, events: u32) -> TaskState
-    ensures { result ≡ woken_by state events }
+    ensures { result ≡ woken_task_state state events }
 {
     match state {
         TaskState::Waiting(mask) if events & mask != 0 => TaskState::Ready,
@@ -198,7 +198,7 @@ impl TaskRoom {
     // Goes on behind a service with a status.
     fn answer(&mut self, status: u32)
         requires { CanMove self.old.frames }
-        ensures { self.new ≡ answers status self.old }
+        ensures { self.new ≡ answered_task status self.old }
     {
         self.registers[STATUS] = status;
         self.frames.move_on();
@@ -207,7 +207,7 @@ impl TaskRoom {
     // Goes on behind a service with a value.
     fn answer_with(&mut self, value: u32)
         requires { CanMove self.old.frames }
-        ensures { self.new ≡ answers_with value self.old }
+        ensures { self.new ≡ answered_task_with value self.old }
     {
         self.registers[STATUS] = E_OK;
         self.registers[VALUE] = value;
@@ -216,7 +216,7 @@ impl TaskRoom {
 
     // Events are set.
     fn add_events(&mut self, mask: u32)
-        ensures { self.new ≡ record self.old { events = bit_or self.old.events mask; state = woken_by self.old.state (bit_or self.old.events mask) } }
+        ensures { self.new ≡ record self.old { events = bit_or self.old.events mask; state = woken_task_state self.old.state (bit_or self.old.events mask) } }
     {
         self.events |= mask;
         self.state = woken(self.state, self.events);

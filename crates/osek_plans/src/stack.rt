@@ -1,8 +1,8 @@
 //! The functions in progress of a task.
-ghost use Rattle.std.specs.Prelude.{◌≡◌, ◌<◌, ◌≤◌, ◌++◌, [], ◌∷◌, length, set, slice_get, IfOk, IfNone, OnSome, option_to_list};
+ghost use Rattle.std.specs.Prelude.{◌≡◌, ◌<◌, ◌≤◌, ◌++◌, [], ◌∷◌, length, slice_get, IfOk, IfNone, OnSome, option_to_list};
 ghost use Rattle.std.specs.Option.{option_copied};
 ghost use Rattle.osek_scheduler.specs.Services.{moved_frames};
-ghost use Rattle.osek_plans.specs.Frames.{at_item, with_word, out_of, HasWord, CanMove};
+ghost use Rattle.osek_plans.specs.Frames.{frames_at_item, with_word, outer_frames, HasWord, CanMove};
 
 use crate::frame::FrameRoom;
 use sloth_base::memory::NoMemory;
@@ -89,7 +89,7 @@ impl Stack {
 
     /// The innermost function goes to an item.
     pub fn go_to(&mut self, item: u32)
-        ensures { self.new ≡ at_item item self.old }
+        ensures { self.new ≡ frames_at_item item self.old }
     {
         if let Some(mut frame) = self.take() {
             frame.go_to(item);
@@ -110,8 +110,8 @@ impl Stack {
 
     /// The innermost function returns to its caller, which goes on behind its call.
     pub fn leave(&mut self)
-        requires { CanMove (out_of self.old) }
-        ensures { self.new ≡ moved_frames (out_of self.old) }
+        requires { CanMove (outer_frames self.old) }
+        ensures { self.new ≡ moved_frames (outer_frames self.old) }
     {
         if self.take().is_some() {
             self.move_on();

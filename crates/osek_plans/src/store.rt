@@ -7,7 +7,7 @@ ghost use Rattle.osek_scheduler.specs.Steps.{admitted_state, autostarted_tasks, 
 ghost use Rattle.osek_scheduler.specs.Meaning.{bytes_after_store};
 ghost use Rattle.osek_scheduler.specs.Services.{if_suspended};
 ghost use Rattle.osek_plans.specs.Changes.{Allows, changed_task};
-ghost use Rattle.osek_plans.specs.Plans.{HasOther, HasRoom, carried_out, is_inside, load_of, with_change, with_other};
+ghost use Rattle.osek_plans.specs.Plans.{HasOther, HasPlanRoom, planned_system, is_inside, load_of, with_change, with_other};
 
 use crate::arithmetic::size_of;
 use crate::clock::ClockRoom;
@@ -251,8 +251,8 @@ impl Store {
 
     /// Carries out a plan of a task.
     pub fn carry_out(&mut self, t: u32, plan: &Plan)
-        requires { HasRoom t plan.now self.old }
-        ensures { self.new ≡ carried_out t plan.now self.old }
+        requires { HasPlanRoom t plan.now self.old }
+        ensures { self.new ≡ planned_system t plan.now self.old }
     {
         self.change(t as usize, &plan.change);
         self.change_other(&plan.other);

@@ -21,7 +21,7 @@ use Rattle.osek_scheduler.specs.Meaning.{meaning, on_some}
 use Rattle.osek_scheduler.specs.Services.{is_there, Outcome, GoesOn, Leaves}
 use Rattle.osek_scheduler.specs.Outcomes.{outcome}
 use Rattle.osek_scheduler.specs.Steps.{settled_state, IsAt, Executes, ServesCall, OsekStep}
-use Rattle.osek_scheduler.specs.Next.{is_ready, is_due, no_ticks, is_next_tick, is_top, all_below, operation_of, operation_at, meaning_of, is_position, served_outcome, going_on_with, left_state, executed_state, answer_to, next_state}
+use Rattle.osek_scheduler.specs.Next.{is_ready, is_due, no_ticks, is_next_tick, is_top, all_below, operation_of, operation_at, meaning_of, is_position, served_outcome, going_on_system, left_state, executed_state, answer_to, next_state}
 use Rattle.osek_scheduler.proofs.Tests.{Decides-is_ready, Decides-is_active, Decides-is_due, Decides-no_ticks, Decides-is_next_tick, Decides-is_top, some_one, if_true_some, if_true_is, on_some_from, on_some_is}
 
 -- ---- where a task runs
@@ -179,7 +179,7 @@ module _ (config : Config) (app : App) (t func item result : ℕ) (s next : Syst
 -- ---- all events
 
 module _ (config : Config) (app : App) (s next : System) where
-  goes_on_from : (status : ℕ) (answer : Outcome) → going_on_with status answer ≡ Some next → (after : System) × (answer ≡ GoesOn status after) × (next ≡ settled_state after)
+  goes_on_from : (status : ℕ) (answer : Outcome) → going_on_system status answer ≡ Some next → (after : System) × (answer ≡ GoesOn status after) × (next ≡ settled_state after)
   goes_on_from status (GoesOn given after) e =
       let h = if_true_some (given == status) _ next e in
       (after, ap (λ v. GoesOn v after) (eqb-true _ _ h.0), sym (some_one _ _ h.1))
@@ -217,7 +217,7 @@ module _ (config : Config) (app : App) (s next : System) where
       let two = and_parts _ _ both.1 in
       (both.0, executes_of config app t func item result s next two.0 two.1 b.1)
   step_of (event.Call t served_outcome status) h =
-      let a = on_some_from (answer_to config app t served_outcome s) (going_on_with status) next h in
+      let a = on_some_from (answer_to config app t served_outcome s) (going_on_system status) next h in
       let g = goes_on_from status a.0 a.2 in
       let serves = serves_of config app t served_outcome s (GoesOn status g.0) (a.1 ∙ ap Some g.1) in
       (serves.0, (g.0, serves.1, g.2))
@@ -261,7 +261,7 @@ module _ (config : Config) (app : App) (s next : System) where
       let e = executes_is config app t func item result s next h.1 in
       if_true_is _ _ next (and_from _ _ h.0 (and_from _ _ e.0 e.1)) e.2
   step_is (event.Call t served_outcome status) h =
-      on_some_is _ (going_on_with status) (GoesOn status h.1.0) (Some next) (serves_is config app t served_outcome s (GoesOn status h.1.0) h.0 h.1.1)
+      on_some_is _ (going_on_system status) (GoesOn status h.1.0) (Some next) (serves_is config app t served_outcome s (GoesOn status h.1.0) h.0 h.1.1)
       (if_true_is _ _ next (eq-eqb _ _ refl) (ap Some (sym h.1.2)))
   step_is (event.Left t served_outcome) h =
       on_some_is _ left_state (Leaves h.1.0) (Some next) (serves_is config app t served_outcome s (Leaves h.1.0) h.0 h.1.1) (ap Some (sym h.1.2))

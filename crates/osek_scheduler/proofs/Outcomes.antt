@@ -10,7 +10,7 @@ use Rattle.osek_scheduler.specs.declared.state.TaskState.TheVariants as mode
 use Rattle.osek_scheduler.specs.State.{Task, System, task, with_task, with_alarm}
 use Rattle.osek_scheduler.specs.Services.{if_suspended, activated_state, woken_state, with_events, set_events, Outcome, IsAfter}
 use Rattle.osek_scheduler.specs.Changes.{changed_task, with_change}
-use Rattle.osek_scheduler.specs.Outcomes.{with_other, carried_out, shown, Decision, Does, IfSuspended, If, plan_in, outcome_of, OnPlans, all_plans}
+use Rattle.osek_scheduler.specs.Outcomes.{with_other, planned_system, shown_outcome, Decision, Does, IfSuspended, If, plan_in, outcome_of, OnPlans, all_plans}
 
 pub by_suspended : {X : Type 0} (m : TaskState) (first second : X) (P : X → Type 0) → (m ≡ mode.Suspended → P first) → ((m ≡ mode.Suspended → ⊥) → P second)
     → P (if_suspended m first second)
@@ -47,14 +47,14 @@ module _ (s : System) (P : Plan → Type 0) where
       cond_both test (plan_in s first) (plan_in s second) P (λ e. on_taken first (h.0 e)) (λ n. on_taken second (h.1 n))
 
 -- a fact on the outcome of each plan that may be taken is one on the outcome
-pub on_outcome : (R : Outcome → Type 0) (c : ℕ) (s : System) (d : Decision) → OnPlans s (λ p. R (shown p.answer (carried_out c p s))) d → R (outcome_of c s d)
+pub on_outcome : (R : Outcome → Type 0) (c : ℕ) (s : System) (d : Decision) → OnPlans s (λ p. R (shown_outcome p.answer (planned_system c p s))) d → R (outcome_of c s d)
 on_outcome R c s (Does p) h = h
 on_outcome R c s (IfSuspended t first second) h =
     by_suspended (task s t).state (outcome_of c s first) (outcome_of c s second) R (λ e. on_outcome R c s first (h.0 e)) (λ n. on_outcome R c s second (h.1 n))
 on_outcome R c s (If test first second) h =
     cond_both test (outcome_of c s first) (outcome_of c s second) R (λ e. on_outcome R c s first (h.0 e)) (λ n. on_outcome R c s second (h.1 n))
 
-pub shown_after : (P : System → Type 0) (answer : Option ℕ) (after : System) → P after → IsAfter P (shown answer after)
+pub shown_after : (P : System → Type 0) (answer : Option ℕ) (after : System) → P after → IsAfter P (shown_outcome answer after)
 shown_after P (Some status) after h = h
 shown_after P None after h = h
 
@@ -89,7 +89,7 @@ module _ (P : System → Type 0) (k : KeptByOthers P) where
 
   -- an outcome keeps what the changes of its caller keep
   pub outcome_keeps : (c : ℕ) (s : System) (d : Decision) → OnPlans s (λ p. P (with_change c p.change s)) d → IsAfter P (outcome_of c s d)
-  outcome_keeps c s (Does p) h = shown_after P p.answer (carried_out c p s) (others_keep p.other (with_change c p.change s) h)
+  outcome_keeps c s (Does p) h = shown_after P p.answer (planned_system c p s) (others_keep p.other (with_change c p.change s) h)
   outcome_keeps c s (IfSuspended t first second) h =
       by_suspended (task s t).state (outcome_of c s first) (outcome_of c s second) (IsAfter P) (λ e. outcome_keeps c s first (h.0 e))
       (λ n. outcome_keeps c s second (h.1 n))

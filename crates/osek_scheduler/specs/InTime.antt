@@ -53,9 +53,9 @@ abbrev pub AdmitsAll : ℕ → List Arrival → List Stamped → Type 0
 AdmitsAll n arrivals events = (k t : ℕ) → k < n → admits_at k t events ≡ arrivals_at k t arrivals
 
 -- the longest stretch that the end may cut off: boot before there is a `boot`
-abbrev pub longest_cut_off : Config → List Stamped → ℕ
-longest_cut_off config [] = stretch_limit config Boots
-longest_cut_off config (e ∷ events) = cond (is_boot e.event) (longest_stretch config) (longest_cut_off config events)
+abbrev pub longest_cut_off_stretch : Config → List Stamped → ℕ
+longest_cut_off_stretch config [] = stretch_limit config Boots
+longest_cut_off_stretch config (e ∷ events) = cond (is_boot e.event) (longest_stretch config) (longest_cut_off_stretch config events)
 
 -- those from moment k on, which fall into the stretch that the end cuts off
 pub record LeavesOut (config : Config) (n : ℕ) (arrivals : List Arrival) (events : List Stamped) (k : ℕ) : Type 0 where
@@ -64,7 +64,7 @@ pub record LeavesOut (config : Config) (n : ℕ) (arrivals : List Arrival) (even
   pub first : (t : ℕ) × (0 < arrivals_at k t arrivals)
   pub inside : k < n
   pub behind : All (λ e. e.stamp.at < k) (others events)
-  pub short : n - k < longest_cut_off config events
+  pub short : n - k < longest_cut_off_stretch config events
 
 -- ---- where an admission stands
 

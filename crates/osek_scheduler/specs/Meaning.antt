@@ -24,9 +24,9 @@ with_register registers zero value = registers
 with_register registers (suc r) value = set registers (suc r - 5) value
 
 -- the new value of the destination; that of x0 is 0
-abbrev pub seen_in : ℕ → ℕ → ℕ
-seen_in zero value = 0
-seen_in (suc r) value = value
+abbrev pub shown_value : ℕ → ℕ → ℕ
+shown_value zero value = 0
+shown_value (suc r) value = value
 
 -- ---- data: little-endian numbers in the bytes of a symbol
 
@@ -56,20 +56,20 @@ accessed_bytes symbols y w offset =
 -- ---- items
 
 -- what an item leaves, and the result that it shows
-pub record Meant : Type 0 where
+pub record ItemMeaning : Type 0 where
   pub registers : List ℕ
   pub frames : List Frame
   pub symbols : List (List ℕ)
   pub result : ℕ
 
 -- the frame behind its item
-abbrev pub going_on : Frame → Frame
-going_on frame = record frame { item = frame.item + 1 }
+abbrev pub going_on_frame : Frame → Frame
+going_on_frame frame = record frame { item = frame.item + 1 }
 
 -- the caller goes on behind its call
-abbrev pub returned : List Frame → Option (List Frame)
-returned [] = None
-returned (caller ∷ outer) = Some (going_on caller ∷ outer)
+abbrev pub returned_frames : List Frame → Option (List Frame)
+returned_frames [] = None
+returned_frames (caller ∷ outer) = Some (going_on_frame caller ∷ outer)
 
 -- goes on with what there is
 abbrev pub on_some : {A B : Type 0} → Option A → (A → Option B) → Option B
@@ -86,32 +86,32 @@ abbrev pub target : App → Frame → ℕ → Option ℕ
 target app frame label = on_some (slice_get (function app frame.func).labels label) (λ found. Some found.item)
 
 -- a new value in rd
-abbrev pub write_meaning : ℕ → ℕ → List ℕ → Frame → List Frame → List (List ℕ) → Option Meant
+abbrev pub write_meaning : ℕ → ℕ → List ℕ → Frame → List Frame → List (List ℕ) → Option ItemMeaning
 write_meaning rd value registers frame outer symbols =
-    Some (record { registers = with_register registers rd value; frames = going_on frame ∷ outer; symbols = symbols; result = seen_in rd value })
+    Some (record { registers = with_register registers rd value; frames = going_on_frame frame ∷ outer; symbols = symbols; result = shown_value rd value })
 
 -- the next item is this one of the same function
-abbrev pub goes_to : ℕ → List ℕ → Frame → List Frame → List (List ℕ) → Option Meant
+abbrev pub goes_to : ℕ → List ℕ → Frame → List Frame → List (List ℕ) → Option ItemMeaning
 goes_to item registers frame outer symbols =
     Some (record { registers = registers; frames = record frame { item = item } ∷ outer; symbols = symbols; result = 0 })
 
 -- a load from a symbol into rd
-abbrev pub load_meaning : Width → ℕ → ℕ → ℕ → List ℕ → Frame → List Frame → List (List ℕ) → Option Meant
+abbrev pub load_meaning : Width → ℕ → ℕ → ℕ → List ℕ → Frame → List Frame → List (List ℕ) → Option ItemMeaning
 load_meaning w rd y offset registers frame outer symbols =
     on_some (accessed_bytes symbols y w offset) (λ bytes. write_meaning rd (loaded_word w bytes offset) registers frame outer symbols)
 
 -- a store of rs to a symbol
-abbrev pub store_meaning : Width → ℕ → ℕ → ℕ → List ℕ → Frame → List Frame → List (List ℕ) → Option Meant
+abbrev pub store_meaning : Width → ℕ → ℕ → ℕ → List ℕ → Frame → List Frame → List (List ℕ) → Option ItemMeaning
 store_meaning w rs y offset registers frame outer symbols =
     on_some (accessed_bytes symbols y w offset) (λ bytes. Some (record {
       registers = registers;
-      frames = going_on frame ∷ outer;
+      frames = going_on_frame frame ∷ outer;
       symbols = set symbols y (bytes_after_store w bytes offset (register registers rs));
       result = register registers rs;
     }))
 
 -- the innermost frame executes an item that is no service
-abbrev pub execution : App → Op → List ℕ → Frame → List Frame → List (List ℕ) → Option Meant
+abbrev pub execution : App → Op → List ℕ → Frame → List Frame → List (List ℕ) → Option ItemMeaning
 execution app (op.Alu kind rd rs1 rs2) x frame outer symbols =
     write_meaning rd (register_result kind (register x rs1) (register x rs2)) x frame outer symbols
 execution app (op.AluImm kind rd rs1 number) x frame outer symbols =
@@ -140,7 +140,7 @@ execution app (op.Invoke f) x frame outer symbols =
     if_true (ltb f (length app.funcs))
     (Some (record { registers = x; frames = entry_frame app f ∷ frame ∷ outer; symbols = symbols; result = 0 }))
 execution app op.Return x frame outer symbols =
-    on_some (returned outer) (λ frames. Some (record { registers = x; frames = frames; symbols = symbols; result = 0 }))
+    on_some (returned_frames outer) (λ frames. Some (record { registers = x; frames = frames; symbols = symbols; result = 0 }))
 execution app (op.Serve call) x frame outer symbols = None
 
 -- the registers that an item names
@@ -163,5 +163,5 @@ registers_of (op.Serve call) = []
 
 -- An item has a meaning where all that it names is there: registers of task code, words of its frame, bytes of the data,
 -- labels of its function, functions.
-abbrev pub meaning : App → Op → List ℕ → Frame → List Frame → List (List ℕ) → Option Meant
+abbrev pub meaning : App → Op → List ℕ → Frame → List Frame → List (List ℕ) → Option ItemMeaning
 meaning app operation x frame outer symbols = if_true (list_all is_own (registers_of operation)) (execution app operation x frame outer symbols)

@@ -13,10 +13,10 @@ use Rattle.osek_scheduler.specs.declared.state.TaskState.TheVariants as mode
 use Rattle.osek_scheduler.specs.State.{Frame, Task, System, task, with_task, counter, declaration, body_of}
 use Rattle.sloth_base.specs.Named.{function, operation}
 use Rattle.osek_scheduler.specs.Priority.{rank, is_in, is_active}
-use Rattle.osek_scheduler.specs.Meaning.{Meant, meaning, on_some, if_true}
+use Rattle.osek_scheduler.specs.Meaning.{ItemMeaning, meaning, on_some, if_true}
 use Rattle.osek_scheduler.specs.Services.{is_there, Outcome, GoesOn, Leaves, entered_state, ticked_state}
 use Rattle.osek_scheduler.specs.Outcomes.{outcome}
-use Rattle.osek_scheduler.specs.Steps.{settled_state, autostarted_tasks, admitted_state, made_due}
+use Rattle.osek_scheduler.specs.Steps.{settled_state, autostarted_tasks, admitted_state, due_state}
 
 -- a task is Ready
 abbrev pub is_ready : TaskState → Bool
@@ -64,7 +64,7 @@ abbrev pub operation_at : App → Task → Option Op
 operation_at app t = if_true (is_active t.state && not t.owed) (operation_of app t.frames)
 
 -- the meaning of an operation for a task with these frames
-abbrev pub meaning_of : App → Op → Task → List Frame → System → Option Meant
+abbrev pub meaning_of : App → Op → Task → List Frame → System → Option ItemMeaning
 meaning_of app operation t [] s = None
 meaning_of app operation t (frame ∷ outer) s = meaning app operation t.registers frame outer s.symbols
 
@@ -94,9 +94,9 @@ served_outcome config s caller before (op.Invoke a) = None
 served_outcome config s caller before op.Return = None
 
 -- the state after an outcome that goes on with this status
-abbrev pub going_on_with : ℕ → Outcome → Option System
-going_on_with status (GoesOn given after) = if_true (given == status) (Some (settled_state after))
-going_on_with status (Leaves after) = None
+abbrev pub going_on_system : ℕ → Outcome → Option System
+going_on_system status (GoesOn given after) = if_true (given == status) (Some (settled_state after))
+going_on_system status (Leaves after) = None
 
 -- the state after an outcome with which the caller leaves
 abbrev pub left_state : Outcome → Option System
@@ -104,7 +104,7 @@ left_state (GoesOn given after) = None
 left_state (Leaves after) = Some (settled_state after)
 
 -- the state after an item with this meaning, where it shows this result
-abbrev pub executed_state : ℕ → ℕ → System → Meant → Option System
+abbrev pub executed_state : ℕ → ℕ → System → ItemMeaning → Option System
 executed_state t result s meant = if_true (meant.result == result)
     (Some (settled_state (record (with_task s t (record (task s t) { registers = meant.registers; frames = meant.frames })) { symbols = meant.symbols })))
 
@@ -123,14 +123,14 @@ next_state config app (event.Enter t) s =
 next_state config app (event.Run t func item result) s =
     if_true (s.booted && (is_top config s [] t && is_position func item (task s t).frames))
     (on_some (operation_at app (task s t)) (λ operation. on_some (meaning_of app operation (task s t) (task s t).frames s) (executed_state t result s)))
-next_state config app (event.Call t s status) before = on_some (answer_to config app t s before) (going_on_with status)
+next_state config app (event.Call t s status) before = on_some (answer_to config app t s before) (going_on_system status)
 next_state config app (event.Left t s) before = on_some (answer_to config app t s before) left_state
 next_state config app (event.Back t) s =
     if_true (s.booted && (is_top config s [] t && (is_active (task s t).state && (task s t).owed)))
     (Some (settled_state (with_task s t (record (task s t) { owed = false; raised = (declaration config t).non }))))
 next_state config app event.Idle s =
     if_true (s.booted && (all_below (length config.tasks) (λ t. not (is_due s t)) && no_ticks config s)) (Some (settled_state s))
-next_state config app (event.Due c) s = if_true (s.booted && ltb c (length config.counters)) (Some (made_due c s))
+next_state config app (event.Due c) s = if_true (s.booted && ltb c (length config.counters)) (Some (due_state c s))
 next_state config app (event.Tick c) s = if_true (s.booted && is_next_tick config s c) (Some (settled_state (ticked_state config c s)))
 next_state config app event.Stray s = None
 

@@ -1,4 +1,4 @@
--- What each service does: a plan, and then its changes (OSEK OS 2.2.3, sections 13.2 to 13.6).
+-- What each service does: a plan, and then its changes (OSEK OS 2.2.3, sections 13.2 and 13.4 to 13.6).
 use Rattle.std.specs.Prelude.{ℕ, ◌≡◌, ◌==◌, ◌&&◌, Bool, true, false, cond, [], get_or, set, bit_and, Option, Some, None}
 use Rattle.sloth_base.specs.Status.{E_OK, E_OS_LIMIT, E_OS_NOFUNC, E_OS_STATE, E_OS_VALUE}
 use Rattle.sloth_base.specs.declared.config.Config.{Config}
@@ -29,13 +29,13 @@ with_other (other.Store y w offset value) s = record s { symbols = set s.symbols
 with_other (other.SetAlarm a left cycle) s = with_alarm s a (record { left = left; cycle = cycle })
 
 -- the system after a plan of task t
-abbrev pub carried_out : ℕ → Plan → System → System
-carried_out t p s = with_other p.other (with_change t p.change s)
+abbrev pub planned_system : ℕ → Plan → System → System
+planned_system t p s = with_other p.other (with_change t p.change s)
 
 -- the outcome that shows this status, or that the caller leaves
-abbrev pub shown : Option ℕ → System → Outcome
-shown (Some status) s = GoesOn status s
-shown None s = Leaves s
+abbrev pub shown_outcome : Option ℕ → System → Outcome
+shown_outcome (Some status) s = GoesOn status s
+shown_outcome None s = Leaves s
 
 -- ---- decisions
 
@@ -53,7 +53,7 @@ plan_in s (If test first second) = cond test (plan_in s first) (plan_in s second
 
 -- the outcome of a decision of task t
 abbrev pub outcome_of : ℕ → System → Decision → Outcome
-outcome_of t s (Does p) = shown p.answer (carried_out t p s)
+outcome_of t s (Does p) = shown_outcome p.answer (planned_system t p s)
 outcome_of t s (IfSuspended u first second) = if_suspended (task s u).state (outcome_of t s first) (outcome_of t s second)
 outcome_of t s (If test first second) = cond test (outcome_of t s first) (outcome_of t s second)
 
@@ -73,16 +73,16 @@ all_plans test (If b first second) = all_plans test first && all_plans test seco
 -- ---- services
 
 -- the caller goes on with a status alone
-abbrev pub answers_alone : ℕ → Decision
-answers_alone status = Does (plan (Some status) (change.Answer status) other.Nothing)
+abbrev pub status_decision : ℕ → Decision
+status_decision status = Does (plan (Some status) (change.Answer status) other.Nothing)
 
 -- the caller goes on with E_OK and a value
-abbrev pub tells : ℕ → Decision
-tells value = Does (plan (Some E_OK) (change.AnswerWith value) other.Nothing)
+abbrev pub value_decision : ℕ → Decision
+value_decision value = Does (plan (Some E_OK) (change.AnswerWith value) other.Nothing)
 
 -- the caller goes on with E_OK, and this is done besides
-abbrev pub answers_after : Other → Decision
-answers_after o = Does (plan (Some E_OK) (change.Answer E_OK) o)
+abbrev pub other_decision : Other → Decision
+other_decision o = Does (plan (Some E_OK) (change.Answer E_OK) o)
 
 -- the caller goes on with E_OK behind this change
 abbrev pub goes_on : TaskChange → Decision
@@ -93,42 +93,42 @@ abbrev pub leaves : TaskChange → Other → Decision
 leaves c o = Does (plan None c o)
 
 -- the caller sets an alarm, where it is not in use and the values are allowed
-abbrev pub sets_alarm : (a : ℕ) → (allowed : Bool) → (left cycle : ℕ) → System → Decision
-sets_alarm a allowed left cycle s =
-    If (is_in_use s a) (answers_alone E_OS_STATE) (If allowed (answers_after (other.SetAlarm a left cycle)) (answers_alone E_OS_VALUE))
+abbrev pub alarm_setting_decision : (a : ℕ) → (allowed : Bool) → (left cycle : ℕ) → System → Decision
+alarm_setting_decision a allowed left cycle s =
+    If (is_in_use s a) (status_decision E_OS_STATE) (If allowed (other_decision (other.SetAlarm a left cycle)) (status_decision E_OS_VALUE))
 
 -- the caller does something to an alarm or tells of it, where that is in use
-abbrev pub uses_alarm : (a : ℕ) → Decision → System → Decision
-uses_alarm a does s = If (is_in_use s a) does (answers_alone E_OS_NOFUNC)
+abbrev pub alarm_use_decision : (a : ℕ) → Decision → System → Decision
+alarm_use_decision a does s = If (is_in_use s a) does (status_decision E_OS_NOFUNC)
 
 -- what a service does; `object` is its task, resource or alarm, `mask` that of its events
 abbrev pub decision : Config → Service → (object mask caller : ℕ) → System → Decision
-decision config service.ActivateTask t mask caller s = IfSuspended t (answers_after (other.Activate t)) (answers_alone E_OS_LIMIT)
+decision config service.ActivateTask t mask caller s = IfSuspended t (other_decision (other.Activate t)) (status_decision E_OS_LIMIT)
 decision config service.TerminateTask object mask caller s = leaves change.End other.Nothing
 decision config service.ChainTask t mask caller s =
     If (t == caller) (leaves change.End (other.Activate caller))
-    (IfSuspended t (leaves change.End (other.Activate t)) (answers_alone E_OS_LIMIT))
+    (IfSuspended t (leaves change.End (other.Activate t)) (status_decision E_OS_LIMIT))
 decision config service.Schedule object mask caller s = goes_on change.Pause
-decision config service.GetTaskID object mask caller s = tells caller
-decision config service.GetTaskState t mask caller s = tells (state_number caller t (task s t).state)
+decision config service.GetTaskID object mask caller s = value_decision caller
+decision config service.GetTaskState t mask caller s = value_decision (state_number caller t (task s t).state)
 decision config service.GetResource r mask caller s = goes_on (change.Take r)
 decision config service.ReleaseResource r mask caller s = goes_on change.Release
-decision config service.SetEvent t mask caller s = IfSuspended t (answers_alone E_OS_STATE) (answers_after (other.AddEvents t mask))
+decision config service.SetEvent t mask caller s = IfSuspended t (status_decision E_OS_STATE) (other_decision (other.AddEvents t mask))
 decision config service.ClearEvent object mask caller s = goes_on (change.ClearEvents mask)
-decision config service.GetEvent t mask caller s = IfSuspended t (answers_alone E_OS_STATE) (tells (task s t).events)
+decision config service.GetEvent t mask caller s = IfSuspended t (status_decision E_OS_STATE) (value_decision (task s t).events)
 decision config service.WaitEvent object mask caller s =
-    If (bit_and (task s caller).events mask == 0) (leaves (change.Wait mask) other.Nothing) (answers_alone E_OK)
+    If (bit_and (task s caller).events mask == 0) (leaves (change.Wait mask) other.Nothing) (status_decision E_OK)
 decision config service.SetRelAlarm a mask caller s =
     let ticks = first_operand (task s caller) in
     let cycle = second_operand (task s caller) in
-    sets_alarm a (allows_relative (counter_of config a) ticks cycle) ticks cycle s
+    alarm_setting_decision a (allows_relative (counter_of config a) ticks cycle) ticks cycle s
 decision config service.SetAbsAlarm a mask caller s =
     let start = first_operand (task s caller) in
     let cycle = second_operand (task s caller) in
     let value = (counter s (alarm_declaration config a).counter).value in
-    sets_alarm a (allows_absolute (counter_of config a) start cycle) (ticks_to (counter_of config a).max value start) cycle s
-decision config service.CancelAlarm a mask caller s = uses_alarm a (answers_after (other.SetAlarm a 0 (alarm s a).cycle)) s
-decision config service.GetAlarm a mask caller s = uses_alarm a (tells (alarm s a).left) s
+    alarm_setting_decision a (allows_absolute (counter_of config a) start cycle) (ticks_to (counter_of config a).max value start) cycle s
+decision config service.CancelAlarm a mask caller s = alarm_use_decision a (other_decision (other.SetAlarm a 0 (alarm s a).cycle)) s
+decision config service.GetAlarm a mask caller s = alarm_use_decision a (value_decision (alarm s a).left) s
 
 -- the outcome of a call of a service by a task
 abbrev pub outcome : Config → Service → (object mask caller : ℕ) → System → Outcome

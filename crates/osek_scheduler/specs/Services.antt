@@ -19,7 +19,7 @@ pub use Rattle.code_rules.specs.Code.{without_last}
 use Rattle.osek_scheduler.specs.declared.state.TaskState.{TaskState}
 use Rattle.osek_scheduler.specs.declared.state.TaskState.TheVariants as mode
 use Rattle.osek_scheduler.specs.State.{Frame, Task, System, task, with_task, counter, with_counter, alarm, with_alarm, zero_registers, declaration, body_of, entry_frame}
-use Rattle.osek_scheduler.specs.Meaning.{going_on}
+use Rattle.osek_scheduler.specs.Meaning.{going_on_frame}
 
 -- the first where the task is Suspended, else the second
 abbrev pub if_suspended : {X : Type 0} → TaskState → X → X → X
@@ -41,23 +41,23 @@ activated_state s t = with_state s t mode.Ready
 -- the innermost function goes on behind its item
 abbrev pub moved_frames : List Frame → List Frame
 moved_frames [] = []
-moved_frames (frame ∷ outer) = going_on frame ∷ outer
+moved_frames (frame ∷ outer) = going_on_frame frame ∷ outer
 
 -- a status in a0, x10
-abbrev pub answers : ℕ → Task → Task
-answers status t = record t { registers = set t.registers 5 status; frames = moved_frames t.frames }
+abbrev pub answered_task : ℕ → Task → Task
+answered_task status t = record t { registers = set t.registers 5 status; frames = moved_frames t.frames }
 
 -- E_OK in a0 and a value in a1, x11
-abbrev pub answers_with : ℕ → Task → Task
-answers_with value t = record t { registers = set (set t.registers 5 E_OK) 6 value; frames = moved_frames t.frames }
+abbrev pub answered_task_with : ℕ → Task → Task
+answered_task_with value t = record t { registers = set (set t.registers 5 E_OK) 6 value; frames = moved_frames t.frames }
 
 -- the system after its caller went on with a status
 abbrev pub answered_state : ℕ → ℕ → System → System
-answered_state status t s = with_task s t (answers status (task s t))
+answered_state status t s = with_task s t (answered_task status (task s t))
 
 -- the system after its caller went on with E_OK and a value
-abbrev pub answered_with : ℕ → ℕ → System → System
-answered_with value t s = with_task s t (answers_with value (task s t))
+abbrev pub answered_state_with : ℕ → ℕ → System → System
+answered_state_with value t s = with_task s t (answered_task_with value (task s t))
 
 -- the caller ends; what it leaves is clear for its next activation
 abbrev pub ended_state : ℕ → System → System
@@ -183,22 +183,22 @@ abbrev pub with_left : (a left : ℕ) → System → System
 with_left a left s = with_alarm s a (record (alarm s a) { left = left })
 
 -- an alarm counts a tick: one that is not in use stays so, and one that expires begins its cycle and does its action
-abbrev pub alarm_ticked : Action → ℕ → System → System
-alarm_ticked does a s = cond ((alarm s a).left == 1) (acted_state does (with_left a (alarm s a).cycle s)) (with_left a ((alarm s a).left - 1) s)
+abbrev pub alarm_ticked_state : Action → ℕ → System → System
+alarm_ticked_state does a s = cond ((alarm s a).left == 1) (acted_state does (with_left a (alarm s a).cycle s)) (with_left a ((alarm s a).left - 1) s)
 
 -- of these alarms, of which the first has this number, those of a counter count a tick, in order
-abbrev pub alarms_ticked : (c first : ℕ) → List AlarmDecl → System → System
-alarms_ticked c first [] s = s
-alarms_ticked c first (d ∷ declarations) s = alarms_ticked c (first + 1) declarations (cond (d.counter == c) (alarm_ticked d.action first s) s)
+abbrev pub alarms_ticked_state : (c first : ℕ) → List AlarmDecl → System → System
+alarms_ticked_state c first [] s = s
+alarms_ticked_state c first (d ∷ declarations) s = alarms_ticked_state c (first + 1) declarations (cond (d.counter == c) (alarm_ticked_state d.action first s) s)
 
 -- the value behind one; behind the greatest comes 0
 abbrev pub next_value : (max value : ℕ) → ℕ
 next_value max value = cond (value == max) 0 (value + 1)
 
 -- a counter counts on, and is no longer due
-abbrev pub counted_on : (c max : ℕ) → System → System
-counted_on c max s = with_counter s c (record { value = next_value max (counter s c).value; due = false })
+abbrev pub counted_on_state : (c max : ℕ) → System → System
+counted_on_state c max s = with_counter s c (record { value = next_value max (counter s c).value; due = false })
 
 -- a tick of a counter: it counts on, and then its alarms count the tick
 abbrev pub ticked_state : Config → ℕ → System → System
-ticked_state config c s = alarms_ticked c 0 config.alarms (counted_on c (counter_declaration config c).max s)
+ticked_state config c s = alarms_ticked_state c 0 config.alarms (counted_on_state c (counter_declaration config c).max s)

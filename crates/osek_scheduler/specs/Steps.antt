@@ -14,7 +14,7 @@ use Rattle.osek_scheduler.specs.State.{Frame, Task, System, task, with_task, cou
 use Rattle.sloth_base.specs.Named.{function}
 use Rattle.sloth_base.specs.Named as named
 use Rattle.osek_scheduler.specs.Priority.{IsTop, IsDue, NoTicks, IsNextTick}
-use Rattle.osek_scheduler.specs.Meaning.{Meant, meaning}
+use Rattle.osek_scheduler.specs.Meaning.{ItemMeaning, meaning}
 use Rattle.osek_scheduler.specs.Services.{if_suspended, activated_state, is_there, Outcome, GoesOn, Leaves, entered_state, ticked_state}
 use Rattle.osek_scheduler.specs.Outcomes.{outcome}
 
@@ -33,8 +33,8 @@ abbrev pub admitted_state : ℕ → System → System
 admitted_state t s = if_suspended (task s t).state (record (activated_state s t) { fresh = t ∷ s.fresh }) s
 
 -- an arrival of a counter's line
-abbrev pub made_due : ℕ → System → System
-made_due c s = with_counter s c (record (counter s c) { due = true })
+abbrev pub due_state : ℕ → System → System
+due_state c s = with_counter s c (record (counter s c) { due = true })
 
 -- a task runs and owes no `back`; its next operation is this one
 pub record IsAt (app : App) (s : System) (t : ℕ) (operation : Op) : Type 0 where
@@ -53,7 +53,7 @@ pub record Executes (config : Config) (app : App) (t func item result : ℕ) (s 
   pub at : IsAt app s t operation
   pub in_function : at.frame.func ≡ func
   pub at_item : at.frame.item ≡ item
-  pub meant : Meant
+  pub meant : ItemMeaning
   pub means : meaning app operation (task s t).registers at.frame at.outer s.symbols ≡ Some meant
   pub shows : meant.result ≡ result
   pub is : next ≡ settled_state (record (with_task s t (record (task s t) { registers = meant.registers; frames = meant.frames })) { symbols = meant.symbols })
@@ -84,6 +84,6 @@ OsekStep config app (event.Back t) s next =
     × (next ≡ settled_state (with_task s t (record (task s t) { owed = false; raised = (declaration config t).non })))
 OsekStep config app event.Idle s next =
     (s.booted ≡ true) × ((t : ℕ) → t < length config.tasks → ¬ (IsDue s t)) × NoTicks config s × (next ≡ settled_state s)
-OsekStep config app (event.Due c) s next = (s.booted ≡ true) × (c < length config.counters) × (next ≡ made_due c s)
+OsekStep config app (event.Due c) s next = (s.booted ≡ true) × (c < length config.counters) × (next ≡ due_state c s)
 OsekStep config app (event.Tick c) s next = (s.booted ≡ true) × IsNextTick config s c × (next ≡ settled_state (ticked_state config c s))
 OsekStep config app event.Stray s next = ⊥

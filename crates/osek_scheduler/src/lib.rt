@@ -3,6 +3,7 @@
 //! that the next state can be computed.
 #![tactic(auto)]
 
+pub mod ceilings;
 pub mod change;
 pub mod laws;
 pub mod plan;

@@ -17,8 +17,8 @@ use Rattle.osek_scheduler.specs.Services.{activated_state, with_events, Outcome,
 use Rattle.osek_scheduler.specs.Outcomes.{decision, outcome}
 use Rattle.osek_scheduler.proofs.Outcomes.{by_suspended, KeptByOthers, outcome_keeps_all}
 use Rattle.osek_scheduler.proofs.Ticking.{parts_kept, ticked_keeps}
-use Rattle.osek_scheduler.specs.Steps.{settled_state, autostarted_tasks, admitted_state, made_due, OsekStep, Executes, ServesCall}
-use Rattle.osek_valid.specs.Apart.{priority_of, static_priority, AreTwo, Apart}
+use Rattle.osek_scheduler.specs.Steps.{settled_state, autostarted_tasks, admitted_state, due_state, OsekStep, Executes, ServesCall}
+use Rattle.osek_valid.specs.Apart.{priority_of, static_priority, AreTwo, TasksAreApart}
 use Rattle.osek_valid.proofs.Going.{at_set}
 use Rattle.osek_valid.proofs.Steps.{autostarted_at, asleep_at}
 
@@ -100,7 +100,7 @@ module _ (config : Config) where
       by true e = absurd (no_both (task s u).state active (ready u e))
 
   pub top_above : (s : System) (others : List ℕ) (c : ℕ) → IsTop config s others c → ((t : ℕ) → is_in t others ≡ true → (task s t).state ≡ mode.Ready)
-      → Apart config s → (task s c).state ≡ mode.Active → Above c s
+      → TasksAreApart config s → (task s c).state ≡ mode.Active → Above c s
   top_above s others c top ready a active u lt n other = by (a.apart u c (record { first = lt; second = top.declared; differ = n }) other active)
     where
       le : priority_of config u (task s u) ≤ priority_of config c (task s c)
@@ -120,7 +120,7 @@ module _ (config : Config) where
     pub calm : Calm c s next
     pub settles : next.fresh ≡ []
 
-  apart_of : (s next : System) (c : ℕ) → Apart config s → Acts c s next → Apart config next
+  apart_of : (s next : System) (c : ℕ) → TasksAreApart config s → Acts c s next → TasksAreApart config next
   apart_of s next c a acts = record {
     fresh_ready = λ t h. absurd (false≢true (sym (ap (is_in t) acts.settles) ∙ h));
     apart = λ t u two at au. by t u two at au (cases_eq t c) (cases_eq u c);
@@ -147,8 +147,8 @@ module _ (config : Config) where
           both t u (a.apart t u two x.0 y.0) x.1 y.1
 
   -- no task changed that is Active
-  apart_kept : (s next : System) → Apart config s → ((u : ℕ) → Same u (task s u) (task next u))
-      → ((t : ℕ) → is_in t next.fresh ≡ true → (task next t).state ≡ mode.Ready) → Apart config next
+  apart_kept : (s next : System) → TasksAreApart config s → ((u : ℕ) → Same u (task s u) (task next u))
+      → ((t : ℕ) → is_in t next.fresh ≡ true → (task next t).state ≡ mode.Ready) → TasksAreApart config next
   apart_kept s next a calm fresh = record {
     fresh_ready = fresh;
     apart = λ t u two at au.
@@ -187,7 +187,7 @@ module _ (config : Config) where
       let P = Calm (suc u) s in
       ticked_keeps P config (parts_kept P config (calm_besides (suc u) s) (λ x d new h. h)) s c lt (λ v n. itself v (task s v)) u (λ e. absurd (omega (arith, e)))
 
-  admit_fresh : (s : System) (t : ℕ) → Apart config s → t < length s.tasks → (u : ℕ) → is_in u (admitted_state t s).fresh ≡ true
+  admit_fresh : (s : System) (t : ℕ) → TasksAreApart config s → t < length s.tasks → (u : ℕ) → is_in u (admitted_state t s).fresh ≡ true
       → (task (admitted_state t s) u).state ≡ mode.Ready
   admit_fresh s t a lt =
       by_suspended (task s t).state (record (activated_state s t) { fresh = t ∷ s.fresh }) s
@@ -213,14 +213,14 @@ module _ (config : Config) where
         settles = refl;
       })
 
-  pub run_acts : (app : App) (t func item result : ℕ) (s next : System) → OsekStep config app (event.Run t func item result) s next → Apart config s → Acts t s next
+  pub run_acts : (app : App) (t func item result : ℕ) (s next : System) → OsekStep config app (event.Run t func item result) s next → TasksAreApart config s → Acts t s next
   run_acts app t func item result s next h a = record {
     above = top_above s [] t h.1.top (λ u x. absurd (false≢true x)) a h.1.at.active;
     calm = run_calm app t func item result s next h.1;
     settles = ap (λ x. x.fresh) h.1.is;
   }
 
-  pub call_acts : (app : App) (t status : ℕ) (served : Service) (s next : System) → OsekStep config app (event.Call t served status) s next → Apart config s
+  pub call_acts : (app : App) (t status : ℕ) (served : Service) (s next : System) → OsekStep config app (event.Call t served status) s next → TasksAreApart config s
       → Acts t s next
   call_acts app t status served s next h a =
       subst (Acts t s) (sym h.1.2)
@@ -230,7 +230,7 @@ module _ (config : Config) where
         settles = refl;
       })
 
-  pub left_acts : (app : App) (t : ℕ) (served : Service) (s next : System) → OsekStep config app (event.Left t served) s next → Apart config s → Acts t s next
+  pub left_acts : (app : App) (t : ℕ) (served : Service) (s next : System) → OsekStep config app (event.Left t served) s next → TasksAreApart config s → Acts t s next
   left_acts app t served s next h a =
       subst (Acts t s) (sym h.1.2)
       (record {
@@ -239,7 +239,7 @@ module _ (config : Config) where
         settles = refl;
       })
 
-  pub back_acts : (app : App) (t : ℕ) (s next : System) → OsekStep config app (event.Back t) s next → Apart config s → Acts t s next
+  pub back_acts : (app : App) (t : ℕ) (s next : System) → OsekStep config app (event.Back t) s next → TasksAreApart config s → Acts t s next
   back_acts app t s next h a =
       subst (Acts t s) (sym h.4)
       (record {
@@ -248,13 +248,13 @@ module _ (config : Config) where
         settles = refl;
       })
 
-  pub step_apart : (app : App) (e : Event) (s next : System) → OsekStep config app e s next → length s.tasks ≡ length config.tasks → Apart config s
-      → Apart config next
+  pub step_apart : (app : App) (e : Event) (s next : System) → OsekStep config app e s next → length s.tasks ≡ length config.tasks → TasksAreApart config s
+      → TasksAreApart config next
   step_apart app event.Boot s next h count a =
-      subst (Apart config) (sym h.1)
+      subst (TasksAreApart config) (sym h.1)
       (apart_kept s (settled_state (record s { tasks = autostarted_tasks config.tasks s.tasks; booted = true })) a (boot_calm s) (λ u x. absurd (false≢true x)))
   step_apart app (event.Admit t) s next h count a =
-      subst (Apart config) (sym h.2)
+      subst (TasksAreApart config) (sym h.2)
       (apart_kept s (admitted_state t s) a (admit_calm s t) (admit_fresh s t a (subst (λ n. t < n) (sym count) h.1)))
   step_apart app (event.Enter t) s next h count a = apart_of s next t a (enter_acts app t s next h)
   step_apart app (event.Run t func item result) s next h count a = apart_of s next t a (run_acts app t func item result s next h a)
@@ -262,15 +262,15 @@ module _ (config : Config) where
   step_apart app (event.Left t served) s next h count a = apart_of s next t a (left_acts app t served s next h a)
   step_apart app (event.Back t) s next h count a = apart_of s next t a (back_acts app t s next h a)
   step_apart app event.Idle s next h count a =
-      subst (Apart config) (sym h.3) (apart_kept s (settled_state s) a (λ u. itself u (task s u)) (λ u x. absurd (false≢true x)))
+      subst (TasksAreApart config) (sym h.3) (apart_kept s (settled_state s) a (λ u. itself u (task s u)) (λ u x. absurd (false≢true x)))
   step_apart app event.Stray s next h count a = absurd h
   step_apart app (event.Due c) s next h count a =
-      subst (Apart config) (sym h.2) (apart_kept s (made_due c s) a (λ u. itself u (task s u)) a.fresh_ready)
+      subst (TasksAreApart config) (sym h.2) (apart_kept s (due_state c s) a (λ u. itself u (task s u)) a.fresh_ready)
   step_apart app (event.Tick c) s next h count a =
-      subst (Apart config) (sym h.2)
+      subst (TasksAreApart config) (sym h.2)
       (apart_kept s (settled_state (ticked_state config c s)) a (tick_calm s c h.1.declared) (λ u x. absurd (false≢true x)))
 
-  pub opening_apart : (app : App) → Apart config (opening config app)
+  pub opening_apart : (app : App) → TasksAreApart config (opening config app)
   opening_apart app = record {
     fresh_ready = λ u x. absurd (false≢true x);
     apart = λ t u two at au. absurd (asleep (opening config app) t (ap (λ k. k.state) (asleep_at config.tasks t)) at);

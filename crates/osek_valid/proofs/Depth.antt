@@ -4,13 +4,13 @@ use Rattle.std.proofs.lemmas.Bool.{false≢true, false_from_ne_true, or_cases, e
 use Rattle.sloth_base.specs.declared.config.Config.{Config}
 use Rattle.sloth_base.specs.declared.app.App.{App}
 use Rattle.osek_scheduler.specs.State.{Frame}
-use Rattle.code_rules.specs.Code.{CallChain, Calls, Reaches, is_in}
+use Rattle.code_rules.specs.Code.{IsCallChain, Calls, Reaches, is_in}
 use Rattle.osek_valid.proofs.Facts.{Facts}
 use Rattle.osek_valid.specs.Valid.{IsCalledFrom, AreCalls, AreDistinct}
 use Rattle.osek_valid.proofs.Stacks.{calls_reach}
 
 module _ (config : Config) (app : App) (w : Facts config app) (t : ℕ) where
-  chained : (f g h : ℕ) → Calls app f g → Reaches app g h → (between : List ℕ) × CallChain app f between h
+  chained : (f g h : ℕ) → Calls app f g → Reaches app g h → (between : List ℕ) × IsCallChain app f between h
   chained f g h calls (inl e) = ([], subst (Calls app f) e calls)
   chained f g h calls (inr chain) = (g ∷ chain.0, (calls, chain.1))
 
@@ -23,7 +23,7 @@ module _ (config : Config) (app : App) (w : Facts config app) (t : ℕ) where
       by : (is_in h (map (λ x. x.func) outer) ≡ true → ⊥) → ((caller.func == h) ≡ true) ⊎ (is_in h (map (λ x. x.func) outer) ≡ true) → ⊥
       by rest (inl same) =
           let c = chained caller.func f h (caller.item, called.1) reach in
-          w.acyclic h c.0 (subst (λ x. CallChain app x c.0 h) (eqb-true caller.func h same) c.1)
+          w.acyclic h c.0 (subst (λ x. IsCallChain app x c.0 h) (eqb-true caller.func h same) c.1)
       by rest (inr later) = rest later
 
   pub frames_differ : (frames : List Frame) → AreCalls app t frames → AreDistinct (map (λ x. x.func) frames)

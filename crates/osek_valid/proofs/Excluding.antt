@@ -8,10 +8,10 @@ use Rattle.sloth_base.specs.declared.app.App.{App}
 use Rattle.osek_scheduler.specs.declared.state.TaskState.{TaskState}
 use Rattle.osek_scheduler.specs.declared.state.TaskState.TheVariants as mode
 use Rattle.osek_scheduler.specs.State.{Task, System, task}
-use Rattle.sloth_base.specs.Named.{undeclared}
+use Rattle.sloth_base.specs.Named.{undeclared_task}
 use Rattle.osek_scheduler.specs.Priority.{is_in, greatest, highest_priority, ceiling}
-use Rattle.osek_valid.specs.Valid.{MayHold, InState, IsValidTask, Valid}
-use Rattle.osek_valid.specs.Apart.{priority_of, static_priority, Apart, Excludes}
+use Rattle.osek_valid.specs.Valid.{MayHold, InState, IsValidTask, IsValid}
+use Rattle.osek_valid.specs.Apart.{priority_of, static_priority, TasksAreApart, Excludes}
 use Rattle.osek_valid.proofs.Apart.{at_least_static}
 
 le_max_left : (a b c : ℕ) → c ≤ a → c ≤ max a b
@@ -29,21 +29,21 @@ greatest_of f (x ∷ rs) r h = by (greatest_of f rs r) (or_cases _ _ h)
     by rest (inl e) = le_max_left (f x) _ _ (subst (λ y. f r ≤ f y) (sym (eqb-true x r e)) (omega arith))
     by rest (inr e) = le_max_right (f x) _ _ (rest e)
 
-pub among : (ds : List TaskDecl) (t : ℕ) → t < length ds → (get_or ds t undeclared).priority ≤ greatest (map (λ d. d.priority) ds)
+pub among : (ds : List TaskDecl) (t : ℕ) → t < length ds → (get_or ds t undeclared_task).priority ≤ greatest (map (λ d. d.priority) ds)
 among [] t lt = absurd (omega (arith, lt))
 among (d ∷ ds) zero lt = le_max_left d.priority _ _ (omega arith)
 among (d ∷ ds) (suc t) lt = le_max_right d.priority _ _ (among ds t (omega (arith, lt)))
 
-among_users : (r : ℕ) (ds : List TaskDecl) (t : ℕ) → t < length ds → is_in r (get_or ds t undeclared).resources ≡ true
-    → (get_or ds t undeclared).priority ≤ greatest (map (λ d. d.priority) (filter (λ d. is_in r d.resources) ds))
+among_users : (r : ℕ) (ds : List TaskDecl) (t : ℕ) → t < length ds → is_in r (get_or ds t undeclared_task).resources ≡ true
+    → (get_or ds t undeclared_task).priority ≤ greatest (map (λ d. d.priority) (filter (λ d. is_in r d.resources) ds))
 among_users r [] t lt uses = absurd (omega (arith, lt))
 among_users r (d ∷ ds) zero lt uses =
     let P : Bool → Type 0 = λ b. d.priority ≤ greatest (map (λ d. d.priority) (cond b (d ∷ filter (λ d. is_in r d.resources) ds) (filter (λ d. is_in r d.resources) ds))) in
     subst P (sym uses) (le_max_left d.priority _ _ (omega arith))
 among_users r (d ∷ ds) (suc t) lt uses = by (is_in r d.resources) (among_users r ds t (omega (arith, lt)) uses)
   where
-    by : (b : Bool) → (get_or ds t undeclared).priority ≤ greatest (map (λ d. d.priority) (filter (λ d. is_in r d.resources) ds))
-        → (get_or ds t undeclared).priority ≤ greatest (map (λ d. d.priority) (cond b (d ∷ filter (λ d. is_in r d.resources) ds) (filter (λ d. is_in r d.resources) ds)))
+    by : (b : Bool) → (get_or ds t undeclared_task).priority ≤ greatest (map (λ d. d.priority) (filter (λ d. is_in r d.resources) ds))
+        → (get_or ds t undeclared_task).priority ≤ greatest (map (λ d. d.priority) (cond b (d ∷ filter (λ d. is_in r d.resources) ds) (filter (λ d. is_in r d.resources) ds)))
     by true h = le_max_right d.priority _ _ h
     by false h = h
 
@@ -81,7 +81,7 @@ module _ (config : Config) (app : App) where
       by mode.Active e i = e
       by (mode.Waiting mask) e i = absurd (none i.0.holds)
 
-  pub excludes : (s : System) → Valid config app s → Apart config s → Excludes config s
+  pub excludes : (s : System) → IsValid config app s → TasksAreApart config s → Excludes config s
   excludes s v a = record {
     one_holder = λ t u r two ht hu.
         let kt = v.each t two.first in

@@ -1,5 +1,5 @@
 -- Where no rule has a fault, the rules hold of each item.
-use Rattle.std.proofs.Common.{◌≡◌, ℕ, zero, suc, ◌+◌, ◌<◌, ◌≤◌, ◌==◌, ◌⊎◌, List, [], ◌∷◌, ◌++◌, Bool, true, false, ◌||◌, cond, length, get_or, take, refl, sym, ap, ◌∙◌, subst, arith, inl, inr, Some, None, Option, bit_and}
+use Rattle.std.proofs.Common.{◌≡◌, ℕ, zero, suc, ◌+◌, ◌<◌, ◌≤◌, ◌==◌, ◌⊎◌, List, [], ◌∷◌, ◌++◌, Bool, true, false, ◌||◌, cond, length, get_or, take, refl, sym, ap, ◌∙◌, subst, arith, inl, inr, Some, None, Option}
 use Rattle.std.specs.Prelude.{◌≢◌}
 use Rattle.std.proofs.lemmas.Bool.{true≢false, false_from_ne_true, true_from_ne_false, eqb-true, cases_eq, cases_lt}
 use Rattle.std.proofs.lemmas.Nat.{le_or_l}
@@ -14,11 +14,11 @@ use Rattle.sloth_base.specs.declared.refusal.Code.TheVariants as code
 use Rattle.sloth_base.specs.declared.service.Service.{Service}
 use Rattle.sloth_base.specs.declared.service.Service.TheVariants as service
 use Rattle.sloth_base.specs.Arithmetic.{size_of}
-use Rattle.sloth_base.specs.Named.{function, missing, declaration, operation, label_of, nowhere, no_item, symbol_size}
+use Rattle.sloth_base.specs.Named.{function, no_function, declaration, operation, label_of, no_label, no_item, symbol_size}
 use Rattle.code_rules.specs.AppRange.{AppInRange, IsBody, IsOp, IsMask, mask_of, no_event}
-use Rattle.code_rules.specs.Code.{IsItem, serve, CallChain, Reaches, TaskReaches, Pauses, Ends, way, GoesOn, is_in, is_last, mark_at_labels, held_at_labels, held_fallen_into, is_fallen_into}
+use Rattle.code_rules.specs.Code.{IsItem, service_op, IsCallChain, Reaches, TaskReaches, Pauses, Ends, way, GoesOn, is_in, is_last, mark_at_labels, held_list_at_labels, held_list_fallen_into, is_fallen_into}
 use Rattle.code_rules.specs.WellFormed
-use Rattle.code_rules.specs.WellFormed.{HasEvents, held_before, Breaks, at_header, at_label, at_item, falling_in, on_cycle}
+use Rattle.code_rules.specs.WellFormed.{HasEvents, held_list_before, Breaks, at_header, at_label, at_item, falling_in, on_cycle}
 use Rattle.osek_valid.specs.Valid.{MayHold}
 
 -- ---- the facts
@@ -38,8 +38,8 @@ pub record Facts (config : Config) (app : App) : Type 0 where
   pub in_range : AppInRange config app
   pub items : (f i : ℕ) (o : Op) → IsItem app f i o → IsOp config app (function app f) o
   pub label_items : (f k : ℕ) → f < length app.funcs → k < length (function app f).labels → (label_of (function app f) k).item ≤ length (function app f).items
-  pub waits : (f i o m : ℕ) → IsItem app f i (serve service.WaitEvent o m) → 0 < m
-  pub acyclic : (f : ℕ) (between : List ℕ) → ¬ (CallChain app f between f)
+  pub waits : (f i o m : ℕ) → IsItem app f i (service_op service.WaitEvent o m) → 0 < m
+  pub acyclic : (f : ℕ) (between : List ℕ) → ¬ (IsCallChain app f between f)
   pub frame_loads : (f i rd w : ℕ) → IsItem app f i (op.FrameLoad rd w) → w < (function app f).frame_words
   pub frame_stores : (f i rs w : ℕ) → IsItem app f i (op.FrameStore rs w) → w < (function app f).frame_words
   pub loads : (f i rd y offset : ℕ) (w : Width) → IsItem app f i (op.Load w rd y offset) → offset + size_of w ≤ symbol_size app y
@@ -48,22 +48,22 @@ pub record Facts (config : Config) (app : App) : Type 0 where
   pub masked_stores : (f i rs y index mask : ℕ) (w : Width) → IsItem app f i (op.StoreAt w rs y index mask) → mask + size_of w ≤ symbol_size app y
   pub has_items : (f : ℕ) → f < length app.funcs → 0 < length (function app f).items
   pub stays_inside : (f i j : ℕ) → f < length app.funcs → i < length (function app f).items → GoesOn (function app f) i j → j < length (function app f).items
-  pub jumps_agree : (f i k : ℕ) → GoesTo app f i k → (label_of (function app f) k).holds ≡ held_before app f i
+  pub jumps_agree : (f i k : ℕ) → GoesTo app f i k → (label_of (function app f) k).holds ≡ held_list_before app f i
   pub labels_agree : (f i : ℕ) → f < length app.funcs
-      → LabelsAgree i (is_fallen_into (function app f) i) (held_fallen_into (function app f) i) (function app f).labels
-  pub releases_last : (f i r m : ℕ) → IsItem app f i (serve service.ReleaseResource r m) → (front : List ℕ) × (held_before app f i ≡ front ++ r ∷ [])
-  pub takes_new : (f i r m : ℕ) → IsItem app f i (serve service.GetResource r m) → is_in r (held_before app f i) ≡ false
-  pub calls_take_new : (f i g h j r m : ℕ) → IsItem app f i (op.Invoke g) → Reaches app g h → IsItem app h j (serve service.GetResource r m)
-      → is_in r (held_before app f i) ≡ false
-  pub serves_free : (f i o m : ℕ) (s : Service) → IsItem app f i (serve s o m) → Ends s ⊎ Pauses s → held_before app f i ≡ []
-  pub returns_free : (f i : ℕ) → IsItem app f i op.Return → held_before app f i ≡ []
-  pub calls_free : (f i g h j o m : ℕ) (s : Service) → IsItem app f i (op.Invoke g) → Reaches app g h → IsItem app h j (serve s o m)
-      → Pauses s → held_before app f i ≡ []
-  pub ends_in_task : (f i o m : ℕ) (s : Service) → IsItem app f i (serve s o m) → Ends s → (t : ℕ) × ((function app f).task ≡ Some t)
+      → LabelsAgree i (is_fallen_into (function app f) i) (held_list_fallen_into (function app f) i) (function app f).labels
+  pub releases_last : (f i r m : ℕ) → IsItem app f i (service_op service.ReleaseResource r m) → (front : List ℕ) × (held_list_before app f i ≡ front ++ r ∷ [])
+  pub takes_new : (f i r m : ℕ) → IsItem app f i (service_op service.GetResource r m) → is_in r (held_list_before app f i) ≡ false
+  pub calls_take_new : (f i g h j r m : ℕ) → IsItem app f i (op.Invoke g) → Reaches app g h → IsItem app h j (service_op service.GetResource r m)
+      → is_in r (held_list_before app f i) ≡ false
+  pub serves_free : (f i o m : ℕ) (s : Service) → IsItem app f i (service_op s o m) → Ends s ⊎ Pauses s → held_list_before app f i ≡ []
+  pub returns_free : (f i : ℕ) → IsItem app f i op.Return → held_list_before app f i ≡ []
+  pub calls_free : (f i g h j o m : ℕ) (s : Service) → IsItem app f i (op.Invoke g) → Reaches app g h → IsItem app h j (service_op s o m)
+      → Pauses s → held_list_before app f i ≡ []
+  pub ends_in_task : (f i o m : ℕ) (s : Service) → IsItem app f i (service_op s o m) → Ends s → (t : ℕ) × ((function app f).task ≡ Some t)
   pub returns_in_func : (f i : ℕ) → IsItem app f i op.Return → (function app f).task ≡ None
-  pub takes_listed : (t f i r m : ℕ) → TaskReaches app t f → IsItem app f i (serve service.GetResource r m) → MayHold config t r
-  pub waits_own : (t f i o m : ℕ) → TaskReaches app t f → IsItem app f i (serve service.WaitEvent o m) → HasEvents (declaration config t) m
-  pub sets_declared : (f i t m : ℕ) → IsItem app f i (serve service.SetEvent t m) → HasEvents (declaration config t) m
+  pub takes_listed : (t f i r m : ℕ) → TaskReaches app t f → IsItem app f i (service_op service.GetResource r m) → MayHold config t r
+  pub waits_own : (t f i o m : ℕ) → TaskReaches app t f → IsItem app f i (service_op service.WaitEvent o m) → HasEvents (declaration config t) m
+  pub sets_declared : (f i t m : ℕ) → IsItem app f i (service_op service.SetEvent t m) → HasEvents (declaration config t) m
 
 -- ---- what is not false
 
@@ -121,8 +121,8 @@ front_of r (x ∷ y ∷ ys) e = let f = front_of r (y ∷ ys) e in (x ∷ f.0, a
 
 -- the labels one by one, and all of them at one place
 labels_agree_of : (i : ℕ) (into : Bool) (held : List ℕ) (labels : List Label)
-    → ((k : ℕ) → k < length labels → (get_or labels k nowhere).item ≡ i → mark_at_labels i (take k labels) into ≡ true
-    → (get_or labels k nowhere).holds ≡ held_at_labels i (take k labels) held)
+    → ((k : ℕ) → k < length labels → (get_or labels k no_label).item ≡ i → mark_at_labels i (take k labels) into ≡ true
+    → (get_or labels k no_label).holds ≡ held_list_at_labels i (take k labels) held)
     → LabelsAgree i into held labels
 labels_agree_of i into held [] h = tt
 labels_agree_of i into held (l ∷ labels) h = (
@@ -152,7 +152,7 @@ module _ (config : Config) (app : App) (w : WellFormed.WellFormed config app) wh
           no_way e (inr x) = true≢false (sym x ∙ e)
 
   body_of_range : (f : ℕ) → f < length app.funcs → IsBody config app (function app f)
-  body_of_range f known = w.in_range.bodies f missing known
+  body_of_range f known = w.in_range.bodies f no_function known
 
   item_in_range : (f i : ℕ) (o : Op) → IsItem app f i o → IsOp config app (function app f) o
   item_in_range f i o is = subst (IsOp config app (function app f)) is.is ((body_of_range f is.known).items i no_item is.inside)
@@ -170,11 +170,11 @@ module _ (config : Config) (app : App) (w : WellFormed.WellFormed config app) wh
   masks : (f i : ℕ) (o : Op) → IsItem app f i o → ¬ (WellFormed.MasksPast app o)
   masks f i o is = at f i o code.V4 (WellFormed.MasksPast app) is WellFormed.masks_past
 
-  takes : (f i : ℕ) (o : Op) → IsItem app f i o → ¬ (WellFormed.TakesHeld app (held_before app f i) o)
-  takes f i o is = at f i o code.V9 (WellFormed.TakesHeld app (held_before app f i)) is WellFormed.takes_held
+  takes : (f i : ℕ) (o : Op) → IsItem app f i o → ¬ (WellFormed.TakesHeld app (held_list_before app f i) o)
+  takes f i o is = at f i o code.V9 (WellFormed.TakesHeld app (held_list_before app f i)) is WellFormed.takes_held
 
-  leaves : (f i : ℕ) (o : Op) → IsItem app f i o → ¬ (WellFormed.LeavesHolding app (held_before app f i) o)
-  leaves f i o is = at f i o code.V10 (WellFormed.LeavesHolding app (held_before app f i)) is WellFormed.leaves_holding
+  leaves : (f i : ℕ) (o : Op) → IsItem app f i o → ¬ (WellFormed.LeavesHolding app (held_list_before app f i) o)
+  leaves f i o is = at f i o code.V10 (WellFormed.LeavesHolding app (held_list_before app f i)) is WellFormed.leaves_holding
 
   wrongly : (f i : ℕ) (o : Op) → IsItem app f i o → ¬ (WellFormed.LeavesWrongly (function app f) o)
   wrongly f i o is = at f i o code.V11 (WellFormed.LeavesWrongly (function app f)) is WellFormed.leaves_wrongly
@@ -195,19 +195,19 @@ module _ (config : Config) (app : App) (w : WellFormed.WellFormed config app) wh
 
   agrees : (f i k : ℕ) → f < length app.funcs → k < length (function app f).labels → (label_of (function app f) k).item ≡ i
       → mark_at_labels i (take k (function app f).labels) (is_fallen_into (function app f) i) ≡ true
-      → (label_of (function app f) k).holds ≡ held_at_labels i (take k (function app f).labels) (held_fallen_into (function app f) i)
+      → (label_of (function app f) k).holds ≡ held_list_at_labels i (take k (function app f).labels) (held_list_fallen_into (function app f) i)
   agrees f i k known lt is into =
       let g = function app f in
       let P : ℕ → Type 0 = λ x. mark_at_labels x (take k g.labels) (is_fallen_into g x) ≡ true in
-      let Q : ℕ → Type 0 = λ x. (label_of g k).holds ≡ held_at_labels x (take k g.labels) (held_fallen_into g x) in
+      let Q : ℕ → Type 0 = λ x. (label_of g k).holds ≡ held_list_at_labels x (take k g.labels) (held_list_fallen_into g x) in
       subst Q is (stable_list _ _ (λ n. w.no_fault _ (f, known, at_label k lt (falling_in (subst P (sym is) into) n))))
 
   pub facts : Facts config app
   facts = record {
     in_range = w.in_range;
     items = item_in_range;
-    label_items = λ f k known lt. ((body_of_range f known).labels k nowhere lt).place;
-    waits = λ f i o m is. some_mask m (item_in_range f i (serve service.WaitEvent o m) is).1;
+    label_items = λ f k known lt. ((body_of_range f known).labels k no_label lt).place;
+    waits = λ f i o m is. some_mask m (item_in_range f i (service_op service.WaitEvent o m) is).1;
     acyclic = λ f between chain. w.no_cycle _ (on_cycle f between chain);
     frame_loads = λ f i rd n is. stable_below n _ (accesses f i (op.FrameLoad rd n) is);
     frame_stores = λ f i rs n is. stable_below n _ (accesses f i (op.FrameStore rs n) is);
@@ -223,18 +223,18 @@ module _ (config : Config) (app : App) (w : WellFormed.WellFormed config app) wh
         stable_list _ _ (λ n. w.no_fault _ (f, p.0, at_item i code.V7 p.1 (WellFormed.holds_other (k, way_of app f i k goes, n))));
     labels_agree = λ f i known. labels_agree_of i _ _ _ (λ k lt is into. agrees f i k known lt is into);
     releases_last = λ f i r m is.
-        let o = serve service.ReleaseResource r m in
-        let held = held_before app f i in
+        let o = service_op service.ReleaseResource r m in
+        let held = held_list_before app f i in
         front_of r _ (true_from_ne_false _ (λ e. at f i o code.V8 (WellFormed.ReleasesOther held) is WellFormed.releases_other (refl, e)));
-    takes_new = λ f i r m is. false_from_ne_true _ (λ e. takes f i (serve service.GetResource r m) is (refl, e));
+    takes_new = λ f i r m is. false_from_ne_true _ (λ e. takes f i (service_op service.GetResource r m) is (refl, e));
     calls_take_new = λ f i g h j r m is reach there. false_from_ne_true _ (λ e. takes f i (op.Invoke g) is (r, (h, j, m, reach, there), e));
-    serves_free = λ f i o m s is kind. stable_list _ [] (λ n. leaves f i (serve s o m) is (kind, n));
+    serves_free = λ f i o m s is kind. stable_list _ [] (λ n. leaves f i (service_op s o m) is (kind, n));
     returns_free = λ f i is. stable_list _ [] (λ n. leaves f i op.Return is n);
     calls_free = λ f i g h j o m s is reach there pauses. stable_list _ [] (λ n. leaves f i (op.Invoke g) is ((h, j, s, o, m, reach, there, pauses), n));
-    ends_in_task = λ f i o m s is ends. some_is _ (λ e. wrongly f i (serve s o m) is (ends, e));
+    ends_in_task = λ f i o m s is ends. some_is _ (λ e. wrongly f i (service_op s o m) is (ends, e));
     returns_in_func = λ f i is. none_is _ (wrongly f i op.Return is);
     takes_listed = λ t f i r m reach is.
-        stable_hold t r (λ n. uses f i (serve service.GetResource r m) is (λ e. n (inl e), (t, reach, λ l. n (inr l))));
-    waits_own = λ t f i o m reach is. stable_eq _ m (λ n. uses f i (serve service.WaitEvent o m) is (t, reach, n));
-    sets_declared = λ f i t m is. stable_eq _ m (λ n. uses f i (serve service.SetEvent t m) is n);
+        stable_hold t r (λ n. uses f i (service_op service.GetResource r m) is (λ e. n (inl e), (t, reach, λ l. n (inr l))));
+    waits_own = λ t f i o m reach is. stable_eq _ m (λ n. uses f i (service_op service.WaitEvent o m) is (t, reach, n));
+    sets_declared = λ f i t m is. stable_eq _ m (λ n. uses f i (service_op service.SetEvent t m) is n);
   }

@@ -9,14 +9,14 @@ use Rattle.osek_scheduler.specs.declared.state.Alarm.{Alarm}
 use Rattle.osek_scheduler.specs.declared.state.Counter.{Counter}
 use Rattle.osek_scheduler.specs.declared.state.TaskState.TheVariants as mode
 use Rattle.osek_scheduler.specs.State.{Frame, Task, Clock, System, sleeping_task, task, with_task, no_counter, with_counter, with_alarm}
-use Rattle.osek_scheduler.specs.Meaning.{going_on}
+use Rattle.osek_scheduler.specs.Meaning.{going_on_frame}
 use Rattle.osek_scheduler.specs.Services.{moved_frames}
 use Rattle.osek_scheduler.specs.Steps.{settled_state, IsAt}
 use Rattle.sloth_base.specs.Named.{declaration, counter_declaration}
 use Rattle.code_rules.specs.Code.{IsItem, is_followed, held_after, is_in}
 use Rattle.osek_valid.proofs.Facts.{Facts}
-use Rattle.code_rules.specs.WellFormed.{held_before, HasEvents}
-use Rattle.osek_valid.specs.Valid.{MayHold, IsFrame, IsCalledFrom, AreCalls, held_by, AreDistinct, InState, IsValidTask, IsTimed, Valid}
+use Rattle.code_rules.specs.WellFormed.{held_list_before, HasEvents}
+use Rattle.osek_valid.specs.Valid.{MayHold, IsFrame, IsCalledFrom, AreCalls, held_by, AreDistinct, InState, IsValidTask, IsTimed, IsValid}
 use Rattle.osek_valid.proofs.Held.{falls_inside, falls_holds}
 
 -- a fact on each thing of a list, where one is written
@@ -37,8 +37,8 @@ at_set xs t u new none P same here = by (cases_eq u t)
 
 module _ (config : Config) (app : App) where
   -- one task's record changes
-  pub keeps : (s : System) (t : ℕ) (new : Task) → Valid config app s → s.booted ≡ true → t < length config.tasks → IsValidTask config app t new
-      → Valid config app (with_task s t new)
+  pub keeps : (s : System) (t : ℕ) (new : Task) → IsValid config app s → s.booted ≡ true → t < length config.tasks → IsValidTask config app t new
+      → IsValid config app (with_task s t new)
   keeps s t new v booted declared good = record {
     count = length-set s.tasks t new ∙ v.count;
     each = λ u lt.
@@ -54,18 +54,18 @@ module _ (config : Config) (app : App) where
   }
 
   -- the counters and alarms change
-  clock_kept : (s : System) (new : Clock) → Valid config app s → IsTimed config new → Valid config app (record s { clock = new })
+  clock_kept : (s : System) (new : Clock) → IsValid config app s → IsTimed config new → IsValid config app (record s { clock = new })
   clock_kept s new v timed = record { count = v.count; each = v.each; sizes = v.sizes; asleep = v.asleep; clock = timed }
 
   -- one alarm changes
-  pub alarm_kept : (s : System) (a : ℕ) (new : Alarm) → Valid config app s → Valid config app (with_alarm s a new)
+  pub alarm_kept : (s : System) (a : ℕ) (new : Alarm) → IsValid config app s → IsValid config app (with_alarm s a new)
   alarm_kept s a new v =
       clock_kept s (record s.clock { alarms = set s.clock.alarms a new }) v
       (record { counters = v.clock.counters; alarms = length-set s.clock.alarms a new ∙ v.clock.alarms; values = v.clock.values })
 
   -- one counter changes
-  pub counter_kept : (s : System) (c : ℕ) (new : Counter) → Valid config app s → new.value ≤ (counter_declaration config c).max
-      → Valid config app (with_counter s c new)
+  pub counter_kept : (s : System) (c : ℕ) (new : Counter) → IsValid config app s → new.value ≤ (counter_declaration config c).max
+      → IsValid config app (with_counter s c new)
   counter_kept s c new v le =
       clock_kept s (record s.clock { counters = set s.clock.counters c new }) v
       (record {
@@ -75,7 +75,7 @@ module _ (config : Config) (app : App) where
             (λ e. subst (λ x. new.value ≤ (counter_declaration config x).max) (sym e) le);
       })
 
-  pub settles : (s : System) → Valid config app s → Valid config app (settled_state s)
+  pub settles : (s : System) → IsValid config app s → IsValid config app (settled_state s)
   settles s v = record { count = v.count; each = v.each; sizes = v.sizes; asleep = v.asleep; clock = v.clock }
 
 -- the state of each task stays where that of the changed one does
@@ -94,14 +94,14 @@ pub record Running (config : Config) (app : App) (t : ℕ) (k : Task) (frame : F
   pub is_frame : IsFrame app frame
   pub called : IsCalledFrom app t frame.func outer
   pub item : IsItem app frame.func frame.item o
-  pub held : k.held ≡ held_by app outer ++ held_before app frame.func frame.item
+  pub held : k.held ≡ held_by app outer ++ held_list_before app frame.func frame.item
   pub raised : k.raised ≡ ((declaration config t).non && not k.owed)
   pub registers : length k.registers ≡ 25
   pub listed : (r : ℕ) → is_in r k.held ≡ true → MayHold config t r
   pub distinct : AreDistinct k.held
   pub events : HasEvents (declaration config t) k.events
 
-pub running : (config : Config) (app : App) (s : System) (t : ℕ) (o : Op) → Valid config app s → t < length config.tasks → (at : IsAt app s t o)
+pub running : (config : Config) (app : App) (s : System) (t : ℕ) (o : Op) → IsValid config app s → t < length config.tasks → (at : IsAt app s t o)
     → Running config app t (task s t) at.frame at.outer o
 running config app s t o v declared at =
     let k = v.each t declared in
@@ -126,7 +126,7 @@ running config app s t o v declared at =
 -- a task that runs and owes nothing, with these frames
 pub runs_on : (config : Config) (app : App) (t : ℕ) (new : Task) (frame : Frame) (outer : List Frame) → new.state ≡ mode.Active
     → new.frames ≡ frame ∷ outer → IsFrame app frame → IsCalledFrom app t frame.func outer
-    → new.held ≡ held_by app outer ++ held_before app frame.func frame.item → new.raised ≡ ((declaration config t).non && not new.owed)
+    → new.held ≡ held_by app outer ++ held_list_before app frame.func frame.item → new.raised ≡ ((declaration config t).non && not new.owed)
     → (new.owed ≡ true → new.held ≡ []) → length new.registers ≡ 25 → ((r : ℕ) → is_in r new.held ≡ true → MayHold config t r) → AreDistinct new.held
     → HasEvents (declaration config t) new.events → IsValidTask config app t new
 runs_on config app t new frame outer active frames is_frame called held raised owed registers listed distinct events = record {
@@ -146,20 +146,20 @@ runs_on config app t new frame outer active frames is_frame called held raised o
 module _ (config : Config) (app : App) (w : Facts config app) (t : ℕ) (k : Task) (frame : Frame) (outer : List Frame) (o : Op)
     (r : Running config app t k frame outer o) where
   -- what is held stays with the next frame where that frame is before the same list
-  same_held : (new : List ℕ) (next : Frame) → new ≡ k.held → held_before app next.func next.item ≡ held_before app frame.func frame.item
-      → new ≡ held_by app outer ++ held_before app next.func next.item
+  same_held : (new : List ℕ) (next : Frame) → new ≡ k.held → held_list_before app next.func next.item ≡ held_list_before app frame.func frame.item
+      → new ≡ held_by app outer ++ held_list_before app next.func next.item
   same_held new next e h = e ∙ r.held ∙ ap (λ l. held_by app outer ++ l) (sym h)
 
   -- the next place is fallen into
-  pub next_frame : is_followed o ≡ true → IsFrame app (going_on frame)
+  pub next_frame : is_followed o ≡ true → IsFrame app (going_on_frame frame)
   next_frame goes = record { known = r.is_frame.known; inside = falls_inside config app w frame.func frame.item o r.item goes; words = r.is_frame.words }
 
   pub falls_on : (new : Task) → is_followed o ≡ true → new.state ≡ k.state → new.frames ≡ moved_frames k.frames
-      → new.held ≡ held_by app outer ++ held_after o (held_before app frame.func frame.item) → new.raised ≡ ((declaration config t).non && not new.owed)
+      → new.held ≡ held_by app outer ++ held_after o (held_list_before app frame.func frame.item) → new.raised ≡ ((declaration config t).non && not new.owed)
       → (new.owed ≡ true → new.held ≡ []) → length new.registers ≡ 25 → ((q : ℕ) → is_in q new.held ≡ true → MayHold config t q) → AreDistinct new.held
       → HasEvents (declaration config t) new.events → IsValidTask config app t new
   falls_on new goes state frames held raised owed registers listed distinct events =
-      runs_on config app t new (going_on frame) outer (state ∙ r.active) (frames ∙ ap moved_frames r.frames) (next_frame goes) r.called
+      runs_on config app t new (going_on_frame frame) outer (state ∙ r.active) (frames ∙ ap moved_frames r.frames) (next_frame goes) r.called
       (held ∙ ap (λ l. held_by app outer ++ l) (sym (falls_holds config app w frame.func frame.item o r.item goes)))
       raised owed registers listed distinct events
 
@@ -175,7 +175,7 @@ module _ (config : Config) (app : App) (w : Facts config app) (t : ℕ) (k : Tas
 
   -- it runs on in another frame of the same function, before which the same is held
   pub goes_to : (new : Task) (next : Frame) → new.state ≡ k.state → new.frames ≡ next ∷ outer → next.func ≡ frame.func → IsFrame app next
-      → held_before app next.func next.item ≡ held_before app frame.func frame.item
+      → held_list_before app next.func next.item ≡ held_list_before app frame.func frame.item
       → new.held ≡ k.held → new.raised ≡ k.raised → new.owed ≡ k.owed → length new.registers ≡ 25
       → HasEvents (declaration config t) new.events → IsValidTask config app t new
   goes_to new next state frames same is_frame holds held raised owed registers events =

@@ -9,16 +9,16 @@ use Rattle.sloth_base.specs.declared.app.Op.{Op}
 use Rattle.sloth_base.specs.declared.app.Op.TheVariants as op
 use Rattle.sloth_base.specs.declared.app.Width.{Width}
 use Rattle.osek_scheduler.specs.State.{Frame, Task, System, task, entry_frame}
-use Rattle.sloth_base.specs.Named.{function, label_of, nowhere}
+use Rattle.sloth_base.specs.Named.{function, label_of, no_label}
 use Rattle.std.proofs.lemmas.Option.{get_or_from_slice_get, same_Some}
-use Rattle.osek_scheduler.specs.Meaning.{Meant, meaning, execution, write_meaning, load_meaning, store_meaning, goes_to, accessed_bytes, bytes_after_store, bytes_of, with_register, register, going_on, target, on_some, returned, loaded_word}
+use Rattle.osek_scheduler.specs.Meaning.{ItemMeaning, meaning, execution, write_meaning, load_meaning, store_meaning, goes_to, accessed_bytes, bytes_after_store, bytes_of, with_register, register, going_on_frame, target, on_some, returned_frames, loaded_word}
 use Rattle.osek_scheduler.specs.Services.{moved_frames}
 use Rattle.osek_scheduler.specs.Steps.{Executes}
 use Rattle.osek_scheduler.proofs.Tests.{if_true_some, on_some_from}
 use Rattle.code_rules.specs.Code.{is_followed, held_after}
 use Rattle.osek_valid.proofs.Facts.{Facts, GoesTo}
-use Rattle.code_rules.specs.WellFormed.{held_before}
-use Rattle.osek_valid.specs.Valid.{IsCalledFrom, held_by, IsValidTask, Valid}
+use Rattle.code_rules.specs.WellFormed.{held_list_before}
+use Rattle.osek_valid.specs.Valid.{IsCalledFrom, held_by, IsValidTask, IsValid}
 use Rattle.osek_valid.proofs.Held.{held_at_begin, falls_inside, falls_holds, jumps_inside, jumps_holds}
 use Rattle.osek_valid.proofs.Going.{keeps, Running, running, runs_on}
 use Rattle.osek_valid.proofs.Going as going
@@ -62,52 +62,52 @@ accessed_is symbols y w offset bytes e = by (ltb y (length symbols) && leb (offs
     by false t h = absurd cc
 
 module _ (config : Config) (app : App) (w : Facts config app) (t : ℕ) (k : Task) (frame : Frame) (outer : List Frame) (symbols : List (List ℕ)) where
-  abbrev after : Meant → Task
+  abbrev after : ItemMeaning → Task
   after m = record k { registers = m.registers; frames = m.frames }
 
-  abbrev Fine : Meant → Type 0
+  abbrev Fine : ItemMeaning → Type 0
   Fine m = IsValidTask config app t (after m) × (map length m.symbols ≡ map length symbols)
 
-  fine : (m meant : Meant) → Some m ≡ Some meant → Fine m → Fine meant
+  fine : (m meant : ItemMeaning) → Some m ≡ Some meant → Fine m → Fine meant
   fine m meant e f = subst Fine (same_Some m meant e) f
 
   module _ (o : Op) (r : Running config app t k frame outer o) where
-    writes_fine : (rd value : ℕ) (meant : Meant) → is_followed o ≡ true → ((held : List ℕ) → held_after o held ≡ held)
+    writes_fine : (rd value : ℕ) (meant : ItemMeaning) → is_followed o ≡ true → ((held : List ℕ) → held_after o held ≡ held)
         → write_meaning rd value k.registers frame outer symbols ≡ Some meant → Fine meant
     writes_fine rd value meant goes holds e =
         fine _ meant e (
           going.goes_on config app w t k frame outer o r
-              (record k { registers = with_register k.registers rd value; frames = going_on frame ∷ outer })
+              (record k { registers = with_register k.registers rd value; frames = going_on_frame frame ∷ outer })
               goes holds refl (sym (ap moved_frames r.frames)) refl refl refl (length-with_register rd value k.registers ∙ r.registers) r.events,
           refl,
         )
 
-    loads_fine : (width : Width) (rd y offset : ℕ) (meant : Meant) → is_followed o ≡ true → ((held : List ℕ) → held_after o held ≡ held)
+    loads_fine : (width : Width) (rd y offset : ℕ) (meant : ItemMeaning) → is_followed o ≡ true → ((held : List ℕ) → held_after o held ≡ held)
         → load_meaning width rd y offset k.registers frame outer symbols ≡ Some meant → Fine meant
     loads_fine width rd y offset meant goes holds e =
         let found = on_some_from (accessed_bytes symbols y width offset) (λ bytes. write_meaning rd (loaded_word width bytes offset) k.registers frame outer symbols) meant e in
         writes_fine rd (loaded_word width found.0 offset) meant goes holds found.2
 
-    stores_fine : (width : Width) (rs y offset : ℕ) (meant : Meant) → is_followed o ≡ true → ((held : List ℕ) → held_after o held ≡ held)
+    stores_fine : (width : Width) (rs y offset : ℕ) (meant : ItemMeaning) → is_followed o ≡ true → ((held : List ℕ) → held_after o held ≡ held)
         → store_meaning width rs y offset k.registers frame outer symbols ≡ Some meant → Fine meant
     stores_fine width rs y offset meant goes holds e =
         let found = on_some_from (accessed_bytes symbols y width offset) (λ bytes. Some (record {
           registers = k.registers;
-          frames = going_on frame ∷ outer;
+          frames = going_on_frame frame ∷ outer;
           symbols = set symbols y (bytes_after_store width bytes offset (register k.registers rs));
           result = register k.registers rs;
         })) meant e in
         let inside = accessed_is symbols y width offset found.0 found.1 in
         fine _ meant found.2 (
-          going.goes_on config app w t k frame outer o r (record k { frames = going_on frame ∷ outer }) goes holds refl (sym (ap moved_frames r.frames))
+          going.goes_on config app w t k frame outer o r (record k { frames = going_on_frame frame ∷ outer }) goes holds refl (sym (ap moved_frames r.frames))
               refl refl refl r.registers r.events,
           set_lengths symbols y _
               (length-stored width found.0 offset (register k.registers rs) (subst (λ l. offset + size_of width ≤ length l) (sym inside.0) inside.1)
               ∙ ap length inside.0),
         )
 
-    place_fine : (item : ℕ) (meant : Meant) → item < length (function app frame.func).items
-        → held_before app frame.func item ≡ held_before app frame.func frame.item → goes_to item k.registers frame outer symbols ≡ Some meant → Fine meant
+    place_fine : (item : ℕ) (meant : ItemMeaning) → item < length (function app frame.func).items
+        → held_list_before app frame.func item ≡ held_list_before app frame.func frame.item → goes_to item k.registers frame outer symbols ≡ Some meant → Fine meant
     place_fine item meant inside holds e =
         fine _ meant e (
           going.goes_to config app w t k frame outer o r (record k { frames = record frame { item = item } ∷ outer }) (record frame { item = item })
@@ -119,9 +119,9 @@ module _ (config : Config) (app : App) (w : Facts config app) (t : ℕ) (k : Tas
   target_is : (l item : ℕ) → target app frame l ≡ Some item → (label_of (function app frame.func) l).item ≡ item
   target_is l item e =
       let found = on_some_from _ (λ found. Some found.item) item e in
-      ap (λ found. found.item) (get_or_from_slice_get (function app frame.func).labels l found.0 nowhere found.1) ∙ same_Some _ item found.2
+      ap (λ found. found.item) (get_or_from_slice_get (function app frame.func).labels l found.0 no_label found.1) ∙ same_Some _ item found.2
 
-  label_fine : (o : Op) (l item : ℕ) (meant : Meant) → Running config app t k frame outer o → GoesTo app frame.func frame.item l
+  label_fine : (o : Op) (l item : ℕ) (meant : ItemMeaning) → Running config app t k frame outer o → GoesTo app frame.func frame.item l
       → target app frame l ≡ Some item → goes_to item k.registers frame outer symbols ≡ Some meant → Fine meant
   label_fine o l item meant r goes is =
       subst (λ x. goes_to x k.registers frame outer symbols ≡ Some meant → Fine meant) (target_is l item is)
@@ -130,7 +130,7 @@ module _ (config : Config) (app : App) (w : Facts config app) (t : ℕ) (k : Tas
       (jumps_holds config app w frame.func frame.item l r.is_frame.known goes))
 
   -- a branch goes to its label or falls on
-  branch_fine : (kind : _) (a b l item : ℕ) (meant : Meant) → Running config app t k frame outer (op.Branch kind a b l) → target app frame l ≡ Some item
+  branch_fine : (kind : _) (a b l item : ℕ) (meant : ItemMeaning) → Running config app t k frame outer (op.Branch kind a b l) → target app frame l ≡ Some item
       → (taken : Bool) → goes_to (cond taken item (frame.item + 1)) k.registers frame outer symbols ≡ Some meant → Fine meant
   branch_fine kind a b l item meant r is true e = label_fine (op.Branch kind a b l) l item meant r (inr (kind, a, b, r.item)) is e
   branch_fine kind a b l item meant r is false e =
@@ -138,7 +138,7 @@ module _ (config : Config) (app : App) (w : Facts config app) (t : ℕ) (k : Tas
       (falls_inside config app w frame.func frame.item (op.Branch kind a b l) r.item refl)
       (falls_holds config app w frame.func frame.item (op.Branch kind a b l) r.item refl) e
 
-  invoke_fine : (f : ℕ) (meant : Meant) → Running config app t k frame outer (op.Invoke f)
+  invoke_fine : (f : ℕ) (meant : ItemMeaning) → Running config app t k frame outer (op.Invoke f)
       → Some (record { registers = k.registers; frames = entry_frame app f ∷ frame ∷ outer; symbols = symbols; result = 0 }) ≡ Some meant → Fine meant
   invoke_fine f meant r e =
       let known = (w.items frame.func frame.item (op.Invoke f) r.item).0 in
@@ -146,36 +146,36 @@ module _ (config : Config) (app : App) (w : Facts config app) (t : ℕ) (k : Tas
         runs_on config app t (record k { frames = entry_frame app f ∷ frame ∷ outer }) (entry_frame app f) (frame ∷ outer) r.active refl
             (record { known = known; inside = w.has_items f known; words = length-replicate (function app f).frame_words 0 })
             (r.is_frame, r.item, r.called)
-            (r.held ∙ sym (append-nil _) ∙ ap (λ l. (held_by app outer ++ held_before app frame.func frame.item) ++ l) (sym (held_at_begin config app w f known)))
+            (r.held ∙ sym (append-nil _) ∙ ap (λ l. (held_by app outer ++ held_list_before app frame.func frame.item) ++ l) (sym (held_at_begin config app w f known)))
             r.raised (λ h. absurd (true≢false (sym h ∙ r.free))) r.registers r.listed r.distinct r.events,
         refl,
       )
 
-  return_fine : (meant : Meant) → Running config app t k frame outer op.Return
-      → on_some (returned outer) (λ frames. Some (record { registers = k.registers; frames = frames; symbols = symbols; result = 0 })) ≡ Some meant → Fine meant
+  return_fine : (meant : ItemMeaning) → Running config app t k frame outer op.Return
+      → on_some (returned_frames outer) (λ frames. Some (record { registers = k.registers; frames = frames; symbols = symbols; result = 0 })) ≡ Some meant → Fine meant
   return_fine meant r e = by outer refl e r.called r.held
     where
       by : (fs : List Frame) → outer ≡ fs
-          → on_some (returned fs) (λ frames. Some (record { registers = k.registers; frames = frames; symbols = symbols; result = 0 })) ≡ Some meant
-          → IsCalledFrom app t frame.func fs → k.held ≡ held_by app fs ++ held_before app frame.func frame.item → Fine meant
+          → on_some (returned_frames fs) (λ frames. Some (record { registers = k.registers; frames = frames; symbols = symbols; result = 0 })) ≡ Some meant
+          → IsCalledFrom app t frame.func fs → k.held ≡ held_by app fs ++ held_list_before app frame.func frame.item → Fine meant
       by [] is h called held = absurd cc
       by (caller ∷ rest) is h called held =
           fine _ meant h (
-            runs_on config app t (record k { frames = going_on caller ∷ rest }) (going_on caller) rest r.active refl
+            runs_on config app t (record k { frames = going_on_frame caller ∷ rest }) (going_on_frame caller) rest r.active refl
                 (record {
                   known = called.0.known;
                   inside = falls_inside config app w caller.func caller.item (op.Invoke frame.func) called.1 refl;
                   words = called.0.words;
                 })
                 called.2
-                (held ∙ ap (λ l. (held_by app rest ++ held_before app caller.func caller.item) ++ l) (w.returns_free frame.func frame.item r.item)
+                (held ∙ ap (λ l. (held_by app rest ++ held_list_before app caller.func caller.item) ++ l) (w.returns_free frame.func frame.item r.item)
                 ∙ append-nil _
                 ∙ ap (λ l. held_by app rest ++ l) (sym (falls_holds config app w caller.func caller.item (op.Invoke frame.func) called.1 refl)))
                 r.raised (λ b. absurd (true≢false (sym b ∙ r.free))) r.registers r.listed r.distinct r.events,
             refl,
           )
 
-  frame_store_fine : (rs word : ℕ) (meant : Meant) → Running config app t k frame outer (op.FrameStore rs word)
+  frame_store_fine : (rs word : ℕ) (meant : ItemMeaning) → Running config app t k frame outer (op.FrameStore rs word)
       → Some (record {
         registers = k.registers;
         frames = record frame { item = frame.item + 1; words = set frame.words word (register k.registers rs) } ∷ outer;
@@ -196,7 +196,7 @@ module _ (config : Config) (app : App) (w : Facts config app) (t : ℕ) (k : Tas
         refl,
       )
 
-  executed : (o : Op) (meant : Meant) → Running config app t k frame outer o → execution app o k.registers frame outer symbols ≡ Some meant → Fine meant
+  executed : (o : Op) (meant : ItemMeaning) → Running config app t k frame outer o → execution app o k.registers frame outer symbols ≡ Some meant → Fine meant
   executed (op.Alu kind rd a b) meant r e = writes_fine (op.Alu kind rd a b) r rd _ meant refl (λ _. refl) e
   executed (op.AluImm kind rd a n) meant r e = writes_fine (op.AluImm kind rd a n) r rd _ meant refl (λ _. refl) e
   executed (op.Lui rd n) meant r e = writes_fine (op.Lui rd n) r rd _ meant refl (λ _. refl) e
@@ -218,15 +218,15 @@ module _ (config : Config) (app : App) (w : Facts config app) (t : ℕ) (k : Tas
   executed op.Return meant r e = return_fine meant r e
   executed (op.Serve call) meant r e = absurd cc
 
-  pub item_fine : (o : Op) (meant : Meant) → Running config app t k frame outer o → meaning app o k.registers frame outer symbols ≡ Some meant → Fine meant
+  pub item_fine : (o : Op) (meant : ItemMeaning) → Running config app t k frame outer o → meaning app o k.registers frame outer symbols ≡ Some meant → Fine meant
   item_fine o meant r e = executed o meant r (if_true_some _ _ meant e).1
 
-pub executes_valid : (config : Config) (app : App) → Facts config app → (t func item result : ℕ) (s next : System) → Valid config app s → s.booted ≡ true
-    → Executes config app t func item result s next → Valid config app next
+pub executes_valid : (config : Config) (app : App) → Facts config app → (t func item result : ℕ) (s next : System) → IsValid config app s → s.booted ≡ true
+    → Executes config app t func item result s next → IsValid config app next
 executes_valid config app w t func item result s next v booted h =
     let r = running config app s t h.operation v h.top.declared h.at in
     let f = item_fine config app w t (task s t) h.at.frame h.at.outer s.symbols h.operation h.meant r h.means in
     let new : Task = record (task s t) { registers = h.meant.registers; frames = h.meant.frames } in
     let kept = keeps config app s t new v booted h.top.declared f.0 in
-    subst (Valid config app) (sym h.is)
+    subst (IsValid config app) (sym h.is)
     (record { count = kept.count; each = kept.each; sizes = f.1 ∙ v.sizes; asleep = kept.asleep; clock = kept.clock })

@@ -15,9 +15,9 @@ use Rattle.sloth_base.specs.declared.event.Event.TheVariants as event
 use Rattle.osek_scheduler.specs.declared.state.TaskState.{TaskState}
 use Rattle.osek_scheduler.specs.declared.state.TaskState.TheVariants as mode
 use Rattle.osek_scheduler.specs.State.{Frame, Task, System, task, with_task}
-use Rattle.sloth_base.specs.Named.{function, operation, symbol_size, no_symbol, label_of, nowhere}
+use Rattle.sloth_base.specs.Named.{function, operation, symbol_size, no_symbol, label_of, no_label}
 use Rattle.osek_scheduler.specs.Priority.{is_in, IsTop}
-use Rattle.osek_scheduler.specs.Meaning.{Meant, meaning, load_meaning, store_meaning, accessed_bytes, register, is_own, registers_of, execution, target, on_some, returned}
+use Rattle.osek_scheduler.specs.Meaning.{ItemMeaning, meaning, load_meaning, store_meaning, accessed_bytes, register, is_own, registers_of, execution, target, on_some, returned_frames}
 use Rattle.osek_scheduler.specs.InTime.{admitted_line}
 use Rattle.sloth_base.specs.ServiceCodes.{is_service, object_kind}
 use Rattle.sloth_base.specs.declared.service.ObjectKind.{ObjectKind}
@@ -34,10 +34,10 @@ use Rattle.osek_scheduler.specs.Steps.{settled_state, IsAt, OsekStep}
 use Rattle.osek_scheduler.proofs.Tests.{on_some_is, if_true_is}
 use Rattle.sloth_base.specs.Arithmetic.{size_of}
 use Rattle.code_rules.specs.AppRange.{IsRegister, IsOp, IsLabel, IsResource, IsObject}
-use Rattle.code_rules.specs.Code.{serve, is_last}
+use Rattle.code_rules.specs.Code.{service_op, is_last}
 use Rattle.osek_valid.proofs.Facts.{Facts}
-use Rattle.osek_valid.specs.Valid.{held_by, AreCalls, IsCalledFrom, InState, IsValidTask, Valid}
-use Rattle.osek_valid.specs.Apart.{Apart}
+use Rattle.osek_valid.specs.Valid.{held_by, AreCalls, IsCalledFrom, InState, IsValidTask, IsValid}
+use Rattle.osek_valid.specs.Apart.{TasksAreApart}
 use Rattle.osek_valid.proofs.Stacks.{has_body}
 use Rattle.osek_valid.proofs.Going.{Running, running}
 
@@ -91,7 +91,7 @@ last_of r (x ∷ y ∷ ys) = last_of r (y ∷ ys)
 module _ (config : Config) (app : App) (w : Facts config app) (t : ℕ) (k : Task) (frame : Frame) (outer : List Frame) (symbols : List (List ℕ))
     (same : map length symbols ≡ map (λ y. length y.bytes) app.symbols) where
   abbrev Means : Op → Type 0
-  Means o = (m : Meant) × (meaning app o k.registers frame outer symbols ≡ Some m)
+  Means o = (m : ItemMeaning) × (meaning app o k.registers frame outer symbols ≡ Some m)
 
   inside : (y offset : ℕ) (width : Width) → y < length app.symbols → offset + size_of width ≤ symbol_size app y
       → accessed_bytes symbols y width offset ≡ Some (get_or symbols y [])
@@ -100,11 +100,11 @@ module _ (config : Config) (app : App) (w : Facts config app) (t : ℕ) (k : Tas
       cond-true _ _ _ (and_from _ _ (lt-ltb _ _ r.0) (le-leb _ _ (subst (λ n. offset + size_of width ≤ n) (sym r.1) le)))
 
   load_means : (width : Width) (rd y offset : ℕ) → y < length app.symbols → offset + size_of width ≤ symbol_size app y
-      → (m : Meant) × (load_meaning width rd y offset k.registers frame outer symbols ≡ Some m)
+      → (m : ItemMeaning) × (load_meaning width rd y offset k.registers frame outer symbols ≡ Some m)
   load_means width rd y offset lt le = (_, on_some_is _ _ (get_or symbols y []) (Some _) (inside y offset width lt le) refl)
 
   store_means : (width : Width) (rs y offset : ℕ) → y < length app.symbols → offset + size_of width ≤ symbol_size app y
-      → (m : Meant) × (store_meaning width rs y offset k.registers frame outer symbols ≡ Some m)
+      → (m : ItemMeaning) × (store_meaning width rs y offset k.registers frame outer symbols ≡ Some m)
   store_means width rs y offset lt le = (_, on_some_is _ _ (get_or symbols y []) (Some _) (inside y offset width lt le) refl)
 
   masked_in : (y mask x : ℕ) (width : Width) → mask + size_of width ≤ symbol_size app y → bit_and x mask + size_of width ≤ symbol_size app y
@@ -119,7 +119,7 @@ module _ (config : Config) (app : App) (w : Facts config app) (t : ℕ) (k : Tas
       clash (Some x) a b = absurd cc
 
       by : (fs : List Frame) → IsCalledFrom app t frame.func fs
-          → (m : Meant) × (on_some (returned fs) (λ frames. Some (record { registers = k.registers; frames = frames; symbols = symbols; result = 0 })) ≡ Some m)
+          → (m : ItemMeaning) × (on_some (returned_frames fs) (λ frames. Some (record { registers = k.registers; frames = frames; symbols = symbols; result = 0 })) ≡ Some m)
       by [] called =
           let body = has_body config app w t r.declared in
           absurd (clash (function app frame.func).task (w.returns_in_func frame.func frame.item r.item)
@@ -127,10 +127,10 @@ module _ (config : Config) (app : App) (w : Facts config app) (t : ℕ) (k : Tas
       by (caller ∷ rest) called = (_, refl)
 
   label_is : (l : ℕ) → IsLabel (function app frame.func) l → target app frame l ≡ Some (label_of (function app frame.func) l).item
-  label_is l lt = on_some_is _ _ _ _ (slice_get-get_or (function app frame.func).labels l nowhere lt) refl
+  label_is l lt = on_some_is _ _ _ _ (slice_get-get_or (function app frame.func).labels l no_label lt) refl
 
   abbrev Executed : Op → Type 0
-  Executed o = (m : Meant) × (execution app o k.registers frame outer symbols ≡ Some m)
+  Executed o = (m : ItemMeaning) × (execution app o k.registers frame outer symbols ≡ Some m)
 
   executes : (o : Op) → Running config app t k frame outer o → Executed o ⊎ ((call : Call) × (o ≡ op.Serve call))
   executes (op.Alu kind rd a b) r = inl (_, refl)
@@ -183,7 +183,7 @@ module _ (config : Config) (app : App) (w : Facts config app) (t : ℕ) (k : Tas
       by (inr n) (inl lt) = at false (ne_eqb q 32 n) (lt-ltb _ _ lt)
       by (inr n) (inr is) = absurd (n is.0)
 
-  last_there : (q m : ℕ) → Running config app t k frame outer (serve service.ReleaseResource q m) → is_last q k.held ≡ true
+  last_there : (q m : ℕ) → Running config app t k frame outer (service_op service.ReleaseResource q m) → is_last q k.held ≡ true
   last_there q m r =
       let last = w.releases_last frame.func frame.item q m r.item in
       ap (is_last q) (r.held ∙ ap (λ l. held_by app outer ++ l) last.1 ∙ sym (append_assoc (held_by app outer) last.0 (q ∷ [])))
@@ -195,15 +195,15 @@ module _ (config : Config) (app : App) (w : Facts config app) (t : ℕ) (k : Tas
   object_there object.Resource q h = resource_there q h
   object_there object.Alarm a h = lt-ltb _ _ h
 
-  pub there : (sv : Service) (o m : ℕ) → Running config app t k frame outer (serve sv o m) → is_there config k.held sv o ≡ true
+  pub there : (sv : Service) (o m : ℕ) → Running config app t k frame outer (service_op sv o m) → is_there config k.held sv o ≡ true
   there sv o m r =
       cond_both (is_service sv service.ReleaseResource) (is_last o k.held) (is_object config (object_kind sv) o) (λ b. b ≡ true)
-      (λ e. last_there o m (subst (λ (x : Service). Running config app t k frame outer (serve x o m)) (same_service sv service.ReleaseResource e) r))
-      (λ _. object_there (object_kind sv) o (w.items frame.func frame.item (serve sv o m) r.item).0)
+      (λ e. last_there o m (subst (λ (x : Service). Running config app t k frame outer (service_op x o m)) (same_service sv service.ReleaseResource e) r))
+      (λ _. object_there (object_kind sv) o (w.items frame.func frame.item (service_op sv o m) r.item).0)
 
 module _ (config : Config) (app : App) where
   -- a task that runs is at an item of its function
-  pub position : (s : System) (t : ℕ) → Valid config app s → t < length config.tasks → (task s t).state ≡ mode.Active → (task s t).owed ≡ false
+  pub position : (s : System) (t : ℕ) → IsValid config app s → t < length config.tasks → (task s t).state ≡ mode.Active → (task s t).owed ≡ false
       → (o : Op) × IsAt app s t o
   position s t v declared active free = by (task s t).frames refl (subst (InState config t (task s t)) active k.in_state).0 k.calls
     where
@@ -219,7 +219,7 @@ module _ (config : Config) (app : App) where
           )
 
   -- the top task, where it is Active and owes nothing, has a next event
-  pub goes : (s : System) (t : ℕ) → Facts config app → Valid config app s → Apart config s → s.booted ≡ true → IsTop config s [] t → (task s t).state ≡ mode.Active
+  pub goes : (s : System) (t : ℕ) → Facts config app → IsValid config app s → TasksAreApart config s → s.booted ≡ true → IsTop config s [] t → (task s t).state ≡ mode.Active
       → (task s t).owed ≡ false → (e : Event) × (admitted_line e ≡ None) × (next : System) × OsekStep config app e s next
   goes s t w v a booted top active free =
       let p = position s t v top.declared active free in
@@ -262,7 +262,7 @@ module _ (config : Config) (app : App) where
           (event.Left t call.service, refl, settled_state after, (booted, (after, record { top = top_but; call = call; at = at; same = refl; names = names call at; is = e }, refl)))
 
       by : (o : Op) → (at : IsAt app s t o)
-          → ((m : Meant) × (meaning app o (task s t).registers at.frame at.outer s.symbols ≡ Some m)) ⊎ ((call : Call) × (o ≡ op.Serve call))
+          → ((m : ItemMeaning) × (meaning app o (task s t).registers at.frame at.outer s.symbols ≡ Some m)) ⊎ ((call : Call) × (o ≡ op.Serve call))
           → (e : Event) × (admitted_line e ≡ None) × (next : System) × OsekStep config app e s next
       by o at (inl m) = (
         event.Run t at.frame.func at.frame.item m.0.result,

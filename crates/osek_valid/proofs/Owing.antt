@@ -10,7 +10,7 @@ use Rattle.sloth_base.specs.declared.service.Service.TheVariants as service
 use Rattle.sloth_base.specs.Named.{declaration}
 use Rattle.sloth_base.specs.ServiceCodes.{is_service}
 use Rattle.sloth_base.proofs.Services.{same_service}
-use Rattle.code_rules.specs.Code.{IsItem, serve}
+use Rattle.code_rules.specs.Code.{IsItem, service_op}
 use Rattle.stack_bounds.specs.Bounds.{ReachesSchedule}
 use Rattle.osek_scheduler.specs.declared.state.TaskState.TheVariants as mode
 use Rattle.osek_scheduler.specs.State.{Frame, Task, System, task, with_task, opening}
@@ -23,7 +23,7 @@ use Rattle.osek_scheduler.specs.declared.plan.Plan.{Plan}
 use Rattle.osek_scheduler.proofs.Outcomes.{by_suspended, on_all, on_tested, KeptByOthers, outcome_keeps}
 use Rattle.osek_scheduler.proofs.Ticking.{parts_kept, ticked_keeps}
 use Rattle.osek_scheduler.specs.Steps.{OsekStep, ServesCall, admitted_state}
-use Rattle.osek_valid.specs.Valid.{Valid}
+use Rattle.osek_valid.specs.Valid.{IsValid}
 use Rattle.osek_valid.specs.Together.{OwesBySchedule}
 use Rattle.osek_valid.proofs.Apart.{at_task}
 use Rattle.osek_valid.proofs.Facts.{Facts}
@@ -89,7 +89,7 @@ module _ (app : App) where
   starts_owes t (frame ∷ outer) old = refl
 
   module _ (config : Config) (w : Facts config app) where
-    serves_owes : (t : ℕ) (served : Service) (s : System) (answer : Outcome) → ServesCall config app t served s answer → Valid config app s → Owes s → IsAfter Owes answer
+    serves_owes : (t : ℕ) (served : Service) (s : System) (answer : Outcome) → ServesCall config app t served s answer → IsValid config app s → Owes s → IsAfter Owes answer
     serves_owes t served s answer h v each = subst (IsAfter Owes) h.is (outcome_owes config s t each served h.call.object h.call.mask reaches)
       where
         reaches : served ≡ service.Schedule → ReachesSchedule app t
@@ -102,14 +102,14 @@ module _ (app : App) where
               h.call.object,
               h.call.mask,
               task_reaches config app w t f h.at.outer h.top.declared r.called,
-              subst (λ (x : Service). IsItem app f h.at.frame.item (serve x h.call.object h.call.mask)) is r.item,
+              subst (λ (x : Service). IsItem app f h.at.frame.item (service_op x h.call.object h.call.mask)) is r.item,
             )
 
     admit_owes : (s : System) (t : ℕ) → Owes s → Owes (admitted_state t s)
     admit_owes s t each =
         by_suspended (task s t).state (record (activated_state s t) { fresh = t ∷ s.fresh }) s Owes (λ _. readied s t each) (λ _. each)
 
-    pub step_owes : (e : Event) (s next : System) → OsekStep config app e s next → Valid config app s → Owes s → Owes next
+    pub step_owes : (e : Event) (s next : System) → OsekStep config app e s next → IsValid config app s → Owes s → Owes next
     step_owes event.Boot s next h v each =
         subst Owes (sym h.1) (λ t. autostarted_at (λ k. k.owed ≡ true → ReachesSchedule app t) config.tasks s.tasks t (each t) (each t))
     step_owes (event.Admit t) s next h v each = subst Owes (sym h.2) (admit_owes s t each)

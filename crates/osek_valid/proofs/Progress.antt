@@ -12,8 +12,8 @@ use Rattle.osek_scheduler.specs.Priority.{rank, IsDue, NoTicks, IsNextTick, IsTo
 use Rattle.osek_scheduler.specs.InTime.{admitted_line}
 use Rattle.osek_scheduler.specs.Steps.{OsekStep}
 use Rattle.osek_valid.proofs.Facts.{Facts}
-use Rattle.osek_valid.specs.Valid.{Valid}
-use Rattle.osek_valid.specs.Apart.{Apart}
+use Rattle.osek_valid.specs.Valid.{IsValid}
+use Rattle.osek_valid.specs.Apart.{TasksAreApart}
 use Rattle.osek_valid.proofs.Stacks.{has_body}
 use Rattle.osek_valid.proofs.Meaning.{goes}
 
@@ -135,7 +135,7 @@ module _ (config : Config) (s : System) where
           )
       by (inr none) = inr none
 
-  pub never_sticks : (app : App) → Facts config app → Valid config app s → Apart config s → (e : Event) × (admitted_line e ≡ None) × (next : System) × OsekStep config app e s next
+  pub never_sticks : (app : App) → Facts config app → IsValid config app s → TasksAreApart config s → (e : Event) × (admitted_line e ≡ None) × (next : System) × OsekStep config app e s next
   never_sticks app w v a = by s.booted refl some_tick
     where
       owing : (t : ℕ) → s.booted ≡ true → IsTop config s [] t → (task s t).state ≡ mode.Active → (o : Bool) → (task s t).owed ≡ o

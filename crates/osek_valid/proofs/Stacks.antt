@@ -8,11 +8,11 @@ use Rattle.sloth_base.specs.declared.app.Op.TheVariants as op
 use Rattle.sloth_base.specs.declared.service.Service.{Service}
 use Rattle.sloth_base.specs.declared.service.Service.TheVariants as service
 use Rattle.sloth_base.specs.Options.{is_number}
-use Rattle.sloth_base.specs.Named.{function, body_of, missing, IsBodyOf}
+use Rattle.sloth_base.specs.Named.{function, body_of, no_function, IsBodyOf}
 use Rattle.osek_scheduler.specs.State.{Frame}
-use Rattle.code_rules.specs.Code.{IsItem, serve, Calls, Reaches, TaskReaches, Pauses, is_in, without_last}
+use Rattle.code_rules.specs.Code.{IsItem, service_op, Calls, Reaches, TaskReaches, Pauses, is_in, without_last}
 use Rattle.osek_valid.proofs.Facts.{Facts}
-use Rattle.code_rules.specs.WellFormed.{held_before}
+use Rattle.code_rules.specs.WellFormed.{held_list_before}
 use Rattle.osek_valid.specs.Valid.{IsCalledFrom, held_by, AreDistinct}
 
 -- ---- lists of resources
@@ -69,8 +69,8 @@ calls_reach app f g h calls (inl e) = inr ([], subst (Calls app f) e calls)
 calls_reach app f g h calls (inr chain) = inr (g ∷ chain.0, (calls, chain.1))
 
 -- the body of a task is found
-pub body_is : (funcs : List Func) (t f : ℕ) → f < length funcs → (get_or funcs f missing).task ≡ Some t
-    → (body_of funcs t < length funcs) × ((get_or funcs (body_of funcs t) missing).task ≡ Some t)
+pub body_is : (funcs : List Func) (t f : ℕ) → f < length funcs → (get_or funcs f no_function).task ≡ Some t
+    → (body_of funcs t < length funcs) × ((get_or funcs (body_of funcs t) no_function).task ≡ Some t)
 body_is [] t f lt is = absurd (omega (arith, lt))
 body_is (g ∷ rest) t f lt is = by (λ n. body_is rest t n) (is_number t g.task) refl
   where
@@ -78,20 +78,20 @@ body_is (g ∷ rest) t f lt is = by (λ n. body_is rest t n) (is_number t g.task
     some None e = absurd (true≢false (sym e))
     some (Some u) e = ap Some (eqb-true u t e)
 
-    later : ((n : ℕ) → n < length rest → (get_or rest n missing).task ≡ Some t → (body_of rest t < length rest) × ((get_or rest (body_of rest t) missing).task ≡ Some t))
-        → (n : ℕ) → is_number t g.task ≡ false → n < length (g ∷ rest) → (get_or (g ∷ rest) n missing).task ≡ Some t
-        → (body_of rest t < length rest) × ((get_or rest (body_of rest t) missing).task ≡ Some t)
+    later : ((n : ℕ) → n < length rest → (get_or rest n no_function).task ≡ Some t → (body_of rest t < length rest) × ((get_or rest (body_of rest t) no_function).task ≡ Some t))
+        → (n : ℕ) → is_number t g.task ≡ false → n < length (g ∷ rest) → (get_or (g ∷ rest) n no_function).task ≡ Some t
+        → (body_of rest t < length rest) × ((get_or rest (body_of rest t) no_function).task ≡ Some t)
     later found zero differs l e = absurd (true≢false (sym (ap (is_number t) e ∙ eq-eqb t t refl) ∙ differs))
     later found (suc n) differs l e = found n (omega (arith, l)) e
 
-    by : ((n : ℕ) → n < length rest → (get_or rest n missing).task ≡ Some t → (body_of rest t < length rest) × ((get_or rest (body_of rest t) missing).task ≡ Some t))
+    by : ((n : ℕ) → n < length rest → (get_or rest n no_function).task ≡ Some t → (body_of rest t < length rest) × ((get_or rest (body_of rest t) no_function).task ≡ Some t))
         → (b : Bool) → is_number t g.task ≡ b
-        → (body_of (g ∷ rest) t < length (g ∷ rest)) × ((get_or (g ∷ rest) (body_of (g ∷ rest) t) missing).task ≡ Some t)
+        → (body_of (g ∷ rest) t < length (g ∷ rest)) × ((get_or (g ∷ rest) (body_of (g ∷ rest) t) no_function).task ≡ Some t)
     by found true h =
-        let P : Bool → Type 0 = λ c. (cond c 0 (suc (body_of rest t)) < length (g ∷ rest)) × ((get_or (g ∷ rest) (cond c 0 (suc (body_of rest t))) missing).task ≡ Some t) in
+        let P : Bool → Type 0 = λ c. (cond c 0 (suc (body_of rest t)) < length (g ∷ rest)) × ((get_or (g ∷ rest) (cond c 0 (suc (body_of rest t))) no_function).task ≡ Some t) in
         subst P (sym h) (omega arith, some g.task h)
     by found false h =
-        let P : Bool → Type 0 = λ c. (cond c 0 (suc (body_of rest t)) < length (g ∷ rest)) × ((get_or (g ∷ rest) (cond c 0 (suc (body_of rest t))) missing).task ≡ Some t) in
+        let P : Bool → Type 0 = λ c. (cond c 0 (suc (body_of rest t)) < length (g ∷ rest)) × ((get_or (g ∷ rest) (cond c 0 (suc (body_of rest t))) no_function).task ≡ Some t) in
         let r = later found f h lt is in
         subst P (sym h) (omega (arith, r.0), r.1)
 
@@ -109,20 +109,20 @@ module _ (config : Config) (app : App) (w : Facts config app) (t : ℕ) where
   task_reaches f outer declared called = (body_of app.funcs t, has_body declared, stack_reaches f f outer called (inl refl))
 
   -- where the innermost function waits, the outer ones hold nothing
-  pub outer_free : (f h j o m : ℕ) (s : Service) (outer : List Frame) → IsCalledFrom app t f outer → Reaches app f h → IsItem app h j (serve s o m)
+  pub outer_free : (f h j o m : ℕ) (s : Service) (outer : List Frame) → IsCalledFrom app t f outer → Reaches app f h → IsItem app h j (service_op s o m)
       → Pauses s → held_by app outer ≡ []
   outer_free f h j o m s [] called r at leaves = refl
   outer_free f h j o m s (caller ∷ outer) called r at leaves =
-      ap (λ l. l ++ held_before app caller.func caller.item)
+      ap (λ l. l ++ held_list_before app caller.func caller.item)
       (outer_free caller.func h j o m s outer called.2 (calls_reach app caller.func f h (caller.item, called.1) r) at leaves)
       ∙ w.calls_free caller.func caller.item f h j o m s called.1 r at leaves
 
   -- what the innermost function takes, no outer one holds
-  pub outer_new : (f h j r m : ℕ) (outer : List Frame) → IsCalledFrom app t f outer → Reaches app f h → IsItem app h j (serve service.GetResource r m)
+  pub outer_new : (f h j r m : ℕ) (outer : List Frame) → IsCalledFrom app t f outer → Reaches app f h → IsItem app h j (service_op service.GetResource r m)
       → is_in r (held_by app outer) ≡ false
   outer_new f h j r m [] called reach at = refl
   outer_new f h j r m (caller ∷ outer) called reach at =
-      is_in-append r (held_by app outer) (held_before app caller.func caller.item)
+      is_in-append r (held_by app outer) (held_list_before app caller.func caller.item)
       ∙ or_from _ _ (outer_new caller.func h j r m outer called.2 (calls_reach app caller.func f h (caller.item, called.1) reach) at)
       (w.calls_take_new caller.func caller.item f h j r m called.1 reach at)
 

@@ -16,9 +16,9 @@ use Rattle.osek_scheduler.specs.declared.state.TaskState.TheVariants as mode
 use Rattle.osek_scheduler.specs.State.{Frame, Task, System, sleeping_task, task, with_task, no_counter, counter, alarm, entry_frame, opening}
 use Rattle.sloth_base.specs.Named.{declaration, counter_declaration, undeclared_alarm, alarm_declaration, function, body_of}
 use Rattle.osek_scheduler.specs.Services.{activated_state, set_events, acted_state, next_value, ticked_state, started_task, entered_state, GoesOn, Leaves}
-use Rattle.osek_scheduler.specs.Steps.{settled_state, autostarted_tasks, admitted_state, made_due, OsekStep}
+use Rattle.osek_scheduler.specs.Steps.{settled_state, autostarted_tasks, admitted_state, due_state, OsekStep}
 use Rattle.osek_valid.proofs.Facts.{Facts}
-use Rattle.osek_valid.specs.Valid.{AreCalls, held_by, Rests, InState, IsValidTask, Valid}
+use Rattle.osek_valid.specs.Valid.{AreCalls, held_by, Rests, InState, IsValidTask, IsValid}
 use Rattle.osek_valid.proofs.Held.{held_at_begin}
 use Rattle.osek_valid.proofs.Stacks.{has_body}
 use Rattle.osek_valid.proofs.Going.{keeps, settles, counter_kept, alarm_kept, runs_on}
@@ -42,7 +42,7 @@ sizes_kept : (ys : List Symbol) → map length (map (λ y. y.bytes) ys) ≡ map 
 sizes_kept [] = refl
 sizes_kept (y ∷ ys) = ap (λ l. length y.bytes ∷ l) (sizes_kept ys)
 
-pub opening_valid : (config : Config) (app : App) → Valid config app (opening config app)
+pub opening_valid : (config : Config) (app : App) → IsValid config app (opening config app)
 opening_valid config app = record {
   count = length-map config.tasks (λ _. sleeping_task);
   each = λ t lt. subst (IsValidTask config app t) (sym (asleep_at config.tasks t)) (record {
@@ -81,8 +81,8 @@ autostarted_at P (d ∷ ds) (k ∷ ts) zero same ready = by d.autostart
     by false = same
 autostarted_at P (d ∷ ds) (k ∷ ts) (suc t) same ready = autostarted_at P ds ts t same ready
 
-boot_valid : (config : Config) (app : App) (s : System) → Valid config app s → s.booted ≡ false
-    → Valid config app (settled_state (record s { tasks = autostarted_tasks config.tasks s.tasks; booted = true }))
+boot_valid : (config : Config) (app : App) (s : System) → IsValid config app s → s.booted ≡ false
+    → IsValid config app (settled_state (record s { tasks = autostarted_tasks config.tasks s.tasks; booted = true }))
 boot_valid config app s v asleep = record {
   count = length-autostarted config.tasks s.tasks ∙ v.count;
   each = λ t lt. autostarted_at (IsValidTask config app t) config.tasks s.tasks t (v.each t lt)
@@ -98,8 +98,8 @@ and_not : (b owed : Bool) → owed ≡ false → b ≡ (b && not owed)
 and_not true owed e = sym (ap not e)
 and_not false owed e = refl
 
-enter_valid : (config : Config) (app : App) → Facts config app → (s : System) (t : ℕ) → Valid config app s → s.booted ≡ true → t < length config.tasks
-    → (task s t).state ≡ mode.Ready → Valid config app (entered_state config app t s)
+enter_valid : (config : Config) (app : App) → Facts config app → (s : System) (t : ℕ) → IsValid config app s → s.booted ≡ true → t < length config.tasks
+    → (task s t).state ≡ mode.Ready → IsValid config app (entered_state config app t s)
 enter_valid config app w s t v booted declared ready =
     keeps config app s t (record (started_task app t (task s t).frames (task s t)) { state = mode.Active; raised = (declaration config t).non }) v booted declared
     (by (task s t).frames refl)
@@ -124,8 +124,8 @@ enter_valid config app w s t v booted declared ready =
         frame outer refl e stack.0 stack.1 (k.held ∙ ap (held_by app) e) (and_not _ _ rests.not_owed) (λ _. rests.holds)
         (length-set (task s t).registers 5 0 ∙ k.registers) k.listed k.distinct k.events
 
-back_valid : (config : Config) (app : App) (s : System) (t : ℕ) → Valid config app s → s.booted ≡ true → t < length config.tasks
-    → (task s t).state ≡ mode.Active → Valid config app (with_task s t (record (task s t) { owed = false; raised = (declaration config t).non }))
+back_valid : (config : Config) (app : App) (s : System) (t : ℕ) → IsValid config app s → s.booted ≡ true → t < length config.tasks
+    → (task s t).state ≡ mode.Active → IsValid config app (with_task s t (record (task s t) { owed = false; raised = (declaration config t).non }))
 back_valid config app s t v booted declared active =
     let k = v.each t declared in
     let state = subst (InState config t (task s t)) active k.in_state in
@@ -143,9 +143,9 @@ back_valid config app s t v booted declared active =
 
 -- ---- all events
 
-admit_valid : (config : Config) (app : App) (s : System) (t : ℕ) → Valid config app s → s.booted ≡ true → t < length config.tasks → Valid config app (admitted_state t s)
+admit_valid : (config : Config) (app : App) (s : System) (t : ℕ) → IsValid config app s → s.booted ≡ true → t < length config.tasks → IsValid config app (admitted_state t s)
 admit_valid config app s t v booted declared =
-    by_suspended (task s t).state (record (activated_state s t) { fresh = t ∷ s.fresh }) s (Valid config app)
+    by_suspended (task s t).state (record (activated_state s t) { fresh = t ∷ s.fresh }) s (IsValid config app)
     (λ asleep.
     let a = activated_valid config app s t v booted declared asleep in
     record { count = a.count; each = a.each; sizes = a.sizes; asleep = a.asleep; clock = a.clock })
@@ -154,12 +154,12 @@ admit_valid config app s t v booted declared =
 -- ---- ticks
 
 -- what an alarm does keeps a state valid
-acts_valid : (config : Config) (app : App) (s : System) (does : Action) → IsAction config does → Valid config app s → s.booted ≡ true
-    → Valid config app (acted_state does s)
+acts_valid : (config : Config) (app : App) (s : System) (does : Action) → IsAction config does → IsValid config app s → s.booted ≡ true
+    → IsValid config app (acted_state does s)
 acts_valid config app s (action.Activate t) declared v booted =
-    by_suspended (task s t).state (activated_state s t) s (Valid config app) (λ asleep. activated_valid config app s t v booted declared asleep) (λ _. v)
+    by_suspended (task s t).state (activated_state s t) s (IsValid config app) (λ asleep. activated_valid config app s t v booted declared asleep) (λ _. v)
 acts_valid config app s (action.Set t mask) h v booted =
-    by_suspended (task s t).state s (set_events t mask s) (Valid config app) (λ _. v)
+    by_suspended (task s t).state s (set_events t mask s) (IsValid config app) (λ _. v)
     (λ awake. set_events_valid config app s t mask v booted h.0 awake h.2)
 
 -- and leaves it booted
@@ -172,17 +172,17 @@ booted_besides = record { activates = λ s t h. h; sets = λ s t events h. h; st
 still_booted : (s : System) (does : Action) → IsBooted s → IsBooted (acted_state does s)
 still_booted s does = acted_keeps IsBooted (λ x t h. h) (sets_keep IsBooted booted_besides) s does
 
-due_valid : (config : Config) (app : App) (s : System) (c : ℕ) → Valid config app s → Valid config app (made_due c s)
+due_valid : (config : Config) (app : App) (s : System) (c : ℕ) → IsValid config app s → IsValid config app (due_state c s)
 due_valid config app s c v = counter_kept config app s c (record (counter s c) { due = true }) v (v.clock.values c)
 
 next_small : (max value : ℕ) → value ≤ max → next_value max value ≤ max
 next_small max value le =
     cond_both (value == max) 0 (value + 1) (λ n. n ≤ max) (λ _. omega arith) (λ e. let n = eqb-false value max e in omega (arith, le, n))
 
-tick_valid : (config : Config) (app : App) → Facts config app → (s : System) (c : ℕ) → c < length config.counters → Valid config app s → s.booted ≡ true
-    → Valid config app (ticked_state config c s)
+tick_valid : (config : Config) (app : App) → Facts config app → (s : System) (c : ℕ) → c < length config.counters → IsValid config app s → s.booted ≡ true
+    → IsValid config app (ticked_state config c s)
 tick_valid config app w s c lt v booted =
-    (ticked_keeps (λ (x : System). Valid config app x × IsBooted x) config
+    (ticked_keeps (λ (x : System). IsValid config app x × IsBooted x) config
     (record {
       counts = λ x d l h. (counter_kept config app x d _ h.0 (next_small (counter_declaration config d).max (counter x d).value (h.0.clock.values d)), h.1);
       leaves = λ x a left h. (alarm_kept config app x a (record (alarm x a) { left = left }) h.0, h.1);
@@ -193,21 +193,21 @@ tick_valid config app w s c lt v booted =
 
 -- ---- each event
 
-pub step_valid : (config : Config) (app : App) (e : Event) (s next : System) → Facts config app → OsekStep config app e s next → Valid config app s
-    → Valid config app next
-step_valid config app event.Boot s next w h v = subst (Valid config app) (sym h.1) (boot_valid config app s v h.0)
-step_valid config app (event.Admit t) s next w h v = subst (Valid config app) (sym h.2) (admit_valid config app s t v h.0 h.1)
+pub step_valid : (config : Config) (app : App) (e : Event) (s next : System) → Facts config app → OsekStep config app e s next → IsValid config app s
+    → IsValid config app next
+step_valid config app event.Boot s next w h v = subst (IsValid config app) (sym h.1) (boot_valid config app s v h.0)
+step_valid config app (event.Admit t) s next w h v = subst (IsValid config app) (sym h.2) (admit_valid config app s t v h.0 h.1)
 step_valid config app (event.Enter t) s next w h v =
-    subst (Valid config app) (sym h.4) (settles config app _ (enter_valid config app w s t v h.0 h.1.declared h.2))
+    subst (IsValid config app) (sym h.4) (settles config app _ (enter_valid config app w s t v h.0 h.1.declared h.2))
 step_valid config app (event.Run t func item result) s next w h v = executes_valid config app w t func item result s next v h.0 h.1
 step_valid config app (event.Call t served status) s next w h v =
-    subst (Valid config app) (sym h.1.2) (settles config app h.1.0 (serves_valid config app w t served s (GoesOn status h.1.0) v h.0 h.1.1))
+    subst (IsValid config app) (sym h.1.2) (settles config app h.1.0 (serves_valid config app w t served s (GoesOn status h.1.0) v h.0 h.1.1))
 step_valid config app (event.Left t served) s next w h v =
-    subst (Valid config app) (sym h.1.2) (settles config app h.1.0 (serves_valid config app w t served s (Leaves h.1.0) v h.0 h.1.1))
+    subst (IsValid config app) (sym h.1.2) (settles config app h.1.0 (serves_valid config app w t served s (Leaves h.1.0) v h.0 h.1.1))
 step_valid config app (event.Back t) s next w h v =
-    subst (Valid config app) (sym h.4) (settles config app _ (back_valid config app s t v h.0 h.1.declared h.2))
-step_valid config app event.Idle s next w h v = subst (Valid config app) (sym h.3) (settles config app s v)
+    subst (IsValid config app) (sym h.4) (settles config app _ (back_valid config app s t v h.0 h.1.declared h.2))
+step_valid config app event.Idle s next w h v = subst (IsValid config app) (sym h.3) (settles config app s v)
 step_valid config app event.Stray s next w h v = absurd h
-step_valid config app (event.Due c) s next w h v = subst (Valid config app) (sym h.2) (due_valid config app s c v)
+step_valid config app (event.Due c) s next w h v = subst (IsValid config app) (sym h.2) (due_valid config app s c v)
 step_valid config app (event.Tick c) s next w h v =
-    subst (Valid config app) (sym h.2) (settles config app _ (tick_valid config app w s c h.1.declared v h.0))
+    subst (IsValid config app) (sym h.2) (settles config app _ (tick_valid config app w s c h.1.declared v h.0))

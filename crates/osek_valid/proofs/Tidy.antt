@@ -12,12 +12,12 @@ use Rattle.sloth_base.specs.declared.app.App.{App}
 use Rattle.osek_scheduler.specs.declared.state.TaskState.{TaskState}
 use Rattle.osek_scheduler.specs.declared.state.TaskState.TheVariants as mode
 use Rattle.osek_scheduler.specs.State.{System, task}
-use Rattle.sloth_base.specs.Named.{declaration, undeclared}
+use Rattle.sloth_base.specs.Named.{declaration, undeclared_task}
 use Rattle.code_rules.specs.Code.{is_in}
 use Rattle.osek_scheduler.specs.Priority.{is_active}
 use Rattle.code_rules.specs.WellFormed.{HasEvents}
 use Rattle.osek_valid.proofs.Facts.{Facts}
-use Rattle.osek_valid.specs.Valid.{MayHold, Rests, InState, IsValidTask, Valid}
+use Rattle.osek_valid.specs.Valid.{MayHold, Rests, InState, IsValidTask, IsValid}
 use Rattle.osek_valid.specs.Tidy.{IsTidy}
 use Rattle.osek_valid.proofs.Depth.{frames_differ}
 
@@ -44,7 +44,7 @@ union_small (e ∷ events) mask all u =
 module _ (config : Config) (app : App) (w : Facts config app) where
   small : (t mask : ℕ) → t < length config.tasks → HasEvents (declaration config t) mask → mask < 4294967296
   small t mask lt covers =
-      let declared = union_small config.events (declaration config t).events w.in_range.configuration.masks (w.in_range.configuration.tasks t undeclared lt).events in
+      let declared = union_small config.events (declaration config t).events w.in_range.configuration.masks (w.in_range.configuration.tasks t undeclared_task lt).events in
       let le = and_le_r mask (declaration config t).events in
       below mask (bit_and mask (declaration config t).events) (declaration config t).events covers le declared
     where
@@ -54,13 +54,13 @@ module _ (config : Config) (app : App) (w : Facts config app) where
   few : (t r : ℕ) → t < length config.tasks → MayHold config t r → r < 33
   few t r lt (inl e) = omega (arith, e)
   few t r lt (inr h) =
-      by (from_all (λ x. (x < length config.resources) ⊎ ((x ≡ 32) × IsTrue config.res_scheduler)) (declaration config t).resources r (w.in_range.configuration.tasks t undeclared lt).resources h) w.in_range.configuration.few_resources
+      by (from_all (λ x. (x < length config.resources) ⊎ ((x ≡ 32) × IsTrue config.res_scheduler)) (declaration config t).resources r (w.in_range.configuration.tasks t undeclared_task lt).resources h) w.in_range.configuration.few_resources
     where
       by : (r < length config.resources) ⊎ ((r ≡ 32) × IsTrue config.res_scheduler) → length config.resources ≤ 32 → r < 33
       by (inl l) le = omega (arith, l, le)
       by (inr e) le = omega (arith, e.0)
 
-  pub tidy : (s : System) (t : ℕ) → Valid config app s → t < length config.tasks → IsTidy config app t (task s t)
+  pub tidy : (s : System) (t : ℕ) → IsValid config app s → t < length config.tasks → IsTidy config app t (task s t)
   tidy s t v lt = record {
     registers = k.registers;
     at_rest = λ e. rest (task s t).state k.in_state e;

@@ -1,19 +1,18 @@
 -- The basic tasks that are Active at once, by rising priorities, are stacked as the bound of the shared stack has it.
-use Rattle.std.proofs.Common.{◌≡◌, ℕ, ◌+◌, ◌<◌, ◌≤◌, ◌⊎◌, inl, inr, ⊎_elim, List, [], ◌∷◌, Bool, true, false, not, ◌&&◌, cond, length, get_or, map, max, refl, sym, ap, ◌∙◌, subst, arith}
-use Rattle.std.proofs.lemmas.Bool.{cases_Bool, cond-true, cond-false, cases_eq}
+use Rattle.std.proofs.Common.{◌≡◌, ℕ, ◌+◌, ◌<◌, ◌≤◌, inl, inr, ⊎_elim, List, [], ◌∷◌, Bool, true, false, not, ◌&&◌, cond, length, get_or, map, max, refl, sym, ap, ◌∙◌, subst, arith}
+use Rattle.std.proofs.lemmas.Bool.{cases_Bool, cond-true, cond-false}
 use Rattle.sloth_base.specs.declared.config.Config.{Config}
-use Rattle.sloth_base.specs.declared.config.TaskDecl.{TaskDecl}
 use Rattle.sloth_base.specs.declared.app.App.{App}
 use Rattle.sloth_base.specs.declared.event.Stamped.{Stamped}
 use Rattle.sloth_base.specs.declared.places.Bounds.{Bounds}
-use Rattle.sloth_base.specs.Named.{declaration, undeclared}
-use Rattle.stack_bounds.specs.Bounds.{IsBasic, MayBePreempted, AreStacked, AreBounds, total}
+use Rattle.sloth_base.specs.Named.{declaration, undeclared_task}
+use Rattle.stack_bounds.specs.Bounds.{IsBasic, MayBePreempted, AreStacked, AreBounds}
 use Rattle.stack_bounds.proofs.Stacked as stacked
 use Rattle.osek_scheduler.specs.State.{System, task, opening}
 use Rattle.osek_scheduler.specs.Priority.{highest_priority, greatest, ceiling}
 use Rattle.osek_scheduler.specs.Runs.{Leads}
-use Rattle.osek_valid.specs.Valid.{Valid, InState}
-use Rattle.osek_valid.specs.Apart.{IsActive, IsOver, Apart, priority_of, static_priority}
+use Rattle.osek_valid.specs.Valid.{IsValid, InState}
+use Rattle.osek_valid.specs.Apart.{IsActive, IsOver, TasksAreApart, static_priority}
 use Rattle.osek_valid.specs.Together.{OwesBySchedule, chosen_bytes}
 use Rattle.osek_valid.proofs.Apart.{at_least_static, step_apart, opening_apart}
 use Rattle.osek_valid.proofs.Excluding.{among}
@@ -25,7 +24,7 @@ raised_le : (own held high : ℕ) (raised : Bool) → raised ≡ true → high �
 raised_le own held high raised e =
     subst (λ b. high ≤ max own (max held (cond b high 0))) (sym e) (omega arith)
 
-module _ (config : Config) (app : App) (s : System) (v : Valid config app s) (owes : OwesBySchedule app s) where
+module _ (config : Config) (app : App) (s : System) (v : IsValid config app s) (owes : OwesBySchedule app s) where
   pub lower_may : (t u : ℕ) → t < length config.tasks → u < length config.tasks → IsActive s t → IsOver config s u t → MayBePreempted config app t
   lower_may t u lt lu active over = by (declaration config t).non refl (task s t).owed refl
     where
@@ -42,7 +41,7 @@ module _ (config : Config) (app : App) (s : System) (v : Valid config app s) (ow
           let least = among config.tasks u lu in
           absurd (omega (arith, over, high, least))
 
-module _ (config : Config) (app : App) (s : System) (v : Valid config app s) (apart : Apart config s) (owes : OwesBySchedule app s) where
+module _ (config : Config) (app : App) (s : System) (v : IsValid config app s) (apart : TasksAreApart config s) (owes : OwesBySchedule app s) where
   abbrev Wanted : ℕ → Type 0
   Wanted t = IsBasic config t × IsActive s t
 
@@ -92,21 +91,21 @@ module _ (config : Config) (app : App) (s : System) (v : Valid config app s) (ap
     pub holds : chosen_bytes config bounds chosen ≤ bounds.shared
     holds =
         let sorted = stacked.sorted (length config.tasks) (static_priority config) size Wanted Any above_all counted (length config.tasks) counts
-        (λ t u l m. w.in_range.configuration.priorities_differ t u undeclared l m) in
+        (λ t u l m. w.in_range.configuration.priorities_differ t u undeclared_task l m) in
         let most = are.shared.none_greater sorted.0 (are_stacked size (length config.tasks) 0 sorted.0 (omega arith) sorted.1) in
         let e = sorted.2 in
         omega (arith, most, e)
 
 module _ (config : Config) (app : App) (w : Facts config app) where
   -- what every state of a run has
-  along : (events : List Stamped) (s end : System) → Leads config app events s end → Valid config app s → Apart config s → OwesBySchedule app s
-      → Valid config app end × Apart config end × OwesBySchedule app end
+  along : (events : List Stamped) (s end : System) → Leads config app events s end → IsValid config app s → TasksAreApart config s → OwesBySchedule app s
+      → IsValid config app end × TasksAreApart config end × OwesBySchedule app end
   along [] s end is v a o =
-      let P : System → Type 0 = λ x. Valid config app x × Apart config x × OwesBySchedule app x in
+      let P : System → Type 0 = λ x. IsValid config app x × TasksAreApart config x × OwesBySchedule app x in
       subst P (sym is) (v, a, o)
   along (e ∷ events) s end h v a o =
       along events h.0 end h.2 (step_valid config app e.event s h.0 w h.1 v) (step_apart config app e.event s h.0 h.1 v.count a) (step_owes app config w e.event s h.0 h.1 v o)
 
   pub reached : (events : List Stamped) (end : System) → Leads config app events (opening config app) end
-      → Valid config app end × Apart config end × OwesBySchedule app end
+      → IsValid config app end × TasksAreApart config end × OwesBySchedule app end
   reached events end leads = along events (opening config app) end leads (opening_valid config app) (opening_apart config app) (opening_owes app config w)

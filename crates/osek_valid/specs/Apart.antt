@@ -30,7 +30,7 @@ abbrev pub IsOver : Config → System → (u t : ℕ) → Type 0
 IsOver config s u t = priority_of config t (task s t) < static_priority config u
 
 -- of two Active tasks one was entered over the other, and what was admitted since the last event is Ready
-pub record Apart (config : Config) (s : System) : Type 0 where
+pub record TasksAreApart (config : Config) (s : System) : Type 0 where
   pub fresh_ready : (t : ℕ) → is_in t s.fresh ≡ true → (task s t).state ≡ mode.Ready
   pub apart : (t u : ℕ) → AreTwo config t u → IsActive s t → IsActive s u → IsOver config s u t ⊎ IsOver config s t u
 

@@ -11,7 +11,7 @@ use Rattle.stack_bounds.specs.Tables.{sum_below}
 use Rattle.osek_scheduler.specs.State.{System, opening, task}
 use Rattle.osek_scheduler.specs.Steps.{OsekStep}
 use Rattle.osek_scheduler.specs.Runs.{Leads}
-use Rattle.osek_valid.specs.Valid.{Valid}
+use Rattle.osek_valid.specs.Valid.{IsValid}
 use Rattle.osek_valid.specs.Apart.{IsActive, IsOver}
 
 -- a task owes a `back` only where it reaches a Schedule
@@ -23,11 +23,11 @@ OwesBySchedule app s = (t : ℕ) → (task s t).owed ≡ true → ReachesSchedul
 -- each event keeps that
 abbrev pub StepsKeepOwing : Type 0
 StepsKeepOwing = (config : Config) (app : App) (event : Event) (s next : System)
-    → WellFormed config app → OsekStep config app event s next → Valid config app s → OwesBySchedule app s → OwesBySchedule app next
+    → WellFormed config app → OsekStep config app event s next → IsValid config app s → OwesBySchedule app s → OwesBySchedule app next
 
 -- an Active task over which another could be entered may be preempted
 abbrev pub LowerMayBePreempted : Type 0
-LowerMayBePreempted = (config : Config) (app : App) (s : System) (t u : ℕ) → Valid config app s → OwesBySchedule app s
+LowerMayBePreempted = (config : Config) (app : App) (s : System) (t u : ℕ) → IsValid config app s → OwesBySchedule app s
     → t < length config.tasks → u < length config.tasks → IsActive s t → IsOver config s u t → MayBePreempted config app t
 
 -- the bytes of the tasks that were chosen

@@ -6,7 +6,7 @@ use Rattle.sloth_base.specs.declared.app.Op.TheVariants as op
 use Rattle.sloth_base.specs.Named.{function, declaration, counter_declaration, body_of}
 use Rattle.sloth_base.specs.ConfigRange.{scheduler_number}
 use Rattle.code_rules.specs.Code.{IsItem, is_in}
-use Rattle.code_rules.specs.WellFormed.{held_before, Lists, HasEvents}
+use Rattle.code_rules.specs.WellFormed.{held_list_before, Lists, HasEvents}
 use Rattle.osek_scheduler.specs.declared.state.TaskState.{TaskState}
 use Rattle.osek_scheduler.specs.declared.state.TaskState.TheVariants as mode
 use Rattle.osek_scheduler.specs.State.{Frame, Task, Clock, System, task, no_counter}
@@ -32,7 +32,7 @@ AreCalls app t (frame ∷ outer) = IsFrame app frame × IsCalledFrom app t frame
 -- what the functions in progress hold before their items, the outermost's first
 abbrev pub held_by : App → List Frame → List ℕ
 held_by app [] = []
-held_by app (frame ∷ outer) = held_by app outer ++ held_before app frame.func frame.item
+held_by app (frame ∷ outer) = held_by app outer ++ held_list_before app frame.func frame.item
 
 -- ---- one task
 
@@ -81,7 +81,7 @@ pub record IsTimed (config : Config) (clock : Clock) : Type 0 where
 -- ---- the whole system
 
 -- what every step keeps true of the system
-pub record Valid (config : Config) (app : App) (s : System) : Type 0 where
+pub record IsValid (config : Config) (app : App) (s : System) : Type 0 where
   pub count : length s.tasks ≡ length config.tasks
   pub each : (t : ℕ) → t < length config.tasks → IsValidTask config app t (task s t)
   -- the data keep their sizes

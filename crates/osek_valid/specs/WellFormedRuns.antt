@@ -11,40 +11,40 @@ use Rattle.code_rules.specs.WellFormed.{WellFormed}
 use Rattle.osek_scheduler.specs.State.{System, opening, task}
 use Rattle.osek_scheduler.specs.Priority.{IsTop}
 use Rattle.osek_scheduler.specs.InTime.{admitted_line}
-use Rattle.osek_scheduler.specs.Meaning.{Meant, meaning}
+use Rattle.osek_scheduler.specs.Meaning.{ItemMeaning, meaning}
 use Rattle.osek_scheduler.specs.Steps.{IsAt, OsekStep}
 use Rattle.osek_scheduler.specs.Runs.{Leads}
-use Rattle.osek_valid.specs.Valid.{Valid}
-use Rattle.osek_valid.specs.Apart.{Apart, Excludes, IsActive}
+use Rattle.osek_valid.specs.Valid.{IsValid}
+use Rattle.osek_valid.specs.Apart.{TasksAreApart, Excludes, IsActive}
 use Rattle.osek_valid.specs.Tidy.{IsTidy}
 
 -- before the system has started it is valid
 abbrev pub OpeningIsValid : Type 0
-OpeningIsValid = (config : Config) (app : App) → Valid config app (opening config app) × Apart config (opening config app)
+OpeningIsValid = (config : Config) (app : App) → IsValid config app (opening config app) × TasksAreApart config (opening config app)
 
 -- with well-formed task code each event keeps a state valid
 abbrev pub StepsKeepValid : Type 0
 StepsKeepValid = (config : Config) (app : App) (event : Event) (s next : System)
-    → WellFormed config app → OsekStep config app event s next → Valid config app s → Valid config app next
+    → WellFormed config app → OsekStep config app event s next → IsValid config app s → IsValid config app next
 
 -- with a record for each task of the configuration each event keeps the order of the tasks that were entered
 abbrev pub StepsKeepApart : Type 0
 StepsKeepApart = (config : Config) (app : App) (event : Event) (s next : System)
-    → OsekStep config app event s next → length s.tasks ≡ length config.tasks → Apart config s → Apart config next
+    → OsekStep config app event s next → length s.tasks ≡ length config.tasks → TasksAreApart config s → TasksAreApart config next
 
 -- each state that events lead to is valid, and in it no two tasks hold one resource
 abbrev pub RunsAreValid : Type 0
 RunsAreValid = (config : Config) (app : App) (events : List Stamped) (end : System)
-    → WellFormed config app → Leads config app events (opening config app) end → Valid config app end × Apart config end × Excludes config end
+    → WellFormed config app → Leads config app events (opening config app) end → IsValid config app end × TasksAreApart config end × Excludes config end
 
 -- an item that has a meaning for task t, or is a service
 abbrev pub MeansOrServes : (app : App) (s : System) (t : ℕ) (o : Op) → IsAt app s t o → Type 0
 MeansOrServes app s t o at =
-    ((meant : Meant) × (meaning app o (task s t).registers at.frame at.outer s.symbols ≡ Some meant)) ⊎ ((call : Call) × (o ≡ op.Serve call))
+    ((meant : ItemMeaning) × (meaning app o (task s t).registers at.frame at.outer s.symbols ≡ Some meant)) ⊎ ((call : Call) × (o ≡ op.Serve call))
 
 -- a task that runs is at an item of its function, and that item has a meaning or is a service
 abbrev pub ItemsMean : Type 0
-ItemsMean = (config : Config) (app : App) (s : System) (t : ℕ) → WellFormed config app → Valid config app s
+ItemsMean = (config : Config) (app : App) (s : System) (t : ℕ) → WellFormed config app → IsValid config app s
     → t < length config.tasks → IsActive s t → (task s t).owed ≡ false → (o : Op) × (at : IsAt app s t o) × MeansOrServes app s t o at
 
 -- there is a next event that is no admission
@@ -53,14 +53,14 @@ HasNext config app s = (event : Event) × (admitted_line event ≡ None) × (nex
 
 -- where a task runs and owes no `back`, there is a next event that is no admission
 abbrev pub RunningGoesOn : Type 0
-RunningGoesOn = (config : Config) (app : App) (s : System) (t : ℕ) → WellFormed config app → Valid config app s → Apart config s
+RunningGoesOn = (config : Config) (app : App) (s : System) (t : ℕ) → WellFormed config app → IsValid config app s → TasksAreApart config s
     → s.booted ≡ true → IsTop config s [] t → IsActive s t → (task s t).owed ≡ false → HasNext config app s
 
 -- a run never sticks: each valid state has a next event that is no admission
 abbrev pub RunsNeverStick : Type 0
-RunsNeverStick = (config : Config) (app : App) (s : System) → WellFormed config app → Valid config app s → Apart config s → HasNext config app s
+RunsNeverStick = (config : Config) (app : App) (s : System) → WellFormed config app → IsValid config app s → TasksAreApart config s → HasNext config app s
 
 -- each task of a valid state is tidy
 abbrev pub TasksAreTidy : Type 0
 TasksAreTidy = (config : Config) (app : App) (s : System) (t : ℕ)
-    → WellFormed config app → Valid config app s → t < length config.tasks → IsTidy config app t (task s t)
+    → WellFormed config app → IsValid config app s → t < length config.tasks → IsTidy config app t (task s t)

@@ -4,19 +4,19 @@ use Rattle.sloth_base.specs.Machine.{Core}
 use Rattle.sloth_base.specs.MemoryMap.{memory_base}
 use Rattle.rv32_instr.specs.declared.InstrKind.{InstrKind}
 use Rattle.masked_code.specs.Masked.{Masked, WithArrivals}
-use Rattle.masked_code.specs.Place.{at}
+use Rattle.masked_code.specs.Place.{offset_state}
 use Rattle.masked_code.proofs.Masked.{masked_more}
 use Rattle.code_lengths.specs.CodeLengths.{prologue_length}
 use Rattle.prologue_gen.specs.Fresh.{vector, Entered}
 use Rattle.prologue_gen.specs.Resumed.{MayStart}
 use Rattle.prologue_gen.specs.Places.{DoesEnter}
-use Rattle.prologue_gen.specs.Pieces.{saves_context, marks_active, takes_up, starts_anew}
+use Rattle.prologue_gen.specs.Pieces.{context_saving_code, active_marking_code, context_taking_code, fresh_start_code}
 use Rattle.prologue_gen.proofs.Starting.{enters}
 use Rattle.prologue_gen.proofs.Resuming.{enters_or_resumes}
 
 -- the code of a prologue
 abbrev pub code : Bool → ℕ → ℕ → ℕ → ℕ → ℕ → List InstrKind
-code extended task level frame words first = saves_context level ++ (marks_active task ++ (takes_up extended task ++ starts_anew frame words first))
+code extended task level frame words first = context_saving_code level ++ (active_marking_code task ++ (context_taking_code extended task ++ fresh_start_code frame words first))
 
 -- it enters the task, whose frame is given by its offset
 by_offset : (extended : Bool) (task level first frame words : ℕ) → task < 30 → level < 32 → first < 2 ^ 32 → words ≤ 32
@@ -38,6 +38,7 @@ pub length_is : (extended : Bool) (task level first frame words : ℕ) (code : L
 length_is true task level first frame words code h = h.size
 length_is false task level first frame words code h = h.size
 
+-- how long the code of a prologue is
 pub size : (extended : Bool) (task level first frame words : ℕ) (code : List InstrKind) → DoesEnter extended task level first frame words code
     → (0 < length code) × (length code ≤ 108 + words)
 size true task level first frame words code h = let n = h.size in (omega arith, omega arith)
@@ -46,8 +47,8 @@ size false task level first frame words code h = let n = h.size in (omega arith,
 -- where no context is kept, both start the task
 pub starts : (extended : Bool) (task level first frame words : ℕ) (code : List InstrKind) → DoesEnter extended task level first frame words code
     → (offset place : ℕ) (core : Core) → first % 4 ≡ 0 → MayStart offset task place frame words code core
-    → Masked (109 + words) (at (vector task) core) (WithArrivals (Entered task level first place frame words) (at (vector task) core))
+    → Masked (109 + words) (offset_state (vector task) core) (WithArrivals (Entered task level first place frame words) (offset_state (vector task) core))
 starts true task level first frame words code h = h.starts
 starts false task level first frame words code h = λ offset place core aligned may.
-    masked_more (74 + words) (109 + words) (at (vector task) core) (WithArrivals (Entered task level first place frame words) (at (vector task) core)) (omega arith)
+    masked_more (74 + words) (109 + words) (offset_state (vector task) core) (WithArrivals (Entered task level first place frame words) (offset_state (vector task) core)) (omega arith)
     (h.runs offset place core aligned may.enters)

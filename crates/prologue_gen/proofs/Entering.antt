@@ -13,14 +13,14 @@ use Rattle.masked_code.proofs.Words.{word_at-other, word_at-others}
 use Rattle.masked_code.proofs.Spread.{based, spread_from}
 use Rattle.masked_code.proofs.Runs.{saves_owes}
 use Rattle.masked_code.proofs.Leave.{behind}
-use Rattle.prologue_gen.specs.Pieces.{asks_preempted, saves_csrs, saves_words, marks_active}
+use Rattle.prologue_gen.specs.Pieces.{preempted_test, csr_saving_code, words_saving_code, active_marking_code}
 use Rattle.prologue_gen.specs.Fresh.{saved_registers}
 use Rattle.prologue_gen.specs.Resumed.{with_entry}
 use Rattle.prologue_gen.proofs.SavedRegisters.{none_saved, all_saved}
 
 -- what stands before this code in each prologue
 abbrev pub enters_first : ℕ → ℕ → List InstrKind → List InstrKind
-enters_first task level rest = asks_preempted ++ (saving_code 27 5 1 ++ (saves_csrs level ++ (saves_words ++ (marks_active task ++ rest))))
+enters_first task level rest = preempted_test ++ (saving_code 27 5 1 ++ (csr_saving_code level ++ (words_saving_code ++ (active_marking_code task ++ rest))))
 
 -- the state behind it, whatever x1 and x2 are
 abbrev pub entered : ℕ → ℕ → ℕ → Core → ℕ → ℕ → Core
@@ -97,7 +97,7 @@ module _ (from to task level place : ℕ) (c : Core) (E : List ℕ → State →
 
   -- what is stored in the context, and the words of the entry
   begun_owe : (o : ℕ) → Owes from to (behind 12 o) rest 0 E start (entered task level place c own 1)
-      → Owes from to o (saves_csrs level ++ (saves_words ++ (marks_active task ++ rest))) 0 E start
+      → Owes from to o (csr_saving_code level ++ (words_saving_code ++ (active_marking_code task ++ rest))) 0 E start
       (record (based c) { registers = 0 ∷ own ∷ word_at c.ram cur ∷ controller_base ∷ memory_base ∷ tail; ram = ram1 })
   begun_owe o go =
       accesses c.mepc refl masked
@@ -124,7 +124,7 @@ module _ (from to task level place : ℕ) (c : Core) (E : List ℕ → State →
   context_apart = grind (arith, apart)
 
   abbrev after : List InstrKind
-  after = saves_csrs level ++ (saves_words ++ (marks_active task ++ rest))
+  after = csr_saving_code level ++ (words_saving_code ++ (active_marking_code task ++ rest))
 
   -- behind what saves the registers, with the bytes that it leaves
   abbrev Begun : ℕ → List ℕ → Type 0

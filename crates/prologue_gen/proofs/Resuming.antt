@@ -10,7 +10,7 @@ use Rattle.sloth_base.specs.MemoryMap.{memory_base}
 use Rattle.sloth_region.specs.Layout.{cur, active, resume, below_word, idle_context, context_bytes, controller_base}
 use Rattle.rv32_instr.specs.declared.InstrKind.{InstrKind}
 use Rattle.rv32_instr.specs.Ram.{word_at, with_word, with_words}
-use Rattle.masked_code.specs.Place.{at, InPlace}
+use Rattle.masked_code.specs.Place.{offset_state, InPlace}
 use Rattle.masked_code.specs.Kernel.{CanRun, HoldBases}
 use Rattle.rv32_instr.specs.declared.InstrKind.TheVariants.{Jal}
 use Rattle.masked_code.specs.Masked.{Masked, WithArrivals}
@@ -21,7 +21,7 @@ use Rattle.masked_code.proofs.Spread.{based, based_is, spread_from}
 use Rattle.masked_code.proofs.Runs.{restores_owes, length-restored, restored_other, restored_at}
 use Rattle.masked_code.proofs.Leave.{behind}
 use Rattle.masked_code.proofs.Routines.{jumps_in}
-use Rattle.prologue_gen.specs.Pieces.{takes_own, answers_wait, asks_kept}
+use Rattle.prologue_gen.specs.Pieces.{own_taking_code, wait_answer_code, kept_context_test}
 use Rattle.prologue_gen.specs.Fresh.{vector, Entered, saved_registers}
 use Rattle.prologue_gen.specs.Resumed.{MayStart, MayResume, Resumed, EntersOrResumes, with_entry}
 use Rattle.prologue_gen.proofs.SavedRegisters.{few_saved}
@@ -30,11 +30,13 @@ use Rattle.prologue_gen.proofs.Starting.{starts, starts_owe, length-starts}
 
 -- what stands behind the entry, before the start
 abbrev pub asks_first : ℕ → List InstrKind → List InstrKind
-asks_first task rest = asks_kept task ++ (takes_own task ++ (restoring_code 27 5 1 ++ (answers_wait ++ rest)))
+asks_first task rest = kept_context_test task ++ (own_taking_code task ++ (restoring_code 27 5 1 ++ (wait_answer_code ++ rest)))
 
+-- behind the entry: the task goes on or starts anew
 abbrev pub either : ℕ → ℕ → ℕ → ℕ → List InstrKind
 either task frame words first = asks_first task (starts frame words first)
 
+-- the whole prologue of an extended task
 abbrev pub code : ℕ → ℕ → ℕ → ℕ → ℕ → List InstrKind
 code task level frame words first = enters_first task level (either task frame words first)
 
@@ -74,8 +76,9 @@ module _ (from to task level first place frame words : ℕ) (c : Core) (is_task 
   E = Entered task level first place frame words
 
   abbrev start : State
-  start = at (vector task) (based c)
+  start = offset_state (vector task) (based c)
 
+  -- what is owed of the question whether a context is kept, where none is: the task starts anew
   pub fresh_owe : (o x1 : ℕ) → o ≤ 0x20_0000
       → ((o' : ℕ) → Owes from to o' (starts (memory_base + frame) words first) 0 E start (entered task level place c 0 1))
       → Owes from to o (either task (memory_base + frame) words first) 0 E start (entered task level place c x1 1)
@@ -110,7 +113,7 @@ module _ (from to task level place own : ℕ) (c : Core) (rest : List InstrKind)
   R = Resumed task level place own
 
   abbrev begun : State
-  begun = at (vector task) (based c)
+  begun = offset_state (vector task) (based c)
 
   abbrev at_own : ℕ
   at_own = memory_base + own
@@ -189,7 +192,7 @@ module _ (from to task level place own : ℕ) (c : Core) (rest : List InstrKind)
   zero_there : get_or loaded 0 0 ≡ 0
   zero_there = restored_other 27 5 ram own regs 0 (inl (lit< tt))
 
-  answered_owe : (o : ℕ) → Owes from to o (answers_wait ++ rest) 0 R begun (record stored { registers = loaded })
+  answered_owe : (o : ℕ) → Owes from to o (wait_answer_code ++ rest) 0 R begun (record stored { registers = loaded })
   answered_owe o =
       writes E_OK (ap (λ z. plus z (pos E_OK)) zero_there)
       ▸ done
@@ -197,13 +200,13 @@ module _ (from to task level place own : ℕ) (c : Core) (rest : List InstrKind)
   own_fits : own + 4 * (5 + 27) ≤ 0x20_0000
   own_fits = omega arith
 
-  restored_owe : (o : ℕ) → Owes from to o (restoring_code 27 5 1 ++ (answers_wait ++ rest)) 0 R begun stored
-  restored_owe o = restores_owes from to R begun (answers_wait ++ rest) own is_kept.aligned 27 5 1 o (o + 108) stored refl (lit< tt) refl own_fits (answered_owe (o + 108))
+  restored_owe : (o : ℕ) → Owes from to o (restoring_code 27 5 1 ++ (wait_answer_code ++ rest)) 0 R begun stored
+  restored_owe o = restores_owes from to R begun (wait_answer_code ++ rest) own is_kept.aligned 27 5 1 o (o + 108) stored refl (lit< tt) refl own_fits (answered_owe (o + 108))
 
   sp_is : plus at_own (pos context_bytes) ≡ sp
   sp_is = omega arith
 
-  goes_on_owe : (o x2 : ℕ) → Owes from to o (takes_own task ++ (restoring_code 27 5 1 ++ (answers_wait ++ rest))) 0 R begun (entered task level place c at_own x2)
+  goes_on_owe : (o x2 : ℕ) → Owes from to o (own_taking_code task ++ (restoring_code 27 5 1 ++ (wait_answer_code ++ rest))) 0 R begun (entered task level place c at_own x2)
   goes_on_owe o x2 =
       stores (resume task) (record { is = omega arith; aligned = omega arith; inside = omega arith }) (inl (omega arith))
       ▸ loads own (record { is = omega arith; aligned = is_kept.aligned; inside = omega arith }) pc kept_pc
@@ -214,6 +217,7 @@ module _ (from to task level place own : ℕ) (c : Core) (rest : List InstrKind)
   not_zero : at_own ≢ 0
   not_zero e = absurd (omega arith)
 
+  -- what is owed of the question where one is: the task goes on
   pub resumed_owe : (o x1 x2 : ℕ) → o ≤ 0x20_0000 → Owes from to o (asks_first task rest) 0 R begun (entered task level place c x1 x2)
   resumed_owe o x1 x2 small =
       loads (resume task) (record { is = omega arith; aligned = omega arith; inside = omega arith }) at_own (kept_word (based c) task place is_kept.is_task is_kept.past ∙ is_kept.is)
@@ -237,18 +241,18 @@ module _ (task level first frame words : ℕ) (is_task : task < 30) (low_level :
   -- from the vector word on
   whole_runs : (E : List ℕ → State → State → Type 0) (jump : ℤ) → CanRun offset whole c → HoldBases c.registers → c.mie ≡ false → InPlace c.ram (vector task) (Jal 0 jump ∷ [])
       → plus (memory_base + vector task) jump ≡ memory_base + offset
-      → Owes offset (offset + 4 * length whole) offset whole 0 E (at (vector task) (based c)) (based c)
-      → Masked (109 + words) (at (vector task) c) (WithArrivals E (at (vector task) c))
+      → Owes offset (offset + 4 * length whole) offset whole 0 E (offset_state (vector task) (based c)) (based c)
+      → Masked (109 + words) (offset_state (vector task) c) (WithArrivals E (offset_state (vector task) c))
   whole_runs E jump can bases masked vector_word to_code all =
       let long = length-code task level (memory_base + frame) words first in
       let n = words + 108 in
       let e : suc n ≡ 109 + words = omega arith in
       let to = offset + 4 * length whole in
-      subst (λ k. Masked k (at (vector task) c) (WithArrivals E (at (vector task) c))) e
-      (jumps_in (vector task) offset n jump whole c E (at (vector task) c) (omega arith) vector_word to_code
+      subst (λ k. Masked k (offset_state (vector task) c) (WithArrivals E (offset_state (vector task) c))) e
+      (jumps_in (vector task) offset n jump whole c E (offset_state (vector task) c) (omega arith) vector_word to_code
       (record { masked = masked; there = can.controller; lines = can.lines; aligned = can.aligned; fits = can.inside; placed = can.placed })
       (omega arith)
-      (subst (λ x. Owes offset to offset whole 0 E (at (vector task) x) x) (based_is c can.registers can.zero bases) all))
+      (subst (λ x. Owes offset to offset whole 0 E (offset_state (vector task) x) x) (based_is c can.registers can.zero bases) all))
 
   small_offset : CanRun offset whole c → offset + 168 ≤ 0x20_0000
   small_offset can =
@@ -257,7 +261,7 @@ module _ (task level first frame words : ℕ) (is_task : task < 30) (low_level :
       omega arith
 
   starts_it : first % 4 ≡ 0 → MayStart offset task place frame words whole c
-      → Masked (109 + words) (at (vector task) c) (WithArrivals (Entered task level first place frame words) (at (vector task) c))
+      → Masked (109 + words) (offset_state (vector task) c) (WithArrivals (Entered task level first place frame words) (offset_state (vector task) c))
   starts_it first_aligned may =
       let h = may.enters in
       let can = h.can_run in
@@ -265,11 +269,11 @@ module _ (task level first frame words : ℕ) (is_task : task < 30) (low_level :
       let E = Entered task level first place frame words in
       let small = small_offset can in
       whole_runs E h.jump can h.bases h.masked h.vector_word h.to_code
-      (enters_owe offset to task level place c E (at (vector task) (based c)) rest is_task h.masked h.x2 h.aligned h.behind h.inside h.apart can.behind offset (omega (arith, small))
+      (enters_owe offset to task level place c E (offset_state (vector task) (based c)) rest is_task h.masked h.x2 h.aligned h.behind h.inside h.apart can.behind offset (omega (arith, small))
       (λ o e. fresh_owe offset to task level first place frame words c is_task h.behind may.kept_none o (memory_base + place) (omega (arith, small, e))
       (λ o'. starts_owe offset to task level first place frame words c low_level first_fits first_aligned h.masked h.previous h.frame_aligned h.frame_inside h.frame_apart o' 0 1)))
 
-  resumes_it : (own : ℕ) → MayResume offset task place own whole c → Masked (109 + words) (at (vector task) c) (WithArrivals (Resumed task level place own) (at (vector task) c))
+  resumes_it : (own : ℕ) → MayResume offset task place own whole c → Masked (109 + words) (offset_state (vector task) c) (WithArrivals (Resumed task level place own) (offset_state (vector task) c))
   resumes_it own h =
       let can = h.can_run in
       let to = offset + 4 * length whole in
@@ -291,9 +295,10 @@ module _ (task level first frame words : ℕ) (is_task : task < 30) (low_level :
         low = can.behind;
       } in
       whole_runs E h.jump can h.bases h.masked h.vector_word h.to_code
-      (enters_owe offset to task level place c E (at (vector task) (based c)) rest is_task h.masked h.x2 h.aligned h.behind h.inside h.apart can.behind offset (omega (arith, small))
+      (enters_owe offset to task level place c E (offset_state (vector task) (based c)) rest is_task h.masked h.x2 h.aligned h.behind h.inside h.apart can.behind offset (omega (arith, small))
       (λ o e. resumed_owe offset to task level place own c (starts (memory_base + frame) words first) kept o (memory_base + place) 1 (omega (arith, small, e))))
 
+-- so the whole code does one of the two
 pub enters_or_resumes : (task level first frame words : ℕ) → task < 30 → level < 32 → first < 2 ^ 32 → words ≤ 32
     → EntersOrResumes task level first frame words (code task level (memory_base + frame) words first)
 enters_or_resumes task level first frame words a b d f =

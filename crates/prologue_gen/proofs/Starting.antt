@@ -9,10 +9,10 @@ use Rattle.sloth_region.specs.Layout.{controller_base}
 use Rattle.rv32_instr.specs.Ram.{with_words}
 use Rattle.sloth_base.specs.Arithmetic.{hi}
 use Rattle.sloth_base.specs.MemoryMap.{memory_base}
-use Rattle.masked_code.specs.Place.{at}
+use Rattle.masked_code.specs.Place.{offset_state}
 use Rattle.masked_code.specs.Masked.{Masked, WithArrivals}
 use Rattle.masked_code.specs.Owes.{◌▸◌, writes, accesses, Owes}
-use Rattle.masked_code.specs.Pieces.{clearing_code, clears_words, cleared_registers}
+use Rattle.masked_code.specs.Pieces.{clearing_code, words_clearing_code, cleared_registers}
 use Rattle.masked_code.proofs.Parts.{hi_lo}
 use Rattle.masked_code.proofs.Spread.{based, based_is, spread_from, others}
 use Rattle.masked_code.proofs.Runs.{clears_owes, clears_words_owes, length-clears_words, length-cleared, cleared_at, cleared_other}
@@ -23,13 +23,15 @@ use Rattle.prologue_gen.specs.Fresh.{vector, MayEnter, Entered, Enters}
 use Rattle.prologue_gen.specs.Resumed.{with_entry}
 use Rattle.prologue_gen.proofs.Entering.{enters_first, entered, enters_owe}
 
+-- the frame is cleared and the registers too, and `mret` starts the body
 abbrev pub last : ℕ → List InstrKind
-last words = clears_words words 0 2 ++ (clearing_code 25 5 ++ Mret ∷ [])
+last words = words_clearing_code words 0 2 ++ (clearing_code 25 5 ++ Mret ∷ [])
 
 -- the start of the task
 abbrev pub starts : ℕ → ℕ → ℕ → List InstrKind
 starts frame words first = beginning_code frame first ++ last words
 
+-- the whole prologue of a basic task
 abbrev pub code : ℕ → ℕ → ℕ → ℕ → ℕ → List InstrKind
 code task level frame words first = enters_first task level (starts frame words first)
 
@@ -40,7 +42,7 @@ module _ (from to task level first place frame words : ℕ) (c : Core) (low_leve
   sp = memory_base + frame
 
   abbrev start : State
-  start = at (vector task) (based c)
+  start = offset_state (vector task) (based c)
 
   abbrev tail : List ℕ
   tail = spread_from 26 6 c.registers
@@ -122,9 +124,10 @@ module _ (from to task level first place frame words : ℕ) (c : Core) (low_leve
       ▸ accesses c.mepc refl masked
       ▸ zeroed_owe (behind 5 o)
 
+-- how many instructions start a task
 pub length-starts : (frame words first : ℕ) → length (starts frame words first) ≡ words + 31
 length-starts frame words first =
-    let e = length-append (clears_words words 0 2) (clearing_code 25 5 ++ Mret ∷ []) in
+    let e = length-append (words_clearing_code words 0 2) (clearing_code 25 5 ++ Mret ∷ []) in
     let f = length-clears_words words 0 2 in
     omega arith
 
@@ -136,7 +139,8 @@ module _ (task level first frame words : ℕ) (is_task : task < 30) (low_level :
   abbrev whole : List InstrKind
   whole = code task level (memory_base + frame) words first
 
-  pub runs_it : Masked (74 + words) (at (vector task) c) (WithArrivals (Entered task level first place frame words) (at (vector task) c))
+  -- from the vector word to the first instruction of the task
+  pub runs_it : Masked (74 + words) (offset_state (vector task) c) (WithArrivals (Entered task level first place frame words) (offset_state (vector task) c))
   runs_it =
       let can = h.can_run in
       let long = length-code task level (memory_base + frame) words first in
@@ -146,14 +150,15 @@ module _ (task level first frame words : ℕ) (is_task : task < 30) (low_level :
       let E = Entered task level first place frame words in
       let own = memory_base + place in
       let fits = can.inside in
-      let all = enters_owe offset to task level place c E (at (vector task) (based c)) (starts (memory_base + frame) words first) is_task h.masked h.x2 h.aligned h.behind h.inside h.apart can.behind offset (omega (arith, fits))
+      let all = enters_owe offset to task level place c E (offset_state (vector task) (based c)) (starts (memory_base + frame) words first) is_task h.masked h.x2 h.aligned h.behind h.inside h.apart can.behind offset (omega (arith, fits))
       (λ o' e. starts_owe offset to task level first place frame words c low_level first_fits first_aligned h.masked h.previous h.frame_aligned h.frame_inside h.frame_apart o' own 1) in
-      subst (λ k. Masked k (at (vector task) c) (WithArrivals E (at (vector task) c))) e
-      (jumps_in (vector task) offset n h.jump whole c E (at (vector task) c) (omega arith) h.vector_word h.to_code
+      subst (λ k. Masked k (offset_state (vector task) c) (WithArrivals E (offset_state (vector task) c))) e
+      (jumps_in (vector task) offset n h.jump whole c E (offset_state (vector task) c) (omega arith) h.vector_word h.to_code
       (record { masked = h.masked; there = can.controller; lines = can.lines; aligned = can.aligned; fits = can.inside; placed = can.placed })
       (omega arith)
-      (subst (λ x. Owes offset to offset whole 0 E (at (vector task) x) x) (based_is c can.registers can.zero h.bases) all))
+      (subst (λ x. Owes offset to offset whole 0 E (offset_state (vector task) x) x) (based_is c can.registers can.zero h.bases) all))
 
+-- for each task, level, first instruction and frame
 pub enters : (task level first frame words : ℕ) → task < 30 → level < 32 → first < 2 ^ 32 → words ≤ 32 → Enters task level first frame words (code task level (memory_base + frame) words first)
 enters task level first frame words a b d f =
     let long = length-code task level (memory_base + frame) words first in

@@ -9,7 +9,7 @@ use Rattle.rv32_instr.specs.Ram.{word_at, with_word, with_words}
 use Rattle.sloth_base.specs.Arithmetic.{plus}
 use Rattle.sloth_base.specs.MemoryMap.{memory_base}
 use Rattle.masked_code.specs.Masked.{Masked, WithArrivals}
-use Rattle.masked_code.specs.Place.{at, InPlace}
+use Rattle.masked_code.specs.Place.{offset_state, InPlace}
 use Rattle.masked_code.specs.Pieces.{registers_from}
 use Rattle.masked_code.specs.Kernel.{CanRun, HoldBases, LeftAs}
 
@@ -69,4 +69,4 @@ pub record Enters (task level first frame words : ℕ) (code : List InstrKind) :
   pub size : length code ≡ prologue_length false words
   pub runs :
       (offset place : ℕ) (core : Core) → first % 4 ≡ 0 → MayEnter offset task place frame words code core
-      → Masked (74 + words) (at (vector task) core) (WithArrivals (Entered task level first place frame words) (at (vector task) core))
+      → Masked (74 + words) (offset_state (vector task) core) (WithArrivals (Entered task level first place frame words) (offset_state (vector task) core))

@@ -1,5 +1,5 @@
 -- What a prologue needs of the configuration, the task code and the map.
-use Rattle.std.specs.Prelude.{ℕ, Bool, ◌+◌, ◌-◌, ◌*◌, ◌≡◌, ◌<◌, ◌≤◌, false, true, if◌then◌else◌, Some, List, length, slice_index, slice_index_or}
+use Rattle.std.specs.Prelude.{ℕ, Bool, ◌+◌, ◌-◌, ◌*◌, ◌≡◌, ◌≤◌, false, true, if◌then◌else◌, Some, List, slice_index, slice_index_or}
 use Rattle.std.specs.List.{slice_get}
 use Rattle.sloth_base.specs.declared.app.App.{App}
 use Rattle.sloth_base.specs.declared.app.Func.{Func}
@@ -31,8 +31,8 @@ abbrev pub frame_at : ℕ → ℕ → ℕ
 frame_at top words = top - 4 * words - memory_base
 
 -- a part of a stack ends here: in RAM, with room for a context
-abbrev pub IsTop : ℕ → Type 0
-IsTop top = (memory_base + context_bytes ≤ top) × (top ≤ memory_end)
+abbrev pub IsStackTop : ℕ → Type 0
+IsStackTop top = (memory_base + context_bytes ≤ top) × (top ≤ memory_end)
 
 -- what the code of a prologue does, of an extended task or of a basic one
 abbrev pub DoesEnter : Bool → ℕ → ℕ → ℕ → ℕ → ℕ → List InstrKind → Type 0

@@ -10,7 +10,7 @@ use Rattle.rv32_instr.specs.Ram.{word_at, with_word}
 use Rattle.sloth_base.specs.Arithmetic.{plus}
 use Rattle.sloth_base.specs.MemoryMap.{memory_base}
 use Rattle.masked_code.specs.Masked.{Masked, WithArrivals}
-use Rattle.masked_code.specs.Place.{at, InPlace}
+use Rattle.masked_code.specs.Place.{offset_state, InPlace}
 use Rattle.masked_code.specs.Kernel.{CanRun, HoldBases, LeftAs}
 use Rattle.prologue_gen.specs.Fresh.{vector, IsApartFrom, MayEnter, Entered, with_context}
 
@@ -62,7 +62,7 @@ pub record EntersOrResumes (task level first frame words : ℕ) (code : List Ins
   pub size : length code ≡ prologue_length true words
   pub starts :
       (offset place : ℕ) (core : Core) → first % 4 ≡ 0 → MayStart offset task place frame words code core
-      → Masked (109 + words) (at (vector task) core) (WithArrivals (Entered task level first place frame words) (at (vector task) core))
+      → Masked (109 + words) (offset_state (vector task) core) (WithArrivals (Entered task level first place frame words) (offset_state (vector task) core))
   pub resumes :
       (offset place own : ℕ) (core : Core) → MayResume offset task place own code core
-      → Masked (109 + words) (at (vector task) core) (WithArrivals (Resumed task level place own) (at (vector task) core))
+      → Masked (109 + words) (offset_state (vector task) core) (WithArrivals (Resumed task level place own) (offset_state (vector task) core))

@@ -1,6 +1,6 @@
 //! The parts of a prologue: what was preempted is saved, and the task starts anew.
-ghost use Rattle.std.specs.Prelude.{◌≡◌, ◌+◌, ◌<◌, ◌≤◌, ◌++◌, OnOk};
-ghost use Rattle.prologue_gen.specs.Pieces.{asks_preempted, saves_context, saves_csrs, saves_words, marks_active, beginning_code, starts_anew};
+ghost use Rattle.std.specs.Prelude.{◌≡◌, ◌<◌, ◌≤◌, ◌++◌, OnOk};
+ghost use Rattle.prologue_gen.specs.Pieces.{preempted_test, context_saving_code, csr_saving_code, words_saving_code, active_marking_code, beginning_code, fresh_start_code};
 
 use masked_code::emit::{X5, clear, clear_words, emit, past, save};
 use rv32_instr::Instr;
@@ -19,7 +19,7 @@ const REGISTERS: u32 = 27;
 /// The level is then this one.
 pub fn save_context(code: &mut Vec<Instr>, level: u8) -> Result<(), AllocError>
     requires { level < 32 }
-    ensures { OnOk result (code.new.items ≡ code.old.items ++ saves_context level) }
+    ensures { OnOk result (code.new.items ≡ code.old.items ++ context_saving_code level) }
 {
     ask_preempted(code)?;
     save(code, 5, 32, X1)?;
@@ -30,7 +30,7 @@ pub fn save_context(code: &mut Vec<Instr>, level: u8) -> Result<(), AllocError>
 
 /// x1 := the place of the context; passes what saves the registers, where no task was running. Leaves `cur` in x2.
 fn ask_preempted(code: &mut Vec<Instr>) -> Result<(), AllocError>
-    ensures { OnOk result (code.new.items ≡ code.old.items ++ asks_preempted) }
+    ensures { OnOk result (code.new.items ≡ code.old.items ++ preempted_test) }
 {
     let asked = [
         addi(X1, X2, -CONTEXT_BYTES),
@@ -43,7 +43,7 @@ fn ask_preempted(code: &mut Vec<Instr>) -> Result<(), AllocError>
 /// What the CSRs say, by x5; the level is then this one.
 fn save_csrs(code: &mut Vec<Instr>, level: u8) -> Result<(), AllocError>
     requires { level < 32 }
-    ensures { OnOk result (code.new.items ≡ code.old.items ++ saves_csrs level) }
+    ensures { OnOk result (code.new.items ≡ code.old.items ++ csr_saving_code level) }
 {
     let saved = [
         csrrs(X5, MEPC, ZERO),
@@ -56,7 +56,7 @@ fn save_csrs(code: &mut Vec<Instr>, level: u8) -> Result<(), AllocError>
 
 /// What the service words say, `cur` being in x2; the context then stands below.
 fn save_words(code: &mut Vec<Instr>) -> Result<(), AllocError>
-    ensures { OnOk result (code.new.items ≡ code.old.items ++ saves_words) }
+    ensures { OnOk result (code.new.items ≡ code.old.items ++ words_saving_code) }
 {
     let saved = [
         sw(X2, X1, CONTEXT_CUR),
@@ -70,7 +70,7 @@ fn save_words(code: &mut Vec<Instr>) -> Result<(), AllocError>
 /// The task becomes the running one and Active.
 pub fn mark_active(code: &mut Vec<Instr>, task: u32) -> Result<(), AllocError>
     requires { task < 30 }
-    ensures { OnOk result (code.new.items ≡ code.old.items ++ marks_active task) }
+    ensures { OnOk result (code.new.items ≡ code.old.items ++ active_marking_code task) }
 {
     let marked = [
         addi(X2, ZERO, task as i32 + 1),
@@ -103,7 +103,7 @@ pub fn start_anew(
     first: u32,
 ) -> Result<(), AllocError>
     requires { words ≤ 32 }
-    ensures { OnOk result (code.new.items ≡ code.old.items ++ starts_anew frame words first) }
+    ensures { OnOk result (code.new.items ≡ code.old.items ++ fresh_start_code frame words first) }
 {
     begin(code, frame, first)?;
     clear_words(code, words, X2)?;

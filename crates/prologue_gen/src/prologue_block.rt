@@ -1,9 +1,9 @@
 //! The block of a prologue.
-ghost use Rattle.std.specs.Prelude.{◌≡◌, ◌+◌, ◌-◌, ◌*◌, ◌<◌, ◌≤◌, ℕ, [], All, IfOk, slice_index, length};
+ghost use Rattle.std.specs.Prelude.{◌≡◌, ◌+◌, ◌-◌, ◌<◌, ◌≤◌, ℕ, [], All, IfOk, slice_index, length};
 ghost use Rattle.sloth_base.specs.MemoryMap.{memory_base};
-ghost use Rattle.code_lengths.specs.Bodies.{IsBody};
+ghost use Rattle.code_lengths.specs.Bodies.{IsBodyPlace};
 ghost use Rattle.code_lengths.specs.CodeLengths.{prologue_length, IsPrologueLength};
-ghost use Rattle.prologue_gen.specs.Places.{IsTop, EntersTask, DoesEnter, frame_at};
+ghost use Rattle.prologue_gen.specs.Places.{IsStackTop, EntersTask, DoesEnter, frame_at};
 
 use crate::fresh::{mark_active, save_context, start_anew};
 use crate::resumed::take_up;
@@ -30,9 +30,9 @@ pub fn prologue(
 ) -> Result<Block, NoMemory>
     requires exists { (task < length config.now.tasks) × (length config.now.tasks ≤ 30) }
     requires levels { (levels.now.top < 32) × ((t : ℕ) → slice_index levels.now.task t < 32) }
-    requires body { (body : ℕ) × IsBody app.now.funcs task body }
+    requires body { (body : ℕ) × IsBodyPlace app.now.funcs task body }
     requires frames { All (λ func. func.frame_words ≤ 32) app.now.funcs }
-    requires tops { (length map.now.tops ≡ length config.now.tasks) × All IsTop map.now.tops }
+    requires tops { (length map.now.tops ≡ length config.now.tasks) × All IsStackTop map.now.tops }
     requires items { (length app.now.funcs ≤ length map.now.places.first) × All (λ i. i < length map.now.places.items) map.now.places.first }
     ensures at { IfOk result (λ block. block.at ≡ slice_index map.now.handlers task) }
     ensures marks { IfOk result (λ block. block.marks ≡ []) }
@@ -58,9 +58,9 @@ fn entry(
 ) -> Result<Vec<Instr>, AllocError>
     requires exists { (task < length config.now.tasks) × (length config.now.tasks ≤ 30) }
     requires levels { (levels.now.top < 32) × ((t : ℕ) → slice_index levels.now.task t < 32) }
-    requires body { (body : ℕ) × IsBody app.now.funcs task body }
+    requires body { (body : ℕ) × IsBodyPlace app.now.funcs task body }
     requires frames { All (λ func. func.frame_words ≤ 32) app.now.funcs }
-    requires tops { (length map.now.tops ≡ length config.now.tasks) × All IsTop map.now.tops }
+    requires tops { (length map.now.tops ≡ length config.now.tasks) × All IsStackTop map.now.tops }
     requires items { (length app.now.funcs ≤ length map.now.places.first) × All (λ i. i < length map.now.places.items) map.now.places.first }
     ensures size { IfOk result (λ code. IsPrologueLength task config.now app.now (length code.items)) }
     ensures enters { IfOk result (λ code. EntersTask task config.now app.now levels.now map.now code.items) }
@@ -88,7 +88,7 @@ fn entry(
 
 /// The address of a frame of so many words that ends at an address.
 fn frame_address(top: u32, words: u32) -> u32
-    requires { IsTop top × (words ≤ 32) }
+    requires { IsStackTop top × (words ≤ 32) }
     ensures { result ≡ memory_base + frame_at top words }
 {
     top - 4 * words

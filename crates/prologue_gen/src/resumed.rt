@@ -1,6 +1,6 @@
 //! The parts of an extended task's prologue: where a context is kept for the task, it goes on behind its wait.
 ghost use Rattle.std.specs.Prelude.{◌≡◌, ◌<◌, ◌++◌, OnOk};
-ghost use Rattle.prologue_gen.specs.Pieces.{takes_own, answers_wait, goes_on, asks_kept, takes_up};
+ghost use Rattle.prologue_gen.specs.Pieces.{own_taking_code, wait_answer_code, going_on_code, kept_context_test, context_taking_code};
 
 use masked_code::emit::{emit, past, restore};
 use rv32_instr::Instr;
@@ -16,7 +16,7 @@ const GOES_ON: u32 = 33;
 /// Takes up the context that is kept for an extended task; for a basic one none is kept.
 pub fn take_up(code: &mut Vec<Instr>, extended: bool, task: u32) -> Result<(), AllocError>
     requires { task < 30 }
-    ensures { OnOk result (code.new.items ≡ code.old.items ++ takes_up extended task) }
+    ensures { OnOk result (code.new.items ≡ code.old.items ++ context_taking_code extended task) }
 {
     if extended {
         ask_kept(code, task)?;
@@ -28,7 +28,7 @@ pub fn take_up(code: &mut Vec<Instr>, extended: bool, task: u32) -> Result<(), A
 /// x1 := the address of the task's own context; passes what takes it up where there is none.
 fn ask_kept(code: &mut Vec<Instr>, task: u32) -> Result<(), AllocError>
     requires { task < 30 }
-    ensures { OnOk result (code.new.items ≡ code.old.items ++ asks_kept task) }
+    ensures { OnOk result (code.new.items ≡ code.old.items ++ kept_context_test task) }
 {
     let asked = [lw(X1, X4, resume(task)), beq(X1, ZERO, past(GOES_ON))];
     emit(code, &asked)
@@ -37,7 +37,7 @@ fn ask_kept(code: &mut Vec<Instr>, task: u32) -> Result<(), AllocError>
 /// The task goes on behind its wait, as its context at x1 says.
 fn go_on(code: &mut Vec<Instr>, task: u32) -> Result<(), AllocError>
     requires { task < 30 }
-    ensures { OnOk result (code.new.items ≡ code.old.items ++ goes_on task) }
+    ensures { OnOk result (code.new.items ≡ code.old.items ++ going_on_code task) }
 {
     take_own(code, task)?;
     restore(code, 5, 32, X1)?;
@@ -48,7 +48,7 @@ fn go_on(code: &mut Vec<Instr>, task: u32) -> Result<(), AllocError>
 /// No context is kept for the task any more; mepc and x2 are those of its context at x1.
 fn take_own(code: &mut Vec<Instr>, task: u32) -> Result<(), AllocError>
     requires { task < 30 }
-    ensures { OnOk result (code.new.items ≡ code.old.items ++ takes_own task) }
+    ensures { OnOk result (code.new.items ≡ code.old.items ++ own_taking_code task) }
 {
     let taken = [
         sw(ZERO, X4, resume(task)),
@@ -61,7 +61,7 @@ fn take_own(code: &mut Vec<Instr>, task: u32) -> Result<(), AllocError>
 
 /// The service that waited has done so.
 fn answer_wait(code: &mut Vec<Instr>) -> Result<(), AllocError>
-    ensures { OnOk result (code.new.items ≡ code.old.items ++ answers_wait) }
+    ensures { OnOk result (code.new.items ≡ code.old.items ++ wait_answer_code) }
 {
     emit(code, &[addi(A0, ZERO, E_OK as i32), mret()])
 }

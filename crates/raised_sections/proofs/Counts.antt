@@ -9,7 +9,7 @@ use Rattle.sloth_base.specs.declared.event.Event.TheVariants as event
 use Rattle.sloth_base.specs.declared.event.Stamped.{Stamped}
 use Rattle.sloth_base.specs.Events.{is_boot, admitted_line}
 use Rattle.osek_scheduler.specs.InTime.{is_admit}
-use Rattle.osek_blocking.specs.Blocking.{working_task, is_entry_of, up_to_entry}
+use Rattle.osek_blocking.specs.Blocking.{working_task, is_entry_of, events_up_to_entry}
 use Rattle.raised_sections.specs.Kept.{is_lower, lower_events, KeepsBounds}
 use Rattle.raised_sections.specs.Pace.{item_counts, event_counts, last_count, EndsSoon, IsPaced}
 use Rattle.raised_sections.specs.Spent.{spent_counts, KeepsCounts}
@@ -38,14 +38,14 @@ module _ (config : Config) (h : ℕ) where
       omega (arith, le, more)
 
   front_step : (at : ℕ) (e : Stamped) (events : List Stamped) → EndsSoon config at e
-      → IsPaced config (cond (is_admit e) at e.stamp.at) (up_to_entry h events) → IsPaced config at (up_to_entry h (e ∷ events))
+      → IsPaced config (cond (is_admit e) at e.stamp.at) (events_up_to_entry h events) → IsPaced config at (events_up_to_entry h (e ∷ events))
   front_step at e events soon rest = by (cases_Bool (is_entry_of h e.event))
     where
-      by : (is_entry_of h e.event ≡ true) ⊎ (is_entry_of h e.event ≡ false) → IsPaced config at (up_to_entry h (e ∷ events))
-      by (inl c) = subst (IsPaced config at) (sym (cond-true _ [] (e ∷ up_to_entry h events) c)) tt
-      by (inr c) = subst (IsPaced config at) (sym (cond-false _ [] (e ∷ up_to_entry h events) c)) (soon, rest)
+      by : (is_entry_of h e.event ≡ true) ⊎ (is_entry_of h e.event ≡ false) → IsPaced config at (events_up_to_entry h (e ∷ events))
+      by (inl c) = subst (IsPaced config at) (sym (cond-true _ [] (e ∷ events_up_to_entry h events) c)) tt
+      by (inr c) = subst (IsPaced config at) (sym (cond-false _ [] (e ∷ events_up_to_entry h events) c)) (soon, rest)
 
-  front_paced : (at : ℕ) (events : List Stamped) → IsPaced config at events → IsPaced config at (up_to_entry h events)
+  front_paced : (at : ℕ) (events : List Stamped) → IsPaced config at events → IsPaced config at (events_up_to_entry h events)
   front_paced at [] p = tt
   front_paced at (e ∷ events) p = front_step at e events p.0 (front_paced (cond (is_admit e) at e.stamp.at) events p.1)
 
@@ -54,6 +54,6 @@ keeps_counts config app events keeps paced before behind made h b found s is lea
     let at = last_count 0 (before ++ made ∷ []) in
     let whole : IsPaced config 0 ((before ++ made ∷ []) ++ behind) = subst (IsPaced config 0) (is ∙ sym (append_assoc before (made ∷ []) behind)) paced in
     let p = front_paced config h at behind (behind_paced config 0 (before ++ made ∷ []) behind whole) in
-    let le = within config h at (up_to_entry h behind) p in
+    let le = within config h at (events_up_to_entry h behind) p in
     let most = keeps before behind made h b found s is leads makes bound in
     omega (arith, le, most)

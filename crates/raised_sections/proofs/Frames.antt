@@ -16,7 +16,7 @@ use Rattle.osek_scheduler.specs.declared.state.TaskState.TheVariants as mode
 use Rattle.osek_scheduler.specs.State.{Task, System, sleeping_task, task, with_task}
 use Rattle.osek_scheduler.specs.Services.{activated_state, with_events, moved_frames, Outcome, GoesOn, Leaves, ticked_state}
 use Rattle.osek_scheduler.specs.Changes.{changed_task, with_change}
-use Rattle.osek_scheduler.specs.Outcomes.{carried_out, shown, decision, outcome}
+use Rattle.osek_scheduler.specs.Outcomes.{planned_system, shown_outcome, decision, outcome}
 use Rattle.osek_scheduler.specs.Steps.{admitted_state}
 use Rattle.osek_scheduler.proofs.Outcomes.{by_suspended, on_tested, on_outcome, KeptByOthers, others_keep}
 use Rattle.osek_scheduler.proofs.Ticking.{parts_kept, ticked_keeps}
@@ -137,7 +137,7 @@ module _ (c : ℕ) (s : System) where
     sets_alarms = λ x a new h. record { others = h.others; caller = h.caller };
   }
 
-  changed : (p : Plan) → Changed (changed_task p.change (task s c)) (carried_out c p s)
+  changed : (p : Plan) → Changed (changed_task p.change (task s c)) (planned_system c p s)
   changed p =
       let new = changed_task p.change (task s c) in
       others_keep (Changed new) (kept_besides new) p.other (with_change c p.change s)
@@ -180,7 +180,7 @@ module _ (c : ℕ) (s : System) where
   is_fitting served None d = is_departure served d
 
   by_plan : (served : Service) → served ≢ service.Schedule → (p : Plan) (answer : Option ℕ) → is_fitting served answer p.change ≡ true
-      → Served served (shown answer (carried_out c p s))
+      → Served served (shown_outcome answer (planned_system c p s))
   by_plan served other p (Some status) e =
       let both = and_parts (is_onward p.change) (not (is_service served service.TerminateTask)) e in
       record {
@@ -194,7 +194,7 @@ module _ (c : ℕ) (s : System) where
       record {
         others = (changed p).others;
         gone = λ lt a. d.0 (((changed p).caller lt).active a);
-        frames = λ lt. left (changed_task p.change (task s c)) (task (carried_out c p s) c) (((changed p).caller lt).frames) d.1;
+        frames = λ lt. left (changed_task p.change (task s c)) (task (planned_system c p s) c) (((changed p).caller lt).frames) d.1;
         held = λ lt. ((changed p).caller lt).held ∙ d.2;
       }
     where
@@ -213,5 +213,5 @@ module _ (c : ℕ) (s : System) where
       }
   served_frames config served object mask =
       on_outcome (Served served) c s (decision config served object mask c s)
-      (on_tested s (λ p. Served served (shown p.answer (carried_out c p s))) (λ p. is_fitting served p.answer p.change)
+      (on_tested s (λ p. Served served (shown_outcome p.answer (planned_system c p s))) (λ p. is_fitting served p.answer p.change)
       (λ p e. by_plan served (λ is. cc) p p.answer e) (decision config served object mask c s) refl)

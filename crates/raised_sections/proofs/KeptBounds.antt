@@ -12,13 +12,13 @@ use Rattle.osek_scheduler.specs.State.{System, opening}
 use Rattle.osek_scheduler.specs.Steps.{OsekStep}
 use Rattle.osek_scheduler.specs.Runs.{Leads, OsekRun}
 use Rattle.osek_scheduler.proofs.Leading.{follows_leads, leads-parts, one_step, one_end}
-use Rattle.osek_valid.specs.Valid.{Valid}
+use Rattle.osek_valid.specs.Valid.{IsValid}
 use Rattle.osek_valid.specs.Apart.{static_priority}
 use Rattle.osek_valid.proofs.Apart.{opening_apart}
 use Rattle.osek_valid.proofs.Facts.{Facts, facts}
 use Rattle.osek_valid.proofs.Reached.{run_valid}
 use Rattle.osek_valid.proofs.Steps.{step_valid, opening_valid}
-use Rattle.osek_blocking.specs.Blocking.{working_task, is_entry_of, up_to_entry, IsOfLower, IsBlockedBy}
+use Rattle.osek_blocking.specs.Blocking.{working_task, is_entry_of, events_up_to_entry, IsOfLower, IsBlockedBy}
 use Rattle.osek_blocking.proofs.Effects.{IsReady, Ordered, step_ordered, opening_ordered, leads_ordered}
 use Rattle.osek_blocking.proofs.Once.{block_once}
 use Rattle.raised_sections.specs.Sections.{IsLower, IsBound, lowest, above}
@@ -30,8 +30,8 @@ use Rattle.raised_sections.proofs.Sectioned.{at_most}
 
 module _ (config : Config) (app : App) (h b : ℕ) (no : ¬ (IsLower config h b)) where
   abbrev NoneIn : List Stamped → Type 0
-  NoneIn events = (s end : System) → Leads config app events s end → IsBlockedBy config app h s (up_to_entry h events) b
-      → lower_events config h (up_to_entry h events) ≡ 0
+  NoneIn events = (s end : System) → Leads config app events s end → IsBlockedBy config app h s (events_up_to_entry h events) b
+      → lower_events config h (events_up_to_entry h events) ≡ 0
 
   acts_declared : (e : Event) (s next : System) (u : ℕ) → OsekStep config app e s next → working_task e ≡ Some u → u < length config.tasks
   acts_declared (event.Run t func item result) s next u step is = subst (λ v. v < length config.tasks) (same_Some t u is) step.1.top.declared
@@ -56,14 +56,14 @@ module _ (config : Config) (app : App) (h b : ℕ) (no : ¬ (IsLower config h b)
   none_cons : (e : Stamped) (events : List Stamped) → NoneIn events → NoneIn (e ∷ events)
   none_cons e events again s end leads k = by (cases_Bool (is_entry_of h e.event))
     where
-      by : (is_entry_of h e.event ≡ true) ⊎ (is_entry_of h e.event ≡ false) → lower_events config h (up_to_entry h (e ∷ events)) ≡ 0
-      by (inl c) = ap (lower_events config h) (cond-true _ [] (e ∷ up_to_entry h events) c)
+      by : (is_entry_of h e.event ≡ true) ⊎ (is_entry_of h e.event ≡ false) → lower_events config h (events_up_to_entry h (e ∷ events)) ≡ 0
+      by (inl c) = ap (lower_events config h) (cond-true _ [] (e ∷ events_up_to_entry h events) c)
       by (inr c) =
-          let is = cond-false _ [] (e ∷ up_to_entry h events) c in
+          let is = cond-false _ [] (e ∷ events_up_to_entry h events) c in
           let now = subst (λ es. IsBlockedBy config app h s es b) is k in
-          let free = not_lower e.event s leads.0 leads.1 (λ u lower. now.of_one [] (up_to_entry h events) e u refl lower) in
+          let free = not_lower e.event s leads.0 leads.1 (λ u lower. now.of_one [] (events_up_to_entry h events) e u refl lower) in
           ap (lower_events config h) is
-          ∙ ap (λ d. cond d 1 0 + lower_events config h (up_to_entry h events)) free
+          ∙ ap (λ d. cond d 1 0 + lower_events config h (events_up_to_entry h events)) free
           ∙ (let z = again leads.0 end leads.2
           (record {
             of_one = λ front rest x u is lower. now.of_one (e ∷ front) rest x u (ap (λ es. e ∷ es) is) lower;
@@ -88,9 +88,9 @@ decide_lower config h b = by (cases_lt b (length config.tasks)) (cases_lt (stati
 
 module _ (config : Config) (app : App) (w : Facts config app) (h : ℕ) where
   -- from the state behind the event that makes h Ready
-  from_there : (s end : System) (behind : List Stamped) → h < length config.tasks → Valid config app s → Ordered config s → Placed app s → IsReady s h
-      → Leads config app behind s end → (b : ℕ) → IsBound config app h b → (l : ℕ) → IsBlockedBy config app h s (up_to_entry h behind) l
-      → IsLower config h l ⊎ (IsLower config h l → ⊥) → lower_events config h (up_to_entry h behind) ≤ b
+  from_there : (s end : System) (behind : List Stamped) → h < length config.tasks → IsValid config app s → Ordered config s → Placed app s → IsReady s h
+      → Leads config app behind s end → (b : ℕ) → IsBound config app h b → (l : ℕ) → IsBlockedBy config app h s (events_up_to_entry h behind) l
+      → IsLower config h l ⊎ (IsLower config h l → ⊥) → lower_events config h (events_up_to_entry h behind) ≤ b
   from_there s end behind declared v o p ready leads b bound l k (inr not_lower) = let e = none config app h l not_lower behind s end leads k in omega (arith, e)
   from_there s end behind declared v o p ready leads b (lowest nobody) l k (inl lower) = absurd (nobody l lower)
   from_there s end behind declared v o p ready leads b (above n most) l k (inl lower) =

@@ -23,10 +23,10 @@ use Rattle.osek_scheduler.specs.declared.plan.Other.TheVariants as other
 use Rattle.osek_scheduler.specs.declared.state.TaskState.TheVariants as mode
 use Rattle.osek_scheduler.specs.State.{Frame, Task, System, sleeping_task, task, with_task, opening}
 use Rattle.osek_scheduler.specs.Services.{started_task, moved_frames, Outcome, GoesOn, Leaves}
-use Rattle.osek_scheduler.specs.Outcomes.{plan, carried_out, IfSuspended, outcome_of, answers_alone, leaves, outcome}
+use Rattle.osek_scheduler.specs.Outcomes.{plan, planned_system, IfSuspended, outcome_of, status_decision, leaves, outcome}
 use Rattle.osek_scheduler.specs.Steps.{OsekStep, ServesCall, Executes}
 use Rattle.osek_scheduler.specs.Runs.{Leads}
-use Rattle.osek_valid.specs.Valid.{IsCalledFrom, Valid}
+use Rattle.osek_valid.specs.Valid.{IsCalledFrom, IsValid}
 use Rattle.osek_valid.proofs.Facts.{Facts}
 use Rattle.osek_valid.proofs.Going.{running}
 use Rattle.osek_valid.proofs.Stacks.{has_body, in_body_alone}
@@ -82,7 +82,7 @@ FrameEffect app s next event.Stray = ⊥
 FrameEffect app s next (event.Due c) = KeepsFrames s next
 FrameEffect app s next (event.Tick c) = KeepsFrames s next
 
-module _ (config : Config) (app : App) (w : Facts config app) (s next : System) (v : Valid config app s) where
+module _ (config : Config) (app : App) (w : Facts config app) (s next : System) (v : IsValid config app s) where
   at_least : (t : ℕ) → t < length config.tasks → t < length s.tasks
   at_least t lt = subst (λ n. t < n) (sym v.count) lt
 
@@ -145,8 +145,8 @@ module _ (config : Config) (app : App) (w : Facts config app) (s next : System) 
         not_itself : h.call.service ≡ service.ChainTask → h.call.object ≡ t → ⊥
         not_itself chains object =
             let chained = subst (λ x. outcome config x h.call.object h.call.mask t s ≡ GoesOn status after) (sym h.same ∙ chains) h.is in
-            left_first (t == t) (carried_out t (plan None change.End (other.Activate t)) s)
-            (outcome_of t s (IfSuspended t (leaves change.End (other.Activate t)) (answers_alone E_OS_LIMIT))) (eq-eqb t t refl)
+            left_first (t == t) (planned_system t (plan None change.End (other.Activate t)) s)
+            (outcome_of t s (IfSuspended t (leaves change.End (other.Activate t)) (status_decision E_OS_LIMIT))) (eq-eqb t t refl)
             (subst (λ n. outcome config service.ChainTask n h.call.mask t s ≡ GoesOn status after) object chained)
 
         other_chained : (b : Bool) → chains_itself (function app h.at.frame.func) (op.Serve h.call) ≡ b → b ≡ false
@@ -249,7 +249,7 @@ module _ (config : Config) (app : App) where
   pub opening_placed : Placed app (opening config app)
   opening_placed u = inl (ap (λ k. k.frames) (asleep_at config.tasks u))
 
-  pub leads_placed : Facts config app → (events : List Stamped) (s end : System) → Leads config app events s end → Valid config app s → Placed app s
+  pub leads_placed : Facts config app → (events : List Stamped) (s end : System) → Leads config app events s end → IsValid config app s → Placed app s
       → Placed app end
   leads_placed w [] s end is v p = subst (Placed app) (sym is) p
   leads_placed w (e ∷ events) s end h v p =

@@ -13,7 +13,7 @@ use Rattle.osek_scheduler.specs.Priority.{is_in, is_active}
 use Rattle.osek_scheduler.specs.Runs.{Leads}
 use Rattle.osek_scheduler.proofs.Tests.{Decides-is_active}
 use Rattle.osek_valid.specs.Apart.{static_priority, IsActive}
-use Rattle.osek_blocking.specs.Blocking.{working_task, is_entry_of, up_to_entry, IsRaisedTo, FindsFresh}
+use Rattle.osek_blocking.specs.Blocking.{working_task, is_entry_of, events_up_to_entry, IsRaisedTo, FindsFresh}
 use Rattle.osek_blocking.proofs.Effects.{Effect, effect}
 use Rattle.osek_blocking.proofs.Once.{stays_out}
 use Rattle.raised_sections.specs.Walks.{Position, WalksOn, WalksOnTo, AreConsecutive, IsWalk}
@@ -119,7 +119,7 @@ module _ {config : Config} {app : App} {h l : ℕ} (pair : LowerPair config app 
           again leads.0 end o.waits (stays_out config app h pair.declared s leads.0 x.ready e.event (effect config app s leads.0 x.ordered e.event leads.1) out) o.blocked leads.2
 
       raised : Onward pair s leads.0 e events → working_task e.event ≡ Some l → IsRaisedTo config s l h
-      raised o is = by (o.now.raised [] (up_to_entry h events) e l s refl (record { works = is; lower = pair.lower.1 }) refl)
+      raised o is = by (o.now.raised [] (events_up_to_entry h events) e l s refl (record { works = is; lower = pair.lower.1 }) refl)
         where
           by : IsRaisedTo config s l h ⊎ FindsFresh e.event s h → IsRaisedTo config s l h
           by (inl le) = le

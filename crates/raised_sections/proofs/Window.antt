@@ -12,12 +12,12 @@ use Rattle.osek_scheduler.specs.State.{System, task}
 use Rattle.osek_scheduler.specs.Priority.{IsTop}
 use Rattle.osek_scheduler.specs.Steps.{OsekStep}
 use Rattle.osek_scheduler.specs.Runs.{Leads}
-use Rattle.osek_valid.specs.Valid.{Valid}
+use Rattle.osek_valid.specs.Valid.{IsValid}
 use Rattle.osek_valid.specs.Apart.{static_priority, IsActive}
 use Rattle.osek_valid.proofs.Apart.{rank_active, rank_ready}
 use Rattle.osek_valid.proofs.Facts.{Facts}
 use Rattle.osek_valid.proofs.Steps.{step_valid}
-use Rattle.osek_blocking.specs.Blocking.{working_task, is_entry_of, up_to_entry, IsOfLower, IsBlockedBy}
+use Rattle.osek_blocking.specs.Blocking.{working_task, is_entry_of, events_up_to_entry, IsOfLower, IsBlockedBy}
 use Rattle.osek_blocking.proofs.Effects.{IsReady, Ordered, Effect, effect, step_ordered}
 use Rattle.osek_blocking.proofs.Once.{stays}
 use Rattle.raised_sections.specs.Sections.{IsLower}
@@ -34,7 +34,7 @@ pub record LowerPair (config : Config) (app : App) (h l : ℕ) : Type 0 where
 
 module _ {config : Config} {app : App} {h l : ℕ} (pair : LowerPair config app h l) where
   pub record Waits (s : System) : Type 0 where
-    pub valid : Valid config app s
+    pub valid : IsValid config app s
     pub ordered : Ordered config s
     pub placed : Placed app s
     pub ready : IsReady s h
@@ -142,20 +142,20 @@ module _ {config : Config} {app : App} {h l : ℕ} (pair : LowerPair config app 
   }
 
   abbrev pub Blocked : System → List Stamped → Type 0
-  Blocked s events = IsBlockedBy config app h s (up_to_entry h events) l
+  Blocked s events = IsBlockedBy config app h s (events_up_to_entry h events) l
 
   abbrev pub count : List Stamped → ℕ
-  count events = lower_events config h (up_to_entry h events)
+  count events = lower_events config h (events_up_to_entry h events)
 
   pub stops : (e : Stamped) (events : List Stamped) → is_entry_of h e.event ≡ true → count (e ∷ events) ≡ 0
-  stops e events c = ap (lower_events config h) (cond-true _ [] (e ∷ up_to_entry h events) c)
+  stops e events c = ap (lower_events config h) (cond-true _ [] (e ∷ events_up_to_entry h events) c)
 
-  pub goes : (e : Stamped) (events : List Stamped) → is_entry_of h e.event ≡ false → up_to_entry h (e ∷ events) ≡ e ∷ up_to_entry h events
-  goes e events c = cond-false _ [] (e ∷ up_to_entry h events) c
+  pub goes : (e : Stamped) (events : List Stamped) → is_entry_of h e.event ≡ false → events_up_to_entry h (e ∷ events) ≡ e ∷ events_up_to_entry h events
+  goes e events c = cond-false _ [] (e ∷ events_up_to_entry h events) c
 
   -- what goes on behind an event that is not the entry
   pub record Onward (s next : System) (e : Stamped) (events : List Stamped) : Type 0 where
-    pub now : IsBlockedBy config app h s (e ∷ up_to_entry h events) l
+    pub now : IsBlockedBy config app h s (e ∷ events_up_to_entry h events) l
     pub waits : Waits next
     pub blocked : Blocked next events
     pub one : (u : ℕ) → IsOfLower config h e.event u → u ≡ l
@@ -167,8 +167,8 @@ module _ {config : Config} {app : App} {h l : ℕ} (pair : LowerPair config app 
       record {
         now = now;
         waits = next_waits s next x e.event step c;
-        blocked = blocked_next s next e (up_to_entry h events) step now;
-        one = λ u lower. now.of_one [] (up_to_entry h events) e u refl lower;
+        blocked = blocked_next s next e (events_up_to_entry h events) step now;
+        one = λ u lower. now.of_one [] (events_up_to_entry h events) e u refl lower;
       }
 
   -- an event that is not lower does not count

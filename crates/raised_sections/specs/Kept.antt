@@ -6,7 +6,7 @@ use Rattle.sloth_base.specs.declared.event.Stamped.{Stamped}
 use Rattle.osek_scheduler.specs.State.{System, opening}
 use Rattle.osek_scheduler.specs.Runs.{Leads}
 use Rattle.osek_valid.specs.Apart.{static_priority}
-use Rattle.osek_blocking.specs.Blocking.{working_task, up_to_entry, MakesReady}
+use Rattle.osek_blocking.specs.Blocking.{working_task, events_up_to_entry, MakesReady}
 use Rattle.raised_sections.specs.Sections.{IsBound}
 
 -- there is a task, and it is of lower static priority than h
@@ -24,4 +24,4 @@ abbrev pub KeepsBounds : Config → App → List Stamped → Type 0
 KeepsBounds config app events =
     (before behind : List Stamped) (made : Stamped) (h b : ℕ) (found s : System) → events ≡ before ++ made ∷ behind
     → Leads config app before (opening config app) found → MakesReady config app h made.event found s
-    → IsBound config app h b → lower_events config h (up_to_entry h behind) ≤ b
+    → IsBound config app h b → lower_events config h (events_up_to_entry h behind) ≤ b

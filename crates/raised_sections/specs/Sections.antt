@@ -9,7 +9,7 @@ use Rattle.sloth_base.specs.declared.service.Service.TheVariants as service
 use Rattle.sloth_base.specs.Named.{declaration, operation}
 use Rattle.sloth_base.specs.ServiceCodes.{is_service}
 use Rattle.code_rules.specs.Code.{ends_for_good}
-use Rattle.code_rules.specs.WellFormed.{held_before}
+use Rattle.code_rules.specs.WellFormed.{held_list_before}
 use Rattle.osek_scheduler.specs.State.{sleeping_task}
 use Rattle.osek_valid.specs.Apart.{priority_of, static_priority}
 use Rattle.raised_sections.specs.Walks.{Position, IsWalk}
@@ -17,14 +17,14 @@ use Rattle.raised_sections.specs.Walks.{Position, IsWalk}
 -- ---- a position
 
 -- what the functions in progress hold, the outermost's first
-abbrev pub held_along : App → Position → List ℕ
-held_along app [] = []
-held_along app (here ∷ outer) = held_along app outer ++ held_before app here.func here.item
+abbrev pub held_list_along : App → Position → List ℕ
+held_list_along app [] = []
+held_list_along app (here ∷ outer) = held_list_along app outer ++ held_list_before app here.func here.item
 
 -- the current priority of task t at a position (OSEK OS 2.2.3, section 8.6); a task that is not preemptable counts as always raised
 abbrev pub priority_at : Config → App → (t : ℕ) → Position → ℕ
 priority_at config app t at =
-    priority_of config t (record sleeping_task { held = held_along app at; raised = (declaration config t).non })
+    priority_of config t (record sleeping_task { held = held_list_along app at; raised = (declaration config t).non })
 
 -- the operation at a position
 abbrev pub operation_at : App → Position → Op
@@ -99,8 +99,8 @@ abbrev pub HasNoBound : Config → App → (h : ℕ) → Type 0
 HasNoBound config app h = (n : ℕ) → SomeIsLarger config app h n
 
 -- the greatest bound that is told by its number
-abbrev pub greatest_told : ℕ
-greatest_told = 1000000
+abbrev pub greatest_told_bound : ℕ
+greatest_told_bound = 1000000
 
 -- the bound of h is above this one: some section has as many positions, and their sizes have a limit
 pub record ExceedsBound (config : Config) (app : App) (h limit : ℕ) : Type 0 where

@@ -6,7 +6,7 @@ use Rattle.sloth_base.specs.declared.event.Stamped.{Stamped}
 use Rattle.osek_scheduler.specs.State.{System, opening}
 use Rattle.osek_scheduler.specs.InTime.{is_admit}
 use Rattle.osek_scheduler.specs.Runs.{Leads}
-use Rattle.osek_blocking.specs.Blocking.{working_task, up_to_entry, MakesReady}
+use Rattle.osek_blocking.specs.Blocking.{working_task, events_up_to_entry, MakesReady}
 use Rattle.raised_sections.specs.Sections.{IsBound}
 use Rattle.raised_sections.specs.Kept.{is_lower}
 use Rattle.raised_sections.specs.Pace.{item_counts, last_count}
@@ -23,4 +23,4 @@ abbrev pub KeepsCounts : Config → App → List Stamped → Type 0
 KeepsCounts config app events =
     (before behind : List Stamped) (made : Stamped) (h b : ℕ) (found s : System) → events ≡ before ++ made ∷ behind
     → Leads config app before (opening config app) found → MakesReady config app h made.event found s
-    → IsBound config app h b → spent_counts config h (last_count 0 (before ++ made ∷ [])) (up_to_entry h behind) ≤ item_counts * b
+    → IsBound config app h b → spent_counts config h (last_count 0 (before ++ made ∷ [])) (events_up_to_entry h behind) ≤ item_counts * b

@@ -22,7 +22,7 @@ use Rattle.osek_valid.proofs.Apart.{opening_apart}
 use Rattle.osek_valid.proofs.Facts.{Facts, facts}
 use Rattle.osek_valid.proofs.Reached.{run_valid}
 use Rattle.osek_valid.proofs.Steps.{step_valid, opening_valid}
-use Rattle.osek_blocking.specs.Blocking.{is_entry_of, up_to_entry}
+use Rattle.osek_blocking.specs.Blocking.{is_entry_of, events_up_to_entry}
 use Rattle.osek_blocking.proofs.Effects.{step_ordered, opening_ordered, leads_ordered}
 use Rattle.osek_blocking.proofs.Once.{block_once}
 use Rattle.raised_sections.specs.Pace.{item_counts, entry_counts, event_counts, takes_line, last_count, IsPaced}
@@ -218,18 +218,18 @@ entry_facts h e is = absurd (false≢true is)
 
 -- the first entry of the events, or there is none
 data Entry (h : ℕ) (events : List Stamped) : Type 0 where
-  enters : (entry : Stamped) (rest : List Stamped) → is_entry_of h entry.event ≡ true → events ≡ up_to_entry h events ++ entry ∷ rest → Entry h events
-  enters_not : up_to_entry h events ≡ events → Entry h events
+  enters : (entry : Stamped) (rest : List Stamped) → is_entry_of h entry.event ≡ true → events ≡ events_up_to_entry h events ++ entry ∷ rest → Entry h events
+  enters_not : events_up_to_entry h events ≡ events → Entry h events
 
 find_entry : (h : ℕ) (events : List Stamped) → Entry h events
 find_entry h [] = enters_not refl
 find_entry h (e ∷ events) = by (cases_Bool (is_entry_of h e.event)) (find_entry h events)
   where
-    here : is_entry_of h e.event ≡ true → up_to_entry h (e ∷ events) ≡ []
-    here is = cond-true (is_entry_of h e.event) [] (e ∷ up_to_entry h events) is
+    here : is_entry_of h e.event ≡ true → events_up_to_entry h (e ∷ events) ≡ []
+    here is = cond-true (is_entry_of h e.event) [] (e ∷ events_up_to_entry h events) is
 
-    on : is_entry_of h e.event ≡ false → up_to_entry h (e ∷ events) ≡ e ∷ up_to_entry h events
-    on other = cond-false (is_entry_of h e.event) [] (e ∷ up_to_entry h events) other
+    on : is_entry_of h e.event ≡ false → events_up_to_entry h (e ∷ events) ≡ e ∷ events_up_to_entry h events
+    on other = cond-false (is_entry_of h e.event) [] (e ∷ events_up_to_entry h events) other
 
     by : (is_entry_of h e.event ≡ true) ⊎ (is_entry_of h e.event ≡ false) → Entry h events → Entry h (e ∷ events)
     by (inl is) further = enters e events is (sym (ap (λ front. front ++ e ∷ events) (here is)))
@@ -273,7 +273,7 @@ module _ (config : Config) (app : App) (n : ℕ) (events : List Stamped) (code :
             ready = makes.behind;
           }
 
-      most : waiting (up_to_entry h behind) ≤ b
+      most : waiting (events_up_to_entry h behind) ≤ b
       most =
           let blocked = block_once config app events run before behind made h found s is leads makes in
           waits_at_most config app w h makes.declared highest behind s run.0 blocked.0 b stands blocked.1 behind_leads bound
@@ -295,7 +295,7 @@ module _ (config : Config) (app : App) (n : ℕ) (events : List Stamped) (code :
           let rest = behind_paced config 0 before (made ∷ behind) (subst (IsPaced config 0) is paced.paced) in
           subst (λ k. IsPaced config k behind) same rest.1
 
-      reach : (window further : List Stamped) → behind ≡ window ++ further → up_to_entry h behind ≡ window
+      reach : (window further : List Stamped) → behind ≡ window ++ further → events_up_to_entry h behind ≡ window
           → last_count at window ≤ at + item_counts * b + tick_counts config window
       reach window further split front =
           let p = front_paced config at window further (subst (IsPaced config at) split pace) in
@@ -306,8 +306,8 @@ module _ (config : Config) (app : App) (n : ℕ) (events : List Stamped) (code :
 
       by : Entry h behind → EntersBefore h (made.stamp.at + latency_with_ticks config h b made.stamp.at before behind) behind
       by (enters entry rest entered split) =
-          let le = reach (up_to_entry h behind) (entry ∷ rest) split refl in
-          let p = behind_paced config at (up_to_entry h behind) (entry ∷ rest) (subst (IsPaced config at) split pace) in
+          let le = reach (events_up_to_entry h behind) (entry ∷ rest) split refl in
+          let p = behind_paced config at (events_up_to_entry h behind) (entry ∷ rest) (subst (IsPaced config at) split pace) in
           let facts = entry_facts h entry.event entered in
           let soon = p.0 facts.0 facts.1 in
           let limit = ap (λ c. cond c (entry_counts config) item_counts) facts.2 in

@@ -22,10 +22,10 @@ use Rattle.sloth_base.specs.ServiceCodes.{service_of}
 use Rattle.sloth_base.specs.declared.service.Service.{Service}
 use Rattle.sloth_base.specs.Stretches.{Boots, beginning_of, later_beginning, stretch_limit, longest_stretch}
 use Rattle.sloth_base.proofs.Stretches.{begins_later, within_longest}
-use Rattle.rv32_machine.specs.Coherent.{Coherent}
+use Rattle.rv32_machine.specs.Coherent.{AreCoherent}
 use Rattle.observe.specs.Pieces.{Piece, Outside, Stretch, steps_of, IsPiece}
-use Rattle.observe.specs.Observe.{View, NO_TASK, NO_COUNTER, running_task, service_event, marked_event, unentered_event, stamp, admission, is_early, masked_from, last_of, stretch_event, later_event, entry_event, stretch_events, events_of_kind, outside_events, mark_at, piece_events}
-use Rattle.sim_induction.specs.Short.{IsShort, IsShortPiece, passed_by, passed_length, HasShortGaps}
+use Rattle.observe.specs.Observe.{View, NO_TASK, NO_COUNTER, running_task, service_event, marked_event, unentered_event, stamp, admission, is_early, first_masked_moment, last_of, stretch_event, later_event, entry_event, stretch_events, events_of_kind, outside_events, mark_at, piece_events}
+use Rattle.sim_induction.specs.Short.{AreShort, IsShortPiece, passed_count, passed_length, HasShortGaps}
 use Rattle.sim_induction.proofs.Shown.{stretch_long}
 use Rattle.raised_sections.specs.Pace.{item_counts, entry_counts, event_counts, takes_line}
 use Rattle.run_bounds.specs.PacedRun.{LastsBriefly}
@@ -41,7 +41,7 @@ module _ (config : Config) (view : View) (arrivals : List Arrival) where
   -- ---- a step outside the stretches
 
   shown_by : (k : MarkKind) (mark : Mark) (step : Step) (at before : ℕ) → step.count ≤ at + 1 + before → before ≤ 40
-      → Reaches at (map (stamp step.count step.count) (events_of_kind k view mark step)) (step.count + 1) (passed_by (events_of_kind k view mark step) before)
+      → Reaches at (map (stamp step.count step.count) (events_of_kind k view mark step)) (step.count + 1) (passed_count (events_of_kind k view mark step) before)
   shown_by kind.Item mark step at before near few = record {
     to = step.count;
     goes = one_event config at step.count step.count _ refl (λ _. omega (arith, near, few)) (omega arith);
@@ -57,7 +57,7 @@ module _ (config : Config) (view : View) (arrivals : List Arrival) where
   shown_by kind.Back mark step at before near few = record { to = at; goes = nothing config at; near = omega (arith, near) }
 
   outside_shows : (m : Option Mark) (step : Step) (at before : ℕ) → step.count ≤ at + 1 + before → before ≤ 40
-      → Reaches at (map (stamp step.count step.count) (outside_events m view step)) (step.count + 1) (passed_by (outside_events m view step) before)
+      → Reaches at (map (stamp step.count step.count) (outside_events m view step)) (step.count + 1) (passed_count (outside_events m view step) before)
   outside_shows (Some mark) step at before near few = shown_by mark.kind mark step at before near few
   outside_shows None step at before near few = record { to = at; goes = nothing config at; near = omega (arith, near) }
 
@@ -76,24 +76,24 @@ module _ (config : Config) (view : View) (arrivals : List Arrival) where
   record Follow (first : Step) (more tail : List Step) (count : ℕ) : Type 0 where
     last : (last_of first more).count ≡ count + length more
     enabled : Bool
-    behind : Coherent (count + suc (length more)) enabled tail
+    behind : AreCoherent (count + suc (length more)) enabled tail
 
-  follow : (first : Step) (more tail : List Step) (count : ℕ) (enabled : Bool) → Coherent count enabled (first ∷ (more ++ tail)) → Follow first more tail count
+  follow : (first : Step) (more tail : List Step) (count : ℕ) (enabled : Bool) → AreCoherent count enabled (first ∷ (more ++ tail)) → Follow first more tail count
   follow first [] tail count enabled c = record {
     last = let e = c.0 in omega (arith, e);
     enabled = first.enabled_after;
-    behind = subst (λ k. Coherent k first.enabled_after tail) (omega arith) c.2;
+    behind = subst (λ k. AreCoherent k first.enabled_after tail) (omega arith) c.2;
   }
   follow first (next ∷ more) tail count enabled c =
       let f = follow next more tail (count + 1) first.enabled_after c.2 in
       record {
         last = let e = f.last in omega (arith, e);
         enabled = f.enabled;
-        behind = subst (λ k. Coherent k f.enabled tail) (omega arith) f.behind;
+        behind = subst (λ k. AreCoherent k f.enabled tail) (omega arith) f.behind;
       }
 
   -- how long it may be
-  pub later_limit : (first : Step) (more : List Step) → IsShort config (first ∷ more) → 0 < first.count → suc (length more) ≤ longest_stretch config
+  pub later_limit : (first : Step) (more : List Step) → AreShort config (first ∷ more) → 0 < first.count → suc (length more) ≤ longest_stretch config
   later_limit first more short later =
       let le = short.0 in
       let is = ap (stretch_limit config) (begins_later first later) in
@@ -137,7 +137,7 @@ module _ (config : Config) (view : View) (arrivals : List Arrival) where
       by (Some mark) = marked mark.kind mark
 
   -- it ends soon behind an event: one that the taking of a line begins may be longer
-  ends_soon : (first : Step) (more : List Step) (at before : ℕ) → IsShort config (first ∷ more) → 0 < first.count
+  ends_soon : (first : Step) (more : List Step) (at before : ℕ) → AreShort config (first ∷ more) → 0 < first.count
       → (last_of first more).count ≡ first.count + length more → first.count ≤ at + 1 + before → before ≤ 40
       → (last_of first more).count ≤ at + event_counts config (stretch_event view first (last_of first more))
   ends_soon first more at before short later last near few =
@@ -171,7 +171,7 @@ module _ (config : Config) (view : View) (arrivals : List Arrival) where
               either false = refl
 
   -- its event
-  stretch_shows : (first : Step) (more : List Step) (at before : ℕ) → IsShort config (first ∷ more) → (last_of first more).count ≡ first.count + length more
+  stretch_shows : (first : Step) (more : List Step) (at before : ℕ) → AreShort config (first ∷ more) → (last_of first more).count ≡ first.count + length more
       → first.count ≤ at + 1 + before → before ≤ 40
       → Reaches at (stamp first.count (last_of first more).count (stretch_event view first (last_of first more)) ∷ []) (first.count + suc (length more)) 0
   stretch_shows first more at before short last near few = by (cases_lt 0 first.count)
@@ -208,14 +208,14 @@ module _ (config : Config) (view : View) (arrivals : List Arrival) where
           (subst (λ b. (last_of first more).count < first.count + cond b (stretch_limit config Boots) (longest_stretch config)) (sym boots)
           (omega (arith, le, limit, last)))
 
-  stretch_reaches : (first : Step) (more : List Step) (at before : ℕ) → IsShort config (first ∷ more) → (last_of first more).count ≡ first.count + length more
+  stretch_reaches : (first : Step) (more : List Step) (at before : ℕ) → AreShort config (first ∷ more) → (last_of first more).count ≡ first.count + length more
       → first.count ≤ at + 1 + before → before ≤ 40 → Reaches at (piece_events view arrivals (Stretch (first ∷ more))) (first.count + suc (length more)) 0
   stretch_reaches first more at before short last near few =
       let last_step = last_of first more in
-      let inside = moments (masked_from first) (last_step.count + 1) arrivals in
+      let inside = moments (first_masked_moment first) (last_step.count + 1) arrivals in
       let shown = stretch_shows first more at before short last near few in
       let late = filter (λ arrival. not (is_early (first ∷ more) arrival)) inside in
-      behind_admits (moments first.count (masked_from first) arrivals) at (stretch_events view arrivals (first ∷ more)) (first.count + suc (length more)) 0
+      behind_admits (moments first.count (first_masked_moment first) arrivals) at (stretch_events view arrivals (first ∷ more)) (first.count + suc (length more)) 0
       (behind_admits (filter (is_early (first ∷ more)) inside) at
       (stamp first.count last_step.count (stretch_event view first last_step) ∷ map (admission view) late) (first.count + suc (length more)) 0
       (record {
@@ -236,7 +236,7 @@ module _ (config : Config) (view : View) (arrivals : List Arrival) where
     pub goes : Continues config at (flat_map (piece_events view arrivals) parts) to
     pub near : next ≤ to + 1 + passed
     pub few : passed ≤ 40
-    pub behind : Coherent next enabled rest
+    pub behind : AreCoherent next enabled rest
     pub counted : next ≡ count + length (flat_map steps_of parts)
     pub onward : parts ≡ [] ⊎ (count < next)
 
@@ -261,7 +261,7 @@ module _ (config : Config) (view : View) (arrivals : List Arrival) where
         onward = inr (omega (arith, e, less));
       }
 
-  pub paces : (parts : List Piece) (rest : List Step) (at before count : ℕ) (enabled : Bool) → Coherent count enabled (flat_map steps_of parts ++ rest)
+  pub paces : (parts : List Piece) (rest : List Step) (at before count : ℕ) (enabled : Bool) → AreCoherent count enabled (flat_map steps_of parts ++ rest)
       → AllByRecursion IsPiece parts → AllByRecursion (IsShortPiece config) parts → HasShortGaps view before parts → count ≤ at + 1 + before → before ≤ 40
       → Paces at parts count rest
   paces [] rest at before count enabled c each short gaps near few = record {
@@ -283,15 +283,15 @@ module _ (config : Config) (view : View) (arrivals : List Arrival) where
       in_front (Outside step) parts rest at count (step.count + 1) passed
       (behind_admits (moments step.count (step.count + 1) arrivals) at _ (step.count + 1) passed shown) (omega (arith, e)) (omega (arith, e))
       (λ to le. paces parts rest to passed (step.count + 1) step.enabled_after
-      (subst (λ k. Coherent (k + 1) step.enabled_after (flat_map steps_of parts ++ rest)) (sym e) c.2) each.1 short.1 gaps.1 le gaps.0)
+      (subst (λ k. AreCoherent (k + 1) step.enabled_after (flat_map steps_of parts ++ rest)) (sym e) c.2) each.1 short.1 gaps.1 le gaps.0)
   paces (Stretch [] ∷ parts) rest at before count enabled c each short gaps near few = absurd each.0.first
   paces (Stretch (first ∷ more) ∷ parts) rest at before count enabled c each short gaps near few =
       let tail = flat_map steps_of parts ++ rest in
-      let whole = subst (Coherent count enabled) (append_assoc (first ∷ more) (flat_map steps_of parts) rest) c in
+      let whole = subst (AreCoherent count enabled) (append_assoc (first ∷ more) (flat_map steps_of parts) rest) c in
       let f = follow first more tail count enabled whole in
       let e = whole.0 in
       let l = f.last in
       in_front (Stretch (first ∷ more)) parts rest at count (first.count + suc (length more)) 0
       (stretch_reaches first more at before short.0 (omega (arith, e, l)) (omega (arith, near, e)) few) (omega (arith, e)) (omega (arith, e))
       (λ to le. paces parts rest to 0 (first.count + suc (length more)) f.enabled
-      (subst (λ k. Coherent (k + suc (length more)) f.enabled tail) (sym e) f.behind) each.1 short.1 gaps.1 le (omega arith))
+      (subst (λ k. AreCoherent (k + suc (length more)) f.enabled tail) (sym e) f.behind) each.1 short.1 gaps.1 le (omega arith))

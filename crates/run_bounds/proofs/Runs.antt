@@ -13,16 +13,16 @@ use Rattle.sloth_base.specs.Arrivals.{moments}
 use Rattle.sloth_base.specs.Stretches.{longest_stretch}
 use Rattle.code_rules.specs.WellFormed.{WellFormed}
 use Rattle.rv32_machine.specs.Advance.{Outcome, Goes, Halts}
-use Rattle.rv32_machine.specs.Coherent.{Coherent}
-use Rattle.rv32_machine.specs.Run.{moment, moment_of, on_goes, run_from, run, steps_of, stop_from, stopping, arrived}
+use Rattle.rv32_machine.specs.Coherent.{AreCoherent}
+use Rattle.rv32_machine.specs.Run.{moment, moment_of, on_goes, run_from, run, steps_of, stop_from, stopping, state_with_arrivals}
 use Rattle.rv32_machine.specs.Start.{start}
 use Rattle.rv32_machine.proofs.Coherence.{coherent}
 use Rattle.observe.specs.Pieces as piece
-use Rattle.observe.specs.Pieces.{Piece, pieces, cut_off}
-use Rattle.observe.specs.Observe.{View, view_of_image, masked_from, found_admits, piece_events, observe}
+use Rattle.observe.specs.Pieces.{pieces, cut_off_steps}
+use Rattle.observe.specs.Observe.{View, view_of_image, first_masked_moment, found_admits, piece_events, observe}
 use Rattle.observe.proofs.Rule.{is-cut}
-use Rattle.sim_induction.specs.Short.{IsShort, IsShortPiece, Short}
-use Rattle.sim_induction.specs.Sound.{SoundRun, events_of}
+use Rattle.sim_induction.specs.Short.{AreShort, IsShortPiece, Short}
+use Rattle.sim_induction.specs.Sound.{IsSoundRun, events_of}
 use Rattle.raised_sections.specs.Pace.{entry_counts, last_count}
 use Rattle.raised_sections.proofs.KeptBounds.{keeps_bounds}
 use Rattle.raised_sections.proofs.Counts.{keeps_counts}
@@ -43,7 +43,7 @@ whole_steps (suc n) arrivals count state h =
     by (moment arrivals count state) (λ after more. whole_steps n arrivals (count + 1) after more) h
   where
     by : (o : Outcome) → ((after : State) → stop_from n arrivals (count + 1) after ≡ None → length (steps_of (run_from n arrivals (count + 1) after)) ≡ n)
-        → on_goes o (stopping (arrived arrivals count state) o) (λ step after. stop_from n arrivals (count + 1) after) ≡ None
+        → on_goes o (stopping (state_with_arrivals arrivals count state) o) (λ step after. stop_from n arrivals (count + 1) after) ≡ None
         → length (steps_of (on_goes o [] (λ step after. moment_of arrivals count state step after ∷ run_from n arrivals (count + 1) after))) ≡ suc n
     by (Goes step after) more h = ap suc (more after h)
     by (Halts stop) more h = absurd cc
@@ -53,28 +53,28 @@ whole_steps (suc n) arrivals count state h =
 module _ (config : Config) (view : View) (arrivals : List Arrival) where
   found_continues : (at : ℕ) (rest : List Step) → Continues config at (found_admits view arrivals rest) at
   found_continues at [] = nothing config at
-  found_continues at (first ∷ more) = admissions config view at (moments first.count (masked_from first) arrivals)
+  found_continues at (first ∷ more) = admissions config view at (moments first.count (first_masked_moment first) arrivals)
 
   found_alone : (rest : List Step) → BeginsWithBoot (found_admits view arrivals rest) → ⊥
   found_alone [] h = h
-  found_alone (first ∷ more) h = admissions_alone view (moments first.count (masked_from first) arrivals) h
+  found_alone (first ∷ more) h = admissions_alone view (moments first.count (first_masked_moment first) arrivals) h
 
   -- behind boot the open part of a run is short
-  cut_limit : (rest : List Step) (count : ℕ) (enabled : Bool) → Coherent count enabled rest → IsShort config rest → 0 < count
+  cut_limit : (rest : List Step) (count : ℕ) (enabled : Bool) → AreCoherent count enabled rest → AreShort config rest → 0 < count
       → length rest ≤ longest_stretch config
   cut_limit [] count enabled c short later = omega arith
   cut_limit (first ∷ more) count enabled c short later =
       let e = c.0 in
       later_limit config view arrivals first more short (omega (arith, e, later))
 
-  pub is_paced : (n : ℕ) (steps : List Step) → Short config view steps → Coherent 0 false steps → length steps ≡ n
+  pub is_paced : (n : ℕ) (steps : List Step) → Short config view steps → AreCoherent 0 false steps → length steps ≡ n
       → IsPacedRun config n (observe view arrivals steps)
   unfolding observe
   is_paced n steps short c long =
       let parts = pieces [] steps in
-      let rest = cut_off [] steps in
+      let rest = cut_off_steps [] steps in
       let cut = is-cut steps in
-      let p = paces config view arrivals parts rest 0 0 0 false (subst (Coherent 0 false) (sym cut.joined) c) cut.each
+      let p = paces config view arrivals parts rest 0 0 0 false (subst (AreCoherent 0 false) (sym cut.joined) c) cut.each
       (recursion_from_All (IsShortPiece config) parts short.finished) short.gaps (omega arith) (omega arith) in
       let all = joined config (flat_map (piece_events view arrivals) parts) (found_admits view arrivals rest) 0 p.to p.to p.goes (found_continues p.to rest) in
       record {
@@ -83,30 +83,30 @@ module _ (config : Config) (view : View) (arrivals : List Arrival) where
         reaches = λ boot. near p all.last boot p.onward;
       }
     where
-      near : (p : Paces config view arrivals 0 (pieces [] steps) 0 (cut_off [] steps))
-          → last_count 0 (flat_map (piece_events view arrivals) (pieces [] steps) ++ found_admits view arrivals (cut_off [] steps)) ≡ p.to
-          → BeginsWithBoot (flat_map (piece_events view arrivals) (pieces [] steps) ++ found_admits view arrivals (cut_off [] steps))
+      near : (p : Paces config view arrivals 0 (pieces [] steps) 0 (cut_off_steps [] steps))
+          → last_count 0 (flat_map (piece_events view arrivals) (pieces [] steps) ++ found_admits view arrivals (cut_off_steps [] steps)) ≡ p.to
+          → BeginsWithBoot (flat_map (piece_events view arrivals) (pieces [] steps) ++ found_admits view arrivals (cut_off_steps [] steps))
           → (pieces [] steps ≡ []) ⊎ (0 < p.next)
-          → n ≤ last_count 0 (flat_map (piece_events view arrivals) (pieces [] steps) ++ found_admits view arrivals (cut_off [] steps)) + 1 + entry_counts config
+          → n ≤ last_count 0 (flat_map (piece_events view arrivals) (pieces [] steps) ++ found_admits view arrivals (cut_off_steps [] steps)) + 1 + entry_counts config
       near p last boot (inl none) =
-          absurd (found_alone (cut_off [] steps)
-          (subst (λ ps. BeginsWithBoot (flat_map (piece_events view arrivals) ps ++ found_admits view arrivals (cut_off [] steps))) none boot))
+          absurd (found_alone (cut_off_steps [] steps)
+          (subst (λ ps. BeginsWithBoot (flat_map (piece_events view arrivals) ps ++ found_admits view arrivals (cut_off_steps [] steps))) none boot))
       near p last boot (inr later) =
-          let le = cut_limit (cut_off [] steps) p.next p.enabled p.behind short.cut later in
+          let le = cut_limit (cut_off_steps [] steps) p.next p.enabled p.behind short.cut later in
           let counted = p.counted in
           let near = p.near in
           let few = p.few in
-          let whole = sym (ap length (is-cut steps).joined) ∙ length-append (flat_map piece.steps_of (pieces [] steps)) (cut_off [] steps) in
+          let whole = sym (ap length (is-cut steps).joined) ∙ length-append (flat_map piece.steps_of (pieces [] steps)) (cut_off_steps [] steps) in
           omega (arith, le, counted, near, few, whole, long, last)
 
-pub sound_is_paced : (config : Config) (app : App) (image : Image) (arrivals : List Arrival) (n : ℕ) → SoundRun config app image arrivals n
+pub sound_is_paced : (config : Config) (app : App) (image : Image) (arrivals : List Arrival) (n : ℕ) → IsSoundRun config app image arrivals n
     → IsPacedRun config n (events_of image arrivals n)
 sound_is_paced config app image arrivals n sound =
     is_paced config (view_of_image image) arrivals n (steps_of (run n arrivals (start image))) sound.short (coherent n arrivals 0 (start image))
     (whole_steps n arrivals 0 (start image) sound.whole)
 
 pub keeps_blocking_bounds : (config : Config) (app : App) (image : Image) (arrivals : List Arrival) (n : ℕ) → WellFormed config app
-    → SoundRun config app image arrivals n → KeepsBlockingBounds config app n (events_of image arrivals n)
+    → IsSoundRun config app image arrivals n → KeepsBlockingBounds config app n (events_of image arrivals n)
 keeps_blocking_bounds config app image arrivals n code sound =
     let bounds = keeps_bounds config app (events_of image arrivals n) code sound.osek in
     let paced = sound_is_paced config app image arrivals n sound in

@@ -13,7 +13,7 @@ use Rattle.osek_scheduler.specs.declared.state.TaskState.TheVariants as mode
 use Rattle.osek_scheduler.specs.State.{System, task}
 use Rattle.osek_scheduler.specs.Priority.{greatest, ceiling, highest_priority, IsTop}
 use Rattle.osek_scheduler.specs.Steps.{OsekStep}
-use Rattle.osek_valid.specs.Valid.{InState, Valid}
+use Rattle.osek_valid.specs.Valid.{InState, IsValid}
 use Rattle.osek_valid.specs.Apart.{IsActive}
 use Rattle.osek_valid.proofs.Apart.{rank_active, rank_ready}
 use Rattle.osek_valid.proofs.Excluding.{among, excludes}
@@ -34,7 +34,7 @@ is_outside e = is_some (admitted_line e) || is_tick e
 
 module _ (config : Config) (app : App) (w : Facts config app) (h : ℕ) (declared : h < length config.tasks) (highest : IsHighest config h) where
   pub record Awaits (s : System) : Type 0 where
-    pub valid : Valid config app s
+    pub valid : IsValid config app s
     pub ordered : Ordered config s
     pub placed : Placed app s
     pub ready : IsReady s h

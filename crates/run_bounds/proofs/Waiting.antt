@@ -14,7 +14,7 @@ use Rattle.osek_scheduler.specs.Steps.{OsekStep}
 use Rattle.osek_scheduler.specs.Runs.{Leads}
 use Rattle.osek_valid.specs.Apart.{static_priority, priority_of, IsActive}
 use Rattle.osek_valid.proofs.Facts.{Facts}
-use Rattle.osek_blocking.specs.Blocking.{working_task, is_entry_of, up_to_entry, IsRaisedTo, FindsFresh, IsBlockedBy}
+use Rattle.osek_blocking.specs.Blocking.{working_task, is_entry_of, events_up_to_entry, IsRaisedTo, FindsFresh, IsBlockedBy}
 use Rattle.osek_blocking.proofs.Effects.{effect}
 use Rattle.osek_blocking.proofs.Once.{Blocks, BlocksAlone, blocker, at_top, old, at_work, called, stays_out}
 use Rattle.raised_sections.specs.Sections.{IsLower, IsBound, lowest, above, NoneIsLarger}
@@ -39,7 +39,7 @@ module _ (config : Config) (app : App) (w : Facts config app) (h : ℕ) (declare
   Stands s = Awaits config app w h declared highest s
 
   abbrev up_to : List Stamped → List Stamped
-  up_to events = up_to_entry h events
+  up_to events = events_up_to_entry h events
 
   abbrev TurnOf : (s next : System) → Stands s → Event → Type 0
   TurnOf s next x e = Turn config app w h declared highest s next x e

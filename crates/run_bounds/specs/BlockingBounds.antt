@@ -6,7 +6,7 @@ use Rattle.sloth_base.specs.declared.event.Arrival.{Arrival}
 use Rattle.sloth_base.specs.declared.event.Stamped.{Stamped}
 use Rattle.sloth_base.specs.declared.image.Image.{Image}
 use Rattle.code_rules.specs.WellFormed.{WellFormed}
-use Rattle.sim_induction.specs.Sound.{SoundRun, events_of}
+use Rattle.sim_induction.specs.Sound.{IsSoundRun, events_of}
 use Rattle.raised_sections.specs.Kept.{KeepsBounds}
 use Rattle.raised_sections.specs.Spent.{KeepsCounts}
 use Rattle.run_bounds.specs.Latency.{EntersInTime}
@@ -23,4 +23,4 @@ pub record KeepsBlockingBounds (config : Config) (app : App) (n : ℕ) (events :
 -- every sound run of an image of well-formed task code keeps the blocking bounds
 abbrev pub SoundRunsKeepBlockingBounds : Type 0
 SoundRunsKeepBlockingBounds = (config : Config) (app : App) (image : Image) (arrivals : List Arrival) (n : ℕ)
-    → WellFormed config app → SoundRun config app image arrivals n → KeepsBlockingBounds config app n (events_of image arrivals n)
+    → WellFormed config app → IsSoundRun config app image arrivals n → KeepsBlockingBounds config app n (events_of image arrivals n)

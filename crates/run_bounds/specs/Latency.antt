@@ -11,7 +11,7 @@ use Rattle.osek_scheduler.specs.State.{System, opening}
 use Rattle.osek_scheduler.specs.InTime.{is_admit}
 use Rattle.osek_scheduler.specs.Runs.{Leads}
 use Rattle.osek_valid.specs.Apart.{static_priority}
-use Rattle.osek_blocking.specs.Blocking.{is_entry_of, up_to_entry, MakesReady}
+use Rattle.osek_blocking.specs.Blocking.{is_entry_of, events_up_to_entry, MakesReady}
 use Rattle.raised_sections.specs.Sections.{IsBound}
 use Rattle.raised_sections.specs.Pace.{item_counts, entry_counts}
 
@@ -47,14 +47,14 @@ latency config running bound = running + item_counts * bound + entry_counts conf
 -- the same with the ticks among the events up to the entry of task h, where the events `behind` follow one of the moment, and `before` come before it
 abbrev pub latency_with_ticks : Config → (h bound moment : ℕ) → (before behind : List Stamped) → ℕ
 latency_with_ticks config h bound moment before behind =
-    latency config (running_limit config moment before) bound + tick_counts config (up_to_entry h behind)
+    latency config (running_limit config moment before) bound + tick_counts config (events_up_to_entry h behind)
 
 -- task h is entered among these events, for the first time, and its entry ends before this count
 pub record EntersBefore (h limit : ℕ) (events : List Stamped) : Type 0 where
   pub entry : Stamped
   pub rest : List Stamped
   pub is_entry : is_entry_of h entry.event ≡ true
-  pub first : events ≡ up_to_entry h events ++ entry ∷ rest
+  pub first : events ≡ events_up_to_entry h events ++ entry ∷ rest
   pub in_time : entry.stamp.at < limit
 
 -- From the moment of an arrival that makes the task of highest priority Ready its entry ends within its latency and the time of the ticks on the

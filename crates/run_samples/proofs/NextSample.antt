@@ -1,19 +1,18 @@
 -- A sampler that goes on by one count.
-use Rattle.std.proofs.Common.{◌≡◌, ◌<◌, ◌≤◌, ◌+◌, ◌∙◌, ℕ, List, Some, length, refl, sym, ap, subst, arith}
+use Rattle.std.proofs.Common.{◌≡◌, ◌≤◌, ◌+◌, ◌∙◌, ℕ, List, length, refl, sym, ap, subst}
 use Rattle.std.specs.Prelude.{Option}
 use Rattle.std.specs.Option.{option_or}
 use Rattle.sloth_base.specs.declared.event.Arrival.{Arrival}
 use Rattle.sloth_base.specs.declared.image.Image.{Image}
 use Rattle.sloth_base.specs.declared.step.Step.{Step}
 use Rattle.sloth_base.specs.Machine.{State}
-use Rattle.sloth_base.specs.Take.{entered}
+use Rattle.sloth_base.specs.Take.{execution_state}
 use Rattle.rv32_machine.specs.Start.{start}
 use Rattle.rv32_machine.specs.Advance.{Goes, Halts}
-use Rattle.rv32_machine.specs.Run.{arrived, moment, state_after}
 use Rattle.rv32_machine.proofs.Runs.{stop_halts}
 use Rattle.observe.specs.Progress.{arrivals_of}
-use Rattle.sloth_runner.specs.Runner.{HasRun, HasArrived, HasExecuted, HaltsAt, image_of, given_arrivals, count_of, sloth_state, run_end, end_of}
-use Rattle.sloth_runner.specs.Sight.{IsLast, seen_at, interrupts_in}
+use Rattle.sloth_runner.specs.Runner.{HasRun, HasArrived, HasExecuted, HaltsAt, image_of, given_arrivals, count_of, sloth_state, end_of}
+use Rattle.sloth_runner.specs.Sight.{IsLast, sight_at, interrupts_in}
 use Rattle.sloth_runner.specs.declared.runner.Halt.{Halt}
 use Rattle.sloth_runner.specs.declared.runner.Runner.{Runner}
 use Rattle.sloth_runner.specs.declared.runner.RunEnd.TheVariants as ends
@@ -22,7 +21,7 @@ use Rattle.sloth_runner.specs.declared.sight.Seen.{Seen}
 use Rattle.sloth_runner.proofs.Sighted.{last-behind}
 use Rattle.sloth_runner.proofs.Turning.{machine-more, moment-is}
 use Rattle.run_samples.specs.declared.sampling.Sampler.{Sampler}
-use Rattle.run_samples.specs.Samples.{IsSample, IsSampling, StopsAt, sampled_image, sampled_arrivals, sampled_count}
+use Rattle.run_samples.specs.Samples.{IsSample, IsSampling, StopsAt}
 
 -- a runner that had its arrivals and was looked at
 pub record IsLookedAt (s : Sampler) (a c : Runner) (seen last : Option Seen) (interrupts : Interrupts) : Type 0 where
@@ -31,7 +30,7 @@ pub record IsLookedAt (s : Sampler) (a c : Runner) (seen last : Option Seen) (in
   pub image_is : image_of a ≡ image_of s.runner
   pub observer : a.observer ≡ s.runner.observer
   pub same : c ≡ a
-  pub seen_is : seen ≡ seen_at (image_of a) (count_of a) (sloth_state a.machine)
+  pub seen_is : seen ≡ sight_at (image_of a) (count_of a) (sloth_state a.machine)
   pub last_is : last ≡ option_or seen s.last
   pub interrupts_is : interrupts ≡ interrupts_in (image_of a) (sloth_state a.machine)
 
@@ -55,7 +54,7 @@ module _ (s : Sampler) (a c : Runner) (seen last : Option Seen) (interrupts : In
   last-seen : IsLast image A (k + 1) last
   last-seen =
       let P : Option Seen → Type 0 = IsLast image A (k + 1) in
-      let seen_here = h.seen_is ∙ ap (λ n. seen_at (image_of a) n (sloth_state a.machine)) h.arrives.count in
+      let seen_here = h.seen_is ∙ ap (λ n. sight_at (image_of a) n (sloth_state a.machine)) h.arrives.count in
       subst P (sym h.last_is)
       (last-behind image A k m (sloth_state a.machine) (image_of a) seen s.last h.sampling.ran.after h.sampling.last h.image_is h.arrives.state seen_here)
 
@@ -97,5 +96,5 @@ module _ (s : Sampler) (a c : Runner) (seen last : Option Seen) (interrupts : In
   pub stops-there : (halt : Halt) → HaltsAt c halt → StopsAt image A k halt
   stops-there halt halts n below =
       let stopped = moment-is s.runner c (Halts halt.stop) h.sampling.ran.executed looked halts.halts in
-      let pc = halts.pc ∙ ap (λ (x : State). (entered x).pc) looked.state in
+      let pc = halts.pc ∙ ap (λ (x : State). (execution_state x).pc) looked.state in
       ap end_of (stop_halts n k A (start image) m halt.stop below h.sampling.ran.after stopped) ∙ ap (λ p. ends.Stopped p halt.stop) (sym pc)

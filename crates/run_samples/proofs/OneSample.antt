@@ -1,15 +1,12 @@
 -- A run shows one sample at each count.
-use Rattle.std.proofs.Common.{◌≡◌, ◌+◌, ◌∙◌, ℕ, suc, List, [], ◌∷◌, ◌++◌, Some, length, refl, sym, ap, subst, arith}
-use Rattle.std.specs.Prelude.{Option}
+use Rattle.std.proofs.Common.{◌≡◌, ◌+◌, ◌∙◌, ℕ, List, [], ◌∷◌, ◌++◌, Some, length, refl, sym, ap, subst, arith}
 use Rattle.sloth_base.specs.declared.event.Arrival.{Arrival}
 use Rattle.sloth_base.specs.declared.image.Image.{Image}
 use Rattle.sloth_base.specs.Machine.{State}
 use Rattle.rv32_machine.specs.Advance.{Goes}
-use Rattle.rv32_machine.specs.Run.{arrived, moment}
+use Rattle.rv32_machine.specs.Run.{state_with_arrivals, moment}
 use Rattle.sloth_base.specs.declared.step.Step.{Step}
 use Rattle.sloth_runner.specs.Sight.{interrupts_in}
-use Rattle.sloth_runner.specs.declared.sight.Interrupts.{Interrupts}
-use Rattle.sloth_runner.specs.declared.sight.Seen.{Seen}
 use Rattle.sloth_runner.proofs.Sighted.{one-last}
 use Rattle.run_samples.specs.declared.sampling.Sample.{Sample}
 use Rattle.run_samples.specs.Samples.{IsSample, AreSamples}
@@ -20,7 +17,7 @@ module _ (image : Image) (A : List Arrival) where
       let found : Some h.state ≡ Some i.state = sym h.after ∙ i.after in
       let state : h.state ≡ i.state = cc in
       let seen : a.seen ≡ b.seen = one-last image A (k + 1) a.seen b.seen h.seen i.seen in
-      let interrupts : a.interrupts ≡ b.interrupts = h.interrupts ∙ ap (λ (x : State). interrupts_in image (arrived A k x)) state ∙ sym i.interrupts in
+      let interrupts : a.interrupts ≡ b.interrupts = h.interrupts ∙ ap (λ (x : State). interrupts_in image (state_with_arrivals A k x)) state ∙ sym i.interrupts in
       let goes : Goes h.step h.behind ≡ Goes i.step i.behind = sym h.goes ∙ ap (λ (x : State). moment A k x) state ∙ i.goes in
       let step : h.step ≡ i.step = cc in
       let taken : a.taken ≡ b.taken = h.taken ∙ ap (λ (x : Step). x.entered) step ∙ sym i.taken in

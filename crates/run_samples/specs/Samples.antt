@@ -5,7 +5,7 @@ use Rattle.sloth_base.specs.declared.image.Image.{Image}
 use Rattle.sloth_base.specs.Machine.{State}
 use Rattle.rv32_machine.specs.Start.{start}
 use Rattle.rv32_machine.specs.Advance.{Goes}
-use Rattle.rv32_machine.specs.Run.{arrived, moment, state_after}
+use Rattle.rv32_machine.specs.Run.{state_with_arrivals, moment, state_after}
 use Rattle.sloth_base.specs.declared.step.Step.{Step}
 use Rattle.sloth_runner.specs.Runner.{HasRun, image_of, given_arrivals, count_of, run_end}
 use Rattle.sloth_runner.specs.Sight.{IsLast, interrupts_in, task_levels}
@@ -24,7 +24,7 @@ pub record IsSample (image : Image) (arrivals : List Arrival) (count : ℕ) (sam
   pub behind : State
   pub goes : moment arrivals count state ≡ Goes step behind
   pub taken : sample.taken ≡ step.entered
-  pub interrupts : sample.interrupts ≡ interrupts_in image (arrived arrivals count state)
+  pub interrupts : sample.interrupts ≡ interrupts_in image (state_with_arrivals arrivals count state)
 
 -- the samples of a run, one for each count from this one on
 abbrev pub AreSamples : Image → List Arrival → ℕ → List Sample → Type 0
@@ -32,7 +32,7 @@ AreSamples image arrivals count [] = Unit {0}
 AreSamples image arrivals count (sample ∷ samples) = IsSample image arrivals count sample × AreSamples image arrivals (count + 1) samples
 
 -- the levels of the lines of the image's tasks behind so many instructions
-pub record AreLevels (image : Image) (arrivals : List Arrival) (count : ℕ) (levels : List ℕ) : Type 0 where
+pub record AreSampledLevels (image : Image) (arrivals : List Arrival) (count : ℕ) (levels : List ℕ) : Type 0 where
   pub state : State
   pub after : state_after count arrivals (start image) ≡ Some state
   pub are : levels ≡ task_levels image state

@@ -1,9 +1,9 @@
 //! Samples of a run: one at each count, after the arrivals of the count and before a line is taken.
-ghost use Rattle.std.specs.Prelude.{◌≡◌, ◌<◌, ◌+◌, OnOk, IfOk, IfErr, length};
+ghost use Rattle.std.specs.Prelude.{◌≡◌, ◌<◌, ◌+◌, OnOk, IfOk, IfErr};
 ghost use Rattle.sloth_base.specs.ImageRange.{InFormat};
 ghost use Rattle.sloth_base.specs.Arrivals.{AreArrivals};
 ghost use Rattle.sloth_base.specs.Owners.{owners_named};
-ghost use Rattle.run_samples.specs.Samples.{AreLevels, IsSample, IsSampling, StopsAt, sampled_image, sampled_arrivals, sampled_count};
+ghost use Rattle.run_samples.specs.Samples.{AreSampledLevels, IsSample, IsSampling, StopsAt, sampled_image, sampled_arrivals, sampled_count};
 
 use sloth_base::event::Arrival;
 use sloth_base::image::Image;
@@ -76,7 +76,7 @@ impl<'a> Sampler<'a> {
     /// The levels of the lines of the image's tasks, in 30 places.
     pub fn levels(&mut self) -> [u8; TASKS]
         requires sampling { IsSampling self.old }
-        ensures levels { AreLevels (sampled_image self.old) (sampled_arrivals self.old) (sampled_count self.old) result }
+        ensures levels { AreSampledLevels (sampled_image self.old) (sampled_arrivals self.old) (sampled_count self.old) result }
         ensures same { self.new ≡ self.old }
     {
         self.runner.levels()

@@ -12,7 +12,7 @@ use Rattle.sloth_base.specs.Named.{item_of}
 use Rattle.rv32_expand.specs.Expansion.{item_address, is_long, expansion}
 use Rattle.sloth_base.specs.Named.{operation}
 use Rattle.rv32_expand.specs.InPlace.{IsItem}
-use Rattle.rv32_expand.specs.Long.{Set, size, size_at, place, target_of, IsBranchTo, Reaches, IsLeast}
+use Rattle.rv32_expand.specs.Long.{Set, size, size_at, place, target_of, IsBranchTo, BranchReaches, AreLongBranches}
 use Rattle.rv32_expand.specs.Sizes.{AgreeWithSizes}
 use Rattle.rv32_expand.proofs.Counts.{size_is}
 use Rattle.rv32_expand.proofs.Growth.{place_first, place_next, size_alike}
@@ -43,6 +43,7 @@ branch_size app body (op.Serve call) target e long = absurd cc
 
 -- sets that agree on the branches
 module _ (app : App) (body : Func) (a b : Set) (same : (index target : ℕ) → IsBranchTo body index target → a index ≡ b index) where
+  -- then each item has one length
   pub size_same : (i : ℕ) → i < length body.items → size_at app body a i ≡ size_at app body b i
   size_same i h = by (target_of body (item_of body i).op) refl
     where
@@ -56,7 +57,8 @@ module _ (app : App) (body : Func) (a b : Set) (same : (index target : ℕ) → 
       let e : suc i ≡ i + 1 = omega arith in
       rw e (let m = place_next app body a i in let n = place_next app body b i in let s = size_same i (omega arith) in let p = place_same i (omega arith) in omega (arith, m, n, s, p))
 
-  pub least_same : ((index target : ℕ) → IsBranchTo body index target → target ≤ length body.items) → IsLeast app body a → IsLeast app body b
+  -- and if one of them is the least, so is the other
+  pub least_same : ((index target : ℕ) → IsBranchTo body index target → target ≤ length body.items) → AreLongBranches app body a → AreLongBranches app body b
   least_same inside l = record {
     suffices = λ i t g e.
         let n = l.suffices i t g (same i t g ∙ e) in
@@ -71,6 +73,7 @@ module _ (app : App) (places : Places) (agree : AgreeWithSizes app places) (func
   abbrev body : Func
   body = function app func
 
+  -- the set that the addresses tell
   abbrev pub long : Set
   long = agree.are_sizes.long func
 
@@ -84,6 +87,7 @@ module _ (app : App) (places : Places) (agree : AgreeWithSizes app places) (func
       let s = agree.are_sizes.each func i (item i (omega arith)) in
       a ∙ ap (λ (n : ℕ). item_address places func i + 4 * n) s
 
+  -- an item stands behind all the instructions before it
   pub stands : (i : ℕ) → i < length body.items → item_address places func i ≡ item_address places func 0 + 4 * place app body long i
   stands zero h = let f = place_first app body long in omega (arith, f)
   stands (suc i) h =
@@ -98,6 +102,7 @@ module _ (app : App) (places : Places) (agree : AgreeWithSizes app places) (func
   tells true n false e = absurd (let l = ltb-false (n + 4) (n + 4 * 6) e in omega arith)
   tells false n true e = absurd (let l = ltb-true (n + 4) (n + 4 * 1) e in omega arith)
 
+  -- a branch is long by the addresses where it is in the set
   pub told : (i target : ℕ) → IsBranchTo body i target → i + 1 < length body.items → is_long places func i ≡ long i
   told i target g h =
       let s = branch_size app body (item_of body i).op target g.goes (long i) in
@@ -106,7 +111,7 @@ module _ (app : App) (places : Places) (agree : AgreeWithSizes app places) (func
 
   -- with the addresses a short branch reaches
   pub reaches : (i target : ℕ) → IsBranchTo body i target → target < length body.items → long i ≡ false
-      → Reaches (item_address places func i) (item_address places func target)
+      → BranchReaches (item_address places func i) (item_address places func target)
   reaches i target g h e =
       let near = (agree.are_sizes.least func declared).suffices i target g e in
       let a = stands i g.inside in

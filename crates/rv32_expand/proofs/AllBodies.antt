@@ -1,12 +1,12 @@
 -- The lengths of all bodies, one body after the other.
 use Rattle.std.proofs.Common.{◌≡◌, ◌∙◌, ℕ, zero, suc, ◌+◌, ◌<◌, ◌≤◌, false, List, [], ◌∷◌, ◌++◌, length, get_or, drop, refl, sym, ap, subst, arith, append_assoc, drop-cons, length-append}
 use Rattle.std.proofs.lemmas.List.{append-nil, drop_all, get_or_append_left, get_or-append-add}
-use Rattle.sloth_base.specs.Named.{missing}
+use Rattle.sloth_base.specs.Named.{no_function}
 use Rattle.sloth_base.specs.declared.app.App.{App}
 use Rattle.sloth_base.specs.declared.app.Func.{Func}
-use Rattle.rv32_expand.specs.Long.{Set, size_at, IsLeast}
+use Rattle.rv32_expand.specs.Long.{Set, size_at, AreLongBranches}
 use Rattle.rv32_expand.specs.Passes.{AreShortest}
-use Rattle.rv32_expand.specs.Sizes.{items_before, AreSizes}
+use Rattle.rv32_expand.specs.Sizes.{items_before, AreItemSizes}
 
 -- the lengths of the first body, and those of the others
 abbrev pub AreSizesOf : App → List Func → List ℕ → Type 0
@@ -18,6 +18,7 @@ AreSizesOf app (body ∷ rest) sizes =
 abbrev pub AreSizesTo : App → List Func → ℕ → List ℕ → Type 0
 AreSizesTo app bodies i done = (others : List ℕ) → AreSizesOf app (drop i bodies) others → AreSizesOf app bodies (done ++ others)
 
+-- the lengths of one body more
 pub one_more : (app : App) (bodies : List Func) (i : ℕ) (done own : List ℕ) (body : Func) → i < length bodies → body ≡ get_or bodies i body
     → AreSizesTo app bodies i done → AreShortest app body own → AreSizesTo app bodies (i + 1) (done ++ own)
 one_more app bodies i done own body h e so_far shortest others rest =
@@ -44,7 +45,7 @@ long_of app (body ∷ rest) sizes p (suc func) = long_of app rest p.1 p.4 func
 
 -- the lengths of one body stand at their place
 record AreOwn (app : App) (bodies : List Func) (sizes : List ℕ) (func : ℕ) (body : Func) (long : Set) : Type 0 where
-  is_least : IsLeast app body long
+  is_least : AreLongBranches app body long
   each : (i : ℕ) → i < length body.items → get_or sizes (items_before bodies func + i) 0 ≡ size_at app body long i
 
 by_item : (app : App) (bodies : List Func) (sizes : List ℕ) (p : AreSizesOf app bodies sizes) (func : ℕ) (d : Func) → func < length bodies
@@ -66,12 +67,13 @@ by_item app (body ∷ rest) sizes p (suc func) d h =
           ∙ get_or-append-add p.0 p.1 (items_before rest func + i) 0 ∙ r.each i h;
     }
 
-pub whole : (app : App) (i : ℕ) (done : List ℕ) → length app.funcs ≤ i → AreSizesTo app app.funcs i done → AreSizes app done
+-- behind the last body all lengths are there
+pub whole : (app : App) (i : ℕ) (done : List ℕ) → length app.funcs ≤ i → AreSizesTo app app.funcs i done → AreItemSizes app done
 whole app i done h so_far =
     let p = subst (AreSizesOf app app.funcs) (append-nil done) (so_far [] (subst (λ (x : List Func). AreSizesOf app x []) (sym (drop_all i app.funcs h)) refl)) in
     record {
       long = long_of app app.funcs done p;
-      least = λ func h. (by_item app app.funcs done p func missing h).is_least;
+      least = λ func h. (by_item app app.funcs done p func no_function h).is_least;
       count = counts app app.funcs done p;
-      each = λ func index item. (by_item app app.funcs done p func missing item.declared).each index item.inside;
+      each = λ func index item. (by_item app app.funcs done p func no_function item.declared).each index item.inside;
     }

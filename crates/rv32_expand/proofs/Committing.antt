@@ -17,7 +17,7 @@ use Rattle.rv32_instr.specs.declared.InstrKind.{InstrKind}
 use Rattle.rv32_instr.specs.declared.InstrKind.TheVariants.{Jal, Jalr}
 use Rattle.data_far.specs.Wide.{far_indexed}
 use Rattle.rv32_expand.specs.Expansion.{register_operation, number_operation, test, number_in, index_code, zeros, mask_of, distance, symbol_address, item_address, label_address, block_address}
-use Rattle.rv32_expand.specs.ItemLengths.{register_of, EndsWith, LastCommits}
+use Rattle.rv32_expand.specs.ItemLengths.{register_of, EndsWithRegister, LastCommits}
 
 alu_result : (kind : AluKind) (rd a b : ℕ) → register_of (register_operation kind rd a b) ≡ rd
 alu_result alu.Add rd a b = refl
@@ -64,24 +64,25 @@ test_result branch.Bge a b z = refl
 test_result branch.Bltu a b z = refl
 test_result branch.Bgeu a b z = refl
 
-ends : (register : ℕ) (before : List InstrKind) (last : InstrKind) → register_of last ≡ register → EndsWith register (before ++ last ∷ [])
+ends : (register : ℕ) (before : List InstrKind) (last : InstrKind) → register_of last ≡ register → EndsWithRegister register (before ++ last ∷ [])
 ends register before last e = record { before = before; last = last; is = refl; result = e }
 
-either : (register : ℕ) (b : Bool) (near far : List InstrKind) → EndsWith register near → EndsWith register far → EndsWith register (if b then near else far)
+either : (register : ℕ) (b : Bool) (near far : List InstrKind) → EndsWithRegister register near → EndsWithRegister register far → EndsWithRegister register (if b then near else far)
 either register true near far e f = e
 either register false near far e f = f
 
 -- an instruction more in front
-longer : (register : ℕ) (first : InstrKind) (code : List InstrKind) → EndsWith register code → EndsWith register (first ∷ code)
+longer : (register : ℕ) (first : InstrKind) (code : List InstrKind) → EndsWithRegister register code → EndsWithRegister register (first ∷ code)
 longer register first code e = record { before = first ∷ e.before; last = e.last; is = ap (λ (c : List InstrKind). first ∷ c) e.is; result = e.result }
 
-behind : (register : ℕ) (front code : List InstrKind) → EndsWith register code → EndsWith register (front ++ code)
+behind : (register : ℕ) (front code : List InstrKind) → EndsWithRegister register code → EndsWithRegister register (front ++ code)
 behind register [] code e = e
 behind register (first ∷ front) code e = longer register first (front ++ code) (behind register front code e)
 
-alone : (register : ℕ) (last : InstrKind) → register_of last ≡ register → EndsWith register (last ∷ [])
+alone : (register : ℕ) (last : InstrKind) → register_of last ≡ register → EndsWithRegister register (last ∷ [])
 alone register last e = ends register [] last e
 
+-- it writes or stores the register of the item's mark
 pub last_commits : LastCommits
 last_commits app places func address long (op.Alu kind rd rs1 rs2) = alone rd _ (alu_result kind rd rs1 rs2)
 last_commits app places func address long (op.AluImm kind rd rs1 number) = alone rd _ (imm_result kind rd rs1 number)

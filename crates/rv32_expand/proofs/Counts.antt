@@ -14,8 +14,9 @@ use Rattle.sloth_base.specs.declared.service.Service.{Service}
 use Rattle.rv32_instr.specs.declared.InstrKind.{InstrKind}
 use Rattle.rv32_instr.specs.declared.InstrKind.TheVariants.{Auipc, Sw, Jal}
 use Rattle.rv32_expand.specs.Expansion.{number_in, zeros, calls, mask_of, service_jump, distance, item_address, operation_code}
-use Rattle.rv32_expand.specs.Long.{size, nowhere}
+use Rattle.rv32_expand.specs.Long.{size, no_places}
 
+-- a frame is cleared by an instruction for each word
 pub zeros_length : (n k : ℕ) → length (zeros n k) ≡ n
 zeros_length zero k = refl
 zeros_length (suc n) k = ap suc (zeros_length n (k + 1))
@@ -24,12 +25,14 @@ zeros_length (suc n) k = ap suc (zeros_length n (k + 1))
 abbrev last_three : (address words target : ℕ) → List InstrKind
 last_three address words target = Auipc 31 0 ∷ Sw 2 31 (pos (4 * words)) ∷ Jal 0 (distance (address + 4 * (words + 3)) target) ∷ []
 
+-- a call has four more
 pub calls_length : (address words target : ℕ) → length (calls address words target) ≡ 4 + words
 calls_length address words target =
     let l = length-append (zeros words 0) (last_three address words target) in
     let z = zeros_length words 0 in
     omega (arith, l, z)
 
+-- a service is a jump, behind the mask of its events
 pub served_length : (places : Places) (call : Call) (address : ℕ) → length (service_jump places call address) ≡ length (mask_of call.service call.mask) + 1
 served_length places call address = length-append (mask_of call.service call.mask) _
 
@@ -44,6 +47,7 @@ some_of true near far e f = e
 some_of false near far e f = f
 
 module _ (app : App) (places : Places) (func address : ℕ) where
+  -- the instructions of an item are as many as its length says
   pub size_is : (long : Bool) (o : Op) → length (operation_code app places func address long o) ≡ size app long o
   unfolding size
   size_is long (op.Alu kind rd rs1 rs2) = refl
@@ -61,9 +65,9 @@ module _ (app : App) (places : Places) (func address : ℕ) where
   size_is long (op.Jump label) = refl
   size_is long (op.Invoke callee) =
       let n = (function app callee).frame_words in
-      calls_length address n (item_address places callee 0) ∙ sym (calls_length 0 n (item_address nowhere callee 0))
+      calls_length address n (item_address places callee 0) ∙ sym (calls_length 0 n (item_address no_places callee 0))
   size_is long op.Return = refl
-  size_is long (op.Serve call) = served_length places call address ∙ sym (served_length nowhere call 0)
+  size_is long (op.Serve call) = served_length places call address ∙ sym (served_length no_places call 0)
 
 -- each item has an instruction
 pub expanded_some : (app : App) (places : Places) (func address : ℕ) (long : Bool) (o : Op) → 0 < length (operation_code app places func address long o)
@@ -87,22 +91,26 @@ expanded_some app places func address long (op.Serve call) = let l = served_leng
 -- ---- the lengths one by one
 
 module _ (app : App) (long : Bool) where
+  -- a call clears the frame of what it calls
   pub size_invoke : (callee : ℕ) → size app long (op.Invoke callee) ≡ 4 + (function app callee).frame_words
   unfolding size
-  size_invoke callee = calls_length 0 (function app callee).frame_words (item_address nowhere callee 0)
+  size_invoke callee = calls_length 0 (function app callee).frame_words (item_address no_places callee 0)
 
+  -- a service loads its mask first
   pub size_serve : (call : Call) → size app long (op.Serve call) ≡ length (mask_of call.service call.mask) + 1
   unfolding size
-  size_serve call = served_length nowhere call 0
+  size_serve call = served_length no_places call 0
 
   chosen : (b : Bool) (near far : List InstrKind) (n m : ℕ) → length near ≡ n → length far ≡ m → length (if b then near else far) ≡ (if b then n else m)
   chosen true near far n m e f = e
   chosen false near far n m e f = f
 
+  -- a load by an index, by whether its mask fits into an instruction
   pub size_load_at : (w : Width) (rd symbol index mask : ℕ) → size app long (op.LoadAt w rd symbol index mask) ≡ (if nat_le mask 2047 then 4 else 6)
   unfolding size
   size_load_at w rd symbol index mask = chosen (nat_le mask 2047) _ _ 4 6 refl refl
 
+  -- a store by an index
   pub size_store_at : (w : Width) (rs symbol index mask : ℕ) → size app long (op.StoreAt w rs symbol index mask) ≡ (if nat_le mask 2047 then 4 else 6)
   unfolding size
   size_store_at w rs symbol index mask = chosen (nat_le mask 2047) _ _ 4 6 refl refl
@@ -123,6 +131,7 @@ four_or_six false = record { some = omega arith; few = omega arith }
 small : (n : ℕ) → 1 ≤ n → n ≤ 36 → IsFew n
 small n some few = record { some = some; few = few }
 
+-- every item's length is so
 pub size_few : (app : App) → ((func : ℕ) → (function app func).frame_words ≤ 32) → (long : Bool) (o : Op) → IsFew (size app long o)
 unfolding size
 size_few app frames long (op.Alu kind rd rs1 rs2) = small 1 (omega arith) (omega arith)

@@ -21,7 +21,7 @@ use Rattle.sloth_base.specs.ServiceCodes.{has_mask}
 use Rattle.sloth_base.specs.declared.service.Service.{Service}
 use Rattle.code_rules.specs.AppRange.{IsShort, IsAmount, IsNumberOf}
 use Rattle.rv32_instr.specs.Access.{load, store}
-use Rattle.rv32_instr.specs.Range.{Signed, Even, InRange, AreInRange}
+use Rattle.rv32_instr.specs.Range.{IsSigned, IsEven, InRange, AreInRange}
 use Rattle.rv32_instr.specs.declared.InstrKind.{InstrKind}
 use Rattle.rv32_instr.specs.declared.InstrKind.TheVariants.{Auipc, Jal, Jalr, Sw}
 use Rattle.data_far.specs.Wide.{wide}
@@ -34,17 +34,17 @@ hi_small : (v : ℕ) → hi v < 2 ^ 20
 unfolding hi
 hi_small v = omega arith
 
-lo_signed : (v : ℕ) → Signed 12 (lo v)
+lo_signed : (v : ℕ) → IsSigned 12 (lo v)
 unfolding lo
 lo_signed v =
-    cond_both (ltb (v % 4096) 2048) (pos (v % 4096)) (pos (v % 4096) -ℤ pos 4096) (λ z. Signed 12 z)
+    cond_both (ltb (v % 4096) 2048) (pos (v % 4096)) (pos (v % 4096) -ℤ pos 4096) (λ z. IsSigned 12 z)
     (λ e. let l = ltb-true (v % 4096) 2048 e in (omega (arith, ints), omega (arith, ints)))
     (λ e. let l = ltb-false (v % 4096) 2048 e in (omega (arith, ints), omega (arith, ints)))
 
-signed_small : (n : ℕ) → n < 2048 → Signed 12 (pos n)
+signed_small : (n : ℕ) → n < 2048 → IsSigned 12 (pos n)
 signed_small n h = (omega (arith, ints), omega (arith, ints))
 
-short_signed : (z : ℤ) → IsShort z → Signed 12 z
+short_signed : (z : ℤ) → IsShort z → IsSigned 12 z
 short_signed (pos n) h = (omega (arith, ints), omega (arith, ints))
 short_signed (negsuc n) h = (omega (arith, ints), omega (arith, ints))
 
@@ -52,7 +52,7 @@ amount_small : (z : ℤ) → IsAmount z → amount z < 32
 amount_small (pos n) h = omega arith
 amount_small (negsuc n) h = absurd h
 
-below_zero : (n : ℕ) → n ≤ 132 → Signed 12 (neg_ℤ (pos n))
+below_zero : (n : ℕ) → n ≤ 132 → IsSigned 12 (neg_ℤ (pos n))
 below_zero n h = (omega (arith, ints), omega (arith, ints))
 
 -- ---- one instruction
@@ -94,7 +94,7 @@ store_fits width.Word rs v h = (omega arith, h, lo_signed v)
 store_fits width.ByteU rs v h = (omega arith, h, lo_signed v)
 store_fits width.HalfU rs v h = (omega arith, h, lo_signed v)
 
-test_fits : (kind : BranchKind) (a b : ℕ) (z : ℤ) → a < 32 → b < 32 → Even 13 z → InRange (test kind a b z)
+test_fits : (kind : BranchKind) (a b : ℕ) (z : ℤ) → a < 32 → b < 32 → IsEven 13 z → InRange (test kind a b z)
 test_fits branch.Beq a b z h k e = (h, k, e)
 test_fits branch.Bne a b z h k e = (h, k, e)
 test_fits branch.Blt a b z h k e = (h, k, e)
@@ -122,9 +122,10 @@ mask_fits s mask = cond_both (has_mask s) (number_in 30 mask) [] AreInRange (λ 
 either_fits : (mask : ℕ) (near far : List InstrKind) → (mask ≤ 2047 → AreInRange near) → AreInRange far → AreInRange (if nat_le mask 2047 then near else far)
 either_fits mask near far n f = cond_both (nat_le mask 2047) near far AreInRange (λ e. n (leb-true mask 2047 e)) (λ e. f)
 
-twelve : Even 13 (pos 12)
+twelve : IsEven 13 (pos 12)
 twelve = ((omega (arith, ints), omega (arith, ints)), refl)
 
+-- the registers and numbers of each are in range
 pub are_in_range : (app : App) (places : Places) (func address : ℕ) (long : Bool) (o : Op) → Fits app places func address long o → AreInRange (operation_code app places func address long o)
 are_in_range app places func address long (op.Alu kind rd rs1 rs2) h = (register_fits kind rd rs1 rs2 h.0 h.1 h.2, tt)
 are_in_range app places func address long (op.AluImm kind rd rs1 number) h = (number_fits kind rd rs1 number h.0 h.1 h.2, tt)

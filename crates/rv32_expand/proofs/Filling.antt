@@ -2,11 +2,12 @@
 use Rattle.std.proofs.Common.{◌≡◌, ◌∙◌, ℕ, zero, suc, ◌+◌, ◌-◌, ◌<◌, ◌≤◌, List, [], ◌∷◌, ◌++◌, length, get_or, set, take, sym, ap, subst, arith, append_assoc}
 use Rattle.std.proofs.Math.ListN.{replicate}
 use Rattle.std.proofs.Math.Seq.{set-append_seam}
-use Rattle.std.proofs.lemmas.List.{length-take-le, take_more, take_all}
+use Rattle.std.proofs.lemmas.List.{length-take-le, take_more}
 use Rattle.rv32_instr.specs.declared.InstrKind.{InstrKind}
 use Rattle.rv32_instr.specs.Range.{InRange, AreInRange}
 use Rattle.rv32_expand.specs.Code.{nop}
 
+-- each of these instructions is in range
 pub one_in_range : (kinds : List InstrKind) (i : ℕ) (d : InstrKind) → AreInRange kinds → i < length kinds → InRange (get_or kinds i d)
 one_in_range [] i d r h = absurd (omega arith)
 one_in_range (kind ∷ kinds) zero d r h = r.0
@@ -16,6 +17,7 @@ one_in_range (kind ∷ kinds) (suc i) d r h = one_in_range kinds i d r.1 (omega 
 abbrev pub filled : List InstrKind → ℕ → List InstrKind
 filled kinds i = take i kinds ++ replicate (36 - i) nop
 
+-- one more instruction fills the next place
 pub one_filled : (kinds : List InstrKind) (i : ℕ) (d : InstrKind) → i < length kinds → length kinds ≤ 36 → set (filled kinds i) i (get_or kinds i d) ≡ filled kinds (i + 1)
 one_filled kinds i d h few =
     let n : 36 - i ≡ suc (36 - (i + 1)) = omega arith in

@@ -1,5 +1,5 @@
 -- Lengths grow with the set of long branches, and distances with them.
-use Rattle.std.proofs.Common.{◌≡◌, ℕ, zero, suc, ◌+◌, ◌-◌, ◌*◌, ◌<◌, ◌≤◌, ◌⊎◌, inl, inr, ⊎_elim, Bool, true, false, length, refl, ap, subst, arith}
+use Rattle.std.proofs.Common.{◌≡◌, ℕ, zero, suc, ◌+◌, ◌-◌, ◌*◌, ◌<◌, ◌≤◌, ⊎_elim, Bool, true, false, length, refl, ap, subst, arith}
 use Rattle.std.specs.Prelude.{Option, Some, None}
 use Rattle.std.proofs.lemmas.List.{get_or_past}
 use Rattle.std.proofs.lemmas.Bool.{cases_lt}
@@ -10,7 +10,7 @@ use Rattle.sloth_base.specs.declared.app.Item.{Item}
 use Rattle.sloth_base.specs.declared.app.Op.{Op}
 use Rattle.sloth_base.specs.declared.app.Op.TheVariants as op
 use Rattle.sloth_base.specs.Named.{item_of, no_item}
-use Rattle.rv32_expand.specs.Long.{Set, size, size_at, place, target_of, IsNear, IsWithin}
+use Rattle.rv32_expand.specs.Long.{Set, size, size_at, place, target_of, IsNear, IsInSet}
 use Rattle.rv32_expand.proofs.Counts.{size_few}
 
 -- only the length of a branch depends on the set
@@ -52,27 +52,31 @@ size_grown app op.Return = omega arith
 size_grown app (op.Serve call) = omega arith
 
 module _ (app : App) (body : Func) (long : Set) where
+  -- the first item stands at the start
   pub place_first : place app body long 0 ≡ 0
   unfolding place
   place_first = refl
 
+  -- the next one behind the instructions of the one before it
   pub place_next : (i : ℕ) → place app body long (i + 1) ≡ place app body long i + size_at app body long i
   unfolding place
   place_next i = let e : i + 1 ≡ suc i = omega arith in rw e refl
 
+  -- later items stand no earlier
   pub place-later : (i k : ℕ) → place app body long i ≤ place app body long (i + k)
   place-later i zero = let e : i + 0 ≡ i = omega arith in rw e (omega arith)
   place-later i (suc k) =
       let e : i + suc k ≡ i + k + 1 = omega arith in
       rw e (let n = place_next (i + k) in let l = place-later i k in omega (arith, n, l))
 
+  -- each item before it has at most 36 instructions
   pub place_few : ((func : ℕ) → (function app func).frame_words ≤ 32) → (i : ℕ) → place app body long i ≤ 36 * i
   place_few frames zero = let f = place_first in omega (arith, f)
   place_few frames (suc i) =
       let e : suc i ≡ i + 1 = omega arith in
       rw e (let n = place_next i in let l = place_few frames i in let w = size_few app frames (long i) (item_of body i).op in omega (arith, n, l, w.few))
 
-module _ (app : App) (body : Func) (a b : Set) (within : IsWithin body a b) where
+module _ (app : App) (body : Func) (a b : Set) (within : IsInSet body a b) where
   grown : (i : ℕ) → i < length body.items → (x y : Bool) → a i ≡ x → b i ≡ y → size app x (item_of body i).op ≤ size app y (item_of body i).op
   grown i h true true u v = omega arith
   grown i h false false u v = omega arith

@@ -3,7 +3,7 @@ use Rattle.std.proofs.Common.{◌≡◌, ◌∙◌, ℕ, ◌+◌, ◌-◌, ◌*�
 use Rattle.std.specs.Prelude.{negsuc, unsigned_abs, Some}
 use Rattle.std.proofs.lemmas.Int.{ints}
 use Rattle.std.proofs.lemmas.Bool.{cases_lt}
-use Rattle.sloth_base.specs.Named.{function, missing}
+use Rattle.sloth_base.specs.Named.{function, no_function}
 use Rattle.sloth_base.specs.declared.app.App.{App}
 use Rattle.sloth_base.specs.declared.app.Call.{Call}
 use Rattle.sloth_base.specs.declared.app.Func.{Func}
@@ -16,13 +16,13 @@ use Rattle.sloth_base.specs.declared.refusal.Code.TheVariants as code
 use Rattle.code_rules.specs.AppRange.{IsRegister, IsOp}
 use Rattle.code_rules.specs.Code.{is_followed, way}
 use Rattle.sloth_base.specs.Named.{item_of, label_of, no_item}
-use Rattle.code_rules.specs.WellFormed.{AccessesPast, MasksPast, WellFormed, Breaks, BodyFault, at_line}
-use Rattle.rv32_instr.specs.Range.{Even}
+use Rattle.code_rules.specs.WellFormed.{AccessesPast, MasksPast, WellFormed, Breaks, BodyFault, fault_at_line}
+use Rattle.rv32_instr.specs.Range.{IsEven}
 use Rattle.rv32_expand.specs.Expansion.{item_address, symbol_address, block_address, label_address, distance, mask_of, is_long, operation_code, expansion}
 use Rattle.sloth_base.specs.Named.{operation}
-use Rattle.rv32_expand.specs.Fits.{HasRoom, Fits}
+use Rattle.rv32_expand.specs.Fits.{HasBranchRoom, Fits}
 use Rattle.rv32_expand.specs.InPlace.{IsItem}
-use Rattle.rv32_expand.specs.Long.{target_of, IsBranchTo, IsLeast, Reaches}
+use Rattle.rv32_expand.specs.Long.{target_of, IsBranchTo, AreLongBranches, BranchReaches}
 use Rattle.rv32_expand.specs.ItemLengths.{ShortBranchesReach}
 use Rattle.rv32_expand.specs.Sizes.{AgreeWithSizes, Covers, IsVerified, IsWordAddress}
 use Rattle.rv32_expand.proofs.Agreeing.{told, reaches, least_same}
@@ -69,10 +69,10 @@ even_distance a b h k =
     minus : (n : ℕ) → (n + 1) % 2 ≡ 0 → unsigned_abs (negsuc n) % 2 ≡ 0
     minus n f = omega (arith, f)
 
-jump_fits : (low a b : ℕ) → a % 4 ≡ 0 → b % 4 ≡ 0 → low ≤ a → a < low + 0x10_0000 → low ≤ b → b < low + 0x10_0000 → Even 21 (distance a b)
+jump_fits : (low a b : ℕ) → a % 4 ≡ 0 → b % 4 ≡ 0 → low ≤ a → a < low + 0x10_0000 → low ≤ b → b < low + 0x10_0000 → IsEven 21 (distance a b)
 jump_fits low a b h k la ua lb ub = ((omega (arith, ints), omega (arith, ints)), even_distance a b h k)
 
-test_reaches : (a b : ℕ) → a % 4 ≡ 0 → b % 4 ≡ 0 → Reaches a b → Even 13 (distance a b)
+test_reaches : (a b : ℕ) → a % 4 ≡ 0 → b % 4 ≡ 0 → BranchReaches a b → IsEven 13 (distance a b)
 test_reaches a b h k r = let x = r.0 in let y = r.1 in ((omega (arith, ints), omega (arith, ints)), even_distance a b h k)
 
 -- ---- what the rules say
@@ -85,10 +85,10 @@ module _ (config : Config) (app : App) (well : WellFormed config app) (func inde
   body = function app func
 
   unbroken : (c : Code) → Breaks config app func index c → ⊥
-  unbroken c b = well.no_fault (at_line (item_of body index).line c) (func, item.declared, BodyFault.at_item index c item.inside b)
+  unbroken c b = well.no_fault (fault_at_line (item_of body index).line c) (func, item.declared, BodyFault.at_item index c item.inside b)
 
   is_op : IsOp config app body (operation app func index)
-  is_op = let b = well.in_range.bodies func missing item.declared in b.items index no_item item.inside
+  is_op = let b = well.in_range.bodies func no_function item.declared in b.items index no_item item.inside
 
   -- a label to which an item goes stands before an item
   pub goes_inside : (k : ℕ) → way (operation app func index) ≡ Some k → IsItem app func (label_of body k).item
@@ -124,7 +124,7 @@ has_first config app well func h = record {
   declared = h;
   inside =
       ⊎_elim (λ k. k) (λ (k : length (function app func).items ≤ 0).
-      absurd (well.no_fault (at_line (function app func).line code.V5) (func, h, BodyFault.at_header (omega arith))))
+      absurd (well.no_fault (fault_at_line (function app func).line code.V5) (func, h, BodyFault.at_header (omega arith))))
       (cases_lt 0 (length (function app func).items));
 }
 
@@ -146,7 +146,7 @@ module _ (config : Config) (app : App) (well : WellFormed config app) (places : 
       (n.0, omega (arith, n.1, s))
 
   -- a jump from an instruction of the item to another item
-  to_item : (n f i : ℕ) → n < length (expansion app places func index) → IsItem app f i → Even 21 (distance (address + 4 * n) (item_address places f i))
+  to_item : (n f i : ℕ) → n < length (expansion app places func index) → IsItem app f i → IsEven 21 (distance (address + 4 * n) (item_address places f i))
   to_item n f i h k =
       let a = near n h in
       let b = item_near f i k in
@@ -155,7 +155,7 @@ module _ (config : Config) (app : App) (well : WellFormed config app) (places : 
       jump_fits covers.low (address + 4 * n) (item_address places f i) (omega (arith, w.2)) v.2 a.0 a.1 b.0 b.1
 
   to_block : (n : ℕ) (call : Call) → operation app func index ≡ op.Serve call → n < length (expansion app places func index)
-      → Even 21 (distance (address + 4 * n) (block_address places call.service call.object))
+      → IsEven 21 (distance (address + 4 * n) (block_address places call.service call.object))
   to_block n call e h =
       let a = near n h in
       let b = covers.blocks_near func index call item e in
@@ -168,7 +168,7 @@ module _ (config : Config) (app : App) (well : WellFormed config app) (places : 
 
   -- a branch: its label's item, and whether it is long
   room : (target : ℕ) → IsBranchTo (function app func) index target → IsItem app func target → IsItem app func (index + 1) → (x : Bool) → is_long places func index ≡ x
-      → HasRoom x address (item_address places func target)
+      → HasBranchRoom x address (item_address places func target)
   room target g t n true e = let w = here in omega (arith, w.1)
   room target g t n false e =
       let w = here in
@@ -201,7 +201,7 @@ module _ (config : Config) (app : App) (well : WellFormed config app) (places : 
       )
   fits (op.Jump label) is h a m =
       let e : address + 4 * 0 ≡ address = omega arith in
-      subst (λ (n : ℕ). Even 21 (distance n (label_address app places func label))) e
+      subst (λ (n : ℕ). IsEven 21 (distance n (label_address app places func label))) e
       (to_item 0 func (label_of (function app func) label).item (expanded_some app places func address (is_long places func index) (operation app func index))
       (goes_inside config app well func index item label (ap way is)))
   fits (op.Invoke callee) is h a m =
@@ -214,6 +214,7 @@ module _ (config : Config) (app : App) (well : WellFormed config app) (places : 
       let l : length (expansion app places func index) ≡ n + 1 = ap (λ o. length (operation_code app places func address (is_long places func index) o)) is ∙ served_length places call address in
       (low_enough, to_block n call is (omega (arith, l)))
 
+-- each item's numbers have room where it stands
 pub items_fit : (app : App) → IsVerified app → (places : Places) → Covers app places → AgreeWithSizes app places → (func index : ℕ) → IsItem app func index
     → Fits app places func (item_address places func index) (is_long places func index) (operation app func index)
 items_fit app (config, well) places covers agree func index item =
@@ -230,16 +231,17 @@ fit_here app verified places covers agree func index item at a long l o e =
     (subst (λ (x : Op). Fits app places func (item_address places func index) (is_long places func index) x) (sym e) (items_fit app verified places covers agree func index item)))
 
 -- the addresses make the least set of branches long
-pub least_told : (app : App) → IsVerified app → (places : Places) → AgreeWithSizes app places → (func : ℕ) → func < length app.funcs → IsLeast app (function app func) (is_long places func)
+pub least_told : (app : App) → IsVerified app → (places : Places) → AgreeWithSizes app places → (func : ℕ) → func < length app.funcs → AreLongBranches app (function app func) (is_long places func)
 least_told app (config, well) places agree func h =
     least_same app (function app func) (agree.are_sizes.long func) (is_long places func)
     (λ i t g. let b = branch_of (function app func) (operation app func i) t g.goes in
     sym (told app places agree func h i t g (falls_inside config app well func i (record { declared = h; inside = g.inside }) b.goes).inside))
     (λ i t g. let b = branch_of (function app func) (operation app func i) t g.goes in
-    let l = (small app (config, well.in_range) func missing h).labels b.label in
+    let l = (small app (config, well.in_range) func no_function h).labels b.label in
     let e = b.is in omega (arith, l, e))
     (agree.are_sizes.least func h)
 
+-- a short branch reaches its item
 pub short_reaches : ShortBranchesReach
 short_reaches app (config, well) places agree func index target h g e =
     let item : IsItem app func index = record { declared = h; inside = g.inside } in

@@ -6,13 +6,13 @@ use Rattle.sloth_base.specs.declared.app.Op.{Op}
 use Rattle.sloth_base.specs.declared.app.Op.TheVariants as op
 use Rattle.sloth_base.specs.declared.places.Places.{Places}
 use Rattle.code_rules.specs.AppRange.{IsNumberOf}
-use Rattle.rv32_instr.specs.Range.{Even}
+use Rattle.rv32_instr.specs.Range.{IsEven}
 use Rattle.rv32_expand.specs.Expansion.{distance, item_address, symbol_address, block_address, label_address, mask_of}
 
 -- a long branch always has room
-abbrev pub HasRoom : (long : Bool) → (from to : ℕ) → Type 0
-HasRoom true from to = from + 24 < 2 ^ 32
-HasRoom false from to = Even 13 (distance from to)
+abbrev pub HasBranchRoom : (long : Bool) → (from to : ℕ) → Type 0
+HasBranchRoom true from to = from + 24 < 2 ^ 32
+HasBranchRoom false from to = IsEven 13 (distance from to)
 
 -- the numbers of an operation of a function, at its address
 abbrev pub Fits : App → Places → (func address : ℕ) → (long : Bool) → Op → Type 0
@@ -26,11 +26,11 @@ Fits app places func address long (op.Load w rd symbol offset) = (rd < 32) × (s
 Fits app places func address long (op.Store w rs symbol offset) = (rs < 32) × (symbol_address places symbol + offset < 2 ^ 32)
 Fits app places func address long (op.LoadAt w rd symbol index mask) = (rd < 32) × (index < 32) × (mask ≤ 32767)
 Fits app places func address long (op.StoreAt w rs symbol index mask) = (rs < 32) × (index < 32) × (mask ≤ 32767)
-Fits app places func address long (op.Branch kind rs1 rs2 label) = (rs1 < 32) × (rs2 < 32) × HasRoom long address (label_address app places func label)
-Fits app places func address long (op.Jump label) = Even 21 (distance address (label_address app places func label))
+Fits app places func address long (op.Branch kind rs1 rs2 label) = (rs1 < 32) × (rs2 < 32) × HasBranchRoom long address (label_address app places func label)
+Fits app places func address long (op.Jump label) = IsEven 21 (distance address (label_address app places func label))
 Fits app places func address long (op.Invoke callee) =
     ((function app callee).frame_words ≤ 32) × (address < 2 ^ 31 + 2 ^ 22)
-    × Even 21 (distance (address + 4 * ((function app callee).frame_words + 3)) (item_address places callee 0))
+    × IsEven 21 (distance (address + 4 * ((function app callee).frame_words + 3)) (item_address places callee 0))
 Fits app places func address long op.Return = (function app func).frame_words ≤ 32
 Fits app places func address long (op.Serve call) =
-    (address < 2 ^ 31 + 2 ^ 22) × Even 21 (distance (address + 4 * length (mask_of call.service call.mask)) (block_address places call.service call.object))
+    (address < 2 ^ 31 + 2 ^ 22) × IsEven 21 (distance (address + 4 * length (mask_of call.service call.mask)) (block_address places call.service call.object))

@@ -13,7 +13,7 @@ use Rattle.sloth_base.specs.declared.places.Places.{Places}
 use Rattle.rv32_instr.specs.Encode.{Encode}
 use Rattle.rv32_instr.specs.Ram.{word_at}
 use Rattle.rv32_instr.specs.declared.InstrKind.{InstrKind}
-use Rattle.rv32_expand.specs.Long.{IsLeast}
+use Rattle.rv32_expand.specs.Long.{AreLongBranches}
 use Rattle.rv32_expand.specs.Expansion.{is_long, expansion, item_address}
 use Rattle.sloth_base.specs.Named.{operation, function}
 use Rattle.sloth_base.specs.MemoryMap.{memory_base}
@@ -91,7 +91,7 @@ pub record ItemsInPlace (image : Image) (config : Config) (app : App) : Type 0 w
       → (memory_base < item_address places func index + 1) × (last_address app places func index + 4 < memory_base + length image.memory + 1)
   pub adjacent : (func index : ℕ) → IsItem app func index → IsItem app func (index + 1)
       → item_address places func (index + 1) ≡ item_address places func index + 4 * length (expansion app places func index)
-  pub least : (func : ℕ) → func < length app.funcs → IsLeast app (function app func) (is_long places func)
+  pub least : (func : ℕ) → func < length app.funcs → AreLongBranches app (function app func) (is_long places func)
   pub marked : (func index : ℕ) → IsItem app func index → Contains image.marks (item_mark app places func index)
   pub only : All (λ mark. IsOfItem mark.kind (IsItem app mark.b mark.c × (mark ≡ item_mark app places mark.b mark.c))) image.marks
   pub functions : image.funcs ≡ map (λ f. f.name) app.funcs

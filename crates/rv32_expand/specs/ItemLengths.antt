@@ -12,8 +12,8 @@ use Rattle.rv32_instr.specs.declared.InstrKind.{InstrKind}
 use Rattle.rv32_instr.specs.declared.InstrKind.TheVariants.{Lui, Auipc, Jal, Jalr, Beq, Bne, Blt, Bge, Bltu, Bgeu, Lb, Lh, Lw, Lbu, Lhu, Sb, Sh, Sw, Addi, Slti, Sltiu, Xori, Ori, Andi, Slli, Srli, Srai, Add, Sub, Sll, Slt, Sltu, Xor, Srl, Sra, Or, And, Fence, Csrrw, Csrrs, Csrrc, Csrrwi, Csrrsi, Csrrci, Ecall, Ebreak, Mret}
 use Rattle.rv32_expand.specs.Expansion.{item_address, is_long, operation_code, expansion}
 use Rattle.rv32_expand.specs.InPlace.{IsItem, result_register}
-use Rattle.rv32_expand.specs.Long.{Set, size, IsBranchTo, Reaches, IsLeast}
-use Rattle.rv32_expand.specs.Sizes.{AreSizes, AgreeWithSizes, Covers, IsVerified}
+use Rattle.rv32_expand.specs.Long.{Set, size, IsBranchTo, BranchReaches, AreLongBranches}
+use Rattle.rv32_expand.specs.Sizes.{AreItemSizes, AgreeWithSizes, Covers, IsVerified}
 
 -- ---- lengths
 
@@ -28,19 +28,19 @@ ExpansionsAreFew = (app : App) → IsTaskCode app → (places : Places) (func ad
 
 -- two least sets agree on every branch
 abbrev pub LeastIsOne : Type 0
-LeastIsOne = (app : App) (body : Func) (a b : Set) → IsLeast app body a → IsLeast app body b → (index target : ℕ)
+LeastIsOne = (app : App) (body : Func) (a b : Set) → AreLongBranches app body a → AreLongBranches app body b → (index target : ℕ)
     → IsBranchTo body index target → a index ≡ b index
 
 -- there is one list of lengths
 abbrev pub SizesAreOne : Type 0
-SizesAreOne = (app : App) (xs ys : List ℕ) → AreSizes app xs → AreSizes app ys → xs ≡ ys
+SizesAreOne = (app : App) (xs ys : List ℕ) → AreItemSizes app xs → AreItemSizes app ys → xs ≡ ys
 
 -- ---- addresses that agree with the lengths
 
 -- the branches that they make long are the least set
 abbrev pub LeastAreLong : Type 0
 LeastAreLong = (app : App) → IsVerified app → (places : Places) → AgreeWithSizes app places
-    → (func : ℕ) → func < length app.funcs → IsLeast app (function app func) (is_long places func)
+    → (func : ℕ) → func < length app.funcs → AreLongBranches app (function app func) (is_long places func)
 
 -- each item stands behind the instructions of the one before it
 abbrev pub ItemsAreAdjacent : Type 0
@@ -52,7 +52,7 @@ ItemsAreAdjacent = (app : App) → IsVerified app → (places : Places) → Agre
 abbrev pub ShortBranchesReach : Type 0
 ShortBranchesReach = (app : App) → IsVerified app → (places : Places) → AgreeWithSizes app places
     → (func index target : ℕ) → func < length app.funcs → IsBranchTo (function app func) index target → is_long places func index ≡ false
-    → Reaches (item_address places func index) (item_address places func target)
+    → BranchReaches (item_address places func index) (item_address places func target)
 
 -- ---- instructions
 
@@ -117,7 +117,7 @@ committed_register (op.Serve call) = 31
 committed_register o = result_register o
 
 -- the last of these instructions has this register
-pub record EndsWith (register : ℕ) (code : List InstrKind) : Type 0 where
+pub record EndsWithRegister (register : ℕ) (code : List InstrKind) : Type 0 where
   pub before : List InstrKind
   pub last : InstrKind
   pub is : code ≡ before ++ last ∷ []
@@ -125,4 +125,4 @@ pub record EndsWith (register : ℕ) (code : List InstrKind) : Type 0 where
 
 -- the last instruction of an item commits it: it writes or stores the register of the item's mark
 abbrev pub LastCommits : Type 0
-LastCommits = (app : App) (places : Places) (func address : ℕ) (long : Bool) (o : Op) → EndsWith (committed_register o) (operation_code app places func address long o)
+LastCommits = (app : App) (places : Places) (func address : ℕ) (long : Bool) (o : Op) → EndsWithRegister (committed_register o) (operation_code app places func address long o)

@@ -9,12 +9,12 @@ use Rattle.sloth_base.specs.Named.{item_of, label_of}
 use Rattle.rv32_expand.specs.Expansion.{operation_code}
 
 -- no addresses at all
-abbrev pub nowhere : Places
-nowhere = record { items = []; first = []; symbols = []; blocks = [] }
+abbrev pub no_places : Places
+no_places = record { items = []; first = []; symbols = []; blocks = [] }
 
 -- how many instructions an operation has, where a branch is long or not; they are as many at every address
 unfoldable pub size : App → (long : Bool) → Op → ℕ
-size app long o = length (operation_code app nowhere 0 0 long o)
+size app long o = length (operation_code app no_places 0 0 long o)
 
 -- A set of branches says of each item of a body by its number whether it is in. Of an item that is no branch it says nothing.
 abbrev pub Set : Type 0
@@ -40,22 +40,22 @@ pub record IsBranchTo (body : Func) (index target : ℕ) : Type 0 where
   pub goes : target_of body (item_of body index).op ≡ Some target
 
 -- from one address to another a branch reaches: the distance is from -4096 to 4094
-abbrev pub Reaches : (from to : ℕ) → Type 0
-Reaches from to = (to ≤ from + 4094) × (from ≤ to + 4096)
+abbrev pub BranchReaches : (from to : ℕ) → Type 0
+BranchReaches from to = (to ≤ from + 4094) × (from ≤ to + 4096)
 
 -- with the lengths that a set gives, a branch reaches its item
 abbrev pub IsNear : App → Func → Set → (index target : ℕ) → Type 0
-IsNear app body long index target = Reaches (4 * place app body long index) (4 * place app body long target)
+IsNear app body long index target = BranchReaches (4 * place app body long index) (4 * place app body long target)
 
 -- every branch outside the set reaches
 abbrev pub Suffices : App → Func → Set → Type 0
 Suffices app body long = (index target : ℕ) → IsBranchTo body index target → long index ≡ false → IsNear app body long index target
 
 -- every branch of the first set is in the second
-abbrev pub IsWithin : Func → Set → Set → Type 0
-IsWithin body a b = (index target : ℕ) → IsBranchTo body index target → a index ≡ true → b index ≡ true
+abbrev pub IsInSet : Func → Set → Set → Type 0
+IsInSet body a b = (index target : ℕ) → IsBranchTo body index target → a index ≡ true → b index ≡ true
 
 -- the long branches of a body
-pub record IsLeast (app : App) (body : Func) (long : Set) : Type 0 where
+pub record AreLongBranches (app : App) (body : Func) (long : Set) : Type 0 where
   pub suffices : Suffices app body long
-  pub least : (other : Set) → Suffices app body other → IsWithin body long other
+  pub least : (other : Set) → Suffices app body other → IsInSet body long other

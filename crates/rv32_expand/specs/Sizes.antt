@@ -12,7 +12,7 @@ use Rattle.rv32_expand.specs.Expansion.{item_address, symbol_address, block_addr
 use Rattle.sloth_base.specs.Named.{operation}
 use Rattle.sloth_base.specs.MemoryMap.{memory_base, memory_end}
 use Rattle.rv32_expand.specs.InPlace.{IsItem}
-use Rattle.rv32_expand.specs.Long.{Set, size_at, IsLeast}
+use Rattle.rv32_expand.specs.Long.{Set, size_at, AreLongBranches}
 
 -- how many items stand before those of a function
 abbrev pub items_before : List Func → ℕ → ℕ
@@ -21,9 +21,9 @@ items_before [] (suc func) = 0
 items_before (body ∷ bodies) (suc func) = length body.items + items_before bodies func
 
 -- the length of each item over all bodies in order, where the long branches of each body are the least set of them
-pub record AreSizes (app : App) (sizes : List ℕ) : Type 0 where
+pub record AreItemSizes (app : App) (sizes : List ℕ) : Type 0 where
   pub long : ℕ → Set
-  pub least : (func : ℕ) → func < length app.funcs → IsLeast app (function app func) (long func)
+  pub least : (func : ℕ) → func < length app.funcs → AreLongBranches app (function app func) (long func)
   pub count : length sizes ≡ items_before app.funcs (length app.funcs)
   pub each : (func index : ℕ) → IsItem app func index
       → get_or sizes (items_before app.funcs func + index) 0 ≡ size_at app (function app func) (long func) index
@@ -31,7 +31,7 @@ pub record AreSizes (app : App) (sizes : List ℕ) : Type 0 where
 -- each item of a body stands behind the one before it, whose length is that of `sizes`
 pub record AgreeWithSizes (app : App) (places : Places) : Type 0 where
   pub sizes : List ℕ
-  pub are_sizes : AreSizes app sizes
+  pub are_sizes : AreItemSizes app sizes
   pub adjacent : (func index : ℕ) → IsItem app func index → IsItem app func (index + 1)
       → item_address places func (index + 1) ≡ item_address places func index + 4 * get_or sizes (items_before app.funcs func + index) 0
 

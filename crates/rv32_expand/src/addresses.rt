@@ -1,6 +1,6 @@
 //! Where items, symbols and blocks of services stand.
 ghost use Rattle.std.specs.Prelude.{◌≡◌};
-ghost use Rattle.rv32_instr.specs.Range.{Signed};
+ghost use Rattle.rv32_instr.specs.Range.{IsSigned};
 ghost use Rattle.rv32_expand.specs.Expansion.{distance, item_address, symbol_address, block_address, label_address};
 
 use crate::long_branches::item_behind;
@@ -55,7 +55,7 @@ pub fn label_address(app: &App, places: &Places, func: u32, label: u32) -> u32
 
 /// How far it is from one address to another.
 pub fn distance(from: u32, to: u32) -> i32
-    requires { Signed 21 (distance from to) }
+    requires { IsSigned 21 (distance from to) }
     ensures { result ≡ distance from to }
 {
     (i64::from(to) - i64::from(from)) as i32

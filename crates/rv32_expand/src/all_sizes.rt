@@ -1,7 +1,7 @@
 //! The lengths of the items of all bodies.
 ghost use Rattle.std.specs.Prelude.{IfOk};
 ghost use Rattle.code_rules.specs.AppRange.{IsTaskCode};
-ghost use Rattle.rv32_expand.specs.Sizes.{AreSizes};
+ghost use Rattle.rv32_expand.specs.Sizes.{AreItemSizes};
 
 use crate::long_branches::shortest;
 use sloth_base::app::App;
@@ -12,7 +12,7 @@ use std::alloc::Global;
 /// ways to choose, this has the fewest branches of length 6.
 pub fn sizes(alloc: Global, app: &App) -> Result<Vec<u32>, NoMemory>
     requires { IsTaskCode app.now }
-    ensures { IfOk result (λ sizes. AreSizes app.now sizes.items) }
+    ensures { IfOk result (λ sizes. AreItemSizes app.now sizes.items) }
 {
     let mut sizes = Vec::new(alloc);
     for body in app.funcs.items() {

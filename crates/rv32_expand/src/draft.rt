@@ -1,5 +1,5 @@
 //! The instructions of an item, as they are put together.
-ghost use Rattle.std.specs.Prelude.{◌≡◌, ◌≤◌, ◌<◌, ◌+◌, ◌++◌, ◌∷◌, [], length};
+ghost use Rattle.std.specs.Prelude.{◌≡◌, ◌≤◌, ◌<◌, ◌++◌, ◌∷◌, [], length};
 ghost use Rattle.rv32_instr.specs.Range.{AreInRange};
 ghost use Rattle.rv32_expand.specs.Code.{nop, IsCode};
 

@@ -1,8 +1,8 @@
 //! The least set of long branches of a body.
-ghost use Rattle.std.specs.Prelude.{◌≡◌, ◌+◌, ◌*◌, ◌<◌, ◌≤◌, ◌↔◌, Bool, length, IfOk, Some, IsTrue};
+ghost use Rattle.std.specs.Prelude.{◌≡◌, ◌<◌, ◌↔◌, length, IfOk, IsTrue};
 ghost use Rattle.sloth_base.specs.Named.{label_of};
-ghost use Rattle.rv32_expand.specs.Long.{size, place, target_of, Reaches};
-ghost use Rattle.rv32_expand.specs.Passes.{in_list, IsSmall, ArePlaces, AreLengths, TellsFar, IsPass, AreShortest};
+ghost use Rattle.rv32_expand.specs.Long.{BranchReaches};
+ghost use Rattle.rv32_expand.specs.Passes.{set_in_list, IsSmall, ArePlaces, AreItemLengths, TellsFar, IsPass, AreShortest};
 
 use crate::lengths::size;
 use sloth_base::app::{App, Func, Op};
@@ -40,7 +40,7 @@ pub fn item_behind(body: &Func, label: u32) -> u32
 fn reaches(from: u32, to: u32) -> bool
     requires from_in { from < 0x4000_0000 }
     requires to_in { to < 0x4000_0000 }
-    ensures { IsTrue result ↔ Reaches from to }
+    ensures { IsTrue result ↔ BranchReaches from to }
 {
     to <= from + 4094 && from <= to + 4096
 }
@@ -51,7 +51,7 @@ fn is_far(app: &App, body: &Func, long: &[bool], places: &[u32], index: usize) -
     requires inside { index < length body.now.items }
     requires same { length long.now ≡ length body.now.items }
     requires at { ArePlaces app.now body.now long.now places.now }
-    ensures { TellsFar app.now body.now (in_list long.now) index result }
+    ensures { TellsFar app.now body.now (set_in_list long.now) index result }
 {
     match body.items.items()[index].op {
         Op::Branch { label, .. } => {
@@ -93,7 +93,7 @@ fn pass(alloc: Global, app: &App, body: &Func, long: &[bool]) -> Result<Passed, 
 fn lengths(alloc: Global, app: &App, body: &Func, long: &[bool]) -> Result<Vec<u32>, NoMemory>
     requires small { IsSmall app.now body.now }
     requires same { length long.now ≡ length body.now.items }
-    ensures { IfOk result (λ lengths. AreLengths app.now body.now (in_list long.now) lengths.items) }
+    ensures { IfOk result (λ lengths. AreItemLengths app.now body.now (set_in_list long.now) lengths.items) }
 {
     let items = body.items.items();
     let mut lengths = Vec::new(alloc);

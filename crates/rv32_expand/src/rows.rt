@@ -1,12 +1,11 @@
 //! The instructions of each operation.
-ghost use Rattle.std.specs.Prelude.{◌≡◌, ◌≤◌, ◌<◌, ◌+◌, ◌*◌, ◌^◌, ◌++◌, ◌∷◌, [], length, pos, IsTrue};
-ghost use Rattle.sloth_base.specs.Arithmetic.{hi, lo};
+ghost use Rattle.std.specs.Prelude.{◌≡◌, ◌≤◌, ◌<◌, ◌+◌, ◌*◌, ◌^◌, ◌++◌, ◌∷◌, [], length, pos};
+ghost use Rattle.sloth_base.specs.Arithmetic.{hi};
 ghost use Rattle.data_far.specs.Wide.{wide, IsWide};
-ghost use Rattle.rv32_instr.specs.Range.{Signed};
+ghost use Rattle.rv32_instr.specs.Range.{IsSigned};
 ghost use Rattle.rv32_instr.specs.declared.InstrKind.TheVariants.{Lui, Addi, Lw, Jalr};
-ghost use Rattle.code_rules.specs.AppRange.{IsNumberOf};
-ghost use Rattle.rv32_expand.specs.Expansion.{distance, item_address, symbol_address, block_address, label_address, register_operation, number_operation, test, opposite, number_in, index_code, branches, calls, mask_of, service_jump, operation_code};
-ghost use Rattle.rv32_expand.specs.Fits.{HasRoom, Fits};
+ghost use Rattle.rv32_expand.specs.Expansion.{distance, block_address, index_code, branches, calls, mask_of, service_jump, operation_code};
+ghost use Rattle.rv32_expand.specs.Fits.{HasBranchRoom, Fits};
 
 use crate::addresses::{block_address, distance, item_address, label_address, symbol_address};
 use crate::draft::Draft;
@@ -70,7 +69,7 @@ fn far_indexed(item: &Item, address: u32) -> Draft
 
 /// A branch at `at`, which is long or not.
 fn branch(long: bool, kind: BranchKind, a: Reg, b: Reg, at: u32, target: u32) -> Draft
-    requires { HasRoom long at target }
+    requires { HasBranchRoom long at target }
     ensures { result ≡ branches long kind a b at target }
 {
     if !long {
@@ -91,7 +90,7 @@ fn branch(long: bool, kind: BranchKind, a: Reg, b: Reg, at: u32, target: u32) ->
 fn call(at: u32, words: u32, target: u32) -> Draft
     requires few { words ≤ 32 }
     requires at_in { at < 2 ^ 31 + 2 ^ 22 }
-    requires near { Signed 21 (distance (at + 4 * (words + 3)) target) }
+    requires near { IsSigned 21 (distance (at + 4 * (words + 3)) target) }
     ensures { result ≡ calls at words target }
 {
     let mut draft = one(addi(X2, X2, -4 - frame_offset(words)));
@@ -130,7 +129,7 @@ fn mask_of(service: Service, mask: u32) -> Draft
 /// The jump, from `at` on, to the block of a service.
 fn serve(call: Call, at: u32, places: &Places) -> Draft
     requires at_in { at < 2 ^ 31 + 2 ^ 22 }
-    requires near { Signed 21 (distance (at + 4 * length (mask_of call.service call.mask)) (block_address places.now call.service call.object)) }
+    requires near { IsSigned 21 (distance (at + 4 * length (mask_of call.service call.mask)) (block_address places.now call.service call.object)) }
     ensures { result ≡ service_jump places.now call at }
 {
     let mut draft = mask_of(call.service, call.mask);

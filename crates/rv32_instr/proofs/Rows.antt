@@ -3,8 +3,8 @@ use Rattle.std.proofs.Common.{◌≡◌, ℕ, [], ◌∷◌, refl, true, false, 
 use Rattle.std.specs.Prelude.{replicate, set, pos, negsuc}
 use Rattle.sloth_base.specs.Machine.{Core, State}
 use Rattle.sloth_base.specs.Lines.{controller_byte, with_controller_byte}
-use Rattle.sloth_base.specs.Choose.{choose, choose_line, best_below}
-use Rattle.sloth_base.specs.Take.{entered}
+use Rattle.sloth_base.specs.Choose.{choose, choose_line, best_line_below}
+use Rattle.sloth_base.specs.Take.{execution_state}
 use Rattle.rv32_instr.specs.declared.csr.TheConstants.{MSTATUS, ILEVEL}
 use Rattle.rv32_instr.specs.declared.InstrKind.TheVariants.{Jal, Jalr, Lb, Lw, Lh, Sb, Sw, Csrrs, Csrrw, Csrrci, Mret}
 use Rattle.rv32_instr.specs.declared.stop.Stop.TheVariants as stop
@@ -12,7 +12,7 @@ use Rattle.rv32_instr.specs.Words.{word}
 use Rattle.rv32_instr.specs.Table.{Decode, immediate}
 use Rattle.rv32_instr.specs.Ram.{word_at, half_at, with_word}
 use Rattle.rv32_instr.specs.Memory.{refusal, loaded_number, stored_memory}
-use Rattle.rv32_instr.specs.Execute.{Going, Stopped, perform, execute, step, touched_by}
+use Rattle.rv32_instr.specs.Execute.{Going, Stopped, perform, execute, step, touched_line_by}
 
 -- `addi x5, x0, 5` and a byte of 255; x1 is 0x10000020, x2 is 0x80000004, x3 is 9; line 3 and line 4 are at one level
 core : Core
@@ -95,13 +95,13 @@ return = refl
 
 -- of the lines 3 and 4 the lesser; line 0 is not above the running level, 1 is not pending, 2 is not enabled
 lesser_line : choose core ≡ Some 3
-unfolding choose choose_line best_below core
+unfolding choose choose_line best_line_below core
 lesser_line = refl
 
-entry : entered at_start ≡ goes-to 0x8000_040c (record core { mepc = 0x8000_0000; plevel = 1; ilevel = 4; mpie = true; mie = false; pending = set core.pending 3 0 })
-unfolding choose choose_line best_below core at_start goes-to
+entry : execution_state at_start ≡ goes-to 0x8000_040c (record core { mepc = 0x8000_0000; plevel = 1; ilevel = 4; mpie = true; mie = false; pending = set core.pending 3 0 })
+unfolding choose choose_line best_line_below core at_start goes-to
 entry = refl
 
-loads_pending : touched_by (Rattle.rv32_instr.specs.Effect.effect (Lb 4 1 (negsuc 28)) 0x8000_0000 core.registers) ≡ Some 3
-unfolding touched_by core
+loads_pending : touched_line_by (Rattle.rv32_instr.specs.Effect.effect (Lb 4 1 (negsuc 28)) 0x8000_0000 core.registers) ≡ Some 3
+unfolding touched_line_by core
 loads_pending = refl

@@ -1,7 +1,7 @@
 -- What each instruction does: the RISC-V unprivileged manual's chapters on RV32I and Zicsr, and MRET.
 use Rattle.std.specs.Prelude.{ℕ, ◌-◌, ◌*◌, ◌%◌, ◌^◌, List, not, if◌then◌else◌, ◌==◌, int_lt, nat_lt, bit_and, bit_or, bit_xor, slice_index}
 use Rattle.sloth_base.specs.declared.app.Width.TheVariants as width
-use Rattle.sloth_base.specs.Arithmetic.{signed, complement, sum32, difference32, plus, signed_less, one_if, shifted_left, shifted_right, shifted_right_signed}
+use Rattle.sloth_base.specs.Arithmetic.{signed, complement, sum32, difference32, plus, signed_less, one_if, left_shift, right_shift, signed_right_shift}
 use Rattle.rv32_instr.specs.declared.effect.Change.TheVariants.{Keep, Replace, Set, Clear}
 use Rattle.rv32_instr.specs.declared.effect.Effect.{Effect}
 use Rattle.rv32_instr.specs.declared.effect.Effect.TheVariants.{Nothing, Write, Branch, Jump, Load, Store, Csr, Environment, Return}
@@ -34,17 +34,17 @@ effect (Sltiu rd rs1 imm) pc x = Write rd (one_if (nat_lt (slice_index x rs1) (c
 effect (Xori rd rs1 imm) pc x = Write rd (bit_xor (slice_index x rs1) (complement imm))
 effect (Ori rd rs1 imm) pc x = Write rd (bit_or (slice_index x rs1) (complement imm))
 effect (Andi rd rs1 imm) pc x = Write rd (bit_and (slice_index x rs1) (complement imm))
-effect (Slli rd rs1 amount) pc x = Write rd (shifted_left (slice_index x rs1) amount)
-effect (Srli rd rs1 amount) pc x = Write rd (shifted_right (slice_index x rs1) amount)
-effect (Srai rd rs1 amount) pc x = Write rd (shifted_right_signed (slice_index x rs1) amount)
+effect (Slli rd rs1 amount) pc x = Write rd (left_shift (slice_index x rs1) amount)
+effect (Srli rd rs1 amount) pc x = Write rd (right_shift (slice_index x rs1) amount)
+effect (Srai rd rs1 amount) pc x = Write rd (signed_right_shift (slice_index x rs1) amount)
 effect (Add rd rs1 rs2) pc x = Write rd (sum32 (slice_index x rs1) (slice_index x rs2))
 effect (Sub rd rs1 rs2) pc x = Write rd (difference32 (slice_index x rs1) (slice_index x rs2))
-effect (Sll rd rs1 rs2) pc x = Write rd (shifted_left (slice_index x rs1) (slice_index x rs2 % 32))
+effect (Sll rd rs1 rs2) pc x = Write rd (left_shift (slice_index x rs1) (slice_index x rs2 % 32))
 effect (Slt rd rs1 rs2) pc x = Write rd (one_if (signed_less (slice_index x rs1) (slice_index x rs2)))
 effect (Sltu rd rs1 rs2) pc x = Write rd (one_if (nat_lt (slice_index x rs1) (slice_index x rs2)))
 effect (Xor rd rs1 rs2) pc x = Write rd (bit_xor (slice_index x rs1) (slice_index x rs2))
-effect (Srl rd rs1 rs2) pc x = Write rd (shifted_right (slice_index x rs1) (slice_index x rs2 % 32))
-effect (Sra rd rs1 rs2) pc x = Write rd (shifted_right_signed (slice_index x rs1) (slice_index x rs2 % 32))
+effect (Srl rd rs1 rs2) pc x = Write rd (right_shift (slice_index x rs1) (slice_index x rs2 % 32))
+effect (Sra rd rs1 rs2) pc x = Write rd (signed_right_shift (slice_index x rs1) (slice_index x rs2 % 32))
 effect (Or rd rs1 rs2) pc x = Write rd (bit_or (slice_index x rs1) (slice_index x rs2))
 effect (And rd rs1 rs2) pc x = Write rd (bit_and (slice_index x rs1) (slice_index x rs2))
 effect (Fence bits) pc x = Nothing

@@ -125,16 +125,16 @@ pending_line address =
     if nat_le 0x1000_0000 address && nat_lt address 0x1000_0020 then Some (address - 0x1000_0000) else None
 
 -- the line whose pending byte an effect loads, or sets to zero by a store
-unfoldable pub touched_by : Effect → Option ℕ
-touched_by (Load width rd address) = pending_line address
-touched_by (Store width address value) = if value % 256 == 0 then pending_line address else None
-touched_by effect = None
+unfoldable pub touched_line_by : Effect → Option ℕ
+touched_line_by (Load width rd address) = pending_line address
+touched_line_by (Store width address value) = if value % 256 == 0 then pending_line address else None
+touched_line_by effect = None
 
 -- the line that the decoded instruction touches in this state
-abbrev pub touched_on : Option InstrKind → State → Option ℕ
-touched_on None state = None
-touched_on (Some kind) state = touched_by (effect kind state.pc state.core.registers)
+abbrev pub touched_line_on : Option InstrKind → State → Option ℕ
+touched_line_on None state = None
+touched_line_on (Some kind) state = touched_line_by (effect kind state.pc state.core.registers)
 
 -- the line that the next instruction touches
 unfoldable pub touched : State → Option ℕ
-touched state = touched_on (Decode (word_at_pc state)) state
+touched state = touched_line_on (Decode (word_at_pc state)) state

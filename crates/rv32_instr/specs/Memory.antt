@@ -6,7 +6,7 @@ use Rattle.sloth_base.specs.Machine.{Core}
 use Rattle.sloth_base.specs.Lines.{Lines, lines_of, controller_byte, with_controller_byte}
 use Rattle.rv32_instr.specs.declared.stop.Bad.{Bad}
 use Rattle.rv32_instr.specs.declared.stop.Bad.TheVariants as bad
-use Rattle.sloth_base.specs.Arithmetic.{sign_extended, size_of}
+use Rattle.sloth_base.specs.Arithmetic.{sign_extension, size_of}
 use Rattle.rv32_instr.specs.Ram.{half_at, word_at, with_byte, with_half, with_word}
 
 -- what an access sees
@@ -55,8 +55,8 @@ loaded_byte memory address =
 
 -- the word that a load of this width gives
 unfoldable pub loaded_number : Memory → ℕ → Width → ℕ
-loaded_number memory address width.Byte = sign_extended 8 (loaded_byte memory address)
-loaded_number memory address width.Half = sign_extended 16 (half_at memory.ram (address - 0x8000_0000))
+loaded_number memory address width.Byte = sign_extension 8 (loaded_byte memory address)
+loaded_number memory address width.Half = sign_extension 16 (half_at memory.ram (address - 0x8000_0000))
 loaded_number memory address width.Word = word_at memory.ram (address - 0x8000_0000)
 loaded_number memory address width.ByteU = loaded_byte memory address
 loaded_number memory address width.HalfU = half_at memory.ram (address - 0x8000_0000)

@@ -4,39 +4,39 @@ use Rattle.rv32_instr.specs.declared.InstrKind.{InstrKind}
 use Rattle.rv32_instr.specs.declared.InstrKind.TheVariants.{Lui, Auipc, Jal, Jalr, Beq, Bne, Blt, Bge, Bltu, Bgeu, Lb, Lh, Lw, Lbu, Lhu, Sb, Sh, Sw, Addi, Slti, Sltiu, Xori, Ori, Andi, Slli, Srli, Srai, Add, Sub, Sll, Slt, Sltu, Xor, Srl, Sra, Or, And, Fence, Csrrw, Csrrs, Csrrc, Csrrwi, Csrrsi, Csrrci, Ecall, Ebreak, Mret}
 
 -- a signed number of `n` bits
-abbrev pub Signed : ℕ → ℤ → Type 0
-Signed n z = (neg_ℤ (pos (2 ^ (n - 1))) ≤ℤ z) × (z <ℤ pos (2 ^ (n - 1)))
+abbrev pub IsSigned : ℕ → ℤ → Type 0
+IsSigned n z = (neg_ℤ (pos (2 ^ (n - 1))) ≤ℤ z) × (z <ℤ pos (2 ^ (n - 1)))
 
 -- an even one
-abbrev pub Even : ℕ → ℤ → Type 0
-Even n z = Signed n z × (unsigned_abs z % 2 ≡ 0)
+abbrev pub IsEven : ℕ → ℤ → Type 0
+IsEven n z = IsSigned n z × (unsigned_abs z % 2 ≡ 0)
 
 -- the fields of an instruction are numbers that its word has room for; `bits` of a fence are a word without funct3 and opcode
 abbrev pub InRange : InstrKind → Type 0
 InRange (Lui rd imm) = (rd < 32) × (imm < 2 ^ 20)
 InRange (Auipc rd imm) = (rd < 32) × (imm < 2 ^ 20)
-InRange (Jal rd imm) = (rd < 32) × Even 21 imm
-InRange (Jalr rd rs1 imm) = (rd < 32) × (rs1 < 32) × Signed 12 imm
-InRange (Beq rs1 rs2 imm) = (rs1 < 32) × (rs2 < 32) × Even 13 imm
-InRange (Bne rs1 rs2 imm) = (rs1 < 32) × (rs2 < 32) × Even 13 imm
-InRange (Blt rs1 rs2 imm) = (rs1 < 32) × (rs2 < 32) × Even 13 imm
-InRange (Bge rs1 rs2 imm) = (rs1 < 32) × (rs2 < 32) × Even 13 imm
-InRange (Bltu rs1 rs2 imm) = (rs1 < 32) × (rs2 < 32) × Even 13 imm
-InRange (Bgeu rs1 rs2 imm) = (rs1 < 32) × (rs2 < 32) × Even 13 imm
-InRange (Lb rd rs1 imm) = (rd < 32) × (rs1 < 32) × Signed 12 imm
-InRange (Lh rd rs1 imm) = (rd < 32) × (rs1 < 32) × Signed 12 imm
-InRange (Lw rd rs1 imm) = (rd < 32) × (rs1 < 32) × Signed 12 imm
-InRange (Lbu rd rs1 imm) = (rd < 32) × (rs1 < 32) × Signed 12 imm
-InRange (Lhu rd rs1 imm) = (rd < 32) × (rs1 < 32) × Signed 12 imm
-InRange (Sb rs1 rs2 imm) = (rs1 < 32) × (rs2 < 32) × Signed 12 imm
-InRange (Sh rs1 rs2 imm) = (rs1 < 32) × (rs2 < 32) × Signed 12 imm
-InRange (Sw rs1 rs2 imm) = (rs1 < 32) × (rs2 < 32) × Signed 12 imm
-InRange (Addi rd rs1 imm) = (rd < 32) × (rs1 < 32) × Signed 12 imm
-InRange (Slti rd rs1 imm) = (rd < 32) × (rs1 < 32) × Signed 12 imm
-InRange (Sltiu rd rs1 imm) = (rd < 32) × (rs1 < 32) × Signed 12 imm
-InRange (Xori rd rs1 imm) = (rd < 32) × (rs1 < 32) × Signed 12 imm
-InRange (Ori rd rs1 imm) = (rd < 32) × (rs1 < 32) × Signed 12 imm
-InRange (Andi rd rs1 imm) = (rd < 32) × (rs1 < 32) × Signed 12 imm
+InRange (Jal rd imm) = (rd < 32) × IsEven 21 imm
+InRange (Jalr rd rs1 imm) = (rd < 32) × (rs1 < 32) × IsSigned 12 imm
+InRange (Beq rs1 rs2 imm) = (rs1 < 32) × (rs2 < 32) × IsEven 13 imm
+InRange (Bne rs1 rs2 imm) = (rs1 < 32) × (rs2 < 32) × IsEven 13 imm
+InRange (Blt rs1 rs2 imm) = (rs1 < 32) × (rs2 < 32) × IsEven 13 imm
+InRange (Bge rs1 rs2 imm) = (rs1 < 32) × (rs2 < 32) × IsEven 13 imm
+InRange (Bltu rs1 rs2 imm) = (rs1 < 32) × (rs2 < 32) × IsEven 13 imm
+InRange (Bgeu rs1 rs2 imm) = (rs1 < 32) × (rs2 < 32) × IsEven 13 imm
+InRange (Lb rd rs1 imm) = (rd < 32) × (rs1 < 32) × IsSigned 12 imm
+InRange (Lh rd rs1 imm) = (rd < 32) × (rs1 < 32) × IsSigned 12 imm
+InRange (Lw rd rs1 imm) = (rd < 32) × (rs1 < 32) × IsSigned 12 imm
+InRange (Lbu rd rs1 imm) = (rd < 32) × (rs1 < 32) × IsSigned 12 imm
+InRange (Lhu rd rs1 imm) = (rd < 32) × (rs1 < 32) × IsSigned 12 imm
+InRange (Sb rs1 rs2 imm) = (rs1 < 32) × (rs2 < 32) × IsSigned 12 imm
+InRange (Sh rs1 rs2 imm) = (rs1 < 32) × (rs2 < 32) × IsSigned 12 imm
+InRange (Sw rs1 rs2 imm) = (rs1 < 32) × (rs2 < 32) × IsSigned 12 imm
+InRange (Addi rd rs1 imm) = (rd < 32) × (rs1 < 32) × IsSigned 12 imm
+InRange (Slti rd rs1 imm) = (rd < 32) × (rs1 < 32) × IsSigned 12 imm
+InRange (Sltiu rd rs1 imm) = (rd < 32) × (rs1 < 32) × IsSigned 12 imm
+InRange (Xori rd rs1 imm) = (rd < 32) × (rs1 < 32) × IsSigned 12 imm
+InRange (Ori rd rs1 imm) = (rd < 32) × (rs1 < 32) × IsSigned 12 imm
+InRange (Andi rd rs1 imm) = (rd < 32) × (rs1 < 32) × IsSigned 12 imm
 InRange (Slli rd rs1 amount) = (rd < 32) × (rs1 < 32) × (amount < 32)
 InRange (Srli rd rs1 amount) = (rd < 32) × (rs1 < 32) × (amount < 32)
 InRange (Srai rd rs1 amount) = (rd < 32) × (rs1 < 32) × (amount < 32)

@@ -1,6 +1,6 @@
 //! The two parts of a 32-bit constant: `lui` loads the one, and `addi` adds the other.
 ghost use Rattle.std.specs.Prelude.{◌≡◌, ◌<◌, ◌^◌};
-ghost use Rattle.rv32_instr.specs.Range.{Signed};
+ghost use Rattle.rv32_instr.specs.Range.{IsSigned};
 ghost use Rattle.sloth_base.specs.Arithmetic.{hi, lo};
 
 use crate::fields::signed;
@@ -18,7 +18,7 @@ pub fn hi(value: u32) -> u32
 #[tactic(auto, unfolding(sloth_base::specs::Arithmetic::lo))]
 pub fn lo(value: u32) -> i32
     ensures is { result ≡ lo value }
-    ensures fits { Signed 12 result }
+    ensures fits { IsSigned 12 result }
 {
     signed(value % 0x1000, 12)
 }

@@ -1,9 +1,9 @@
 //! Parts of a word.
 
-ghost use Rattle.std.specs.Prelude.{◌≡◌, ◌≤◌, ◌<◌, ◌+◌, ◌^◌};
+ghost use Rattle.std.specs.Prelude.{◌≡◌, ◌<◌, ◌^◌};
 ghost use Rattle.rv32_instr.specs.Fields.{bits, part};
 ghost use Rattle.sloth_base.specs.Arithmetic.{signed};
-ghost use Rattle.rv32_instr.specs.Range.{Signed};
+ghost use Rattle.rv32_instr.specs.Range.{IsSigned};
 
 /// `count` bits of a word, from bit `low` up.
 pub fn bits(word: u32, low: u32, count: u32) -> u32
@@ -18,7 +18,7 @@ pub fn bits(word: u32, low: u32, count: u32) -> u32
 pub fn signed(value: u32, count: u32) -> i32
     requires { (0 < count) × (count < 31) × (value < 2 ^ count) }
     ensures is { result ≡ signed count value }
-    ensures fits { Signed count result }
+    ensures fits { IsSigned count result }
 {
     if value < 1 << (count - 1) {
         value as i32

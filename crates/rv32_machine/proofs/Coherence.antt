@@ -4,10 +4,10 @@ use Rattle.sloth_base.specs.declared.event.Arrival.{Arrival}
 use Rattle.sloth_base.specs.declared.step.Step.{Step}
 use Rattle.sloth_base.specs.Machine.{State}
 use Rattle.rv32_instr.specs.Execute.{Next, Going, Stopped, step}
-use Rattle.sloth_base.specs.Take.{entered}
+use Rattle.sloth_base.specs.Take.{execution_state}
 use Rattle.rv32_machine.specs.Advance.{Outcome, Goes, Halts, advance, outcome, seen_step}
-use Rattle.rv32_machine.specs.Run.{Moment, arrived, moment, on_goes, moment_of, run_from, steps_of}
-use Rattle.rv32_machine.specs.Coherent.{Coherent}
+use Rattle.rv32_machine.specs.Run.{Moment, state_with_arrivals, moment, on_goes, moment_of, run_from, steps_of}
+use Rattle.rv32_machine.specs.Coherent.{AreCoherent}
 
 -- what is seen of a step that goes on
 seen-of
@@ -19,21 +19,21 @@ seen-of count before (Stopped e) s after h = cc
 pub step_seen
     : (count : ℕ) (before : State) (s : Step) (after : State) → advance count before ≡ Goes s after → s ≡ seen_step count before after
 unfolding advance
-step_seen count before s after h = seen-of count before (step (entered before)) s after h
+step_seen count before s after h = seen-of count before (step (execution_state before)) s after h
 
 coherent-go
     : (arrivals : List Arrival) (count : ℕ) (state : State) (o : Outcome) (rest : State → List Moment)
     → moment arrivals count state ≡ o
-    → ((t : State) → Coherent (count + 1) t.core.mie (steps_of (rest t)))
-    → Coherent count state.core.mie (steps_of (on_goes o [] (λ s t. moment_of arrivals count state s t ∷ rest t)))
+    → ((t : State) → AreCoherent (count + 1) t.core.mie (steps_of (rest t)))
+    → AreCoherent count state.core.mie (steps_of (on_goes o [] (λ s t. moment_of arrivals count state s t ∷ rest t)))
 coherent-go arrivals count state (Halts e) rest h k = tt
 coherent-go arrivals count state (Goes s t) rest h k =
-    let f = step_seen count (arrived arrivals count state) s t h in
-    (ap (λ x. x.count) f, ap (λ x. x.enabled_before) f, subst (λ b. Coherent (count + 1) b (steps_of (rest t))) (sym (ap (λ x. x.enabled_after) f)) (k t))
+    let f = step_seen count (state_with_arrivals arrivals count state) s t h in
+    (ap (λ x. x.count) f, ap (λ x. x.enabled_before) f, subst (λ b. AreCoherent (count + 1) b (steps_of (rest t))) (sym (ap (λ x. x.enabled_after) f)) (k t))
 
 pub coherent
     : (n : ℕ) (arrivals : List Arrival) (count : ℕ) (state : State)
-    → Coherent count state.core.mie (steps_of (run_from n arrivals count state))
+    → AreCoherent count state.core.mie (steps_of (run_from n arrivals count state))
 unfolding run_from
 coherent zero arrivals count state = tt
 coherent (suc n) arrivals count state =

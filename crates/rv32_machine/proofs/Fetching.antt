@@ -12,7 +12,7 @@ use Rattle.rv32_instr.specs.Ram.{word_at}
 use Rattle.rv32_instr.specs.Memory.{Memory, in_ram, refusal, loaded_number}
 use Rattle.rv32_instr.specs.Effect.{effect}
 use Rattle.rv32_instr.specs.declared.effect.Effect.{Effect}
-use Rattle.rv32_instr.specs.Execute.{Next, Stopped, execute, perform, step, touched, touched_by, word_at_pc}
+use Rattle.rv32_instr.specs.Execute.{Next, Stopped, execute, perform, step, touched, touched_line_by, word_at_pc}
 
 -- an aligned word may be loaded exactly where it is in RAM
 pub fetch_in_ram : (memory : Memory) (pc : ℕ) → pc % 4 ≡ 0 → refusal memory pc width.Word ≡ None → in_ram pc 4 ≡ true
@@ -49,7 +49,7 @@ step_performs state kind word h w e c =
 
 pub touched_is
     : (state : State) (kind : InstrKind) → Decode (word_at_pc state) ≡ Some kind
-    → touched state ≡ touched_by (effect kind state.pc state.core.registers)
+    → touched state ≡ touched_line_by (effect kind state.pc state.core.registers)
 unfolding touched
 touched_is state kind e = rw e refl
 
@@ -67,7 +67,7 @@ executed old new kind word asked next h w d c s a p =
 pub touched_executed
     : (old new : State) (kind : InstrKind) (word : ℕ) (asked : Effect) (line : Option ℕ)
     → word ≡ word_at_pc old → Decode word ≡ Some kind → new ≡ old → asked ≡ effect kind new.pc new.core.registers
-    → line ≡ touched_by asked → line ≡ touched old
+    → line ≡ touched_line_by asked → line ≡ touched old
 touched_executed old new kind word asked line w d s a t =
-    t ∙ ap touched_by a ∙ ap (λ x. touched_by (effect kind x.pc x.core.registers)) s
+    t ∙ ap touched_line_by a ∙ ap (λ x. touched_line_by (effect kind x.pc x.core.registers)) s
     ∙ sym (touched_is old kind (ap Decode (sym w) ∙ d))

@@ -6,11 +6,11 @@ use Rattle.sloth_base.specs.Lines.{controller_byte, with_controller_byte}
 use Rattle.std.specs.Prelude.{◌%◌}
 use Rattle.rv32_instr.specs.Memory.{Memory, in_ram, refusal, loaded_number, stored_memory}
 use Rattle.sloth_base.specs.Arithmetic.{size_of, extended_number}
-use Rattle.rv32_machine.specs.Place.{bare, bytes_at, with_bytes}
+use Rattle.rv32_machine.specs.Place.{bare_memory, bytes_at, with_bytes}
 
 -- a refusal depends on the controller's being there alone
 pub refusal_bare
-    : (memory : Memory) (address : ℕ) (w : Width) → refusal memory address w ≡ refusal (bare memory.controller) address w
+    : (memory : Memory) (address : ℕ) (w : Width) → refusal memory address w ≡ refusal (bare_memory memory.controller) address w
 unfolding refusal
 refusal_bare memory address w = refl
 

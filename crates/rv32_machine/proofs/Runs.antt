@@ -5,7 +5,7 @@ use Rattle.sloth_base.specs.declared.step.Step.{Step}
 use Rattle.sloth_base.specs.Machine.{State}
 use Rattle.rv32_instr.specs.declared.stop.Stop.{Stop}
 use Rattle.rv32_machine.specs.Advance.{Outcome, Goes, Halts}
-use Rattle.rv32_machine.specs.Run.{Moment, Stopping, arrived, moment, on_goes, moment_of, run_from, after_from, stop_from, stopping}
+use Rattle.rv32_machine.specs.Run.{Moment, Stopping, state_with_arrivals, moment, on_goes, moment_of, run_from, state_after_from, stop_from, stopping}
 
 shifted : (k count : ℕ) → suc k + count ≡ k + (count + 1)
 shifted k count = omega arith
@@ -18,9 +18,9 @@ after-go (Halts e) f h m n q k = cc
 after-go (Goes s t) f h m n q k = k s t q
 
 after-suc
-    : (k : ℕ) (arrivals : List Arrival) (count : ℕ) (start m n : State) (s : Step) → after_from k arrivals count start ≡ Some m
-    → moment arrivals (k + count) m ≡ Goes s n → after_from (suc k) arrivals count start ≡ Some n
-unfolding after_from
+    : (k : ℕ) (arrivals : List Arrival) (count : ℕ) (start m n : State) (s : Step) → state_after_from k arrivals count start ≡ Some m
+    → moment arrivals (k + count) m ≡ Goes s n → state_after_from (suc k) arrivals count start ≡ Some n
+unfolding state_after_from
 after-suc zero arrivals count start m n s h g =
     let e : start ≡ m = cc in
     let c : 0 + count ≡ count = omega arith in
@@ -29,16 +29,16 @@ after-suc zero arrivals count start m n s h g =
 after-suc (suc k) arrivals count start m n s h g =
     after-go
     (moment arrivals count start)
-    (λ s t. after_from k arrivals (count + 1) t)
-    (λ s t. after_from (suc k) arrivals (count + 1) t)
+    (λ s t. state_after_from k arrivals (count + 1) t)
+    (λ s t. state_after_from (suc k) arrivals (count + 1) t)
     m
     n
     h
     (λ s' t q. after-suc k arrivals (count + 1) t m n s q (ap (λ x. moment arrivals x m) (sym (shifted k count)) ∙ g))
 
 pub after_more
-    : (k : ℕ) (arrivals : List Arrival) (start m n : State) (s : Step) → after_from k arrivals 0 start ≡ Some m
-    → moment arrivals k m ≡ Goes s n → after_from (k + 1) arrivals 0 start ≡ Some n
+    : (k : ℕ) (arrivals : List Arrival) (start m n : State) (s : Step) → state_after_from k arrivals 0 start ≡ Some m
+    → moment arrivals k m ≡ Goes s n → state_after_from (k + 1) arrivals 0 start ≡ Some n
 after_more k arrivals start m n s h g =
     let c : k + 0 ≡ k = omega arith in
     rw add-one (after-suc k arrivals 0 start m n s h (ap (λ x. moment arrivals x m) c ∙ g))
@@ -52,10 +52,10 @@ run-go (Halts e) f x g h m es q k = cc
 run-go (Goes s t) f x g h m es q k = ap (λ ms. x s t ∷ ms) (k s t q)
 
 run-suc
-    : (k : ℕ) (arrivals : List Arrival) (count : ℕ) (start m n : State) (s : Step) → after_from k arrivals count start ≡ Some m
+    : (k : ℕ) (arrivals : List Arrival) (count : ℕ) (start m n : State) (s : Step) → state_after_from k arrivals count start ≡ Some m
     → moment arrivals (k + count) m ≡ Goes s n
     → run_from (suc k) arrivals count start ≡ run_from k arrivals count start ++ moment_of arrivals (k + count) m s n ∷ []
-unfolding after_from run_from
+unfolding state_after_from run_from
 run-suc zero arrivals count start m n s h g =
     let e : start ≡ m = cc in
     let c : 0 + count ≡ count = omega arith in
@@ -64,7 +64,7 @@ run-suc zero arrivals count start m n s h g =
 run-suc (suc k) arrivals count start m n s h g =
     run-go
     (moment arrivals count start)
-    (λ s t. after_from k arrivals (count + 1) t)
+    (λ s t. state_after_from k arrivals (count + 1) t)
     (λ s t. moment_of arrivals count start s t)
     (λ t. run_from (suc k) arrivals (count + 1) t)
     (λ t. run_from k arrivals (count + 1) t)
@@ -76,7 +76,7 @@ run-suc (suc k) arrivals count start m n s h g =
     ∙ ap (λ x. run_from k arrivals (count + 1) t ++ moment_of arrivals x m s n ∷ []) (sym (shifted k count)))
 
 pub run_more
-    : (k : ℕ) (arrivals : List Arrival) (start m n : State) (s : Step) → after_from k arrivals 0 start ≡ Some m
+    : (k : ℕ) (arrivals : List Arrival) (start m n : State) (s : Step) → state_after_from k arrivals 0 start ≡ Some m
     → moment arrivals k m ≡ Goes s n
     → run_from (k + 1) arrivals 0 start ≡ run_from k arrivals 0 start ++ moment_of arrivals k m s n ∷ []
 run_more k arrivals start m n s h g =
@@ -88,9 +88,9 @@ run_more k arrivals start m n s h g =
 
 -- a run that stops shows no more
 halts-suc
-    : (n k : ℕ) (arrivals : List Arrival) (count : ℕ) (start m : State) (e : Stop) → k < n → after_from k arrivals count start ≡ Some m
+    : (n k : ℕ) (arrivals : List Arrival) (count : ℕ) (start m : State) (e : Stop) → k < n → state_after_from k arrivals count start ≡ Some m
     → moment arrivals (k + count) m ≡ Halts e → run_from n arrivals count start ≡ run_from k arrivals count start
-unfolding after_from run_from
+unfolding state_after_from run_from
 halts-suc zero k arrivals count start m e lt h g = absurd (omega arith)
 halts-suc (suc n) zero arrivals count start m e lt h g =
     let q : start ≡ m = cc in
@@ -100,7 +100,7 @@ halts-suc (suc n) zero arrivals count start m e lt h g =
 halts-suc (suc n) (suc k) arrivals count start m e lt h g =
     run-go
     (moment arrivals count start)
-    (λ s t. after_from k arrivals (count + 1) t)
+    (λ s t. state_after_from k arrivals (count + 1) t)
     (λ s t. moment_of arrivals count start s t)
     (λ t. run_from n arrivals (count + 1) t)
     (λ t. run_from k arrivals (count + 1) t)
@@ -113,7 +113,7 @@ halts-suc (suc n) (suc k) arrivals count start m e lt h g =
     ∙ append-nil (on_goes (moment arrivals count start) [] (λ s t. moment_of arrivals count start s t ∷ run_from k arrivals (count + 1) t))
 
 pub run_halts
-    : (n k : ℕ) (arrivals : List Arrival) (start m : State) (e : Stop) → k < n → after_from k arrivals 0 start ≡ Some m
+    : (n k : ℕ) (arrivals : List Arrival) (start m : State) (e : Stop) → k < n → state_after_from k arrivals 0 start ≡ Some m
     → moment arrivals k m ≡ Halts e → run_from n arrivals 0 start ≡ run_from k arrivals 0 start
 run_halts n k arrivals start m e lt h g =
     let c : k + 0 ≡ k = omega arith in
@@ -127,47 +127,47 @@ stop-go (Halts e) f x h m r q k = cc
 stop-go (Goes s t) f x h m r q k = k s t q
 
 stop-suc
-    : (n k : ℕ) (arrivals : List Arrival) (count : ℕ) (start m : State) (e : Stop) → k < n → after_from k arrivals count start ≡ Some m
+    : (n k : ℕ) (arrivals : List Arrival) (count : ℕ) (start m : State) (e : Stop) → k < n → state_after_from k arrivals count start ≡ Some m
     → moment arrivals (k + count) m ≡ Halts e
-    → stop_from n arrivals count start ≡ stopping (arrived arrivals (k + count) m) (Halts e)
-unfolding after_from stop_from
+    → stop_from n arrivals count start ≡ stopping (state_with_arrivals arrivals (k + count) m) (Halts e)
+unfolding state_after_from stop_from
 stop-suc zero k arrivals count start m e lt h g = absurd (omega arith)
 stop-suc (suc n) zero arrivals count start m e lt h g =
     let q : start ≡ m = cc in
     let c : 0 + count ≡ count = omega arith in
     let g' : moment arrivals count start ≡ Halts e = ap (λ x. moment arrivals count x) q ∙ ap (λ x. moment arrivals x m) (sym c) ∙ g in
-    rw g' (ap (λ x. stopping (arrived arrivals count x) (Halts e)) q ∙ ap (λ x. stopping (arrived arrivals x m) (Halts e)) (sym c))
+    rw g' (ap (λ x. stopping (state_with_arrivals arrivals count x) (Halts e)) q ∙ ap (λ x. stopping (state_with_arrivals arrivals x m) (Halts e)) (sym c))
 stop-suc (suc n) (suc k) arrivals count start m e lt h g =
     stop-go
     (moment arrivals count start)
-    (λ s t. after_from k arrivals (count + 1) t)
-    (stopping (arrived arrivals count start) (moment arrivals count start))
+    (λ s t. state_after_from k arrivals (count + 1) t)
+    (stopping (state_with_arrivals arrivals count start) (moment arrivals count start))
     (λ t. stop_from n arrivals (count + 1) t)
     m
-    (stopping (arrived arrivals (suc k + count) m) (Halts e))
+    (stopping (state_with_arrivals arrivals (suc k + count) m) (Halts e))
     h
     (λ s t q.
     stop-suc n k arrivals (count + 1) t m e (omega arith) q (ap (λ x. moment arrivals x m) (sym (shifted k count)) ∙ g)
-    ∙ ap (λ x. stopping (arrived arrivals x m) (Halts e)) (sym (shifted k count)))
+    ∙ ap (λ x. stopping (state_with_arrivals arrivals x m) (Halts e)) (sym (shifted k count)))
 
 pub stop_halts
-    : (n k : ℕ) (arrivals : List Arrival) (start m : State) (e : Stop) → k < n → after_from k arrivals 0 start ≡ Some m
-    → moment arrivals k m ≡ Halts e → stop_from n arrivals 0 start ≡ stopping (arrived arrivals k m) (Halts e)
+    : (n k : ℕ) (arrivals : List Arrival) (start m : State) (e : Stop) → k < n → state_after_from k arrivals 0 start ≡ Some m
+    → moment arrivals k m ≡ Halts e → stop_from n arrivals 0 start ≡ stopping (state_with_arrivals arrivals k m) (Halts e)
 stop_halts n k arrivals start m e lt h g =
     let c : k + 0 ≡ k = omega arith in
     stop-suc n k arrivals 0 start m e lt h (ap (λ x. moment arrivals x m) c ∙ g)
-    ∙ ap (λ x. stopping (arrived arrivals x m) (Halts e)) c
+    ∙ ap (λ x. stopping (state_with_arrivals arrivals x m) (Halts e)) c
 
 pub stop_none
-    : (k : ℕ) (arrivals : List Arrival) (count : ℕ) (start m : State) → after_from k arrivals count start ≡ Some m
+    : (k : ℕ) (arrivals : List Arrival) (count : ℕ) (start m : State) → state_after_from k arrivals count start ≡ Some m
     → stop_from k arrivals count start ≡ None
-unfolding after_from stop_from
+unfolding state_after_from stop_from
 stop_none zero arrivals count start m h = refl
 stop_none (suc k) arrivals count start m h =
     stop-go
     (moment arrivals count start)
-    (λ s t. after_from k arrivals (count + 1) t)
-    (stopping (arrived arrivals count start) (moment arrivals count start))
+    (λ s t. state_after_from k arrivals (count + 1) t)
+    (stopping (state_with_arrivals arrivals count start) (moment arrivals count start))
     (λ t. stop_from k arrivals (count + 1) t)
     m
     None

@@ -5,7 +5,7 @@ use Rattle.std.proofs.lemmas.Bool.Decides.{nat_tests}
 use Rattle.sloth_base.specs.Lines.{controller_byte, with_controller_byte}
 use Rattle.sloth_base.specs.Take.{take}
 use Rattle.rv32_machine.specs.declared.machine.Hart.{Hart}
-use Rattle.rv32_machine.specs.State.{state_of, pending_again}
+use Rattle.rv32_machine.specs.State.{state_of, pending_memory}
 use Rattle.rv32_instr.specs.Ram.{word_at}
 use Rattle.rv32_instr.specs.Memory.{Memory, memory_of, refusal, loaded_number, stored_memory}
 
@@ -39,7 +39,7 @@ pending_stores memory line n e h t = grind (arith, nat_tests)
 
 pub pending_stored
     : (memory : Memory) (line n : ℕ) → n ≡ line → line < 32
-    → stored_memory memory (0x1000_0000 + n) width.Byte 1 ≡ pending_again line memory
+    → stored_memory memory (0x1000_0000 + n) width.Byte 1 ≡ pending_memory line memory
 unfolding stored_memory with_controller_byte
 pending_stored memory line n e h =
     let f : 0x1000_0000 + n - 0x1000_0000 ≡ line = omega arith in
@@ -48,10 +48,10 @@ pending_stored memory line n e h =
 -- what an entry took is given back
 pub restored
     : (before hart : Hart) (old new : Memory) (line : ℕ) → state_of hart new ≡ take line (state_of before old)
-    → slice_index old.lines.pending line ≡ 1 → state_of before (pending_again line new) ≡ state_of before old
+    → slice_index old.lines.pending line ≡ 1 → state_of before (pending_memory line new) ≡ state_of before old
 restored before hart old new line e p =
     let m : new ≡ memory_of (take line (state_of before old)).core = ap (λ x. memory_of x.core) e in
-    ap (λ x. state_of before (pending_again line x)) m
+    ap (λ x. state_of before (pending_memory line x)) m
     ∙ ap (λ b. state_of before (record old { lines = record old.lines { pending = b } })) (put_back old.lines.pending line p)
 
 -- the word at 0x80000000 may always be loaded

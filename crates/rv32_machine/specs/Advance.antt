@@ -2,7 +2,7 @@
 use Rattle.std.specs.Prelude.{ℕ, None, false, replicate}
 use Rattle.sloth_base.specs.declared.step.Step.{Step}
 use Rattle.sloth_base.specs.Machine.{State}
-use Rattle.sloth_base.specs.Take.{line_to_take, entered}
+use Rattle.sloth_base.specs.Take.{line_to_take, execution_state}
 use Rattle.rv32_instr.specs.declared.stop.Stop.{Stop}
 use Rattle.rv32_instr.specs.Ram.{word_at}
 use Rattle.rv32_instr.specs.Execute.{Next, Going, Stopped, step, touched}
@@ -30,13 +30,13 @@ blank_step = record {
 abbrev pub seen_step : ℕ → State → State → Step
 seen_step count before after = record {
   count = count;
-  pc = (entered before).pc;
+  pc = (execution_state before).pc;
   entered = line_to_take before;
   enabled_before = before.core.mie;
   enabled_after = after.core.mie;
   cur_before = word_at before.core.ram 0;
   cur_after = word_at after.core.ram 0;
-  touched = touched (entered before);
+  touched = touched (execution_state before);
   regs = after.core.registers;
 }
 
@@ -47,4 +47,4 @@ outcome count before (Stopped stop) = Halts stop
 
 -- the step of a count
 unfoldable pub advance : ℕ → State → Outcome
-advance count state = outcome count state (step (entered state))
+advance count state = outcome count state (step (execution_state state))

@@ -10,8 +10,8 @@ use Rattle.rv32_machine.specs.declared.place.Place.{Place}
 use Rattle.rv32_machine.specs.declared.place.Place.TheVariants as place
 
 -- a memory with a controller or without one, whatever its bytes
-abbrev pub bare : Bool → Memory
-bare controller = record { ram = []; lines = fresh_lines; controller = controller }
+abbrev pub bare_memory : Bool → Memory
+bare_memory controller = record { ram = []; lines = fresh_lines; controller = controller }
 
 -- the access at an address goes there
 abbrev pub IsPlace : Bool → ℕ → Width → Place → Type 0

@@ -6,17 +6,17 @@ use Rattle.sloth_base.specs.declared.step.Step.{Step}
 use Rattle.sloth_base.specs.Machine.{State}
 use Rattle.sloth_base.specs.Arrivals.{moments}
 use Rattle.sloth_base.specs.Arrive.{state_arrive}
-use Rattle.sloth_base.specs.Take.{entered}
+use Rattle.sloth_base.specs.Take.{execution_state}
 use Rattle.rv32_instr.specs.declared.stop.Stop.{Stop}
 use Rattle.rv32_machine.specs.Advance.{Outcome, Goes, Halts, advance}
 
 -- the state with the arrivals of a moment
-abbrev pub arrived : List Arrival → ℕ → State → State
-arrived arrivals count state = state_arrive (map (λ a. a.line) (moments count (count + 1) arrivals)) state
+abbrev pub state_with_arrivals : List Arrival → ℕ → State → State
+state_with_arrivals arrivals count state = state_arrive (map (λ a. a.line) (moments count (count + 1) arrivals)) state
 
 -- what the instruction of a count does
 abbrev pub moment : List Arrival → ℕ → State → Outcome
-moment arrivals count state = advance count (arrived arrivals count state)
+moment arrivals count state = advance count (state_with_arrivals arrivals count state)
 
 -- what follows an instruction, or what stands where it stops
 abbrev pub on_goes : {X : Type 0} → Outcome → X → (Step → State → X) → X
@@ -34,8 +34,8 @@ pub record Moment : Type 0 where
 -- that of a step
 abbrev pub moment_of : List Arrival → ℕ → State → Step → State → Moment
 moment_of arrivals count state step after = record {
-  arrived_state = arrived arrivals count state;
-  entered_state = entered (arrived arrivals count state);
+  arrived_state = state_with_arrivals arrivals count state;
+  entered_state = execution_state (state_with_arrivals arrivals count state);
   after = after;
   step = step;
 }
@@ -55,14 +55,14 @@ abbrev pub steps_of : List Moment → List Step
 steps_of moments = map (λ m. m.step) moments
 
 -- the state after n instructions, where none of them stops
-unfoldable pub after_from : ℕ → List Arrival → ℕ → State → Option State
-after_from zero arrivals count state = Some state
-after_from (suc n) arrivals count state =
-    on_goes (moment arrivals count state) None (λ step after. after_from n arrivals (count + 1) after)
+unfoldable pub state_after_from : ℕ → List Arrival → ℕ → State → Option State
+state_after_from zero arrivals count state = Some state
+state_after_from (suc n) arrivals count state =
+    on_goes (moment arrivals count state) None (λ step after. state_after_from n arrivals (count + 1) after)
 
 -- the state after `n` instructions, where each could be executed
 abbrev pub state_after : ℕ → List Arrival → State → Option State
-state_after n arrivals start = after_from n arrivals 0 start
+state_after n arrivals start = state_after_from n arrivals 0 start
 
 -- an instruction that stops: its address, which is a vector where a line was taken before it, and why
 pub record Stopping : Type 0 where
@@ -72,13 +72,13 @@ pub record Stopping : Type 0 where
 -- where and why the machine stops, if it does
 abbrev pub stopping : State → Outcome → Option Stopping
 stopping state (Goes step after) = None
-stopping state (Halts stop) = Some (record { pc = (entered state).pc; stop = stop })
+stopping state (Halts stop) = Some (record { pc = (execution_state state).pc; stop = stop })
 
 -- the one of n instructions that stops, if one does
 unfoldable pub stop_from : ℕ → List Arrival → ℕ → State → Option Stopping
 stop_from zero arrivals count state = None
 stop_from (suc n) arrivals count state =
-    on_goes (moment arrivals count state) (stopping (arrived arrivals count state) (moment arrivals count state))
+    on_goes (moment arrivals count state) (stopping (state_with_arrivals arrivals count state) (moment arrivals count state))
     (λ step after. stop_from n arrivals (count + 1) after)
 
 -- where and why one of the first `n` instructions stops the machine, if one does

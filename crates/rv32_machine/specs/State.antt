@@ -31,6 +31,6 @@ abbrev pub state : {B : Type 0} → (B → Memory) → Machine B → State
 state memory machine = state_of machine.hart (memory machine.bus)
 
 -- the memory with a line pending
-abbrev pub pending_again : ℕ → Memory → Memory
-pending_again line memory =
+abbrev pub pending_memory : ℕ → Memory → Memory
+pending_memory line memory =
     record memory { lines = record memory.lines { pending = slice_set memory.lines.pending line 1 } }

@@ -1,6 +1,6 @@
 //! What each instruction does.
 ghost use Rattle.std.specs.Prelude.{◌≡◌, ◌<◌, ◌-◌, ◌%◌, slice_index, if◌then◌else◌, ◌==◌};
-ghost use Rattle.rv32_instr.specs.Range.{InRange, Signed};
+ghost use Rattle.rv32_instr.specs.Range.{InRange};
 ghost use Rattle.rv32_instr.specs.Effect.{effect};
 ghost use Rattle.sloth_base.specs.Arithmetic.{plus};
 ghost use Rattle.rv32_instr.specs.declared.effect.Effect.TheVariants as asks;

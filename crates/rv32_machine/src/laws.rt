@@ -7,8 +7,8 @@ ghost use Rattle.sloth_base.specs.Lines.{Lines};
 ghost use Rattle.sloth_base.specs.Choose.{IsChosen};
 ghost use Rattle.rv32_instr.specs.declared.stop.Stop.{Stop};
 ghost use Rattle.rv32_machine.specs.Advance.{Goes, Halts};
-ghost use Rattle.rv32_machine.specs.Run.{arrived, moment, moment_of, run, steps_of, state_after, stop_of, stopping};
-ghost use Rattle.rv32_machine.specs.Coherent.{Coherent};
+ghost use Rattle.rv32_machine.specs.Run.{state_with_arrivals, moment, moment_of, run, steps_of, state_after, stop_of, stopping};
+ghost use Rattle.rv32_machine.specs.Coherent.{AreCoherent};
 
 /// At most one line is the chosen one.
 pub fn one_line_is_chosen()
@@ -17,7 +17,7 @@ pub fn one_line_is_chosen()
 
 /// The steps of a run have the counts from 0 on, and each finds MIE as the one before left it.
 pub fn steps_hang_together()
-    ensures { (n : ℕ) (arrivals : List Arrival) (start : State) → Coherent 0 start.core.mie (steps_of (run n arrivals start)) }
+    ensures { (n : ℕ) (arrivals : List Arrival) (start : State) → AreCoherent 0 start.core.mie (steps_of (run n arrivals start)) }
 {}
 
 /// Where the instruction behind the first k doesn't stop, a run of one more shows it at its end.
@@ -36,5 +36,5 @@ pub fn a_run_stops()
         → state_after k arrivals start ≡ Some before → moment arrivals k before ≡ Halts stop → run n arrivals start ≡ run k arrivals start }
     ensures stops { (n k : ℕ) (arrivals : List Arrival) (start before : State) (stop : Stop) → k < n
         → state_after k arrivals start ≡ Some before → moment arrivals k before ≡ Halts stop
-        → stop_of n arrivals start ≡ stopping (arrived arrivals k before) (Halts stop) }
+        → stop_of n arrivals start ≡ stopping (state_with_arrivals arrivals k before) (Halts stop) }
 {}

@@ -1,8 +1,8 @@
 //! Where an access goes.
-ghost use Rattle.std.specs.Prelude.{◌≡◌, ◌<◌, ◌*◌, ◌^◌, None, Some, IfOk, IfErr};
+ghost use Rattle.std.specs.Prelude.{◌≡◌, ◌<◌, ◌^◌, None, Some, IfOk, IfErr};
 ghost use Rattle.rv32_instr.specs.Memory.{refusal};
 ghost use Rattle.sloth_base.specs.Arithmetic.{size_of, extended_number};
-ghost use Rattle.rv32_machine.specs.Place.{IsPlace, bare};
+ghost use Rattle.rv32_machine.specs.Place.{IsPlace, bare_memory};
 
 use rv32_instr::Bad;
 use sloth_base::app::Width;
@@ -40,9 +40,9 @@ fn size_of(width: Width) -> u32
 /// Where an access goes on a bus with a controller or without one.
 #[tactic(auto, using(std::proofs::lemmas::Bool::Decides::nat_tests), unfolding(rv32_instr::specs::Memory::refusal))]
 pub fn locate(address: u32, width: Width, controller: bool) -> Result<Place, Bad>
-    ensures accepted { IfOk result (λ place. refusal (bare controller) address width ≡ None) }
+    ensures accepted { IfOk result (λ place. refusal (bare_memory controller) address width ≡ None) }
     ensures ok { IfOk result (λ place. IsPlace controller address width place) }
-    ensures err { IfErr result (λ reason. refusal (bare controller) address width ≡ Some reason) }
+    ensures err { IfErr result (λ reason. refusal (bare_memory controller) address width ≡ Some reason) }
 {
     let size = size_of(width);
     if address % size != 0 {

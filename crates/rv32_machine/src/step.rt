@@ -1,10 +1,10 @@
 //! One step of the machine.
 ghost use Rattle.std.specs.Prelude.{◌≡◌, ◌<◌, ◌+◌, ◌%◌, OnOk, OnErr, IfOk, IfErr, true, false, slice_index};
 ghost use Rattle.std.specs.Option.{ForSome};
-ghost use Rattle.sloth_base.specs.Take.{take, enter, entered, line_to_take};
+ghost use Rattle.sloth_base.specs.Take.{take, entry_state, execution_state, line_to_take};
 ghost use Rattle.rv32_instr.specs.Memory.{in_ram};
 ghost use Rattle.rv32_instr.specs.Ram.{word_at};
-ghost use Rattle.rv32_instr.specs.Execute.{Going, Stopped, step, touched, touched_by, pending_line, word_at_pc};
+ghost use Rattle.rv32_instr.specs.Execute.{Going, Stopped, step, touched, touched_line_by, pending_line, word_at_pc};
 ghost use Rattle.rv32_instr.specs.declared.stop.Stop.TheVariants as stop;
 ghost use Rattle.rv32_machine.specs.Advance.{advance, blank_step, Goes, Halts};
 
@@ -45,9 +45,9 @@ pub fn blank_step() -> Step
 }
 
 /// The line whose pending byte an effect loads, or sets to zero by a store.
-#[tactic(auto, using(std::proofs::lemmas::Bool::Decides::nat_tests), unfolding(rv32_instr::specs::Execute::touched_by))]
+#[tactic(auto, using(std::proofs::lemmas::Bool::Decides::nat_tests), unfolding(rv32_instr::specs::Execute::touched_line_by))]
 fn touched(effect: &Effect) -> Option<Line>
-    ensures is { result ≡ touched_by effect.now }
+    ensures is { result ≡ touched_line_by effect.now }
     ensures in_range { ForSome result (λ line. line < 32) }
 {
     match effect {
@@ -83,7 +83,7 @@ fn pending_line(address: u32) -> Option<Line>
 }
 
 impl<B: Bus> Machine<B> {
-    ghost use Rattle.rv32_machine.specs.State.{state, state_of, pending_again};
+    ghost use Rattle.rv32_machine.specs.State.{state, state_of, pending_memory};
 
     /// One step: at most one line is taken, then one instruction is executed. A stop changes nothing.
     pub fn step(&mut self) -> Result<Step, Stop>
@@ -143,7 +143,7 @@ impl<B: Bus> Machine<B> {
 
     /// The address of the next instruction: a line's vector, where one is to be taken before it.
     pub fn next_pc(&self) -> u32
-        ensures { result ≡ (entered (state B.memory self.now)).pc }
+        ensures { result ≡ (execution_state (state B.memory self.now)).pc }
     {
         self.pc_after(&self.line_to_take())
     }
@@ -151,7 +151,7 @@ impl<B: Bus> Machine<B> {
     /// The address of the next instruction, once this line is taken.
     fn pc_after(&self, line: &Option<Line>) -> u32
         requires { ForSome line.now (λ l. l < 32) }
-        ensures { result ≡ (enter line.now (state B.memory self.now)).pc }
+        ensures { result ≡ (entry_state line.now (state B.memory self.now)).pc }
     {
         match line {
             Some(line) => VECTORS + 4 * u32::from(line.0),
@@ -191,9 +191,9 @@ impl<B: Bus> Machine<B> {
     fn execute_after(&mut self, line: &Option<Line>) -> Result<Option<Line>, Stop>
         requires there { ForSome line.now (λ l. (l < 32) × ((state B.memory self.old).core.controller ≡ true)) }
         requires pending { ForSome line.now (λ l. slice_index (state B.memory self.old).core.pending l ≡ 1) }
-        ensures ok { IfOk result (λ touch. step (enter line.now (state B.memory self.old)) ≡ Going (state B.memory self.new)) }
-        ensures touched { IfOk result (λ touch. touch ≡ touched (enter line.now (state B.memory self.old))) }
-        ensures err { IfErr result (λ stop. step (enter line.now (state B.memory self.old)) ≡ Stopped stop) }
+        ensures ok { IfOk result (λ touch. step (entry_state line.now (state B.memory self.old)) ≡ Going (state B.memory self.new)) }
+        ensures touched { IfOk result (λ touch. touch ≡ touched (entry_state line.now (state B.memory self.old))) }
+        ensures err { IfErr result (λ stop. step (entry_state line.now (state B.memory self.old)) ≡ Stopped stop) }
         ensures same { OnErr result (state B.memory self.new ≡ state B.memory self.old) }
         ensures count { self.new.count ≡ self.old.count }
         ensures in_range { IfOk result (λ touch. ForSome touch (λ l. l < 32)) }
@@ -265,7 +265,7 @@ impl<B: Bus> Machine<B> {
         requires returns_aligned { before.mepc % 4 ≡ 0 }
         requires in_range { line < 32 }
         requires there { (state B.memory self.old).core.controller ≡ true }
-        ensures state { state B.memory self.new ≡ state_of before (pending_again line (B.memory self.old.bus)) }
+        ensures state { state B.memory self.new ≡ state_of before (pending_memory line (B.memory self.old.bus)) }
         ensures count { self.new.count ≡ self.old.count }
     {
         self.hart = before;

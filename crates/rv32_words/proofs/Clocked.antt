@@ -1,19 +1,18 @@
 -- The configuration of the task, its event, the counter and its alarms is in range.
-use Rattle.std.proofs.Common.{◌≡◌, ◌∙◌, ◌<◌, ◌≤◌, ℕ, List, [], ◌∷◌, get_or, refl, sym, ap, inl, arith, rules}
+use Rattle.std.proofs.Common.{◌≡◌, ◌∙◌, ◌<◌, ℕ, List, [], ◌∷◌, get_or, refl, sym, ap, inl, arith, rules}
 use Rattle.std.specs.Prelude.{All, AllPairs, Bool, true, false, map, ◌≢◌}
 use Rattle.std.proofs.lemmas.List.Elements.{All-nil, All-cons}
 use Rattle.std.proofs.lemmas.List.Kept.{AllPairs-cons}
 use Rattle.sloth_base.specs.ConfigRange.{InRange, IsTask, IsCounter, IsAlarm, IsAction}
-use Rattle.sloth_base.specs.ImageRange.{IsName, AreNames}
+use Rattle.sloth_base.specs.ImageRange.{IsName}
 use Rattle.sloth_base.specs.declared.config.Action.{Action}
 use Rattle.sloth_base.specs.declared.config.Action.TheVariants.{Activate, Set}
 use Rattle.sloth_base.specs.declared.config.AlarmDecl.{AlarmDecl}
 use Rattle.sloth_base.specs.declared.config.Config.{Config}
-use Rattle.sloth_base.specs.declared.config.CounterDecl.{CounterDecl}
 use Rattle.sloth_base.specs.declared.config.EventDecl.{EventDecl}
 use Rattle.sloth_base.specs.declared.config.TaskDecl.{TaskDecl}
 use Rattle.prologue_gen.specs.Places.{IsBasic}
-use Rattle.rv32_words.specs.Alone.{main_task, go_event, clock_counter, asleep, clock_alarms}
+use Rattle.rv32_words.specs.Alone.{main_task, go_event, clock_counter, sleeping_alarm, clock_alarms}
 
 abbrev pub clock_config : Config
 clock_config = record {
@@ -54,7 +53,7 @@ apart e = let f : 77 ≡ 67 = ap (λ (l : List ℕ). get_or l 0 0) e in absurd (
 sets : IsAction clock_config (Set 0 1)
 sets = (omega arith, (0, omega arith, refl), refl)
 
-alarm_fits : (name : List ℕ) (does : Action) → IsAction clock_config does → IsAlarm clock_config (asleep name does)
+alarm_fits : (name : List ℕ) (does : Action) → IsAction clock_config does → IsAlarm clock_config (sleeping_alarm name does)
 alarm_fits name does acts = record { counter = omega arith; action = acts; time = omega arith; cycle = inl refl; asleep = λ e. refl }
 
 pub clock_fits : InRange clock_config
@@ -78,10 +77,10 @@ clock_fits = record {
       (one (λ (other : List ℕ). other ≢ clock_name) main_name apart);
   counters = one IsCounter _ (search rules);
   alarms =
-      All-cons (IsAlarm clock_config) (asleep (65 ∷ []) (Activate 0)) (asleep (66 ∷ []) (Set 0 1) ∷ asleep (67 ∷ []) (Set 0 1) ∷ [])
+      All-cons (IsAlarm clock_config) (sleeping_alarm (65 ∷ []) (Activate 0)) (sleeping_alarm (66 ∷ []) (Set 0 1) ∷ sleeping_alarm (67 ∷ []) (Set 0 1) ∷ [])
       (alarm_fits (65 ∷ []) (Activate 0) (omega arith))
-      (All-cons (IsAlarm clock_config) (asleep (66 ∷ []) (Set 0 1)) (asleep (67 ∷ []) (Set 0 1) ∷ []) (alarm_fits (66 ∷ []) (Set 0 1) sets)
-      (one (IsAlarm clock_config) (asleep (67 ∷ []) (Set 0 1)) (alarm_fits (67 ∷ []) (Set 0 1) sets)));
+      (All-cons (IsAlarm clock_config) (sleeping_alarm (66 ∷ []) (Set 0 1)) (sleeping_alarm (67 ∷ []) (Set 0 1) ∷ []) (alarm_fits (66 ∷ []) (Set 0 1) sets)
+      (one (IsAlarm clock_config) (sleeping_alarm (67 ∷ []) (Set 0 1)) (alarm_fits (67 ∷ []) (Set 0 1) sets)));
 }
 
 -- whether the task is basic

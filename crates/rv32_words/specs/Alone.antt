@@ -29,12 +29,12 @@ abbrev pub clock_counter : CounterDecl
 clock_counter = record { name = codes "Clock"; max = 1000000; min_cycle = 6144 }
 
 -- an alarm of the counter that does not start by itself
-abbrev pub asleep : List ℕ → Action → AlarmDecl
-asleep name action = record { name = name; counter = 0; action = action; time = 0; cycle = 0 }
+abbrev pub sleeping_alarm : List ℕ → Action → AlarmDecl
+sleeping_alarm name action = record { name = name; counter = 0; action = action; time = 0; cycle = 0 }
 
 -- the counter's alarms
 abbrev pub clock_alarms : List AlarmDecl
-clock_alarms = asleep (codes "A") (Activate 0) ∷ asleep (codes "B") (Set 0 1) ∷ asleep (codes "C") (Set 0 1) ∷ []
+clock_alarms = sleeping_alarm (codes "A") (Activate 0) ∷ sleeping_alarm (codes "B") (Set 0 1) ∷ sleeping_alarm (codes "C") (Set 0 1) ∷ []
 
 -- without resources, counters and alarms
 abbrev pub alone : List TaskDecl → List EventDecl → Config

@@ -1,9 +1,9 @@
 //! Configurations of one task, its levels and its task code, and the map of its kernel.
 ghost use Rattle.std.specs.Prelude.{◌≡◌, ◌↔◌, ◌<◌, ◌≤◌, ℕ, All, IfOk, false, length, slice_index, ◌∷◌, []};
 ghost use Rattle.sloth_base.specs.ConfigRange.{InRange};
-ghost use Rattle.code_lengths.specs.Bodies.{IsBody};
-ghost use Rattle.prologue_gen.specs.Places.{IsBasic, IsTop};
-ghost use Rattle.rv32_words.specs.Alone.{alone, main_task, go_event, clock_counter, asleep, clock_alarms};
+ghost use Rattle.code_lengths.specs.Bodies.{IsBodyPlace};
+ghost use Rattle.prologue_gen.specs.Places.{IsBasic, IsStackTop};
+ghost use Rattle.rv32_words.specs.Alone.{alone, main_task, go_event, clock_counter, sleeping_alarm, clock_alarms};
 ghost use Rattle.vector_gen.specs.Vectors.{AreInReach};
 
 use sloth_base::app::{App, Func};
@@ -123,7 +123,7 @@ fn alarms(alloc: Global) -> Result<Vec<AlarmDecl>, NoMemory>
 // An alarm of the counter, which doesn't start by itself.
 fn alarm(alloc: Global, name: &[u8], action: Action) -> Result<AlarmDecl, NoMemory>
     requires { (1 ≤ length name.now) × (length name.now ≤ 64) }
-    ensures { IfOk result (λ alarm. alarm ≡ asleep name.now action) }
+    ensures { IfOk result (λ alarm. alarm ≡ sleeping_alarm name.now action) }
 {
     Ok(AlarmDecl {
         name: Name::new(alloc, name)?,
@@ -151,7 +151,7 @@ fn alone(alloc: Global, tasks: Vec<TaskDecl>, events: Vec<EventDecl>) -> Config
 /// Its body, with a frame of so many words.
 pub fn app(alloc: Global, frame_words: u32) -> Result<App, NoMemory>
     requires { frame_words ≤ 32 }
-    ensures body { IfOk result (λ app. IsBody app.funcs 0 0) }
+    ensures body { IfOk result (λ app. IsBodyPlace app.funcs 0 0) }
     ensures frames { IfOk result (λ app. All (λ func. func.frame_words ≤ 32) app.funcs) }
     ensures one { IfOk result (λ app. length app.funcs ≡ 1) }
 {
@@ -190,7 +190,7 @@ pub fn levels() -> Levels
 /// Where all stands: the task's prologue and stack, and the first item of its body.
 pub fn map(alloc: Global) -> Result<Map, NoMemory>
     ensures reach { IfOk result (λ map. AreInReach map.handlers) }
-    ensures tops { IfOk result (λ map. (length map.tops ≡ 1) × All IsTop map.tops) }
+    ensures tops { IfOk result (λ map. (length map.tops ≡ 1) × All IsStackTop map.tops) }
     ensures items { IfOk result (λ map. (length map.places.first ≡ 1) × All (λ i. i < length map.places.items) map.places.first) }
 {
     let words = Extent {

@@ -6,7 +6,7 @@ ghost use Rattle.std.specs.Prelude.{ℕ, ◌≡◌, ◌<◌, ◌≤◌, All, len
 ghost use Rattle.alarm_gen.specs.Block.{HasAlarmBlock};
 ghost use Rattle.event_gen.specs.Block.{HasEventBlock as HasEventBlock};
 ghost use Rattle.sloth_base.specs.ConfigRange.{InRange};
-ghost use Rattle.prologue_gen.specs.Places.{IsTop};
+ghost use Rattle.prologue_gen.specs.Places.{IsStackTop};
 ghost use Rattle.service_gen.specs.Block.{HasBlock};
 ghost use Rattle.vector_gen.specs.Vectors.{AreInReach};
 
@@ -26,12 +26,16 @@ use sloth_base::service::Service;
 use sloth_region::map::Map;
 use vector_gen::{boot, idle, vectors};
 
-// The vector words and the idle loop.
-fn list_loops(rt: &(impl Print + AllocGlobal), map: &Map) -> anyhow::Result<()>
+// The vector words.
+fn list_vectors(rt: &(impl Print + AllocGlobal), map: &Map) -> anyhow::Result<()>
     requires { AreInReach map.now.handlers }
 {
     let words = vectors(rt.alloc(), map)?;
-    list(rt, "vectors", &words)?;
+    list(rt, "vectors", &words)
+}
+
+// The idle loop.
+fn list_idle(rt: &(impl Print + AllocGlobal), map: &Map) -> anyhow::Result<()> {
     let word = idle(rt.alloc(), map)?;
     list(rt, "idle", &word)
 }
@@ -112,7 +116,7 @@ fn list_prologue(
 ) -> anyhow::Result<()>
     requires frame { frame_words ≤ 32 }
     requires levels { (levels.now.top < 32) × ((t : ℕ) → slice_index levels.now.task t < 32) }
-    requires tops { (length map.now.tops ≡ 1) × All IsTop map.now.tops }
+    requires tops { (length map.now.tops ≡ 1) × All IsStackTop map.now.tops }
     requires items { (length map.now.places.first ≡ 1) × All (λ i. i < length map.now.places.items) map.now.places.first }
 {
     let alloc = rt.alloc();
@@ -137,7 +141,7 @@ fn list_service(
     list(rt, "service", &code)
 }
 
-// The blocks of the services that need no events: those on a task for the tasks 0 and 29, GetResource's for the resources 1 and 32,
+// The blocks of the services on tasks and resources: those on a task for the tasks 0 and 29, GetResource's for the resources 1 and 32,
 // ReleaseResource's for 0 and 32, the others once, of them Schedule's with its way back.
 fn list_services(
     rt: &(impl Print + AllocGlobal),
@@ -194,7 +198,7 @@ fn list_event_services(
 // where it isn't, of 0 words and of 32.
 fn list_entries(rt: &(impl Print + AllocGlobal), levels: &Levels, map: &Map) -> anyhow::Result<()>
     requires levels { (levels.now.top < 32) × ((t : ℕ) → slice_index levels.now.task t < 32) }
-    requires tops { (length map.now.tops ≡ 1) × All IsTop map.now.tops }
+    requires tops { (length map.now.tops ≡ 1) × All IsStackTop map.now.tops }
     requires items { (length map.now.places.first ≡ 1) × All (λ i. i < length map.now.places.items) map.now.places.first }
 {
     list_boot(rt, true, levels, map)?;
@@ -213,7 +217,8 @@ fn list_entries(rt: &(impl Print + AllocGlobal), levels: &Levels, map: &Map) -> 
 fn list_kernel(rt: &(impl Print + AllocGlobal)) -> anyhow::Result<()> {
     let levels = levels();
     let map = map(rt.alloc())?;
-    list_loops(rt, &map)?;
+    list_vectors(rt, &map)?;
+    list_idle(rt, &map)?;
     list_entries(rt, &levels, &map)?;
     let config = config(rt.alloc(), false, false, false)?;
     list_services(rt, &config, &levels, &map)?;

@@ -8,7 +8,7 @@ use Rattle.app_gen.specs.Oil.{oil_text, event_object, resource_object, schedule_
 use Rattle.app_gen.specs.Pieces.{number_behind}
 use Rattle.oil_lex.specs.Bytes.{class_of, is_word_byte, is_digit, is_hex_digit, is_quoted, is_not_lf}
 use Rattle.oil_lex.specs.Front.{front_piece, comment_length, comment_piece, text_piece, slash_piece, number_piece, piece_by}
-use Rattle.oil_lex.specs.Pieces.{Piece, Cut}
+use Rattle.oil_lex.specs.Pieces.{Piece, IsCutInto}
 use Rattle.oil_lex.specs.Tokens.{Lexeme, AreTokens, tokens_of}
 use Rattle.oil_lex.proofs.Fronts.{front_stands}
 use Rattle.oil_lex.proofs.Cuts.{tokens_one}
@@ -16,7 +16,7 @@ use Rattle.oil_parse.specs.declared.tree.OilObject.{OilObject}
 use Rattle.oil_parse.specs.declared.tree.OilTree.{OilTree}
 use Rattle.oil_parse.specs.declared.machine.Expect.TheVariants.{Start}
 use Rattle.oil_parse.specs.Grammar.{IsFile}
-use Rattle.oil_parse.specs.Machine.{nothing_built, next, built_after, Built}
+use Rattle.oil_parse.specs.Machine.{nothing_built, next, partial_tree_after, PartialTree}
 use Rattle.oil_parse.specs.Shapes.{key_of, sign_of, shape_by}
 use Rattle.oil_parse.proofs.Steps.{build}
 use Rattle.oil_parse.proofs.Complete.{file_takes}
@@ -33,7 +33,7 @@ pieces [] (b ∷ bs) = []
 pieces (f ∷ fuel) (b ∷ bs) = let k = front_piece (b ∷ bs) in record { kind = k.0; bytes = take k.1 (b ∷ bs) } ∷ pieces fuel (drop k.1 (b ∷ bs))
 
 -- they are the whole text
-pieces-cut : (fuel t : List ℕ) → length t ≤ length fuel → Cut t (pieces fuel t)
+pieces-cut : (fuel t : List ℕ) → length t ≤ length fuel → IsCutInto t (pieces fuel t)
 unfolding pieces
 pieces-cut fuel [] le = refl
 pieces-cut [] (b ∷ bs) le = absurd (omega (arith, le))
@@ -59,11 +59,11 @@ same-objects : (t : List ℕ) (ts : List Lexeme) (tree : OilTree) → AreTokens 
 same-objects t ts tree are is =
     let own : AreTokens t (tokens_in t) = (pieces t t, pieces-cut t t (omega arith), refl) in
     let taken = file_takes is nothing_built in
-    sym taken.3 ∙ ap (λ (b : Built). b.objects) (sym taken.1.builds) ∙ ap objects_of (tokens_one t ts (tokens_in t) are own)
+    sym taken.3 ∙ ap (λ (b : PartialTree). b.objects) (sym taken.1.builds) ∙ ap objects_of (tokens_one t ts (tokens_in t) are own)
 
 -- 30 of the objects of the generated text are tasks
 thirty-objects : length (filter (is_of_kind (codes "TASK")) (objects_of (tokens_in (oil_text 30)))) ≡ 30
-unfolding pieces oil_text event_object resource_object schedule_of autostart_of event_attribute task_object number_behind digits class_of is_word_byte is_digit is_hex_digit is_quoted is_not_lf comment_length comment_piece text_piece slash_piece number_piece piece_by next built_after key_of sign_of shape_by
+unfolding pieces oil_text event_object resource_object schedule_of autostart_of event_attribute task_object number_behind digits class_of is_word_byte is_digit is_hex_digit is_quoted is_not_lf comment_length comment_piece text_piece slash_piece number_piece piece_by next partial_tree_after key_of sign_of shape_by
 thirty-objects = refl
 
 pub thirty-tasks : (config : Config) → OilText (oil_text 30) config → length config.tasks ≡ 30
@@ -78,7 +78,7 @@ thirty-tasks config h =
 
 -- none of them is a counter
 no-objects : length (filter (is_of_kind (codes "COUNTER")) (objects_of (tokens_in (oil_text 30)))) ≡ 0
-unfolding pieces oil_text event_object resource_object schedule_of autostart_of event_attribute task_object number_behind digits class_of is_word_byte is_digit is_hex_digit is_quoted is_not_lf comment_length comment_piece text_piece slash_piece number_piece piece_by next built_after key_of sign_of shape_by
+unfolding pieces oil_text event_object resource_object schedule_of autostart_of event_attribute task_object number_behind digits class_of is_word_byte is_digit is_hex_digit is_quoted is_not_lf comment_length comment_piece text_piece slash_piece number_piece piece_by next partial_tree_after key_of sign_of shape_by
 no-objects = refl
 
 pub no-counters : (config : Config) → OilText (oil_text 30) config → length config.counters ≡ 0

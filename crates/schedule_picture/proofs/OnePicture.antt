@@ -5,7 +5,7 @@ use Rattle.sloth_base.specs.declared.image.Image.{Image}
 use Rattle.sloth_base.specs.Machine.{State}
 use Rattle.sloth_runner.specs.Sight.{task_levels}
 use Rattle.run_samples.specs.declared.sampling.Sample.{Sample}
-use Rattle.run_samples.specs.Samples.{AreLevels}
+use Rattle.run_samples.specs.Samples.{AreSampledLevels}
 use Rattle.run_samples.proofs.OneSample.{one-samples}
 use Rattle.lane_drawing.specs.declared.bars.Bar.{Bar}
 use Rattle.lane_drawing.specs.declared.scale.Scale.{Scale}
@@ -18,7 +18,7 @@ use Rattle.schedule_picture.specs.Looks.{look_at}
 use Rattle.schedule_picture.specs.Picture.{Drawing, IsPictureOf, scale_of, tasks_above, task_lane, task_lanes, picture_text}
 
 -- the levels of a count
-one_levels : (image : Image) (A : List Arrival) (k : ℕ) (xs ys : List ℕ) → AreLevels image A k xs → AreLevels image A k ys → xs ≡ ys
+one_levels : (image : Image) (A : List Arrival) (k : ℕ) (xs ys : List ℕ) → AreSampledLevels image A k xs → AreSampledLevels image A k ys → xs ≡ ys
 one_levels image A k xs ys h i =
     let found : Some h.state ≡ Some i.state = sym h.after ∙ i.after in
     let state : h.state ≡ i.state = cc in

@@ -14,7 +14,7 @@ use Rattle.sloth_runner.specs.declared.runner.Halt.{Halt}
 use Rattle.sloth_runner.specs.declared.runner.RunEnd.TheVariants as ends
 use Rattle.run_samples.specs.declared.sampling.Sample.{Sample}
 use Rattle.run_samples.specs.declared.sampling.Sampler.{Sampler}
-use Rattle.run_samples.specs.Samples.{AreLevels, IsSample, IsSampling, StopsAt, sampled_image, sampled_arrivals, sampled_count}
+use Rattle.run_samples.specs.Samples.{AreSampledLevels, IsSample, IsSampling, StopsAt, sampled_image, sampled_arrivals, sampled_count}
 use Rattle.run_samples.proofs.OneSample.{samples-more}
 use Rattle.lane_drawing.specs.declared.bars.Bar.{Bar}
 use Rattle.lane_drawing.specs.declared.bars.Look.{Look}
@@ -149,13 +149,13 @@ module _ (image : Image) (A : List Arrival) where
       subst (λ k. E k A) (h.count ∙ counted) (subst (E (sampled_count s)) h.arrivals_are whole)
 
   pub picture_of : (from to : ℕ) (s : Sampler) (strips : List Lane) (levels : List ℕ) (scale : Scale) (text : List ℕ) → HasBars image A from to s strips
-      → AreLevels (sampled_image s) (sampled_arrivals s) (sampled_count s) levels → scale ≡ scale_of image from to
+      → AreSampledLevels (sampled_image s) (sampled_arrivals s) (sampled_count s) levels → scale ≡ scale_of image from to
       → text ≡ picture_text (record { image = image; arrivals = A; levels = levels; scale = scale; bars = λ lane. (get_or strips lane empty_lane).bars })
       → IsPictureOf image A from to text
   picture_of from to s strips levels scale text h are at is =
-      let L : Image → Type 0 = λ i. AreLevels i (sampled_arrivals s) (sampled_count s) levels in
-      let M : List Arrival → Type 0 = λ B. AreLevels image B (sampled_count s) levels in
-      let N : ℕ → Type 0 = λ n. AreLevels image A n levels in
+      let L : Image → Type 0 = λ i. AreSampledLevels i (sampled_arrivals s) (sampled_count s) levels in
+      let M : List Arrival → Type 0 = λ B. AreSampledLevels image B (sampled_count s) levels in
+      let N : ℕ → Type 0 = λ n. AreSampledLevels image A n levels in
       let D : Scale → List ℕ = λ x. picture_text (record { image = image; arrivals = A; levels = levels; scale = x; bars = λ lane. (get_or strips lane empty_lane).bars }) in
       record {
         whole = whole_run to h.samples s h.given h.counted;

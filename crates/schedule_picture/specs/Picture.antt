@@ -6,14 +6,14 @@ use Rattle.sloth_base.specs.declared.image.Image.{Image}
 use Rattle.sloth_runner.specs.declared.runner.RunEnd.TheVariants as ends
 use Rattle.sloth_runner.specs.Runner.{run_end}
 use Rattle.run_samples.specs.declared.sampling.Sample.{Sample}
-use Rattle.run_samples.specs.Samples.{AreLevels, AreSamples}
+use Rattle.run_samples.specs.Samples.{AreSampledLevels, AreSamples}
 use Rattle.lane_drawing.specs.declared.bars.Bar.{Bar}
 use Rattle.schedule_picture.specs.declared.picture.Picture.{Picture}
 use Rattle.schedule_picture.specs.declared.picture.Picture.TheVariants as picture
 use Rattle.lane_drawing.specs.Bars.{AreBars}
 use Rattle.schedule_picture.specs.Looks.{look_at}
 use Rattle.lane_drawing.specs.declared.scale.Scale.{Scale}
-use Rattle.lane_drawing.specs.Drawing.{left_of, head_line, style_lines, axis_lines, lane_text, lane_line, bar_line, row_middle, is_above, shown_arrivals, legend_lines}
+use Rattle.lane_drawing.specs.Drawing.{left_margin, head_line, style_lines, axis_lines, lane_text, lane_line, bar_line, row_middle, is_above, shown_arrivals, legend_lines}
 
 -- the length of the longest of the first names, so many of them, and at least that of `kernel`
 unfoldable pub longest_of : List (List ℕ) → ℕ → ℕ
@@ -22,7 +22,7 @@ longest_of names (suc k) = max (longest_of names k) (length (get_or names k []))
 
 -- where the counts of a picture stand
 abbrev pub scale_of : Image → (from to : ℕ) → Scale
-scale_of image from to = record { left = left_of (longest_of image.tasks (length image.tasks)); from = from; to = to }
+scale_of image from to = record { left = left_margin (longest_of image.tasks (length image.tasks)); from = from; to = to }
 
 -- how many of the first tasks, so many of them, stand above a task
 unfoldable pub tasks_above : (levels : List ℕ) (task : ℕ) → ℕ → ℕ
@@ -67,7 +67,7 @@ pub record IsPictureOf (image : Image) (arrivals : List Arrival) (from to : ℕ)
   pub counted : length samples ≡ to
   pub are_samples : AreSamples image arrivals 0 samples
   pub levels : List ℕ
-  pub are_levels : AreLevels image arrivals to levels
+  pub are_levels : AreSampledLevels image arrivals to levels
   pub bars : (lane : ℕ) → List Bar
   pub are_bars : (lane : ℕ) → lane ≤ length image.tasks → AreBars (look_at (length image.tasks) samples lane) from to (bars lane)
   pub is : text ≡ picture_text (record { image = image; arrivals = arrivals; levels = levels; scale = scale_of image from to; bars = bars })

@@ -18,10 +18,7 @@ pub fn empty_strips(alloc: Global, tasks: usize, from: u32) -> Result<Vec<Strip>
 {
     let mut strips = Vec::new(alloc);
     for _ in 0..tasks + 1 {
-        match strips.push(Strip::new(alloc, from)) {
-            Ok(()) => {}
-            Err(_) => return Err(NoMemory),
-        }
+        strips.push(Strip::new(alloc, from)).map_err(|_| NoMemory)?;
     }
     Ok(strips)
 }

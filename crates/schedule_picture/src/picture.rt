@@ -1,12 +1,10 @@
 //! The picture of a part of a run.
-ghost use Rattle.std.specs.Prelude.{ℕ, ◌≡◌, ◌≤◌, ◌<◌, ◌+◌, IfOk, IfErr, IfSome, IfNone, OnOk, All, length, get_or};
+ghost use Rattle.std.specs.Prelude.{ℕ, ◌≡◌, ◌≤◌, ◌<◌, ◌+◌, IfOk, IfErr, IfSome, IfNone, OnOk, length, get_or};
 ghost use Rattle.sloth_base.specs.ImageRange.{InFormat};
 ghost use Rattle.sloth_base.specs.Arrivals.{AreArrivals};
 ghost use Rattle.sloth_base.specs.Owners.{owners_named};
 ghost use Rattle.run_samples.specs.Samples.{IsSampling, sampled_image, sampled_arrivals, sampled_count};
-ghost use Rattle.lane_drawing.specs.Bars.{AreBars};
 ghost use Rattle.lane_drawing.specs.Strips.{IsFresh, empty_lane};
-ghost use Rattle.schedule_picture.specs.Looks.{look_at};
 ghost use Rattle.schedule_picture.specs.Samples.{HasGivenFirst, HasBars, StopsBefore};
 ghost use Rattle.schedule_picture.specs.Picture.{IsPicture, IsPictureOf};
 

@@ -14,7 +14,7 @@ use Rattle.osek_valid.proofs.Facts.{Facts, facts}
 use Rattle.task_verify.specs.Ways.{LeadsToLabels}
 use Rattle.task_verify.specs.Labels.{ArePlaced}
 use Rattle.task_verify.proofs.Tests.{leads}
-use Rattle.section_sizes.specs.Graph.{Has, ways_of, AreInside}
+use Rattle.section_sizes.specs.Graph.{HasMark, ways_of, AreInside}
 use Rattle.section_sizes.specs.CallOrder.{IsCallOrder}
 use Rattle.section_sizes.specs.Parts.{ReachesItem, Returns}
 use Rattle.section_sizes.specs.Computed.{returns_of, is_return, item_ways}
@@ -47,7 +47,7 @@ module _ (config : Config) (app : App) (w : WellFormed config app) where
   is_ret _ e = absurd (false≢true e)
 
   -- a reached `ret` is found
-  pub returns_is : (f : ℕ) → f < length app.funcs → (marks : List Bool) → ((i : ℕ) → Has marks i ↔ ReachesItem app f i)
+  pub returns_is : (f : ℕ) → f < length app.funcs → (marks : List Bool) → ((i : ℕ) → HasMark marks i ↔ ReachesItem app f i)
       → Decides (returns_of (function app f) marks) (Returns app f)
   returns_is f known marks m = (sound, complete)
     where
@@ -108,7 +108,7 @@ knows_all app order o known returns each f g calls = each g (known f g calls)
 pub record Linked (func : Func) (returns onward all : List Bool) (ways : List Ways) : Type 0 where
   pub onward_is : (i : ℕ) → i < length func.items → get_or onward i false ≡ not (chains_itself func (item_of func i).op)
   pub all_count : length all ≡ length func.items
-  pub all_is : (i : ℕ) → i < length func.items → Has all i
+  pub all_is : (i : ℕ) → i < length func.items → HasMark all i
   pub ways_count : length ways ≡ length func.items
   pub ways_are : (i : ℕ) → i < length func.items → ways_of ways i ≡ item_ways func returns onward all i
 
@@ -127,7 +127,7 @@ module _ (config : Config) (app : App) (well : WellFormed config app) (f : ℕ) 
   some_items = subst (λ g. 0 < length g.items) (sym is_func) ((facts_of config app well).has_items f there)
 
   pub walked_items : (returns onward all : List Bool) (ways : List Ways) → KnowsReturns app f returns → Linked func returns onward all ways
-      → (marks : List Bool) → ((i : ℕ) → Has marks i ↔ IsReachable ways i) → (i : ℕ) → Has marks i ↔ ReachesItem app f i
+      → (marks : List Bool) → ((i : ℕ) → HasMark marks i ↔ IsReachable ways i) → (i : ℕ) → HasMark marks i ↔ ReachesItem app f i
   walked_items returns onward all ways knows linked marks m =
       let l = subst (λ g. Linked g returns onward all ways) is_func linked in
       walked config app (facts_of config app well) f there returns onward all ways l.ways_count l.ways_are knows l.onward_is l.all_is marks m

@@ -11,7 +11,7 @@ use Rattle.code_rules.specs.Code.{IsItem}
 use Rattle.osek_valid.specs.Apart.{static_priority}
 use Rattle.raised_sections.specs.Walks.{Position, place, GoesOnInside, LeadsTo, WalksOn, AreConsecutive, chains_itself}
 use Rattle.raised_sections.specs.Sections.{priority_at, operation_at, is_schedule, is_counted, OnlyLastSchedules, IsSection, size_of_section}
-use Rattle.section_sizes.specs.Parts.{is_raised, called_level, is_plain, count_of, StepsInside, ReachesItem, reaches_first, reaches_inside, reaches_behind, Passes, Enters, Back, On, back_returns, back_inside, back_passes, on_ends, on_inside, on_enters, on_passes, ReachesCall, level_behind, Out, Within, out_here, out_behind, within_here, within_called, within_behind}
+use Rattle.section_sizes.specs.Parts.{is_raised, called_level, is_plain, count_of, StepsInside, ReachesItem, reaches_first, reaches_inside, reaches_behind, Passes, EntersRaised, CountsBack, CountsOn, back_returns, back_inside, back_passes, on_ends, on_inside, on_enters, on_passes, ReachesCall, level_behind, CountsOut, CountsWithin, out_here, out_behind, within_here, within_called, within_behind}
 use Rattle.raised_sections.proofs.Reached.{IsReached, walk_on, reached_next, reached_first}
 use Rattle.section_sizes.proofs.Decomposed.{L, level_raised, level_called}
 
@@ -126,7 +126,7 @@ module _ (config : Config) (app : App) (h t : ℕ) where
       (step_inside app f i j outer p.step) part
 
   -- a call in front of one
-  call_front : (l : Option ℕ) (f i g n : ℕ) (outer to : Position) → Level outer ≡ l → Enters config app l f i g → Part (place g 0 ∷ place f i ∷ outer) n to
+  call_front : (l : Option ℕ) (f i g n : ℕ) (outer to : Position) → Level outer ≡ l → EntersRaised config app l f i g → Part (place g 0 ∷ place f i ∷ outer) n to
       → Part (place f i ∷ outer) (1 + n) to
   call_front l f i g n outer to is e part =
       subst (λ v. Part (place f i ∷ outer) (v + n) to) (one f i (op.Invoke g) e.item refl)
@@ -145,7 +145,7 @@ module _ (config : Config) (app : App) (h t : ℕ) where
   after_ret f i g q n k outer from to ret part next =
       joined from (place g q ∷ place f i ∷ outer) (place f (i + 1) ∷ outer) to n k (not_schedule g q op.Return ret refl) (op.Return, ret, refl) part next
 
-  back_part : (l : Option ℕ) (f i n : ℕ) (outer : Position) → Level outer ≡ l → Back config app l f i n → Returned f i n outer
+  back_part : (l : Option ℕ) (f i n : ℕ) (outer : Position) → Level outer ≡ l → CountsBack config app l f i n → Returned f i n outer
   back_part l f i n outer is (back_returns d g k ret u) =
       record {
         item = k;
@@ -170,7 +170,7 @@ module _ (config : Config) (app : App) (h t : ℕ) where
     to : Position
     part : Part at n to
 
-  on_part : (l : Option ℕ) (f i n : ℕ) (outer : Position) → Level outer ≡ l → On config app l f i n → Ended (place f i ∷ outer) n
+  on_part : (l : Option ℕ) (f i n : ℕ) (outer : Position) → Level outer ≡ l → CountsOn config app l f i n → Ended (place f i ∷ outer) n
   on_part l f i n outer is (on_ends d g k item u) = record { to = place g k ∷ outer; part = ends (place g k ∷ outer) (up_raised d g k outer is u) }
   on_part l f i n outer is (on_inside d g k j size p further) =
       let r = on_part d g j size outer is further in
@@ -205,7 +205,7 @@ module _ (config : Config) (app : App) (h t : ℕ) where
   called_is l f i outer is = level_called config app h t f i outer ∙ ap (λ b. level_behind config app b f i) is
 
   out_part : (l : Option ℕ) (f n : ℕ) (outer : Position) → Level outer ≡ l → IsReached app t (place f 0 ∷ outer)
-      → Out config app l f n → Left f n outer
+      → CountsOut config app l f n → Left f n outer
   out_part l f n outer is from (out_here d g k size r b) =
       let p = back_part d g k size outer is b in
       record { at = place g k ∷ outer; reached = walk_inside g k outer r from; item = p.item; is = p.is; part = p.part }
@@ -227,7 +227,7 @@ module _ (config : Config) (app : App) (h t : ℕ) where
     part : Part at n to
 
   within_part : (l : Option ℕ) (f n : ℕ) (outer : Position) → Level outer ≡ l → IsReached app t (place f 0 ∷ outer)
-      → Within config app l f n → Found n
+      → CountsWithin config app l f n → Found n
   within_part l f n outer is from (within_here d g k size r b) =
       let p = on_part d g k size outer is b in
       record { at = place g k ∷ outer; to = p.to; reached = walk_inside g k outer r from; part = p.part }
@@ -244,7 +244,7 @@ module _ (config : Config) (app : App) (h t : ℕ) where
       }
 
   -- what is within the task's body is a section of it
-  pub section_within : (n : ℕ) → Within config app (Level []) (body_of app.funcs t) n
+  pub section_within : (n : ℕ) → CountsWithin config app (Level []) (body_of app.funcs t) n
       → (positions : List Position) × IsSection config app h t positions × (size_of_section app positions ≡ n)
   section_within n w =
       let f = within_part (Level []) (body_of app.funcs t) n [] refl (reached_first app t) w in

@@ -10,15 +10,15 @@ use Rattle.sloth_base.specs.declared.app.Op.{Op}
 use Rattle.sloth_base.specs.declared.app.Op.TheVariants as op
 use Rattle.sloth_base.specs.Named.{function, operation, body_of, declaration}
 use Rattle.code_rules.specs.Code.{IsItem, GoesOn}
-use Rattle.code_rules.specs.WellFormed.{held_before}
+use Rattle.code_rules.specs.WellFormed.{held_list_before}
 use Rattle.osek_scheduler.specs.Priority.{greatest, ceiling, highest_priority}
 use Rattle.osek_valid.specs.Apart.{static_priority}
 use Rattle.osek_valid.proofs.Facts.{Facts}
 use Rattle.osek_valid.proofs.Stacks.{has_body}
 use Rattle.section_sizes.proofs.Reaching.{called_known, reached_inside}
 use Rattle.raised_sections.specs.Walks.{Place, Position, place, GoesBack, GoesOnInside, LeadsTo, WalksOn, AreConsecutive, IsWalk, chains_itself}
-use Rattle.raised_sections.specs.Sections.{held_along, priority_at, operation_at, is_schedule, is_counted, OnlyLastSchedules, IsSection, size_of_section}
-use Rattle.section_sizes.specs.Parts.{ceiling_before, reaches_level, is_raised, called_level, is_plain, count_of, StepsInside, ReachesItem, reaches_first, reaches_inside, reaches_behind, Passes, Enters, Back, On, back_returns, back_inside, back_passes, on_ends, on_inside, on_enters, on_passes, ReachesCall, level_behind, Out, Within, out_here, out_behind, within_here, within_called, within_behind}
+use Rattle.raised_sections.specs.Sections.{held_list_along, priority_at, operation_at, is_schedule, is_counted, OnlyLastSchedules, IsSection, size_of_section}
+use Rattle.section_sizes.specs.Parts.{ceiling_before, reaches_level, is_raised, called_level, is_plain, count_of, StepsInside, ReachesItem, reaches_first, reaches_inside, reaches_behind, Passes, EntersRaised, CountsBack, CountsOn, back_returns, back_inside, back_passes, on_ends, on_inside, on_enters, on_passes, ReachesCall, level_behind, CountsOut, CountsWithin, out_here, out_behind, within_here, within_called, within_behind}
 
 -- ---- priorities
 
@@ -75,9 +75,9 @@ pub raised_at_is : (config : Config) (app : App) (h t f i : ℕ) (outer : Positi
     → raised_at config app h t (place f i ∷ outer) ≡ (raised_at config app h t outer || leb (static_priority config h) (ceiling_before config app f i))
 raised_at_is config app h t f i outer =
     let new = ceiling_before config app f i in
-    let old = greatest (map (ceiling config) (held_along app outer)) in
-    let e = ap greatest (map-append (ceiling config) (held_along app outer) (held_before app f i)) ∙ greatest-append (map (ceiling config) (held_along app outer)) (map (ceiling config) (held_before app f i)) in
-    let same : priority_at config app t (place f i ∷ outer) ≡ max (priority_at config app t outer) new = grouped (static_priority config t) (greatest (map (ceiling config) (held_along app outer ++ held_before app f i))) old new (cond (declaration config t).non (highest_priority config) 0) e in
+    let old = greatest (map (ceiling config) (held_list_along app outer)) in
+    let e = ap greatest (map-append (ceiling config) (held_list_along app outer) (held_list_before app f i)) ∙ greatest-append (map (ceiling config) (held_list_along app outer)) (map (ceiling config) (held_list_before app f i)) in
+    let same : priority_at config app t (place f i ∷ outer) ≡ max (priority_at config app t outer) new = grouped (static_priority config t) (greatest (map (ceiling config) (held_list_along app outer ++ held_list_before app f i))) old new (cond (declaration config t).non (highest_priority config) 0) e in
     ap (leb (static_priority config h)) same ∙ leb-max (static_priority config h) (priority_at config app t outer) new
   where
     grouped : (d all old new r : ℕ) → all ≡ max old new → max d (max all r) ≡ max (max d (max old r)) new
@@ -122,16 +122,16 @@ module _ (config : Config) (app : App) (h t : ℕ) where
 
   -- positions that count n begin at item i of function f, over these callers: they stay in its activation, or leave it and go on in the caller's
   abbrev Spreads : (f i : ℕ) (outer : Position) (n : ℕ) → Type 0
-  Spreads f i [] n = On config app (L []) f i n
+  Spreads f i [] n = CountsOn config app (L []) f i n
   Spreads f i (caller ∷ outer) n =
-      On config app (L (caller ∷ outer)) f i n
-      ⊎ ((k : ℕ) × (m : ℕ) × Back config app (L (caller ∷ outer)) f i k × Spreads caller.func (caller.item + 1) outer m × (n ≡ k + m))
+      CountsOn config app (L (caller ∷ outer)) f i n
+      ⊎ ((k : ℕ) × (m : ℕ) × CountsBack config app (L (caller ∷ outer)) f i k × Spreads caller.func (caller.item + 1) outer m × (n ≡ k + m))
 
   abbrev SpreadsAt : Position → ℕ → Type 0
   SpreadsAt [] n = ⊥
   SpreadsAt (here ∷ outer) n = Spreads here.func here.item outer n
 
-  stays : (f i n : ℕ) (outer : Position) → On config app (L outer) f i n → Spreads f i outer n
+  stays : (f i n : ℕ) (outer : Position) → CountsOn config app (L outer) f i n → Spreads f i outer n
   stays f i n [] on = on
   stays f i n (caller ∷ outer) on = inl on
 
@@ -147,17 +147,17 @@ module _ (config : Config) (app : App) (h t : ℕ) where
       inr (count_of app f i + s.0, s.1, back_inside (L (caller ∷ outer)) f i j s.0 p s.2, s.3, omega (arith, e))
 
   -- a call in front
-  call_front : (f i g n : ℕ) (outer : Position) → Enters config app (L outer) f i g → L (place f i ∷ outer) ≡ None → Spreads g 0 (place f i ∷ outer) n → Spreads f i outer (1 + n)
-  call_front f i g n outer e none (inl on) = stays f i (1 + n) outer (on_enters (L outer) f i g n e (subst (λ l. On config app l g 0 n) none on))
+  call_front : (f i g n : ℕ) (outer : Position) → EntersRaised config app (L outer) f i g → L (place f i ∷ outer) ≡ None → Spreads g 0 (place f i ∷ outer) n → Spreads f i outer (1 + n)
+  call_front f i g n outer e none (inl on) = stays f i (1 + n) outer (on_enters (L outer) f i g n e (subst (λ l. CountsOn config app l g 0 n) none on))
   call_front f i g n outer e none (inr s) =
       by outer e s.3
     where
-      back : Back config app None g 0 s.0
-      back = subst (λ l. Back config app l g 0 s.0) none s.2
+      back : CountsBack config app None g 0 s.0
+      back = subst (λ l. CountsBack config app l g 0 s.0) none s.2
 
-      by : (outer : Position) → Enters config app (L outer) f i g → Spreads f (i + 1) outer s.1 → Spreads f i outer (1 + n)
-      by [] e rest = subst (On config app (L []) f i) (let is = s.4 in omega (arith, is)) (on_passes (L []) f i g s.0 s.1 e back rest)
-      by (caller ∷ outer) e (inl on) = inl (subst (On config app (L (caller ∷ outer)) f i) (let is = s.4 in omega (arith, is)) (on_passes (L (caller ∷ outer)) f i g s.0 s.1 e back on))
+      by : (outer : Position) → EntersRaised config app (L outer) f i g → Spreads f (i + 1) outer s.1 → Spreads f i outer (1 + n)
+      by [] e rest = subst (CountsOn config app (L []) f i) (let is = s.4 in omega (arith, is)) (on_passes (L []) f i g s.0 s.1 e back rest)
+      by (caller ∷ outer) e (inl on) = inl (subst (CountsOn config app (L (caller ∷ outer)) f i) (let is = s.4 in omega (arith, is)) (on_passes (L (caller ∷ outer)) f i g s.0 s.1 e back on))
       by (caller ∷ outer) e (inr q) =
           inr (1 + (s.0 + q.0), q.1, back_passes (L (caller ∷ outer)) f i g s.0 q.0 e back q.2, q.3, (let is = s.4 in let more = q.4 in omega (arith, is, more)))
 
@@ -239,26 +239,26 @@ module _ (config : Config) (app : App) (h t : ℕ) where
     -- ---- up to the body of the task
 
     abbrev Whole : ℕ → Type 0
-    Whole n = Within config app (L []) (body_of app.funcs t) n
+    Whole n = CountsWithin config app (L []) (body_of app.funcs t) n
 
-    climb_in : (f : ℕ) (outer : Position) (n : ℕ) → AreCallers f outer → Within config app (L outer) f n → Whole n
-    climb_in f [] n callers w = subst (λ g. Within config app (L []) g n) callers w
+    climb_in : (f : ℕ) (outer : Position) (n : ℕ) → AreCallers f outer → CountsWithin config app (L outer) f n → Whole n
+    climb_in f [] n callers w = subst (λ g. CountsWithin config app (L []) g n) callers w
     climb_in f (caller ∷ outer) n callers w =
         climb_in caller.func outer n callers.1
-        (within_called (L outer) caller.func caller.item f n callers.0 (subst (λ l. Within config app l f n) (level_called caller.func caller.item outer) w))
+        (within_called (L outer) caller.func caller.item f n callers.0 (subst (λ l. CountsWithin config app l f n) (level_called caller.func caller.item outer) w))
 
-    climb_out : (f : ℕ) (caller : Place) (outer : Position) (k m : ℕ) → AreCallers f (caller ∷ outer) → Out config app (L (caller ∷ outer)) f k
+    climb_out : (f : ℕ) (caller : Place) (outer : Position) (k m : ℕ) → AreCallers f (caller ∷ outer) → CountsOut config app (L (caller ∷ outer)) f k
         → Spreads caller.func (caller.item + 1) outer m → Whole (k + m)
     climb_out f caller [] k m callers out on =
         climb_in caller.func [] (k + m) callers.1
-        (within_behind (L []) caller.func caller.item f k m callers.0 (subst (λ l. Out config app l f k) (level_called caller.func caller.item []) out) on)
+        (within_behind (L []) caller.func caller.item f k m callers.0 (subst (λ l. CountsOut config app l f k) (level_called caller.func caller.item []) out) on)
     climb_out f caller (next ∷ outer) k m callers out (inl on) =
         climb_in caller.func (next ∷ outer) (k + m) callers.1
-        (within_behind (L (next ∷ outer)) caller.func caller.item f k m callers.0 (subst (λ l. Out config app l f k) (level_called caller.func caller.item (next ∷ outer)) out) on)
+        (within_behind (L (next ∷ outer)) caller.func caller.item f k m callers.0 (subst (λ l. CountsOut config app l f k) (level_called caller.func caller.item (next ∷ outer)) out) on)
     climb_out f caller (next ∷ outer) k m callers out (inr s) =
         subst Whole (let e = s.4 in omega (arith, e))
         (climb_out caller.func next outer (k + s.0) s.1 callers.1
-        (out_behind (L (next ∷ outer)) caller.func caller.item f k s.0 callers.0 (subst (λ l. Out config app l f k) (level_called caller.func caller.item (next ∷ outer)) out) s.2) s.3)
+        (out_behind (L (next ∷ outer)) caller.func caller.item f k s.0 callers.0 (subst (λ l. CountsOut config app l f k) (level_called caller.func caller.item (next ∷ outer)) out) s.2) s.3)
 
     climb : (at : Position) (n : ℕ) → Stands at → SpreadsAt at n → Whole n
     climb [] n s p = absurd s

@@ -8,7 +8,7 @@ use Rattle.std.proofs.lemmas.List.Folds.{list_any-append}
 use Rattle.std.proofs.lemmas.List.Sums.{sum_by-set}
 use Rattle.code_rules.specs.Code.{is_in}
 use Rattle.section_sizes.specs.declared.graph.Ways.{Ways}
-use Rattle.section_sizes.specs.Graph.{ways_of, Goes, AreInside, IsLoop, IsOrder, unseen_way, first_of, unseen_of, is_open, leads_to_open, unseen, LeadsOn, IsChain, Has, Searching, Keeps}
+use Rattle.section_sizes.specs.Graph.{ways_of, Goes, AreInside, IsLoop, IsOrder, unseen_way, first_of, unseen_of, is_open, leads_to_open, unseen_count, LeadsOn, IsChain, HasMark, IsSearching, KeepsSeen}
 
 -- ---- members
 
@@ -36,9 +36,9 @@ front_or_end i x xs h = ⊎_elim inl
 
 -- ---- marks
 
-pub has_more : (marks : List Bool) (at i : ℕ) → Has marks i → Has (set marks at true) i
+pub has_more : (marks : List Bool) (at i : ℕ) → HasMark marks i → HasMark (set marks at true) i
 has_more marks at i m = ⊎_elim
-    (λ e. subst (λ (x : ℕ). Has (set marks at true) x) (sym e) (get_or-set_same marks at true false (inside (cases_lt i (length marks)) e)))
+    (λ e. subst (λ (x : ℕ). HasMark (set marks at true) x) (sym e) (get_or-set_same marks at true false (inside (cases_lt i (length marks)) e)))
     (λ n. get_or-set_other marks at i true false n ∙ m)
     (cases_eq i at)
   where
@@ -46,17 +46,17 @@ has_more marks at i m = ⊎_elim
     inside (inl l) e = subst (λ (x : ℕ). x < length marks) e l
     inside (inr l) e = absurd (true≢false (sym m ∙ get_or_past marks i false l))
 
-pub keeps_more : (marks : List Bool) (at : ℕ) → Keeps marks (set marks at true)
+pub keeps_more : (marks : List Bool) (at : ℕ) → KeepsSeen marks (set marks at true)
 keeps_more marks at i m = has_more marks at i m
 
-pub has_now : (marks : List Bool) (at : ℕ) → at < length marks → Has (set marks at true) at
+pub has_now : (marks : List Bool) (at : ℕ) → at < length marks → HasMark (set marks at true) at
 has_now marks at lt = get_or-set_same marks at true false lt
 
-pub has_before : (marks : List Bool) (at i : ℕ) → i ≢ at → Has (set marks at true) i → Has marks i
+pub has_before : (marks : List Bool) (at i : ℕ) → i ≢ at → HasMark (set marks at true) i → HasMark marks i
 has_before marks at i n m = sym (get_or-set_other marks at i true false n) ∙ m
 
 -- a node less is unseen
-pub fewer : (seen : List Bool) (node : ℕ) → node < length seen → get_or seen node false ≡ false → unseen (set seen node true) + 1 ≡ unseen seen
+pub fewer : (seen : List Bool) (node : ℕ) → node < length seen → get_or seen node false ≡ false → unseen_count (set seen node true) + 1 ≡ unseen_count seen
 fewer seen node lt e =
     let s = sum_by-set (λ b. cond {A = ℕ} (not b) 1 0) seen node true false lt in
     let f : cond {A = ℕ} (not (get_or seen node false)) 1 0 ≡ 1 = ap (λ b. cond {A = ℕ} (not b) 1 0) e in
@@ -115,11 +115,11 @@ module _ (ways : List Ways) where
       by true is h = absurd cc
       by false is h = (h, subst (λ v. get_or seen v false ≡ false) (some_is k j h) is)
 
-  all_of_way : (seen : List Bool) (way : Option ℕ) (j : ℕ) → unseen_way seen way ≡ None → way ≡ Some j → Has seen j
+  all_of_way : (seen : List Bool) (way : Option ℕ) (j : ℕ) → unseen_way seen way ≡ None → way ≡ Some j → HasMark seen j
   all_of_way seen None j e is = absurd cc
-  all_of_way seen (Some k) j e is = subst (Has seen) (some_is k j is) (by (get_or seen k false) refl e)
+  all_of_way seen (Some k) j e is = subst (HasMark seen) (some_is k j is) (by (get_or seen k false) refl e)
     where
-      by : (b : Bool) → get_or seen k false ≡ b → cond b None (Some k) ≡ None → Has seen k
+      by : (b : Bool) → get_or seen k false ≡ b → cond b None (Some k) ≡ None → HasMark seen k
       by true e h = e
       by false e h = absurd cc
 
@@ -131,10 +131,10 @@ module _ (ways : List Ways) where
       by None is h = let f = of_way seen (ways_of ways i).jump j h in (inr f.0, f.1)
       by (Some k) is h = let f = of_way seen (ways_of ways i).next j (is ∙ h) in (inl f.0, f.1)
 
-  pub all_seen : (seen : List Bool) (i j : ℕ) → unseen_of ways seen i ≡ None → Goes ways i j → Has seen j
+  pub all_seen : (seen : List Bool) (i j : ℕ) → unseen_of ways seen i ≡ None → Goes ways i j → HasMark seen j
   all_seen seen i j e g = by (unseen_way seen (ways_of ways i).next) refl e g
     where
-      by : (o : Option ℕ) → unseen_way seen (ways_of ways i).next ≡ o → first_of o (unseen_way seen (ways_of ways i).jump) ≡ None → Goes ways i j → Has seen j
+      by : (o : Option ℕ) → unseen_way seen (ways_of ways i).next ≡ o → first_of o (unseen_way seen (ways_of ways i).jump) ≡ None → Goes ways i j → HasMark seen j
       by None is h (inl f) = all_of_way seen (ways_of ways i).next j is f
       by None is h (inr f) = all_of_way seen (ways_of ways i).jump j h f
       by (Some k) is h f = absurd cc
@@ -147,9 +147,9 @@ module _ (ways : List Ways) where
       by true e = absurd (false≢true e)
       by false e = refl
 
-  closed_of : (done : List Bool) (way : Option ℕ) (j : ℕ) → is_open done way ≡ false → way ≡ Some j → Has done j
+  closed_of : (done : List Bool) (way : Option ℕ) (j : ℕ) → is_open done way ≡ false → way ≡ Some j → HasMark done j
   closed_of done None j e is = absurd cc
-  closed_of done (Some k) j e is = subst (Has done) (some_is k j is) (by (get_or done k false) e)
+  closed_of done (Some k) j e is = subst (HasMark done) (some_is k j is) (by (get_or done k false) e)
     where
       by : (b : Bool) → not b ≡ false → b ≡ true
       by true e = refl
@@ -166,22 +166,22 @@ module _ (ways : List Ways) where
   both_false true b e = absurd (true≢false e)
   both_false false b e = (refl, e)
 
-  all_done : (done : List Bool) (i j : ℕ) → leads_to_open ways done i ≡ false → Goes ways i j → Has done j
+  all_done : (done : List Bool) (i j : ℕ) → leads_to_open ways done i ≡ false → Goes ways i j → HasMark done j
   all_done done i j e g =
       let f = both_false (is_open done (ways_of ways i).next) (is_open done (ways_of ways i).jump) e in
       ⊎_elim (λ h. closed_of done (ways_of ways i).next j f.0 h) (λ h. closed_of done (ways_of ways i).jump j f.1 h) g
 
   -- ---- one step of the search, from node `from` at the end of the stack
 
-  module _ (seen done : List Bool) (stack rest order : List ℕ) (from : ℕ) (is : stack ≡ rest ++ from ∷ []) (s : Searching ways seen done stack order) where
-    t : Searching ways seen done (rest ++ from ∷ []) order
-    t = subst (λ l. Searching ways seen done l order) is s
+  module _ (seen done : List Bool) (stack rest order : List ℕ) (from : ℕ) (is : stack ≡ rest ++ from ∷ []) (s : IsSearching ways seen done stack order) where
+    t : IsSearching ways seen done (rest ++ from ∷ []) order
+    t = subst (λ l. IsSearching ways seen done l order) is s
 
     pub known : from < length ways
     known = (t.stacked from (at_end from rest)).0
 
     pub pushed : AreInside ways → (node : ℕ) → unseen_of ways seen from ≡ Some node
-        → Searching ways (set seen node true) done ((rest ++ from ∷ []) ++ node ∷ []) order
+        → IsSearching ways (set seen node true) done ((rest ++ from ∷ []) ++ node ∷ []) order
     pushed inside node e =
         let f = unseen_is seen from node e in
         let lt = inside from node f.0 in
@@ -191,7 +191,7 @@ module _ (ways : List Ways) where
           done_count = t.done_count;
           stacked = λ i h. ⊎_elim
               (λ g. let k = t.stacked i g in (k.0, has_more seen node i k.1))
-              (λ e. (subst (λ (y : ℕ). y < length ways) e lt, subst (Has (set seen node true)) e here))
+              (λ e. (subst (λ (y : ℕ). y < length ways) e lt, subst (HasMark (set seen node true)) e here))
               (front_or_end i node (rest ++ from ∷ []) h);
           held = λ i h. ⊎_elim
               (λ e. inl (subst (λ (y : ℕ). is_in y ((rest ++ from ∷ []) ++ node ∷ []) ≡ true) (sym e) (at_end node (rest ++ from ∷ []))))
@@ -215,13 +215,13 @@ module _ (ways : List Ways) where
             let f = open_is done from opens in
             (f.0, f.1, ⊎_elim (λ g. g) (λ g. absurd (true≢false (sym g ∙ f.2))) (t.held f.0 (all_seen seen from f.0 none f.1)))
 
-    pub finished : leads_to_open ways done from ≡ false → Searching ways seen (set done from true) rest (order ++ from ∷ [])
+    pub finished : leads_to_open ways done from ≡ false → IsSearching ways seen (set done from true) rest (order ++ from ∷ [])
     finished closed = record {
       seen_count = t.seen_count;
       done_count = length-set done from true ∙ t.done_count;
       stacked = λ i h. t.stacked i (in_front i from rest h);
       held = λ i h. ⊎_elim
-          (λ g. ⊎_elim inl (λ e. inr (subst (Has (set done from true)) e here)) (front_or_end i from rest g))
+          (λ g. ⊎_elim inl (λ e. inr (subst (HasMark (set done from true)) e here)) (front_or_end i from rest g))
           (λ g. inr (has_more done from i g)) (t.held i h);
       listed = λ i h. ⊎_elim
           (λ e. subst (λ (y : ℕ). is_in y (order ++ from ∷ []) ≡ true) (sym e) (at_end from order))
@@ -232,7 +232,7 @@ module _ (ways : List Ways) where
       behind = λ k j lt g. at k j (cases_lt k (length order)) (subst (λ n. k < n) (length-append order (from ∷ [])) lt) g;
     }
       where
-        here : Has (set done from true) from
+        here : HasMark (set done from true) from
         here = has_now done from (subst (λ n. from < n) (sym t.done_count) known)
 
         at : (k j : ℕ) → (k < length order) ⊎ (length order ≤ k) → k < length order + 1 → Goes ways (get_or (order ++ from ∷ []) k 0) j
@@ -248,17 +248,17 @@ module _ (ways : List Ways) where
 
     -- the same as the code has it
     pub pushed_as : AreInside ways → (node : ℕ) → unseen_of ways seen from ≡ Some node → (new : List Bool) (mid longer : List ℕ)
-        → new ≡ set seen node true → mid ≡ rest ++ from ∷ [] → longer ≡ mid ++ node ∷ [] → Searching ways new done longer order
+        → new ≡ set seen node true → mid ≡ rest ++ from ∷ [] → longer ≡ mid ++ node ∷ [] → IsSearching ways new done longer order
     pushed_as inside node e new mid longer m k l =
-        let P : List Bool → Type 0 = λ b. Searching ways b done longer order in
-        let Q : List ℕ → Type 0 = λ ns. Searching ways (set seen node true) done ns order in
+        let P : List Bool → Type 0 = λ b. IsSearching ways b done longer order in
+        let Q : List ℕ → Type 0 = λ ns. IsSearching ways (set seen node true) done ns order in
         subst P (sym m) (subst Q (sym (l ∙ ap (λ ns. ns ++ node ∷ []) k)) (pushed inside node e))
 
     pub finished_as : leads_to_open ways done from ≡ false → (new : List Bool) (longer : List ℕ) → new ≡ set done from true → longer ≡ order ++ from ∷ []
-        → Searching ways seen new rest longer
+        → IsSearching ways seen new rest longer
     finished_as closed new longer m l =
-        let P : List Bool → Type 0 = λ b. Searching ways seen b rest longer in
-        let Q : List ℕ → Type 0 = λ ns. Searching ways seen (set done from true) rest ns in
+        let P : List Bool → Type 0 = λ b. IsSearching ways seen b rest longer in
+        let Q : List ℕ → Type 0 = λ ns. IsSearching ways seen (set done from true) rest ns in
         subst P (sym m) (subst Q (sym l) (finished closed))
 
     -- the node that is pushed is there, and was unseen
@@ -272,10 +272,10 @@ module _ (ways : List Ways) where
 
     pub fewer_as : AreInside ways → (node : ℕ) → unseen_of ways seen from ≡ Some node → (new : List Bool) (mid longer : List ℕ)
         → new ≡ set seen node true → mid ≡ rest ++ from ∷ [] → longer ≡ mid ++ node ∷ []
-        → 2 * unseen new + length longer < 2 * unseen seen + length stack
+        → 2 * unseen_count new + length longer < 2 * unseen_count seen + length stack
     fewer_as inside node e new mid longer m k l =
         let f = pushed_known inside node e in
-        let u = ap unseen m in
+        let u = ap unseen_count m in
         let v = fewer seen node f.0 f.1 in
         let a = ap length l ∙ length-append mid (node ∷ []) in
         let b = ap length k ∙ length-append rest (from ∷ []) in
@@ -286,8 +286,8 @@ module _ (ways : List Ways) where
 
 module _ (ways : List Ways) where
   -- a search of a further node begins
-  pub begun : (seen done : List Bool) (order : List ℕ) (node : ℕ) → Searching ways seen done [] order → node < length ways
-      → Searching ways (set seen node true) done (node ∷ []) order
+  pub begun : (seen done : List Bool) (order : List ℕ) (node : ℕ) → IsSearching ways seen done [] order → node < length ways
+      → IsSearching ways (set seen node true) done (node ∷ []) order
   begun seen done order node s lt =
       let here = has_now seen node (subst (λ n. node < n) (sym s.seen_count) lt) in
       record {
@@ -295,7 +295,7 @@ module _ (ways : List Ways) where
         done_count = s.done_count;
         stacked = λ i h. ⊎_elim
             (λ g. absurd (false≢true g))
-            (λ e. (subst (λ (y : ℕ). y < length ways) e lt, subst (Has (set seen node true)) e here))
+            (λ e. (subst (λ (y : ℕ). y < length ways) e lt, subst (HasMark (set seen node true)) e here))
             (front_or_end i node [] h);
         held = λ i h. ⊎_elim
             (λ e. inl (subst (λ (y : ℕ). is_in y (node ∷ []) ≡ true) (sym e) (at_end node [])))
@@ -308,17 +308,17 @@ module _ (ways : List Ways) where
       }
 
   -- the same as the code has it
-  pub begun_as : (seen done : List Bool) (order stack : List ℕ) (node : ℕ) → Searching ways seen done stack order → stack ≡ [] → node < length ways
-      → (new : List Bool) (longer : List ℕ) → new ≡ set seen node true → longer ≡ stack ++ node ∷ [] → Searching ways new done longer order
+  pub begun_as : (seen done : List Bool) (order stack : List ℕ) (node : ℕ) → IsSearching ways seen done stack order → stack ≡ [] → node < length ways
+      → (new : List Bool) (longer : List ℕ) → new ≡ set seen node true → longer ≡ stack ++ node ∷ [] → IsSearching ways new done longer order
   begun_as seen done order stack node s none lt new longer m l =
-      let P : List Bool → Type 0 = λ b. Searching ways b done longer order in
-      let Q : List ℕ → Type 0 = λ ns. Searching ways (set seen node true) done ns order in
+      let P : List Bool → Type 0 = λ b. IsSearching ways b done longer order in
+      let Q : List ℕ → Type 0 = λ ns. IsSearching ways (set seen node true) done ns order in
       subst P (sym m) (subst Q (sym (l ∙ ap (λ ns. ns ++ node ∷ []) none))
-      (begun seen done order node (subst (λ ns. Searching ways seen done ns order) none s) lt))
+      (begun seen done order node (subst (λ ns. IsSearching ways seen done ns order) none s) lt))
 
   -- where all are seen and none is in the stack
-  pub all_listed : (seen done : List Bool) (stack order : List ℕ) → Searching ways seen done stack order → stack ≡ []
-      → ((i : ℕ) → i < length ways → Has seen i) → IsOrder ways order
+  pub all_listed : (seen done : List Bool) (stack order : List ℕ) → IsSearching ways seen done stack order → stack ≡ []
+      → ((i : ℕ) → i < length ways → HasMark seen i) → IsOrder ways order
   all_listed seen done stack order s none all = record {
     all = λ i lt. ⊎_elim (λ g. absurd (false≢true (sym (ap (is_in i) none) ∙ g))) (s.listed i) (s.held i (all i lt));
     inside = s.inside;
@@ -327,7 +327,7 @@ module _ (ways : List Ways) where
 
   -- before the search
   pub unmarked : (seen done : List Bool) → length seen ≡ length ways → length done ≡ length ways
-      → ((i : ℕ) → i < length ways → get_or seen i false ≡ false) → ((i : ℕ) → i < length ways → get_or done i false ≡ false) → Searching ways seen done [] []
+      → ((i : ℕ) → i < length ways → get_or seen i false ≡ false) → ((i : ℕ) → i < length ways → get_or done i false ≡ false) → IsSearching ways seen done [] []
   unmarked seen done a b f g = record {
     seen_count = a;
     done_count = b;

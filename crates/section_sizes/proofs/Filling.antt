@@ -1,5 +1,5 @@
 -- The summary of a body, from the lists that are made of it.
-use Rattle.std.proofs.Common.{◌≡◌, ℕ, ◌<◌, Bool, true, false, cond, List, length, get_or, Option, ap, sym, ◌∙◌, subst}
+use Rattle.std.proofs.Common.{◌≡◌, ℕ, ◌<◌, Bool, true, false, cond, List, length, get_or, Option, ap, sym, ◌∙◌, subst, refl}
 use Rattle.sloth_base.specs.declared.config.Config.{Config}
 use Rattle.sloth_base.specs.declared.app.App.{App}
 use Rattle.sloth_base.specs.declared.app.Func.{Func}
@@ -10,22 +10,16 @@ use Rattle.section_sizes.specs.declared.bodies.Body.{Body}
 use Rattle.section_sizes.specs.declared.sizes.Summary.{Summary}
 use Rattle.section_sizes.specs.Graph.{ways_of, AreInside, IsLoop, IsOrder}
 use Rattle.section_sizes.specs.Trails.{IsLongest}
-use Rattle.section_sizes.specs.Computed.{summary_of, is_passed, item_ways, going_size, ending_size, leaving_size, is_alive, is_going, known, calls_endless, most_of, out_of}
+use Rattle.section_sizes.specs.Computed.{summary_of, is_passed, item_ways, going_size, ending_size, leaving_size, is_alive, is_going, known_body_of, calls_endless, most_of, out_of, summary_by}
 use Rattle.section_sizes.specs.Known.{IsKnownBody, IsExact, IsEndless, IsCountedUp}
+use Rattle.section_sizes.specs.Lists.{Wayed, ArePaths, AreTrailSizes}
+use Rattle.section_sizes.specs.declared.paths.Paths.{Paths}
+use Rattle.section_sizes.specs.declared.paths.TrailSizes.{TrailSizes}
 use Rattle.section_sizes.proofs.Bodily.{facts_of}
 use Rattle.section_sizes.proofs.Leading.{inside}
 use Rattle.section_sizes.proofs.Measured.{Measures, Sizes, endless_loop}
 use Rattle.section_sizes.proofs.Small.{greatest_small}
 use Rattle.section_sizes.proofs.Summed.{Called, called_on, called_back, endless_callee, summed}
-
--- the lists of a body's ways
-pub record Wayed (func : Func) (body : Body) (level : Option ℕ) (whole : List Summary) (alive going passed : List Bool) (ways : List Ways) : Type 0 where
-  pub alive_count : length alive ≡ length func.items
-  pub alive_is : (i : ℕ) → i < length func.items → get_or alive i false ≡ is_alive body level i
-  pub going_is : (i : ℕ) → i < length func.items → get_or going i false ≡ is_going func alive i
-  pub passed_is : (g : ℕ) → get_or passed g false ≡ is_passed (summary_of whole g)
-  pub ways_count : length ways ≡ length func.items
-  pub ways_are : (i : ℕ) → i < length func.items → ways_of ways i ≡ item_ways func passed going alive i
 
 -- the lists of its sizes
 pub record Sized (func : Func) (whole : List Summary) (alive : List Bool) (ways : List Ways) (order steps ends leaves on back : List ℕ) : Type 0 where
@@ -48,14 +42,14 @@ to_items func body level whole alive going passed ways w = inside func passed go
 module _ (config : Config) (app : App) (well : WellFormed config app) (f : ℕ) (there : f < length app.funcs) (body : Body) (is_body : IsKnownBody config app f body)
     (level : Option ℕ) (whole own : List Summary) (calls : Called config app level f whole own) (func : Func) (is_func : func ≡ function app f) where
   -- a reached call of a function in which parts have no limit
-  pub endless_by_call : calls_endless (known func body level whole own) ≡ true → IsEndless config app level f
+  pub endless_by_call : calls_endless (known_body_of func body level whole own) ≡ true → IsEndless config app level f
   endless_by_call e =
-      endless_callee config app level f there body is_body whole own calls (sym (ap (λ g. calls_endless (known g body level whole own)) is_func) ∙ e)
+      endless_callee config app level f there body is_body whole own calls (sym (ap (λ g. calls_endless (known_body_of g body level whole own)) is_func) ∙ e)
 
-  module _ (bounded : calls_endless (known func body level whole own) ≡ false) (alive going passed : List Bool) (ways : List Ways)
+  module _ (bounded : calls_endless (known_body_of func body level whole own) ≡ false) (alive going passed : List Bool) (ways : List Ways)
       (wayed : Wayed func body level whole alive going passed ways) where
-    bounded_here : calls_endless (known (function app f) body level whole own) ≡ false
-    bounded_here = sym (ap (λ g. calls_endless (known g body level whole own)) is_func) ∙ bounded
+    bounded_here : calls_endless (known_body_of (function app f) body level whole own) ≡ false
+    bounded_here = sym (ap (λ g. calls_endless (known_body_of g body level whole own)) is_func) ∙ bounded
 
     measures : Wayed (function app f) body level whole alive going passed ways → Measures config app level f
     measures w = record {
@@ -118,8 +112,8 @@ module _ (config : Config) (app : App) (well : WellFormed config app) (f : ℕ) 
         is_endless = false;
         on = get_or on 0 0;
         back = get_or back 0 0;
-        most = most_of (known func body level whole own) on;
-        out = out_of (known func body level whole own) back;
+        most = most_of (known_body_of func body level whole own) on;
+        out = out_of (known_body_of func body level whole own) back;
       } → IsExact config app level f s
       unfolding measures sizes
       summary_exact s e =
@@ -127,11 +121,29 @@ module _ (config : Config) (app : App) (well : WellFormed config app) (f : ℕ) 
             is_endless = false;
             on = get_or on 0 0;
             back = get_or back 0 0;
-            most = most_of (known g body level whole own) on;
-            out = out_of (known g body level whole own) back;
+            most = most_of (known_body_of g body level whole own) on;
+            out = out_of (known_body_of g body level whole own) back;
           }) in
           subst (IsExact config app level f) (sym e)
           (subst P (sym is_func) (summed config app level f there body is_body whole own calls bounded_here (measures wayed_here) sizes))
+
+  -- the greatest sizes by the longest trails along the ways
+  pub exact_by : calls_endless (known_body_of func body level whole own) ≡ false → (paths : Paths) (order : List ℕ) (sizes : TrailSizes)
+      → ArePaths func body level whole paths → AreTrailSizes func whole paths order sizes
+      → IsExact config app level f (summary_by (known_body_of func body level whole own) sizes.on sizes.back)
+  exact_by bounded paths order sizes are t =
+      summary_exact bounded paths.alive are.going are.passed paths.ways are.wayed order t.steps t.ending.ends t.leaving.leaves sizes.on sizes.back (record {
+        is_order = t.is_order;
+        steps_are = t.steps_are;
+        ends_count = t.ending.ends_count;
+        ends_are = t.ending.ends_are;
+        leaves_count = t.leaving.leaves_count;
+        leaves_are = t.leaving.leaves_are;
+        on_count = t.ending.on_count;
+        on_is = t.ending.on_is;
+        back_count = t.leaving.back_count;
+        back_is = t.leaving.back_is;
+      }) (summary_by (known_body_of func body level whole own) sizes.on sizes.back) refl
 
 -- an exact summary is counted up
 pub exact_small : (config : Config) (app : App) (level : Option ℕ) (f : ℕ) (s : Summary) → IsExact config app level f s → IsCountedUp s

@@ -8,7 +8,7 @@ use Rattle.sloth_base.specs.declared.app.Op.TheVariants as op
 use Rattle.sloth_base.specs.Named.{item_of, label_of}
 use Rattle.code_rules.specs.Code.{is_followed, way}
 use Rattle.section_sizes.specs.declared.graph.Ways.{Ways}
-use Rattle.section_sizes.specs.Graph.{ways_of, Goes, AreInside, nowhere}
+use Rattle.section_sizes.specs.Graph.{ways_of, Goes, AreInside, no_ways}
 use Rattle.section_sizes.specs.Parts.{is_plain}
 use Rattle.section_sizes.specs.Computed.{open_way, goes_past, next_way, label_way, item_ways}
 
@@ -73,7 +73,7 @@ module _ (f : Func) (passed going open_items : List Bool) (ways : List Ways) (co
   pub led : (i j : ℕ) → Goes ways i j → Led i j
   led i j g = by (cases_lt i (length f.items))
     where
-      next : (b : Bool) → get_or going i false ≡ b → i < length f.items → (cond b (record { next = next_way f passed open_items i; jump = label_way f open_items (way (item_of f i).op) }) nowhere).next ≡ Some j → Led i j
+      next : (b : Bool) → get_or going i false ≡ b → i < length f.items → (cond b (record { next = next_way f passed open_items i; jump = label_way f open_items (way (item_of f i).op) }) no_ways).next ≡ Some j → Led i j
       next false is lt e = absurd cc
       next true is lt e = past (goes_past passed (item_of f i).op) refl e
         where
@@ -81,7 +81,7 @@ module _ (f : Func) (passed going open_items : List Bool) (ways : List Ways) (co
           past false p h = absurd cc
           past true p h = let o = opened open_items (i + 1) j h in record { inside = lt; goes = is; is_open = o.1; on = inl (p, sym o.0) }
 
-      jump : (b : Bool) → get_or going i false ≡ b → i < length f.items → (cond b (record { next = next_way f passed open_items i; jump = label_way f open_items (way (item_of f i).op) }) nowhere).jump ≡ Some j → Led i j
+      jump : (b : Bool) → get_or going i false ≡ b → i < length f.items → (cond b (record { next = next_way f passed open_items i; jump = label_way f open_items (way (item_of f i).op) }) no_ways).jump ≡ Some j → Led i j
       jump false is lt e = absurd cc
       jump true is lt e = to (way (item_of f i).op) refl e
         where
@@ -94,7 +94,7 @@ module _ (f : Func) (passed going open_items : List Bool) (ways : List Ways) (co
           (λ e. next (get_or going i false) refl lt (sym (ap (λ w. w.next) (exact i lt)) ∙ e))
           (λ e. jump (get_or going i false) refl lt (sym (ap (λ w. w.jump) (exact i lt)) ∙ e)) g
       by (inr le) =
-          let none = get_or_past ways i nowhere (omega (arith, le, count)) in
+          let none = get_or_past ways i no_ways (omega (arith, le, count)) in
           ⊎_elim
           (λ e. absurd (let n = sym (ap (λ w. w.next) none) ∙ e in no_way j n))
           (λ e. absurd (let n = sym (ap (λ w. w.jump) none) ∙ e in no_way j n)) g
@@ -106,7 +106,7 @@ module _ (f : Func) (passed going open_items : List Bool) (ways : List Ways) (co
   leads i j l = by l.on
     where
       is : ways_of ways i ≡ record { next = next_way f passed open_items i; jump = label_way f open_items (way (item_of f i).op) }
-      is = exact i l.inside ∙ ap (λ b. cond b (record { next = next_way f passed open_items i; jump = label_way f open_items (way (item_of f i).op) }) nowhere) l.goes
+      is = exact i l.inside ∙ ap (λ b. cond b (record { next = next_way f passed open_items i; jump = label_way f open_items (way (item_of f i).op) }) no_ways) l.goes
 
       by : LeadsOn i j → Goes ways i j
       by (inl h) =

@@ -7,7 +7,7 @@ use Rattle.sloth_base.specs.declared.app.Op.TheVariants as op
 use Rattle.sloth_base.specs.Named.{operation}
 use Rattle.raised_sections.specs.Sections.{is_counted}
 use Rattle.section_sizes.specs.Graph.{Goes}
-use Rattle.section_sizes.specs.Parts.{level_behind, ReachesItem, reaches_first, reaches_inside, ReachesCall, Enters, Back, On, Out, Within, on_ends, on_inside, on_enters, on_passes, out_here, out_behind, within_here, within_called, within_behind}
+use Rattle.section_sizes.specs.Parts.{level_behind, ReachesItem, reaches_first, reaches_inside, ReachesCall, EntersRaised, CountsBack, CountsOn, CountsOut, CountsWithin, on_ends, on_inside, on_enters, on_passes, out_here, out_behind, within_here, within_called, within_behind}
 use Rattle.section_sizes.specs.Known.{HasLimit}
 use Rattle.section_sizes.proofs.Unlimited.{place, times, value, way_exceeds_none}
 use Rattle.section_sizes.proofs.Measured.{Measures, Sizes, living, itself, on_begins, goes_inside, goes_behind, passed_some, reached_behind, reached_after, back_on, there}
@@ -31,10 +31,10 @@ at_most_one false = omega arith
 
 -- a limit of the parts of all functions that are called, at their levels
 pub record CalledLimit (config : Config) (app : App) (level : Option ℕ) (f limit : ℕ) : Type 0 where
-  pub on : (i g n : ℕ) → ReachesItem app f i → Enters config app level f i g → On config app None g 0 n → n ≤ limit
-  pub back : (i g n : ℕ) → ReachesItem app f i → Enters config app level f i g → Back config app None g 0 n → n ≤ limit
-  pub most : (i g n : ℕ) → ReachesCall app f i g → Within config app (level_behind config app level f i) g n → n ≤ limit
-  pub out : (i g n : ℕ) → ReachesCall app f i g → Out config app (level_behind config app level f i) g n → n ≤ limit
+  pub on : (i g n : ℕ) → ReachesItem app f i → EntersRaised config app level f i g → CountsOn config app None g 0 n → n ≤ limit
+  pub back : (i g n : ℕ) → ReachesItem app f i → EntersRaised config app level f i g → CountsBack config app None g 0 n → n ≤ limit
+  pub most : (i g n : ℕ) → ReachesCall app f i g → CountsWithin config app (level_behind config app level f i) g n → n ≤ limit
+  pub out : (i g n : ℕ) → ReachesCall app f i g → CountsOut config app (level_behind config app level f i) g n → n ≤ limit
 
 module _ (config : Config) (app : App) where
   -- what no part from an item is above
@@ -46,7 +46,7 @@ module _ (config : Config) (app : App) where
   inside_high level f m z limit i j lt g = way_exceeds_none m.ways z.order z.is_order (limit + 2) i j lt g
 
   on_high : (level : Option ℕ) (f i n : ℕ) (m : Measures config app level f) (z : Sizes config app level f m) (limit : ℕ) → CalledLimit config app level f limit
-      → ReachesItem app f i → On config app level f i n → n ≤ high level f m z limit i
+      → ReachesItem app f i → CountsOn config app level f i n → n ≤ high level f m z limit i
   on_high level f i n m z limit c r (on_ends l g k item raised) = let one = at_most_one (is_counted (operation app g k)) in omega (arith, one)
   on_high level f i n m z limit c r (on_inside l g k j q p further) =
       let after = reaches_inside g k j r p.step in
@@ -70,14 +70,14 @@ module _ (config : Config) (app : App) where
   top level f m z limit = times (limit + 2) (length z.order) + (limit + 2)
 
   on_top : (level : Option ℕ) (f i n : ℕ) (m : Measures config app level f) (z : Sizes config app level f m) (limit : ℕ) → CalledLimit config app level f limit
-      → ReachesItem app f i → On config app level f i n → n ≤ top level f m z limit
+      → ReachesItem app f i → CountsOn config app level f i n → n ≤ top level f m z limit
   on_top level f i n m z limit c r part =
       let le = on_high level f i n m z limit c r part in
       let more = times_le (limit + 2) (place i z.order) (length z.order) (place_le i z.order) in
       omega (arith, le, more)
 
   within_top : (level : Option ℕ) (f n : ℕ) (m : Measures config app level f) (z : Sizes config app level f m) (limit : ℕ) → CalledLimit config app level f limit
-      → Within config app level f n → n ≤ limit + top level f m z limit
+      → CountsWithin config app level f n → n ≤ limit + top level f m z limit
   within_top level f n m z limit c (within_here l g k size r part) = let le = on_top l g k size m z limit c r part in omega (arith, le)
   within_top level f n m z limit c (within_called l a k g size call inner) = let le = c.most k g size call inner in omega (arith, le)
   within_top level f n m z limit c (within_behind l a k g size more call inner part) =
@@ -86,7 +86,7 @@ module _ (config : Config) (app : App) where
       omega (arith, le, rest)
 
   out_top : (level : Option ℕ) (f n : ℕ) (m : Measures config app level f) (z : Sizes config app level f m) (limit : ℕ) → CalledLimit config app level f limit
-      → Out config app level f n → n ≤ limit + top level f m z limit
+      → CountsOut config app level f n → n ≤ limit + top level f m z limit
   out_top level f n m z limit c (out_here l g k size r part) =
       let le = on_top l g k size m z limit c r (back_on config app l g k size part) in omega (arith, le)
   out_top level f n m z limit c (out_behind l a k g size more call inner part) =

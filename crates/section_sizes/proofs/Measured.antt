@@ -16,7 +16,7 @@ use Rattle.section_sizes.specs.declared.bodies.Body.{Body}
 use Rattle.section_sizes.specs.declared.sizes.Summary.{Summary}
 use Rattle.section_sizes.specs.Graph.{ways_of, Goes, AreInside, IsLoop, IsOrder}
 use Rattle.section_sizes.specs.Trails.{MOST, size_of_trail, IsEnded, IsLongest}
-use Rattle.section_sizes.specs.Parts.{reaches_level, is_raised, is_plain, count_of, ReachesItem, Returns, reaches_first, reaches_inside, reaches_behind, Passes, Enters, Back, On, Within, back_returns, back_inside, back_passes, on_ends, on_inside, on_enters, on_passes, within_here, ReachesCall, level_behind, Out, out_here, out_behind}
+use Rattle.section_sizes.specs.Parts.{reaches_level, is_raised, is_plain, count_of, ReachesItem, Returns, reaches_first, reaches_inside, reaches_behind, Passes, EntersRaised, CountsBack, CountsOn, CountsWithin, back_returns, back_inside, back_passes, on_ends, on_inside, on_enters, on_passes, within_here, ReachesCall, level_behind, CountsOut, out_here, out_behind}
 use Rattle.section_sizes.specs.Computed.{goes_past, item_ways, summary_of, is_passed, joined, count, going_size, ending_size, leaving_size, is_alive, is_going}
 use Rattle.section_sizes.specs.Known.{IsKnownBody, IsGreatestPart}
 use Rattle.section_sizes.proofs.Leading.{past_cases, plain_past, way_plain, LeadsOn, Led, led, leads, inside}
@@ -33,25 +33,25 @@ module _ (config : Config) (app : App) where
   pub itself : (f i : ℕ) (o : Op) → IsItem app f i o → IsItem app f i (operation app f i)
   itself f i o item = record { known = item.known; inside = item.inside; is = refl }
 
-  pub back_begins : (level : Option ℕ) (f i n : ℕ) → Back config app level f i n → Begins level f i
+  pub back_begins : (level : Option ℕ) (f i n : ℕ) → CountsBack config app level f i n → Begins level f i
   back_begins level f i n (back_returns l g k item raised) = record { item = itself g k op.Return item; raised = raised }
   back_begins level f i n (back_inside l g k j m p further) = record { item = itself g k p.step.operation p.step.item; raised = p.raised }
   back_begins level f i n (back_passes l a k g m q e inner further) = record { item = itself a k (op.Invoke g) e.item; raised = e.raised }
 
-  pub on_begins : (level : Option ℕ) (f i n : ℕ) → On config app level f i n → Begins level f i
+  pub on_begins : (level : Option ℕ) (f i n : ℕ) → CountsOn config app level f i n → Begins level f i
   on_begins level f i n (on_ends l g k item raised) = record { item = item; raised = raised }
   on_begins level f i n (on_inside l g k j m p further) = record { item = itself g k p.step.operation p.step.item; raised = p.raised }
   on_begins level f i n (on_enters l a k g m e inner) = record { item = itself a k (op.Invoke g) e.item; raised = e.raised }
   on_begins level f i n (on_passes l a k g m q e inner further) = record { item = itself a k (op.Invoke g) e.item; raised = e.raised }
 
   -- a part up to a `ret` counts it
-  pub back_some : (level : Option ℕ) (f i n : ℕ) → Back config app level f i n → 0 < n
+  pub back_some : (level : Option ℕ) (f i n : ℕ) → CountsBack config app level f i n → 0 < n
   back_some level f i n (back_returns l g k item raised) = omega arith
   back_some level f i n (back_inside l g k j m p further) = let more = back_some l g j m further in omega (arith, more)
   back_some level f i n (back_passes l a k g m q e inner further) = omega arith
 
   -- where it leads a walk returns
-  pub back_returned : (level : Option ℕ) (f i n : ℕ) → Back config app level f i n → ReachesItem app f i → Returns app f
+  pub back_returned : (level : Option ℕ) (f i n : ℕ) → CountsBack config app level f i n → ReachesItem app f i → Returns app f
   back_returned level f i n (back_returns l g k item raised) r = (k, r, item)
   back_returned level f i n (back_inside l g k j m p further) r = back_returned l g j m further (reaches_inside g k j r p.step)
   back_returned level f i n (back_passes l a k g m q e inner further) r =
@@ -59,21 +59,21 @@ module _ (config : Config) (app : App) where
       back_returned l a (k + 1) q further (reaches_behind a k g ret.0 r e.item ret.1 ret.2)
 
   -- it is a part that stays inside, too
-  pub back_on : (level : Option ℕ) (f i n : ℕ) → Back config app level f i n → On config app level f i n
+  pub back_on : (level : Option ℕ) (f i n : ℕ) → CountsBack config app level f i n → CountsOn config app level f i n
   back_on level f i n (back_returns l g k item raised) =
-      subst (On config app l g k) (ap (λ o. cond (is_counted o) 1 0) item.is) (on_ends l g k (itself g k op.Return item) raised)
+      subst (CountsOn config app l g k) (ap (λ o. cond (is_counted o) 1 0) item.is) (on_ends l g k (itself g k op.Return item) raised)
   back_on level f i n (back_inside l g k j m p further) = on_inside l g k j m p (back_on l g j m further)
   back_on level f i n (back_passes l a k g m q e inner further) = on_passes l a k g m q e inner (back_on l a (k + 1) q further)
 
   -- where a part that ends with a `ret` began, the function was entered, and it returns
-  returned : (level : Option ℕ) (f n : ℕ) → Out config app level f n → Returns app f
+  returned : (level : Option ℕ) (f n : ℕ) → CountsOut config app level f n → Returns app f
   returned level f n (out_here l g i m r b) = back_returned l g i m b r
   returned level f n (out_behind l a i g m q c inner b) =
       let ret = returned (level_behind config app l a i) g m inner in
       back_returned l a (i + 1) q b (reaches_behind a i g ret.0 c.reached c.item ret.1 ret.2)
 
   -- behind a call through which one leads
-  pub reached_after : (level : Option ℕ) (f i g n : ℕ) → ReachesCall app f i g → Out config app (level_behind config app level f i) g n → ReachesItem app f (i + 1)
+  pub reached_after : (level : Option ℕ) (f i g n : ℕ) → ReachesCall app f i g → CountsOut config app (level_behind config app level f i) g n → ReachesItem app f (i + 1)
   reached_after level f i g n c o =
       let ret = returned (level_behind config app level f i) g n o in reaches_behind f i g ret.0 c.reached c.item ret.1 ret.2
 
@@ -139,8 +139,8 @@ pub record Measures (config : Config) (app : App) (level : Option ℕ) (f : ℕ)
   pub ways_count : length ways ≡ length (function app f).items
   pub ways_are : (i : ℕ) → i < length (function app f).items → ways_of ways i ≡ item_ways (function app f) passed going alive i
   -- the functions that are called where the task is raised
-  pub called_on : (i g : ℕ) → ReachesItem app f i → Enters config app level f i g → IsGreatestPart (On config app None g 0) (summary_of whole g).on
-  pub called_back : (i g : ℕ) → ReachesItem app f i → Enters config app level f i g → IsGreatestPart (Back config app None g 0) (summary_of whole g).back
+  pub called_on : (i g : ℕ) → ReachesItem app f i → EntersRaised config app level f i g → IsGreatestPart (CountsOn config app None g 0) (summary_of whole g).on
+  pub called_back : (i g : ℕ) → ReachesItem app f i → EntersRaised config app level f i g → IsGreatestPart (CountsBack config app None g 0) (summary_of whole g).back
 
 -- the sizes of parts
 pub record Sizes (config : Config) (app : App) (level : Option ℕ) (f : ℕ) (m : Measures config app level f) : Type 0 where
@@ -202,7 +202,7 @@ module _ (config : Config) (app : App) (level : Option ℕ) (f : ℕ) (m : Measu
   -- a part goes on from item i to item j
   pub data Link (i j : ℕ) : Type 0 where
     link_inside : Passes config app level f i j → Lives i → Lives j → Link i j
-    link_behind : (g : ℕ) → Enters config app level f i g → 0 < (summary_of m.whole g).back → Lives i → j ≡ i + 1 → Lives j → Link i j
+    link_behind : (g : ℕ) → EntersRaised config app level f i g → 0 < (summary_of m.whole g).back → Lives i → j ≡ i + 1 → Lives j → Link i j
 
   abbrev Lead : ℕ → ℕ → Type 0
   Lead i j = Led (function app f) m.passed m.going m.alive m.ways m.ways_count m.ways_are i j
@@ -256,7 +256,7 @@ module _ (config : Config) (app : App) (level : Option ℕ) (f : ℕ) (m : Measu
         on = ⊎_elim (λ h. inl (plain_past m.passed (operation app f i) (ap is_plain p.step.item.is ∙ p.step.plain) h.0, h.1)) (λ h. inr (h.0, h.1, h.2)) p.step.goes_on;
       })
 
-  pub goes_behind : (i g : ℕ) → Enters config app level f i g → 0 < (summary_of m.whole g).back → Lives i → Lives (i + 1) → Goes m.ways i (i + 1)
+  pub goes_behind : (i g : ℕ) → EntersRaised config app level f i g → 0 < (summary_of m.whole g).back → Lives i → Lives (i + 1) → Goes m.ways i (i + 1)
   goes_behind i g e pos a b =
       leads (function app f) m.passed m.going m.alive m.ways m.ways_count m.ways_are i (i + 1) (record {
         inside = a.item.inside;
@@ -268,7 +268,7 @@ module _ (config : Config) (app : App) (level : Option ℕ) (f : ℕ) (m : Measu
   pub to_there : AreInside m.ways
   to_there = inside (function app f) m.passed m.going m.alive m.ways m.ways_count m.ways_are m.alive_count
 
-  pub reached_behind : (i g n : ℕ) → ReachesItem app f i → IsItem app f i (op.Invoke g) → Back config app None g 0 n → ReachesItem app f (i + 1)
+  pub reached_behind : (i g n : ℕ) → ReachesItem app f i → IsItem app f i (op.Invoke g) → CountsBack config app None g 0 n → ReachesItem app f (i + 1)
   reached_behind i g n r item b =
       let ret = back_returned config app None g 0 n b (reaches_first g) in
       reaches_behind f i g ret.0 r item ret.1 ret.2
@@ -283,16 +283,16 @@ module _ (config : Config) (app : App) (level : Option ℕ) (f : ℕ) (m : Measu
   link_lives i j (link_inside p a b) = a
   link_lives i j (link_behind g e pos a next b) = a
 
-  further_on : (n i j k : ℕ) → Link i j → On config app level f j k → n ≤ k → (q : ℕ) × On config app level f i q × (suc n ≤ q)
+  further_on : (n i j k : ℕ) → Link i j → CountsOn config app level f j k → n ≤ k → (q : ℕ) × CountsOn config app level f i q × (suc n ≤ q)
   further_on n i j k (link_inside p a b) part le =
       let one = counts i j p.step.operation p.step.item p.step.goes_on in
       (count_of app f i + k, on_inside level f i j k p part, omega (arith, one, le))
   further_on n i j k (link_behind g e pos a next b) part le =
       let inner = (m.called_back i g a.reached e).attained pos in
-      (1 + (inner.0 + k), on_passes level f i g inner.0 k e inner.1 (subst (λ v. On config app level f v k) next part), omega (arith, le))
+      (1 + (inner.0 + k), on_passes level f i g inner.0 k e inner.1 (subst (λ v. CountsOn config app level f v k) next part), omega (arith, le))
 
   -- from each node of a loop there are parts as large as one likes
-  loops : (nodes : List ℕ) → IsLoop m.ways nodes → (n i : ℕ) → is_in i nodes ≡ true → (q : ℕ) × On config app level f i q × (n ≤ q)
+  loops : (nodes : List ℕ) → IsLoop m.ways nodes → (n i : ℕ) → is_in i nodes ≡ true → (q : ℕ) × CountsOn config app level f i q × (n ≤ q)
   loops nodes loop zero i h =
       let g = loop.goes i h in
       let a = link_lives i g.0 (link i g.0 g.1) in
@@ -302,7 +302,7 @@ module _ (config : Config) (app : App) (level : Option ℕ) (f : ℕ) (m : Measu
       let rest = loops nodes loop n g.0 g.2 in
       further_on n i g.0 rest.0 (link i g.0 g.1) rest.1 rest.2
 
-  pub endless_loop : (nodes : List ℕ) → IsLoop m.ways nodes → (n : ℕ) → (q : ℕ) × Within config app level f q × (n ≤ q)
+  pub endless_loop : (nodes : List ℕ) → IsLoop m.ways nodes → (n : ℕ) → (q : ℕ) × CountsWithin config app level f q × (n ≤ q)
   endless_loop nodes loop n =
       let i = loop.some.0 in
       let g = loop.goes i loop.some.1 in
@@ -364,7 +364,7 @@ module _ (config : Config) (app : App) (level : Option ℕ) (f : ℕ) (m : Measu
             let e = end_is i a ∙ n.1 in
             omega (arith, le, e)
 
-    pub enters : (i g n : ℕ) → Lives i → Enters config app level f i g → On config app None g 0 n → min MOST (1 + n) ≤ on_at i
+    pub enters : (i g n : ℕ) → Lives i → EntersRaised config app level f i g → CountsOn config app None g 0 n → min MOST (1 + n) ≤ on_at i
     enters i g n a e inner =
         let le = ends_enough i a in
         let is = end_is i a ∙ ap (ending_size m.whole) e.item.is in
@@ -389,13 +389,13 @@ module _ (config : Config) (app : App) (level : Option ℕ) (f : ℕ) (m : Measu
         let step = step_is i here ∙ plain_adds m.whole (operation app f i) (ap is_plain p.step.item.is ∙ p.step.plain) in
         omega (arith, le, more, step)
 
-    pub passed_some : (i g q : ℕ) → Enters config app level f i g → Lives i → Back config app None g 0 q → 0 < (summary_of m.whole g).back
+    pub passed_some : (i g q : ℕ) → EntersRaised config app level f i g → Lives i → CountsBack config app None g 0 q → 0 < (summary_of m.whole g).back
     passed_some i g q e here inner =
         let small = (m.called_back i g here.reached e).none_larger q inner in
         let some = back_some config app None g 0 q inner in
         omega (arith, small, some)
 
-    pub pass_on : (i g q s : ℕ) → Enters config app level f i g → Lives i → Lives (i + 1) → Back config app None g 0 q → min MOST s ≤ on_at (i + 1)
+    pub pass_on : (i g q s : ℕ) → EntersRaised config app level f i g → Lives i → Lives (i + 1) → CountsBack config app None g 0 q → min MOST s ≤ on_at (i + 1)
         → min MOST (1 + (q + s)) ≤ on_at i
     pass_on i g q s e here next inner le = by (cases_eq (on_at (i + 1)) 0)
       where
@@ -408,7 +408,7 @@ module _ (config : Config) (app : App) (level : Option ℕ) (f : ℕ) (m : Measu
             let step = step_is i here ∙ ap (going_size m.whole) e.item.is in
             omega (arith, le, more, step, small)
 
-    pub pass_back : (i g q s : ℕ) → Enters config app level f i g → Lives i → Lives (i + 1) → Back config app None g 0 q → 0 < s → min MOST s ≤ back_at (i + 1)
+    pub pass_back : (i g q s : ℕ) → EntersRaised config app level f i g → Lives i → Lives (i + 1) → CountsBack config app None g 0 q → 0 < s → min MOST s ≤ back_at (i + 1)
         → min MOST (1 + (q + s)) ≤ back_at i
     pass_back i g q s e here next inner some le =
         let small = (m.called_back i g here.reached e).none_larger q inner in
@@ -426,10 +426,10 @@ module _ (config : Config) (app : App) (level : Option ℕ) (f : ℕ) (m : Measu
     -- ---- each size is attained
 
     abbrev OnOf : (i size : ℕ) → Type 0
-    OnOf i size = (n : ℕ) × On config app level f i n × (min MOST n ≡ size)
+    OnOf i size = (n : ℕ) × CountsOn config app level f i n × (min MOST n ≡ size)
 
     abbrev BackOf : (i size : ℕ) → Type 0
-    BackOf i size = (n : ℕ) × Back config app level f i n × (min MOST n ≡ size)
+    BackOf i size = (n : ℕ) × CountsBack config app level f i n × (min MOST n ≡ size)
 
     ending : (i : ℕ) → Lives i → OnOf i (min MOST (get_or z.ends i 0))
     ending i a = by (calls_or_not m.whole (operation app f i))
@@ -441,7 +441,7 @@ module _ (config : Config) (app : App) (level : Option ℕ) (f : ℕ) (m : Measu
             (count_of app f i, on_ends level f i a.item a.raised, omega (arith, e))
         by (inl g) = at (cases_eq (summary_of m.whole g.0).on 0)
           where
-            enter : Enters config app level f i g.0
+            enter : EntersRaised config app level f i g.0
             enter = record { item = record { known = m.known; inside = a.item.inside; is = g.1 }; raised = a.raised }
 
             is : get_or z.ends i 0 ≡ joined 1 (summary_of m.whole g.0).on
@@ -466,7 +466,7 @@ module _ (config : Config) (app : App) (level : Option ℕ) (f : ℕ) (m : Measu
         let e = step_is i a ∙ ap (going_size m.whole) en.item.is in
         let is = further.2 in
         let was = inner.2 in
-        (1 + (inner.0 + further.0), on_passes level f i g inner.0 further.0 en inner.1 (subst (λ k. On config app level f k further.0) next further.1), omega (arith, e, is, was))
+        (1 + (inner.0 + further.0), on_passes level f i g inner.0 further.0 en inner.1 (subst (λ k. CountsOn config app level f k further.0) next further.1), omega (arith, e, is, was))
 
     on_trail : (further : List ℕ) (i : ℕ) → IsEnded m.ways z.ends i further → OnOf i (min MOST (size_of_trail z.steps z.ends i further))
     on_trail [] i e = ending i (alive_of z.ends (ending_size m.whole) z.ends_count z.ends_are i e.adds)
@@ -486,7 +486,7 @@ module _ (config : Config) (app : App) (level : Option ℕ) (f : ℕ) (m : Measu
         let e = step_is i a ∙ ap (going_size m.whole) en.item.is in
         let is = further.2 in
         let was = inner.2 in
-        (1 + (inner.0 + further.0), back_passes level f i g inner.0 further.0 en inner.1 (subst (λ k. Back config app level f k further.0) next further.1), omega (arith, e, is, was))
+        (1 + (inner.0 + further.0), back_passes level f i g inner.0 further.0 en inner.1 (subst (λ k. CountsBack config app level f k further.0) next further.1), omega (arith, e, is, was))
 
     back_trail : (further : List ℕ) (i : ℕ) → IsEnded m.ways z.leaves i further → BackOf i (min MOST (size_of_trail z.steps z.leaves i further))
     back_trail [] i e =
@@ -536,7 +536,7 @@ module _ (config : Config) (app : App) where
   pub living : (level : Option ℕ) (f i : ℕ) (m : Measures config app level f) → ReachesItem app f i → Begins config app level f i → Lives config app level f m i
   living level f i m r b = record { reached = r; item = b.item; raised = b.raised }
 
-  pub on_none : (level : Option ℕ) (f i n : ℕ) (m : Measures config app level f) (z : Sizes config app level f m) → ReachesItem app f i → On config app level f i n
+  pub on_none : (level : Option ℕ) (f i n : ℕ) (m : Measures config app level f) (z : Sizes config app level f m) → ReachesItem app f i → CountsOn config app level f i n
       → min MOST n ≤ get_or z.on i 0
   on_none level f i n m z r (on_ends l g k item raised) = alone config app l g m z k (record { reached = r; item = item; raised = raised })
   on_none level f i n m z r (on_inside l g k j q p further) =
@@ -550,7 +550,7 @@ module _ (config : Config) (app : App) where
       pass_on config app l a m z k g q s e (living l a k m r (record { item = itself config app a k (op.Invoke g) e.item; raised = e.raised }))
       (living l a (k + 1) m after (on_begins config app l a (k + 1) s further)) inner (on_none l a (k + 1) s m z after further)
 
-  pub back_none : (level : Option ℕ) (f i n : ℕ) (m : Measures config app level f) (z : Sizes config app level f m) → ReachesItem app f i → Back config app level f i n
+  pub back_none : (level : Option ℕ) (f i n : ℕ) (m : Measures config app level f) (z : Sizes config app level f m) → ReachesItem app f i → CountsBack config app level f i n
       → min MOST n ≤ get_or z.back i 0
   back_none level f i n m z r (back_returns l g k item raised) =
       leave config app l g m z k (record { reached = r; item = itself config app g k op.Return item; raised = raised }) item

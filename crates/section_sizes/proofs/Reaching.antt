@@ -10,7 +10,7 @@ use Rattle.osek_valid.proofs.Facts.{Facts}
 use Rattle.osek_valid.proofs.Held.{falls_inside}
 use Rattle.raised_sections.specs.Walks.{chains_itself}
 use Rattle.section_sizes.specs.declared.graph.Ways.{Ways}
-use Rattle.section_sizes.specs.Graph.{ways_of, Has}
+use Rattle.section_sizes.specs.Graph.{ways_of, HasMark}
 use Rattle.section_sizes.specs.Search.{IsReachable, reachable_first, reachable_on}
 use Rattle.section_sizes.specs.Parts.{is_plain, StepsInside, ReachesItem, reaches_first, reaches_inside, reaches_behind, Returns}
 use Rattle.section_sizes.specs.Computed.{goes_past, item_ways}
@@ -97,5 +97,5 @@ module _ (config : Config) (app : App) (w : Facts config app) (f : ℕ) (known :
       (leads (function app f) passed going open_items ways count exact k (k + 1) (back_call k g (subst (λ x. IsItem app x k (op.Invoke g)) e call) (q, inner, ret)))
 
   -- what the search marks
-  pub walked : (marks : List Bool) → ((i : ℕ) → Has marks i ↔ IsReachable ways i) → (i : ℕ) → Has marks i ↔ ReachesItem app f i
+  pub walked : (marks : List Bool) → ((i : ℕ) → HasMark marks i ↔ IsReachable ways i) → (i : ℕ) → HasMark marks i ↔ ReachesItem app f i
   walked marks m i = (λ h. to_walk i ((m i).0 h), λ r. (m i).1 (from_walk f i refl r))

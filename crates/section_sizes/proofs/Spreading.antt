@@ -4,13 +4,13 @@ use Rattle.std.proofs.lemmas.Bool.{cases_eq, cases_lt, false≢true}
 use Rattle.std.proofs.lemmas.List.{get_or_past, length-set, length-append}
 use Rattle.code_rules.specs.Code.{is_in}
 use Rattle.section_sizes.specs.declared.graph.Ways.{Ways}
-use Rattle.section_sizes.specs.Graph.{Goes, AreInside, Has, unseen_of, unseen}
-use Rattle.section_sizes.specs.Search.{IsReachable, reachable_first, reachable_on, Spreading}
+use Rattle.section_sizes.specs.Graph.{Goes, AreInside, HasMark, unseen_of, unseen_count}
+use Rattle.section_sizes.specs.Search.{IsReachable, reachable_first, reachable_on, IsSpreading}
 use Rattle.section_sizes.proofs.Diving.{at_end, in_front, front_or_end, has_more, has_now, has_before, fewer, unseen_is, all_seen}
 
-module _ (ways : List Ways) (marks : List Bool) (stack rest : List ℕ) (from : ℕ) (is : stack ≡ rest ++ from ∷ []) (s : Spreading ways marks stack) where
-  t : Spreading ways marks (rest ++ from ∷ [])
-  t = subst (Spreading ways marks) is s
+module _ (ways : List Ways) (marks : List Bool) (stack rest : List ℕ) (from : ℕ) (is : stack ≡ rest ++ from ∷ []) (s : IsSpreading ways marks stack) where
+  t : IsSpreading ways marks (rest ++ from ∷ [])
+  t = subst (IsSpreading ways marks) is s
 
   pub known : from < length ways
   known = (t.kept from (at_end from rest)).0
@@ -21,7 +21,7 @@ module _ (ways : List Ways) (marks : List Bool) (stack rest : List ℕ) (from : 
       let f = unseen_is ways marks from node e in
       (subst (λ n. node < n) (sym t.count) (inside from node f.0), f.1)
 
-  pushed : AreInside ways → (node : ℕ) → unseen_of ways marks from ≡ Some node → Spreading ways (set marks node true) ((rest ++ from ∷ []) ++ node ∷ [])
+  pushed : AreInside ways → (node : ℕ) → unseen_of ways marks from ≡ Some node → IsSpreading ways (set marks node true) ((rest ++ from ∷ []) ++ node ∷ [])
   pushed inside node e =
       let f = unseen_is ways marks from node e in
       let lt = inside from node f.0 in
@@ -35,7 +35,7 @@ module _ (ways : List Ways) (marks : List Bool) (stack rest : List ℕ) (from : 
             (cases_eq i node);
         kept = λ i h. ⊎_elim
             (λ g. let k = t.kept i g in (k.0, has_more marks node i k.1))
-            (λ same. (subst (λ (y : ℕ). y < length ways) same lt, subst (Has (set marks node true)) same here))
+            (λ same. (subst (λ (y : ℕ). y < length ways) same lt, subst (HasMark (set marks node true)) same here))
             (front_or_end i node (rest ++ from ∷ []) h);
         closed = λ i h. ⊎_elim
             (λ same. inl (subst (λ (y : ℕ). is_in y ((rest ++ from ∷ []) ++ node ∷ []) ≡ true) (sym same) (at_end node (rest ++ from ∷ []))))
@@ -45,18 +45,18 @@ module _ (ways : List Ways) (marks : List Bool) (stack rest : List ℕ) (from : 
 
   -- the same as the code has it
   pub pushed_as : AreInside ways → (node : ℕ) → unseen_of ways marks from ≡ Some node → (new : List Bool) (mid longer : List ℕ)
-      → new ≡ set marks node true → mid ≡ rest ++ from ∷ [] → longer ≡ mid ++ node ∷ [] → Spreading ways new longer
+      → new ≡ set marks node true → mid ≡ rest ++ from ∷ [] → longer ≡ mid ++ node ∷ [] → IsSpreading ways new longer
   pushed_as inside node e new mid longer m k l =
-      let P : List Bool → Type 0 = λ b. Spreading ways b longer in
-      let Q : List ℕ → Type 0 = λ ns. Spreading ways (set marks node true) ns in
+      let P : List Bool → Type 0 = λ b. IsSpreading ways b longer in
+      let Q : List ℕ → Type 0 = λ ns. IsSpreading ways (set marks node true) ns in
       subst P (sym m) (subst Q (sym (l ∙ ap (λ ns. ns ++ node ∷ []) k)) (pushed inside node e))
 
   pub fewer_as : AreInside ways → (node : ℕ) → unseen_of ways marks from ≡ Some node → (new : List Bool) (mid longer : List ℕ)
       → new ≡ set marks node true → mid ≡ rest ++ from ∷ [] → longer ≡ mid ++ node ∷ []
-      → 2 * unseen new + length longer < 2 * unseen marks + length stack
+      → 2 * unseen_count new + length longer < 2 * unseen_count marks + length stack
   fewer_as inside node e new mid longer m k l =
       let f = pushed_known inside node e in
-      let u = ap unseen m in
+      let u = ap unseen_count m in
       let v = fewer marks node f.0 f.1 in
       let a = ap length l ∙ length-append mid (node ∷ []) in
       let b = ap length k ∙ length-append rest (from ∷ []) in
@@ -64,7 +64,7 @@ module _ (ways : List Ways) (marks : List Bool) (stack rest : List ℕ) (from : 
       omega (arith, u, v, a, b, d)
 
   -- a node of which all ways are marked
-  pub dropped : unseen_of ways marks from ≡ None → Spreading ways marks rest
+  pub dropped : unseen_of ways marks from ≡ None → IsSpreading ways marks rest
   dropped none = record {
     count = t.count;
     start = t.start;
@@ -77,42 +77,42 @@ module _ (ways : List Ways) (marks : List Bool) (stack rest : List ℕ) (from : 
 
 module _ (ways : List Ways) where
   -- nothing is in the stack any more
-  pub spread_out : (marks : List Bool) (stack : List ℕ) → length stack ≡ 0 → Spreading ways marks stack → (i : ℕ) → Has marks i ↔ IsReachable ways i
+  pub spread_out : (marks : List Bool) (stack : List ℕ) → length stack ≡ 0 → IsSpreading ways marks stack → (i : ℕ) → HasMark marks i ↔ IsReachable ways i
   spread_out marks stack e s i = (s.sound i, all i)
     where
       none : (i : ℕ) (xs : List ℕ) → length xs ≡ 0 → is_in i xs ≡ true → ⊥
       none i [] e h = false≢true h
       none i (x ∷ xs) e h = absurd (omega (arith, e))
 
-      all : (i : ℕ) → IsReachable ways i → Has marks i
+      all : (i : ℕ) → IsReachable ways i → HasMark marks i
       all i reachable_first = s.start
       all i (reachable_on k j r goes) = ⊎_elim (λ h. absurd (none k stack e h)) (λ g. g j goes) (s.closed k (all k r))
 
   -- the first node alone is marked and in the stack
   pub first_marked : (clear new : List Bool) (stack : List ℕ) → length clear ≡ length ways → 0 < length ways → ((i : ℕ) → i < length ways → get_or clear i false ≡ false)
-      → new ≡ set clear 0 true → stack ≡ 0 ∷ [] → Spreading ways new stack
+      → new ≡ set clear 0 true → stack ≡ 0 ∷ [] → IsSpreading ways new stack
   first_marked clear new stack count some none m k =
-      let P : List Bool → Type 0 = λ b. Spreading ways b stack in
-      let Q : List ℕ → Type 0 = λ ns. Spreading ways (set clear 0 true) ns in
+      let P : List Bool → Type 0 = λ b. IsSpreading ways b stack in
+      let Q : List ℕ → Type 0 = λ ns. IsSpreading ways (set clear 0 true) ns in
       subst P (sym m) (subst Q (sym k) start)
     where
       clear_all : (i : ℕ) → get_or clear i false ≡ false
       clear_all i = ⊎_elim (λ h. none i h) (λ h. get_or_past clear i false (omega (arith, h, count))) (cases_lt i (length ways))
 
-      only : (i : ℕ) → Has (set clear 0 true) i → i ≡ 0
+      only : (i : ℕ) → HasMark (set clear 0 true) i → i ≡ 0
       only i h = ⊎_elim (λ e. e) (λ n. absurd (false≢true (sym (clear_all i) ∙ has_before clear 0 i n h))) (cases_eq i 0)
 
-      here : Has (set clear 0 true) 0
+      here : HasMark (set clear 0 true) 0
       here = has_now clear 0 (omega (arith, count, some))
 
-      start : Spreading ways (set clear 0 true) (0 ∷ [])
+      start : IsSpreading ways (set clear 0 true) (0 ∷ [])
       start = record {
         count = length-set clear 0 true ∙ count;
         start = here;
         sound = λ i h. subst (IsReachable ways) (sym (only i h)) reachable_first;
         kept = λ i h. ⊎_elim
             (λ g. absurd (false≢true g))
-            (λ e. (subst (λ (y : ℕ). y < length ways) e some, subst (Has (set clear 0 true)) e here))
+            (λ e. (subst (λ (y : ℕ). y < length ways) e some, subst (HasMark (set clear 0 true)) e here))
             (front_or_end i 0 [] h);
         closed = λ i h. inl (subst (λ (y : ℕ). is_in y (0 ∷ []) ≡ true) (sym (only i h)) (at_end 0 []));
       }

@@ -13,15 +13,15 @@ use Rattle.stack_bounds.proofs.Below.{max_below-at, max_below-some, last_or_befo
 use Rattle.section_sizes.specs.declared.bodies.Body.{Body}
 use Rattle.section_sizes.specs.declared.sizes.Summary.{Summary}
 use Rattle.section_sizes.specs.Trails.{MOST}
-use Rattle.section_sizes.specs.Parts.{reaches_level, is_raised, called_level, level_behind, ReachesItem, reaches_first, ReachesCall, Enters, Back, On, Out, Within, out_here, out_behind, within_here, within_called, within_behind}
-use Rattle.section_sizes.specs.Computed.{summary_of, joined, Known, known, known_raised, callee, endless_call, calls_endless, called_most, most_at, most_of, joined_both, called_out, out_at, out_of}
+use Rattle.section_sizes.specs.Parts.{reaches_level, is_raised, called_level, level_behind, ReachesItem, reaches_first, ReachesCall, EntersRaised, CountsBack, CountsOn, CountsOut, CountsWithin, out_here, out_behind, within_here, within_called, within_behind}
+use Rattle.section_sizes.specs.Computed.{summary_of, joined, KnownBody, known_body_of, known_raised, callee, endless_call, calls_endless, called_most, most_at, most_of, joined_both, called_out, out_at, out_of}
 use Rattle.section_sizes.specs.Known.{IsKnownBody, IsGreatestPart, HasLimit, IsExact, IsEndless, IsSummary}
 use Rattle.section_sizes.proofs.Counting.{any_is, none_is}
 use Rattle.section_sizes.proofs.Limited.{CalledLimit, has_limit}
 use Rattle.section_sizes.proofs.Measured.{Measures, Sizes, on_begins, back_begins, back_some, back_on, reached_after, on_none, back_none, on_attained, back_attained}
 
 -- a part that ends with a `ret` is one that stays, too
-pub out_within : (config : Config) (app : App) (level : Option ℕ) (f n : ℕ) → Out config app level f n → Within config app level f n
+pub out_within : (config : Config) (app : App) (level : Option ℕ) (f n : ℕ) → CountsOut config app level f n → CountsWithin config app level f n
 out_within config app level f n (out_here l g i k r b) = within_here l g i k r (back_on config app l g i k b)
 out_within config app level f n (out_behind l f' i g k m call inner b) = within_behind l f' i g k m call inner (back_on config app l f' (i + 1) m b)
 
@@ -49,8 +49,8 @@ pub record Called (config : Config) (app : App) (level : Option ℕ) (f : ℕ) (
 
 module _ (config : Config) (app : App) (level : Option ℕ) (f : ℕ) (there : f < length app.funcs) (body : Body) (is_body : IsKnownBody config app f body)
     (whole own : List Summary) (calls : Called config app level f whole own) where
-  abbrev K : Known
-  K = known (function app f) body level whole own
+  abbrev K : KnownBody
+  K = known_body_of (function app f) body level whole own
 
   abbrev Level : ℕ → Option ℕ
   Level i = level_behind config app level f i
@@ -105,17 +105,17 @@ module _ (config : Config) (app : App) (level : Option ℕ) (f : ℕ) (there : f
         second false b e f = absurd (false≢true e)
 
     -- where the task is raised it is that of the functions that are called so
-    entered : (i g : ℕ) → ReachesItem app f i → Enters config app level f i g → IsExact config app None g (summary_of whole g)
+    entered : (i g : ℕ) → ReachesItem app f i → EntersRaised config app level f i g → IsExact config app None g (summary_of whole g)
     entered i g r e =
         let x = exact i g (record { reached = r; item = e.item }) in
         let P : Bool → Type 0 = λ b. IsExact config app (called_level b level) g (callee K i g) in
         let Q : Bool → Type 0 = λ b. IsExact config app None g (cond b (summary_of whole g) (summary_of own g)) in
         subst Q (same_raised i e.item.inside ∙ e.raised) (subst P e.raised x)
 
-    pub called_on : (i g : ℕ) → ReachesItem app f i → Enters config app level f i g → IsGreatestPart (On config app None g 0) (summary_of whole g).on
+    pub called_on : (i g : ℕ) → ReachesItem app f i → EntersRaised config app level f i g → IsGreatestPart (CountsOn config app None g 0) (summary_of whole g).on
     called_on i g r e = (entered i g r e).on
 
-    pub called_back : (i g : ℕ) → ReachesItem app f i → Enters config app level f i g → IsGreatestPart (Back config app None g 0) (summary_of whole g).back
+    pub called_back : (i g : ℕ) → ReachesItem app f i → EntersRaised config app level f i g → IsGreatestPart (CountsBack config app None g 0) (summary_of whole g).back
     called_back i g r e = (entered i g r e).back
 
     -- ---- a limit of what is called
@@ -171,7 +171,7 @@ module _ (config : Config) (app : App) (level : Option ℕ) (f : ℕ) (there : f
     pub all_calls : Below (length (function app f).items)
     all_calls = below (length (function app f).items) (omega arith)
 
-    entered_limit : (i g : ℕ) → ReachesItem app f i → Enters config app level f i g → (x : HasLimit config app None g) × (x.limit ≤ all_calls.limit)
+    entered_limit : (i g : ℕ) → ReachesItem app f i → EntersRaised config app level f i g → (x : HasLimit config app None g) × (x.limit ≤ all_calls.limit)
     entered_limit i g r e =
         let P : Bool → Type 0 = λ b. (x : HasLimit config app (called_level b level) g) × (x.limit ≤ all_calls.limit) in
         subst P e.raised (all_calls.each i g e.item.inside (record { reached = r; item = e.item }))
@@ -188,18 +188,18 @@ module _ (config : Config) (app : App) (level : Option ℕ) (f : ℕ) (there : f
 
     module _ (m : Measures config app level f) (z : Sizes config app level f m) where
       abbrev AttainsWithin : ℕ → Type 0
-      AttainsWithin size = (n : ℕ) × Within config app level f n × (min MOST n ≡ size)
+      AttainsWithin size = (n : ℕ) × CountsWithin config app level f n × (min MOST n ≡ size)
 
       abbrev AttainsOut : ℕ → Type 0
-      AttainsOut size = (n : ℕ) × Out config app level f n × (min MOST n ≡ size)
+      AttainsOut size = (n : ℕ) × CountsOut config app level f n × (min MOST n ≡ size)
 
       abbrev N : ℕ
       N = length (function app f).items
 
-      on_small : (i n : ℕ) → ReachesItem app f i → On config app level f i n → min MOST n ≤ get_or z.on i 0
+      on_small : (i n : ℕ) → ReachesItem app f i → CountsOn config app level f i n → min MOST n ≤ get_or z.on i 0
       on_small i n r part = on_none config app level f i n m z r part
 
-      begins : (i n : ℕ) → On config app level f i n → i < N
+      begins : (i n : ℕ) → CountsOn config app level f i n → i < N
       begins i n part = (on_begins config app level f i n part).item.inside
 
       -- what a reached call adds
@@ -215,23 +215,23 @@ module _ (config : Config) (app : App) (level : Option ℕ) (f : ℕ) (there : f
           ap (called_out K z.back i) c.item.is
           ∙ ap (λ b. cond b (joined_both (callee K i g).out (get_or z.back (i + 1) 0)) 0) ((is_body.reached i).1 c.reached)
 
-      pub most_is : IsGreatestPart (Within config app level f) (most_of K z.on)
+      pub most_is : IsGreatestPart (CountsWithin config app level f) (most_of K z.on)
       most_is = record { none_larger = larger; attained = attains }
         where
           at : (i : ℕ) → i < N → most_at K z.on i ≤ most_of K z.on
           at i lt = max_below-at N (most_at K z.on) i lt
 
-          here : (i n : ℕ) → ReachesItem app f i → On config app level f i n → min MOST n ≤ most_of K z.on
+          here : (i n : ℕ) → ReachesItem app f i → CountsOn config app level f i n → min MOST n ≤ most_of K z.on
           here i n r part = let le = on_small i n r part in let more = at i (begins i n part) in omega (arith, le, more)
 
-          called : (i g n : ℕ) → ReachesCall app f i g → Within config app (Level i) g n → min MOST n ≤ most_of K z.on
+          called : (i g n : ℕ) → ReachesCall app f i g → CountsWithin config app (Level i) g n → min MOST n ≤ most_of K z.on
           called i g n c part =
               let le = (exact i g c).most.none_larger n part in
               let more = at i c.item.inside in
               let is = called_most_is i g c in
               omega (arith, le, more, is)
 
-          behind : (i g n q : ℕ) → ReachesCall app f i g → Out config app (Level i) g n → On config app level f (i + 1) q → min MOST (n + q) ≤ most_of K z.on
+          behind : (i g n q : ℕ) → ReachesCall app f i g → CountsOut config app (Level i) g n → CountsOn config app level f (i + 1) q → min MOST (n + q) ≤ most_of K z.on
           behind i g n q c out part =
               let le = (exact i g c).out.none_larger n out in
               let rest = on_small (i + 1) q (reached_after config app level f i g n c out) part in
@@ -239,19 +239,19 @@ module _ (config : Config) (app : App) (level : Option ℕ) (f : ℕ) (there : f
               let is = called_most_is i g c in
               omega (arith, le, rest, more, is)
 
-          larger : (n : ℕ) → Within config app level f n → min MOST n ≤ most_of K z.on
+          larger : (n : ℕ) → CountsWithin config app level f n → min MOST n ≤ most_of K z.on
           larger n w = cases_of level f n refl refl w
             where
-              cases_of : (l : Option ℕ) (h n : ℕ) → l ≡ level → h ≡ f → Within config app l h n → min MOST n ≤ most_of K z.on
+              cases_of : (l : Option ℕ) (h n : ℕ) → l ≡ level → h ≡ f → CountsWithin config app l h n → min MOST n ≤ most_of K z.on
               cases_of l h n e d (within_here a b i q r part) =
-                  here i q (subst (λ v. ReachesItem app v i) d r) (subst (λ v. On config app level v i q) d (subst (λ v. On config app v b i q) e part))
+                  here i q (subst (λ v. ReachesItem app v i) d r) (subst (λ v. CountsOn config app level v i q) d (subst (λ v. CountsOn config app v b i q) e part))
               cases_of l h n e d (within_called a b i g q c part) =
                   called i g q (subst (λ v. ReachesCall app v i g) d c)
-                  (subst (λ v. Within config app (level_behind config app level v i) g q) d (subst (λ v. Within config app (level_behind config app v b i) g q) e part))
+                  (subst (λ v. CountsWithin config app (level_behind config app level v i) g q) d (subst (λ v. CountsWithin config app (level_behind config app v b i) g q) e part))
               cases_of l h n e d (within_behind a b i g q s c out part) =
                   behind i g q s (subst (λ v. ReachesCall app v i g) d c)
-                  (subst (λ v. Out config app (level_behind config app level v i) g q) d (subst (λ v. Out config app (level_behind config app v b i) g q) e out))
-                  (subst (λ v. On config app level v (i + 1) s) d (subst (λ v. On config app v b (i + 1) s) e part))
+                  (subst (λ v. CountsOut config app (level_behind config app level v i) g q) d (subst (λ v. CountsOut config app (level_behind config app v b i) g q) e out))
+                  (subst (λ v. CountsOn config app level v (i + 1) s) d (subst (λ v. CountsOn config app v b (i + 1) s) e part))
 
           from_on : (i : ℕ) → 0 < get_or z.on i 0 → AttainsWithin (get_or z.on i 0)
           from_on i pos =
@@ -324,13 +324,13 @@ module _ (config : Config) (app : App) (level : Option ℕ) (f : ℕ) (there : f
                       (got.0, got.1, is_left _ _ _ le got.2))
                       (cases_lt (get_or z.on i 0) (called_most K z.on i (operation app f i)))
 
-      pub out_is : IsGreatestPart (Out config app level f) (out_of K z.back)
+      pub out_is : IsGreatestPart (CountsOut config app level f) (out_of K z.back)
       out_is = record { none_larger = larger; attained = attains }
         where
           at : (i : ℕ) → i < N → out_at K z.back i ≤ out_of K z.back
           at i lt = max_below-at N (out_at K z.back) i lt
 
-          here : (i n : ℕ) → ReachesItem app f i → Back config app level f i n → min MOST n ≤ out_of K z.back
+          here : (i n : ℕ) → ReachesItem app f i → CountsBack config app level f i n → min MOST n ≤ out_of K z.back
           here i n r part =
               let le = back_none config app level f i n m z r part in
               let more = at i (back_begins config app level f i n part).item.inside in
@@ -340,7 +340,7 @@ module _ (config : Config) (app : App) (level : Option ℕ) (f : ℕ) (there : f
           both_is a b p q =
               ap (λ c. cond (c && ltb 0 b) (joined a b) 0) (lt-ltb 0 a p) ∙ ap (λ c. cond c (joined a b) 0) (lt-ltb 0 b q)
 
-          behind : (i g n q : ℕ) → ReachesCall app f i g → Out config app (Level i) g n → Back config app level f (i + 1) q → min MOST (n + q) ≤ out_of K z.back
+          behind : (i g n q : ℕ) → ReachesCall app f i g → CountsOut config app (Level i) g n → CountsBack config app level f (i + 1) q → min MOST (n + q) ≤ out_of K z.back
           behind i g n q c out part =
               let le = (exact i g c).out.none_larger n out in
               let some = out_some (Level i) g n out in
@@ -350,20 +350,20 @@ module _ (config : Config) (app : App) (level : Option ℕ) (f : ℕ) (there : f
               let is = called_out_is i g c ∙ both_is (callee K i g).out (get_or z.back (i + 1) 0) (omega (arith, le, some)) (omega (arith, rest, more_some)) in
               omega (arith, le, rest, more, is)
             where
-              out_some : (l : Option ℕ) (g n : ℕ) → Out config app l g n → 0 < n
+              out_some : (l : Option ℕ) (g n : ℕ) → CountsOut config app l g n → 0 < n
               out_some l g n (out_here k a j m r b) = back_some config app k a j m b
               out_some l g n (out_behind k a j h m q c inner b) = let p = back_some config app k a (j + 1) q b in omega (arith, p)
 
-          larger : (n : ℕ) → Out config app level f n → min MOST n ≤ out_of K z.back
+          larger : (n : ℕ) → CountsOut config app level f n → min MOST n ≤ out_of K z.back
           larger n w = cases_of level f n refl refl w
             where
-              cases_of : (l : Option ℕ) (h n : ℕ) → l ≡ level → h ≡ f → Out config app l h n → min MOST n ≤ out_of K z.back
+              cases_of : (l : Option ℕ) (h n : ℕ) → l ≡ level → h ≡ f → CountsOut config app l h n → min MOST n ≤ out_of K z.back
               cases_of l h n e d (out_here a b i q r part) =
-                  here i q (subst (λ v. ReachesItem app v i) d r) (subst (λ v. Back config app level v i q) d (subst (λ v. Back config app v b i q) e part))
+                  here i q (subst (λ v. ReachesItem app v i) d r) (subst (λ v. CountsBack config app level v i q) d (subst (λ v. CountsBack config app v b i q) e part))
               cases_of l h n e d (out_behind a b i g q s c out part) =
                   behind i g q s (subst (λ v. ReachesCall app v i g) d c)
-                  (subst (λ v. Out config app (level_behind config app level v i) g q) d (subst (λ v. Out config app (level_behind config app v b i) g q) e out))
-                  (subst (λ v. Back config app level v (i + 1) s) d (subst (λ v. Back config app v b (i + 1) s) e part))
+                  (subst (λ v. CountsOut config app (level_behind config app level v i) g q) d (subst (λ v. CountsOut config app (level_behind config app v b i) g q) e out))
+                  (subst (λ v. CountsBack config app level v (i + 1) s) d (subst (λ v. CountsBack config app v b (i + 1) s) e part))
 
           adding : (i : ℕ) (o : Op) → i < N → operation app f i ≡ o → 0 < called_out K z.back i o
               → (g : ℕ) × ReachesCall app f i g × (called_out K z.back i o ≡ joined_both (callee K i g).out (get_or z.back (i + 1) 0))
@@ -432,13 +432,13 @@ module _ (config : Config) (app : App) (level : Option ℕ) (f : ℕ) (there : f
 
       -- ---- the summary
 
-      first_is : IsGreatestPart (On config app level f 0) (get_or z.on 0 0)
+      first_is : IsGreatestPart (CountsOn config app level f 0) (get_or z.on 0 0)
       first_is = record {
         none_larger = λ n part. on_small 0 n (reaches_first f) part;
         attained = λ pos. let a = on_attained config app level f m z 0 pos in a.1;
       }
 
-      first_back : IsGreatestPart (Back config app level f 0) (get_or z.back 0 0)
+      first_back : IsGreatestPart (CountsBack config app level f 0) (get_or z.back 0 0)
       first_back = record {
         none_larger = λ n part. back_none config app level f 0 n m z (reaches_first f) part;
         attained = λ pos. let a = back_attained config app level f m z 0 pos in a.1;

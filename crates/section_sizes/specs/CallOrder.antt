@@ -2,7 +2,7 @@
 use Rattle.std.specs.Prelude.{ℕ, leb, cond, ◌<◌, ◌≤◌, ◌≡◌, true, false, Bool, List, length, get_or, take, Option, Some, None}
 use Rattle.sloth_base.specs.declared.app.App.{App}
 use Rattle.code_rules.specs.Code.{is_in, Calls}
-use Rattle.section_sizes.specs.Graph.{Has}
+use Rattle.section_sizes.specs.Graph.{HasMark}
 
 -- each function is there, behind those that it calls
 pub record IsCallOrder (app : App) (order : List ℕ) : Type 0 where
@@ -11,9 +11,9 @@ pub record IsCallOrder (app : App) (order : List ℕ) : Type 0 where
   pub behind : (k g : ℕ) → k < length order → Calls app (get_or order k 0) g → is_in g (take k order) ≡ true
 
 -- of the first n functions one of least rank among those that are not done, if there is one
-abbrev pub IsLeast : (ranks : List ℕ) (done : List Bool) (n : ℕ) → Option ℕ → Type 0
-IsLeast ranks done n None = (g : ℕ) → g < n → Has done g
-IsLeast ranks done n (Some f) = (f < n) × (get_or done f false ≡ false) × ((g : ℕ) → g < n → get_or done g false ≡ false → get_or ranks f 0 ≤ get_or ranks g 0)
+abbrev pub IsLeastRank : (ranks : List ℕ) (done : List Bool) (n : ℕ) → Option ℕ → Type 0
+IsLeastRank ranks done n None = (g : ℕ) → g < n → HasMark done g
+IsLeastRank ranks done n (Some f) = (f < n) × (get_or done f false ≡ false) × ((g : ℕ) → g < n → get_or done g false ≡ false → get_or ranks f 0 ≤ get_or ranks g 0)
 
 -- the one of two functions that has the lesser rank
 abbrev pub lesser_of : (ranks : List ℕ) → Option ℕ → ℕ → Option ℕ
@@ -25,8 +25,8 @@ abbrev pub lesser : (ranks : List ℕ) (done : List Bool) → Option ℕ → ℕ
 lesser ranks done best f = cond (get_or done f false) best (lesser_of ranks best f)
 
 -- the functions of the order are those that are done, each behind those that it calls
-pub record Ordering (app : App) (done : List Bool) (order : List ℕ) : Type 0 where
+pub record IsOrdering (app : App) (done : List Bool) (order : List ℕ) : Type 0 where
   pub count : length done ≡ length app.funcs
-  pub listed : (f : ℕ) → Has done f → is_in f order ≡ true
-  pub ordered : (f : ℕ) → is_in f order ≡ true → (f < length app.funcs) × Has done f
+  pub listed : (f : ℕ) → HasMark done f → is_in f order ≡ true
+  pub ordered : (f : ℕ) → is_in f order ≡ true → (f < length app.funcs) × HasMark done f
   pub behind : (k g : ℕ) → k < length order → Calls app (get_or order k 0) g → is_in g (take k order) ≡ true

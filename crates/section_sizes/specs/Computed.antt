@@ -12,7 +12,7 @@ use Rattle.raised_sections.specs.Sections.{is_schedule, is_counted}
 use Rattle.section_sizes.specs.declared.graph.Ways.{Ways}
 use Rattle.section_sizes.specs.declared.bodies.Body.{Body}
 use Rattle.section_sizes.specs.declared.sizes.Summary.{Summary}
-use Rattle.section_sizes.specs.Graph.{nowhere}
+use Rattle.section_sizes.specs.Graph.{no_ways}
 use Rattle.section_sizes.specs.Trails.{MOST}
 use Rattle.section_sizes.specs.Parts.{reaches_level}
 
@@ -39,7 +39,7 @@ label_way f open_items (Some k) = open_way open_items (label_of f k).item
 -- the ways of item i to items that are open, if it is one from which ways go
 abbrev pub item_ways : Func → (passed going open_items : List Bool) → ℕ → Ways
 item_ways f passed going open_items i =
-    cond (get_or going i false) (record { next = next_way f passed open_items i; jump = label_way f open_items (way (item_of f i).op) }) nowhere
+    cond (get_or going i false) (record { next = next_way f passed open_items i; jump = label_way f open_items (way (item_of f i).op) }) no_ways
 
 -- ---- sizes
 
@@ -86,15 +86,16 @@ leaving_size o = cond (is_return o) 1 0
 
 -- what is known of a body: its items, those that are reached with the ceilings before them, the level, and the summaries of the functions that
 -- it calls, where the task is raised and where it is not
-pub record Known : Type 0 where
+pub record KnownBody : Type 0 where
   pub func : Func
   pub body : Body
   pub level : Option ℕ
   pub whole : List Summary
   pub own : List Summary
 
-abbrev pub known : Func → Body → Option ℕ → (whole own : List Summary) → Known
-known func body level whole own = record { func = func; body = body; level = level; whole = whole; own = own }
+-- these parts as one record
+abbrev pub known_body_of : Func → Body → Option ℕ → (whole own : List Summary) → KnownBody
+known_body_of func body level whole own = record { func = func; body = body; level = level; whole = whole; own = own }
 
 -- the task is raised before item i, which is reached
 abbrev pub is_alive : Body → Option ℕ → ℕ → Bool
@@ -105,36 +106,38 @@ abbrev pub is_going : Func → List Bool → ℕ → Bool
 is_going f alive i = get_or alive i false && (not (is_schedule (item_of f i).op) && not (chains_itself f (item_of f i).op))
 
 -- the task is raised before item i
-abbrev pub known_raised : Known → ℕ → Bool
+abbrev pub known_raised : KnownBody → ℕ → Bool
 known_raised k i = reaches_level k.level (get_or k.body.ceilings i 0)
 
 -- the summary of a function that is called at item i
 abbrev pub callee_of : Body → Option ℕ → (whole own : List Summary) → (i g : ℕ) → Summary
 callee_of body level whole own i g = cond (reaches_level level (get_or body.ceilings i 0)) (summary_of whole g) (summary_of own g)
 
-abbrev pub callee : Known → (i g : ℕ) → Summary
+-- the same, by what is known of the body
+abbrev pub callee : KnownBody → (i g : ℕ) → Summary
 callee k i g = callee_of k.body k.level k.whole k.own i g
 
 -- the call of function g that is item i, if it is reached: whether it is one of a function in which parts have no limit
-abbrev pub endless_call : Known → ℕ → Op → Bool
+abbrev pub endless_call : KnownBody → ℕ → Op → Bool
 endless_call k i (op.Invoke g) = get_or k.body.reached i false && (callee k i g).is_endless
 endless_call k i o = false
 
 -- some reached call is
-abbrev pub calls_endless : Known → Bool
+abbrev pub calls_endless : KnownBody → Bool
 calls_endless k = any_below (length k.func.items) (λ i. endless_call k i (item_of k.func i).op)
 
 -- the greatest size of a part that begins in the function that item i calls, where it is reached; by the sizes of parts from each item on
-abbrev pub called_most : Known → List ℕ → ℕ → Op → ℕ
+abbrev pub called_most : KnownBody → List ℕ → ℕ → Op → ℕ
 called_most k on i (op.Invoke g) =
     cond (get_or k.body.reached i false) (max (callee k i g).most (joined (callee k i g).out (get_or on (i + 1) 0))) 0
 called_most k on i o = 0
 
-abbrev pub most_at : Known → List ℕ → ℕ → ℕ
+-- the greatest size of a part that begins at item i, or in the function that it calls
+abbrev pub most_at : KnownBody → List ℕ → ℕ → ℕ
 most_at k on i = max (get_or on i 0) (called_most k on i (item_of k.func i).op)
 
 -- the greatest size of a part that begins in the body or in what it calls
-abbrev pub most_of : Known → List ℕ → ℕ
+abbrev pub most_of : KnownBody → List ℕ → ℕ
 most_of k on = max_below (length k.func.items) (most_at k on)
 
 -- a part that goes on behind another, where there are both
@@ -142,15 +145,21 @@ abbrev pub joined_both : ℕ → ℕ → ℕ
 joined_both one other = cond (ltb 0 one && ltb 0 other) (joined one other) 0
 
 -- the same of a part that ends with the body's `ret`
-abbrev pub called_out : Known → List ℕ → ℕ → Op → ℕ
+abbrev pub called_out : KnownBody → List ℕ → ℕ → Op → ℕ
 called_out k back i (op.Invoke g) = cond (get_or k.body.reached i false) (joined_both (callee k i g).out (get_or back (i + 1) 0)) 0
 called_out k back i o = 0
 
-abbrev pub out_at : Known → List ℕ → ℕ → ℕ
+-- the greatest size of a part that begins at item i or in the function that it calls, and ends with the body's `ret`
+abbrev pub out_at : KnownBody → List ℕ → ℕ → ℕ
 out_at k back i = max (get_or back i 0) (called_out k back i (item_of k.func i).op)
 
-abbrev pub out_of : Known → List ℕ → ℕ
+-- that of all items
+abbrev pub out_of : KnownBody → List ℕ → ℕ
 out_of k back = max_below (length k.func.items) (out_at k back)
+
+-- the summary by the sizes of the longest trails from each item: of all, and of those that end with the body's `ret`
+abbrev pub summary_by : KnownBody → (on back : List ℕ) → Summary
+summary_by k on back = record { is_endless = false; on = get_or on 0 0; back = get_or back 0 0; most = most_of k on; out = out_of k back }
 
 -- some reached item is a `ret`
 abbrev pub returns_of : Func → (reached : List Bool) → Bool

@@ -7,12 +7,13 @@ use Rattle.section_sizes.specs.declared.graph.Found.TheVariants as found
 
 -- ---- nodes
 
-abbrev pub nowhere : Ways
-nowhere = record { next = None; jump = None }
+-- a node without ways on; it stands in the place of one that is not there
+abbrev pub no_ways : Ways
+no_ways = record { next = None; jump = None }
 
 -- the ways of a node
 abbrev pub ways_of : List Ways → ℕ → Ways
-ways_of ways i = get_or ways i nowhere
+ways_of ways i = get_or ways i no_ways
 
 -- node i leads to node j
 abbrev pub Goes : List Ways → (i j : ℕ) → Type 0
@@ -41,10 +42,12 @@ IsFound ways found.Loop = (nodes : List ℕ) × IsLoop ways nodes
 
 -- ---- the search
 
+-- a way, where it leads to a node that is not seen yet
 abbrev pub unseen_way : List Bool → Option ℕ → Option ℕ
 unseen_way seen None = None
 unseen_way seen (Some j) = cond (get_or seen j false) None (Some j)
 
+-- the first of two ways, or the other where there is no first
 abbrev pub first_of : Option ℕ → Option ℕ → Option ℕ
 first_of None other = other
 first_of (Some j) other = Some j
@@ -53,6 +56,7 @@ first_of (Some j) other = Some j
 abbrev pub unseen_of : List Ways → List Bool → ℕ → Option ℕ
 unseen_of ways seen i = first_of (unseen_way seen (ways_of ways i).next) (unseen_way seen (ways_of ways i).jump)
 
+-- a way leads to a node that is not done
 abbrev pub is_open : List Bool → Option ℕ → Bool
 is_open done None = false
 is_open done (Some j) = not (get_or done j false)
@@ -61,41 +65,43 @@ is_open done (Some j) = not (get_or done j false)
 abbrev pub leads_to_open : List Ways → List Bool → ℕ → Bool
 leads_to_open ways done i = is_open done (ways_of ways i).next || is_open done (ways_of ways i).jump
 
-abbrev pub unseen : List Bool → ℕ
-unseen seen = count_by not seen
+-- how many nodes are not seen yet
+abbrev pub unseen_count : List Bool → ℕ
+unseen_count seen = count_by not seen
 
--- each of these nodes leads to the next
+-- node i leads to the first of these, if there is one
 abbrev pub LeadsOn : List Ways → ℕ → List ℕ → Type 0
 LeadsOn ways i [] = Unit {0}
 LeadsOn ways i (j ∷ further) = Goes ways i j
 
+-- each of these nodes leads to the next
 abbrev pub IsChain : List Ways → List ℕ → Type 0
 IsChain ways [] = Unit {0}
 IsChain ways (i ∷ further) = LeadsOn ways i further × IsChain ways further
 
 -- what is marked of a list of marks
-abbrev pub Has : List Bool → ℕ → Type 0
-Has marks i = get_or marks i false ≡ true
+abbrev pub HasMark : List Bool → ℕ → Type 0
+HasMark marks i = get_or marks i false ≡ true
 
 -- the nodes that are seen are in the stack, each leading to the next, or done; those that are done are listed, each behind those that it leads to
-pub record Searching (ways : List Ways) (seen done : List Bool) (stack order : List ℕ) : Type 0 where
+pub record IsSearching (ways : List Ways) (seen done : List Bool) (stack order : List ℕ) : Type 0 where
   pub seen_count : length seen ≡ length ways
   pub done_count : length done ≡ length ways
-  pub stacked : (i : ℕ) → is_in i stack ≡ true → (i < length ways) × Has seen i
-  pub held : (i : ℕ) → Has seen i → (is_in i stack ≡ true) ⊎ Has done i
-  pub listed : (i : ℕ) → Has done i → is_in i order ≡ true
+  pub stacked : (i : ℕ) → is_in i stack ≡ true → (i < length ways) × HasMark seen i
+  pub held : (i : ℕ) → HasMark seen i → (is_in i stack ≡ true) ⊎ HasMark done i
+  pub listed : (i : ℕ) → HasMark done i → is_in i order ≡ true
   pub inside : (i : ℕ) → is_in i order ≡ true → i < length ways
   pub chain : IsChain ways stack
   pub behind : (k j : ℕ) → k < length order → Goes ways (get_or order k 0) j → is_in j (take k order) ≡ true
 
 -- all that was seen is seen still
-abbrev pub Keeps : (old new : List Bool) → Type 0
-Keeps old new = (i : ℕ) → Has old i → Has new i
+abbrev pub KeepsSeen : (old new : List Bool) → Type 0
+KeepsSeen old new = (i : ℕ) → HasMark old i → HasMark new i
 
 -- a search ended with a loop, or with an empty stack
 abbrev pub Ended : List Ways → (old seen done : List Bool) → (stack order : List ℕ) → Bool → Type 0
 Ended ways old seen done stack order true = (nodes : List ℕ) × IsLoop ways nodes
-Ended ways old seen done stack order false = (stack ≡ []) × Searching ways seen done [] order × Keeps old seen
+Ended ways old seen done stack order false = (stack ≡ []) × IsSearching ways seen done [] order × KeepsSeen old seen
 
 -- all nodes were searched: there is a loop, or each is listed behind those that it leads to
 abbrev pub IsSearched : List Ways → (order : List ℕ) → Bool → Type 0

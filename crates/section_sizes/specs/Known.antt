@@ -6,9 +6,9 @@ use Rattle.sloth_base.specs.Named.{function}
 use Rattle.code_rules.specs.Code.{Calls, is_in}
 use Rattle.section_sizes.specs.declared.bodies.Body.{Body}
 use Rattle.section_sizes.specs.declared.sizes.Summary.{Summary}
-use Rattle.section_sizes.specs.Graph.{Has}
+use Rattle.section_sizes.specs.Graph.{HasMark}
 use Rattle.section_sizes.specs.Trails.{MOST}
-use Rattle.section_sizes.specs.Parts.{ceiling_before, ReachesItem, Returns, Back, On, Out, Within}
+use Rattle.section_sizes.specs.Parts.{ceiling_before, ReachesItem, Returns, CountsBack, CountsOn, CountsOut, CountsWithin}
 use Rattle.section_sizes.specs.Computed.{summary_of}
 
 -- ---- bodies
@@ -16,7 +16,7 @@ use Rattle.section_sizes.specs.Computed.{summary_of}
 -- the items of function f that walks reach, and the ceilings before all of them
 pub record IsKnownBody (config : Config) (app : App) (f : ℕ) (body : Body) : Type 0 where
   pub reached_count : length body.reached ≡ length (function app f).items
-  pub reached : (i : ℕ) → Has body.reached i ↔ ReachesItem app f i
+  pub reached : (i : ℕ) → HasMark body.reached i ↔ ReachesItem app f i
   pub ceilings_count : length body.ceilings ≡ length (function app f).items
   pub ceilings : (i : ℕ) → i < length (function app f).items → get_or body.ceilings i 0 ≡ ceiling_before config app f i
 
@@ -43,22 +43,22 @@ pub record IsGreatestPart (Kind : ℕ → Type 0) (size : ℕ) : Type 0 where
 -- no part of function f is larger than this, however it is counted
 pub record HasLimit (config : Config) (app : App) (level : Option ℕ) (f : ℕ) : Type 0 where
   pub limit : ℕ
-  pub on : (n : ℕ) → On config app level f 0 n → n ≤ limit
-  pub back : (n : ℕ) → Back config app level f 0 n → n ≤ limit
-  pub most : (n : ℕ) → Within config app level f n → n ≤ limit
-  pub out : (n : ℕ) → Out config app level f n → n ≤ limit
+  pub on : (n : ℕ) → CountsOn config app level f 0 n → n ≤ limit
+  pub back : (n : ℕ) → CountsBack config app level f 0 n → n ≤ limit
+  pub most : (n : ℕ) → CountsWithin config app level f n → n ≤ limit
+  pub out : (n : ℕ) → CountsOut config app level f n → n ≤ limit
 
 -- the greatest sizes of the parts of function f, which have a limit
 pub record IsExact (config : Config) (app : App) (level : Option ℕ) (f : ℕ) (s : Summary) : Type 0 where
-  pub on : IsGreatestPart (On config app level f 0) s.on
-  pub back : IsGreatestPart (Back config app level f 0) s.back
-  pub most : IsGreatestPart (Within config app level f) s.most
-  pub out : IsGreatestPart (Out config app level f) s.out
+  pub on : IsGreatestPart (CountsOn config app level f 0) s.on
+  pub back : IsGreatestPart (CountsBack config app level f 0) s.back
+  pub most : IsGreatestPart (CountsWithin config app level f) s.most
+  pub out : IsGreatestPart (CountsOut config app level f) s.out
   pub limited : HasLimit config app level f
 
 -- parts of function f have no limit
 abbrev pub IsEndless : Config → App → (level : Option ℕ) → (f : ℕ) → Type 0
-IsEndless config app level f = (n : ℕ) → (k : ℕ) × Within config app level f k × (n ≤ k)
+IsEndless config app level f = (n : ℕ) → (k : ℕ) × CountsWithin config app level f k × (n ≤ k)
 
 -- the summary of function f at a level
 abbrev pub IsSummary : Config → App → (level : Option ℕ) → (f : ℕ) → Summary → Type 0
@@ -71,6 +71,7 @@ pub record IsCountedUp (s : Summary) : Type 0 where
   pub most : s.most ≤ 1000001
   pub out : s.out ≤ 1000001
 
+-- the same of each summary of a table
 abbrev pub AreCountedUp : List Summary → Type 0
 AreCountedUp table = (g : ℕ) → IsCountedUp (summary_of table g)
 

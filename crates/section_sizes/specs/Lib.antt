@@ -6,3 +6,4 @@ pub mod Parts
 pub mod Ceilings
 pub mod Computed
 pub mod Known
+pub mod Lists

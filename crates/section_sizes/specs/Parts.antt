@@ -6,7 +6,7 @@ use Rattle.sloth_base.specs.declared.app.Op.{Op}
 use Rattle.sloth_base.specs.declared.app.Op.TheVariants as op
 use Rattle.sloth_base.specs.Named.{function, operation}
 use Rattle.code_rules.specs.Code.{IsItem, GoesOn}
-use Rattle.code_rules.specs.WellFormed.{held_before}
+use Rattle.code_rules.specs.WellFormed.{held_list_before}
 use Rattle.osek_scheduler.specs.Priority.{greatest, ceiling}
 use Rattle.raised_sections.specs.Walks.{chains_itself}
 use Rattle.raised_sections.specs.Sections.{is_schedule, is_counted}
@@ -15,7 +15,7 @@ use Rattle.raised_sections.specs.Sections.{is_schedule, is_counted}
 
 -- the greatest ceiling of what function f itself holds before item i, 0 where it holds nothing
 abbrev pub ceiling_before : Config → App → (f i : ℕ) → ℕ
-ceiling_before config app f i = greatest (map (ceiling config) (held_before app f i))
+ceiling_before config app f i = greatest (map (ceiling config) (held_list_before app f i))
 
 -- A level is the priority that a function has to reach by what it holds itself; there is none where its callers have raised the task already.
 -- What is held reaches the level.
@@ -69,26 +69,26 @@ pub record Passes (config : Config) (app : App) (level : Option ℕ) (f i j : �
   pub raised : is_raised config app level f i ≡ true
 
 -- at item i of function f, a call of function g, the task is raised
-pub record Enters (config : Config) (app : App) (level : Option ℕ) (f i g : ℕ) : Type 0 where
+pub record EntersRaised (config : Config) (app : App) (level : Option ℕ) (f i g : ℕ) : Type 0 where
   pub item : IsItem app f i (op.Invoke g)
   pub raised : is_raised config app level f i ≡ true
 
 -- a part from item i of function f up to its `ret` counts n
-pub data Back (config : Config) (app : App) : (level : Option ℕ) → (f i n : ℕ) → Type 0 where
-  back_returns : (level : Option ℕ) (f i : ℕ) → IsItem app f i op.Return → is_raised config app level f i ≡ true → Back config app level f i 1
-  back_inside : (level : Option ℕ) (f i j n : ℕ) → Passes config app level f i j → Back config app level f j n
-      → Back config app level f i (count_of app f i + n)
-  back_passes : (level : Option ℕ) (f i g n k : ℕ) → Enters config app level f i g → Back config app None g 0 n
-      → Back config app level f (i + 1) k → Back config app level f i (1 + (n + k))
+pub data CountsBack (config : Config) (app : App) : (level : Option ℕ) → (f i n : ℕ) → Type 0 where
+  back_returns : (level : Option ℕ) (f i : ℕ) → IsItem app f i op.Return → is_raised config app level f i ≡ true → CountsBack config app level f i 1
+  back_inside : (level : Option ℕ) (f i j n : ℕ) → Passes config app level f i j → CountsBack config app level f j n
+      → CountsBack config app level f i (count_of app f i + n)
+  back_passes : (level : Option ℕ) (f i g n k : ℕ) → EntersRaised config app level f i g → CountsBack config app None g 0 n
+      → CountsBack config app level f (i + 1) k → CountsBack config app level f i (1 + (n + k))
 
 -- a part from item i of function f that stays inside its activation counts n
-pub data On (config : Config) (app : App) : (level : Option ℕ) → (f i n : ℕ) → Type 0 where
+pub data CountsOn (config : Config) (app : App) : (level : Option ℕ) → (f i n : ℕ) → Type 0 where
   on_ends : (level : Option ℕ) (f i : ℕ) → IsItem app f i (operation app f i) → is_raised config app level f i ≡ true
-      → On config app level f i (count_of app f i)
-  on_inside : (level : Option ℕ) (f i j n : ℕ) → Passes config app level f i j → On config app level f j n → On config app level f i (count_of app f i + n)
-  on_enters : (level : Option ℕ) (f i g n : ℕ) → Enters config app level f i g → On config app None g 0 n → On config app level f i (1 + n)
-  on_passes : (level : Option ℕ) (f i g n k : ℕ) → Enters config app level f i g → Back config app None g 0 n
-      → On config app level f (i + 1) k → On config app level f i (1 + (n + k))
+      → CountsOn config app level f i (count_of app f i)
+  on_inside : (level : Option ℕ) (f i j n : ℕ) → Passes config app level f i j → CountsOn config app level f j n → CountsOn config app level f i (count_of app f i + n)
+  on_enters : (level : Option ℕ) (f i g n : ℕ) → EntersRaised config app level f i g → CountsOn config app None g 0 n → CountsOn config app level f i (1 + n)
+  on_passes : (level : Option ℕ) (f i g n k : ℕ) → EntersRaised config app level f i g → CountsBack config app None g 0 n
+      → CountsOn config app level f (i + 1) k → CountsOn config app level f i (1 + (n + k))
 
 -- a walk that enters function f reaches its item i, a call of function g
 pub record ReachesCall (app : App) (f i g : ℕ) : Type 0 where
@@ -100,15 +100,15 @@ abbrev pub level_behind : Config → App → (level : Option ℕ) → (f i : ℕ
 level_behind config app level f i = called_level (is_raised config app level f i) level
 
 -- a part that begins in the activation of function f, in a function that it calls too, and ends with its `ret`, counts n
-pub data Out (config : Config) (app : App) : (level : Option ℕ) → (f n : ℕ) → Type 0 where
-  out_here : (level : Option ℕ) (f i n : ℕ) → ReachesItem app f i → Back config app level f i n → Out config app level f n
-  out_behind : (level : Option ℕ) (f i g n k : ℕ) → ReachesCall app f i g → Out config app (level_behind config app level f i) g n
-      → Back config app level f (i + 1) k → Out config app level f (n + k)
+pub data CountsOut (config : Config) (app : App) : (level : Option ℕ) → (f n : ℕ) → Type 0 where
+  out_here : (level : Option ℕ) (f i n : ℕ) → ReachesItem app f i → CountsBack config app level f i n → CountsOut config app level f n
+  out_behind : (level : Option ℕ) (f i g n k : ℕ) → ReachesCall app f i g → CountsOut config app (level_behind config app level f i) g n
+      → CountsBack config app level f (i + 1) k → CountsOut config app level f (n + k)
 
 -- a part that begins and stays in the activation of function f counts n
-pub data Within (config : Config) (app : App) : (level : Option ℕ) → (f n : ℕ) → Type 0 where
-  within_here : (level : Option ℕ) (f i n : ℕ) → ReachesItem app f i → On config app level f i n → Within config app level f n
-  within_called : (level : Option ℕ) (f i g n : ℕ) → ReachesCall app f i g → Within config app (level_behind config app level f i) g n
-      → Within config app level f n
-  within_behind : (level : Option ℕ) (f i g n k : ℕ) → ReachesCall app f i g → Out config app (level_behind config app level f i) g n
-      → On config app level f (i + 1) k → Within config app level f (n + k)
+pub data CountsWithin (config : Config) (app : App) : (level : Option ℕ) → (f n : ℕ) → Type 0 where
+  within_here : (level : Option ℕ) (f i n : ℕ) → ReachesItem app f i → CountsOn config app level f i n → CountsWithin config app level f n
+  within_called : (level : Option ℕ) (f i g n : ℕ) → ReachesCall app f i g → CountsWithin config app (level_behind config app level f i) g n
+      → CountsWithin config app level f n
+  within_behind : (level : Option ℕ) (f i g n k : ℕ) → ReachesCall app f i g → CountsOut config app (level_behind config app level f i) g n
+      → CountsOn config app level f (i + 1) k → CountsWithin config app level f (n + k)

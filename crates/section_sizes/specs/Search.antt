@@ -2,7 +2,7 @@
 use Rattle.std.specs.Prelude.{ℕ, ◌<◌, ◌≡◌, ◌⊎◌, true, Bool, List, length}
 use Rattle.code_rules.specs.Code.{is_in}
 use Rattle.section_sizes.specs.declared.graph.Ways.{Ways}
-use Rattle.section_sizes.specs.Graph.{Goes, Has}
+use Rattle.section_sizes.specs.Graph.{Goes, HasMark}
 
 -- the first node, and what a node leads to that is reached
 pub data IsReachable (ways : List Ways) : ℕ → Type 0 where
@@ -10,9 +10,9 @@ pub data IsReachable (ways : List Ways) : ℕ → Type 0 where
   reachable_on : (i j : ℕ) → IsReachable ways i → Goes ways i j → IsReachable ways j
 
 -- what is marked is reached; of each marked node that is not in the stack all ways lead to marked ones
-pub record Spreading (ways : List Ways) (marks : List Bool) (stack : List ℕ) : Type 0 where
+pub record IsSpreading (ways : List Ways) (marks : List Bool) (stack : List ℕ) : Type 0 where
   pub count : length marks ≡ length ways
-  pub start : Has marks 0
-  pub sound : (i : ℕ) → Has marks i → IsReachable ways i
-  pub kept : (i : ℕ) → is_in i stack ≡ true → (i < length ways) × Has marks i
-  pub closed : (i : ℕ) → Has marks i → (is_in i stack ≡ true) ⊎ ((j : ℕ) → Goes ways i j → Has marks j)
+  pub start : HasMark marks 0
+  pub sound : (i : ℕ) → HasMark marks i → IsReachable ways i
+  pub kept : (i : ℕ) → is_in i stack ≡ true → (i < length ways) × HasMark marks i
+  pub closed : (i : ℕ) → HasMark marks i → (is_in i stack ≡ true) ⊎ ((j : ℕ) → Goes ways i j → HasMark marks j)

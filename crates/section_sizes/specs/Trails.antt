@@ -7,6 +7,7 @@ use Rattle.section_sizes.specs.Graph.{ways_of, Goes}
 abbrev pub MOST : ℕ
 MOST = 1000001
 
+-- a trail: node i leads to the first of these, and each of them to the next
 abbrev pub IsTrail : List Ways → ℕ → List ℕ → Type 0
 IsTrail ways i [] = Unit {0}
 IsTrail ways i (j ∷ further) = Goes ways i j × IsTrail ways j further
@@ -33,6 +34,7 @@ pub record AreSizes (ways : List Ways) (steps ends : List ℕ) : Type 0 where
   pub steps_small : (i : ℕ) → get_or steps i 0 ≤ 1000001
   pub ends_small : (i : ℕ) → get_or ends i 0 ≤ 1000001
 
+-- no size of a table is above the greatest that is counted
 abbrev pub IsSmall : List ℕ → Type 0
 IsSmall table = (i : ℕ) → get_or table i 0 ≤ 1000001
 
@@ -48,6 +50,7 @@ abbrev pub along : List ℕ → (step : ℕ) → Option ℕ → ℕ
 along table step None = 0
 along table step (Some j) = cond (get_or table j 0 == 0) 0 (min MOST (step + get_or table j 0))
 
+-- the longest trail from node i: it ends there, or goes on along one of its ways
 abbrev pub longest_from : List Ways → (table steps ends : List ℕ) → ℕ → ℕ
 longest_from ways table steps ends i =
     let step = get_or steps i 0 in

@@ -1,10 +1,9 @@
 //! What is known of each body before any level: which items walks reach, and the ceilings before them.
-ghost use Rattle.std.specs.Prelude.{◌≡◌, ◌≤◌, ◌<◌, ◌↔◌, ℕ, false, length, get_or, Decides, IfOk, not};
+ghost use Rattle.std.specs.Prelude.{◌≡◌, ◌<◌, ◌↔◌, ℕ, false, length, get_or, Decides, IfOk, not};
 ghost use Rattle.sloth_base.specs.Named.{item_of, function};
 ghost use Rattle.code_rules.specs.WellFormed.{WellFormed};
-ghost use Rattle.task_verify.specs.Ways.{LeadsToLabels};
 ghost use Rattle.raised_sections.specs.Walks.{chains_itself};
-ghost use Rattle.section_sizes.specs.Graph.{Has};
+ghost use Rattle.section_sizes.specs.Graph.{HasMark};
 ghost use Rattle.section_sizes.specs.Parts.{ReachesItem, Returns};
 ghost use Rattle.section_sizes.specs.CallOrder.{IsCallOrder};
 ghost use Rattle.section_sizes.specs.Computed.{returns_of, is_return};
@@ -41,14 +40,11 @@ pub fn function_at(app: &App, number: usize) -> &Func
 /// All items.
 fn all_items(alloc: Global, func: &Func) -> Result<Vec<bool>, NoMemory>
     ensures count { IfOk result (λ marks. length marks.items ≡ length func.now.items) }
-    ensures set { IfOk result (λ marks. (i : ℕ) → i < length func.now.items → Has marks.items i) }
+    ensures set { IfOk result (λ marks. (i : ℕ) → i < length func.now.items → HasMark marks.items i) }
 {
     let mut marks = Vec::new(alloc);
     for _number in 0..func.items.items().len() {
-        match marks.push(true) {
-            Ok(()) => {}
-            Err(_) => return Err(NoMemory),
-        }
+        marks.push(true).map_err(|_| NoMemory)?;
     }
     Ok(marks)
 }
@@ -88,7 +84,7 @@ fn reached_items(
     requires func { func.now ≡ function app.now number }
     requires returns { KnowsReturns app.now number returns.now }
     ensures count { IfOk result (λ marks. length marks.items ≡ length (function app.now number).items) }
-    ensures exact { IfOk result (λ marks. (i : ℕ) → Has marks.items i ↔ ReachesItem app.now number i) }
+    ensures exact { IfOk result (λ marks. (i : ℕ) → HasMark marks.items i ↔ ReachesItem app.now number i) }
 {
     let onward = onward_items(alloc, func)?;
     let all = all_items(alloc, func)?;

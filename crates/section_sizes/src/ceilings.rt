@@ -1,63 +1,19 @@
 //! The greatest ceiling of what a function holds before each of its items (OSEK OS 2.2.3, section 8.6).
-ghost use Rattle.std.specs.Prelude.{◌≡◌, ◌≤◌, ◌<◌, ◌+◌, ℕ, length, map, filter, get_or, None, Some, IfOk};
-ghost use Rattle.sloth_base.specs.Named.{label_of};
-ghost use Rattle.code_rules.specs.Code.{is_in, held_at};
-ghost use Rattle.osek_scheduler.specs.Priority.{greatest, ceiling, highest_priority};
-ghost use Rattle.task_verify.specs.Labels.{last_below, list_of, ArePlaced};
+ghost use Rattle.std.specs.Prelude.{◌≡◌, ◌≤◌, ◌<◌, ◌+◌, ℕ, length, map, get_or, None, Some, IfOk};
+ghost use Rattle.code_rules.specs.Code.{held_list_at};
+ghost use Rattle.osek_scheduler.specs.Priority.{greatest, ceiling};
+ghost use Rattle.task_verify.specs.Labels.{last_label_below, list_of, ArePlaced};
 ghost use Rattle.section_sizes.specs.Ceilings.{AreCeilings};
 
+use osek_scheduler::ceilings::ceiling;
 use sloth_base::app::Func;
-use sloth_base::config::{Config, TaskDecl};
+use sloth_base::config::Config;
 use sloth_base::memory::NoMemory;
 use sloth_base::numbers::RES_SCHEDULER;
 use std::alloc::Global;
 use task_verify::held::{held_after, held_by};
 use task_verify::labels::last_labels;
 use text_pieces::growth::push;
-
-fn lists(task: &TaskDecl, resource: u32) -> bool
-    ensures { result ≡ is_in resource task.now.resources }
-{
-    for listed in task.resources.items() {
-        if listed.0 == resource {
-            return true;
-        }
-    }
-    false
-}
-
-/// The highest task priority.
-fn highest(config: &Config) -> u32
-    ensures { result ≡ highest_priority config.now }
-{
-    let mut top = 0;
-    for task in config.tasks.items() {
-        top = task.priority.max(top);
-    }
-    top
-}
-
-/// The highest priority of the tasks that list a resource.
-fn highest_user(config: &Config, resource: u32) -> u32
-    ensures { result ≡ greatest (map (λ d. d.priority) (filter (λ d. is_in resource d.resources) config.now.tasks)) }
-{
-    let mut top = 0;
-    for task in config.tasks.items() {
-        if lists(task, resource) {
-            top = task.priority.max(top);
-        }
-    }
-    top
-}
-
-fn ceiling(config: &Config, resource: u32) -> u32
-    ensures { result ≡ ceiling config.now resource }
-{
-    if resource == RES_SCHEDULER {
-        return highest(config);
-    }
-    highest_user(config, resource)
-}
 
 /// The ceilings of the resources 0 to 32.
 pub fn ceilings(alloc: Global, config: &Config) -> Result<Vec<u32>, NoMemory>
@@ -118,10 +74,10 @@ fn ceilings_at(
 ) -> Result<Vec<u32>, NoMemory>
     requires table { AreCeilings config.now table.now }
     requires count { length last.now ≡ length func.now.items + 1 }
-    requires lasts { (place : ℕ) → place ≤ length func.now.items → get_or last.now place None ≡ last_below func.now.labels place (length func.now.labels) }
+    requires lasts { (place : ℕ) → place ≤ length func.now.items → get_or last.now place None ≡ last_label_below func.now.labels place (length func.now.labels) }
     ensures count { IfOk result (λ ceilings. length ceilings.items ≡ length func.now.items) }
     ensures exact { IfOk result (λ ceilings. (i : ℕ) → i < length func.now.items
-        → get_or ceilings.items i 0 ≡ greatest (map (ceiling config.now) (held_at func.now i))) }
+        → get_or ceilings.items i 0 ≡ greatest (map (ceiling config.now) (held_list_at func.now i))) }
 {
     let mut ceilings = Vec::new(alloc);
     let mut held = Vec::new(alloc);
@@ -144,7 +100,7 @@ pub fn ceilings_before(
     requires placed { ArePlaced func.now }
     ensures count { IfOk result (λ ceilings. length ceilings.items ≡ length func.now.items) }
     ensures exact { IfOk result (λ ceilings. (i : ℕ) → i < length func.now.items
-        → get_or ceilings.items i 0 ≡ greatest (map (ceiling config.now) (held_at func.now i))) }
+        → get_or ceilings.items i 0 ≡ greatest (map (ceiling config.now) (held_list_at func.now i))) }
 {
     let last = last_labels(alloc, func)?;
     let ceilings = ceilings_at(alloc, config, table, func, &last)?;

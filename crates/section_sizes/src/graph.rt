@@ -1,6 +1,6 @@
 //! Nodes with two ways on at most: an order in which every node stands behind those that it leads to, or a loop.
-ghost use Rattle.std.specs.Prelude.{◌≡◌, ℕ, ◌+◌, ◌*◌, ◌<◌, ◌≤◌, [], ◌∷◌, ◌++◌, length, get_or, set, true, false, IfOk, OnOk};
-ghost use Rattle.section_sizes.specs.Graph.{ways_of, unseen_way, unseen_of, is_open, leads_to_open, AreInside, Searching, Keeps, Ended, IsSearched, IsFound, unseen};
+ghost use Rattle.std.specs.Prelude.{◌≡◌, ℕ, ◌<◌, [], ◌∷◌, ◌++◌, length, get_or, set, true, false, IfOk, OnOk};
+ghost use Rattle.section_sizes.specs.Graph.{unseen_way, unseen_of, is_open, leads_to_open, AreInside, IsSearching, Ended, IsSearched, IsFound};
 
 use sloth_base::list::List;
 use sloth_base::memory::NoMemory;
@@ -72,23 +72,16 @@ pub fn keep(marks: &mut [bool], list: &mut Vec<usize>, node: usize) -> Result<()
     ensures marks { OnOk result (marks.new ≡ set marks.old node true) }
     ensures list { OnOk result (list.new.items ≡ list.old.items ++ node ∷ []) }
 {
-    match list.push(node) {
-        Ok(()) => {
-            marks[node] = true;
-            Ok(())
-        }
-        Err(_) => Err(NoMemory),
-    }
+    list.push(node).map_err(|_| NoMemory)?;
+    marks[node] = true;
+    Ok(())
 }
 
 /// Puts a node at the end of the list.
 pub fn push(list: &mut Vec<usize>, node: usize) -> Result<(), NoMemory>
     ensures { OnOk result (list.new.items ≡ list.old.items ++ node ∷ []) }
 {
-    match list.push(node) {
-        Ok(()) => Ok(()),
-        Err(_) => Err(NoMemory),
-    }
+    list.push(node).map_err(|_| NoMemory)
 }
 
 /// Goes on from the nodes of the stack until each that they lead to is done, or a loop is found.
@@ -100,7 +93,7 @@ fn dive(
     order: &mut Vec<usize>,
 ) -> Result<bool, NoMemory>
     requires inside { AreInside ways.now }
-    requires searching { Searching ways.now seen.old done.old stack.old.items order.old.items }
+    requires searching { IsSearching ways.now seen.old done.old stack.old.items order.old.items }
     ensures { IfOk result (Ended ways.now seen.old seen.new done.new stack.new.items order.new.items) }
 {
     loop {
@@ -128,10 +121,7 @@ pub fn no_marks(alloc: Global, count: usize) -> Result<Vec<bool>, NoMemory>
 {
     let mut marks = Vec::new(alloc);
     for node in 0..count {
-        match marks.push(false) {
-            Ok(()) => {}
-            Err(_) => return Err(NoMemory),
-        }
+        marks.push(false).map_err(|_| NoMemory)?;
     }
     Ok(marks)
 }
@@ -145,7 +135,7 @@ fn search(
     order: &mut Vec<usize>,
 ) -> Result<bool, NoMemory>
     requires inside { AreInside ways.now }
-    requires searching { Searching ways.now seen.old done.old stack.old.items order.old.items }
+    requires searching { IsSearching ways.now seen.old done.old stack.old.items order.old.items }
     requires none { stack.old.items ≡ [] }
     ensures { IfOk result (IsSearched ways.now order.new.items) }
 {

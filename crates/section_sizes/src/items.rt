@@ -1,11 +1,11 @@
 //! What the items of one body add to parts of sections.
-ghost use Rattle.std.specs.Prelude.{◌≡◌, ◌≤◌, ◌<◌, ◌&&◌, ℕ, not, cond, false, length, get_or, IfOk};
+ghost use Rattle.std.specs.Prelude.{◌≡◌, ◌≤◌, ◌<◌, ℕ, not, cond, false, length, get_or, IfOk};
 ghost use Rattle.sloth_base.specs.Named.{item_of};
 ghost use Rattle.sloth_base.specs.Options.{is_number};
 ghost use Rattle.raised_sections.specs.Walks.{chains_itself};
 ghost use Rattle.raised_sections.specs.Sections.{is_schedule, is_counted};
 ghost use Rattle.section_sizes.specs.Parts.{reaches_level};
-ghost use Rattle.section_sizes.specs.Computed.{is_alive, is_going, summary_of, is_passed, joined, count, going_size, ending_size, is_return, leaving_size};
+ghost use Rattle.section_sizes.specs.Computed.{is_alive, is_going, summary_of, is_passed, joined, count, going_size, ending_size, leaving_size};
 ghost use Rattle.section_sizes.specs.Known.{AreCountedUp};
 
 use crate::bodies::Body;
@@ -50,10 +50,9 @@ pub fn alive_items(
 {
     let mut alive = Vec::new(alloc);
     for number in 0..func.items.items().len() {
-        match alive.push(is_alive(body, level, number)) {
-            Ok(()) => {}
-            Err(_) => return Err(NoMemory),
-        }
+        alive
+            .push(is_alive(body, level, number))
+            .map_err(|_| NoMemory)?;
     }
     Ok(alive)
 }
@@ -126,10 +125,7 @@ pub fn passed_functions(alloc: Global, whole: &[Summary]) -> Result<Vec<bool>, N
 {
     let mut passed = Vec::new(alloc);
     for summary in whole {
-        match passed.push(0 < summary.back) {
-            Ok(()) => {}
-            Err(_) => return Err(NoMemory),
-        }
+        passed.push(0 < summary.back).map_err(|_| NoMemory)?;
     }
     Ok(passed)
 }
@@ -204,10 +200,9 @@ pub fn going_sizes(alloc: Global, func: &Func, whole: &[Summary]) -> Result<Vec<
 {
     let mut sizes = Vec::new(alloc);
     for number in 0..func.items.items().len() {
-        match sizes.push(going_size(whole, func.items.items()[number].op)) {
-            Ok(()) => {}
-            Err(_) => return Err(NoMemory),
-        }
+        sizes
+            .push(going_size(whole, func.items.items()[number].op))
+            .map_err(|_| NoMemory)?;
     }
     Ok(sizes)
 }
@@ -227,10 +222,9 @@ pub fn ending_sizes(
     let mut sizes = Vec::new(alloc);
     for number in 0..func.items.items().len() {
         let size = ending_size(whole, func.items.items()[number].op);
-        match sizes.push(if_alive(is_marked(alive, number), size)) {
-            Ok(()) => {}
-            Err(_) => return Err(NoMemory),
-        }
+        sizes
+            .push(if_alive(is_marked(alive, number), size))
+            .map_err(|_| NoMemory)?;
     }
     Ok(sizes)
 }
@@ -244,10 +238,9 @@ pub fn leaving_sizes(alloc: Global, func: &Func, alive: &[bool]) -> Result<Vec<u
     let mut sizes = Vec::new(alloc);
     for number in 0..func.items.items().len() {
         let size = leaving_size(func.items.items()[number].op);
-        match sizes.push(if_alive(is_marked(alive, number), size)) {
-            Ok(()) => {}
-            Err(_) => return Err(NoMemory),
-        }
+        sizes
+            .push(if_alive(is_marked(alive, number), size))
+            .map_err(|_| NoMemory)?;
     }
     Ok(sizes)
 }

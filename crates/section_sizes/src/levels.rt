@@ -1,10 +1,9 @@
 //! The summaries of all functions at a level.
 ghost use Rattle.std.specs.Prelude.{◌≡◌, ℕ, ◌<◌, None, Some, length, get_or, IfOk};
-ghost use Rattle.code_rules.specs.Code.{Calls};
 ghost use Rattle.code_rules.specs.WellFormed.{WellFormed};
 ghost use Rattle.section_sizes.specs.CallOrder.{IsCallOrder};
 ghost use Rattle.section_sizes.specs.Computed.{summary_of, unknown};
-ghost use Rattle.section_sizes.specs.Known.{no_body, AreKnownBodies, AreCountedUp, AreSummaries};
+ghost use Rattle.section_sizes.specs.Known.{no_body, AreKnownBodies, AreSummaries};
 
 use crate::bodies::{Body, function_at};
 use crate::sizes::{Summary, UNKNOWN};
@@ -20,10 +19,7 @@ fn unknown(alloc: Global, count: usize) -> Result<Vec<Summary>, NoMemory>
 {
     let mut table = Vec::new(alloc);
     for _number in 0..count {
-        match table.push(UNKNOWN) {
-            Ok(()) => {}
-            Err(_) => return Err(NoMemory),
-        }
+        table.push(UNKNOWN).map_err(|_| NoMemory)?;
     }
     Ok(table)
 }

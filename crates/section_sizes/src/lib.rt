@@ -10,6 +10,7 @@ pub mod links;
 pub mod longest;
 pub mod marks;
 pub mod order;
+pub mod paths;
 pub mod reach;
 pub mod sizes;
 pub mod summary;

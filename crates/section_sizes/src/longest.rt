@@ -65,10 +65,7 @@ fn zeros(alloc: Global, count: usize) -> Result<Vec<u32>, NoMemory>
 {
     let mut table = Vec::new(alloc);
     for _number in 0..count {
-        match table.push(0) {
-            Ok(()) => {}
-            Err(_) => return Err(NoMemory),
-        }
+        table.push(0).map_err(|_| NoMemory)?;
     }
     Ok(table)
 }

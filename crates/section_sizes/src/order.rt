@@ -2,7 +2,7 @@
 ghost use Rattle.std.specs.Prelude.{◌≡◌, ◌<◌, ℕ, length, IfOk};
 ghost use Rattle.code_rules.specs.Code.{Calls};
 ghost use Rattle.call_graph.specs.Ranks.{RanksOf};
-ghost use Rattle.section_sizes.specs.CallOrder.{IsCallOrder, IsLeast, lesser_of, lesser};
+ghost use Rattle.section_sizes.specs.CallOrder.{IsCallOrder, IsLeastRank, lesser_of, lesser};
 
 use crate::graph::{keep, no_marks};
 use crate::marks::{is_marked, number_at};
@@ -40,7 +40,7 @@ fn lesser(ranks: &[u32], done: &[bool], best: Option<usize>, func: usize) -> Opt
 
 /// A function of least rank among those that are not done.
 fn least(ranks: &[u32], done: &[bool]) -> Option<usize>
-    ensures { IsLeast ranks.now done.now (length ranks.now) result }
+    ensures { IsLeastRank ranks.now done.now (length ranks.now) result }
 {
     let mut best = None;
     for func in 0..ranks.len() {

@@ -1,7 +1,7 @@
 //! What a search from the first node reaches.
-ghost use Rattle.std.specs.Prelude.{◌≡◌, ℕ, ◌+◌, ◌*◌, ◌<◌, ◌↔◌, [], false, get_or, length, IfOk, OnOk};
-ghost use Rattle.section_sizes.specs.Graph.{AreInside, Has, unseen};
-ghost use Rattle.section_sizes.specs.Search.{IsReachable, Spreading};
+ghost use Rattle.std.specs.Prelude.{◌≡◌, ℕ, ◌<◌, ◌↔◌, [], false, get_or, length, IfOk, OnOk};
+ghost use Rattle.section_sizes.specs.Graph.{AreInside, HasMark};
+ghost use Rattle.section_sizes.specs.Search.{IsReachable, IsSpreading};
 
 use crate::graph::{Ways, keep, no_marks, push, unseen_of};
 use sloth_base::memory::NoMemory;
@@ -10,8 +10,8 @@ use std::alloc::Global;
 /// Goes on from the nodes of the stack until all that they lead to are marked.
 fn spread(ways: &[Ways], marks: &mut [bool], stack: &mut Vec<usize>) -> Result<(), NoMemory>
     requires inside { AreInside ways.now }
-    requires spreading { Spreading ways.now marks.old stack.old.items }
-    ensures { OnOk result ((i : ℕ) → Has marks.new i ↔ IsReachable ways.now i) }
+    requires spreading { IsSpreading ways.now marks.old stack.old.items }
+    ensures { OnOk result ((i : ℕ) → HasMark marks.new i ↔ IsReachable ways.now i) }
 {
     loop {
         match stack.pop() {
@@ -38,7 +38,7 @@ fn spread_from_first(
     requires count { length marks.old ≡ length ways.now }
     requires clear { (i : ℕ) → i < length ways.now → get_or marks.old i false ≡ false }
     requires none { stack.old.items ≡ [] }
-    ensures { OnOk result ((i : ℕ) → Has marks.new i ↔ IsReachable ways.now i) }
+    ensures { OnOk result ((i : ℕ) → HasMark marks.new i ↔ IsReachable ways.now i) }
 {
     keep(marks, stack, 0)?;
     spread(ways, marks, stack)
@@ -49,7 +49,7 @@ pub fn reachable(alloc: Global, ways: &[Ways]) -> Result<Vec<bool>, NoMemory>
     requires some { 0 < length ways.now }
     requires inside { AreInside ways.now }
     ensures count { IfOk result (λ marks. length marks.items ≡ length ways.now) }
-    ensures exact { IfOk result (λ marks. (i : ℕ) → Has marks.items i ↔ IsReachable ways.now i) }
+    ensures exact { IfOk result (λ marks. (i : ℕ) → HasMark marks.items i ↔ IsReachable ways.now i) }
 {
     let mut marks = no_marks(alloc, ways.len())?;
     let mut stack = Vec::new(alloc);

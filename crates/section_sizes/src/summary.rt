@@ -1,21 +1,17 @@
 //! The summary of one function, from those of the functions that it calls.
-ghost use Rattle.std.specs.Prelude.{◌≡◌, ◌≤◌, ◌<◌, ℕ, max, length, get_or, IfOk};
+ghost use Rattle.std.specs.Prelude.{◌≡◌, ◌≤◌, ◌<◌, ℕ, length, IfOk};
 ghost use Rattle.sloth_base.specs.Named.{item_of, function};
 ghost use Rattle.code_rules.specs.WellFormed.{WellFormed};
 ghost use Rattle.code_rules.specs.Code.{Calls};
 ghost use Rattle.section_sizes.specs.Trails.{IsSmall};
-ghost use Rattle.section_sizes.specs.Computed.{known, summary_of, callee_of, endless_call, calls_endless, called_most, most_at, most_of, joined_both, called_out, out_at, out_of};
+ghost use Rattle.section_sizes.specs.Computed.{known_body_of, summary_of, callee_of, endless_call, calls_endless, called_most, most_of, joined_both, called_out, out_of, summary_by};
 ghost use Rattle.section_sizes.specs.Known.{IsKnownBody, IsSummary, IsCountedUp, AreCountedUp};
 
 use crate::bodies::Body;
 use crate::graph::{Found, finish_order};
-use crate::items::{
-    alive_items, ending_sizes, going_items, going_sizes, joined, leaving_sizes, passed_functions,
-    reaches_level, summary_of,
-};
-use crate::links::body_ways;
-use crate::longest::longest;
+use crate::items::{joined, reaches_level, summary_of};
 use crate::marks::{is_marked, number_at};
+use crate::paths::{TrailSizes, paths_of, trail_sizes};
 use crate::sizes::{ENDLESS, Summary};
 use sloth_base::app::{App, Func, Op};
 use sloth_base::config::Config;
@@ -56,7 +52,7 @@ fn endless_call(
     requires inside { number < length func.now.items }
     requires whole_small { AreCountedUp whole.now }
     requires own_small { AreCountedUp own.now }
-    ensures { result ≡ endless_call (known func.now body.now level whole.now own.now) number (item_of func.now number).op }
+    ensures { result ≡ endless_call (known_body_of func.now body.now level whole.now own.now) number (item_of func.now number).op }
 {
     match func.items.items()[number].op {
         Op::Invoke { func: called } => {
@@ -77,7 +73,7 @@ fn calls_endless(
 ) -> bool
     requires whole_small { AreCountedUp whole.now }
     requires own_small { AreCountedUp own.now }
-    ensures { result ≡ calls_endless (known func.now body.now level whole.now own.now) }
+    ensures { result ≡ calls_endless (known_body_of func.now body.now level whole.now own.now) }
 {
     let mut endless = false;
     for number in 0..func.items.items().len() {
@@ -100,7 +96,7 @@ fn called_most(
     requires whole_small { AreCountedUp whole.now }
     requires own_small { AreCountedUp own.now }
     requires on_small { IsSmall on.now }
-    ensures { result ≡ called_most (known func.now body.now level whole.now own.now) on.now number (item_of func.now number).op }
+    ensures { result ≡ called_most (known_body_of func.now body.now level whole.now own.now) on.now number (item_of func.now number).op }
 {
     match func.items.items()[number].op {
         Op::Invoke { func: called } => {
@@ -129,7 +125,7 @@ fn most_of(
     requires whole_small { AreCountedUp whole.now }
     requires own_small { AreCountedUp own.now }
     requires on_small { IsSmall on.now }
-    ensures { result ≡ most_of (known func.now body.now level whole.now own.now) on.now }
+    ensures { result ≡ most_of (known_body_of func.now body.now level whole.now own.now) on.now }
 {
     let mut most = 0;
     for number in 0..func.items.items().len() {
@@ -166,7 +162,7 @@ fn called_out(
     requires whole_small { AreCountedUp whole.now }
     requires own_small { AreCountedUp own.now }
     requires back_small { IsSmall back.now }
-    ensures { result ≡ called_out (known func.now body.now level whole.now own.now) back.now number (item_of func.now number).op }
+    ensures { result ≡ called_out (known_body_of func.now body.now level whole.now own.now) back.now number (item_of func.now number).op }
 {
     match func.items.items()[number].op {
         Op::Invoke { func: called } => {
@@ -193,7 +189,7 @@ fn out_of(
     requires whole_small { AreCountedUp whole.now }
     requires own_small { AreCountedUp own.now }
     requires back_small { IsSmall back.now }
-    ensures { result ≡ out_of (known func.now body.now level whole.now own.now) back.now }
+    ensures { result ≡ out_of (known_body_of func.now body.now level whole.now own.now) back.now }
 {
     let mut out = 0;
     for number in 0..func.items.items().len() {
@@ -201,6 +197,31 @@ fn out_of(
         out = number_at(back, number).max(called).max(out);
     }
     out
+}
+
+/// The summary by the longest trails.
+fn summary_by(
+    func: &Func,
+    body: &Body,
+    level: Option<u32>,
+    whole: &[Summary],
+    own: &[Summary],
+    sizes: &TrailSizes,
+) -> Summary
+    requires whole_small { AreCountedUp whole.now }
+    requires own_small { AreCountedUp own.now }
+    requires on_small { IsSmall sizes.now.on }
+    requires back_small { IsSmall sizes.now.back }
+    ensures { result ≡ summary_by (known_body_of func.now body.now level whole.now own.now) sizes.now.on sizes.now.back }
+{
+    let (on, back) = (sizes.on.items(), sizes.back.items());
+    Summary {
+        is_endless: false,
+        on: number_at(on, 0),
+        back: number_at(back, 0),
+        most: most_of(func, body, level, whole, own, on),
+        out: out_of(func, body, level, whole, own, back),
+    }
 }
 
 /// The summary of function `number`, from those of the functions that it calls: where the task is raised as they are called, and where not.
@@ -229,24 +250,11 @@ pub fn summary(
     if calls_endless(func, body, level, whole, own) {
         return Ok(ENDLESS);
     }
-    let alive = alive_items(alloc, func, body, level)?;
-    let going = going_items(alloc, func, &alive)?;
-    let passed = passed_functions(alloc, whole)?;
-    let ways = body_ways(alloc, func, &passed, &going, &alive)?;
-    let order = match finish_order(alloc, &ways)? {
+    let paths = paths_of(alloc, func, body, level, whole)?;
+    let order = match finish_order(alloc, paths.ways.items())? {
         Found::Loop => return Ok(ENDLESS),
         Found::Order(order) => order,
     };
-    let steps = going_sizes(alloc, func, whole)?;
-    let ends = ending_sizes(alloc, func, &alive, whole)?;
-    let leaves = leaving_sizes(alloc, func, &alive)?;
-    let on = longest(alloc, &ways, order.items(), &steps, &ends)?;
-    let back = longest(alloc, &ways, order.items(), &steps, &leaves)?;
-    Ok(Summary {
-        is_endless: false,
-        on: number_at(&on, 0),
-        back: number_at(&back, 0),
-        most: most_of(func, body, level, whole, own, &on),
-        out: out_of(func, body, level, whole, own, &back),
-    })
+    let sizes = trail_sizes(alloc, func, whole, &paths, order.items())?;
+    Ok(summary_by(func, body, level, whole, own, &sizes))
 }

@@ -7,7 +7,7 @@ use Rattle.sloth_base.specs.declared.service.ObjectKind.TheVariants as object
 use Rattle.sloth_base.specs.declared.service.Service.{Service}
 use Rattle.sloth_base.specs.declared.service.Service.TheVariants.{SetEvent, ClearEvent, GetEvent, WaitEvent, SetRelAlarm, SetAbsAlarm, CancelAlarm, GetAlarm}
 use Rattle.sloth_base.specs.ServiceCodes.{object_kind}
-use Rattle.block_parts.specs.Objects.{HasCode}
+use Rattle.block_parts.specs.Objects.{HasServiceCode}
 use Rattle.rv32_instr.specs.declared.InstrKind.{InstrKind}
 use Rattle.alarm_gen.specs.Block as alarms
 use Rattle.service_gen.specs.Block as others
@@ -16,9 +16,9 @@ use Rattle.event_gen.specs.Block as events
 -- the objects of a kind with which services have generated code: an alarm is one of the configuration
 abbrev pub IsOfKind : Config → ObjectKind → ℕ → Type 0
 IsOfKind config object.Alarm number = number < length config.alarms
-IsOfKind config object.Nothing number = HasCode object.Nothing number
-IsOfKind config object.Task number = HasCode object.Task number
-IsOfKind config object.Resource number = HasCode object.Resource number
+IsOfKind config object.Nothing number = HasServiceCode object.Nothing number
+IsOfKind config object.Task number = HasServiceCode object.Task number
+IsOfKind config object.Resource number = HasServiceCode object.Resource number
 
 -- the objects with which a service may be called: a task, a resource, an alarm, or 0 where there is none
 abbrev pub IsCalledWith : Config → Service → ℕ → Type 0

@@ -10,9 +10,9 @@ use Rattle.sloth_region.specs.Layout.{cur, active, controller_base}
 use Rattle.rv32_instr.specs.declared.InstrKind.{InstrKind}
 use Rattle.rv32_instr.specs.declared.InstrKind.TheVariants.{Addi}
 use Rattle.rv32_instr.specs.Ram.{word_at}
-use Rattle.masked_code.specs.Place.{at}
+use Rattle.masked_code.specs.Place.{offset_state}
 use Rattle.masked_code.specs.Masked.{FromOpening}
-use Rattle.masked_code.specs.Owes.{◌▸◌, writes, loads, raises, AreOf, Owes}
+use Rattle.masked_code.specs.Owes.{◌▸◌, writes, loads, raises, AreOfLine, Owes}
 use Rattle.masked_code.specs.Kernel.{leaving_code, masking}
 use Rattle.masked_code.proofs.Arrivals.{other_bytes}
 use Rattle.masked_code.proofs.Spread.{based, spread_from}
@@ -24,13 +24,14 @@ use Rattle.block_parts.proofs.Busy.{Finds, looks_owe}
 use Rattle.service_gen.proofs.Ending.{ends_owe, ended_below, has_ended}
 use Rattle.block_parts.proofs.Serving.{opens_within}
 use Rattle.service_gen.specs.Pieces.{own_task_code, refusing_code}
-use Rattle.block_parts.specs.Pieces.{ending_code, looking_code, raising_code, back}
+use Rattle.block_parts.specs.Pieces.{ending_code, looking_code, raising_code, back_code}
 use Rattle.block_parts.specs.Looks.{LooksSuspended}
 use Rattle.service_gen.specs.TerminateTask.{ended_ram, Terminated}
 use Rattle.service_gen.specs.ChainTask.{MayChain, Chained, Chains}
 
+-- the code behind the masking instruction
 abbrev pub body : ℕ → List InstrKind
-body task = own_task_code task ++ (looking_code task ++ (refusing_code ++ (back ++ (ending_code ++ (raising_code task ++ leaving_code)))))
+body task = own_task_code task ++ (looking_code task ++ (refusing_code ++ (back_code ++ (ending_code ++ (raising_code task ++ leaving_code)))))
 
 -- a branch at an offset reaches the instruction behind so many more
 module _ (offset task own place : ℕ) (c : Core) (h : MayChain offset task own place (masking ∷ body task) c) where
@@ -44,7 +45,7 @@ module _ (offset task own place : ℕ) (c : Core) (h : MayChain offset task own 
   line = let s = h.is_task in omega arith
 
   abbrev st : List ℕ → State
-  st p = at offset (record (based c) { pending = p })
+  st p = offset_state offset (record (based c) { pending = p })
 
   abbrev x2 : ℕ
   x2 = get_or c.registers 2 0
@@ -60,7 +61,7 @@ module _ (offset task own place : ℕ) (c : Core) (h : MayChain offset task own 
   word = word_at c.ram (active task)
 
   -- the caller's end, the raised line, and the way down
-  go_owe : (o : ℕ) → o + 52 ≤ 0x20_0000 → (p : List ℕ) (x1 x10 : ℕ) (E : List ℕ → State → State → Type 0) → ((lines : List ℕ) (middle end : State) → AreOf own lines → Terminated own place (own ∷ []) (st (arrive lines p)) middle → end ≡ state_arrive (task ∷ []) middle → E (own ∷ []) (st (arrive lines p)) end) → Owes offset (offset + 4 + 248) o (ending_code ++ (raising_code task ++ leaving_code)) 0 E (st p) (record (masked (based c)) { registers = 0 ∷ x1 ∷ x2 ∷ controller_base ∷ memory_base ∷ x5 ∷ tail x10; pending = p })
+  go_owe : (o : ℕ) → o + 52 ≤ 0x20_0000 → (p : List ℕ) (x1 x10 : ℕ) (E : List ℕ → State → State → Type 0) → ((lines : List ℕ) (middle end : State) → AreOfLine own lines → Terminated own place (own ∷ []) (st (arrive lines p)) middle → end ≡ state_arrive (task ∷ []) middle → E (own ∷ []) (st (arrive lines p)) end) → Owes offset (offset + 4 + 248) o (ending_code ++ (raising_code task ++ leaving_code)) 0 E (st p) (record (masked (based c)) { registers = 0 ∷ x1 ∷ x2 ∷ controller_base ∷ memory_base ∷ x5 ∷ tail x10; pending = p })
   go_owe o small p x1 x10 E k =
       ends_owe offset (offset + 4 + 248) own E (st p) (raising_code task ++ leaving_code) (record (masked (based c)) { pending = p }) x1 x2 x5 (tail x10) h.is_own h.runs low o
       (λ lines only.
@@ -75,7 +76,7 @@ module _ (offset task own place : ℕ) (c : Core) (h : MayChain offset task own 
 
   -- the task was not Suspended
   stays_owe : (o : ℕ) (p : List ℕ) (v : ℕ) → task ≢ own → (LooksSuspended task (record c { pending = p }) → ⊥)
-      → Owes offset (offset + 4 + 248) o (Addi 10 0 (pos E_OS_LIMIT) ∷ (back ++ (ending_code ++ (raising_code task ++ leaving_code)))) 0 (λ u. Chained task own place (task ∷ u)) (st p)
+      → Owes offset (offset + 4 + 248) o (Addi 10 0 (pos E_OS_LIMIT) ∷ (back_code ++ (ending_code ++ (raising_code task ++ leaving_code)))) 0 (λ u. Chained task own place (task ∷ u)) (st p)
       (record (masked (based c)) { registers = 0 ∷ v ∷ x2 ∷ controller_base ∷ memory_base ∷ x5 ∷ tail word; pending = p })
   stays_owe o p v ne other =
       writes E_OS_LIMIT refl
@@ -84,7 +85,7 @@ module _ (offset task own place : ℕ) (c : Core) (h : MayChain offset task own 
 
   -- behind the look at the task
   looked_owe : (o : ℕ) (p : List ℕ) (v : ℕ) → o + 68 ≤ 0x20_0000 → task ≢ own → Finds task (record c { pending = p }) v
-      → Owes offset (offset + 4 + 248) o (refusing_code ++ (back ++ (ending_code ++ (raising_code task ++ leaving_code)))) 0 (λ u. Chained task own place (task ∷ u)) (st p)
+      → Owes offset (offset + 4 + 248) o (refusing_code ++ (back_code ++ (ending_code ++ (raising_code task ++ leaving_code)))) 0 (λ u. Chained task own place (task ∷ u)) (st p)
       (record (masked (based c)) { registers = 0 ∷ v ∷ x2 ∷ controller_base ∷ memory_base ∷ x5 ∷ tail word; pending = p })
   looked_owe o p v small ne found =
       record {
@@ -100,7 +101,7 @@ module _ (offset task own place : ℕ) (c : Core) (h : MayChain offset task own 
             found;
       }
 
-  body_owes : Owes offset (offset + 4 + 248) (offset + 4) (body task) 0 (Chained task own place) (at offset (based c)) (masked (based c))
+  body_owes : Owes offset (offset + 4 + 248) (offset + 4) (body task) 0 (Chained task own place) (offset_state offset (based c)) (masked (based c))
   body_owes =
       let fits = inside in
       let small = h.is_task in
@@ -115,13 +116,14 @@ module _ (offset task own place : ℕ) (c : Core) (h : MayChain offset task own 
             (cases_eq (own + 1) (task + 1));
         when_not = λ n.
             let ne : task ≢ own = λ x. n (eq-eqb (own + 1) (task + 1) (ap (λ y. y + 1) (sym x))) in
-            looks_owe offset (offset + 4 + 248) task (Chained task own place) (refusing_code ++ (back ++ (ending_code ++ (raising_code task ++ leaving_code)))) c h.is_task
+            looks_owe offset (offset + 4 + 248) task (Chained task own place) (refusing_code ++ (back_code ++ (ending_code ++ (raising_code task ++ leaving_code)))) c h.is_task
             h.goes_back.can_run.lines h.active_bit h.pending_bit h.enabled_bit (behind 3 (offset + 4)) (own + 1) (task + 1)
             (λ lines v only found. looked_owe (behind 8 (offset + 4)) (arrive lines c.pending) v (omega arith) ne found);
       }
 
-  runs_it : FromOpening 59 (at offset c) (Chained task own place)
+  runs_it : FromOpening 59 (offset_state offset c) (Chained task own place)
   runs_it = opens_within offset 59 (body task) c (Chained task own place) h.goes_back.can_run h.goes_back.bases (omega arith) body_owes
 
+-- for each task that follows
 pub chains : (task : ℕ) → Chains task (masking ∷ body task)
 chains task = record { size = refl; masks = (body task, refl); runs = λ offset own place core h. runs_it offset task own place core h }

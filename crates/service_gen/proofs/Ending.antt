@@ -7,18 +7,20 @@ use Rattle.sloth_base.specs.MemoryMap.{memory_base}
 use Rattle.sloth_region.specs.Layout.{cur, active, events, below_word, idle_context, context_level, context_cur, context_below, controller_base}
 use Rattle.rv32_instr.specs.declared.InstrKind.{InstrKind}
 use Rattle.rv32_instr.specs.Ram.{word_at, with_word}
-use Rattle.masked_code.specs.Owes.{◌▸◌, writes, loads, stores, clears, AreOf, Owes}
+use Rattle.masked_code.specs.Owes.{◌▸◌, writes, loads, stores, clears, AreOfLine, Owes}
 use Rattle.masked_code.specs.Kernel.{IsBelow, HasLeft}
 use Rattle.masked_code.proofs.Words.{word_at-other}
 use Rattle.masked_code.proofs.Leave.{behind}
 use Rattle.block_parts.specs.Pieces.{ending_code}
 use Rattle.service_gen.specs.TerminateTask.{ended_ram, Terminated}
 
+-- the end of a task changes no word behind those of the tasks
 pub ended_kept : (ram : List ℕ) (own p : ℕ) → own < 30 → below_word ≤ p → word_at (ended_ram ram own) p ≡ word_at ram p
 ended_kept ram own p small far = word_at-other (with_word ram (active own) 0) (events own) 0 p (inr (omega arith)) ∙ word_at-other ram (active own) 0 p (inr (omega arith))
 
 module _ (from to own : ℕ) (E : List ℕ → State → State → Type 0) (start : State) (rest : List InstrKind) (c : Core) (x1 x2 x5 : ℕ) (tail : List ℕ) (small : own < 30) (runs : word_at c.ram cur ≡ own + 1) (low : 1024 ≤ from) where
-  pub ends_owe : (o : ℕ) → ((lines : List ℕ) → AreOf own lines → Owes from to (behind 9 o) rest 0 (λ touched. E (own ∷ touched)) (state_arrive lines start) (record c { registers = 0 ∷ (memory_base + 12 * (own + 1)) ∷ x2 ∷ controller_base ∷ memory_base ∷ 8 * (own + 1) ∷ tail; pending = set (arrive lines c.pending) own 0; ram = ended_ram c.ram own })) → Owes from to o (ending_code ++ rest) 0 E start (record c { registers = 0 ∷ x1 ∷ x2 ∷ controller_base ∷ memory_base ∷ x5 ∷ tail })
+  -- what is owed of the end: of the code behind it, whatever arrived of the task before
+  pub ends_owe : (o : ℕ) → ((lines : List ℕ) → AreOfLine own lines → Owes from to (behind 9 o) rest 0 (λ touched. E (own ∷ touched)) (state_arrive lines start) (record c { registers = 0 ∷ (memory_base + 12 * (own + 1)) ∷ x2 ∷ controller_base ∷ memory_base ∷ 8 * (own + 1) ∷ tail; pending = set (arrive lines c.pending) own 0; ram = ended_ram c.ram own })) → Owes from to o (ending_code ++ rest) 0 E start (record c { registers = 0 ∷ x1 ∷ x2 ∷ controller_base ∷ memory_base ∷ x5 ∷ tail })
   ends_owe o go =
       loads cur (record { is = refl; aligned = refl; inside = omega arith }) (own + 1) runs
       ▸ writes (own + 1 + controller_base) (omega arith)

@@ -5,7 +5,7 @@ use Rattle.sloth_base.specs.Status.{E_OK}
 use Rattle.sloth_region.specs.Layout.{saved_level}
 use Rattle.rv32_instr.specs.declared.InstrKind.{InstrKind}
 use Rattle.rv32_instr.specs.Ram.{word_at}
-use Rattle.masked_code.specs.Place.{at}
+use Rattle.masked_code.specs.Place.{offset_state}
 use Rattle.masked_code.specs.Masked.{FromOpening}
 use Rattle.masked_code.specs.Kernel.{masking}
 use Rattle.masked_code.specs.Owes.{◌▸◌, writes, loads, Owes}
@@ -16,11 +16,12 @@ use Rattle.block_parts.proofs.Serving.{opens}
 use Rattle.service_gen.specs.Pieces as piece
 use Rattle.service_gen.specs.ReleaseResource.{MayRelease, Released, Releases}
 
+-- the code behind the masking instruction
 abbrev pub body : ℕ → List InstrKind
 body resource = piece.releasing_code resource
 
 module _ (offset resource : ℕ) (c : Core) (h : MayRelease offset resource (masking ∷ body resource) c) where
-  body_owes : Owes offset (offset + 4 + 20) (offset + 4) (body resource) 0 (Released resource) (at offset (based c)) (masked (based c))
+  body_owes : Owes offset (offset + 4 + 20) (offset + 4) (body resource) 0 (Released resource) (offset_state offset (based c)) (masked (based c))
   body_owes =
       let small = h.is_resource in
       let fits = h.level in
@@ -30,8 +31,9 @@ module _ (offset resource : ℕ) (c : Core) (h : MayRelease offset resource (mas
       ▸ goes_back_at offset (masking ∷ body resource) c h.goes_back (Released resource) level level E_OK c.pending c.pending
       c.ram (omega arith) (λ last is went. record { touches = refl; status = is; back = went })
 
-  runs_it : FromOpening 5 (at offset c) (Released resource)
+  runs_it : FromOpening 5 (offset_state offset c) (Released resource)
   runs_it = opens offset 5 (body resource) c (Released resource) h.goes_back.can_run h.goes_back.bases (omega arith) body_owes
 
+-- for each resource
 pub releases : (resource : ℕ) → Releases resource (masking ∷ body resource)
 releases resource = record { size = refl; masks = (body resource, refl); runs = λ offset core h. runs_it offset resource core h }

@@ -3,14 +3,14 @@ use Rattle.std.proofs.Common.{◌≡◌, ℕ, ◌+◌, ◌<◌, ◌≤◌, List,
 use Rattle.std.specs.Prelude.{set, negsuc, nat_lt, bit_xor, ◌≢◌}
 use Rattle.std.proofs.lemmas.Bool.{cases_eq, cases_lt, eq-eqb, ne_eqb, lt-ltb}
 use Rattle.sloth_base.specs.Machine.{Core, State}
-use Rattle.sloth_base.specs.Arithmetic.{plus, one_if, shifted_left}
+use Rattle.sloth_base.specs.Arithmetic.{plus, one_if, left_shift}
 use Rattle.sloth_base.specs.Arrive.{arrive}
 use Rattle.sloth_base.specs.Status.{E_OK}
 use Rattle.sloth_base.specs.MemoryMap.{memory_base}
 use Rattle.sloth_region.specs.Layout.{cur, active, controller_base}
 use Rattle.rv32_instr.specs.declared.InstrKind.{InstrKind}
 use Rattle.rv32_instr.specs.Ram.{word_at}
-use Rattle.masked_code.specs.Place.{at}
+use Rattle.masked_code.specs.Place.{offset_state}
 use Rattle.masked_code.specs.Masked.{FromOpening}
 use Rattle.masked_code.specs.Kernel.{masking}
 use Rattle.masked_code.specs.Owes.{◌▸◌, writes, loads, loads_byte, Owes, Pending, Enabled}
@@ -21,13 +21,14 @@ use Rattle.block_parts.proofs.Busy.{bit_arrives}
 use Rattle.block_parts.proofs.Landing.{lands}
 use Rattle.block_parts.proofs.Returning.{goes_back_with}
 use Rattle.block_parts.proofs.Serving.{opens_within}
-use Rattle.service_gen.specs.Pieces.{asks_active, tells_active, asks_waiting, tells_resting}
-use Rattle.block_parts.specs.Pieces.{back}
-use Rattle.service_gen.specs.GetTaskState.{MayTellState, IsNumber, StateTold, TellsState}
-use Rattle.service_gen.specs.GetTaskState.IsNumber.{running, preempted, waiting, ready, suspended}
+use Rattle.service_gen.specs.Pieces.{active_task_test, active_telling_code, waiting_task_test, resting_telling_code}
+use Rattle.block_parts.specs.Pieces.{back_code}
+use Rattle.service_gen.specs.GetTaskState.{MayTellState, IsStateNumber, StateTold, TellsState}
+use Rattle.service_gen.specs.GetTaskState.IsStateNumber.{running, preempted, waiting, ready, suspended}
 
+-- the code behind the masking instruction
 abbrev pub body : ℕ → List InstrKind
-body task = asks_active task ++ (tells_active task ++ (back ++ (asks_waiting task ++ (tells_resting task ++ back))))
+body task = active_task_test task ++ (active_telling_code task ++ (back_code ++ (waiting_task_test task ++ (resting_telling_code task ++ back_code))))
 
 -- how far the running task's number is from this one
 abbrev apart : ℕ → ℕ → ℕ
@@ -35,7 +36,7 @@ apart own task = plus (own + 1) (negsuc task)
 
 -- what the code computes of that for an Active task
 abbrev told : ℕ → ℕ
-told v = shifted_left (one_if (nat_lt 0 v)) 1
+told v = left_shift (one_if (nat_lt 0 v)) 1
 
 told_own : (task own : ℕ) → task < 30 → task ≡ own → told (apart own task) ≡ 0
 told_own task own x e = let z : apart own task ≡ 0 = omega arith in ap told z
@@ -43,7 +44,7 @@ told_own task own x e = let z : apart own task ≡ 0 = omega arith in ap told z
 told_other : (task own : ℕ) → task < 30 → own < 30 → task ≢ own → told (apart own task) ≡ 2
 told_other task own x y ne =
     ⊎_elim
-    (λ (more : 0 < apart own task). ap (λ t. shifted_left (one_if t) 1) (lt-ltb 0 (apart own task) more))
+    (λ (more : 0 < apart own task). ap (λ t. left_shift (one_if t) 1) (lt-ltb 0 (apart own task) more))
     (λ none. absurd (ne (omega arith)))
     (cases_lt 0 (apart own task))
 
@@ -52,7 +53,7 @@ module _ (offset task own : ℕ) (c : Core) (h : MayTellState offset task own (m
   line = let s = h.is_task in omega arith
 
   abbrev st : List ℕ → State
-  st p = at offset (record (based c) { pending = p })
+  st p = offset_state offset (record (based c) { pending = p })
 
   abbrev x2 : ℕ
   x2 = get_or c.registers 2 0
@@ -67,19 +68,19 @@ module _ (offset task own : ℕ) (c : Core) (h : MayTellState offset task own (m
   enabled = get_or c.enabled task 0
 
   -- the way back, with the number in a1, where these lines were touched before
-  back_owe : (p before : List ℕ) (x number : ℕ) → IsNumber task own (record (based c) { pending = p }) (before ++ []) number
-      → Owes 0 0 0 back 0 (λ u. StateTold task own (before ++ u)) (st p)
+  back_owe : (p before : List ℕ) (x number : ℕ) → IsStateNumber task own (record (based c) { pending = p }) (before ++ []) number
+      → Owes 0 0 0 back_code 0 (λ u. StateTold task own (before ++ u)) (st p)
       (record (masked (based c)) { registers = 0 ∷ x ∷ x2 ∷ controller_base ∷ memory_base ∷ set (set tail 6 number) 5 E_OK; pending = p })
   back_owe p before x number is =
       goes_back_with offset (masking ∷ body task) c h.goes_back (λ u. StateTold task own (before ++ u)) x E_OK number p p c.ram
       (λ last status answer went. record {
         status = status;
-        number = subst (IsNumber task own (record (based c) { pending = p }) (before ++ [])) (sym answer) is;
+        number = subst (IsStateNumber task own (record (based c) { pending = p }) (before ++ [])) (sym answer) is;
         back = went;
       })
 
   -- the task is neither Active nor does it wait: what its pending byte tells
-  rests : (q : ℕ) (p : List ℕ) → word ≡ 0 → enabled ≡ 1 → get_or p task 0 ≡ q → q < 2 → IsNumber task own (record (based c) { pending = p }) (task ∷ []) (bit_xor q 3)
+  rests : (q : ℕ) (p : List ℕ) → word ≡ 0 → enabled ≡ 1 → get_or p task 0 ≡ q → q < 2 → IsStateNumber task own (record (based c) { pending = p }) (task ∷ []) (bit_xor q 3)
   rests q p a e is small =
       ⊎_elim
       (λ (z : q ≡ 0). suspended (a, (omega arith), e) refl (ap (λ v. bit_xor v 3) z))
@@ -87,7 +88,7 @@ module _ (offset task own : ℕ) (c : Core) (h : MayTellState offset task own (m
       (cases_eq q 0)
 
   -- the task is not Active
-  resting_owe : (o : ℕ) → o + 12 ≤ 0x20_0000 → word ≡ 0 → Owes offset (offset + 4 + 64) o (asks_waiting task ++ (tells_resting task ++ back)) 0 (StateTold task own) (st c.pending) (record (masked (based c)) { registers = 0 ∷ word ∷ x2 ∷ controller_base ∷ memory_base ∷ set tail 5 E_OK; pending = c.pending })
+  resting_owe : (o : ℕ) → o + 12 ≤ 0x20_0000 → word ≡ 0 → Owes offset (offset + 4 + 64) o (waiting_task_test task ++ (resting_telling_code task ++ back_code)) 0 (StateTold task own) (st c.pending) (record (masked (based c)) { registers = 0 ∷ word ∷ x2 ∷ controller_base ∷ memory_base ∷ set tail 5 E_OK; pending = c.pending })
   resting_owe o low a =
       let long = h.goes_back.can_run.lines in
       let below = line in
@@ -113,10 +114,10 @@ module _ (offset task own : ℕ) (c : Core) (h : MayTellState offset task own (m
       }
 
   -- the task is Active
-  active_owe : (o : ℕ) → word ≡ 1 → Owes offset (offset + 4 + 64) o (tells_active task ++ (back ++ (asks_waiting task ++ (tells_resting task ++ back)))) 0 (StateTold task own) (st c.pending) (record (masked (based c)) { registers = 0 ∷ word ∷ x2 ∷ controller_base ∷ memory_base ∷ set tail 5 E_OK; pending = c.pending })
+  active_owe : (o : ℕ) → word ≡ 1 → Owes offset (offset + 4 + 64) o (active_telling_code task ++ (back_code ++ (waiting_task_test task ++ (resting_telling_code task ++ back_code)))) 0 (StateTold task own) (st c.pending) (record (masked (based c)) { registers = 0 ∷ word ∷ x2 ∷ controller_base ∷ memory_base ∷ set tail 5 E_OK; pending = c.pending })
   active_owe o a =
       let v = apart own task in
-      let number : IsNumber task own (based c) [] (told v) =
+      let number : IsStateNumber task own (based c) [] (told v) =
       ⊎_elim
       (λ (e : task ≡ own). running a e refl (told_own task own h.is_task e))
       (λ ne. preempted a ne refl (told_other task own h.is_task h.is_own ne))
@@ -128,7 +129,7 @@ module _ (offset task own : ℕ) (c : Core) (h : MayTellState offset task own (m
       ▸ writes (told v) refl
       ▸ back_owe c.pending [] v (told v) number
 
-  body_owes : Owes offset (offset + 4 + 64) (offset + 4) (body task) 0 (StateTold task own) (at offset (based c)) (masked (based c))
+  body_owes : Owes offset (offset + 4 + 64) (offset + 4) (body task) 0 (StateTold task own) (offset_state offset (based c)) (masked (based c))
   body_owes =
       let fits = h.goes_back.can_run.inside in
       let small = h.is_task in
@@ -146,8 +147,9 @@ module _ (offset task own : ℕ) (c : Core) (h : MayTellState offset task own (m
             (⊎_elim (λ (z : word < 1). absurd (n (eq-eqb word 0 (omega arith)))) (λ (m : 1 ≤ word). omega arith) (cases_lt word 1));
       }
 
-  runs_it : FromOpening 10 (at offset c) (StateTold task own)
+  runs_it : FromOpening 10 (offset_state offset c) (StateTold task own)
   runs_it = opens_within offset 10 (body task) c (StateTold task own) h.goes_back.can_run h.goes_back.bases (omega arith) body_owes
 
+-- for each task that is asked for
 pub tells_state : (task : ℕ) → TellsState task (masking ∷ body task)
 tells_state task = record { size = refl; masks = (body task, refl); runs = λ offset own core h. runs_it offset task own core h }

@@ -8,7 +8,7 @@ use Rattle.sloth_base.specs.MemoryMap.{memory_base}
 use Rattle.sloth_region.specs.Layout.{saved_level, controller_base}
 use Rattle.rv32_instr.specs.declared.InstrKind.{InstrKind}
 use Rattle.rv32_instr.specs.Ram.{with_word}
-use Rattle.masked_code.specs.Place.{at}
+use Rattle.masked_code.specs.Place.{offset_state}
 use Rattle.masked_code.specs.Masked.{FromOpening}
 use Rattle.masked_code.specs.Kernel.{masking}
 use Rattle.masked_code.specs.Owes.{◌▸◌, writes, stores, accesses, Owes}
@@ -18,13 +18,14 @@ use Rattle.block_parts.specs.Back.{WentBack, a0}
 use Rattle.block_parts.proofs.Returning.{goes_back_to}
 use Rattle.block_parts.proofs.Landing.{lands}
 use Rattle.block_parts.proofs.Serving.{opens}
-use Rattle.service_gen.specs.Pieces.{taking_code, goes_on}
-use Rattle.service_gen.specs.GetResource.{MayTake, Taken, Takes}
+use Rattle.service_gen.specs.Pieces.{taking_code, ok_back_code}
+use Rattle.service_gen.specs.GetResource.{MayTakeResource, Taken, Takes}
 
+-- the code behind the masking instruction
 abbrev pub body : ℕ → ℕ → List InstrKind
-body resource ceiling = taking_code resource ceiling ++ goes_on
+body resource ceiling = taking_code resource ceiling ++ ok_back_code
 
-module _ (offset resource ceiling : ℕ) (small : ceiling < 256) (c : Core) (h : MayTake offset resource (masking ∷ body resource ceiling) c) where
+module _ (offset resource ceiling : ℕ) (small : ceiling < 256) (c : Core) (h : MayTakeResource offset resource (masking ∷ body resource ceiling) c) where
   abbrev x2 : ℕ
   x2 = get_or c.registers 2 0
 
@@ -32,7 +33,7 @@ module _ (offset resource ceiling : ℕ) (small : ceiling < 256) (c : Core) (h :
   ram = with_word c.ram (saved_level resource) c.plevel
 
   -- the level in plevel is to run
-  rest_owe : (o v : ℕ) → v ≡ max c.ilevel ceiling → Owes offset (offset + 4 + 32) o goes_on 0 (Taken resource ceiling) (at offset (based c))
+  rest_owe : (o v : ℕ) → v ≡ max c.ilevel ceiling → Owes offset (offset + 4 + 32) o ok_back_code 0 (Taken resource ceiling) (offset_state offset (based c))
       (record (masked (based c)) { registers = 0 ∷ ceiling ∷ x2 ∷ controller_base ∷ memory_base ∷ set (spread_from 27 5 c.registers) 5 c.plevel; plevel = v; ram = ram })
   rest_owe o v e =
       writes E_OK refl
@@ -43,11 +44,11 @@ module _ (offset resource ceiling : ℕ) (small : ceiling < 256) (c : Core) (h :
         status = is;
         back =
             subst
-            (λ l. WentBack a0 (record (based c) { ilevel = max c.ilevel ceiling; ram = with_word c.ram (saved_level resource) l }) (at offset (based c)) last)
+            (λ l. WentBack a0 (record (based c) { ilevel = max c.ilevel ceiling; ram = with_word c.ram (saved_level resource) l }) (offset_state offset (based c)) last)
             h.goes_back.same_level went;
       })
 
-  body_owes : Owes offset (offset + 4 + 32) (offset + 4) (body resource ceiling) 0 (Taken resource ceiling) (at offset (based c)) (masked (based c))
+  body_owes : Owes offset (offset + 4 + 32) (offset + 4) (body resource ceiling) 0 (Taken resource ceiling) (offset_state offset (based c)) (masked (based c))
   body_owes =
       let few = h.is_resource in
       let level = h.level in
@@ -72,8 +73,9 @@ module _ (offset resource ceiling : ℕ) (small : ceiling < 256) (c : Core) (h :
             (cases_lt ceiling c.plevel);
       }
 
-  runs_it : FromOpening 8 (at offset c) (Taken resource ceiling)
+  runs_it : FromOpening 8 (offset_state offset c) (Taken resource ceiling)
   runs_it = opens offset 8 (body resource ceiling) c (Taken resource ceiling) h.goes_back.can_run h.goes_back.bases (omega arith) body_owes
 
+-- for each resource and ceiling
 pub taken : (resource ceiling : ℕ) → ceiling < 256 → Takes resource ceiling (masking ∷ body resource ceiling)
 taken resource ceiling small = record { size = refl; masks = (body resource ceiling, refl); runs = λ offset core h. runs_it offset resource ceiling small core h }

@@ -9,7 +9,7 @@ use Rattle.sloth_region.specs.Layout.{cur, controller_base}
 use Rattle.rv32_instr.specs.declared.InstrKind.{InstrKind}
 use Rattle.rv32_instr.specs.declared.InstrKind.TheVariants.{Csrrw, Mret}
 use Rattle.rv32_instr.specs.declared.csr.TheConstants.{MEPC, PLEVEL}
-use Rattle.masked_code.specs.Place.{at, InPlace}
+use Rattle.masked_code.specs.Place.{offset_state, InPlace}
 use Rattle.masked_code.specs.Masked.{FromOpening}
 use Rattle.masked_code.specs.Kernel.{CanRun, masking}
 use Rattle.masked_code.specs.Owes.{◌▸◌, writes, loads, loads_byte, accesses, Owes, Level}
@@ -17,19 +17,21 @@ use Rattle.masked_code.proofs.Spread.{based, spread_from, others}
 use Rattle.masked_code.proofs.Routines.{masked}
 use Rattle.block_parts.proofs.Landing.{lands}
 use Rattle.block_parts.proofs.Serving.{opens_within}
-use Rattle.service_gen.specs.Pieces.{level_code, passes_back, comes_back, stops_at_back}
+use Rattle.service_gen.specs.Pieces.{level_code, way_back_address_code, way_back_code, way_back_stop_code}
 use Rattle.block_parts.specs.Back.{a0}
 use Rattle.service_gen.specs.Schedule.{start_register, way_back, MayYield, Yielded, MayComeBack, CameBack, Yields}
 
 -- up to the way back
 abbrev pub lowering : List InstrKind
-lowering = level_code ++ passes_back
+lowering = level_code ++ way_back_address_code
 
+-- the code behind the masking instruction
 abbrev pub body : List InstrKind
-body = lowering ++ (comes_back ++ stops_at_back)
+body = lowering ++ (way_back_code ++ way_back_stop_code)
 
 -- ---- code in place is so behind its first part
 
+-- where code stands, its last part stands behind its first
 pub in_place-rest : (ram : List ℕ) (first rest : List InstrKind) (offset : ℕ) → InPlace ram offset (first ++ rest) → InPlace ram (offset + 4 * length first) rest
 in_place-rest ram [] rest offset h = subst (λ o. InPlace ram o rest) (let e : offset ≡ offset + 0 = omega arith in e) h
 in_place-rest ram (kind ∷ first) rest offset h =
@@ -67,7 +69,7 @@ module _ (offset task : ℕ) (c : Core) (h : MayYield offset task (masking ∷ b
       get_or-set_other (set low 30 c.plevel) 10 i E_OK 0 not_status ∙ get_or-set_other low 30 i c.plevel 0 not_level
       ∙ others there x2 controller_base memory_base (get_or c.registers 1 0) x2 controller_base memory_base tail i past
 
-  has_yielded : Yielded offset task [] (at offset (based c)) end
+  has_yielded : Yielded offset task [] (offset_state offset (based c)) end
   has_yielded =
       let fits = h.line in
       let aligned = h.can_run.aligned in
@@ -81,7 +83,7 @@ module _ (offset task : ℕ) (c : Core) (h : MayYield offset task (masking ∷ b
         kept = kept;
       }
 
-  lowering_owes : Owes offset (offset + 4 + 48) (offset + 4) body 0 (Yielded offset task) (at offset (based c)) (masked (based c))
+  lowering_owes : Owes offset (offset + 4 + 48) (offset + 4) body 0 (Yielded offset task) (offset_state offset (based c)) (masked (based c))
   lowering_owes =
       let small = h.is_task in
       let inside = h.can_run.inside in
@@ -96,17 +98,17 @@ module _ (offset task : ℕ) (c : Core) (h : MayYield offset task (masking ∷ b
         goes_on = accesses c.mepc refl refl ▸ writes E_OK refl ▸ has_yielded;
       }
 
-  lowers_it : FromOpening 8 (at offset c) (Yielded offset task)
+  lowers_it : FromOpening 8 (offset_state offset c) (Yielded offset task)
   lowers_it = opens_within offset 8 body c (Yielded offset task) h.can_run h.bases (omega arith) lowering_owes
 
 -- ---- the way back
 
 -- behind its first instruction
 abbrev returning : List InstrKind
-returning = Csrrw 0 30 PLEVEL ∷ Csrrw 0 31 MEPC ∷ Mret ∷ stops_at_back
+returning = Csrrw 0 30 PLEVEL ∷ Csrrw 0 31 MEPC ∷ Mret ∷ way_back_stop_code
 
 module _ (offset : ℕ) (c : Core) (h : MayComeBack offset (masking ∷ body) c) where
-  returning_owes : Owes (offset + way_back) (offset + way_back + 4 + 24) (offset + way_back + 4) returning 0 CameBack (at (offset + way_back) (based c)) (masked (based c))
+  returning_owes : Owes (offset + way_back) (offset + way_back + 4 + 24) (offset + way_back + 4) returning 0 CameBack (offset_state (offset + way_back) (based c)) (masked (based c))
   returning_owes =
       let fits = h.level in
       let aligned = h.goes_back.back in
@@ -133,12 +135,13 @@ module _ (offset : ℕ) (c : Core) (h : MayComeBack offset (masking ∷ body) c)
         aligned = omega arith;
         behind = omega arith;
         inside = omega arith;
-        placed = in_place-rest c.ram (masking ∷ lowering) (comes_back ++ stops_at_back) offset can.placed;
+        placed = in_place-rest c.ram (masking ∷ lowering) (way_back_code ++ way_back_stop_code) offset can.placed;
       }
 
-  returns_it : FromOpening 3 (at (offset + way_back) c) CameBack
+  returns_it : FromOpening 3 (offset_state (offset + way_back) c) CameBack
   returns_it = opens_within (offset + way_back) 3 returning c CameBack can_return h.goes_back.bases (omega arith) returning_owes
 
+-- the level goes down to the task's own, and is as before on the way back
 pub yields : Yields (masking ∷ body)
 yields =
     record {

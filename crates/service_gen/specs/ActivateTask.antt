@@ -8,7 +8,7 @@ use Rattle.sloth_region.specs.Layout.{active}
 use Rattle.rv32_instr.specs.declared.InstrKind.{InstrKind}
 use Rattle.rv32_instr.specs.Ram.{word_at}
 use Rattle.masked_code.specs.Masked.{FromOpening}
-use Rattle.masked_code.specs.Place.{at}
+use Rattle.masked_code.specs.Place.{offset_state}
 use Rattle.block_parts.specs.ServiceCode.{IsServiceCode}
 use Rattle.block_parts.specs.Back.{CanGoBack, WentBack, a0}
 
@@ -31,4 +31,4 @@ pub record Activated (task : ℕ) (touched : List ℕ) (start end : State) : Typ
 -- Code of ActivateTask: behind its first instruction at most 11 more lead to its effect, whatever lines arrive.
 abbrev pub Activates : ℕ → List InstrKind → Type 0
 Activates task code =
-    IsServiceCode service.ActivateTask code ((offset : ℕ) (core : Core) → MayActivate offset task code core → FromOpening 11 (at offset core) (Activated task))
+    IsServiceCode service.ActivateTask code ((offset : ℕ) (core : Core) → MayActivate offset task code core → FromOpening 11 (offset_state offset core) (Activated task))

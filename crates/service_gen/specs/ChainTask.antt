@@ -8,7 +8,7 @@ use Rattle.sloth_region.specs.Layout.{cur, active}
 use Rattle.rv32_instr.specs.declared.InstrKind.{InstrKind}
 use Rattle.rv32_instr.specs.Ram.{word_at}
 use Rattle.masked_code.specs.Masked.{FromOpening}
-use Rattle.masked_code.specs.Place.{at}
+use Rattle.masked_code.specs.Place.{offset_state}
 use Rattle.masked_code.specs.Kernel.{IsBelow}
 use Rattle.block_parts.specs.ServiceCode.{IsServiceCode}
 use Rattle.block_parts.specs.Back.{CanGoBack, WentBack, a0}
@@ -49,4 +49,4 @@ Chained task own place touched start end = HasChained task own place touched sta
 abbrev pub Chains : ℕ → List InstrKind → Type 0
 Chains task code =
     IsServiceCode service.ChainTask code ((offset own place : ℕ) (core : Core) → MayChain offset task own place code core
-    → FromOpening 59 (at offset core) (Chained task own place))
+    → FromOpening 59 (offset_state offset core) (Chained task own place))

@@ -7,7 +7,7 @@ use Rattle.sloth_region.specs.Layout.{cur}
 use Rattle.rv32_instr.specs.declared.InstrKind.{InstrKind}
 use Rattle.rv32_instr.specs.Ram.{word_at}
 use Rattle.masked_code.specs.Masked.{FromOpening}
-use Rattle.masked_code.specs.Place.{at}
+use Rattle.masked_code.specs.Place.{offset_state}
 use Rattle.block_parts.specs.ServiceCode.{IsServiceCode}
 use Rattle.block_parts.specs.Back.{CanGoBack, WentBack, a0, a1}
 
@@ -27,4 +27,4 @@ pub record Told (task : ℕ) (touched : List ℕ) (start end : State) : Type 0 w
 -- Code of GetTaskID: behind its first instruction at most 5 more lead to its effect, whatever lines arrive.
 abbrev pub TellsTask : List InstrKind → Type 0
 TellsTask code =
-    IsServiceCode service.GetTaskID code ((offset task : ℕ) (core : Core) → MayTell offset task code core → FromOpening 5 (at offset core) (Told task))
+    IsServiceCode service.GetTaskID code ((offset task : ℕ) (core : Core) → MayTell offset task code core → FromOpening 5 (offset_state offset core) (Told task))

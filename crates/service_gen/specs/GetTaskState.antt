@@ -1,4 +1,4 @@
--- GetTaskState (OSEK OS 2.2.3, section 13.2.3.4).
+-- GetTaskState (OSEK OS 2.2.3, section 13.2.3.6).
 use Rattle.std.specs.Prelude.{ℕ, ◌+◌, ◌≡◌, ◌≢◌, ◌<◌, List, [], ◌∷◌, slice_index}
 use Rattle.sloth_base.specs.declared.service.Service.TheVariants as service
 use Rattle.sloth_base.specs.Machine.{Core, State}
@@ -7,7 +7,7 @@ use Rattle.sloth_region.specs.Layout.{cur, active}
 use Rattle.rv32_instr.specs.declared.InstrKind.{InstrKind}
 use Rattle.rv32_instr.specs.Ram.{word_at}
 use Rattle.masked_code.specs.Masked.{FromOpening}
-use Rattle.masked_code.specs.Place.{at}
+use Rattle.masked_code.specs.Place.{offset_state}
 use Rattle.block_parts.specs.ServiceCode.{IsServiceCode}
 use Rattle.block_parts.specs.Back.{CanGoBack, WentBack, a0, a1}
 use Rattle.block_parts.specs.Looks.{LooksSuspended}
@@ -23,22 +23,22 @@ pub record MayTellState (offset task own : ℕ) (code : List InstrKind) (core : 
   pub enabled_bit : slice_index core.enabled task < 2
 
 -- the number of a task's state where the task `own` runs, and the lines that are touched to tell it
-pub data IsNumber (task own : ℕ) (core : Core) (touched : List ℕ) (number : ℕ) : Type 0 where
-  running : word_at core.ram (active task) ≡ 1 → task ≡ own → touched ≡ [] → number ≡ 0 → IsNumber task own core touched number
-  preempted : word_at core.ram (active task) ≡ 1 → task ≢ own → touched ≡ [] → number ≡ 2 → IsNumber task own core touched number
+pub data IsStateNumber (task own : ℕ) (core : Core) (touched : List ℕ) (number : ℕ) : Type 0 where
+  running : word_at core.ram (active task) ≡ 1 → task ≡ own → touched ≡ [] → number ≡ 0 → IsStateNumber task own core touched number
+  preempted : word_at core.ram (active task) ≡ 1 → task ≢ own → touched ≡ [] → number ≡ 2 → IsStateNumber task own core touched number
   waiting : word_at core.ram (active task) ≡ 0 → slice_index core.enabled task ≡ 0 → touched ≡ [] → number ≡ 1
-      → IsNumber task own core touched number
+      → IsStateNumber task own core touched number
   ready : word_at core.ram (active task) ≡ 0 → slice_index core.enabled task ≡ 1 → slice_index core.pending task ≡ 1 → touched ≡ task ∷ []
-      → number ≡ 2 → IsNumber task own core touched number
-  suspended : LooksSuspended task core → touched ≡ task ∷ [] → number ≡ 3 → IsNumber task own core touched number
+      → number ≡ 2 → IsStateNumber task own core touched number
+  suspended : LooksSuspended task core → touched ≡ task ∷ [] → number ≡ 3 → IsStateNumber task own core touched number
 
 -- a1 is the number of the task's state, the status E_OK.
 pub record StateTold (task own : ℕ) (touched : List ℕ) (start end : State) : Type 0 where
   pub status : slice_index end.core.registers a0 ≡ E_OK
-  pub number : IsNumber task own start.core touched (slice_index end.core.registers a1)
+  pub number : IsStateNumber task own start.core touched (slice_index end.core.registers a1)
   pub back : WentBack a1 start.core start end
 
 -- Code of GetTaskState: behind its first instruction at most 10 more lead to its effect, whatever lines arrive.
 abbrev pub TellsState : ℕ → List InstrKind → Type 0
 TellsState task code =
-    IsServiceCode service.GetTaskState code ((offset own : ℕ) (core : Core) → MayTellState offset task own code core → FromOpening 10 (at offset core) (StateTold task own))
+    IsServiceCode service.GetTaskState code ((offset own : ℕ) (core : Core) → MayTellState offset task own code core → FromOpening 10 (offset_state offset core) (StateTold task own))

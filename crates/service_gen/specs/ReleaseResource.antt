@@ -7,7 +7,7 @@ use Rattle.sloth_region.specs.Layout.{saved_level}
 use Rattle.rv32_instr.specs.declared.InstrKind.{InstrKind}
 use Rattle.rv32_instr.specs.Ram.{word_at}
 use Rattle.masked_code.specs.Masked.{FromOpening}
-use Rattle.masked_code.specs.Place.{at}
+use Rattle.masked_code.specs.Place.{offset_state}
 use Rattle.block_parts.specs.ServiceCode.{IsServiceCode}
 use Rattle.block_parts.specs.Back.{CanGoBack, WentBack, a0}
 
@@ -26,4 +26,4 @@ pub record Released (resource : ℕ) (touched : List ℕ) (start end : State) : 
 -- Code of ReleaseResource: behind its first instruction at most 5 more lead to its effect, whatever lines arrive.
 abbrev pub Releases : ℕ → List InstrKind → Type 0
 Releases resource code =
-    IsServiceCode service.ReleaseResource code ((offset : ℕ) (core : Core) → MayRelease offset resource code core → FromOpening 5 (at offset core) (Released resource))
+    IsServiceCode service.ReleaseResource code ((offset : ℕ) (core : Core) → MayRelease offset resource code core → FromOpening 5 (offset_state offset core) (Released resource))

@@ -1,4 +1,4 @@
--- Schedule (OSEK OS 2.2.3, section 13.2.3.3), and the way back from it.
+-- Schedule (OSEK OS 2.2.3, section 13.2.3.4), and the way back from it.
 use Rattle.std.specs.Prelude.{ℕ, ◌+◌, ◌≡◌, ◌≢◌, ◌<◌, ◌≤◌, true, List, [], ◌∷◌, ◌++◌, length, slice_index}
 use Rattle.sloth_base.specs.declared.service.Service.TheVariants as service
 use Rattle.sloth_base.specs.Machine.{Core, State}
@@ -8,7 +8,7 @@ use Rattle.sloth_region.specs.Layout.{cur}
 use Rattle.rv32_instr.specs.declared.InstrKind.{InstrKind}
 use Rattle.rv32_instr.specs.Ram.{word_at}
 use Rattle.masked_code.specs.Masked.{FromOpening}
-use Rattle.masked_code.specs.Place.{at}
+use Rattle.masked_code.specs.Place.{offset_state}
 use Rattle.masked_code.specs.Kernel.{CanRun, HoldBases, LeftAs, masking}
 use Rattle.block_parts.specs.ServiceCode.{IsServiceCode}
 use Rattle.block_parts.specs.Back.{CanGoBack, a0}
@@ -58,8 +58,8 @@ pub record CameBack (touched : List ℕ) (start end : State) : Type 0 where
 -- Behind the first instruction at most 8 more lead to the effect, whatever lines arrive. So do at most 3 behind the first of the way back.
 pub record RunsAndComesBack (code : List InstrKind) : Type 0 where
   pub masks_again : (first rest : List InstrKind) × (code ≡ first ++ masking ∷ rest) × (length first ≡ 6)
-  pub lowers : (offset task : ℕ) (core : Core) → MayYield offset task code core → FromOpening 8 (at offset core) (Yielded offset task)
-  pub comes_back : (offset : ℕ) (core : Core) → MayComeBack offset code core → FromOpening 3 (at (offset + way_back) core) CameBack
+  pub lowers : (offset task : ℕ) (core : Core) → MayYield offset task code core → FromOpening 8 (offset_state offset core) (Yielded offset task)
+  pub comes_back : (offset : ℕ) (core : Core) → MayComeBack offset code core → FromOpening 3 (offset_state (offset + way_back) core) CameBack
 
 -- code of Schedule
 abbrev pub Yields : List InstrKind → Type 0

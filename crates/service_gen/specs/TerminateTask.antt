@@ -7,7 +7,7 @@ use Rattle.sloth_region.specs.Layout.{cur, active, events, below_word, context_b
 use Rattle.rv32_instr.specs.declared.InstrKind.{InstrKind}
 use Rattle.rv32_instr.specs.Ram.{word_at, with_word}
 use Rattle.masked_code.specs.Masked.{FromOpening}
-use Rattle.masked_code.specs.Place.{at}
+use Rattle.masked_code.specs.Place.{offset_state}
 use Rattle.masked_code.specs.Kernel.{CanRun, HoldBases, IsBelow, LeftAs}
 use Rattle.block_parts.specs.ServiceCode.{IsServiceCode}
 
@@ -47,4 +47,4 @@ pub record Terminated (task place : ℕ) (touched : List ℕ) (start end : State
 abbrev pub Terminates : List InstrKind → Type 0
 Terminates code =
     IsServiceCode service.TerminateTask code ((offset task place : ℕ) (core : Core) → MayTerminate offset task place code core
-    → FromOpening 48 (at offset core) (Terminated task place))
+    → FromOpening 48 (offset_state offset core) (Terminated task place))

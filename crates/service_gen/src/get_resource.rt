@@ -1,6 +1,6 @@
 //! GetResource: the level that runs is saved, and at least the resource's ceiling runs.
 ghost use Rattle.std.specs.Prelude.{◌≡◌, ◌≤◌, ◌++◌, IfOk, OnOk};
-ghost use Rattle.service_gen.specs.Pieces.{taking_code, goes_on};
+ghost use Rattle.service_gen.specs.Pieces.{taking_code, ok_back_code};
 ghost use Rattle.service_gen.specs.GetResource.{Takes};
 
 use block_parts::pieces::{go_back, open};
@@ -41,7 +41,7 @@ fn take(code: &mut Vec<Instr>, resource: u8, ceiling: u8) -> Result<(), AllocErr
 
 /// Back to the caller, with the status E_OK.
 fn go_on(code: &mut Vec<Instr>) -> Result<(), AllocError>
-    ensures { OnOk result (code.new.items ≡ code.old.items ++ goes_on) }
+    ensures { OnOk result (code.new.items ≡ code.old.items ++ ok_back_code) }
 {
     emit(code, &[addi(A0, ZERO, E_OK as i32)])?;
     go_back(code)

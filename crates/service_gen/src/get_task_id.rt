@@ -1,6 +1,6 @@
 //! GetTaskID: the number of the running task.
 ghost use Rattle.std.specs.Prelude.{◌≡◌, ◌++◌, IfOk, OnOk};
-ghost use Rattle.service_gen.specs.Pieces.{tells_own};
+ghost use Rattle.service_gen.specs.Pieces.{own_telling_code};
 ghost use Rattle.service_gen.specs.GetTaskID.{TellsTask};
 
 use block_parts::pieces::{go_back, open};
@@ -24,7 +24,7 @@ pub fn code(alloc: Global) -> Result<Vec<Instr>, AllocError>
 
 /// a1 := the running task's number, with the status E_OK.
 fn tell_own(code: &mut Vec<Instr>) -> Result<(), AllocError>
-    ensures { OnOk result (code.new.items ≡ code.old.items ++ tells_own) }
+    ensures { OnOk result (code.new.items ≡ code.old.items ++ own_telling_code) }
 {
     let told = [
         lw(A1, X4, CUR),

@@ -1,6 +1,6 @@
 //! GetTaskState: the number of a task's state, 0 where it runs, 1 Waiting, 2 Ready or preempted, 3 Suspended.
 ghost use Rattle.std.specs.Prelude.{◌≡◌, ◌<◌, ◌++◌, IfOk, OnOk};
-ghost use Rattle.service_gen.specs.Pieces.{asks_active, tells_active, asks_waiting, tells_resting};
+ghost use Rattle.service_gen.specs.Pieces.{active_task_test, active_telling_code, waiting_task_test, resting_telling_code};
 ghost use Rattle.service_gen.specs.GetTaskState.{TellsState};
 
 use block_parts::pieces::{BACK, go_back, open};
@@ -42,7 +42,7 @@ pub fn code(alloc: Global, task: u8) -> Result<Vec<Instr>, AllocError>
 /// The status E_OK; goes on behind the first way back where the task is not Active.
 fn ask_active(code: &mut Vec<Instr>, task: u8) -> Result<(), AllocError>
     requires { task < 30 }
-    ensures { OnOk result (code.new.items ≡ code.old.items ++ asks_active task) }
+    ensures { OnOk result (code.new.items ≡ code.old.items ++ active_task_test task) }
 {
     let asked = [
         addi(A0, ZERO, E_OK as i32),
@@ -55,7 +55,7 @@ fn ask_active(code: &mut Vec<Instr>, task: u8) -> Result<(), AllocError>
 /// a1 := 0 where the task runs, and 2 where it is preempted.
 fn tell_active(code: &mut Vec<Instr>, task: u8) -> Result<(), AllocError>
     requires { task < 30 }
-    ensures { OnOk result (code.new.items ≡ code.old.items ++ tells_active task) }
+    ensures { OnOk result (code.new.items ≡ code.old.items ++ active_telling_code task) }
 {
     let told = [
         lw(X1, X4, CUR),
@@ -69,7 +69,7 @@ fn tell_active(code: &mut Vec<Instr>, task: u8) -> Result<(), AllocError>
 /// a1 := 1; goes on at the way back where the task waits.
 fn ask_waiting(code: &mut Vec<Instr>, task: u8) -> Result<(), AllocError>
     requires { task < 30 }
-    ensures { OnOk result (code.new.items ≡ code.old.items ++ asks_waiting task) }
+    ensures { OnOk result (code.new.items ≡ code.old.items ++ waiting_task_test task) }
 {
     let asked = [
         lbu(X1, X3, enabled_byte(task)),
@@ -82,7 +82,7 @@ fn ask_waiting(code: &mut Vec<Instr>, task: u8) -> Result<(), AllocError>
 /// a1 := 3 where the task is Suspended, and 2 where it is Ready, whose pending byte is 1.
 fn tell_resting(code: &mut Vec<Instr>, task: u8) -> Result<(), AllocError>
     requires { task < 30 }
-    ensures { OnOk result (code.new.items ≡ code.old.items ++ tells_resting task) }
+    ensures { OnOk result (code.new.items ≡ code.old.items ++ resting_telling_code task) }
 {
     let told = [lbu(X1, X3, pending_byte(task)), xori(A1, X1, SUSPENDED)];
     emit(code, &told)

@@ -1,4 +1,4 @@
-//! The code of the operating system services (OSEK OS 2.2.3, section 13) that need no events.
+//! The code of the operating system services on tasks and resources (OSEK OS 2.2.3, sections 13.2 and 13.4).
 #![tactic(auto)]
 
 ghost use Rattle.std.specs.Prelude.{◌≡◌, ◌∷◌, IfOk, length};

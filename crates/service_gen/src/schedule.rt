@@ -1,6 +1,6 @@
 //! Schedule: the running task gives way to those above its own level, and then comes back.
 ghost use Rattle.std.specs.Prelude.{◌≡◌, ◌++◌, IfOk, OnOk};
-ghost use Rattle.service_gen.specs.Pieces.{level_code, passes_back, comes_back, stops_at_back};
+ghost use Rattle.service_gen.specs.Pieces.{level_code, way_back_address_code, way_back_code, way_back_stop_code};
 ghost use Rattle.service_gen.specs.Schedule.{Yields};
 
 use block_parts::pieces::open;
@@ -51,14 +51,14 @@ fn lower(code: &mut Vec<Instr>) -> Result<(), AllocError>
 
 /// x1 := the address of the way back, which stands behind it and is passed.
 fn pass_back(code: &mut Vec<Instr>) -> Result<(), AllocError>
-    ensures { OnOk result (code.new.items ≡ code.old.items ++ passes_back) }
+    ensures { OnOk result (code.new.items ≡ code.old.items ++ way_back_address_code) }
 {
     emit(code, &[jal(X1, past(COME_BACK))])
 }
 
 /// The way back: to the level in x30, and to the address in x31.
 fn come_back(code: &mut Vec<Instr>) -> Result<(), AllocError>
-    ensures { OnOk result (code.new.items ≡ code.old.items ++ comes_back) }
+    ensures { OnOk result (code.new.items ≡ code.old.items ++ way_back_code) }
 {
     let came_back = [
         csrrci(ZERO, MSTATUS, MIE),
@@ -71,7 +71,7 @@ fn come_back(code: &mut Vec<Instr>) -> Result<(), AllocError>
 
 /// With the status E_OK to the address in x1.
 fn stop_at_back(code: &mut Vec<Instr>) -> Result<(), AllocError>
-    ensures { OnOk result (code.new.items ≡ code.old.items ++ stops_at_back) }
+    ensures { OnOk result (code.new.items ≡ code.old.items ++ way_back_stop_code) }
 {
     let stopped = [csrrw(ZERO, MEPC, X1), addi(A0, ZERO, E_OK as i32), mret()];
     emit(code, &stopped)

@@ -1,5 +1,5 @@
 //! TerminateTask: the running task ends, and what runs below it goes on.
-ghost use Rattle.std.specs.Prelude.{◌≡◌, IfOk};
+ghost use Rattle.std.specs.Prelude.{IfOk};
 ghost use Rattle.service_gen.specs.TerminateTask.{Terminates};
 
 use block_parts::pieces::{end, open};

@@ -15,7 +15,7 @@ use Rattle.osek_scheduler.specs.State.{declaration, opening, opening_clock}
 use Rattle.osek_scheduler.specs.Steps.{OsekStep}
 use Rattle.vector_gen.specs.Boot.{Booted}
 use Rattle.sim_relation.specs.Build.{Build, Fits}
-use Rattle.sim_relation.specs.Stands.{Stands, Fixed}
+use Rattle.sim_relation.specs.Stands.{Stands, IsFixed}
 use Rattle.sim_relation.specs.Start.{Starts, started_system}
 use Rattle.sim_relation.proofs.ClockKept.{clock_kept}
 use Rattle.sim_relation.proofs.Framing.{word_kept}
@@ -61,7 +61,7 @@ module _ (b : Build) (image : Image) (levels : List ℕ) (end : State) (fits : F
   ram_is : (i : ℕ) → slice_index end.core.ram i ≡ slice_index b.memory i
   ram_is i = ap (λ r. slice_index r i) effect.left.ram ∙ ram_at image.memory i ∙ ap (λ m. slice_index m i) is.memory
 
-  fixed : Fixed b end.core
+  fixed : IsFixed b end.core
   fixed = record {
     open_to_lines = effect.left.opened;
     previous = effect.left.previous;

@@ -7,7 +7,7 @@ use Rattle.sloth_base.specs.Machine.{State}
 use Rattle.sloth_base.specs.Arrive.{state_arrive}
 use Rattle.sloth_base.specs.Owners.{owners_in, IsOwned}
 use Rattle.rv32_machine.specs.Start.{start}
-use Rattle.masked_code.specs.Trace.{Trace, touched_lines, early, late}
+use Rattle.masked_code.specs.Trace.{Trace, touched_lines, early_arrivals, late_arrivals}
 use Rattle.observe.specs.Observe.{View}
 use Rattle.vector_gen.specs.Boot.{Booted}
 use Rattle.sim_induction.specs.Admits.{IsSetting, lines_at, with_admits}
@@ -27,7 +27,7 @@ use Rattle.sim_entries.specs.Codes.{BootStands}
 use Rattle.sim_entries.proofs.Boot.{boots_law, ram_at}
 
 -- a stretch that touches no line has no early arrivals
-pub none_early : (trace : Trace) → touched_lines trace ≡ [] → early trace ≡ []
+pub none_early : (trace : Trace) → touched_lines trace ≡ [] → early_arrivals trace ≡ []
 none_early trace h = sym (lines_before 0 trace) ∙ ap (map (λ (a : Arrival). a.line)) (nothing_before 0 trace h)
 
 module _ (b : Build) (view : View) (arrivals : List Arrival) (setting : IsSetting (setting_of b view arrivals)) (image : Image) (fits : Fits b) (is : IsImage b image)
@@ -78,6 +78,6 @@ module _ (b : Build) (view : View) (arrivals : List Arrival) (setting : IsSettin
         untouched = untouched;
         after = started_system b;
         step_is = law.0;
-        related = subst (λ x. Stands b x (with_admits (late route.trace) (started_system b))) (sym route.late_behind)
-            (stands_arrived b (late route.trace) route.last (started_system b) fits.few_tasks in_range.1 law.1);
+        related = subst (λ x. Stands b x (with_admits (late_arrivals route.trace) (started_system b))) (sym route.late_behind)
+            (stands_arrived b (late_arrivals route.trace) route.last (started_system b) fits.few_tasks in_range.1 law.1);
       }

@@ -11,13 +11,13 @@ use Rattle.sloth_base.specs.Choose.{choose}
 use Rattle.sloth_region.specs.Layout.{resume}
 use Rattle.osek_scheduler.specs.declared.state.TaskState.TheVariants as mode
 use Rattle.osek_scheduler.specs.State.{Task, System, task, with_task, declaration, body_of, entry_frame, zero_registers}
-use Rattle.sloth_base.specs.Named.{function, missing}
+use Rattle.sloth_base.specs.Named.{function, no_function}
 use Rattle.osek_scheduler.specs.Priority.{is_active}
 use Rattle.osek_scheduler.specs.Services.{started_task, entered_state}
 use Rattle.osek_scheduler.specs.Steps.{OsekStep, settled_state}
 use Rattle.sim_relation.specs.Build.{Build, Fits}
 use Rattle.sim_relation.specs.Position.{AreWords, thread_of}
-use Rattle.sim_relation.specs.Context.{Context}
+use Rattle.sim_relation.specs.Context.{IsContext}
 use Rattle.sim_relation.specs.Stands.{Stands}
 use Rattle.sim_relation.specs.Entry.{EntryRam, TaskEntry}
 use Rattle.sim_relation.proofs.AtItem.{position_first}
@@ -26,7 +26,7 @@ use Rattle.sim_relation.proofs.Tops.{falling_active}
 use Rattle.sim_relation.proofs.Entering.{entry_stands}
 use Rattle.sim_relation.proofs.Choice.{taken_ready, taken_top}
 use Rattle.sim_relation.proofs.Room.{first_room}
-use Rattle.sim_entries.specs.Range.{Sane}
+use Rattle.sim_entries.specs.Range.{IsSane}
 use Rattle.sim_entries.specs.Entries.{EntersAnew, StandsAlone, first_words}
 use Rattle.sim_entries.proofs.EntryRam.{IsStored}
 use Rattle.sim_entries.proofs.Saving.{preempted, cleared, cleared_long, saved, is_saved, entry_ram, entry_machine}
@@ -38,10 +38,10 @@ pub there : (app : App) (f : ℕ) → 0 < length (function app f).items → f < 
 there app f h =
     ⊎_elim
     (λ (l : f < length app.funcs). l)
-    (λ (l : length app.funcs ≤ f). let e = ap (λ (g : Func). length g.items) (get_or_past app.funcs f missing l) in absurd (omega arith))
+    (λ (l : length app.funcs ≤ f). let e = ap (λ (g : Func). length g.items) (get_or_past app.funcs f no_function l) in absurd (omega arith))
     (cases_lt f (length app.funcs))
 
-module _ (b : Build) (state end : State) (s : System) (t place : ℕ) (fits : Fits b) (k : Stands b state s) (sane : Sane state)
+module _ (b : Build) (state end : State) (s : System) (t place : ℕ) (fits : Fits b) (k : Stands b state s) (sane : IsSane state)
     (declared : t < length b.config.tasks) (e : choose state.core ≡ Some t) (fresh : (task s t).frames ≡ []) (has_item : 0 < length (function b.app (body_of b.app.funcs t)).items) (alone : StandsAlone b s t)
     (x2 : slice_index state.core.registers 2 ≡ 0x8000_0000 + (place + 128)) (effect : EntersAnew b t place state end) where
   few : length b.config.tasks ≤ 32
@@ -94,7 +94,7 @@ module _ (b : Build) (state end : State) (s : System) (t place : ℕ) (fits : Fi
       is_stored.named (resume t) (omega arith) (omega arith) (λ a. omega arith) (λ a. omega arith) (λ a. omega arith)
       ∙ rests b state.core.ram t (task s t) (is_active (task s t).state) (task s t).frames fresh (k.words t declared).resumption)
 
-  context : Context b end.core.ram t own (thread_of end) frame
+  context : IsContext b end.core.ram t own (thread_of end) frame
   context = record {
     x2 = effect.x2;
     registers = λ i l. zero_at 25 i ∙ sym (effect.zeros (i + 5) (omega arith) (omega arith));

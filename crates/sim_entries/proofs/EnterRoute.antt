@@ -8,17 +8,17 @@ use Rattle.sloth_base.specs.declared.event.Event.TheVariants as event
 use Rattle.sloth_base.specs.Machine.{Core, State}
 use Rattle.sloth_base.specs.Arrive.{state_arrive}
 use Rattle.sloth_base.specs.Choose.{choose}
-use Rattle.sloth_base.specs.Take.{take, line_to_take, enter, entered}
+use Rattle.sloth_base.specs.Take.{take, line_to_take, entry_state, execution_state}
 use Rattle.sloth_base.specs.Owners.{owners_in, IsOwned}
 use Rattle.sloth_base.specs.Stretches.{Takes, later_beginning, stretch_limit}
 use Rattle.sloth_base.specs.declared.lines.Owners.{Owners}
 use Rattle.sloth_base.proofs.Stretches.{task_limit}
 use Rattle.rv32_instr.specs.Execute.{touched}
-use Rattle.rv32_machine.specs.Run.{arrived}
+use Rattle.rv32_machine.specs.Run.{state_with_arrivals}
 use Rattle.masked_code.specs.Kernel.{CanRun}
-use Rattle.masked_code.specs.Place.{at}
+use Rattle.masked_code.specs.Place.{offset_state}
 use Rattle.masked_code.specs.Masked.{Masked, WithArrivals}
-use Rattle.masked_code.specs.Trace.{Trace, lines_of, touched_lines, early, late}
+use Rattle.masked_code.specs.Trace.{Trace, lines_of, touched_lines, early_arrivals, late_arrivals}
 use Rattle.rv32_expand.specs.Expansion.{item_address}
 use Rattle.observe.specs.Observe.{View}
 use Rattle.osek_scheduler.specs.State.{Frame, System, task, declaration, body_of}
@@ -47,7 +47,7 @@ use Rattle.sim_relation.proofs.Placed.{placed_in, code_behind}
 use Rattle.sim_relation.proofs.Codes.{code_apart, code_beside}
 use Rattle.sim_relation.proofs.Spot.{Spot, spot}
 use Rattle.sim_relation.proofs.Room.{first_room}
-use Rattle.sim_entries.specs.Range.{Sane}
+use Rattle.sim_entries.specs.Range.{IsSane}
 use Rattle.sim_entries.specs.Entries.{StandsAlone, first_words}
 use Rattle.sim_entries.specs.Codes.{PrologueStands}
 use Rattle.sim_entries.proofs.BootRoute.{none_early}
@@ -67,7 +67,7 @@ module _ (b : Build) (view : View) (arrivals : List Arrival) (setting : IsSettin
   few = let f = fits.few_tasks in omega arith
 
   abbrev now : State
-  now = arrived arrivals count state
+  now = state_with_arrivals arrivals count state
 
   abbrev found : System
   found = with_admits (lines_at arrivals count) s
@@ -78,7 +78,7 @@ module _ (b : Build) (view : View) (arrivals : List Arrival) (setting : IsSettin
   abbrev Stretches : Type 0
   Stretches = (next : State) × (trace : Trace) × (end : State) × StretchLaw (setting_of b view arrivals) (Stands b) count state s next trace end
 
-  module _ (sane : Sane now) (t : ℕ) (declared : t < length b.config.tasks) (chosen : choose now.core ≡ Some t) where
+  module _ (sane : IsSane now) (t : ℕ) (declared : t < length b.config.tasks) (chosen : choose now.core ≡ Some t) where
     taken : line_to_take now ≡ Some t
     taken = ap (λ v. cond v (choose now.core) None) k.fixed.open_to_lines ∙ chosen
 
@@ -92,38 +92,38 @@ module _ (b : Build) (view : View) (arrivals : List Arrival) (setting : IsSettin
 
     module _ (most : ℕ) (short : suc most ≤ stretch_limit b.config (Takes t)) (Effect : List ℕ → State → State → Type 0) (opens : Opens Effect)
         (quiet : (lines : List ℕ) (from last : State) → Effect lines from last → lines ≡ [])
-        (masked : Masked (suc most) (at (vector t) core) (WithArrivals Effect (at (vector t) core)))
+        (masked : Masked (suc most) (offset_state (vector t) core) (WithArrivals Effect (offset_state (vector t) core)))
         (law : (last : State) → Effect [] (take t now) last → OsekStep b.config b.app (event.Enter t) found after × Stands b last after) where
-      at_vector : at (vector t) core ≡ entered now
+      at_vector : offset_state (vector t) core ≡ execution_state now
       at_vector =
           let e : 0x8000_0000 + vector t ≡ 0x8000_0400 + 4 * t = omega arith in
-          ap (λ p. record { pc = p; core = core }) e ∙ sym (ap (λ o. enter o now) taken)
+          ap (λ p. record { pc = p; core = core }) e ∙ sym (ap (λ o. entry_state o now) taken)
 
       route : Entering arrivals most count state Effect
       route =
-          entering arrivals most count state Effect opens (ap (λ o. (enter o now).core.mie) taken)
+          entering arrivals most count state Effect opens (ap (λ o. (entry_state o now).core.mie) taken)
           (subst (λ x. Masked (suc most) x (WithArrivals Effect x)) at_vector masked)
 
       abbrev all_touched : List ℕ
-      all_touched = lines_of (touched (entered now)) (touched_lines route.trace)
+      all_touched = lines_of (touched (execution_state now)) (touched_lines route.trace)
 
       untouched : all_touched ≡ []
-      untouched = quiet all_touched (state_arrive (early route.trace) (entered now)) route.last route.effect
+      untouched = quiet all_touched (state_arrive (early_arrivals route.trace) (execution_state now)) route.last route.effect
 
-      nothing_early : early route.trace ≡ []
-      nothing_early = none_early route.trace (none_touched (touched (entered now)) (touched_lines route.trace) untouched)
+      nothing_early : early_arrivals route.trace ≡ []
+      nothing_early = none_early route.trace (none_touched (touched (execution_state now)) (touched_lines route.trace) untouched)
 
       effect : Effect [] (take t now) route.last
       effect =
-          subst (λ x. Effect [] x route.last) (ap (λ o. enter o now) taken)
-          (subst (λ x. Effect [] (state_arrive x (entered now)) route.last) nothing_early
-          (subst (λ x. Effect x (state_arrive (early route.trace) (entered now)) route.last) untouched route.effect))
+          subst (λ x. Effect [] x route.last) (ap (λ o. entry_state o now) taken)
+          (subst (λ x. Effect [] (state_arrive x (execution_state now)) route.last) nothing_early
+          (subst (λ x. Effect x (state_arrive (early_arrivals route.trace) (execution_state now)) route.last) untouched route.effect))
 
       enters : OsekStep b.config b.app (event.Enter t) found after × Stands b route.last after
       enters = law route.last effect
 
-      touches : IfSome (touched (entered now)) (Contains []) × AllByRecursion (Contains []) (touched_lines route.trace)
-      touches = touches_parted [] (touched (entered now)) (touched_lines route.trace) (subst (AllByRecursion (Contains [])) (sym untouched) tt)
+      touches : IfSome (touched (execution_state now)) (Contains []) × AllByRecursion (Contains []) (touched_lines route.trace)
+      touches = touches_parted [] (touched (execution_state now)) (touched_lines route.trace) (subst (AllByRecursion (Contains [])) (sym untouched) tt)
 
       stretch : StretchLaw (setting_of b view arrivals) (Stands b) count state s route.next route.trace route.end
       stretch =
@@ -145,8 +145,8 @@ module _ (b : Build) (view : View) (arrivals : List Arrival) (setting : IsSettin
             after = after;
             step_is = subst (λ x. OsekStep b.config b.app (event.Enter t) (with_admits x found) after) (sym nothing_early) enters.0;
             passes = λ past h. tt;
-            related = subst (λ x. Stands b x (with_admits (late route.trace) after)) (sym route.late_behind)
-                (stands_arrived b (late route.trace) route.last after fits.few_tasks in_range.1 enters.1);
+            related = subst (λ x. Stands b x (with_admits (late_arrivals route.trace) after)) (sym route.late_behind)
+                (stands_arrived b (late_arrivals route.trace) route.last after fits.few_tasks in_range.1 enters.1);
           }
 
       stretches : Stretches
@@ -223,7 +223,7 @@ module _ (b : Build) (view : View) (arrivals : List Arrival) (setting : IsSettin
       enters_anew : (task found t).frames ≡ [] → StandsAlone b found t → Stretches
       enters_anew fresh alone =
           stretches (108 + words) short (Entered t (start_level b t) first place frame words) (λ lines from last e. e.left.opened) (λ lines from last e. e.touches)
-          (subst (λ n. Masked n (at (vector t) core) (WithArrivals (Entered t (start_level b t) first place frame words) (at (vector t) core))) (omega arith)
+          (subst (λ n. Masked n (offset_state (vector t) core) (WithArrivals (Entered t (start_level b t) first place frame words) (offset_state (vector t) core))) (omega arith)
           (kinds.starts (declaration b.config t).extended t (start_level b t) first frame words prologue.code prologue.enters prologue.offset place core
           (fits.items (body_of b.app.funcs t) 0)
           (record {
@@ -273,7 +273,7 @@ module _ (b : Build) (view : View) (arrivals : List Arrival) (setting : IsSettin
         enters_again : (declaration b.config t).extended ≡ true → Stretches
         enters_again extended =
             stretches (108 + words) short (Resumed t (start_level b t) place has.place) (λ lines from last e. e.left.opened) (λ lines from last e. e.touches)
-            (subst (λ n. Masked n (at (vector t) core) (WithArrivals (Resumed t (start_level b t) place has.place) (at (vector t) core))) (omega arith)
+            (subst (λ n. Masked n (offset_state (vector t) core) (WithArrivals (Resumed t (start_level b t) place has.place) (offset_state (vector t) core))) (omega arith)
             ((subst (λ (x : Bool). DoesEnter x t (start_level b t) first frame words prologue.code) extended prologue.enters).resumes prologue.offset place has.place core may_resume))
             (λ last e. again.resume_law b now last found t place has.place fits k sane declared chosen some (anew.there b.app (body_of b.app.funcs t) prologue.has_item) spot_is.1 has.rested.link e)
 
@@ -302,4 +302,4 @@ module _ (b : Build) (view : View) (arrivals : List Arrival) (setting : IsSettin
       enter_advances progress =
           let h = by_frames (task found t).frames refl in
           stretch_advances (setting_of b view arrivals) setting (Stands b) progress count late_count state s h.0 h.1 h.2 h.3
-          stands.tidy.booted (sym (booted_admits (late h.1) h.3.after) ∙ h.3.related.tidy.booted)
+          stands.tidy.booted (sym (booted_admits (late_arrivals h.1) h.3.after) ∙ h.3.related.tidy.booted)

@@ -11,8 +11,8 @@ use Rattle.sloth_base.specs.declared.places.Levels.{Levels}
 use Rattle.sloth_region.specs.declared.map.Map.{Map}
 use Rattle.rv32_instr.specs.declared.InstrKind.{InstrKind}
 use Rattle.rv32_expand.specs.Expansion.{item_address}
-use Rattle.osek_scheduler.specs.State.{declaration, undeclared, body_of}
-use Rattle.sloth_base.specs.Named.{function, missing}
+use Rattle.osek_scheduler.specs.State.{declaration, undeclared_task, body_of}
+use Rattle.sloth_base.specs.Named.{function, no_function}
 use Rattle.osek_scheduler.specs.Priority.{greatest, highest_priority}
 use Rattle.prologue_gen.specs.Places.{EntersTask, DoesEnter, frame_at, first_item}
 use Rattle.prologue_gen.specs.Places as generator
@@ -42,13 +42,13 @@ module _ (b : Build) (levels : Levels) (map_of : Map) (t : ℕ) (code : List Ins
   body = one enters.body enters.func enters.is_func enters.is_body
 
   func : function b.app (body_of b.app.funcs t) ≡ enters.func
-  func = ap (λ f. get_or b.app.funcs f missing) (sym body) ∙ get_or_from_slice_get b.app.funcs enters.body enters.func missing enters.is_func
+  func = ap (λ f. get_or b.app.funcs f no_function) (sym body) ∙ get_or_from_slice_get b.app.funcs enters.body enters.func no_function enters.is_func
 
   words : enters.func.frame_words ≡ first_words b t
   words = sym (ap (λ (f : Func). f.frame_words) func)
 
   decl : declaration b.config t ≡ enters.decl
-  decl = get_or_from_slice_get b.config.tasks t enters.decl undeclared enters.is_decl
+  decl = get_or_from_slice_get b.config.tasks t enters.decl undeclared_task enters.is_decl
 
   by_scheduling : (non : Bool) (top own : ℕ) (p q : ℕ) → top ≡ level_of b.config p → own ≡ level_of b.config q → cond non top own ≡ level_of b.config (cond non p q)
   by_scheduling true top own p q e f = e

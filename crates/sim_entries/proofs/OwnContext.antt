@@ -8,7 +8,7 @@ use Rattle.osek_scheduler.specs.declared.state.TaskState.TheVariants as mode
 use Rattle.osek_scheduler.specs.State.{Frame, Task, System, task}
 use Rattle.osek_scheduler.specs.Priority.{is_active}
 use Rattle.sim_relation.specs.Build.{Build, Fits}
-use Rattle.sim_relation.specs.Context.{Rested, Resumes}
+use Rattle.sim_relation.specs.Context.{IsRested, Resumes}
 use Rattle.sim_relation.specs.Stands.{Stands}
 use Rattle.sim_relation.proofs.Tops.{falling_active}
 use Rattle.sim_relation.proofs.Spot.{is_first, is_first_in, spot}
@@ -20,7 +20,7 @@ pub record HasOwn (b : Build) (ram : List ℕ) (t : ℕ) (own : Task) : Type 0 w
   pub outer : List Frame
   pub frames : own.frames ≡ frame ∷ outer
   pub place : ℕ
-  pub rested : Rested b ram t own frame outer place
+  pub rested : IsRested b ram t own frame outer place
 
 own_by : (b : Build) (ram : List ℕ) (t : ℕ) (own : Task) (a : Bool) (frames : List Frame) → a ≡ false → own.frames ≡ frames → frames ≢ [] → Resumes b ram t own a frames → HasOwn b ram t own
 own_by b ram t own true frames a e n h = cc

@@ -19,7 +19,7 @@ use Rattle.osek_scheduler.specs.Steps.{OsekStep, settled_state}
 use Rattle.sim_relation.specs.Build.{Build, Fits}
 use Rattle.sim_relation.specs.Framing.{Agree}
 use Rattle.sim_relation.specs.Position.{thread_of}
-use Rattle.sim_relation.specs.Context.{Context, Rested}
+use Rattle.sim_relation.specs.Context.{IsContext, IsRested}
 use Rattle.sim_relation.specs.Stands.{Stands, IsAlive}
 use Rattle.sim_relation.specs.Entry.{EntryRam, TaskEntry}
 use Rattle.sim_relation.proofs.AtItem.{rested_context}
@@ -28,13 +28,13 @@ use Rattle.sim_relation.proofs.Parts.{word_other}
 use Rattle.sim_relation.proofs.Entering.{entry_stands}
 use Rattle.sim_relation.proofs.Choice.{taken_ready, taken_top}
 use Rattle.sim_relation.proofs.Room.{first_room}
-use Rattle.sim_entries.specs.Range.{Sane}
+use Rattle.sim_entries.specs.Range.{IsSane}
 use Rattle.sim_entries.specs.Entries.{EntersBehindWait}
 use Rattle.sim_entries.proofs.EntryRam.{IsStored}
 use Rattle.sim_entries.proofs.OwnContext.{HasOwn, own_context, own_apart}
 use Rattle.sim_entries.proofs.Saving.{preempted, cleared, saved, is_saved, entry_ram, entry_machine}
 
-module _ (b : Build) (state end : State) (s : System) (t place own : ℕ) (fits : Fits b) (k : Stands b state s) (sane : Sane state)
+module _ (b : Build) (state end : State) (s : System) (t place own : ℕ) (fits : Fits b) (k : Stands b state s) (sane : IsSane state)
     (declared : t < length b.config.tasks) (e : choose state.core ≡ Some t) (some : (task s t).frames ≢ []) (has_body : HasBody b.app t)
     (x2 : slice_index state.core.registers 2 ≡ 0x8000_0000 + (place + 128)) (link : word_at state.core.ram (resume t) ≡ 0x8000_0000 + own)
     (effect : EntersBehindWait b t place own state end) where
@@ -60,10 +60,10 @@ module _ (b : Build) (state end : State) (s : System) (t place own : ℕ) (fits 
       again [] n = absurd (n refl)
       again (frame ∷ outer) n = refl
 
-  rested : Rested b state.core.ram t (task s t) has.frame has.outer own
+  rested : IsRested b state.core.ram t (task s t) has.frame has.outer own
   rested =
       let same : has.place ≡ own = let l = has.rested.link in omega arith in
-      subst (λ (p : ℕ). Rested b state.core.ram t (task s t) has.frame has.outer p) same has.rested
+      subst (λ (p : ℕ). IsRested b state.core.ram t (task s t) has.frame has.outer p) same has.rested
 
   apart_own : (b.top t ≤ place) ⊎ (place + 128 ≤ b.low t)
   apart_own = own_apart b state s t fits k declared e some place x2
@@ -119,11 +119,11 @@ module _ (b : Build) (state end : State) (s : System) (t place own : ℕ) (fits 
       ∙ sym (effect.loaded (i + 5) (omega arith) (omega arith) (λ q. h (omega arith))))
       (cases_eq i 5)
 
-  at_old : Context b state.core.ram t after (thread_of end) (own + 128)
+  at_old : IsContext b state.core.ram t after (thread_of end) (own + 128)
   at_old = rested_context b state.core.ram t (task s t) after has.frame has.outer own (thread_of end) rested has.frames ((k.tidy.each t declared).at_rest (ap is_active ready)).1
       effect.pc effect.x2 register_is
 
-  context : Context b end.core.ram t after (thread_of end) (own + 128)
+  context : IsContext b end.core.ram t after (thread_of end) (own + 128)
   context = context_same b state.core.ram end.core.ram t after after (thread_of end) (thread_of end) (own + 128) refl
       (record { pc = refl; x2 = refl; x = λ i x y. refl }) own_stack at_old
 

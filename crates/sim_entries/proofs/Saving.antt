@@ -18,7 +18,7 @@ use Rattle.sim_relation.specs.Stands.{Stands}
 use Rattle.sim_relation.specs.Entry.{EntryRam, EntryMachine}
 use Rattle.sim_relation.proofs.SavedRegisters.{registers_at, registers_small}
 use Rattle.sim_relation.proofs.Spot.{Spot, spot}
-use Rattle.sim_entries.specs.Range.{Sane}
+use Rattle.sim_entries.specs.Range.{IsSane}
 use Rattle.sim_entries.proofs.Spot.{zeros_small, context_words, words_small}
 use Rattle.sim_entries.proofs.EntryRam.{stored, IsStored, is_stored}
 
@@ -46,7 +46,7 @@ saved_small core small j =
 abbrev pub saved : State → (t place frame words : ℕ) → List ℕ
 saved state t place frame words = stored state.core.ram (preempted state) (saved_registers state.core) (cleared words) place t frame
 
-module _ (b : Build) (state : State) (s : System) (t place : ℕ) (fits : Fits b) (k : Stands b state s) (sane : Sane state)
+module _ (b : Build) (state : State) (s : System) (t place : ℕ) (fits : Fits b) (k : Stands b state s) (sane : IsSane state)
     (declared : t < length b.config.tasks) (x2 : slice_index state.core.registers 2 ≡ 0x8000_0000 + (place + 128)) where
   few : length b.config.tasks ≤ 32
   few = let f = fits.few_tasks in omega arith

@@ -7,7 +7,7 @@ use Rattle.osek_scheduler.specs.Priority.{is_in}
 use Rattle.sloth_region.specs.Layout.{idle_context}
 use Rattle.sim_relation.specs.Build.{Build, Fits}
 use Rattle.sim_relation.specs.Position.{thread_of}
-use Rattle.sim_relation.specs.Context.{Running}
+use Rattle.sim_relation.specs.Context.{RunsFirst}
 use Rattle.sim_relation.specs.Stands.{AreApart}
 use Rattle.sim_relation.proofs.Contexts.{context_below}
 use Rattle.sim_relation.proofs.Tops.{is_in-head}
@@ -42,7 +42,7 @@ words_small x y z w p q r s (suc (suc (suc (suc j)))) = omega arith
 
 -- apart from the part of a task that is apart from those of the Active tasks
 pub stored_apart : (b : Build) (state : State) (s : System) (stack : List ℕ) (place u : ℕ) → Fits b
-    → slice_index state.core.registers 2 ≡ 0x8000_0000 + (place + 128) → Running b state s stack → 1024 ≤ b.low u
+    → slice_index state.core.registers 2 ≡ 0x8000_0000 + (place + 128) → RunsFirst b state s stack → 1024 ≤ b.low u
     → ((v : ℕ) → is_in v stack ≡ true → AreApart b u v) → (b.top u ≤ place) ⊎ (place + 128 ≤ b.low u)
 stored_apart b state s [] place u fits x k low apart = let y = k.x2 in inr (omega arith)
 stored_apart b state s (a ∷ stack) place u fits x k low apart =
@@ -52,7 +52,7 @@ stored_apart b state s (a ∷ stack) place u fits x k low apart =
     ⊎_elim (λ (z : b.top u ≤ b.low a). inl (omega arith)) (λ (z : b.top a ≤ b.low u). inr (omega arith)) (apart a (is_in-head a stack))
 
 -- there is room for it directly below x2
-pub stored_at : (b : Build) (state : State) (s : System) (stack : List ℕ) → Running b state s stack
+pub stored_at : (b : Build) (state : State) (s : System) (stack : List ℕ) → RunsFirst b state s stack
     → (place : ℕ) × (slice_index state.core.registers 2 ≡ 0x8000_0000 + (place + 128))
 stored_at b state s [] k = (idle_context, k.x2)
 stored_at b state s (a ∷ stack) k = let p = k.context.x2 in let l = k.context.room in (k.place - 128, omega arith)

@@ -8,8 +8,8 @@ use Rattle.sim_relation.specs.Build.{Build}
 use Rattle.sim_relation.specs.ClockStands.{ClockStands, IsBesideClock}
 use Rattle.sim_relation.specs.DataStands.{DataStands}
 
--- The image of what is built: the words of alarms are those that the configuration declares, all other service words are zero, and the data are
--- those that the task code declares.
+-- The image of what is built: the words of the declared counters and alarms say the clock with which the configuration opens; outside the bytes
+-- of the clock (364 to 627) all service words before the idle loop's context are zero; and the data are those that the task code declares.
 pub record IsImage (b : Build) (image : Image) : Type 0 where
   pub memory : image.memory ≡ b.memory
   pub size : length b.memory ≤ 0x20_0000

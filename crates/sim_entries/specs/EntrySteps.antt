@@ -7,7 +7,7 @@ use Rattle.sloth_base.specs.Machine.{State}
 use Rattle.sloth_base.specs.Choose.{choose}
 use Rattle.sloth_region.specs.Layout.{resume, context_bytes}
 use Rattle.rv32_instr.specs.Ram.{word_at}
-use Rattle.rv32_machine.specs.Run.{arrived}
+use Rattle.rv32_machine.specs.Run.{state_with_arrivals}
 use Rattle.rv32_machine.specs.Start.{start}
 use Rattle.masked_code.specs.Trace.{Trace}
 use Rattle.observe.specs.Observe.{View}
@@ -23,14 +23,14 @@ use Rattle.sim_relation.specs.Placed.{setting_of}
 use Rattle.sim_relation.specs.Stands.{Stands}
 use Rattle.sim_relation.specs.Start.{started_system}
 use Rattle.vector_gen.specs.Boot.{Booted}
-use Rattle.sim_entries.specs.Range.{Sane}
+use Rattle.sim_entries.specs.Range.{IsSane}
 use Rattle.sim_entries.specs.Entries.{EntersAnew, EntersBehindWait, StandsAlone}
 use Rattle.sim_entries.specs.Boot.{IsImage, AreLevelsOf}
 use Rattle.sim_entries.specs.Codes.{BootStands, PrologueStands}
 
 -- Where a task's line is the one taken and the task is to start anew, its prologue is the event Enter, whatever ran.
 abbrev pub EnterLaw : Type 0
-EnterLaw = (b : Build) (state end : State) (s : System) (t place : ℕ) → Fits b → Stands b state s → Sane state
+EnterLaw = (b : Build) (state end : State) (s : System) (t place : ℕ) → Fits b → Stands b state s → IsSane state
     → t < length b.config.tasks → choose state.core ≡ Some t → (task s t).frames ≡ []
     → 0 < length (function b.app (body_of b.app.funcs t)).items → StandsAlone b s t
     → slice_index state.core.registers 2 ≡ memory_base + (place + context_bytes) → EntersAnew b t place state end
@@ -39,7 +39,7 @@ EnterLaw = (b : Build) (state end : State) (s : System) (t place : ℕ) → Fits
 
 -- Where a task's line is the one taken and a context is kept for the task, its prologue is the event Enter, whatever ran.
 abbrev pub ResumeLaw : Type 0
-ResumeLaw = (b : Build) (state end : State) (s : System) (t place own : ℕ) → Fits b → Stands b state s → Sane state
+ResumeLaw = (b : Build) (state end : State) (s : System) (t place own : ℕ) → Fits b → Stands b state s → IsSane state
     → t < length b.config.tasks → choose state.core ≡ Some t → (task s t).frames ≢ [] → HasBody b.app t
     → slice_index state.core.registers 2 ≡ memory_base + (place + context_bytes) → word_at state.core.ram (resume t) ≡ memory_base + own
     → EntersBehindWait b t place own state end
@@ -62,15 +62,15 @@ BootStretch = (b : Build) (view : View) (arrivals : List Arrival) (image : Image
 -- Where the line that is taken at a count is that of a task that is to start anew, its prologue is a stretch.
 abbrev pub EnterStretch : Type 0
 EnterStretch = (b : Build) (view : View) (arrivals : List Arrival) (count t : ℕ) (state : State) (s : System) → IsSetting (setting_of b view arrivals)
-    → Fits b → 0 < count → Stands b state s → Sane (arrived arrivals count state) → t < length b.config.tasks
-    → choose (arrived arrivals count state).core ≡ Some t
+    → Fits b → 0 < count → Stands b state s → IsSane (state_with_arrivals arrivals count state) → t < length b.config.tasks
+    → choose (state_with_arrivals arrivals count state).core ≡ Some t
     → (task (with_admits (lines_at arrivals count) s) t).frames ≡ [] → StandsAlone b (with_admits (lines_at arrivals count) s) t → PrologueStands b t
     → (next : State) × (trace : Trace) × (end : State) × StretchLaw (setting_of b view arrivals) (Stands b) count state s next trace end
 
 -- Where it is that of an extended task that is to go on behind its wait, so is its prologue.
 abbrev pub ResumeStretch : Type 0
 ResumeStretch = (b : Build) (view : View) (arrivals : List Arrival) (count t : ℕ) (state : State) (s : System) → IsSetting (setting_of b view arrivals)
-    → Fits b → 0 < count → Stands b state s → Sane (arrived arrivals count state) → t < length b.config.tasks
-    → choose (arrived arrivals count state).core ≡ Some t
+    → Fits b → 0 < count → Stands b state s → IsSane (state_with_arrivals arrivals count state) → t < length b.config.tasks
+    → choose (state_with_arrivals arrivals count state).core ≡ Some t
     → (task (with_admits (lines_at arrivals count) s) t).frames ≢ [] → (declaration b.config t).extended ≡ true → PrologueStands b t
     → (next : State) × (trace : Trace) × (end : State) × StretchLaw (setting_of b view arrivals) (Stands b) count state s next trace end

@@ -4,7 +4,7 @@ use Rattle.sloth_base.specs.Machine.{State}
 use Rattle.sim_relation.specs.Bounds.{AreBelow}
 
 -- words are below 2^32, and bytes and the running level below 2^8
-pub record Sane (state : State) : Type 0 where
+pub record IsSane (state : State) : Type 0 where
   pub pc : state.pc < 4294967296
   pub registers : AreBelow 4294967296 state.core.registers
   pub bytes : AreBelow 256 state.core.ram

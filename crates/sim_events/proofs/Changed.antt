@@ -12,12 +12,12 @@ use Rattle.osek_scheduler.specs.declared.state.TaskState.{TaskState}
 use Rattle.osek_scheduler.specs.declared.state.TaskState.TheVariants as mode
 use Rattle.osek_scheduler.specs.State.{Task, System, task}
 use Rattle.osek_scheduler.specs.Priority.{is_active}
-use Rattle.osek_scheduler.specs.Services.{answers, answered_state}
+use Rattle.osek_scheduler.specs.Services.{answered_task, answered_state}
 use Rattle.osek_scheduler.specs.Steps.{settled_state}
 use Rattle.sim_relation.specs.Build.{Build, Fits}
-use Rattle.sim_relation.specs.Changes.{changed_to, TaskChange}
+use Rattle.sim_relation.specs.Changes.{system_with_task_state, TaskChange}
 use Rattle.sim_relation.specs.ServiceWords.{IsWaitWord}
-use Rattle.sim_relation.specs.Stands.{Stands, IsLineOf}
+use Rattle.sim_relation.specs.Stands.{Stands, AreLineBytes}
 use Rattle.sim_relation.proofs.Changing.{change_stands}
 use Rattle.sim_relation.proofs.Parts.{by_task, word_other}
 use Rattle.sim_services.specs.Opening.{IsFollowed}
@@ -34,7 +34,7 @@ pub record Changes (b : Build) (state : State) (s : System) (u : ℕ) (m : TaskS
   pub wait_word : IsWaitWord m (word_at state.core.ram (wait u))
   pub long_pending : length pending ≡ length state.core.pending
   pub long_enabled : length enabled ≡ length state.core.enabled
-  pub own_line : IsLineOf m (slice_index pending u) (slice_index enabled u)
+  pub own_line : AreLineBytes m (slice_index pending u) (slice_index enabled u)
   pub own_bit : slice_index pending u < 2
   pub other_pending : (line : ℕ) → line ≢ u → slice_index pending line ≡ slice_index state.core.pending line
   pub other_enabled : (line : ℕ) → line ≢ u → slice_index enabled line ≡ slice_index state.core.enabled line
@@ -78,7 +78,7 @@ module _ (b : Build) (state : State) (s : System) (t : ℕ) (called : Task) (ser
 
   -- the answer leaves the states and the events
   pub same_state : (v : ℕ) → (task answer v).state ≡ (task s v).state
-  same_state = by_task (λ v (x : Task). x.state ≡ (task s v).state) s t (answers status (task s t)) among refl (λ v n. refl)
+  same_state = by_task (λ v (x : Task). x.state ≡ (task s v).state) s t (answered_task status (task s t)) among refl (λ v n. refl)
 
   pub current : word_at end.core.ram cur ≡ word_at state.core.ram cur
   current = ap (λ r. word_at r cur) back.left.ram ∙ word_other state.core.ram (events u) word cur (omega arith) (omega arith) (λ e. omega arith)
@@ -110,8 +110,8 @@ module _ (b : Build) (state : State) (s : System) (t : ℕ) (called : Task) (ser
           pc = refl;
           registers = refl;
           level = refl;
-          own_line = subst (λ (e : List ℕ). IsLineOf m (slice_index end.core.pending u) (slice_index e u)) (sym back.left.enabled)
-              (subst (λ (p : List ℕ). IsLineOf m (slice_index p u) (slice_index enabled u)) (sym back.left.pending) c.own_line);
+          own_line = subst (λ (e : List ℕ). AreLineBytes m (slice_index end.core.pending u) (slice_index e u)) (sym back.left.enabled)
+              (subst (λ (p : List ℕ). AreLineBytes m (slice_index p u) (slice_index enabled u)) (sym back.left.pending) c.own_line);
           own_bit = subst (λ (p : List ℕ). slice_index p u < 2) (sym back.left.pending) c.own_bit;
           other_pending = λ l n. ap (λ q. slice_index q l) back.left.pending ∙ c.other_pending l n;
           other_enabled = λ l n. ap (λ q. slice_index q l) back.left.enabled ∙ c.other_enabled l n;
@@ -125,5 +125,5 @@ module _ (b : Build) (state : State) (s : System) (t : ℕ) (called : Task) (ser
         }
 
     -- the relation with the answer and the changed record
-    pub stands_changed : Stands b end (changed_to answer u m now)
+    pub stands_changed : Stands b end (system_with_task_state answer u m now)
     stands_changed = change_stands b middle end answer before fits u c.declared m now change

@@ -13,10 +13,10 @@ use Rattle.rv32_expand.specs.Expansion.{mask_of}
 use Rattle.masked_code.proofs.Words.{word_below}
 use Rattle.event_gen.specs.ClearEvent.{EventsCleared, mask_register}
 use Rattle.osek_scheduler.specs.State.{Task, System, task, with_task}
-use Rattle.osek_scheduler.specs.Services.{answers, answered_state, is_there}
+use Rattle.osek_scheduler.specs.Services.{answered_task, answered_state, is_there}
 use Rattle.osek_scheduler.specs.Steps.{settled_state}
 use Rattle.sim_relation.specs.Build.{Build, Fits}
-use Rattle.sim_relation.specs.Changes.{changed_to}
+use Rattle.sim_relation.specs.Changes.{system_with_task_state}
 use Rattle.sim_relation.specs.Stands.{Stands, IsActive}
 use Rattle.sim_relation.proofs.Parts.{this_task}
 use Rattle.sim_services.specs.ServiceSteps.{MayGoOn}
@@ -75,22 +75,22 @@ module _ (b : Build) (state : State) (s : System) (t : ℕ) (own : Task) (object
   }
 
   abbrev after : System
-  after = with_task s t (record (answers E_OK (task s t)) { events = now })
+  after = with_task s t (record (answered_task E_OK (task s t)) { events = now })
 
-  stood : Stands b end (changed_to (settled_state (answered_state E_OK t s)) t (task s t).state now)
+  stood : Stands b end (system_with_task_state (settled_state (answered_state E_OK t s)) t (task s t).state now)
   stood =
       stands_changed b state s t own service.ClearEvent is fits may.followed end t word state.core.pending state.core.enabled effect.back E_OK effect.status
       (task s t).state now change
 
-  this : task (answered_state E_OK t s) t ≡ answers E_OK (task s t)
+  this : task (answered_state E_OK t s) t ≡ answered_task E_OK (task s t)
   this =
-      this_task s t (answers E_OK (task s t))
+      this_task s t (answered_task E_OK (task s t))
       (among b state s t own service.ClearEvent is fits may.followed end t word state.core.pending state.core.enabled effect.back E_OK effect.status)
 
-  next_is : changed_to (settled_state (answered_state E_OK t s)) t (task s t).state now ≡ settled_state after
+  next_is : system_with_task_state (settled_state (answered_state E_OK t s)) t (task s t).state now ≡ settled_state after
   next_is =
       ap (λ (x : Task). settled_state (with_task (answered_state E_OK t s) t (record x { state = (task s t).state; events = now }))) this
-      ∙ ap (λ l. settled_state (record s { tasks = l })) (set-set s.tasks t (answers E_OK (task s t)) (record (answers E_OK (task s t)) { events = now }))
+      ∙ ap (λ l. settled_state (record s { tasks = l })) (set-set s.tasks t (answered_task E_OK (task s t)) (record (answered_task E_OK (task s t)) { events = now }))
 
   pub clears : Answers b s t service.ClearEvent touched end
   clears =

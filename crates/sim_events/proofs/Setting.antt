@@ -19,13 +19,13 @@ use Rattle.event_gen.specs.SetEvent.{with_mask, HasNotSet, HasSet, HasWoken, Eve
 use Rattle.osek_scheduler.specs.declared.state.TaskState.{TaskState}
 use Rattle.osek_scheduler.specs.declared.state.TaskState.TheVariants as mode
 use Rattle.osek_scheduler.specs.State.{Task, System, task}
-use Rattle.osek_scheduler.specs.Services.{answers, answered_state, is_there, GoesOn, set_events, with_events, woken_state}
+use Rattle.osek_scheduler.specs.Services.{answered_task, answered_state, is_there, GoesOn, set_events, with_events, woken_state}
 use Rattle.osek_scheduler.specs.Outcomes.{outcome}
 use Rattle.osek_scheduler.specs.Steps.{settled_state}
 use Rattle.sim_relation.specs.Build.{Build, Fits}
-use Rattle.sim_relation.specs.Changes.{changed_to}
+use Rattle.sim_relation.specs.Changes.{system_with_task_state}
 use Rattle.sim_relation.specs.ServiceWords.{IsWaitWord}
-use Rattle.sim_relation.specs.Stands.{Stands, IsLineOf}
+use Rattle.sim_relation.specs.Stands.{Stands, AreLineBytes}
 use Rattle.sim_relation.proofs.Parts.{by_task}
 use Rattle.sim_services.specs.ServiceSteps.{MayGoOn}
 use Rattle.sim_services.specs.Served.{IsServed, Answers}
@@ -102,19 +102,19 @@ module _ (b : Build) (state : State) (s : System) (t : ℕ) (own : Task) (object
   module _ (busy : LooksSuspended object state.core → ⊥) (status : slice_index end.core.registers a0 ≡ E_OK) (pending enabled : List ℕ)
       (back : WentBack a0 (record state.core { ram = with_word state.core.ram (events object) word; pending = pending; enabled = enabled }) state end)
       (change : Changes b state s object after now word pending enabled) where
-    stood : Stands b end (changed_to (settled_state (answered_state E_OK t s)) object after now)
+    stood : Stands b end (system_with_task_state (settled_state (answered_state E_OK t s)) object after now)
     stood = stands_changed b state s t own service.SetEvent is fits goes_on.followed end object word pending enabled back E_OK status after now change
 
     here : t < length s.tasks
     here = among b state s t own service.SetEvent is fits goes_on.followed end object word pending enabled back E_OK status
 
     same : (v : ℕ) → ((task (answered_state E_OK t s) v).state ≡ (task s v).state) × ((task (answered_state E_OK t s) v).events ≡ (task s v).events)
-    same = by_task (λ v x. (x.state ≡ (task s v).state) × (x.events ≡ (task s v).events)) s t (answers E_OK (task s t)) here (refl, refl) (λ v n. (refl, refl))
+    same = by_task (λ v x. (x.state ≡ (task s v).state) × (x.events ≡ (task s v).events)) s t (answered_task E_OK (task s t)) here (refl, refl) (λ v n. (refl, refl))
 
     inside : object < length (answered_state E_OK t s).tasks
-    inside = let v = k.tidy.tasks in let h = declared in let l = length-set s.tasks t (answers E_OK (task s t)) in omega arith
+    inside = let v = k.tidy.tasks in let h = declared in let l = length-set s.tasks t (answered_task E_OK (task s t)) in omega arith
 
-    next_is : settled_state done ≡ changed_to (answered_state E_OK t s) object after now
+    next_is : settled_state done ≡ system_with_task_state (answered_state E_OK t s) object after now
     next_is =
         let middle = answered_state E_OK t s in
         ap (λ x. settled_state (woken_state x (bit_or (task middle object).events mask) object (with_events middle object (bit_or (task middle object).events mask)))) (same object).0
@@ -146,7 +146,7 @@ module _ (b : Build) (state : State) (s : System) (t : ℕ) (own : Task) (object
         wait_word = subst (λ m. IsWaitWord m awaited_word) (sym e) wait_word;
         long_pending = refl;
         long_enabled = refl;
-        own_line = subst (λ m. IsLineOf m (slice_index state.core.pending object) (slice_index state.core.enabled object)) (sym e) (k.lines.each object declared);
+        own_line = subst (λ m. AreLineBytes m (slice_index state.core.pending object) (slice_index state.core.enabled object)) (sym e) (k.lines.each object declared);
         own_bit = k.lines.bits object declared;
         other_pending = λ l n. refl;
         other_enabled = λ l n. refl;
@@ -173,8 +173,8 @@ module _ (b : Build) (state : State) (s : System) (t : ℕ) (own : Task) (object
         wait_word = some_word (task s object).state now awaited_word z wait_word;
         long_pending = length-set state.core.pending object 1;
         long_enabled = length-set state.core.enabled object 1;
-        own_line = subst (λ (x : ℕ). IsLineOf after x (slice_index enabled object)) (sym p)
-            (subst (λ (x : ℕ). IsLineOf after 1 x) (sym q)
+        own_line = subst (λ (x : ℕ). AreLineBytes after x (slice_index enabled object)) (sym p)
+            (subst (λ (x : ℕ). AreLineBytes after 1 x) (sym q)
             (some_line (task s object).state now awaited_word z wait_word (awake h.not_suspended)));
         own_bit = omega arith;
         other_pending = λ l n. get_or-set_other state.core.pending object l 1 0 n;

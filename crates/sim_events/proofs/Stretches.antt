@@ -9,7 +9,7 @@ use Rattle.sloth_base.specs.Arrive.{state_arrive}
 use Rattle.sloth_base.specs.Machine.{State}
 use Rattle.sim_services.proofs.Touching.{touches_none, touches_one}
 use Rattle.rv32_expand.specs.Expansion.{mask_of}
-use Rattle.rv32_machine.specs.Run.{arrived}
+use Rattle.rv32_machine.specs.Run.{state_with_arrivals}
 use Rattle.observe.specs.Observe.{View}
 use Rattle.event_gen.specs.ClearEvent.{ClearsEvents, EventsCleared, mask_register}
 use Rattle.event_gen.specs.GetEvent.{TellsEvents, EventsTold}
@@ -31,7 +31,7 @@ use Rattle.sim_events.proofs.Told.{tells_events}
 module _ (b : Build) (view : View) (arrivals : List Arrival) (count : ℕ) (state : State) (s : System) (t : ℕ) (fits : Fits b)
     (setting : IsSetting (setting_of b view arrivals)) (after_boot : 0 < count) (stands : Stands b state s) where
   abbrev start : State
-  start = arrived arrivals count state
+  start = state_with_arrivals arrivals count state
 
   abbrev found : System
   found = with_admits (lines_at arrivals count) s

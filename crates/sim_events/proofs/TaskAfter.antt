@@ -9,9 +9,9 @@ use Rattle.osek_scheduler.specs.State.{System, task, with_task}
 use Rattle.osek_scheduler.specs.Priority.{is_active}
 use Rattle.osek_scheduler.specs.Services.{woken_state, with_events}
 use Rattle.osek_scheduler.specs.Steps.{settled_state}
-use Rattle.sim_relation.specs.Changes.{changed_to}
+use Rattle.sim_relation.specs.Changes.{system_with_task_state}
 use Rattle.sim_relation.specs.ServiceWords.{IsWaitWord}
-use Rattle.sim_relation.specs.Stands.{IsLineOf}
+use Rattle.sim_relation.specs.Stands.{AreLineBytes}
 use Rattle.sim_relation.proofs.Parts.{this_task}
 
 abbrev pub state_after : TaskState → ℕ → TaskState
@@ -57,8 +57,8 @@ after_some w now word z h =
     ap (λ (c : Bool). cond c (mode.Waiting w) mode.Ready) (ne_eqb (bit_and now w) 0 (λ e. z (ap (bit_and now) h ∙ e)))
 
 -- where an awaited event is set the line is pending and enabled
-pub some_line : (m : TaskState) (now word : ℕ) → bit_and now word ≢ 0 → IsWaitWord m word → m ≢ mode.Suspended → IsLineOf (state_after m now) 1 1
-some_line (mode.Waiting w) now word z h n = subst (λ m. IsLineOf m 1 1) (sym (after_some w now word z h)) (refl, refl)
+pub some_line : (m : TaskState) (now word : ℕ) → bit_and now word ≢ 0 → IsWaitWord m word → m ≢ mode.Suspended → AreLineBytes (state_after m now) 1 1
+some_line (mode.Waiting w) now word z h n = subst (λ m. AreLineBytes m 1 1) (sym (after_some w now word z h)) (refl, refl)
 some_line mode.Suspended now word z h n = absurd (n refl)
 some_line mode.Ready now word z h n = (refl, refl)
 some_line mode.Active now word z h n = refl
@@ -82,7 +82,7 @@ by_woken s u now w false l e =
 
 -- the record of the task whose events are set
 pub woken_is : (s : System) (u now : ℕ) (m : TaskState) → u < length s.tasks → (task s u).state ≡ m
-    → settled_state (woken_state m now u (with_events s u now)) ≡ changed_to s u (state_after m now) now
+    → settled_state (woken_state m now u (with_events s u now)) ≡ system_with_task_state s u (state_after m now) now
 woken_is s u now (mode.Waiting w) l e = by_woken s u now w (bit_and now w == 0) l e
 woken_is s u now mode.Suspended l e = ap (λ m. settled_state (with_task s u (record (task s u) { state = m; events = now }))) e
 woken_is s u now mode.Ready l e = ap (λ m. settled_state (with_task s u (record (task s u) { state = m; events = now }))) e

@@ -8,7 +8,7 @@ use Rattle.sloth_base.specs.Status.{E_OK, E_OS_STATE}
 use Rattle.sloth_base.specs.declared.service.Service.TheVariants as service
 use Rattle.event_gen.specs.GetEvent.{HasNotTold, HasTold, EventsTold}
 use Rattle.osek_scheduler.specs.State.{Task, System, task}
-use Rattle.osek_scheduler.specs.Services.{answered_state, answered_with, is_there, GoesOn}
+use Rattle.osek_scheduler.specs.Services.{answered_state, answered_state_with, is_there, GoesOn}
 use Rattle.osek_scheduler.specs.Outcomes.{outcome}
 use Rattle.sim_relation.specs.Build.{Build, Fits}
 use Rattle.sim_relation.specs.Stands.{Stands}
@@ -41,7 +41,7 @@ module _ (b : Build) (state : State) (s : System) (t : ℕ) (own : Task) (object
   value = (task s object).events
 
   abbrev told : System
-  told = answered_with value t s
+  told = answered_state_with value t s
 
   outcome_at : outcome b.config service.GetEvent is.opening.block.call.object is.opening.block.call.mask t s ≡ outcome b.config service.GetEvent object is.opening.block.call.mask t s
   outcome_at = ap (λ o. outcome b.config service.GetEvent o is.opening.block.call.mask t s) may.object_is

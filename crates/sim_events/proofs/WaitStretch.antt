@@ -8,16 +8,16 @@ use Rattle.sloth_base.specs.Machine.{State}
 use Rattle.sim_services.proofs.Touching.{touches_none}
 use Rattle.sloth_region.specs.Layout.{context_bytes}
 use Rattle.rv32_instr.specs.declared.InstrKind.{InstrKind}
-use Rattle.rv32_machine.specs.Run.{arrived}
+use Rattle.rv32_machine.specs.Run.{state_with_arrivals}
 use Rattle.observe.specs.Observe.{View}
 use Rattle.event_gen.specs.WaitEvent.{Waits, Waited, MayWait}
 use Rattle.osek_scheduler.specs.State.{System, task}
 use Rattle.sim_induction.specs.Admits.{IsSetting, lines_at, with_admits}
 use Rattle.sim_relation.specs.Build.{Build, Fits}
-use Rattle.sim_relation.specs.Context.{Chain, RunsTask, Running}
+use Rattle.sim_relation.specs.Context.{IsContextChain, RunsTask, RunsFirst}
 use Rattle.sim_relation.specs.Placed.{IsPlaced, setting_of}
 use Rattle.sim_relation.specs.Position.{thread_of, thread_at}
-use Rattle.sim_relation.specs.Stands.{Stands, Falling, AreActive, StacksApart}
+use Rattle.sim_relation.specs.Stands.{Stands, AreFalling, AreActive, StacksApart}
 use Rattle.sim_relation.proofs.Contexts.{context_below}
 use Rattle.sim_relation.proofs.Placed.{first_by_word}
 use Rattle.sim_relation.proofs.Tops.{falling_head, is_in-head, below_other}
@@ -30,8 +30,8 @@ use Rattle.sim_events.specs.Stretch.{OpensWaitEvent}
 use Rattle.sim_events.proofs.Waiting.{wait_answers}
 
 -- where a chain begins, apart from what lies in the part of a task that is not in it
-chain_apart : (b : Build) (ram : List ℕ) (s : System) (t : ℕ) (below : List ℕ) (place own : ℕ) → Fits b → StacksApart b s → Falling b s (t ∷ below)
-    → b.low t ≤ own → own + context_bytes ≤ b.top t → Chain b ram s below place → (own + context_bytes ≤ place) ⊎ (place + context_bytes ≤ own)
+chain_apart : (b : Build) (ram : List ℕ) (s : System) (t : ℕ) (below : List ℕ) (place own : ℕ) → Fits b → StacksApart b s → AreFalling b s (t ∷ below)
+    → b.low t ≤ own → own + context_bytes ≤ b.top t → IsContextChain b ram s below place → (own + context_bytes ≤ place) ⊎ (place + context_bytes ≤ own)
 chain_apart b ram s t [] place own fits apart f l h c =
     let p = c.is in let g = fits.from t f.declared in inr (omega arith)
 chain_apart b ram s t (u ∷ below) place own fits apart f l h c =
@@ -53,7 +53,7 @@ module _ (b : Build) (state : State) (s : System) (t offset place : ℕ) (code :
     may_wait_below : MayWait offset t place (kept_at state) code state.core
     may_wait_below =
         let active : AreActive b s (t ∷ below) = subst (AreActive b s) stack_is stands.active in
-        let run : RunsTask b state s t below = subst (Running b state s) stack_is stands.running in
+        let run : RunsTask b state s t below = subst (RunsFirst b state s) stack_is stands.running in
         let here = falling_head b s t below active.falling in
         let x = run.context.x2 in
         let r = run.context.room in
@@ -76,7 +76,7 @@ module _ (b : Build) (state : State) (s : System) (t offset place : ℕ) (code :
           behind = omega arith;
           inside = omega arith;
           apart = chain_apart b state.core.ram s t below place kept fits stands.apart active.falling (omega arith) (omega arith)
-              (subst (Chain b state.core.ram s below) same run.chain);
+              (subst (IsContextChain b state.core.ram s below) same run.chain);
           code_apart = ⊎_elim (λ (v : b.top t ≤ offset). inl (omega arith)) (λ (v : offset + 4 * length code ≤ b.low t). inr (omega arith))
               (code_apart b t offset code fits d (omega arith) some placed);
         }
@@ -86,9 +86,9 @@ module _ (b : Build) (state : State) (s : System) (t offset place : ℕ) (code :
 
 pub wait_stretches : (b : Build) (view : View) (arrivals : List Arrival) (count : ℕ) (state : State) (s : System) (t : ℕ)
     → Fits b → IsSetting (setting_of b view arrivals) → 0 < count → Stands b state s
-    → OpensWaitEvent b view (arrived arrivals count state) (with_admits (lines_at arrivals count) s) t → Stretches b view arrivals count state s
+    → OpensWaitEvent b view (state_with_arrivals arrivals count state) (with_admits (lines_at arrivals count) s) t → Stretches b view arrivals count state s
 wait_stretches b view arrivals count state s t fits setting after_boot stands o =
-    let n = arrived arrivals count state in
+    let n = state_with_arrivals arrivals count state in
     let s1 = with_admits (lines_at arrivals count) s in
     let opens = o.goes_on.opens in
     let block = opens.block in

@@ -16,14 +16,14 @@ use Rattle.event_gen.specs.ClearEvent.{mask_register}
 use Rattle.event_gen.specs.WaitEvent.{set_of, HasNotWaited, HasWaited, Waited}
 use Rattle.osek_scheduler.specs.declared.state.TaskState.TheVariants as mode
 use Rattle.osek_scheduler.specs.State.{Frame, Task, System, task, with_task}
-use Rattle.osek_scheduler.specs.Meaning.{going_on}
+use Rattle.osek_scheduler.specs.Meaning.{going_on_frame}
 use Rattle.osek_scheduler.specs.Services.{GoesOn, Leaves, waiting_task, moved_frames, answered_state, is_there}
 use Rattle.osek_scheduler.specs.Steps.{settled_state}
 use Rattle.sim_relation.specs.Build.{Build, Fits}
-use Rattle.sim_relation.specs.Position.{FramesAt, thread_of}
-use Rattle.sim_relation.specs.Context.{RunsTask, Running, Rested, Resumes}
-use Rattle.sim_relation.specs.ServiceWords.{ServiceWords, HeldWords, base_priority}
-use Rattle.sim_relation.specs.Stands.{Stands, IsActive, IsLineOf}
+use Rattle.sim_relation.specs.Position.{AreFrames, thread_of}
+use Rattle.sim_relation.specs.Context.{RunsTask, RunsFirst, IsRested, Resumes}
+use Rattle.sim_relation.specs.ServiceWords.{AreServiceWords, AreHeldWords, base_priority}
+use Rattle.sim_relation.specs.Stands.{Stands, IsActive, AreLineBytes}
 use Rattle.sim_relation.specs.Moves.{TaskLeave}
 use Rattle.sim_relation.proofs.Contexts.{context_below}
 use Rattle.sim_relation.proofs.Framing.{frames_kept}
@@ -106,7 +106,7 @@ module _ (b : Build) (state : State) (s : System) (t : ℕ) (own : Task) (object
 
     module _ (below : List ℕ) (stack_is : k.stack ≡ t ∷ below) where
       run : RunsTask b state s t below
-      run = subst (Running b state s) stack_is k.running
+      run = subst (RunsFirst b state s) stack_is k.running
 
       few : t < 30
       few = let g = fits.few_tasks in let d = here.declared in omega arith
@@ -133,13 +133,13 @@ module _ (b : Build) (state : State) (s : System) (t : ℕ) (own : Task) (object
           k.fixed.ram refl few g.3 g.4 (omega arith) (may.words 30) (may.words 31) (word_below old (place + 8) is.bytes) (word_below old (place + 12) is.bytes)
           (registers_small 27 5 state.core.registers may.words)))
 
-      frames_at : FramesAt b old frame opening.outer (kept + context_bytes) (b.top t)
+      frames_at : AreFrames b old frame opening.outer (kept + context_bytes) (b.top t)
       frames_at =
-          subst (λ p. FramesAt b old frame opening.outer p (b.top t)) place_is
+          subst (λ p. AreFrames b old frame opening.outer p (b.top t)) place_is
           (stood b state s t own service.WaitEvent is fits run.place run.context.position)
 
       -- its own context, kept for the next entry
-      rested : Rested b new t after (going_on frame) opening.outer kept
+      rested : IsRested b new t after (going_on_frame frame) opening.outer kept
       rested =
           let g = spot in
           record {
@@ -156,11 +156,11 @@ module _ (b : Build) (state : State) (s : System) (t : ℕ) (own : Task) (object
             aligned = g.4;
           }
 
-      resumes : (frames : List Frame) → frames ≡ going_on frame ∷ opening.outer → Resumes b new t after false frames
+      resumes : (frames : List Frame) → frames ≡ going_on_frame frame ∷ opening.outer → Resumes b new t after false frames
       resumes [] e = cc
       resumes (f ∷ fs) e = subst (λ (l : List Frame). Resumes b new t after false l) (sym e) (kept, rested)
 
-      own_words : ServiceWords b new t after
+      own_words : AreServiceWords b new t after
       own_words =
           let g = few in
           record {
@@ -169,10 +169,10 @@ module _ (b : Build) (state : State) (s : System) (t : ℕ) (own : Task) (object
                 ∙ (k.words t here.declared).event_mask;
             wait_mask = mem.wait_word;
             resumption = resumes after.frames (ap moved_frames (frames_are b state s t own service.WaitEvent is fits));
-            held = subst (λ (l : List ℕ). HeldWords b new (base_priority b t after) l) (sym held_none) tt;
+            held = subst (λ (l : List ℕ). AreHeldWords b new (base_priority b t after) l) (sym held_none) tt;
           }
 
-      own_line : IsLineOf after.state (slice_index end.core.pending t) (slice_index end.core.enabled t)
+      own_line : AreLineBytes after.state (slice_index end.core.pending t) (slice_index end.core.enabled t)
       own_line =
           let f = k.fixed.enabled in
           let g = few in

@@ -5,7 +5,7 @@ use Rattle.sloth_base.specs.declared.service.Service.{Service}
 use Rattle.sloth_base.specs.declared.service.Service.TheVariants as service
 use Rattle.sloth_base.specs.Machine.{State}
 use Rattle.rv32_instr.specs.declared.InstrKind.{InstrKind}
-use Rattle.rv32_machine.specs.Run.{arrived}
+use Rattle.rv32_machine.specs.Run.{state_with_arrivals}
 use Rattle.observe.specs.Observe.{View}
 use Rattle.event_gen.specs.ClearEvent.{ClearsEvents}
 use Rattle.event_gen.specs.GetEvent.{TellsEvents}
@@ -33,7 +33,7 @@ pub record OpensWithMask (b : Build) (view : View) (state : State) (s : System) 
 abbrev pub WithMaskStretches : Service → (ℕ → List InstrKind → Type 0) → Type 0
 WithMaskStretches served Contract = (b : Build) (view : View) (arrivals : List Arrival) (count : ℕ) (state : State) (s : System) (t : ℕ)
     → Fits b → IsSetting (setting_of b view arrivals) → 0 < count → Stands b state s
-    → OpensWithMask b view (arrived arrivals count state) (with_admits (lines_at arrivals count) s) t served Contract
+    → OpensWithMask b view (state_with_arrivals arrivals count state) (with_admits (lines_at arrivals count) s) t served Contract
     → Stretches b view arrivals count state s
 
 -- The stretch that begins at the opening mark of ClearEvent is its event Call.
@@ -54,5 +54,5 @@ pub record OpensWaitEvent (b : Build) (view : View) (state : State) (s : System)
 abbrev pub WaitEventStretches : Type 0
 WaitEventStretches = (b : Build) (view : View) (arrivals : List Arrival) (count : ℕ) (state : State) (s : System) (t : ℕ)
     → Fits b → IsSetting (setting_of b view arrivals) → 0 < count → Stands b state s
-    → OpensWaitEvent b view (arrived arrivals count state) (with_admits (lines_at arrivals count) s) t
+    → OpensWaitEvent b view (state_with_arrivals arrivals count state) (with_admits (lines_at arrivals count) s) t
     → Stretches b view arrivals count state s

@@ -14,7 +14,7 @@ use Rattle.sloth_region.specs.Region.{FollowWithin, aligned}
 use Rattle.sloth_region.proofs.Placed.{apart_within}
 use Rattle.mem_map.specs.Plan.{symbol_bytes, data_extents}
 use Rattle.mem_map.specs.Run.{extents_of}
-use Rattle.mem_map.specs.Zones.{data_zone, nowhere}
+use Rattle.mem_map.specs.Zones.{data_zone, no_extent}
 use Rattle.sloth_link.specs.Linked.{datum_section}
 use Rattle.sloth_link.specs.Room.{AreIn}
 use Rattle.sloth_link.specs.Symbols.{data_of}
@@ -55,7 +55,7 @@ symbols_are_in map app from h = are_in (data_zone map).base ((data_zone map).bas
 -- ---- apart
 
 pub extent_at : (addresses lengths : List ℕ) (k : ℕ) → length addresses ≡ length lengths → k < length lengths
-    → get_or (extents_of addresses lengths) k nowhere ≡ record { base = get_or addresses k 0; len = get_or lengths k 0 }
+    → get_or (extents_of addresses lengths) k no_extent ≡ record { base = get_or addresses k 0; len = get_or lengths k 0 }
 extent_at [] lengths k n l = absurd (omega (arith, n, l))
 extent_at (a ∷ addresses) [] k n l = absurd (omega (arith, l))
 extent_at (a ∷ addresses) (len ∷ lengths) zero n l = refl
@@ -82,13 +82,13 @@ in_order map app h y z lt l =
     let count = h.count in
     let same : length map.places.symbols ≡ length lengths = omega (arith, n, count) in
     let long = extents_long map.places.symbols lengths same in
-    let below = (apart_within _ _ (data_extents map app) h.follow).apart y z nowhere lt (omega (arith, long, n, l)) in
+    let below = (apart_within _ _ (data_extents map app) h.follow).apart y z no_extent lt (omega (arith, long, n, l)) in
     let one = extent_at map.places.symbols lengths y same (omega (arith, lt, l, n)) in
     let other = extent_at map.places.symbols lengths z same (omega (arith, l, n)) in
-    let base : (get_or (data_extents map app) y nowhere).base ≡ get_or map.places.symbols y 0 = ap (λ (e : Extent). e.base) one in
-    let len : (get_or (data_extents map app) y nowhere).len ≡ get_or lengths y 0 = ap (λ (e : Extent). e.len) one in
+    let base : (get_or (data_extents map app) y no_extent).base ≡ get_or map.places.symbols y 0 = ap (λ (e : Extent). e.base) one in
+    let len : (get_or (data_extents map app) y no_extent).len ≡ get_or lengths y 0 = ap (λ (e : Extent). e.len) one in
     let size : get_or lengths y 0 ≡ symbol_bytes (get_or app.symbols y no_symbol) = get_or-map symbol_bytes app.symbols y no_symbol in
-    let next : (get_or (data_extents map app) z nowhere).base ≡ get_or map.places.symbols z 0 = ap (λ (e : Extent). e.base) other in
+    let next : (get_or (data_extents map app) z no_extent).base ≡ get_or map.places.symbols z 0 = ap (λ (e : Extent). e.base) other in
     omega (arith, below, base, len, size, next)
 
 pub symbols_are_apart : SymbolsAreApart

@@ -15,7 +15,7 @@ use Rattle.sim_relation.specs.Build.{Build, Fits, IsElsewhere}
 use Rattle.sim_relation.specs.Placed.{IsPlaced}
 use Rattle.sim_relation.specs.Stands.{AreApart}
 use Rattle.sloth_link.specs.Linked.{BlockStands}
-use Rattle.mem_map.specs.Zones.{HasZones, code_zone, data_zone, all_stacks, nowhere}
+use Rattle.mem_map.specs.Zones.{HasZones, code_zone, data_zone, all_stacks, no_extent}
 use Rattle.mem_map.specs.Stacks.{HasStacks, top_of}
 use Rattle.sloth_base.specs.declared.places.Bounds.{Bounds}
 use Rattle.stack_bounds.specs.Bounds.{MayMeet, bytes_of}
@@ -68,7 +68,7 @@ module _ (config : Config) (app : App) (map : Map) (bounds : Bounds) (back : ℕ
       → ((data_zone map).base + (data_zone map).len + bytes_of bounds t ≤ top_of map t) × (top_of map t ≤ 0x8020_0000)
   part_inside s t l =
       let among = s.among t l in
-      let h = (apart_within _ _ (all_stacks map) stacks_follow).inside among.0 nowhere among.1 in
+      let h = (apart_within _ _ (all_stacks map) stacks_follow).inside among.0 no_extent among.1 in
       let base = ap (λ (e : Extent). e.base) among.2 in
       let len = ap (λ (e : Extent). e.len) among.2 in
       let above = s.above t l in

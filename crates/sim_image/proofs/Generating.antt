@@ -6,7 +6,7 @@ use Rattle.std.proofs.lemmas.List.Elements.{All-contains}
 use Rattle.std.proofs.lemmas.List.Sorted.{All-permutation, Contains-permutation}
 use Rattle.std.proofs.lemmas.Option.{get_or_from_slice_get, slice_get_within}
 use Rattle.std.proofs.Math.ListN.{length-map}
-use Rattle.sloth_base.specs.Named.{function, missing, operation, body_of, IsBodyOf}
+use Rattle.sloth_base.specs.Named.{function, no_function, operation, body_of, IsBodyOf}
 use Rattle.sloth_base.specs.Owners.{counter_line}
 use Rattle.sloth_base.specs.ServiceCodes.{code_of}
 use Rattle.sloth_base.specs.declared.app.App.{App}
@@ -55,7 +55,7 @@ use Rattle.sloth_base.specs.declared.places.Bounds.{Bounds}
 use Rattle.sim_image.specs.Zones.{build_of, HasFewAlarms, IsInCode}
 use Rattle.sloth_link.specs.Items.{item_block}
 use Rattle.sloth_link.specs.Standing.{ItemsStand}
-use Rattle.sim_image.specs.Generated.{Has, IsBuiltBy, BuiltIsGenerated, BuiltIsInPlace}
+use Rattle.sim_image.specs.Generated.{HasBlockWith, IsBuiltBy, BuiltIsGenerated, BuiltIsInPlace}
 use Rattle.sim_image.proofs.Apart.{blocks_apart}
 use Rattle.sim_image.proofs.Fitting.{here, zones_fit, stacks_are_apart, parts_nested, blocks_are_placed, code_from, code_to, part_inside}
 use Rattle.sim_image.proofs.Images.{linked_is_image}
@@ -66,7 +66,7 @@ use Rattle.sim_image.proofs.Serving.{some_code}
 use Rattle.sloth_link.proofs.Placing.{items_are_placed}
 
 -- there is no item in a function that is not there
-is_declared : (funcs : List Func) (func item : ℕ) → item < length (get_or funcs func missing).items → func < length funcs
+is_declared : (funcs : List Func) (func item : ℕ) → item < length (get_or funcs func no_function).items → func < length funcs
 is_declared [] zero item l = absurd (omega (arith, l))
 is_declared [] (suc func) item l = absurd (omega (arith, l))
 is_declared (f ∷ funcs) zero item l = omega arith
@@ -115,7 +115,7 @@ module _ (config : Config) (app : App) (levels : Levels) (map : Map) (bounds : B
 
   one_body : (t : ℕ) → t < length config.tasks → HasOneBody b t
   one_body t l = λ f func e is.
-      let same : function app f ≡ func = get_or_from_slice_get app.funcs f func missing e in
+      let same : function app f ≡ func = get_or_from_slice_get app.funcs f func no_function e in
       g.has_items.well_formed.in_range.tasks.one t f (body_of app.funcs t) (slice_get_within app.funcs f func e, ap (λ (x : Func). x.task) same ∙ is) (has_body t l)
 
   prologue : (t : ℕ) → t < length config.tasks → HasPrologue b levels map t
@@ -202,7 +202,7 @@ module _ (config : Config) (app : App) (levels : Levels) (map : Map) (bounds : B
 
   -- the block of a service that is called, apart from the call
   module _ (func item : ℕ) (is : IsItem app func item) (call : Call) (e : operation app func item ≡ op.Serve call) where
-    h : Has blocks (block_address map.places call.service call.object) (opening (block_address map.places call.service call.object) (code_of call.service)
+    h : HasBlockWith blocks (block_address map.places call.service call.object) (opening (block_address map.places call.service call.object) (code_of call.service)
         ∷ further_marks call.service (block_address map.places call.service call.object)) (ServesCall config call.service call.object levels)
     h = g.has_code.services func item call is e
 

@@ -1,6 +1,6 @@
 -- What is linked is an image of what is built.
 use Rattle.std.proofs.Common.{◌≡◌, ◌≤◌, ◌<◌, ◌+◌, ◌-◌, ℕ, zero, suc, ◌^◌, ◌⊎◌, List, [], ◌∷◌, ◌++◌, length, get_or, refl, sym, ap, subst, ◌∙◌, inl, inr, ⊎_elim, arith}
-use Rattle.std.specs.Prelude.{All, slice_index, slice_index_or}
+use Rattle.std.specs.Prelude.{All, slice_index}
 use Rattle.std.specs.Prelude as prelude
 use Rattle.std.proofs.lemmas.List.Elements.{All-append, All-map, All-nil, All-cons, All-head, All-tail}
 use Rattle.std.proofs.Math.ListN.{get_or-map, length-map}

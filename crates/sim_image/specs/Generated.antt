@@ -44,7 +44,7 @@ use Rattle.sloth_link.specs.Standing.{HasNames}
 use Rattle.sim_image.specs.Standing.{IsLinkedIn}
 
 -- one of the blocks stands at this address, with these marks, and its code does this
-pub record Has (blocks : List Block) (address : ℕ) (marks : List Mark) (Does : List InstrKind → Type 0) : Type 0 where
+pub record HasBlockWith (blocks : List Block) (address : ℕ) (marks : List Mark) (Does : List InstrKind → Type 0) : Type 0 where
   pub block : Block
   pub among : Contains blocks block
   pub at : block.at ≡ address
@@ -53,14 +53,14 @@ pub record Has (blocks : List Block) (address : ℕ) (marks : List Mark) (Does :
 
 -- the code that every kernel has is among the blocks, by the contracts of the generators
 pub record HasCode (config : Config) (app : App) (levels : Levels) (map : Map) (blocks : List Block) : Type 0 where
-  pub vectors : Has blocks vectors_base [] (AreJumps 32 map.handlers)
-  pub boot : Has blocks boot_base [] (Boots config.tasks (length config.counters) levels.task levels.top map.idle)
-  pub idle : Has blocks map.idle (idle_mark map.idle ∷ []) Idles
-  pub prologues : (t : ℕ) → t < length config.tasks → Has blocks (slice_index map.handlers t) [] (EntersTask t config app levels map)
-  pub ticks : (c : ℕ) → c < length config.counters → Has blocks (slice_index map.handlers (counter_line c)) [] (IsTick config c)
+  pub vectors : HasBlockWith blocks vectors_base [] (AreJumps 32 map.handlers)
+  pub boot : HasBlockWith blocks boot_base [] (Boots config.tasks (length config.counters) levels.task levels.top map.idle)
+  pub idle : HasBlockWith blocks map.idle (idle_mark map.idle ∷ []) Idles
+  pub prologues : (t : ℕ) → t < length config.tasks → HasBlockWith blocks (slice_index map.handlers t) [] (EntersTask t config app levels map)
+  pub ticks : (c : ℕ) → c < length config.counters → HasBlockWith blocks (slice_index map.handlers (counter_line c)) [] (IsTick config c)
   -- the code of each service that an item calls
   pub services : (func item : ℕ) (call : Call) → IsItem app func item → operation app func item ≡ op.Serve call
-      → Has blocks (block_address map.places call.service call.object)
+      → HasBlockWith blocks (block_address map.places call.service call.object)
       (opening (block_address map.places call.service call.object) (code_of call.service)
       ∷ further_marks call.service (block_address map.places call.service call.object)) (ServesCall config call.service call.object levels)
 

@@ -1,4 +1,5 @@
--- What is linked is an image of what is built: the words of its alarms stand, all other service words are zero, and its symbols stand.
+-- What is linked is an image of what is built: the words of its counters and alarms stand, all service words outside the bytes of the clock
+-- (364 to 627) are zero, and its symbols stand.
 use Rattle.std.specs.Prelude.{ℕ, ◌≤◌, ◌≡◌, List, All}
 use Rattle.sloth_base.specs.declared.app.App.{App}
 use Rattle.sloth_base.specs.declared.config.Config.{Config}
@@ -17,7 +18,7 @@ use Rattle.sloth_link.specs.Image.{all_data}
 use Rattle.sim_image.specs.Symbols.{HasSymbols}
 use Rattle.sim_image.specs.Zones.{IsInCode, RoomForCalls, build_of}
 
--- blocks and symbols that lie in their zones were linked
+-- blocks that lie in the zone of code, and the words of alarms and the symbols at their places, were linked
 pub record IsLinkedIn (map : Map) (config : Config) (app : App) (bounds : Bounds) (size : ℕ)
     (blocks : List Block) (symbols : List Datum) (memory : List ℕ) : Type 0 where
   pub zones : HasZones map config

@@ -14,25 +14,25 @@ use Rattle.sloth_base.specs.Arrivals.{moments}
 use Rattle.sloth_base.specs.Arrive.{state_arrive}
 use Rattle.rv32_instr.specs.Execute.{touched}
 use Rattle.rv32_machine.specs.Advance.{Goes}
-use Rattle.rv32_machine.specs.Run.{after_from, moment, run_from, arrived}
-use Rattle.masked_code.specs.Trace.{Trace, is_touched_line, touched_of, touched_lines, lines_of, early, late}
+use Rattle.rv32_machine.specs.Run.{state_after_from, moment, run_from, state_with_arrivals}
+use Rattle.masked_code.specs.Trace.{Trace, is_touched_line, touched_lines_of, touched_lines, lines_of, early_arrivals, late_arrivals}
 use Rattle.sloth_base.specs.Options.{is_number}
 use Rattle.sloth_base.specs.Owners.{owners_in, IsOwned, AreOwned}
 use Rattle.sloth_base.specs.Stretches.{Boots, stretch_limit}
-use Rattle.observe.specs.Pieces.{Stretch, pieces, cut_off}
+use Rattle.observe.specs.Pieces.{Stretch, pieces, cut_off_steps}
 use Rattle.observe.specs.Observe.{observe, piece_events, found_admits, admission, stamp, is_early, last_of}
 use Rattle.observe.proofs.Cutting.{pieces-append, cut_off-append}
 use Rattle.observe.proofs.Moments.{moments-none, moments-later}
 use Rattle.osek_scheduler.specs.State.{System, opening}
 use Rattle.osek_scheduler.specs.Runs.{Leads, Follows}
-use Rattle.osek_scheduler.specs.InTime.{is_admit, admits_at, arrivals_at, IsOrdered, KeepsOrder, longest_cut_off}
-use Rattle.sim_induction.specs.Short.{IsShort, IsShortPiece, TouchesOnly, HasShortGaps}
+use Rattle.osek_scheduler.specs.InTime.{is_admit, admits_at, arrivals_at, IsOrdered, KeepsOrder, longest_cut_off_stretch}
+use Rattle.sim_induction.specs.Short.{AreShort, IsShortPiece, TouchesOnly, HasShortGaps}
 use Rattle.sim_induction.specs.Sound.{stands_before}
-use Rattle.sim_induction.specs.Admits.{Setting, IsSetting, lines_at, with_admits, admit_event, before_event, behind_event, at_moment}
+use Rattle.sim_induction.specs.Admits.{Setting, IsSetting, lines_at, with_admits, admit_event, arrivals_before_event, arrivals_behind_event, arrivals_at_moment}
 use Rattle.sim_induction.proofs.Lines.{spans_admit, admit_behind}
 use Rattle.sim_induction.specs.Observed.{trace_of, IsTraced}
-use Rattle.sim_induction.specs.Advances.{RunTo, EachPair, IsWithin}
-use Rattle.sim_induction.specs.PieceLaws.{BootLaw, seen_at}
+use Rattle.sim_induction.specs.Advances.{RunTo, EachPair, IsInCounts}
+use Rattle.sim_induction.specs.PieceLaws.{BootLaw, seen_step_at}
 use Rattle.sim_induction.specs.Related.{IsSimulation}
 use Rattle.sim_induction.proofs.Follow.{leads-append, follows-append, follows_leads, follows_admits, booted_admits}
 use Rattle.sim_induction.proofs.Events.{IsFrom, filter_all, each_map, each-append, each_arrival, admit_pairs, behind_within, before}
@@ -61,14 +61,14 @@ no_touch : (t : Trace) (line : ℕ) → touched_lines t ≡ [] → is_touched_li
 no_touch [] line h = refl
 no_touch (e ∷ t) line h = let q = no_line e.1 (touched_lines t) line h in ap (λ b. b || is_touched_line t line) q.0 ∙ no_touch t line q.1
 
-none_touched : (t : Trace) (a : List ℕ) → touched_lines t ≡ [] → touched_of t a ≡ []
+none_touched : (t : Trace) (a : List ℕ) → touched_lines t ≡ [] → touched_lines_of t a ≡ []
 none_touched t [] h = refl
-none_touched t (l ∷ a) h = ap (λ b. cond b (l ∷ touched_of t a) (touched_of t a)) (no_touch t l h) ∙ none_touched t a h
+none_touched t (l ∷ a) h = ap (λ b. cond b (l ∷ touched_lines_of t a) (touched_lines_of t a)) (no_touch t l h) ∙ none_touched t a h
 
-pub nothing_before : (k : ℕ) (t : Trace) → touched_lines t ≡ [] → before_event k t ≡ []
+pub nothing_before : (k : ℕ) (t : Trace) → touched_lines t ≡ [] → arrivals_before_event k t ≡ []
 nothing_before k [] h = refl
 nothing_before k (e ∷ t) h =
-    ap (λ u. at_moment k u ++ before_event (k + 1) t) (none_touched (e ∷ t) e.0 h) ∙ nothing_before (k + 1) t (no_line e.1 (touched_lines t) 0 h).1
+    ap (λ u. arrivals_at_moment k u ++ arrivals_before_event (k + 1) t) (none_touched (e ∷ t) e.0 h) ∙ nothing_before (k + 1) t (no_line e.1 (touched_lines t) 0 h).1
 
 -- ---- the first stretch
 
@@ -86,7 +86,7 @@ module _ (given : Setting) (setting : IsSetting given) (R : State → System →
   t1 = law.steps.3.0
 
   abbrev f : Step
-  f = seen_at given 0 m m1
+  f = seen_step_at given 0 m m1
 
   r : MaskedRun A law.more 1 m1 t1 law.end
   r = masked_steps A law.more 1 m1 t1 law.end law.steps.3.2 law.ends
@@ -103,7 +103,7 @@ module _ (given : Setting) (setting : IsSetting given) (R : State → System →
   flags : Flags (f ∷ r.steps)
   flags = flag_first m1 f r.steps refl (λ e. ap (λ (y : State). y.core.mie) (sym (r.nil e)) ∙ law.ends) r.some r.flags
 
-  cut : (pieces [] (f ∷ r.steps) ≡ Stretch (f ∷ r.steps) ∷ []) × (cut_off [] (f ∷ r.steps) ≡ [])
+  cut : (pieces [] (f ∷ r.steps) ≡ Stretch (f ∷ r.steps) ∷ []) × (cut_off_steps [] (f ∷ r.steps) ≡ [])
   cut = cut_whole r.steps [] f refl flags
 
   last_is : (last_of f r.steps).count + 1 ≡ J
@@ -118,11 +118,11 @@ module _ (given : Setting) (setting : IsSetting given) (R : State → System →
   all_trace : trace_of A (f ∷ r.steps) ≡ law.trace
   all_trace =
       ap (λ u. (lines_at A 0, f.touched) ∷ u) r.trace
-      ∙ ap (λ y. (lines_at A 0, touched y) ∷ t1) (none_taken (arrived A 0 m) law.steps.0)
+      ∙ ap (λ y. (lines_at A 0, touched y) ∷ t1) (none_taken (state_with_arrivals A 0 m) law.steps.0)
       ∙ sym law.steps.3.1
 
   abbrev E0 : List Stamped
-  E0 = boot ∷ map admit_event (behind_event 0 law.trace)
+  E0 = boot ∷ map admit_event (arrivals_behind_event 0 law.trace)
 
   abbrev p : Arrival → Bool
   p = is_early (f ∷ r.steps)
@@ -136,17 +136,17 @@ module _ (given : Setting) (setting : IsSetting given) (R : State → System →
   none_early : filter p inside ≡ []
   none_early =
       let n : 0 + length (f ∷ r.steps) ≡ J = let l = long in omega arith in
-      ap (λ v. filter p (moments 0 v A)) (sym n) ∙ traced.before ∙ ap (before_event 0) all_trace ∙ nothing_before 0 law.trace law.untouched
+      ap (λ v. filter p (moments 0 v A)) (sym n) ∙ traced.before ∙ ap (arrivals_before_event 0) all_trace ∙ nothing_before 0 law.trace law.untouched
 
-  all_late : filter (λ a. not (p a)) inside ≡ behind_event 0 law.trace
+  all_late : filter (λ a. not (p a)) inside ≡ arrivals_behind_event 0 law.trace
   all_late =
       let n : 0 + length (f ∷ r.steps) ≡ J = let l = long in omega arith in
-      ap (λ v. filter (λ a. not (p a)) (moments 0 v A)) (sym n) ∙ traced.behind ∙ ap (behind_event 0) all_trace
+      ap (λ v. filter (λ a. not (p a)) (moments 0 v A)) (sym n) ∙ traced.behind ∙ ap (arrivals_behind_event 0) all_trace
 
-  in_range : AreOwned (owners_in given.config) (early law.trace) × AreOwned (owners_in given.config) (late law.trace)
+  in_range : AreOwned (owners_in given.config) (early_arrivals law.trace) × AreOwned (owners_in given.config) (late_arrivals law.trace)
   in_range = lines_trace (IsOwned (owners_in given.config)) J 0 (lines_at A) m law.trace law.end (owned_at given setting) law.steps
 
-  owned_behind : AreOwned (owners_in given.config) (map (λ a. a.line) (behind_event 0 law.trace))
+  owned_behind : AreOwned (owners_in given.config) (map (λ a. a.line) (arrivals_behind_event 0 law.trace))
   owned_behind = subst (AreOwned (owners_in given.config)) (sym (lines_behind 0 law.trace)) in_range.1
 
   events_are : piece_events given.view A (Stretch (f ∷ r.steps)) ≡ E0
@@ -160,66 +160,66 @@ module _ (given : Setting) (setting : IsSetting given) (R : State → System →
       ∙ ap (λ n. shape [] (filter p (moments 0 n A)) (filter (λ a. not (p a)) (moments 0 n A)) e) last_is
       ∙ ap (λ v. shape [] v (filter (λ a. not (p a)) inside) e) none_early
       ∙ ap (λ v. shape [] [] v e) all_late
-      ∙ ap (λ v. stamp 0 v event.Boot ∷ map (admission given.view) (behind_event 0 law.trace)) a
-      ∙ ap (λ v. boot ∷ v) (admits_are given setting (behind_event 0 law.trace) owned_behind)
+      ∙ ap (λ v. stamp 0 v event.Boot ∷ map (admission given.view) (arrivals_behind_event 0 law.trace)) a
+      ∙ ap (λ v. boot ∷ v) (admits_are given setting (arrivals_behind_event 0 law.trace) owned_behind)
 
   abbrev z : System
-  z = with_admits (late law.trace) law.after
+  z = with_admits (late_arrivals law.trace) law.after
 
   after_booted : law.after.booted ≡ true
-  after_booted = sym (booted_admits (late law.trace) law.after) ∙ simulation.booted law.end z law.related
+  after_booted = sym (booted_admits (late_arrivals law.trace) law.after) ∙ simulation.booted law.end z law.related
 
   follow0 : Follows given.config given.app [] s E0 z
   follow0 = (
     law.after,
     law.step_is,
     tt,
-    subst (λ a. Follows given.config given.app (boot ∷ []) law.after (map admit_event (behind_event 0 law.trace)) (with_admits a law.after)) (lines_behind 0 law.trace)
-        (follows_admits given.config given.app (boot ∷ []) (behind_event 0 law.trace) law.after setting.few_tasks after_booted owned_behind),
+    subst (λ a. Follows given.config given.app (boot ∷ []) law.after (map admit_event (arrivals_behind_event 0 law.trace)) (with_admits a law.after)) (lines_behind 0 law.trace)
+        (follows_admits given.config given.app (boot ∷ []) (arrivals_behind_event 0 law.trace) law.after setting.few_tasks after_booted owned_behind),
   )
 
   -- no line arrives at count 0
-  late_from : AllByRecursion (IsFrom 1 J) (behind_event 0 law.trace)
+  late_from : AllByRecursion (IsFrom 1 J) (arrivals_behind_event 0 law.trace)
   late_from =
       let l = trace_long law.more 1 (lines_at A) m1 t1 law.end law.steps.3.2 in
       let none : lines_at A 0 ≡ [] = ap (map (λ a. a.line)) (moments-later 1 0 1 A setting.ordered (omega arith)) in
-      subst (λ v. AllByRecursion (IsFrom 1 J) (behind_event 0 v)) (sym law.steps.3.1)
+      subst (λ v. AllByRecursion (IsFrom 1 J) (arrivals_behind_event 0 v)) (sym law.steps.3.1)
       (first_late (lines_at A 0) (touched (state_arrive (lines_at A 0) m)) none t1 (omega arith))
     where
-      first_late : (lines : List ℕ) (o : Option ℕ) → lines ≡ [] → (t : Trace) → 1 + length t ≤ J → AllByRecursion (IsFrom 1 J) (behind_event 0 ((lines, o) ∷ t))
+      first_late : (lines : List ℕ) (o : Option ℕ) → lines ≡ [] → (t : Trace) → 1 + length t ≤ J → AllByRecursion (IsFrom 1 J) (arrivals_behind_event 0 ((lines, o) ∷ t))
       first_late [] o e t l = behind_within 1 J 1 t (omega arith) l
       first_late (x ∷ lines) o e t l = absurd (nil_cons e)
 
-  within0 : AllByRecursion (IsWithin 0 J) E0
+  within0 : AllByRecursion (IsInCounts 0 J) E0
   within0 = (
     record { begins = omega arith; ordered = omega arith; ends = omega arith; spans = tt },
-    each_arrival (IsWithin 0 J) (IsFrom 1 J) (λ a h. record { begins = omega arith; ordered = omega arith; ends = h.1; spans = spans_admit a }) (behind_event 0 law.trace) late_from,
+    each_arrival (IsInCounts 0 J) (IsFrom 1 J) (λ a h. record { begins = omega arith; ordered = omega arith; ends = h.1; spans = spans_admit a }) (arrivals_behind_event 0 law.trace) late_from,
   )
 
   placed0 : EachPair IsOrdered E0
-  placed0 = (each_arrival (IsOrdered boot) (IsFrom 1 J) (λ a h. admit_behind a boot (let l : 0 < a.at = omega arith in l)) (behind_event 0 law.trace) late_from, admit_pairs (behind_event 0 law.trace))
+  placed0 = (each_arrival (IsOrdered boot) (IsFrom 1 J) (λ a h. admit_behind a boot (let l : 0 < a.at = omega arith in l)) (arrivals_behind_event 0 law.trace) late_from, admit_pairs (arrivals_behind_event 0 law.trace))
 
   counted0 : (i t : ℕ) → admits_at i t E0 ≡ arrivals_at i t inside
-  counted0 i t = stretch_counts i t boot [] inside [] (behind_event 0 law.trace) p refl none_early all_late
+  counted0 i t = stretch_counts i t boot [] inside [] (arrivals_behind_event 0 law.trace) p refl none_early all_late
 
   keeps0 : KeepsOrder inside E0
   keeps0 =
-      subst (λ v. KeepsOrder inside (map admit_event v ++ (boot ∷ map admit_event (behind_event 0 law.trace)))) none_early
+      subst (λ v. KeepsOrder inside (map admit_event v ++ (boot ∷ map admit_event (arrivals_behind_event 0 law.trace)))) none_early
       (subst (λ v. KeepsOrder inside (map admit_event (filter p inside) ++ (boot ∷ map admit_event v))) all_late
       (parted_order p (λ a. not (p a)) inside boot refl))
 
   touching : AllByRecursion (TouchesOnly []) (f ∷ r.steps)
   touching = steps_touch A [] (f ∷ r.steps) (subst (AllByRecursion (Contains [])) (sym (ap touched_lines all_trace ∙ law.untouched)) tt)
 
-  short_at : (steps : List Step) → length (f ∷ steps) ≤ stretch_limit given.config Boots → AllByRecursion (TouchesOnly []) steps → IsShort given.config (f ∷ steps)
+  short_at : (steps : List Step) → length (f ∷ steps) ≤ stretch_limit given.config Boots → AllByRecursion (TouchesOnly []) steps → AreShort given.config (f ∷ steps)
   short_at steps l h = (l, ([], omega arith, All-from_recursion (TouchesOnly []) (f ∷ steps) (touching.0, h)))
 
-  closed : (i : ℕ) → i < J → (x : State) → after_from i A 0 m ≡ Some x → x.core.mie ≡ false
+  closed : (i : ℕ) → i < J → (x : State) → state_after_from i A 0 m ≡ Some x → x.core.mie ≡ false
   closed i l x e = masked_inside A J 0 m law.trace law.end law.steps i l x e
 
   -- a run that ends inside the first stretch
   none_run : WholeRun given R 0 m
-  unfolding observe run_from after_from
+  unfolding observe run_from state_after_from
   none_run = record {
     end = m;
     whole = refl;
@@ -246,9 +246,9 @@ module _ (given : Setting) (setting : IsSetting given) (R : State → System →
       let run : steps_from (suc n) A 0 m ≡ f ∷ take n r.steps = run_take J (suc n) 0 A m (f ∷ r.steps) law.end runs (omega arith) in
       let u = cut_short r.steps [] f n refl flags (omega arith) in
       let no_pieces : pieces [] (steps_from (suc n) A 0 m) ≡ [] = ap (pieces []) run ∙ u.0 in
-      let open_is : cut_off [] (steps_from (suc n) A 0 m) ≡ f ∷ take n r.steps = ap (cut_off []) run ∙ u.1 in
+      let open_is : cut_off_steps [] (steps_from (suc n) A 0 m) ≡ f ∷ take n r.steps = ap (cut_off_steps []) run ∙ u.1 in
       let obs : events_from given (suc n) 0 m ≡ [] =
-      ap (λ v. flat_map (piece_events given.view A) v ++ found_admits given.view A (cut_off [] (steps_from (suc n) A 0 m))) no_pieces
+      ap (λ v. flat_map (piece_events given.view A) v ++ found_admits given.view A (cut_off_steps [] (steps_from (suc n) A 0 m))) no_pieces
       ∙ ap (found_admits given.view A) open_is
       ∙ ap (λ b. map (admission given.view) (moments 0 (cond b 1 0) A)) law.steps.0
       ∙ ap (map (admission given.view)) (moments-none 0 A) in
@@ -258,21 +258,21 @@ module _ (given : Setting) (setting : IsSetting given) (R : State → System →
         whole = through.1;
         last = s;
         follows = subst (λ E. Follows given.config given.app [] s E s) (sym obs) refl;
-        within = subst (AllByRecursion (IsWithin 0 (suc n))) (sym obs) tt;
+        within = subst (AllByRecursion (IsInCounts 0 (suc n))) (sym obs) tt;
         placed = subst (EachPair IsOrdered) (sym obs) tt;
         to = 0;
-        to_in = (omega arith, subst (λ E. suc n < 0 + longest_cut_off given.config E) (sym obs) (omega arith));
+        to_in = (omega arith, subst (λ E. suc n < 0 + longest_cut_off_stretch given.config E) (sym obs) (omega arith));
         ends = subst (AllByRecursion (λ e. is_admit e ≡ false → e.stamp.at < 0)) (sym obs) tt;
         counted = λ i t. ap (admits_at i t) obs ∙ sym (ap (arrivals_at i t) (moments-none 0 A));
         keeps = subst (KeepsOrder (moments 0 0 A)) (sym obs) (subst (λ v. KeepsOrder v []) (sym (moments-none 0 A)) (admits_order []));
         short = subst (AllByRecursion (IsShortPiece given.config)) (sym no_pieces) tt;
-        short_cut = subst (IsShort given.config) (sym open_is) (short_at (take n r.steps) (let k = length-take n r.steps in omega arith) (each_step-take (TouchesOnly []) n r.steps touching.1));
+        short_cut = subst (AreShort given.config) (sym open_is) (short_at (take n r.steps) (let k = length-take n r.steps in omega arith) (each_step-take (TouchesOnly []) n r.steps touching.1));
         gaps = subst (HasShortGaps given.view 0) (sym no_pieces) tt;
         mirrors = λ i h x e o. let b = closed i (omega arith) x e in cc;
       }
 
   all_before : (i : ℕ) → J ≤ i → AllByRecursion (λ e. stands_before i e ≡ true) E0
-  all_before i l = each_map (IsWithin 0 J) (λ e. stands_before i e ≡ true) (λ e w. before (is_admit e) e.stamp.at i (let u = w.ends in omega arith)) E0 within0
+  all_before i l = each_map (IsInCounts 0 J) (λ e. stands_before i e ≡ true) (λ e w. before (is_admit e) e.stamp.at i (let u = w.ends in omega arith)) E0 within0
 
   long_run : (n : ℕ) → WholeRun given R (J + n) m
   unfolding observe
@@ -285,41 +285,41 @@ module _ (given : Setting) (setting : IsSetting given) (R : State → System →
       let run : steps_from (J + n) A 0 m ≡ (f ∷ r.steps) ++ F = run_steps J n 0 A m (f ∷ r.steps) law.end runs ∙ ap (λ i. (f ∷ r.steps) ++ steps_from n A i law.end) (omega arith) in
       let pieces_are : pieces [] (steps_from (J + n) A 0 m) ≡ Stretch (f ∷ r.steps) ∷ pieces [] F =
       ap (pieces []) run ∙ pieces-append [] (f ∷ r.steps) F ∙ ap (λ v. pieces [] (f ∷ r.steps) ++ pieces v F) cut.1 ∙ ap (λ v. v ++ pieces [] F) cut.0 in
-      let open_is : cut_off [] (steps_from (J + n) A 0 m) ≡ cut_off [] F = ap (cut_off []) run ∙ cut_off-append [] (f ∷ r.steps) F ∙ ap (λ v. cut_off v F) cut.1 in
+      let open_is : cut_off_steps [] (steps_from (J + n) A 0 m) ≡ cut_off_steps [] F = ap (cut_off_steps []) run ∙ cut_off-append [] (f ∷ r.steps) F ∙ ap (λ v. cut_off_steps v F) cut.1 in
       let obs : events_from given (J + n) 0 m ≡ E0 ++ E =
-      ap (λ v. flat_map (piece_events given.view A) v ++ found_admits given.view A (cut_off [] (steps_from (J + n) A 0 m))) pieces_are
+      ap (λ v. flat_map (piece_events given.view A) v ++ found_admits given.view A (cut_off_steps [] (steps_from (J + n) A 0 m))) pieces_are
       ∙ ap (λ v. (piece_events given.view A (Stretch (f ∷ r.steps)) ++ flat_map (piece_events given.view A) (pieces [] F)) ++ found_admits given.view A v) open_is
-      ∙ append_assoc (piece_events given.view A (Stretch (f ∷ r.steps))) (flat_map (piece_events given.view A) (pieces [] F)) (found_admits given.view A (cut_off [] F))
+      ∙ append_assoc (piece_events given.view A (Stretch (f ∷ r.steps))) (flat_map (piece_events given.view A) (pieces [] F)) (found_admits given.view A (cut_off_steps [] F))
       ∙ ap (λ u. u ++ E) events_are in
       let split : moments 0 g.to A ≡ inside ++ moments J g.to A = moments-split 0 0 J g.to A (from_zero A setting.ordered) (omega arith) g.to_in.0 in
       record {
         end = g.end;
-        whole = after_steps J n 0 A m (f ∷ r.steps) law.end runs ∙ ap (λ k. after_from n A k law.end) (omega arith) ∙ g.whole;
+        whole = after_steps J n 0 A m (f ∷ r.steps) law.end runs ∙ ap (λ k. state_after_from n A k law.end) (omega arith) ∙ g.whole;
         last = g.last;
         follows = subst (λ u. Follows given.config given.app [] s u g.last) (sym obs) (follows-append given.config given.app [] s z g.last E0 E follow0 g.follows);
-        within = subst (AllByRecursion (IsWithin 0 (J + n))) (sym obs)
-            (each-append (IsWithin 0 (J + n)) E0 E (within_wider 0 J 0 (J + n) E0 (omega arith) (omega arith) within0) (within_wider J (J + n) 0 (J + n) E (omega arith) (omega arith) g.within));
+        within = subst (AllByRecursion (IsInCounts 0 (J + n))) (sym obs)
+            (each-append (IsInCounts 0 (J + n)) E0 E (within_wider 0 J 0 (J + n) E0 (omega arith) (omega arith) within0) (within_wider J (J + n) 0 (J + n) E (omega arith) (omega arith) g.within));
         placed = subst (EachPair IsOrdered) (sym obs) (pairs_apart 0 J (J + n) E0 E within0 g.within placed0 g.placed);
         to = g.to;
-        to_in = (let w = g.to_in in (omega arith, subst (λ E. J + n < g.to + longest_cut_off given.config E) (sym obs) w.2));
+        to_in = (let w = g.to_in in (omega arith, subst (λ E. J + n < g.to + longest_cut_off_stretch given.config E) (sym obs) w.2));
         ends = subst (AllByRecursion (λ e. is_admit e ≡ false → e.stamp.at < g.to)) (sym obs)
             (each-append (λ e. is_admit e ≡ false → e.stamp.at < g.to) E0 E
-            (each_map (IsWithin 0 J) (λ e. is_admit e ≡ false → e.stamp.at < g.to) (λ e w o. let u = w.ends in let v = g.to_in.0 in omega arith) E0 within0) g.ends);
+            (each_map (IsInCounts 0 J) (λ e. is_admit e ≡ false → e.stamp.at < g.to) (λ e w o. let u = w.ends in let v = g.to_in.0 in omega arith) E0 within0) g.ends);
         counted = λ i t.
             ap (admits_at i t) obs ∙ admits-append i t E0 E ∙ ap (λ v. v + admits_at i t E) (counted0 i t) ∙ ap (λ v. arrivals_at i t inside + v) (g.counted i t)
             ∙ sym (ap (arrivals_at i t) split ∙ arrivals-append i t inside (moments J g.to A));
         keeps = subst (KeepsOrder (moments 0 g.to A)) (sym obs)
             (subst (λ v. KeepsOrder v (E0 ++ E)) (sym split) (orders-append inside (moments J g.to A) E0 E keeps0 g.keeps));
         short = subst (AllByRecursion (IsShortPiece given.config)) (sym pieces_are) (short_at r.steps (omega arith) touching.1, g.short);
-        short_cut = subst (IsShort given.config) (sym open_is) g.short_cut;
+        short_cut = subst (AreShort given.config) (sym open_is) g.short_cut;
         gaps = subst (HasShortGaps given.view 0) (sym pieces_are) (omega arith, g.gaps 0 (omega arith));
         mirrors = λ i h x e o. ⊎_elim
             (λ (l : i < J). let b = closed i l x e in cc)
             (λ (l : J ≤ i).
             let i' = i - J in
             let e1 : J + i' ≡ i = omega arith in
-            let after : after_from i' A J law.end ≡ Some x =
-            ap (λ k. after_from i' A k law.end) (omega arith) ∙ sym (after_steps J i' 0 A m (f ∷ r.steps) law.end runs) ∙ ap (λ k. after_from k A 0 m) e1 ∙ e in
+            let after : state_after_from i' A J law.end ≡ Some x =
+            ap (λ k. state_after_from i' A k law.end) (omega arith) ∙ sym (after_steps J i' 0 A m (f ∷ r.steps) law.end runs) ∙ ap (λ k. state_after_from k A 0 m) e1 ∙ e in
             let w = subst (λ k. ReachedAt given R E z k x) e1 (g.mirrors i' (omega arith) x after o) in
             let fl : filter (stands_before i) (events_from given (J + n) 0 m) ≡ E0 ++ filter (stands_before i) E =
             ap (filter (stands_before i)) obs ∙ filter-append (stands_before i) E0 E ∙ ap (λ u. u ++ filter (stands_before i) E) (filter_all (stands_before i) E0 (all_before i l)) in

@@ -6,8 +6,8 @@ use Rattle.sloth_base.specs.declared.event.Arrival.{Arrival}
 use Rattle.sloth_base.specs.declared.event.Stamped.{Stamped}
 use Rattle.sloth_base.specs.Arrivals.{moments}
 use Rattle.osek_scheduler.specs.InTime.{IsOrdered}
-use Rattle.masked_code.specs.Trace.{Trace, touched_of, untouched_of}
-use Rattle.sim_induction.specs.Admits.{admit_event, at_moment, lines_at, before_event, behind_event}
+use Rattle.masked_code.specs.Trace.{Trace, touched_lines_of, untouched_lines_of}
+use Rattle.sim_induction.specs.Admits.{admit_event, arrivals_at_moment, lines_at, arrivals_before_event, arrivals_behind_event}
 use Rattle.sim_induction.proofs.Lines.{admits_ordered}
 use Rattle.sim_induction.proofs.Schedule.{moment_is}
 use Rattle.sim_induction.specs.Advances.{EachPair}
@@ -69,22 +69,22 @@ pub arrivals-join : (Q : Arrival → Type 0) (a b : List Arrival) → AllByRecur
 arrivals-join Q [] b h k = k
 arrivals-join Q (x ∷ a) b h k = (h.0, arrivals-join Q a b h.1 k)
 
-arrivals_of : (Q : Arrival → Type 0) (k : ℕ) (lines : List ℕ) → ((l : ℕ) → Q (record { at = k; line = l })) → AllByRecursion Q (at_moment k lines)
+arrivals_of : (Q : Arrival → Type 0) (k : ℕ) (lines : List ℕ) → ((l : ℕ) → Q (record { at = k; line = l })) → AllByRecursion Q (arrivals_at_moment k lines)
 arrivals_of Q k [] h = tt
 arrivals_of Q k (l ∷ lines) h = (h l, arrivals_of Q k lines h)
 
-pub before_within : (from to k : ℕ) (t : Trace) → from ≤ k → k + length t ≤ to → AllByRecursion (IsFrom from to) (before_event k t)
+pub before_within : (from to k : ℕ) (t : Trace) → from ≤ k → k + length t ≤ to → AllByRecursion (IsFrom from to) (arrivals_before_event k t)
 before_within from to k [] l h = tt
 before_within from to k (e ∷ t) l h =
-    arrivals-join (IsFrom from to) (at_moment k (touched_of (e ∷ t) e.0)) (before_event (k + 1) t)
-    (arrivals_of (IsFrom from to) k (touched_of (e ∷ t) e.0) (λ line. (l, omega arith)))
+    arrivals-join (IsFrom from to) (arrivals_at_moment k (touched_lines_of (e ∷ t) e.0)) (arrivals_before_event (k + 1) t)
+    (arrivals_of (IsFrom from to) k (touched_lines_of (e ∷ t) e.0) (λ line. (l, omega arith)))
     (before_within from to (k + 1) t (omega arith) (omega arith))
 
-pub behind_within : (from to k : ℕ) (t : Trace) → from ≤ k → k + length t ≤ to → AllByRecursion (IsFrom from to) (behind_event k t)
+pub behind_within : (from to k : ℕ) (t : Trace) → from ≤ k → k + length t ≤ to → AllByRecursion (IsFrom from to) (arrivals_behind_event k t)
 behind_within from to k [] l h = tt
 behind_within from to k (e ∷ t) l h =
-    arrivals-join (IsFrom from to) (at_moment k (untouched_of (e ∷ t) e.0)) (behind_event (k + 1) t)
-    (arrivals_of (IsFrom from to) k (untouched_of (e ∷ t) e.0) (λ line. (l, omega arith)))
+    arrivals-join (IsFrom from to) (arrivals_at_moment k (untouched_lines_of (e ∷ t) e.0)) (arrivals_behind_event (k + 1) t)
+    (arrivals_of (IsFrom from to) k (untouched_lines_of (e ∷ t) e.0) (λ line. (l, omega arith)))
     (behind_within from to (k + 1) t (omega arith) (omega arith))
 
 pub moment_within : (k : ℕ) (xs : List Arrival) → AllByRecursion (λ a. a.at ≡ k) (moments k (k + 1) xs)

@@ -10,19 +10,19 @@ use Rattle.sloth_base.specs.declared.step.Step.{Step}
 use Rattle.sloth_base.specs.Machine.{State}
 use Rattle.sloth_base.specs.Arrivals.{moments}
 use Rattle.sloth_base.specs.Owners.{owners_in, AreOwned}
-use Rattle.rv32_machine.specs.Run.{after_from, arrived, run_from}
-use Rattle.observe.specs.Pieces.{pieces, cut_off}
+use Rattle.rv32_machine.specs.Run.{state_after_from, state_with_arrivals, run_from}
+use Rattle.observe.specs.Pieces.{pieces, cut_off_steps}
 use Rattle.observe.specs.Observe.{observe, piece_events, found_admits, admission}
 use Rattle.observe.proofs.Cutting.{pieces-append, cut_off-append}
 use Rattle.observe.proofs.Moments.{moments-none}
 use Rattle.osek_scheduler.specs.State.{System, opening}
 use Rattle.osek_scheduler.specs.Runs.{Leads, Follows}
 use Rattle.osek_scheduler.specs.InTime.{is_admit, admits_at, arrivals_at, IsOrdered, StandsBefore, KeepsOrder}
-use Rattle.sim_induction.specs.Short.{IsShort, IsShortPiece, HasShortGaps, passed_length}
+use Rattle.sim_induction.specs.Short.{AreShort, IsShortPiece, HasShortGaps, passed_length}
 use Rattle.sim_induction.specs.Sound.{stands_before}
 use Rattle.sim_induction.specs.Admits.{Setting, IsSetting, lines_at, with_admits, admit_event}
 use Rattle.sim_induction.proofs.Lines.{is_admitted, spans_admit, admit_before}
-use Rattle.sim_induction.specs.Advances.{EachPair, IsWithin, found_by, Advances}
+use Rattle.sim_induction.specs.Advances.{EachPair, IsInCounts, found_events, Advances}
 use Rattle.sim_induction.specs.Related.{IsSimulation}
 use Rattle.sim_induction.proofs.Follow.{leads-append, follows-append, follows_leads, follows_admits}
 use Rattle.sim_induction.proofs.Events.{filter_all, filter_none, each_map, each_both, each-append, each_arrival, pairs-append, admit_pairs, moment_within, before, behind}
@@ -33,7 +33,7 @@ use Rattle.sim_induction.proofs.Runs.{steps_from, run_steps, run_take, after_ste
 use Rattle.sim_induction.proofs.RunFrom.{events_from, ReachedAt, SoundFrom}
 
 -- events of earlier counts stand before those of later ones
-ordered_apart : (mid from to : ℕ) (x y : Stamped) → IsWithin from mid x → IsWithin mid to y → IsOrdered x y
+ordered_apart : (mid from to : ℕ) (x y : Stamped) → IsInCounts from mid x → IsInCounts mid to y → IsOrdered x y
 ordered_apart mid from to x y h k = by (is_admit x) (is_admit y)
   where
     by : (b c : Bool) → StandsBefore b c x.stamp y.stamp
@@ -42,12 +42,12 @@ ordered_apart mid from to x y h k = by (is_admit x) (is_admit y)
     by false true = let a = h.ends in let w = h.ordered in let l = k.begins in let o = k.ordered in omega arith
     by true true = tt
 
-pub pairs_apart : (from mid to : ℕ) (a b : List Stamped) → AllByRecursion (IsWithin from mid) a → AllByRecursion (IsWithin mid to) b → EachPair IsOrdered a → EachPair IsOrdered b → EachPair IsOrdered (a ++ b)
+pub pairs_apart : (from mid to : ℕ) (a b : List Stamped) → AllByRecursion (IsInCounts from mid) a → AllByRecursion (IsInCounts mid to) b → EachPair IsOrdered a → EachPair IsOrdered b → EachPair IsOrdered (a ++ b)
 pairs_apart from mid to a b h k p q =
-    pairs-append IsOrdered a b p q (each_map (IsWithin from mid) (λ x. AllByRecursion (IsOrdered x) b) (λ x w. each_map (IsWithin mid to) (IsOrdered x) (λ y v. ordered_apart mid from to x y w v) b k) a h)
+    pairs-append IsOrdered a b p q (each_map (IsInCounts from mid) (λ x. AllByRecursion (IsOrdered x) b) (λ x w. each_map (IsInCounts mid to) (IsOrdered x) (λ y v. ordered_apart mid from to x y w v) b k) a h)
 
-pub within_wider : (from to low high : ℕ) (a : List Stamped) → low ≤ from → to ≤ high → AllByRecursion (IsWithin from to) a → AllByRecursion (IsWithin low high) a
-within_wider from to low high a l h = each_map (IsWithin from to) (IsWithin low high) (λ e w. record { begins = let b = w.begins in omega arith; ordered = w.ordered; ends = let b = w.ends in omega arith; spans = w.spans }) a
+pub within_wider : (from to low high : ℕ) (a : List Stamped) → low ≤ from → to ≤ high → AllByRecursion (IsInCounts from to) a → AllByRecursion (IsInCounts low high) a
+within_wider from to low high a l h = each_map (IsInCounts from to) (IsInCounts low high) (λ e w. record { begins = let b = w.begins in omega arith; ordered = w.ordered; ends = let b = w.ends in omega arith; spans = w.spans }) a
 
 -- ---- the induction
 
@@ -56,7 +56,7 @@ module _ (given : Setting) (setting : IsSetting given) (R : State → System →
   A = given.arrivals
 
   abbrev mine : ℕ → List Stamped
-  mine k = found_by given k
+  mine k = found_events given k
 
   abbrev here : ℕ → List Arrival
   here k = moments k (k + 1) A
@@ -67,8 +67,8 @@ module _ (given : Setting) (setting : IsSetting given) (R : State → System →
   follow_mine : (past : List Stamped) (k : ℕ) (m : State) (s : System) → R m s → Follows given.config given.app past s (mine k) (with_admits (lines_at A k) s)
   follow_mine past k m s r = follows_admits given.config given.app past (here k) s setting.few_tasks (simulation.booted m s r) (owned_here k)
 
-  mine_within : (k hi : ℕ) → k < hi → AllByRecursion (IsWithin k hi) (mine k)
-  mine_within k hi l = each_arrival (IsWithin k hi) (λ a. a.at ≡ k) (λ a e. record { begins = omega arith; ordered = omega arith; ends = omega arith; spans = spans_admit a }) (here k) (moment_within k A)
+  mine_within : (k hi : ℕ) → k < hi → AllByRecursion (IsInCounts k hi) (mine k)
+  mine_within k hi l = each_arrival (IsInCounts k hi) (λ a. a.at ≡ k) (λ a e. record { begins = omega arith; ordered = omega arith; ends = omega arith; spans = spans_admit a }) (here k) (moment_within k A)
 
   mine_ends : (k to : ℕ) → AllByRecursion (λ e. is_admit e ≡ false → e.stamp.at < to) (mine k)
   mine_ends k to = each_arrival (λ e. is_admit e ≡ false → e.stamp.at < to) (λ a. a.at ≡ k) (λ a e z. absurd (true≢false (sym (is_admitted a) ∙ z))) (here k) (moment_within k A)
@@ -81,7 +81,7 @@ module _ (given : Setting) (setting : IsSetting given) (R : State → System →
 
   -- nothing has run
   none : (k : ℕ) (m : State) (s : System) (past : List Stamped) → SoundFrom given R progress 0 k m s past
-  unfolding run_from after_from observe
+  unfolding run_from state_after_from observe
   none k m s past = record {
     end = m;
     whole = refl;
@@ -102,8 +102,8 @@ module _ (given : Setting) (setting : IsSetting given) (R : State → System →
 
   -- the first count
   at_first : (k : ℕ) (m : State) (s : System) → R m s → (E others : List Stamped) → E ≡ mine k ++ others → AllByRecursion (λ e. stands_before k e ≡ false) others
-      → (x : State) → after_from 0 A k m ≡ Some x → ReachedAt given R E s (k + 0) x
-  unfolding after_from
+      → (x : State) → state_after_from 0 A k m ≡ Some x → ReachedAt given R E s (k + 0) x
+  unfolding state_after_from
   at_first k m s r E others e away x h =
       let k0 : k + 0 ≡ k = omega arith in
       let f : filter (stands_before k) E ≡ mine k =
@@ -114,7 +114,7 @@ module _ (given : Setting) (setting : IsSetting given) (R : State → System →
       subst (λ i. ReachedAt given R E s i x) (sym k0) (
         with_admits (lines_at A k) s,
         subst (λ u. Leads given.config given.app u s (with_admits (lines_at A k) s)) (sym f) (follows_leads given.config given.app [] s (mine k) (with_admits (lines_at A k) s) (follow_mine [] k m s r)),
-        subst (λ y. R (arrived A k y) (with_admits (lines_at A k) s)) mx (simulation.arrives k m s r),
+        subst (λ y. R (state_with_arrivals A k y) (with_admits (lines_at A k) s)) mx (simulation.arrives k m s r),
       )
 
   -- a stretch that the end cuts off
@@ -125,14 +125,14 @@ module _ (given : Setting) (setting : IsSetting given) (R : State → System →
     cut_pieces : pieces [] (steps_from (suc n) A k m) ≡ []
     cut_pieces = ap (pieces []) cut_run ∙ (a.unfinished n (omega arith)).0
 
-    cut_open : cut_off [] (steps_from (suc n) A k m) ≡ a.first ∷ take n a.rest
-    cut_open = ap (cut_off []) cut_run ∙ (a.unfinished n (omega arith)).1
+    cut_open : cut_off_steps [] (steps_from (suc n) A k m) ≡ a.first ∷ take n a.rest
+    cut_open = ap (cut_off_steps []) cut_run ∙ (a.unfinished n (omega arith)).1
 
     cut_observed : events_from given (suc n) k m ≡ mine k
     unfolding observe
     cut_observed =
         let f : a.first.enabled_before ≡ true = ⊎_elim (λ (z : length a.rest ≡ 0). absurd (omega arith)) (λ (z : a.first.enabled_before ≡ true). z) a.finds.1 in
-        ap (λ p. flat_map (piece_events given.view A) p ++ found_admits given.view A (cut_off [] (steps_from (suc n) A k m))) cut_pieces
+        ap (λ p. flat_map (piece_events given.view A) p ++ found_admits given.view A (cut_off_steps [] (steps_from (suc n) A k m))) cut_pieces
         ∙ ap (found_admits given.view A) cut_open
         ∙ ap (λ b. map (admission given.view) (moments a.first.count (cond b (a.first.count + 1) a.first.count) A)) f
         ∙ ap (λ v. map (admission given.view) (here v)) a.finds.0
@@ -146,7 +146,7 @@ module _ (given : Setting) (setting : IsSetting given) (R : State → System →
           whole = through.1;
           last = with_admits (lines_at A k) s;
           follows = subst (λ E. Follows given.config given.app past s E (with_admits (lines_at A k) s)) (sym cut_observed) (follow_mine past k m s r);
-          within = subst (AllByRecursion (IsWithin k (k + suc n))) (sym cut_observed) (mine_within k (k + suc n) (omega arith));
+          within = subst (AllByRecursion (IsInCounts k (k + suc n))) (sym cut_observed) (mine_within k (k + suc n) (omega arith));
           placed = subst (EachPair IsOrdered) (sym cut_observed) (admit_pairs (here k));
           to = k + 1;
           to_in = (omega arith, omega arith, (let q = a.few in omega arith));
@@ -154,12 +154,12 @@ module _ (given : Setting) (setting : IsSetting given) (R : State → System →
           counted = λ i t. ap (admits_at i t) cut_observed ∙ admits_of i t (here k);
           keeps = subst (KeepsOrder (here k)) (sym cut_observed) (admits_order (here k));
           short = subst (AllByRecursion (IsShortPiece given.config)) (sym cut_pieces) tt;
-          short_cut = subst (IsShort given.config) (sym cut_open) (a.short_front n (omega arith));
+          short_cut = subst (AreShort given.config) (sym cut_open) (a.short_front n (omega arith));
           gaps = λ before h. subst (HasShortGaps given.view before) (sym cut_pieces) tt;
           mirrors = λ i h x g o. cut_mirror i h x g o;
         }
       where
-        cut_mirror : (i : ℕ) → i < suc n → (x : State) → after_from i A k m ≡ Some x → x.core.mie ≡ true → ReachedAt given R (events_from given (suc n) k m) s (k + i) x
+        cut_mirror : (i : ℕ) → i < suc n → (x : State) → state_after_from i A k m ≡ Some x → x.core.mie ≡ true → ReachedAt given R (events_from given (suc n) k m) s (k + i) x
         cut_mirror zero h x g o = at_first k m s r (events_from given (suc n) k m) [] (cut_observed ∙ sym (append-nil (mine k))) tt x g
         cut_mirror (suc i) h x g o = let f = a.closed (suc i) (omega arith) (omega arith) x g in cc
 
@@ -184,29 +184,29 @@ module _ (given : Setting) (setting : IsSetting given) (R : State → System →
         ∙ ap (λ q. pieces [] (a.first ∷ a.rest) ++ pieces q F) a.cut_is
         ∙ ap (λ p. p ++ pieces [] F) a.pieces_are
 
-    long_open : cut_off [] (steps_from (j + n) A k m) ≡ cut_off [] F
-    long_open = ap (cut_off []) long_run ∙ cut_off-append [] (a.first ∷ a.rest) F ∙ ap (λ q. cut_off q F) a.cut_is
+    long_open : cut_off_steps [] (steps_from (j + n) A k m) ≡ cut_off_steps [] F
+    long_open = ap (cut_off_steps []) long_run ∙ cut_off-append [] (a.first ∷ a.rest) F ∙ ap (λ q. cut_off_steps q F) a.cut_is
 
     observed : events_from given (j + n) k m ≡ (mine k ++ a.others) ++ E
     unfolding observe
     observed =
-        ap (λ p. flat_map (piece_events given.view A) p ++ found_admits given.view A (cut_off [] (steps_from (j + n) A k m))) long_pieces
+        ap (λ p. flat_map (piece_events given.view A) p ++ found_admits given.view A (cut_off_steps [] (steps_from (j + n) A k m))) long_pieces
         ∙ ap (λ q. (piece_events given.view A a.piece ++ flat_map (piece_events given.view A) (pieces [] F)) ++ found_admits given.view A q) long_open
-        ∙ append_assoc (piece_events given.view A a.piece) (flat_map (piece_events given.view A) (pieces [] F)) (found_admits given.view A (cut_off [] F))
+        ∙ append_assoc (piece_events given.view A a.piece) (flat_map (piece_events given.view A) (pieces [] F)) (found_admits given.view A (cut_off_steps [] F))
         ∙ ap (λ u. u ++ E) a.events
 
     others_before : (x : ℕ) → k + j ≤ x → AllByRecursion (λ e. stands_before x e ≡ true) a.others
-    others_before x h = each_map (IsWithin k (k + j)) (λ e. stands_before x e ≡ true) (λ e t. before (is_admit e) e.stamp.at x (let u = t.ends in omega arith)) a.others a.stamps
+    others_before x h = each_map (IsInCounts k (k + j)) (λ e. stands_before x e ≡ true) (λ e t. before (is_admit e) e.stamp.at x (let u = t.ends in omega arith)) a.others a.stamps
 
     others_behind : AllByRecursion (λ e. stands_before k e ≡ false) a.others
     others_behind =
-        each_map (λ e. IsWithin k (k + j) e × (is_admit e ≡ true → k < e.stamp.at)) (λ e. stands_before k e ≡ false)
+        each_map (λ e. IsInCounts k (k + j) e × (is_admit e ≡ true → k < e.stamp.at)) (λ e. stands_before k e ≡ false)
         (λ e t. behind (is_admit e) e.stamp.at k (let u = t.0.begins in let v = t.0.ordered in omega arith) t.1) a.others
-        (each_both (IsWithin k (k + j)) (λ e. is_admit e ≡ true → k < e.stamp.at) a.others a.stamps a.later)
+        (each_both (IsInCounts k (k + j)) (λ e. is_admit e ≡ true → k < e.stamp.at) a.others a.stamps a.later)
 
     rest_behind : AllByRecursion (λ e. stands_before k e ≡ false) E
     rest_behind =
-        each_map (IsWithin (k + j) (k + j + n)) (λ e. stands_before k e ≡ false)
+        each_map (IsInCounts (k + j) (k + j + n)) (λ e. stands_before k e ≡ false)
         (λ e t. behind (is_admit e) e.stamp.at k (let u = t.begins in let v = t.ordered in omega arith) (λ z. let u = t.begins in let v = t.ordered in omega arith)) E g.within
 
     mine_leads : Leads given.config given.app (past ++ mine k) (opening given.config given.app) (with_admits (lines_at A k) s)
@@ -218,16 +218,16 @@ module _ (given : Setting) (setting : IsSetting given) (R : State → System →
     piece_leads : Leads given.config given.app (mine k ++ a.others) s a.after
     piece_leads = follows_leads given.config given.app past s (mine k ++ a.others) a.after piece_follows
 
-    piece_within : AllByRecursion (IsWithin k (k + j)) (mine k ++ a.others)
-    piece_within = each-append (IsWithin k (k + j)) (mine k) a.others (mine_within k (k + j) (omega arith)) a.stamps
+    piece_within : AllByRecursion (IsInCounts k (k + j)) (mine k ++ a.others)
+    piece_within = each-append (IsInCounts k (k + j)) (mine k) a.others (mine_within k (k + j) (omega arith)) a.stamps
 
     piece_placed : EachPair IsOrdered (mine k ++ a.others)
     piece_placed =
         pairs-append IsOrdered (mine k) a.others (admit_pairs (here k)) a.placed
         (each_arrival (λ x. AllByRecursion (IsOrdered x) a.others) (λ y. y.at ≡ k)
-        (λ y e. each_map (IsWithin k (k + j)) (IsOrdered (admit_event y)) (λ z w. admit_before y z (by y (is_admit z) z e w)) a.others a.stamps) (here k) (moment_within k A))
+        (λ y e. each_map (IsInCounts k (k + j)) (IsOrdered (admit_event y)) (λ z w. admit_before y z (by y (is_admit z) z e w)) a.others a.stamps) (here k) (moment_within k A))
       where
-        by : (y : Arrival) (b : Bool) (z : Stamped) → y.at ≡ k → IsWithin k (k + j) z → StandsBefore true b (admit_event y).stamp z.stamp
+        by : (y : Arrival) (b : Bool) (z : Stamped) → y.at ≡ k → IsInCounts k (k + j) z → StandsBefore true b (admit_event y).stamp z.stamp
         by y true z e w = tt
         by y false z e w = let u = w.begins in let v = w.ordered in omega arith
 
@@ -239,8 +239,8 @@ module _ (given : Setting) (setting : IsSetting given) (R : State → System →
           whole = after_steps j n k A m (a.first ∷ a.rest) a.next a.runs ∙ g.whole;
           last = g.last;
           follows = subst (λ u. Follows given.config given.app past s u g.last) (sym observed) (follows-append given.config given.app past s a.after g.last (mine k ++ a.others) E piece_follows g.follows);
-          within = subst (AllByRecursion (IsWithin k (k + (j + n)))) (sym observed)
-              (each-append (IsWithin k (k + (j + n))) (mine k ++ a.others) E
+          within = subst (AllByRecursion (IsInCounts k (k + (j + n)))) (sym observed)
+              (each-append (IsInCounts k (k + (j + n))) (mine k ++ a.others) E
               (within_wider k (k + j) k (k + (j + n)) (mine k ++ a.others) (omega arith) (omega arith) piece_within)
               (within_wider (k + j) (k + j + n) k (k + (j + n)) E (omega arith) (omega arith) g.within));
           placed = subst (EachPair IsOrdered) (sym observed) (pairs_apart k (k + j) (k + j + n) (mine k ++ a.others) E piece_within g.within piece_placed g.placed);
@@ -248,7 +248,7 @@ module _ (given : Setting) (setting : IsSetting given) (R : State → System →
           to_in = (let q = g.to_in in (omega arith, omega arith, omega arith));
           ends = subst (AllByRecursion (λ e. is_admit e ≡ false → e.stamp.at < g.to)) (sym observed)
               (each-append (λ e. is_admit e ≡ false → e.stamp.at < g.to) (mine k ++ a.others) E
-              (each_map (IsWithin k (k + j)) (λ e. is_admit e ≡ false → e.stamp.at < g.to) (λ e w z. let u = w.ends in let q = g.to_in.0 in omega arith) (mine k ++ a.others) piece_within) g.ends);
+              (each_map (IsInCounts k (k + j)) (λ e. is_admit e ≡ false → e.stamp.at < g.to) (λ e w z. let u = w.ends in let q = g.to_in.0 in omega arith) (mine k ++ a.others) piece_within) g.ends);
           counted = λ i t.
               ap (admits_at i t) observed ∙ admits-append i t (mine k ++ a.others) E
               ∙ ap (λ v. v + admits_at i t E) (a.counted i t) ∙ ap (λ v. arrivals_at i t (moments k (k + j) A) + v) (g.counted i t)
@@ -257,7 +257,7 @@ module _ (given : Setting) (setting : IsSetting given) (R : State → System →
               (subst (λ v. KeepsOrder v ((mine k ++ a.others) ++ E)) (sym (moments-split 0 k (k + j) g.to A (from_zero A setting.ordered) (omega arith) g.to_in.0))
               (orders-append (moments k (k + j) A) (moments (k + j) g.to A) (mine k ++ a.others) E a.keeps g.keeps));
           short = subst (AllByRecursion (IsShortPiece given.config)) (sym long_pieces) (a.short, g.short);
-          short_cut = subst (IsShort given.config) (sym long_open) g.short_cut;
+          short_cut = subst (AreShort given.config) (sym long_open) g.short_cut;
           gaps = λ b h. subst (HasShortGaps given.view b) (sym long_pieces) (
             (let p = a.progresses b h in let q = simulation.bounded a.next a.after a.related in omega arith),
             g.gaps (passed_length given.view a.piece b) (a.progresses b h),
@@ -265,18 +265,18 @@ module _ (given : Setting) (setting : IsSetting given) (R : State → System →
           mirrors = λ i h x f o. ⊎_elim (λ (z : i < j). first_count i z x f o) (λ (z : j ≤ i). later_count i z h x f o) (cases_lt i j);
         }
       where
-        first_count : (i : ℕ) → i < j → (x : State) → after_from i A k m ≡ Some x → x.core.mie ≡ true → ReachedAt given R (events_from given (j + n) k m) s (k + i) x
+        first_count : (i : ℕ) → i < j → (x : State) → state_after_from i A k m ≡ Some x → x.core.mie ≡ true → ReachedAt given R (events_from given (j + n) k m) s (k + i) x
         first_count zero z x f o =
             at_first k m s r (events_from given (j + n) k m) (a.others ++ E) (observed ∙ append_assoc (mine k) a.others E)
             (each-append (λ e. stands_before k e ≡ false) a.others E others_behind rest_behind) x f
         first_count (suc i) z x f o = let q = a.closed (suc i) (omega arith) z x f in cc
 
-        later_count : (i : ℕ) → j ≤ i → i < j + n → (x : State) → after_from i A k m ≡ Some x → x.core.mie ≡ true → ReachedAt given R (events_from given (j + n) k m) s (k + i) x
+        later_count : (i : ℕ) → j ≤ i → i < j + n → (x : State) → state_after_from i A k m ≡ Some x → x.core.mie ≡ true → ReachedAt given R (events_from given (j + n) k m) s (k + i) x
         later_count i z h x f o =
             let i' = i - j in
             let e : j + i' ≡ i = omega arith in
             let e2 : k + j + i' ≡ k + i = omega arith in
-            let f' : after_from i' A (k + j) a.next ≡ Some x = sym (after_steps j i' k A m (a.first ∷ a.rest) a.next a.runs) ∙ ap (λ q. after_from q A k m) e ∙ f in
+            let f' : state_after_from i' A (k + j) a.next ≡ Some x = sym (after_steps j i' k A m (a.first ∷ a.rest) a.next a.runs) ∙ ap (λ q. state_after_from q A k m) e ∙ f in
             let v = subst (λ q. ReachedAt given R E a.after q x) e2 (g.mirrors i' (omega arith) x f' o) in
             let fl : filter (stands_before (k + i)) (events_from given (j + n) k m) ≡ (mine k ++ a.others) ++ filter (stands_before (k + i)) E =
             ap (filter (stands_before (k + i))) observed ∙ filter-append (stands_before (k + i)) (mine k ++ a.others) E

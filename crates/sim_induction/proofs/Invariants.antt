@@ -12,12 +12,12 @@ use Rattle.sloth_base.specs.Machine.{State}
 use Rattle.sloth_base.specs.Arrivals.{moments}
 use Rattle.sloth_base.specs.Owners.{owners_in, IsOwned, AreOwned}
 use Rattle.rv32_machine.specs.Advance.{Goes}
-use Rattle.rv32_machine.specs.Run.{moment, arrived}
+use Rattle.rv32_machine.specs.Run.{moment, state_with_arrivals}
 use Rattle.osek_scheduler.specs.State.{System, opening}
 use Rattle.osek_scheduler.specs.Steps.{OsekStep}
 use Rattle.osek_scheduler.specs.Runs.{Leads}
 use Rattle.sim_induction.specs.Mirror.{Mirror}
-use Rattle.sim_induction.specs.Admits.{Setting, IsSetting, lines_at, with_admits, admit_event, behind_event}
+use Rattle.sim_induction.specs.Admits.{Setting, IsSetting, lines_at, with_admits, admit_event, arrivals_behind_event}
 use Rattle.sim_induction.specs.Advances.{RunTo, Advances}
 use Rattle.sim_induction.specs.PieceLaws.{BootLaw}
 use Rattle.sim_induction.specs.Related.{IsSimulation}
@@ -88,8 +88,8 @@ module _ (given : Setting) (setting : IsSetting given) (R : State → System →
 
   -- the laws of the relation may use what is kept
   pub simulation_with : ((count : ℕ) (state : State) (s : System) → 0 < count → With R I J state s → Advances given R progress count state s)
-      → ((count : ℕ) (state : State) (s : System) → With R I J state s → R (arrived given.arrivals count state) (with_admits (lines_at given.arrivals count) s))
-      → ((count : ℕ) (state : State) → I state → I (arrived given.arrivals count state))
+      → ((count : ℕ) (state : State) (s : System) → With R I J state s → R (state_with_arrivals given.arrivals count state) (with_admits (lines_at given.arrivals count) s))
+      → ((count : ℕ) (state : State) → I state → I (state_with_arrivals given.arrivals count state))
       → ((state : State) (s : System) → With R I J state s → s.booted ≡ true)
       → ((state : State) (s : System) → With R I J state s → Mirror given.config state.core s)
       → ((state : State) (s : System) → With R I J state s → progress state s ≤ 40)
@@ -106,7 +106,7 @@ module _ (given : Setting) (setting : IsSetting given) (R : State → System →
   boot_with m law b i j =
       let r = masked_steps given.arrivals (suc law.more) 0 m law.trace law.end law.steps law.ends in
       let in_range = lines_trace (IsOwned (owners_in given.config)) (suc law.more) 0 (lines_at given.arrivals) m law.trace law.end (owned_at given setting) law.steps in
-      let late_below : AreOwned (owners_in given.config) (map (λ a. a.line) (behind_event 0 law.trace)) = subst (AreOwned (owners_in given.config)) (sym (lines_behind 0 law.trace)) in_range.1 in
+      let late_below : AreOwned (owners_in given.config) (map (λ a. a.line) (arrivals_behind_event 0 law.trace)) = subst (AreOwned (owners_in given.config)) (sym (lines_behind 0 law.trace)) in_range.1 in
       record {
         more = law.more;
         few = law.few;
@@ -121,8 +121,8 @@ module _ (given : Setting) (setting : IsSetting given) (R : State → System →
           base = law.related;
           machine = along_run given.arrivals I keep_i (suc law.more) 0 m law.end r.steps r.runs i;
           system = subst (λ v. J (with_admits v law.after)) (lines_behind 0 law.trace)
-              (along_events given.config given.app J keep_j (map admit_event (behind_event 0 law.trace)) law.after (with_admits (map (λ a. a.line) (behind_event 0 law.trace)) law.after)
-              (leads_admits given.config given.app (behind_event 0 law.trace) law.after setting.few_tasks b late_below)
+              (along_events given.config given.app J keep_j (map admit_event (arrivals_behind_event 0 law.trace)) law.after (with_admits (map (λ a. a.line) (arrivals_behind_event 0 law.trace)) law.after)
+              (leads_admits given.config given.app (arrivals_behind_event 0 law.trace) law.after setting.few_tasks b late_below)
               (keep_j event.Boot (opening given.config given.app) law.after law.step_is j));
         };
       }

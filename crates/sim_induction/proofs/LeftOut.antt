@@ -6,7 +6,7 @@ use Rattle.sloth_base.specs.declared.event.Arrival.{Arrival}
 use Rattle.sloth_base.specs.declared.event.Stamped.{Stamped}
 use Rattle.sloth_base.specs.Arrivals.{moments, NeverFalls}
 use Rattle.sloth_base.specs.declared.config.Config.{Config}
-use Rattle.osek_scheduler.specs.InTime.{is_admit, admits_at, arrivals_at, AdmitsAll, LeavesOut, others, longest_cut_off}
+use Rattle.osek_scheduler.specs.InTime.{is_admit, admits_at, arrivals_at, AdmitsAll, LeavesOut, others, longest_cut_off_stretch}
 use Rattle.std.specs.List.{AllByRecursion}
 use Rattle.sim_induction.proofs.Events.{each_map}
 use Rattle.std.proofs.lemmas.List.Elements.{All-from_recursion}
@@ -71,7 +71,7 @@ admitted_below to m arrivals events counted none k t l =
 
 -- the arrivals below the moment `to` are admitted, and no later ones
 pub left_out : (config : Config) (n to : ℕ) (arrivals : List Arrival) (events : List Stamped) → NeverFalls 0 arrivals → to ≤ n → ((i t : ℕ) → admits_at i t events ≡ arrivals_at i t (moments 0 to arrivals))
-    → AllByRecursion (λ e. is_admit e ≡ false → e.stamp.at < to) events → n < to + longest_cut_off config events → AdmitsAll n arrivals events ⊎ ((k : ℕ) × LeavesOut config n arrivals events k)
+    → AllByRecursion (λ e. is_admit e ≡ false → e.stamp.at < to) events → n < to + longest_cut_off_stretch config events → AdmitsAll n arrivals events ⊎ ((k : ℕ) × LeavesOut config n arrivals events k)
 left_out config n to arrivals events up le counted ends short =
     ⊎_elim
     (λ (none : NoneIn to n arrivals). inl (admitted_below to n arrivals events counted none))

@@ -13,7 +13,7 @@ use Rattle.sloth_base.specs.declared.lines.Owners.{Owners}
 use Rattle.sloth_base.proofs.Owners.{IsCounterLine, kind_of_task, kind_of_counter, owned_cases}
 use Rattle.observe.specs.Observe.{arrival_event}
 use Rattle.osek_scheduler.specs.State.{System}
-use Rattle.osek_scheduler.specs.Steps.{admitted_state, made_due, OsekStep}
+use Rattle.osek_scheduler.specs.Steps.{admitted_state, due_state, OsekStep}
 use Rattle.osek_scheduler.specs.InTime.{admitted_line, is_admit, SpansFor, IsOrdered, StandsBefore}
 use Rattle.osek_scheduler.specs.Runs.{PassesOverArrivals}
 use Rattle.sim_induction.specs.Admits.{line_event, with_arrival, admit_event}
@@ -24,13 +24,13 @@ pub task_event : (line : ℕ) → line < first_counter_line → line_event line 
 task_event line h = ap (λ b. cond b (event.Admit line) (event.Due (line - first_counter_line))) (lt-ltb line first_counter_line h)
 
 pub task_arrival : (line : ℕ) (s : System) → line < first_counter_line → with_arrival line s ≡ admitted_state line s
-task_arrival line s h = ap (λ b. cond b (admitted_state line s) (made_due (line - first_counter_line) s)) (lt-ltb line first_counter_line h)
+task_arrival line s h = ap (λ b. cond b (admitted_state line s) (due_state (line - first_counter_line) s)) (lt-ltb line first_counter_line h)
 
 later_event : (line : ℕ) → first_counter_line ≤ line → line_event line ≡ event.Due (line - first_counter_line)
 later_event line h = ap (λ b. cond b (event.Admit line) (event.Due (line - first_counter_line))) (le-ltb line first_counter_line h)
 
-later_arrival : (line : ℕ) (s : System) → first_counter_line ≤ line → with_arrival line s ≡ made_due (line - first_counter_line) s
-later_arrival line s h = ap (λ b. cond b (admitted_state line s) (made_due (line - first_counter_line) s)) (le-ltb line first_counter_line h)
+later_arrival : (line : ℕ) (s : System) → first_counter_line ≤ line → with_arrival line s ≡ due_state (line - first_counter_line) s
+later_arrival line s h = ap (λ b. cond b (admitted_state line s) (due_state (line - first_counter_line) s)) (le-ltb line first_counter_line h)
 
 -- ---- the event of an arrival
 
@@ -66,7 +66,7 @@ admits_ordered a c =
 -- ---- what an arrival does
 
 -- by what it does
-pub arrival_cases : (P : System → Type 0) (line : ℕ) (s : System) → P (admitted_state line s) → ((c : ℕ) → P (made_due c s)) → P (with_arrival line s)
+pub arrival_cases : (P : System → Type 0) (line : ℕ) (s : System) → P (admitted_state line s) → ((c : ℕ) → P (due_state c s)) → P (with_arrival line s)
 arrival_cases P line s f g =
     ⊎_elim (λ (l : line < first_counter_line). subst P (sym (task_arrival line s l)) f)
     (λ (l : first_counter_line ≤ line). subst P (sym (later_arrival line s l)) (g (line - first_counter_line)))

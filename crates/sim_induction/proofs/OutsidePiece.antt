@@ -13,11 +13,11 @@ use Rattle.observe.specs.Observe.{stamp, mark_at, outside_events}
 use Rattle.osek_scheduler.specs.State.{System}
 use Rattle.osek_scheduler.specs.Runs.{Leads, Follows, PassesOverArrivals}
 use Rattle.osek_scheduler.specs.InTime.{is_admit, admits_at, SpansFor, IsOrdered, KeepsOrder}
-use Rattle.sim_induction.specs.Short.{passed_by}
+use Rattle.sim_induction.specs.Short.{passed_count}
 use Rattle.sim_induction.specs.Admits.{Setting, IsSetting, lines_at, with_admits}
-use Rattle.sim_induction.specs.Advances.{EachPair, IsWithin, found_by, Advances}
+use Rattle.sim_induction.specs.Advances.{EachPair, IsInCounts, found_events, Advances}
 use Rattle.std.specs.List.{AllByRecursion}
-use Rattle.sim_induction.specs.PieceLaws.{OutsideLaw, Shows, seen_at}
+use Rattle.sim_induction.specs.PieceLaws.{OutsideLaw, Shows, seen_step_at}
 use Rattle.sim_induction.proofs.Schedule.{owned_at, admits_are}
 use Rattle.sim_induction.proofs.Counts.{admits-append, admits_of, others_count}
 use Rattle.sim_induction.proofs.Order.{orders-append, admits_order, others_order}
@@ -41,13 +41,13 @@ single_passes given past s k what h = absurd h
 
 -- what its events are: none or one
 record Alone (given : Setting) (k : ℕ) (whats : List Event) (s after : System) : Type 0 where
-  stamps : AllByRecursion (IsWithin k (k + 1)) (map (stamp k k) whats)
+  stamps : AllByRecursion (IsInCounts k (k + 1)) (map (stamp k k) whats)
   others : AllByRecursion (λ e. is_admit e ≡ false) (map (stamp k k) whats)
   later : AllByRecursion (λ e. is_admit e ≡ true → k < e.stamp.at) (map (stamp k k) whats)
   placed : EachPair IsOrdered (map (stamp k k) whats)
   leads : Leads given.config given.app (map (stamp k k) whats) s after
   follows : (past : List Stamped) → Follows given.config given.app past s (map (stamp k k) whats) after
-  passing : (before from to : ℕ) → before ≤ from → (whats ≡ [] → from < to) → passed_by whats before ≤ to
+  passing : (before from to : ℕ) → before ≤ from → (whats ≡ [] → from < to) → passed_count whats before ≤ to
 
 alone : (given : Setting) (k : ℕ) (whats : List Event) (s after : System) → AreSingle whats → Shows given whats s after → Alone given k whats s after
 alone given k [] s after h w = record {
@@ -75,7 +75,7 @@ alone given k (what ∷ other ∷ more) s after h w = absurd w
 pub outside_advances : (given : Setting) → IsSetting given → (R : State → System → Type 0) (progress : State → System → ℕ) (k : ℕ) (m : State) (s : System) (x : State)
     → OutsideLaw given R progress k m s x → Advances given R progress k m s
 outside_advances given setting R progress k m s x law =
-    let first : Step = seen_at given k m x in
+    let first : Step = seen_step_at given k m x in
     let out : is_outside [] first ≡ true = not_from_false (begins first) law.outside in
     let a = alone given k law.whats (with_admits (lines_at given.arrivals k) s) law.after
     (subst AreSingle law.whats_are (outside_single (mark_at given.view first.pc) given.view first)) law.shows in
@@ -95,22 +95,22 @@ outside_advances given setting R progress k m s x law =
       events =
           ap (λ u. u ++ map (stamp k k) (outside_events (mark_at given.view first.pc) given.view first))
           (admits_are given setting (moments k (k + 1) given.arrivals) (owned_at given setting k))
-          ∙ ap (λ v. found_by given k ++ map (stamp k k) v) law.whats_are;
+          ∙ ap (λ v. found_events given k ++ map (stamp k k) v) law.whats_are;
       stamps = a.stamps;
       later = a.later;
       placed = a.placed;
       counted = λ i t.
-          admits-append i t (found_by given k) others ∙ ap (λ n. n + admits_at i t others) (admits_of i t (moments k (k + 1) given.arrivals))
+          admits-append i t (found_events given k) others ∙ ap (λ n. n + admits_at i t others) (admits_of i t (moments k (k + 1) given.arrivals))
           ∙ (let z = others_count i t others a.others in omega arith);
       keeps =
-          subst (λ u. KeepsOrder u (found_by given k ++ others)) (append-nil (moments k (k + 1) given.arrivals))
-          (orders-append (moments k (k + 1) given.arrivals) [] (found_by given k) others (admits_order (moments k (k + 1) given.arrivals)) (others_order others a.others));
+          subst (λ u. KeepsOrder u (found_events given k ++ others)) (append-nil (moments k (k + 1) given.arrivals))
+          (orders-append (moments k (k + 1) given.arrivals) [] (found_events given k) others (admits_order (moments k (k + 1) given.arrivals)) (others_order others a.others));
       few = omega arith;
       short = law.untouched;
       short_front = λ n l. absurd (omega arith);
       after = law.after;
       leads = a.leads;
       follows = λ past h. a.follows past;
-      progresses = λ before l. subst (λ v. passed_by v before ≤ progress x law.after) (sym law.whats_are) (a.passing before (progress m s) (progress x law.after) l law.progresses);
+      progresses = λ before l. subst (λ v. passed_count v before ≤ progress x law.after) (sym law.whats_are) (a.passing before (progress m s) (progress x law.after) l law.progresses);
       related = law.related;
     }

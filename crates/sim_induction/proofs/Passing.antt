@@ -16,8 +16,8 @@ use Rattle.osek_scheduler.specs.Priority.{IsTop, IsDue, rank, is_in, is_active, 
 use Rattle.osek_scheduler.specs.Services.{if_suspended, activated_state}
 use Rattle.osek_scheduler.specs.Steps.{OsekStep, admitted_state}
 use Rattle.osek_scheduler.specs.Runs.{Leads, ReadySince, PassesOver}
-use Rattle.masked_code.specs.Trace.{Trace, early}
-use Rattle.sim_induction.specs.Admits.{line_event, with_arrival, with_admits, admit_event, before_event}
+use Rattle.masked_code.specs.Trace.{Trace, early_arrivals}
+use Rattle.sim_induction.specs.Admits.{line_event, with_arrival, with_admits, admit_event, arrivals_before_event}
 use Rattle.sim_induction.proofs.Follow.{leads-append, booted_arrival}
 use Rattle.sim_induction.proofs.Lines.{task_event, task_arrival, arrival_cases, arrival_steps, step_arrives, tasks_below}
 use Rattle.sim_induction.proofs.Events.{IsFrom, before_within}
@@ -212,10 +212,10 @@ passes_over c app past k to t a s few h b l m top active u declared ready above 
     ready
 
 pub passes_inner : (c : Config) (app : App) (past : List Stamped) (k t : ℕ) (s : System) (trace : Trace) → length c.tasks ≤ first_counter_line → Leads c app past (opening c app) s → s.booted ≡ true
-    → AreTasks (owners_in c) (early trace) → IsTop c s [] t → (task s t).state ≡ mode.Active
-    → PassesOver c app (past ++ map admit_event (before_event (k + 1) trace)) (with_admits (early trace) s) t k
+    → AreTasks (owners_in c) (early_arrivals trace) → IsTop c s [] t → (task s t).state ≡ mode.Active
+    → PassesOver c app (past ++ map admit_event (arrivals_before_event (k + 1) trace)) (with_admits (early_arrivals trace) s) t k
 passes_inner c app past k t s trace few h b l top active =
     let e = lines_before (k + 1) trace in
-    subst (λ lines. PassesOver c app (past ++ map admit_event (before_event (k + 1) trace)) (with_admits lines s) t k) e
-    (passes_over c app past k (k + 1 + length trace) t (before_event (k + 1) trace) s few h b (subst (AreTasks (owners_in c)) (sym e) l)
+    subst (λ lines. PassesOver c app (past ++ map admit_event (arrivals_before_event (k + 1) trace)) (with_admits lines s) t k) e
+    (passes_over c app past k (k + 1 + length trace) t (arrivals_before_event (k + 1) trace) s few h b (subst (AreTasks (owners_in c)) (sym e) l)
     (before_within (k + 1) (k + 1 + length trace) (k + 1) trace (omega arith) (omega arith)) top active)

@@ -8,13 +8,13 @@ use Rattle.sloth_base.specs.declared.event.Event.TheVariants as event
 use Rattle.sloth_base.specs.declared.step.Step.{Step}
 use Rattle.sloth_base.specs.Machine.{State}
 use Rattle.sloth_base.specs.Arrive.{state_arrive}
-use Rattle.sloth_base.specs.Take.{line_to_take, enter, entered}
+use Rattle.sloth_base.specs.Take.{line_to_take, entry_state, execution_state}
 use Rattle.sloth_base.proofs.Owners.{kind_of_task}
 use Rattle.rv32_instr.specs.Execute.{Next, Going, Stopped, step, touched}
 use Rattle.rv32_machine.specs.Advance.{seen_step}
-use Rattle.rv32_machine.specs.Run.{arrived}
+use Rattle.rv32_machine.specs.Run.{state_with_arrivals}
 use Rattle.masked_code.specs.Masked.{OnGoing, Masked, WithArrivals, FromOpening, Steps}
-use Rattle.masked_code.specs.Trace.{Trace, lines_of, touched_lines, early, late}
+use Rattle.masked_code.specs.Trace.{Trace, lines_of, touched_lines, early_arrivals, late_arrivals}
 use Rattle.masked_code.proofs.Masked.{masked_run}
 use Rattle.observe.specs.Pieces.{begins}
 use Rattle.observe.specs.Observe.{View, stretch_event, later_event, unentered_event, marked_event, mark_at, entry_event}
@@ -31,7 +31,7 @@ Opens Effect = (touched : List ℕ) (start last : State) → Effect touched star
 
 ends_open : (Effect : List ℕ → State → State → Type 0) → Opens Effect → (start : State) (t : Trace) (end : State) → WithArrivals Effect start t end → end.core.mie ≡ true
 ends_open Effect opens start t end h =
-    ap (λ (x : State). x.core.mie) h.2 ∙ opens (touched_lines t) (state_arrive (early t) start) h.0 h.1
+    ap (λ (x : State). x.core.mie) h.2 ∙ opens (touched_lines t) (state_arrive (early_arrivals t) start) h.0 h.1
 
 closed_start : (Effect : List ℕ → State → State → Type 0) → Opens Effect → (from start : State) → start.core.mie ≡ false → WithArrivals Effect from [] start → ⊥
 closed_start Effect opens from start e h = let a : start.core.mie ≡ true = ends_open Effect opens from [] start h in cc
@@ -40,7 +40,7 @@ closed_start Effect opens from start e h = let a : start.core.mie ≡ true = end
 
 pub record Entering (arrivals : List Arrival) (most k : ℕ) (m : State) (Effect : List ℕ → State → State → Type 0) : Type 0 where
   pub next : State
-  pub goes : step (entered (arrived arrivals k m)) ≡ Going next
+  pub goes : step (execution_state (state_with_arrivals arrivals k m)) ≡ Going next
   pub more : ℕ
   pub few : more ≤ most
   pub trace : Trace
@@ -48,15 +48,15 @@ pub record Entering (arrivals : List Arrival) (most k : ℕ) (m : State) (Effect
   pub steps : Steps more (k + 1) (lines_at arrivals) next trace end
   pub ends : end.core.mie ≡ true
   pub last : State
-  pub effect : Effect (lines_of (touched (entered (arrived arrivals k m))) (touched_lines trace)) (state_arrive (early trace) (entered (arrived arrivals k m))) last
-  pub late_behind : end ≡ state_arrive (late trace) last
+  pub effect : Effect (lines_of (touched (execution_state (state_with_arrivals arrivals k m))) (touched_lines trace)) (state_arrive (early_arrivals trace) (execution_state (state_with_arrivals arrivals k m))) last
+  pub late_behind : end ≡ state_arrive (late_arrivals trace) last
 
-pub entering : (arrivals : List Arrival) (most k : ℕ) (m : State) (Effect : List ℕ → State → State → Type 0) → Opens Effect → (entered (arrived arrivals k m)).core.mie ≡ false
-    → Masked (suc most) (entered (arrived arrivals k m)) (WithArrivals Effect (entered (arrived arrivals k m))) → Entering arrivals most k m Effect
+pub entering : (arrivals : List Arrival) (most k : ℕ) (m : State) (Effect : List ℕ → State → State → Type 0) → Opens Effect → (execution_state (state_with_arrivals arrivals k m)).core.mie ≡ false
+    → Masked (suc most) (execution_state (state_with_arrivals arrivals k m)) (WithArrivals Effect (execution_state (state_with_arrivals arrivals k m))) → Entering arrivals most k m Effect
 unfolding Masked
-entering arrivals most k m Effect opens off (inl h) = absurd (closed_start Effect opens (entered (arrived arrivals k m)) (entered (arrived arrivals k m)) off h)
+entering arrivals most k m Effect opens off (inl h) = absurd (closed_start Effect opens (execution_state (state_with_arrivals arrivals k m)) (execution_state (state_with_arrivals arrivals k m)) off h)
 entering arrivals most k m Effect opens off (inr h) =
-    let n = entered (arrived arrivals k m) in
+    let n = execution_state (state_with_arrivals arrivals k m) in
     let P : Trace → State → Type 0 = λ trace end. WithArrivals Effect n (([], touched n) ∷ trace) end in
     let g = going (step n) (λ next. Masked most next P) (h.1 []) in
     let r = masked_run most (k + 1) (lines_at arrivals) g.0 P g.2 in
@@ -78,7 +78,7 @@ entering arrivals most k m Effect opens off (inr h) =
 
 pub record Masking (arrivals : List Arrival) (most k : ℕ) (m : State) (Effect : List ℕ → State → State → Type 0) : Type 0 where
   pub next : State
-  pub goes : step (entered (arrived arrivals k m)) ≡ Going next
+  pub goes : step (execution_state (state_with_arrivals arrivals k m)) ≡ Going next
   pub off : next.core.mie ≡ false
   pub more : ℕ
   pub few : more ≤ most
@@ -86,18 +86,18 @@ pub record Masking (arrivals : List Arrival) (most k : ℕ) (m : State) (Effect 
   pub end : State
   pub steps : Steps more (k + 1) (lines_at arrivals) next trace end
   pub last : State
-  pub effect : Effect (touched_lines trace) (state_arrive (early trace) (arrived arrivals k m)) last
-  pub late_behind : end ≡ state_arrive (late trace) last
+  pub effect : Effect (touched_lines trace) (state_arrive (early_arrivals trace) (state_with_arrivals arrivals k m)) last
+  pub late_behind : end ≡ state_arrive (late_arrivals trace) last
 
-pub masking : (arrivals : List Arrival) (most k : ℕ) (m : State) (Effect : List ℕ → State → State → Type 0) → line_to_take (arrived arrivals k m) ≡ None
-    → FromOpening most (arrived arrivals k m) Effect → Masking arrivals most k m Effect
+pub masking : (arrivals : List Arrival) (most k : ℕ) (m : State) (Effect : List ℕ → State → State → Type 0) → line_to_take (state_with_arrivals arrivals k m) ≡ None
+    → FromOpening most (state_with_arrivals arrivals k m) Effect → Masking arrivals most k m Effect
 masking arrivals most k m Effect none h =
-    let n = arrived arrivals k m in
+    let n = state_with_arrivals arrivals k m in
     let g = going (step n) (λ first. (first.core.mie ≡ false) × Masked most first (WithArrivals Effect n)) h in
     let r = masked_run most (k + 1) (lines_at arrivals) g.0 (WithArrivals Effect n) g.2.1 in
     record {
       next = g.0;
-      goes = ap (λ o. step (enter o n)) none ∙ g.1;
+      goes = ap (λ o. step (entry_state o n)) none ∙ g.1;
       off = g.2.0;
       more = r.0;
       few = r.1;
@@ -119,8 +119,8 @@ pub record Booting (arrivals : List Arrival) (most : ℕ) (m : State) (Effect : 
   pub steps : Steps (suc more) 0 (lines_at arrivals) m trace end
   pub ends : end.core.mie ≡ true
   pub last : State
-  pub effect : Effect (touched_lines trace) (state_arrive (early trace) m) last
-  pub late_behind : end ≡ state_arrive (late trace) last
+  pub effect : Effect (touched_lines trace) (state_arrive (early_arrivals trace) m) last
+  pub late_behind : end ≡ state_arrive (late_arrivals trace) last
 
 pub booting : (arrivals : List Arrival) (most : ℕ) (m : State) (Effect : List ℕ → State → State → Type 0) → Opens Effect → m.core.mie ≡ false → Masked most m (WithArrivals Effect m) → Booting arrivals most m Effect
 booting arrivals most m Effect opens off h =
@@ -171,7 +171,7 @@ entered_event view k n x last line l h t =
     ∙ ap (λ o. later_event o view (seen_step k n x) last) h
     ∙ ap (entry_event line) (kind_of_task view.owners line t)
 
-pub opened_event : (view : View) (k : ℕ) (n x : State) (last : Step) (mark : Mark) → 0 < k → line_to_take n ≡ None → mark_at view (entered n).pc ≡ Some mark
+pub opened_event : (view : View) (k : ℕ) (n x : State) (last : Step) (mark : Mark) → 0 < k → line_to_take n ≡ None → mark_at view (execution_state n).pc ≡ Some mark
     → stretch_event view (seen_step k n x) last ≡ marked_event mark.kind view mark (seen_step k n x) last
 opened_event view k n x last mark l h m =
     ap (λ b. cond b event.Boot (later_event (line_to_take n) view (seen_step k n x) last)) (ne_eqb k 0 (λ z. omega arith))

@@ -4,17 +4,17 @@ use Rattle.sloth_base.specs.declared.event.Stamped.{Stamped}
 use Rattle.sloth_base.specs.Machine.{State}
 use Rattle.sloth_base.specs.Arrivals.{moments}
 use Rattle.sloth_base.specs.Stretches.{longest_stretch}
-use Rattle.rv32_machine.specs.Run.{after_from, arrived}
-use Rattle.observe.specs.Pieces.{pieces, cut_off}
+use Rattle.rv32_machine.specs.Run.{state_after_from, state_with_arrivals}
+use Rattle.observe.specs.Pieces.{pieces, cut_off_steps}
 use Rattle.std.specs.List.{AllByRecursion}
 use Rattle.observe.specs.Observe.{observe}
 use Rattle.osek_scheduler.specs.State.{System}
 use Rattle.osek_scheduler.specs.Runs.{Leads, Follows}
 use Rattle.osek_scheduler.specs.InTime.{is_admit, admits_at, arrivals_at, IsOrdered, KeepsOrder}
-use Rattle.sim_induction.specs.Short.{IsShort, IsShortPiece, HasShortGaps}
+use Rattle.sim_induction.specs.Short.{AreShort, IsShortPiece, HasShortGaps}
 use Rattle.sim_induction.specs.Sound.{stands_before}
 use Rattle.sim_induction.specs.Admits.{Setting}
-use Rattle.sim_induction.specs.Advances.{EachPair, IsWithin}
+use Rattle.sim_induction.specs.Advances.{EachPair, IsInCounts}
 use Rattle.sim_induction.proofs.Runs.{steps_from}
 
 -- its events
@@ -23,14 +23,14 @@ events_from given n k m = observe given.view given.arrivals (steps_from n given.
 
 -- these events lead to a system that is related with this state of the count, with the arrivals of the count
 abbrev pub ReachedAt : Setting → (State → System → Type 0) → List Stamped → System → ℕ → State → Type 0
-ReachedAt given R events s count x = (z : System) × Leads given.config given.app (filter (stands_before count) events) s z × R (arrived given.arrivals count x) z
+ReachedAt given R events s count x = (z : System) × Leads given.config given.app (filter (stands_before count) events) s z × R (state_with_arrivals given.arrivals count x) z
 
 pub record SoundFrom (given : Setting) (R : State → System → Type 0) (progress : State → System → ℕ) (n k : ℕ) (m : State) (s : System) (past : List Stamped) : Type 0 where
   pub end : State
-  pub whole : after_from n given.arrivals k m ≡ Some end
+  pub whole : state_after_from n given.arrivals k m ≡ Some end
   pub last : System
   pub follows : Follows given.config given.app past s (events_from given n k m) last
-  pub within : AllByRecursion (IsWithin k (k + n)) (events_from given n k m)
+  pub within : AllByRecursion (IsInCounts k (k + n)) (events_from given n k m)
   pub placed : EachPair IsOrdered (events_from given n k m)
   pub to : ℕ
   pub to_in : (k ≤ to) × (to ≤ k + n) × (k + n < to + longest_stretch given.config)
@@ -38,6 +38,6 @@ pub record SoundFrom (given : Setting) (R : State → System → Type 0) (progre
   pub counted : (i t : ℕ) → admits_at i t (events_from given n k m) ≡ arrivals_at i t (moments k to given.arrivals)
   pub keeps : KeepsOrder (moments k to given.arrivals) (events_from given n k m)
   pub short : AllByRecursion (IsShortPiece given.config) (pieces [] (steps_from n given.arrivals k m))
-  pub short_cut : IsShort given.config (cut_off [] (steps_from n given.arrivals k m))
+  pub short_cut : AreShort given.config (cut_off_steps [] (steps_from n given.arrivals k m))
   pub gaps : (before : ℕ) → before ≤ progress m s → HasShortGaps given.view before (pieces [] (steps_from n given.arrivals k m))
-  pub mirrors : (i : ℕ) → i < n → (x : State) → after_from i given.arrivals k m ≡ Some x → x.core.mie ≡ true → ReachedAt given R (events_from given n k m) s (k + i) x
+  pub mirrors : (i : ℕ) → i < n → (x : State) → state_after_from i given.arrivals k m ≡ Some x → x.core.mie ≡ true → ReachedAt given R (events_from given n k m) s (k + i) x

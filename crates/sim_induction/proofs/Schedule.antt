@@ -10,7 +10,7 @@ use Rattle.sloth_base.specs.Arrivals.{moments, NeverFalls}
 use Rattle.sloth_base.specs.Owners.{first_counter_line, owners_in, IsOwned, AreOwned}
 use Rattle.observe.specs.Observe.{view_from, admission}
 use Rattle.observe.proofs.Moments.{moments-later}
-use Rattle.sim_induction.specs.Admits.{Setting, IsSetting, lines_at, admit_event, at_moment}
+use Rattle.sim_induction.specs.Admits.{Setting, IsSetting, lines_at, admit_event, arrivals_at_moment}
 use Rattle.sim_induction.proofs.Lines.{arrival_shown}
 
 pub from_zero : (xs : List Arrival) → NeverFalls 1 xs → NeverFalls 0 xs
@@ -49,23 +49,23 @@ moments-split before from mid to (x ∷ xs) up a b =
     (cases_lt x.at mid)
 
 -- those of one moment are its lines
-pub moment_is : (k : ℕ) (xs : List Arrival) → moments k (k + 1) xs ≡ at_moment k (lines_at xs k)
+pub moment_is : (k : ℕ) (xs : List Arrival) → moments k (k + 1) xs ≡ arrivals_at_moment k (lines_at xs k)
 moment_is k [] = refl
 moment_is k (x ∷ xs) =
     let ih = moment_is k xs in
     ⊎_elim
-    (λ (l : x.at < k). early_one k (k + 1) x xs l ∙ ih ∙ sym (ap (λ u. at_moment k (map (λ a. a.line) u)) (early_one k (k + 1) x xs l)))
+    (λ (l : x.at < k). early_one k (k + 1) x xs l ∙ ih ∙ sym (ap (λ u. arrivals_at_moment k (map (λ a. a.line) u)) (early_one k (k + 1) x xs l)))
     (λ (l : k ≤ x.at).
     ⊎_elim
     (λ (u : x.at < k + 1).
     let e : x.at ≡ k = omega arith in
     let one : x ≡ record { at = k; line = x.line } = ap (λ (v : ℕ). record { at = v; line = x.line }) e in
-    here k (k + 1) x xs l u ∙ ap (λ v. x ∷ v) ih ∙ ap (λ v. v ∷ at_moment k (lines_at xs k)) one ∙ sym (ap (λ v. at_moment k (map (λ a. a.line) v)) (here k (k + 1) x xs l u)))
-    (λ (u : k + 1 ≤ x.at). late_one (nat_le k x.at) k (k + 1) x xs refl u ∙ ih ∙ sym (ap (λ v. at_moment k (map (λ a. a.line) v)) (late_one (nat_le k x.at) k (k + 1) x xs refl u)))
+    here k (k + 1) x xs l u ∙ ap (λ v. x ∷ v) ih ∙ ap (λ v. v ∷ arrivals_at_moment k (lines_at xs k)) one ∙ sym (ap (λ v. arrivals_at_moment k (map (λ a. a.line) v)) (here k (k + 1) x xs l u)))
+    (λ (u : k + 1 ≤ x.at). late_one (nat_le k x.at) k (k + 1) x xs refl u ∙ ih ∙ sym (ap (λ v. arrivals_at_moment k (map (λ a. a.line) v)) (late_one (nat_le k x.at) k (k + 1) x xs refl u)))
     (cases_lt x.at (k + 1)))
     (cases_lt x.at k)
 
-pub lines_back : (k : ℕ) (a : List ℕ) → map (λ x. x.line) (at_moment k a) ≡ a
+pub lines_back : (k : ℕ) (a : List ℕ) → map (λ x. x.line) (arrivals_at_moment k a) ≡ a
 lines_back k [] = refl
 lines_back k (l ∷ a) = ap (λ u. l ∷ u) (lines_back k a)
 

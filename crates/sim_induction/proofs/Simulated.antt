@@ -12,7 +12,7 @@ use Rattle.sloth_base.specs.Arrivals.{AreArrivals}
 use Rattle.sloth_base.specs.Owners.{first_counter_line, owners_in}
 use Rattle.rv32_machine.specs.Start.{start}
 use Rattle.osek_scheduler.specs.State.{System}
-use Rattle.sim_induction.specs.Sound.{SoundRun, Sound}
+use Rattle.sim_induction.specs.Sound.{IsSoundRun, Sound}
 use Rattle.sim_induction.specs.Admits.{IsSetting}
 use Rattle.sim_induction.specs.PieceLaws.{BootLaw}
 use Rattle.sim_induction.specs.Related.{IsSimulation}
@@ -32,7 +32,7 @@ is_setting config app image arrivals few tasks counters are =
 
 pub sound_run : (config : Config) (app : App) (image : Image) (arrivals : List Arrival) (R : State → System → Type 0) (progress : State → System → ℕ)
     → IsSetting (setting_of config app image arrivals) → IsSimulation (setting_of config app image arrivals) R progress → BootLaw (setting_of config app image arrivals) R (start image)
-    → (n : ℕ) → SoundRun config app image arrivals n
+    → (n : ℕ) → IsSoundRun config app image arrivals n
 sound_run config app image arrivals R progress setting simulation boot n =
     sound_of config app image arrivals R progress setting simulation n
     (whole_run (setting_of config app image arrivals) setting R progress simulation (start image) boot n)

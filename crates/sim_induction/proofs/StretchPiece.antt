@@ -11,20 +11,20 @@ use Rattle.sloth_base.specs.Arrivals.{moments}
 use Rattle.sloth_base.specs.Owners.{owners_in, IsOwned, AreOwned}
 use Rattle.sloth_base.specs.Take.{line_to_take}
 use Rattle.sloth_base.proofs.Stretches.{begins_later, within_longest}
-use Rattle.rv32_machine.specs.Run.{after_from, arrived}
-use Rattle.masked_code.specs.Trace.{Trace, touched_lines, early, late}
+use Rattle.rv32_machine.specs.Run.{state_after_from, state_with_arrivals}
+use Rattle.masked_code.specs.Trace.{Trace, touched_lines, early_arrivals, late_arrivals}
 use Rattle.observe.specs.Pieces.{Stretch, is_outside, begins}
 use Rattle.observe.specs.Observe.{admission, stamp, is_early, last_of, stretch_event, piece_events}
 use Rattle.osek_scheduler.specs.State.{System, opening}
 use Rattle.osek_scheduler.specs.Runs.{Leads, Follows}
 use Rattle.osek_scheduler.specs.InTime.{is_admit, admits_at, arrivals_at, IsOrdered, StandsBefore, SpansFor, KeepsOrder}
-use Rattle.sim_induction.specs.Short.{IsShort, IsShortAt, TouchesOnly}
-use Rattle.sim_induction.specs.Admits.{Setting, IsSetting, lines_at, with_admits, admit_event, before_event, behind_event}
+use Rattle.sim_induction.specs.Short.{AreShort, IsShortAt, TouchesOnly}
+use Rattle.sim_induction.specs.Admits.{Setting, IsSetting, lines_at, with_admits, admit_event, arrivals_before_event, arrivals_behind_event}
 use Rattle.sim_induction.proofs.Lines.{spans_admit, admit_before, admit_behind, admits_ordered}
 use Rattle.sim_induction.specs.Observed.{IsTraced}
-use Rattle.sim_induction.specs.Advances.{RunTo, EachPair, IsWithin, found_by, Advances}
+use Rattle.sim_induction.specs.Advances.{RunTo, EachPair, IsInCounts, found_events, Advances}
 use Rattle.std.specs.List.{AllByRecursion}
-use Rattle.sim_induction.specs.PieceLaws.{StretchLaw, seen_at}
+use Rattle.sim_induction.specs.PieceLaws.{StretchLaw, seen_step_at}
 use Rattle.sim_induction.proofs.Follow.{leads-append, follows-append, booted_admits, follows_admits, leads_admits}
 use Rattle.sim_induction.proofs.Events.{IsFrom, each-append, each_arrival, admit_pairs, pairs-append, before_within, behind_within}
 use Rattle.sim_induction.proofs.Runs.{one_after}
@@ -40,19 +40,19 @@ use Rattle.sim_induction.proofs.Cut.{cut_whole, cut_short}
 -- ---- the events of a stretch with this event
 
 abbrev pub masked_events : ℕ → Trace → Stamped → List Stamped
-masked_events k t e = map admit_event (before_event k t) ++ (e ∷ map admit_event (behind_event k t))
+masked_events k t e = map admit_event (arrivals_before_event k t) ++ (e ∷ map admit_event (arrivals_behind_event k t))
 
-pub within_admits : (from to : ℕ) (a : Arrival) → IsFrom from to a → IsWithin from to (admit_event a)
+pub within_admits : (from to : ℕ) (a : Arrival) → IsFrom from to a → IsInCounts from to (admit_event a)
 within_admits from to a h = record { begins = h.0; ordered = omega arith; ends = h.1; spans = spans_admit a }
 
 -- an event of the counts from k to below k + 1 + j, with the arrivals of the counts behind k
 module _ (k j : ℕ) (t : Trace) (e : Stamped) (long : length t ≡ j) (from_is : e.stamp.from ≡ k) (at_is : e.stamp.at ≡ k + j) (other : is_admit e ≡ false) where
   pub masked_placed : EachPair IsOrdered (masked_events (k + 1) t e)
   masked_placed =
-      pairs-append IsOrdered (map admit_event (before_event (k + 1) t)) (e ∷ map admit_event (behind_event (k + 1) t))
-      (admit_pairs (before_event (k + 1) t))
-      (each_arrival (IsOrdered e) (IsFrom (k + 1) (k + 1 + j)) (λ a h. after_it a h) (behind_event (k + 1) t) (behind_within (k + 1) (k + 1 + j) (k + 1) t (omega arith) (omega arith)), admit_pairs (behind_event (k + 1) t))
-      (each_arrival (λ x. AllByRecursion (IsOrdered x) (e ∷ map admit_event (behind_event (k + 1) t))) (IsFrom (k + 1) (k + 1 + j)) (λ a h. (before_it a h, all a (behind_event (k + 1) t))) (before_event (k + 1) t) (before_within (k + 1) (k + 1 + j) (k + 1) t (omega arith) (omega arith)))
+      pairs-append IsOrdered (map admit_event (arrivals_before_event (k + 1) t)) (e ∷ map admit_event (arrivals_behind_event (k + 1) t))
+      (admit_pairs (arrivals_before_event (k + 1) t))
+      (each_arrival (IsOrdered e) (IsFrom (k + 1) (k + 1 + j)) (λ a h. after_it a h) (arrivals_behind_event (k + 1) t) (behind_within (k + 1) (k + 1 + j) (k + 1) t (omega arith) (omega arith)), admit_pairs (arrivals_behind_event (k + 1) t))
+      (each_arrival (λ x. AllByRecursion (IsOrdered x) (e ∷ map admit_event (arrivals_behind_event (k + 1) t))) (IsFrom (k + 1) (k + 1 + j)) (λ a h. (before_it a h, all a (arrivals_behind_event (k + 1) t))) (arrivals_before_event (k + 1) t) (before_within (k + 1) (k + 1 + j) (k + 1) t (omega arith) (omega arith)))
     where
       before_it : (a : Arrival) → IsFrom (k + 1) (k + 1 + j) a → IsOrdered (admit_event a) e
       before_it a h = admit_before a e (subst (λ b. StandsBefore true b (admit_event a).stamp e.stamp) (sym other) (let l : a.at ≤ e.stamp.at = omega arith in l))
@@ -66,15 +66,15 @@ module _ (k j : ℕ) (t : Trace) (e : Stamped) (long : length t ≡ j) (from_is 
 
   pub masked_later : AllByRecursion (λ x. is_admit x ≡ true → k < x.stamp.at) (masked_events (k + 1) t e)
   masked_later =
-      each-append (λ x. is_admit x ≡ true → k < x.stamp.at) (map admit_event (before_event (k + 1) t)) (e ∷ map admit_event (behind_event (k + 1) t))
-      (each_arrival (λ x. is_admit x ≡ true → k < x.stamp.at) (IsFrom (k + 1) (k + 1 + j)) (λ a h z. omega arith) (before_event (k + 1) t) (before_within (k + 1) (k + 1 + j) (k + 1) t (omega arith) (omega arith)))
-      ((λ z. let q = other in absurd (true≢false (sym z ∙ q))), each_arrival (λ x. is_admit x ≡ true → k < x.stamp.at) (IsFrom (k + 1) (k + 1 + j)) (λ a h z. omega arith) (behind_event (k + 1) t) (behind_within (k + 1) (k + 1 + j) (k + 1) t (omega arith) (omega arith)))
+      each-append (λ x. is_admit x ≡ true → k < x.stamp.at) (map admit_event (arrivals_before_event (k + 1) t)) (e ∷ map admit_event (arrivals_behind_event (k + 1) t))
+      (each_arrival (λ x. is_admit x ≡ true → k < x.stamp.at) (IsFrom (k + 1) (k + 1 + j)) (λ a h z. omega arith) (arrivals_before_event (k + 1) t) (before_within (k + 1) (k + 1 + j) (k + 1) t (omega arith) (omega arith)))
+      ((λ z. let q = other in absurd (true≢false (sym z ∙ q))), each_arrival (λ x. is_admit x ≡ true → k < x.stamp.at) (IsFrom (k + 1) (k + 1 + j)) (λ a h z. omega arith) (arrivals_behind_event (k + 1) t) (behind_within (k + 1) (k + 1 + j) (k + 1) t (omega arith) (omega arith)))
 
-  pub masked_stamps : IsWithin k (k + suc j) e → AllByRecursion (IsWithin k (k + suc j)) (masked_events (k + 1) t e)
+  pub masked_stamps : IsInCounts k (k + suc j) e → AllByRecursion (IsInCounts k (k + suc j)) (masked_events (k + 1) t e)
   masked_stamps w =
-      each-append (IsWithin k (k + suc j)) (map admit_event (before_event (k + 1) t)) (e ∷ map admit_event (behind_event (k + 1) t))
-      (each_arrival (IsWithin k (k + suc j)) (IsFrom k (k + suc j)) (within_admits k (k + suc j)) (before_event (k + 1) t) (before_within k (k + suc j) (k + 1) t (omega arith) (omega arith)))
-      (w, each_arrival (IsWithin k (k + suc j)) (IsFrom k (k + suc j)) (within_admits k (k + suc j)) (behind_event (k + 1) t) (behind_within k (k + suc j) (k + 1) t (omega arith) (omega arith)))
+      each-append (IsInCounts k (k + suc j)) (map admit_event (arrivals_before_event (k + 1) t)) (e ∷ map admit_event (arrivals_behind_event (k + 1) t))
+      (each_arrival (IsInCounts k (k + suc j)) (IsFrom k (k + suc j)) (within_admits k (k + suc j)) (arrivals_before_event (k + 1) t) (before_within k (k + suc j) (k + 1) t (omega arith) (omega arith)))
+      (w, each_arrival (IsInCounts k (k + suc j)) (IsFrom k (k + suc j)) (within_admits k (k + suc j)) (arrivals_behind_event (k + 1) t) (behind_within k (k + suc j) (k + 1) t (omega arith) (omega arith)))
 
 -- the admits of a stretch whose inner arrivals are parted by a test
 pub stretch_counts : (i t : ℕ) (e : Stamped) (found inside before behind : List Arrival) (p : Arrival → Bool) → is_admit e ≡ false → filter p inside ≡ before → filter (λ a. not (p a)) inside ≡ behind
@@ -100,7 +100,7 @@ module _ (given : Setting) (setting : IsSetting given) (R : State → System →
   A = given.arrivals
 
   abbrev first : Step
-  first = seen_at given k m x1
+  first = seen_step_at given k m x1
 
   r : MaskedRun A law.more (k + 1) x1 t x
   r = masked_steps A law.more (k + 1) x1 t x law.steps law.ends
@@ -129,7 +129,7 @@ module _ (given : Setting) (setting : IsSetting given) (R : State → System →
       let w = law.what_is (last_of first r.steps) last_is.0.0 last_is.0.1 in
       subst (λ v. is_admit (stamp k (k + law.more) v) ≡ false) w (stretch_long given.view first (last_of first r.steps)).0
 
-  within : IsWithin k (k + suc law.more) event
+  within : IsInCounts k (k + suc law.more) event
   within =
       let w = law.what_is (last_of first r.steps) last_is.0.0 last_is.0.1 in
       record { begins = omega arith; ordered = omega arith; ends = omega arith; spans = subst (λ v. SpansFor v event) w ((stretch_long given.view first (last_of first r.steps)).1 event) }
@@ -143,29 +143,29 @@ module _ (given : Setting) (setting : IsSetting given) (R : State → System →
   abbrev early_inside : Arrival → Bool
   early_inside = is_early (first ∷ r.steps)
 
-  inside_before : filter early_inside (moments (k + 1) (k + 1 + length r.steps) A) ≡ before_event (k + 1) t
-  inside_before = traced.before ∙ ap (before_event (k + 1)) r.trace
+  inside_before : filter early_inside (moments (k + 1) (k + 1 + length r.steps) A) ≡ arrivals_before_event (k + 1) t
+  inside_before = traced.before ∙ ap (arrivals_before_event (k + 1)) r.trace
 
-  inside_behind : filter (λ a. not (early_inside a)) (moments (k + 1) (k + 1 + length r.steps) A) ≡ behind_event (k + 1) t
-  inside_behind = traced.behind ∙ ap (behind_event (k + 1)) r.trace
+  inside_behind : filter (λ a. not (early_inside a)) (moments (k + 1) (k + 1 + length r.steps) A) ≡ arrivals_behind_event (k + 1) t
+  inside_behind = traced.behind ∙ ap (arrivals_behind_event (k + 1)) r.trace
 
-  in_range : AreOwned (owners_in given.config) (early t) × AreOwned (owners_in given.config) (late t)
+  in_range : AreOwned (owners_in given.config) (early_arrivals t) × AreOwned (owners_in given.config) (late_arrivals t)
   in_range = lines_trace (IsOwned (owners_in given.config)) law.more (k + 1) (lines_at A) x1 t x (owned_at given setting) law.steps
 
   lines_in : (a : List Arrival) → AreOwned (owners_in given.config) (map (λ y. y.line) a) → map (admission given.view) a ≡ map admit_event a
   lines_in = admits_are given setting
 
-  owned_before : AreOwned (owners_in given.config) (map (λ a. a.line) (before_event (k + 1) t))
+  owned_before : AreOwned (owners_in given.config) (map (λ a. a.line) (arrivals_before_event (k + 1) t))
   owned_before = subst (AreOwned (owners_in given.config)) (sym (lines_before (k + 1) t)) in_range.0
 
-  owned_behind : AreOwned (owners_in given.config) (map (λ a. a.line) (behind_event (k + 1) t))
+  owned_behind : AreOwned (owners_in given.config) (map (λ a. a.line) (arrivals_behind_event (k + 1) t))
   owned_behind = subst (AreOwned (owners_in given.config)) (sym (lines_behind (k + 1) t)) in_range.1
 
   -- as the observer lists them
   abbrev listed : List Arrival → List Arrival → List Arrival → Stamped → List Stamped
   listed found before behind e = map (admission given.view) found ++ (map (admission given.view) before ++ (e ∷ map (admission given.view) behind))
 
-  events_are : piece_events given.view A (Stretch (first ∷ r.steps)) ≡ found_by given k ++ others
+  events_are : piece_events given.view A (Stretch (first ∷ r.steps)) ≡ found_events given k ++ others
   events_are =
       let n = last_is.1 in
       let n2 = r.long in
@@ -176,11 +176,11 @@ module _ (given : Setting) (setting : IsSetting given) (R : State → System →
       ap (λ b. listed (moments k (cond b (k + 1) k) A) (filter p (moments (cond b (k + 1) k) ((last_of first r.steps).count + 1) A)) (filter (λ a. not (p a)) (moments (cond b (k + 1) k) ((last_of first r.steps).count + 1) A)) e) law.finds
       ∙ ap (λ v. listed found (filter p (moments (k + 1) v A)) (filter (λ a. not (p a)) (moments (k + 1) v A)) e) last
       ∙ ap (λ v. listed found v (filter (λ a. not (p a)) (moments (k + 1) (k + 1 + length r.steps) A)) e) inside_before
-      ∙ ap (λ v. listed found (before_event (k + 1) t) v e) inside_behind
-      ∙ ap (λ v. listed found (before_event (k + 1) t) (behind_event (k + 1) t) v) event_is
-      ∙ ap (λ v. v ++ (map (admission given.view) (before_event (k + 1) t) ++ (event ∷ map (admission given.view) (behind_event (k + 1) t)))) (lines_in found (owned_at given setting k))
-      ∙ ap (λ v. found_by given k ++ (v ++ (event ∷ map (admission given.view) (behind_event (k + 1) t)))) (lines_in (before_event (k + 1) t) owned_before)
-      ∙ ap (λ v. found_by given k ++ (map admit_event (before_event (k + 1) t) ++ (event ∷ v))) (lines_in (behind_event (k + 1) t) owned_behind)
+      ∙ ap (λ v. listed found (arrivals_before_event (k + 1) t) v e) inside_behind
+      ∙ ap (λ v. listed found (arrivals_before_event (k + 1) t) (arrivals_behind_event (k + 1) t) v) event_is
+      ∙ ap (λ v. v ++ (map (admission given.view) (arrivals_before_event (k + 1) t) ++ (event ∷ map (admission given.view) (arrivals_behind_event (k + 1) t)))) (lines_in found (owned_at given setting k))
+      ∙ ap (λ v. found_events given k ++ (v ++ (event ∷ map (admission given.view) (arrivals_behind_event (k + 1) t)))) (lines_in (arrivals_before_event (k + 1) t) owned_before)
+      ∙ ap (λ v. found_events given k ++ (map admit_event (arrivals_before_event (k + 1) t) ++ (event ∷ v))) (lines_in (arrivals_behind_event (k + 1) t) owned_behind)
 
   abbrev s1 : System
   s1 = with_admits (lines_at A k) s
@@ -188,55 +188,55 @@ module _ (given : Setting) (setting : IsSetting given) (R : State → System →
   s1_booted : s1.booted ≡ true
   s1_booted = booted_admits (lines_at A k) s ∙ s_booted
 
-  lead_others : Leads given.config given.app others s1 (with_admits (late t) law.after)
+  lead_others : Leads given.config given.app others s1 (with_admits (late_arrivals t) law.after)
   lead_others =
-      leads-append given.config given.app (map admit_event (before_event (k + 1) t)) (event ∷ map admit_event (behind_event (k + 1) t)) s1 (with_admits (early t) s1) (with_admits (late t) law.after)
-      (subst (λ a. Leads given.config given.app (map admit_event (before_event (k + 1) t)) s1 (with_admits a s1)) (lines_before (k + 1) t) (leads_admits given.config given.app (before_event (k + 1) t) s1 setting.few_tasks s1_booted owned_before)) (
+      leads-append given.config given.app (map admit_event (arrivals_before_event (k + 1) t)) (event ∷ map admit_event (arrivals_behind_event (k + 1) t)) s1 (with_admits (early_arrivals t) s1) (with_admits (late_arrivals t) law.after)
+      (subst (λ a. Leads given.config given.app (map admit_event (arrivals_before_event (k + 1) t)) s1 (with_admits a s1)) (lines_before (k + 1) t) (leads_admits given.config given.app (arrivals_before_event (k + 1) t) s1 setting.few_tasks s1_booted owned_before)) (
         law.after,
         law.step_is,
-        subst (λ a. Leads given.config given.app (map admit_event (behind_event (k + 1) t)) law.after (with_admits a law.after)) (lines_behind (k + 1) t) (leads_admits given.config given.app (behind_event (k + 1) t) law.after setting.few_tasks after_booted owned_behind),
+        subst (λ a. Leads given.config given.app (map admit_event (arrivals_behind_event (k + 1) t)) law.after (with_admits a law.after)) (lines_behind (k + 1) t) (leads_admits given.config given.app (arrivals_behind_event (k + 1) t) law.after setting.few_tasks after_booted owned_behind),
       )
 
-  follow_others : (past : List Stamped) → Leads given.config given.app past (opening given.config given.app) s1 → Follows given.config given.app past s1 others (with_admits (late t) law.after)
+  follow_others : (past : List Stamped) → Leads given.config given.app past (opening given.config given.app) s1 → Follows given.config given.app past s1 others (with_admits (late_arrivals t) law.after)
   follow_others past h =
-      follows-append given.config given.app past s1 (with_admits (early t) s1) (with_admits (late t) law.after) (map admit_event (before_event (k + 1) t)) (event ∷ map admit_event (behind_event (k + 1) t))
-      (subst (λ a. Follows given.config given.app past s1 (map admit_event (before_event (k + 1) t)) (with_admits a s1)) (lines_before (k + 1) t) (follows_admits given.config given.app past (before_event (k + 1) t) s1 setting.few_tasks s1_booted owned_before)) (
+      follows-append given.config given.app past s1 (with_admits (early_arrivals t) s1) (with_admits (late_arrivals t) law.after) (map admit_event (arrivals_before_event (k + 1) t)) (event ∷ map admit_event (arrivals_behind_event (k + 1) t))
+      (subst (λ a. Follows given.config given.app past s1 (map admit_event (arrivals_before_event (k + 1) t)) (with_admits a s1)) (lines_before (k + 1) t) (follows_admits given.config given.app past (arrivals_before_event (k + 1) t) s1 setting.few_tasks s1_booted owned_before)) (
         law.after,
         law.step_is,
         law.passes past h,
-        subst (λ a. Follows given.config given.app ((past ++ map admit_event (before_event (k + 1) t)) ++ event ∷ []) law.after (map admit_event (behind_event (k + 1) t)) (with_admits a law.after)) (lines_behind (k + 1) t)
-            (follows_admits given.config given.app ((past ++ map admit_event (before_event (k + 1) t)) ++ event ∷ []) (behind_event (k + 1) t) law.after setting.few_tasks after_booted owned_behind),
+        subst (λ a. Follows given.config given.app ((past ++ map admit_event (arrivals_before_event (k + 1) t)) ++ event ∷ []) law.after (map admit_event (arrivals_behind_event (k + 1) t)) (with_admits a law.after)) (lines_behind (k + 1) t)
+            (follows_admits given.config given.app ((past ++ map admit_event (arrivals_before_event (k + 1) t)) ++ event ∷ []) (arrivals_behind_event (k + 1) t) law.after setting.few_tasks after_booted owned_behind),
       )
 
   touching : AllByRecursion (TouchesOnly law.lines) r.steps
   touching = steps_touch A law.lines r.steps (subst (λ u. AllByRecursion (Contains law.lines) (touched_lines u)) (sym r.trace) law.touches)
 
-  short_at : (steps : List Step) → length steps ≤ length r.steps → AllByRecursion (TouchesOnly law.lines) steps → IsShort given.config (first ∷ steps)
+  short_at : (steps : List Step) → length steps ≤ length r.steps → AllByRecursion (TouchesOnly law.lines) steps → AreShort given.config (first ∷ steps)
   short_at steps l h =
       let few = law.few in
       let n = r.long in
       subst (λ beginning. IsShortAt given.config beginning (first ∷ steps)) (sym (begins_later first late_k))
       (omega arith, (law.lines, law.few_lines, All-from_recursion (TouchesOnly law.lines) (first ∷ steps) (law.touches_first, h)))
 
-  counts : (i u : ℕ) → admits_at i u (found_by given k ++ others) ≡ arrivals_at i u (moments k (k + suc (length r.steps)) A)
+  counts : (i u : ℕ) → admits_at i u (found_events given k ++ others) ≡ arrivals_at i u (moments k (k + suc (length r.steps)) A)
   counts i u =
       let n : k + suc (length r.steps) ≡ k + 1 + length r.steps = omega arith in
-      stretch_counts i u event (moments k (k + 1) A) (moments (k + 1) (k + 1 + length r.steps) A) (before_event (k + 1) t) (behind_event (k + 1) t) early_inside other inside_before inside_behind
+      stretch_counts i u event (moments k (k + 1) A) (moments (k + 1) (k + 1 + length r.steps) A) (arrivals_before_event (k + 1) t) (arrivals_behind_event (k + 1) t) early_inside other inside_before inside_behind
       ∙ ap (arrivals_at i u) (sym (moments-split 0 k (k + 1) (k + 1 + length r.steps) A (from_zero A setting.ordered) (omega arith) (omega arith)))
       ∙ ap (λ v. arrivals_at i u (moments k v A)) (sym n)
 
-  keeps : KeepsOrder (moments k (k + suc (length r.steps)) A) (found_by given k ++ others)
+  keeps : KeepsOrder (moments k (k + suc (length r.steps)) A) (found_events given k ++ others)
   keeps =
       let n : k + suc (length r.steps) ≡ k + 1 + length r.steps = omega arith in
       let inside = moments (k + 1) (k + 1 + length r.steps) A in
-      subst (λ v. KeepsOrder (moments k v A) (found_by given k ++ others)) (sym n)
-      (subst (λ v. KeepsOrder v (found_by given k ++ others)) (sym (moments-split 0 k (k + 1) (k + 1 + length r.steps) A (from_zero A setting.ordered) (omega arith) (omega arith)))
-      (orders-append (moments k (k + 1) A) inside (found_by given k) others (admits_order (moments k (k + 1) A))
-      (subst (λ v. KeepsOrder inside (map admit_event v ++ (event ∷ map admit_event (behind_event (k + 1) t)))) inside_before
+      subst (λ v. KeepsOrder (moments k v A) (found_events given k ++ others)) (sym n)
+      (subst (λ v. KeepsOrder v (found_events given k ++ others)) (sym (moments-split 0 k (k + 1) (k + 1 + length r.steps) A (from_zero A setting.ordered) (omega arith) (omega arith)))
+      (orders-append (moments k (k + 1) A) inside (found_events given k) others (admits_order (moments k (k + 1) A))
+      (subst (λ v. KeepsOrder inside (map admit_event v ++ (event ∷ map admit_event (arrivals_behind_event (k + 1) t)))) inside_before
       (subst (λ v. KeepsOrder inside (map admit_event (filter early_inside inside) ++ (event ∷ map admit_event v))) inside_behind
       (parted_order early_inside (λ a. not (early_inside a)) inside event other)))))
 
-  closed_at : (i : ℕ) → 0 < i → i < suc (length r.steps) → (y : State) → after_from i A k m ≡ Some y → y.core.mie ≡ false
+  closed_at : (i : ℕ) → 0 < i → i < suc (length r.steps) → (y : State) → state_after_from i A k m ≡ Some y → y.core.mie ≡ false
   closed_at zero p l y e = absurd (omega arith)
   closed_at (suc i) p l y e =
       let n = r.long in
@@ -247,7 +247,7 @@ module _ (given : Setting) (setting : IsSetting given) (R : State → System →
       let cut = cut_whole r.steps [] first outside flags in
       let long = trace_long law.more (k + 1) (lines_at A) x1 t x law.steps in
       let few = law.few in
-      let most = within_longest given.config (line_to_take (arrived A k m)) in
+      let most = within_longest given.config (line_to_take (state_with_arrivals A k m)) in
       let n = r.long in
       let one : k + 1 ≡ suc k = omega arith in
       record {
@@ -263,7 +263,7 @@ module _ (given : Setting) (setting : IsSetting given) (R : State → System →
         closed = closed_at;
         others = others;
         events = events_are;
-        stamps = subst (λ j. AllByRecursion (IsWithin k (k + suc j)) others) (sym n) (masked_stamps k law.more t event long refl refl other within);
+        stamps = subst (λ j. AllByRecursion (IsInCounts k (k + suc j)) others) (sym n) (masked_stamps k law.more t event long refl refl other within);
         later = masked_later k law.more t event long refl refl other;
         placed = masked_placed k law.more t event long refl refl other;
         counted = counts;
@@ -271,7 +271,7 @@ module _ (given : Setting) (setting : IsSetting given) (R : State → System →
         few = omega arith;
         short = short_at r.steps (omega arith) touching;
         short_front = λ i l. short_at (take i r.steps) (let z = length-take i r.steps in omega arith) (each_step-take (TouchesOnly law.lines) i r.steps touching);
-        after = with_admits (late t) law.after;
+        after = with_admits (late_arrivals t) law.after;
         leads = lead_others;
         follows = follow_others;
         progresses = λ before l. omega arith;

@@ -9,11 +9,11 @@ use Rattle.sloth_base.specs.declared.event.Event.TheVariants as event
 use Rattle.sloth_base.specs.declared.event.Stamped.{Stamped}
 use Rattle.sloth_base.specs.Machine.{State}
 use Rattle.sloth_base.specs.Arrive.{state_arrive}
-use Rattle.sloth_base.specs.Take.{line_to_take, entered}
+use Rattle.sloth_base.specs.Take.{line_to_take, execution_state}
 use Rattle.rv32_instr.specs.Ram.{word_at}
 use Rattle.rv32_instr.specs.Execute.{touched}
-use Rattle.rv32_machine.specs.Run.{arrived}
-use Rattle.masked_code.specs.Trace.{Trace, touched_lines, early, late}
+use Rattle.rv32_machine.specs.Run.{state_with_arrivals}
+use Rattle.masked_code.specs.Trace.{Trace, touched_lines, early_arrivals, late_arrivals}
 use Rattle.observe.specs.Observe.{mark_at, marked_event, service_event, running_task}
 use Rattle.sloth_base.specs.ServiceCodes.{service_of}
 use Rattle.sloth_base.specs.Owners.{first_counter_line, owners_in, AreTasks}
@@ -23,8 +23,8 @@ use Rattle.osek_scheduler.specs.State.{System, task}
 use Rattle.osek_scheduler.specs.Priority.{IsTop}
 use Rattle.osek_scheduler.specs.Steps.{OsekStep}
 use Rattle.osek_scheduler.specs.Runs.{PassesOver, PassesOverArrivals}
-use Rattle.sim_induction.specs.Admits.{Setting, lines_at, with_admits, admit_event, before_event}
-use Rattle.sim_induction.specs.PieceLaws.{StretchLaw, seen_at, served_event}
+use Rattle.sim_induction.specs.Admits.{Setting, lines_at, with_admits, admit_event, arrivals_before_event}
+use Rattle.sim_induction.specs.PieceLaws.{StretchLaw, seen_step_at, served_event}
 use Rattle.std.specs.List.{AllByRecursion}
 use Rattle.sim_induction.proofs.Follow.{booted_admits}
 use Rattle.sim_induction.proofs.Traces.{lines_before}
@@ -33,7 +33,7 @@ use Rattle.sim_induction.proofs.Passing.{passes_inner}
 use Rattle.sim_induction.proofs.Routes.{Masking, begins_masked, opened_event}
 
 -- a stretch that touches no line has no early arrivals
-pub early_none : (t : Trace) → touched_lines t ≡ [] → early t ≡ []
+pub early_none : (t : Trace) → touched_lines t ≡ [] → early_arrivals t ≡ []
 early_none t h = sym (lines_before 0 t) ∙ ap (map (λ a. a.line)) (nothing_before 0 t h)
 
 -- ---- a service
@@ -58,9 +58,9 @@ pub record ServesFrom (given : Setting) (R : State → System → Type 0) (k : �
   -- the beginning
   pub after_boot : 0 < k
   pub enabled : m.core.mie ≡ true
-  pub none : line_to_take (arrived given.arrivals k m) ≡ None
+  pub none : line_to_take (state_with_arrivals given.arrivals k m) ≡ None
   pub mark : Mark
-  pub at_mark : mark_at given.view (entered (arrived given.arrivals k m)).pc ≡ Some mark
+  pub at_mark : mark_at given.view (execution_state (state_with_arrivals given.arrivals k m)).pc ≡ Some mark
   pub opens : mark.kind ≡ kind.Opening
   pub is_called : service_of mark.a ≡ Some called
   -- the task that calls
@@ -73,25 +73,25 @@ pub record ServesFrom (given : Setting) (R : State → System → Type 0) (k : �
   -- the code
   pub short : suc most ≤ stretch_limit given.config Masks
   pub ends : e.end.core.mie ≡ true
-  pub untouched : touched (entered (arrived given.arrivals k m)) ≡ None
+  pub untouched : touched (execution_state (state_with_arrivals given.arrivals k m)) ≡ None
   pub lines : List ℕ
   pub few_lines : length lines ≤ touch_limit given.config Masks
   pub touches : AllByRecursion (Contains lines) (touched_lines e.trace)
   -- the early arrivals are those of tasks
-  pub tasks_alone : AreTasks (owners_in given.config) (early e.trace)
+  pub tasks_alone : AreTasks (owners_in given.config) (early_arrivals e.trace)
   -- the step
   pub after : System
-  pub step_is : OsekStep given.config given.app (served_event t called e.end) (with_admits (early e.trace) (with_admits (lines_at given.arrivals k) s)) after
-  pub related : R (state_arrive (late e.trace) e.last) (with_admits (late e.trace) after)
+  pub step_is : OsekStep given.config given.app (served_event t called e.end) (with_admits (early_arrivals e.trace) (with_admits (lines_at given.arrivals k) s)) after
+  pub related : R (state_arrive (late_arrivals e.trace) e.last) (with_admits (late_arrivals e.trace) after)
 
 -- It is a stretch of a run.
 pub service_law : (given : Setting) (R : State → System → Type 0) (k : ℕ) (m : State) (s : System) (t : ℕ) (called : Service) (most : ℕ)
     (Effect : List ℕ → State → State → Type 0) (e : Masking given.arrivals most k m Effect) → ServesFrom given R k m s t called most Effect e
     → StretchLaw given R k m s e.next e.trace e.end
 service_law given R k m s t called most Effect e h =
-    let n = arrived given.arrivals k m in
+    let n = state_with_arrivals given.arrivals k m in
     let admits = lines_at given.arrivals k in
-    let first = seen_at given k m e.next in
+    let first = seen_step_at given k m e.next in
     record {
       finds = h.enabled;
       goes = e.goes;
@@ -115,10 +115,10 @@ service_law given R k m s t called most Effect e h =
           ∙ ap (λ v. cond (t + 1 == word_at e.end.core.ram 0) (event.Call t called (slice_index v 10)) (event.Left t called)) regs;
       after = h.after;
       step_is = h.step_is;
-      passes = λ past p. both_pass given (past ++ map admit_event (before_event (k + 1) e.trace)) (with_admits (early e.trace) (with_admits admits s)) k t called
+      passes = λ past p. both_pass given (past ++ map admit_event (arrivals_before_event (k + 1) e.trace)) (with_admits (early_arrivals e.trace) (with_admits admits s)) k t called
           (slice_index e.end.core.registers 10) (t + 1 == word_at e.end.core.ram 0)
           (passes_inner given.config given.app past k t (with_admits admits s) e.trace h.few_tasks p (booted_admits admits s ∙ h.booted) h.tasks_alone h.top h.active);
-      related = subst (λ x. R x (with_admits (late e.trace) h.after)) (sym e.late_behind) h.related;
+      related = subst (λ x. R x (with_admits (late_arrivals e.trace) h.after)) (sym e.late_behind) h.related;
     }
 
 -- ---- which event it is

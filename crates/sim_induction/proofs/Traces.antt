@@ -11,25 +11,25 @@ use Rattle.sloth_base.specs.Options.{is_number}
 use Rattle.std.proofs.lemmas.Bool.{eqb-true}
 use Rattle.rv32_instr.specs.Execute.{touched}
 use Rattle.masked_code.specs.Masked.{Steps}
-use Rattle.masked_code.specs.Trace.{Entry, Trace, is_touched_line, touched_of, untouched_of, touched_lines, lines_of, early, late}
+use Rattle.masked_code.specs.Trace.{Entry, Trace, is_touched_line, touched_lines_of, untouched_lines_of, touched_lines, lines_of, early_arrivals, late_arrivals}
 use Rattle.sim_induction.specs.Short.{TouchesOnly}
-use Rattle.sim_induction.specs.Admits.{at_moment, before_event, behind_event}
+use Rattle.sim_induction.specs.Admits.{arrivals_at_moment, arrivals_before_event, arrivals_behind_event}
 use Rattle.sim_induction.specs.Observed.{trace_of, AreFrom, AreBefore, IsTraced}
 use Rattle.std.specs.List.{AllByRecursion}
 use Rattle.sim_induction.proofs.Schedule.{lines_back}
 use Rattle.sim_induction.proofs.Early.{early_is, late_is}
 
-pub lines_before : (k : ℕ) (t : Trace) → map (λ a. a.line) (before_event k t) ≡ early t
+pub lines_before : (k : ℕ) (t : Trace) → map (λ a. a.line) (arrivals_before_event k t) ≡ early_arrivals t
 lines_before k [] = refl
 lines_before k (e ∷ t) =
-    map-append (λ (a : Arrival). a.line) (at_moment k (touched_of (e ∷ t) e.0)) (before_event (k + 1) t)
-    ∙ ap (λ u. u ++ map (λ a. a.line) (before_event (k + 1) t)) (lines_back k (touched_of (e ∷ t) e.0)) ∙ ap (λ u. touched_of (e ∷ t) e.0 ++ u) (lines_before (k + 1) t)
+    map-append (λ (a : Arrival). a.line) (arrivals_at_moment k (touched_lines_of (e ∷ t) e.0)) (arrivals_before_event (k + 1) t)
+    ∙ ap (λ u. u ++ map (λ a. a.line) (arrivals_before_event (k + 1) t)) (lines_back k (touched_lines_of (e ∷ t) e.0)) ∙ ap (λ u. touched_lines_of (e ∷ t) e.0 ++ u) (lines_before (k + 1) t)
 
-pub lines_behind : (k : ℕ) (t : Trace) → map (λ a. a.line) (behind_event k t) ≡ late t
+pub lines_behind : (k : ℕ) (t : Trace) → map (λ a. a.line) (arrivals_behind_event k t) ≡ late_arrivals t
 lines_behind k [] = refl
 lines_behind k (e ∷ t) =
-    map-append (λ (a : Arrival). a.line) (at_moment k (untouched_of (e ∷ t) e.0)) (behind_event (k + 1) t)
-    ∙ ap (λ u. u ++ map (λ a. a.line) (behind_event (k + 1) t)) (lines_back k (untouched_of (e ∷ t) e.0)) ∙ ap (λ u. untouched_of (e ∷ t) e.0 ++ u) (lines_behind (k + 1) t)
+    map-append (λ (a : Arrival). a.line) (arrivals_at_moment k (untouched_lines_of (e ∷ t) e.0)) (arrivals_behind_event (k + 1) t)
+    ∙ ap (λ u. u ++ map (λ a. a.line) (arrivals_behind_event (k + 1) t)) (lines_back k (untouched_lines_of (e ∷ t) e.0)) ∙ ap (λ u. untouched_lines_of (e ∷ t) e.0 ++ u) (lines_behind (k + 1) t)
 
 pub is_traced : (arrivals : List Arrival) → NeverFalls 0 arrivals → (k : ℕ) (done steps : List Step) → AreBefore k done → AreFrom k steps → IsTraced arrivals k done steps
 is_traced arrivals up k done steps b f = record {
@@ -50,18 +50,18 @@ module _ (P : ℕ → Type 0) where
   pick true x u v l p q = ((l, p), q)
   pick false x u v l p q = (p, (l, q))
 
-  lines_parted : (t : Trace) (a : List ℕ) → AllByRecursion P a → AllByRecursion P (touched_of t a) × AllByRecursion P (untouched_of t a)
+  lines_parted : (t : Trace) (a : List ℕ) → AllByRecursion P a → AllByRecursion P (touched_lines_of t a) × AllByRecursion P (untouched_lines_of t a)
   lines_parted t [] h = (tt, tt)
-  lines_parted t (x ∷ a) h = let r = lines_parted t a h.1 in pick (is_touched_line t x) x (touched_of t a) (untouched_of t a) h.0 r.0 r.1
+  lines_parted t (x ∷ a) h = let r = lines_parted t a h.1 in pick (is_touched_line t x) x (touched_lines_of t a) (untouched_lines_of t a) h.0 r.0 r.1
 
-  pub lines_trace : (j k : ℕ) (A : ℕ → List ℕ) (m : State) (t : Trace) (x : State) → ((i : ℕ) → AllByRecursion P (A i)) → Steps j k A m t x → AllByRecursion P (early t) × AllByRecursion P (late t)
-  lines_trace zero k A m t x b h = subst (λ u. AllByRecursion P (early u) × AllByRecursion P (late u)) (sym h.0) (tt, tt)
+  pub lines_trace : (j k : ℕ) (A : ℕ → List ℕ) (m : State) (t : Trace) (x : State) → ((i : ℕ) → AllByRecursion P (A i)) → Steps j k A m t x → AllByRecursion P (early_arrivals t) × AllByRecursion P (late_arrivals t)
+  lines_trace zero k A m t x b h = subst (λ u. AllByRecursion P (early_arrivals u) × AllByRecursion P (late_arrivals u)) (sym h.0) (tt, tt)
   lines_trace (suc j) k A m t x b h =
       let r = lines_trace j (suc k) A h.1 h.3.0 x b h.3.2 in
       let e : Entry = (A k, touched (state_arrive (A k) m)) in
       let w = lines_parted (e ∷ h.3.0) (A k) (b k) in
-      subst (λ u. AllByRecursion P (early u) × AllByRecursion P (late u)) (sym h.3.1)
-      (lines-append (touched_of (e ∷ h.3.0) (A k)) (early h.3.0) w.0 r.0, lines-append (untouched_of (e ∷ h.3.0) (A k)) (late h.3.0) w.1 r.1)
+      subst (λ u. AllByRecursion P (early_arrivals u) × AllByRecursion P (late_arrivals u)) (sym h.3.1)
+      (lines-append (touched_lines_of (e ∷ h.3.0) (A k)) (early_arrivals h.3.0) w.0 r.0, lines-append (untouched_lines_of (e ∷ h.3.0) (A k)) (late_arrivals h.3.0) w.1 r.1)
 
 -- ---- what holds of each line that is touched holds of the early ones
 
@@ -83,18 +83,18 @@ module _ (P : ℕ → Type 0) where
   kept true line u p h = (p refl, h)
   kept false line u p h = h
 
-  part_touched : (t : Trace) (a : List ℕ) → AllByRecursion P (touched_lines t) → AllByRecursion P (touched_of t a)
+  part_touched : (t : Trace) (a : List ℕ) → AllByRecursion P (touched_lines t) → AllByRecursion P (touched_lines_of t a)
   part_touched t [] h = tt
-  part_touched t (line ∷ a) h = kept (is_touched_line t line) line (touched_of t a) (of_touched t line h) (part_touched t a h)
+  part_touched t (line ∷ a) h = kept (is_touched_line t line) line (touched_lines_of t a) (of_touched t line h) (part_touched t a h)
 
   rest_touched : (o : Option ℕ) (rest : List ℕ) → AllByRecursion P (lines_of o rest) → AllByRecursion P rest
   rest_touched None rest h = h
   rest_touched (Some line) rest h = h.1
 
-  pub early_touched : (t : Trace) → AllByRecursion P (touched_lines t) → AllByRecursion P (early t)
+  pub early_touched : (t : Trace) → AllByRecursion P (touched_lines t) → AllByRecursion P (early_arrivals t)
   early_touched [] h = tt
   early_touched (e ∷ t) h =
-      lines-append P (touched_of (e ∷ t) e.0) (early t) (part_touched (e ∷ t) e.0 h) (early_touched t (rest_touched e.1 (touched_lines t) h))
+      lines-append P (touched_lines_of (e ∷ t) e.0) (early_arrivals t) (part_touched (e ∷ t) e.0 h) (early_touched t (rest_touched e.1 (touched_lines t) h))
 
 -- ---- the lines that the steps touch
 

@@ -8,19 +8,19 @@ use Rattle.sloth_base.specs.declared.event.Arrival.{Arrival}
 use Rattle.sloth_base.specs.declared.event.Stamped.{Stamped}
 use Rattle.sloth_base.specs.Machine.{State}
 use Rattle.sloth_base.specs.Arrivals.{moments}
-use Rattle.rv32_machine.specs.Run.{after_from}
+use Rattle.rv32_machine.specs.Run.{state_after_from}
 use Rattle.rv32_machine.specs.Start.{start}
 use Rattle.rv32_machine.proofs.Runs.{stop_none}
-use Rattle.observe.specs.Pieces.{Piece, pieces, cut_off}
+use Rattle.observe.specs.Pieces.{Piece, pieces, cut_off_steps}
 use Rattle.std.specs.List.{AllByRecursion}
 use Rattle.observe.specs.Observe.{view_of_image}
 use Rattle.osek_scheduler.specs.State.{System, opening}
 use Rattle.osek_scheduler.specs.Runs.{Follows}
-use Rattle.osek_scheduler.specs.InTime.{InTime, IsStamped, is_admit, admits_at, arrivals_at, IsOrdered, KeepsOrder, longest_cut_off}
-use Rattle.sim_induction.specs.Short.{Short, IsShort, IsShortPiece, HasShortGaps}
-use Rattle.sim_induction.specs.Sound.{SoundRun}
+use Rattle.osek_scheduler.specs.InTime.{InTime, IsStamped, is_admit, admits_at, arrivals_at, IsOrdered, KeepsOrder, longest_cut_off_stretch}
+use Rattle.sim_induction.specs.Short.{Short, AreShort, IsShortPiece, HasShortGaps}
+use Rattle.sim_induction.specs.Sound.{IsSoundRun}
 use Rattle.sim_induction.specs.Admits.{Setting, IsSetting}
-use Rattle.sim_induction.specs.Advances.{EachPair, IsWithin}
+use Rattle.sim_induction.specs.Advances.{EachPair, IsInCounts}
 use Rattle.sim_induction.specs.Related.{IsSimulation}
 use Rattle.sim_induction.proofs.Events.{each_map}
 use Rattle.std.proofs.lemmas.List.Elements.{All-from_recursion}
@@ -32,20 +32,20 @@ use Rattle.sim_induction.proofs.RunFrom.{events_from, ReachedAt}
 
 pub record WholeRun (given : Setting) (R : State → System → Type 0) (n : ℕ) (m : State) : Type 0 where
   pub end : State
-  pub whole : after_from n given.arrivals 0 m ≡ Some end
+  pub whole : state_after_from n given.arrivals 0 m ≡ Some end
   pub last : System
   pub follows : Follows given.config given.app [] (opening given.config given.app) (events_from given n 0 m) last
-  pub within : AllByRecursion (IsWithin 0 n) (events_from given n 0 m)
+  pub within : AllByRecursion (IsInCounts 0 n) (events_from given n 0 m)
   pub placed : EachPair IsOrdered (events_from given n 0 m)
   pub to : ℕ
-  pub to_in : (to ≤ n) × (n < to + longest_cut_off given.config (events_from given n 0 m))
+  pub to_in : (to ≤ n) × (n < to + longest_cut_off_stretch given.config (events_from given n 0 m))
   pub ends : AllByRecursion (λ e. is_admit e ≡ false → e.stamp.at < to) (events_from given n 0 m)
   pub counted : (i t : ℕ) → admits_at i t (events_from given n 0 m) ≡ arrivals_at i t (moments 0 to given.arrivals)
   pub keeps : KeepsOrder (moments 0 to given.arrivals) (events_from given n 0 m)
   pub short : AllByRecursion (IsShortPiece given.config) (pieces [] (steps_from n given.arrivals 0 m))
-  pub short_cut : IsShort given.config (cut_off [] (steps_from n given.arrivals 0 m))
+  pub short_cut : AreShort given.config (cut_off_steps [] (steps_from n given.arrivals 0 m))
   pub gaps : HasShortGaps given.view 0 (pieces [] (steps_from n given.arrivals 0 m))
-  pub mirrors : (i : ℕ) → i < n → (x : State) → after_from i given.arrivals 0 m ≡ Some x → x.core.mie ≡ true → ReachedAt given R (events_from given n 0 m) (opening given.config given.app) i x
+  pub mirrors : (i : ℕ) → i < n → (x : State) → state_after_from i given.arrivals 0 m ≡ Some x → x.core.mie ≡ true → ReachedAt given R (events_from given n 0 m) (opening given.config given.app) i x
 
 all_pieces : (P : Piece → Type 0) (a : List Piece) → AllByRecursion P a → All P a
 all_pieces P [] h k d lt = absurd (omega arith)
@@ -62,7 +62,7 @@ pub in_time : (given : Setting) → IsSetting given → (R : State → System �
 in_time given setting R n m w =
     let events = events_from given n 0 m in
     record {
-      stamped = All-from_recursion (IsStamped n) events (each_map (IsWithin 0 n) (IsStamped n) (λ e h. record { ordered = h.ordered; spans = h.spans; below = h.ends }) events w.within);
+      stamped = All-from_recursion (IsStamped n) events (each_map (IsInCounts 0 n) (IsStamped n) (λ e h. record { ordered = h.ordered; spans = h.spans; below = h.ends }) events w.within);
       placed = all_pairs IsOrdered events w.placed;
       in_order = order_within (λ a. nat_le 0 a.at && nat_lt a.at w.to) given.arrivals events w.keeps;
       admitted = left_out given.config n w.to given.arrivals events (from_zero given.arrivals setting.ordered) w.to_in.0 w.counted w.ends w.to_in.1;
@@ -81,7 +81,7 @@ setting_of config app image arrivals = record { config = config; app = app; view
 
 pub sound_of : (config : Config) (app : App) (image : Image) (arrivals : List Arrival) (R : State → System → Type 0) (progress : State → System → ℕ)
     → IsSetting (setting_of config app image arrivals) → IsSimulation (setting_of config app image arrivals) R progress → (n : ℕ) → WholeRun (setting_of config app image arrivals) R n (start image)
-    → SoundRun config app image arrivals n
+    → IsSoundRun config app image arrivals n
 sound_of config app image arrivals R progress setting simulation n w = record {
   whole = stop_none n arrivals 0 (start image) w.end w.whole;
   osek = (w.last, w.follows);

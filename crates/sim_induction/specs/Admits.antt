@@ -10,8 +10,8 @@ use Rattle.sloth_base.specs.Arrivals.{moments, NeverFalls}
 use Rattle.sloth_base.specs.Owners.{first_counter_line, owners_in, IsOwned}
 use Rattle.observe.specs.Observe.{View, stamp}
 use Rattle.osek_scheduler.specs.State.{System}
-use Rattle.osek_scheduler.specs.Steps.{admitted_state, made_due}
-use Rattle.masked_code.specs.Trace.{Trace, touched_of, untouched_of}
+use Rattle.osek_scheduler.specs.Steps.{admitted_state, due_state}
+use Rattle.masked_code.specs.Trace.{Trace, touched_lines_of, untouched_lines_of}
 
 -- what is fixed in a run: the system, what the run is observed by, and what arrives
 pub record Setting : Type 0 where
@@ -37,7 +37,7 @@ line_event line = if nat_lt line first_counter_line then event.Admit line else e
 
 -- the system after the line arrived
 abbrev pub with_arrival : ℕ → System → System
-with_arrival line s = if nat_lt line first_counter_line then admitted_state line s else made_due (line - first_counter_line) s
+with_arrival line s = if nat_lt line first_counter_line then admitted_state line s else due_state (line - first_counter_line) s
 
 -- the same after these lines, in order
 abbrev pub with_admits : List ℕ → System → System
@@ -49,16 +49,16 @@ abbrev pub admit_event : Arrival → Stamped
 admit_event a = stamp a.at a.at (line_event a.line)
 
 -- the arrivals of these lines at a moment
-abbrev pub at_moment : ℕ → List ℕ → List Arrival
-at_moment count lines = map (λ line. record { at = count; line = line }) lines
+abbrev pub arrivals_at_moment : ℕ → List ℕ → List Arrival
+arrivals_at_moment count lines = map (λ line. record { at = count; line = line }) lines
 
 -- Of the arrivals inside a stretch whose first instruction is that of the count: those whose line that instruction or a later
 -- one of the stretch touches stand before its event, and the others behind it.
-abbrev pub before_event : ℕ → Trace → List Arrival
-before_event count [] = []
-before_event count (entry ∷ trace) = at_moment count (touched_of (entry ∷ trace) entry.0) ++ before_event (count + 1) trace
+abbrev pub arrivals_before_event : ℕ → Trace → List Arrival
+arrivals_before_event count [] = []
+arrivals_before_event count (entry ∷ trace) = arrivals_at_moment count (touched_lines_of (entry ∷ trace) entry.0) ++ arrivals_before_event (count + 1) trace
 
 -- the arrivals of a trace that stand behind the stretch's event, from this count on
-abbrev pub behind_event : ℕ → Trace → List Arrival
-behind_event count [] = []
-behind_event count (entry ∷ trace) = at_moment count (untouched_of (entry ∷ trace) entry.0) ++ behind_event (count + 1) trace
+abbrev pub arrivals_behind_event : ℕ → Trace → List Arrival
+arrivals_behind_event count [] = []
+arrivals_behind_event count (entry ∷ trace) = arrivals_at_moment count (untouched_lines_of (entry ∷ trace) entry.0) ++ arrivals_behind_event (count + 1) trace

@@ -8,13 +8,13 @@ use Rattle.sloth_base.specs.Machine.{State}
 use Rattle.sloth_base.specs.Arrivals.{moments}
 use Rattle.sloth_base.specs.Stretches.{longest_stretch}
 use Rattle.rv32_machine.specs.Advance.{Goes}
-use Rattle.rv32_machine.specs.Run.{moment, after_from}
-use Rattle.observe.specs.Pieces.{Piece, pieces, cut_off}
+use Rattle.rv32_machine.specs.Run.{moment, state_after_from}
+use Rattle.observe.specs.Pieces.{Piece, pieces, cut_off_steps}
 use Rattle.observe.specs.Observe.{piece_events}
 use Rattle.osek_scheduler.specs.State.{System, opening}
 use Rattle.osek_scheduler.specs.Runs.{Leads, Follows}
 use Rattle.osek_scheduler.specs.InTime.{is_admit, admits_at, arrivals_at, SpansFor, IsOrdered, KeepsOrder}
-use Rattle.sim_induction.specs.Short.{IsShort, IsShortPiece, passed_length}
+use Rattle.sim_induction.specs.Short.{AreShort, IsShortPiece, passed_length}
 use Rattle.sim_induction.specs.Admits.{Setting, lines_at, with_admits, admit_event}
 
 -- the instructions of the counts from this one on lead by these steps from the first state to the last
@@ -30,15 +30,15 @@ EachPair P [] = Unit {0}
 EachPair P (e ∷ events) = AllByRecursion (P e) events × EachPair P events
 
 -- an event of the counts from one to below another
-pub record IsWithin (from to : ℕ) (e : Stamped) : Type 0 where
+pub record IsInCounts (from to : ℕ) (e : Stamped) : Type 0 where
   pub begins : from ≤ e.stamp.from
   pub ordered : e.stamp.from ≤ e.stamp.at
   pub ends : e.stamp.at < to
   pub spans : SpansFor e.event e
 
 -- the arrivals of the first count
-abbrev pub found_by : Setting → ℕ → List Stamped
-found_by given count = map admit_event (moments count (count + 1) given.arrivals)
+abbrev pub found_events : Setting → ℕ → List Stamped
+found_events given count = map admit_event (moments count (count + 1) given.arrivals)
 
 -- The relation R is one between the states at counts that find MIE 1, before the arrivals of the count. The piece that begins at
 -- the count ends at the next such count; its events are steps of the abstract scheduler, and the states are related again.
@@ -49,20 +49,20 @@ pub record Advances (given : Setting) (R : State → System → Type 0) (progres
   pub runs : RunTo given.arrivals (suc (length rest)) count state (first ∷ rest) next
   pub piece : Piece
   pub pieces_are : pieces [] (first ∷ rest) ≡ piece ∷ []
-  pub cut_is : cut_off [] (first ∷ rest) ≡ []
-  pub unfinished : (n : ℕ) → n < length rest → (pieces [] (first ∷ take n rest) ≡ []) × (cut_off [] (first ∷ take n rest) ≡ first ∷ take n rest)
+  pub cut_is : cut_off_steps [] (first ∷ rest) ≡ []
+  pub unfinished : (n : ℕ) → n < length rest → (pieces [] (first ∷ take n rest) ≡ []) × (cut_off_steps [] (first ∷ take n rest) ≡ first ∷ take n rest)
   pub finds : (first.count ≡ count) × (length rest ≡ 0 ⊎ (first.enabled_before ≡ true))
-  pub closed : (i : ℕ) → 0 < i → i < suc (length rest) → (inside : State) → after_from i given.arrivals count state ≡ Some inside → inside.core.mie ≡ false
+  pub closed : (i : ℕ) → 0 < i → i < suc (length rest) → (inside : State) → state_after_from i given.arrivals count state ≡ Some inside → inside.core.mie ≡ false
   pub others : List Stamped
-  pub events : piece_events given.view given.arrivals piece ≡ found_by given count ++ others
-  pub stamps : AllByRecursion (IsWithin count (count + suc (length rest))) others
+  pub events : piece_events given.view given.arrivals piece ≡ found_events given count ++ others
+  pub stamps : AllByRecursion (IsInCounts count (count + suc (length rest))) others
   pub later : AllByRecursion (λ e. is_admit e ≡ true → count < e.stamp.at) others
   pub placed : EachPair IsOrdered others
-  pub counted : (i t : ℕ) → admits_at i t (found_by given count ++ others) ≡ arrivals_at i t (moments count (count + suc (length rest)) given.arrivals)
-  pub keeps : KeepsOrder (moments count (count + suc (length rest)) given.arrivals) (found_by given count ++ others)
+  pub counted : (i t : ℕ) → admits_at i t (found_events given count ++ others) ≡ arrivals_at i t (moments count (count + suc (length rest)) given.arrivals)
+  pub keeps : KeepsOrder (moments count (count + suc (length rest)) given.arrivals) (found_events given count ++ others)
   pub few : length rest < longest_stretch given.config
   pub short : IsShortPiece given.config piece
-  pub short_front : (n : ℕ) → n < length rest → IsShort given.config (first ∷ take n rest)
+  pub short_front : (n : ℕ) → n < length rest → AreShort given.config (first ∷ take n rest)
   pub after : System
   pub leads : Leads given.config given.app others (with_admits (lines_at given.arrivals count) s) after
   pub follows : (past : List Stamped) → Leads given.config given.app past (opening given.config given.app) (with_admits (lines_at given.arrivals count) s)

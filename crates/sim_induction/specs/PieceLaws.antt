@@ -8,28 +8,28 @@ use Rattle.sloth_base.specs.declared.service.Service.{Service}
 use Rattle.sloth_base.specs.declared.step.Step.{Step}
 use Rattle.sloth_base.specs.Machine.{State}
 use Rattle.sloth_base.specs.Stretches.{Beginning, Boots, later_beginning, stretch_limit, touch_limit}
-use Rattle.sloth_base.specs.Take.{entered, line_to_take}
+use Rattle.sloth_base.specs.Take.{execution_state, line_to_take}
 use Rattle.rv32_instr.specs.Ram.{word_at}
 use Rattle.rv32_instr.specs.Execute.{Going, step}
 use Rattle.rv32_machine.specs.Advance.{seen_step}
-use Rattle.rv32_machine.specs.Run.{arrived}
+use Rattle.rv32_machine.specs.Run.{state_with_arrivals}
 use Rattle.masked_code.specs.Masked.{Steps}
-use Rattle.masked_code.specs.Trace.{Trace, touched_lines, early, late}
+use Rattle.masked_code.specs.Trace.{Trace, touched_lines, early_arrivals, late_arrivals}
 use Rattle.observe.specs.Pieces.{begins}
 use Rattle.observe.specs.Observe.{stretch_event, outside_events, mark_at}
 use Rattle.osek_scheduler.specs.State.{System, opening}
 use Rattle.osek_scheduler.specs.Steps.{OsekStep}
 use Rattle.osek_scheduler.specs.Runs.{Leads, PassesOverArrivals}
 use Rattle.sim_induction.specs.Short.{TouchesOnly}
-use Rattle.sim_induction.specs.Admits.{Setting, lines_at, with_admits, admit_event, before_event}
+use Rattle.sim_induction.specs.Admits.{Setting, lines_at, with_admits, admit_event, arrivals_before_event}
 
 -- what is seen of the instruction of a count that leads from this state to the next
-abbrev pub seen_at : Setting → ℕ → State → State → Step
-seen_at given count state next = seen_step count (arrived given.arrivals count state) next
+abbrev pub seen_step_at : Setting → ℕ → State → State → Step
+seen_step_at given count state next = seen_step count (state_with_arrivals given.arrivals count state) next
 
 -- how a stretch behind boot begins at a count
 abbrev pub beginning_at : Setting → ℕ → State → Beginning
-beginning_at given count state = later_beginning (line_to_take (arrived given.arrivals count state))
+beginning_at given count state = later_beginning (line_to_take (state_with_arrivals given.arrivals count state))
 
 -- the event of a service: a call with the status in a0, where its caller still runs; else the caller left
 abbrev pub served_event : (task : ℕ) → Service → State → Event
@@ -42,8 +42,8 @@ served_event t served end =
 pub record StretchLaw (given : Setting) (R : State → System → Type 0) (count : ℕ) (state : State) (s : System)
     (next : State) (trace : Trace) (end : State) : Type 0 where
   pub finds : state.core.mie ≡ true
-  pub goes : step (entered (arrived given.arrivals count state)) ≡ Going next
-  pub starts : begins (seen_at given count state next) ≡ true
+  pub goes : step (execution_state (state_with_arrivals given.arrivals count state)) ≡ Going next
+  pub starts : begins (seen_step_at given count state next) ≡ true
   pub more : ℕ
   pub few : suc more ≤ stretch_limit given.config (beginning_at given count state)
   pub steps : Steps more (count + 1) (lines_at given.arrivals) next trace end
@@ -51,17 +51,17 @@ pub record StretchLaw (given : Setting) (R : State → System → Type 0) (count
   -- the lines that it may touch
   pub lines : List ℕ
   pub few_lines : length lines ≤ touch_limit given.config (beginning_at given count state)
-  pub touches_first : TouchesOnly lines (seen_at given count state next)
+  pub touches_first : TouchesOnly lines (seen_step_at given count state next)
   pub touches : AllByRecursion (Contains lines) (touched_lines trace)
   pub what : Event
   pub what_is : (last : Step) → last.regs ≡ end.core.registers → last.cur_after ≡ word_at end.core.ram 0
-      → stretch_event given.view (seen_at given count state next) last ≡ what
+      → stretch_event given.view (seen_step_at given count state next) last ≡ what
   pub after : System
-  pub step_is : OsekStep given.config given.app what (with_admits (early trace) (with_admits (lines_at given.arrivals count) s)) after
+  pub step_is : OsekStep given.config given.app what (with_admits (early_arrivals trace) (with_admits (lines_at given.arrivals count) s)) after
   pub passes : (past : List Stamped) → Leads given.config given.app past (opening given.config given.app) (with_admits (lines_at given.arrivals count) s)
-      → PassesOverArrivals given.config given.app (past ++ map admit_event (before_event (count + 1) trace))
-      (with_admits (early trace) (with_admits (lines_at given.arrivals count) s)) count what
-  pub related : R end (with_admits (late trace) after)
+      → PassesOverArrivals given.config given.app (past ++ map admit_event (arrivals_before_event (count + 1) trace))
+      (with_admits (early_arrivals trace) (with_admits (lines_at given.arrivals count) s)) count what
+  pub related : R end (with_admits (late_arrivals trace) after)
 
 -- what an instruction outside the stretches shows: nothing, or one event, which is a step
 abbrev pub Shows : Setting → List Event → System → System → Type 0
@@ -72,11 +72,11 @@ Shows given (what ∷ other ∷ more) s after = ⊥
 -- an instruction outside the stretches, at a count that finds MIE 1; where it shows nothing, it makes progress
 pub record OutsideLaw (given : Setting) (R : State → System → Type 0) (progress : State → System → ℕ)
     (count : ℕ) (state : State) (s : System) (next : State) : Type 0 where
-  pub goes : step (entered (arrived given.arrivals count state)) ≡ Going next
-  pub outside : begins (seen_at given count state next) ≡ false
-  pub untouched : TouchesOnly [] (seen_at given count state next)
+  pub goes : step (execution_state (state_with_arrivals given.arrivals count state)) ≡ Going next
+  pub outside : begins (seen_step_at given count state next) ≡ false
+  pub untouched : TouchesOnly [] (seen_step_at given count state next)
   pub whats : List Event
-  pub whats_are : outside_events (mark_at given.view (seen_at given count state next).pc) given.view (seen_at given count state next) ≡ whats
+  pub whats_are : outside_events (mark_at given.view (seen_step_at given count state next).pc) given.view (seen_step_at given count state next) ≡ whats
   pub after : System
   pub shows : Shows given whats (with_admits (lines_at given.arrivals count) s) after
   pub progresses : whats ≡ [] → progress state s < progress next after
@@ -93,4 +93,4 @@ pub record BootLaw (given : Setting) (R : State → System → Type 0) (state : 
   pub untouched : touched_lines trace ≡ []
   pub after : System
   pub step_is : OsekStep given.config given.app event.Boot (opening given.config given.app) after
-  pub related : R end (with_admits (late trace) after)
+  pub related : R end (with_admits (late_arrivals trace) after)

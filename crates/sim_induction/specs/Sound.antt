@@ -9,7 +9,7 @@ use Rattle.sloth_base.specs.Machine.{State}
 use Rattle.sloth_base.specs.Arrivals.{AreArrivals}
 use Rattle.sloth_base.specs.Owners.{owners_in}
 use Rattle.rv32_machine.specs.Start.{start}
-use Rattle.rv32_machine.specs.Run.{run, steps_of, state_after, stop_of, arrived}
+use Rattle.rv32_machine.specs.Run.{run, steps_of, state_after, stop_of, state_with_arrivals}
 use Rattle.observe.specs.Observe.{view_of_image, observe}
 use Rattle.osek_scheduler.specs.State.{System, opening}
 use Rattle.osek_scheduler.specs.Runs.{OsekRun, Leads}
@@ -30,16 +30,16 @@ abbrev pub MirrorsAt : Config → App → List Stamped → State → Type 0
 MirrorsAt config app events state = (s : System) × Leads config app events (opening config app) s × Mirror config state.core s
 
 -- the events of a run are a run of the abstract scheduler
-pub record SoundRun (config : Config) (app : App) (image : Image) (arrivals : List Arrival) (n : ℕ) : Type 0 where
+pub record IsSoundRun (config : Config) (app : App) (image : Image) (arrivals : List Arrival) (n : ℕ) : Type 0 where
   -- the image executes so many instructions
   pub whole : stop_of n arrivals (start image) ≡ None
   pub osek : OsekRun config app (events_of image arrivals n)
   pub in_time : InTime config n arrivals (events_of image arrivals n)
   pub short : Short config (view_of_image image) (steps_of (run n arrivals (start image)))
   pub mirrors : (count : ℕ) (state : State) → count < n → state_after count arrivals (start image) ≡ Some state → state.core.mie ≡ true
-      → MirrorsAt config app (filter (stands_before count) (events_of image arrivals n)) (arrived arrivals count state)
+      → MirrorsAt config app (filter (stands_before count) (events_of image arrivals n)) (state_with_arrivals arrivals count state)
 
 -- for every list of arrivals and every number of instructions; the image has the names of the counters
 pub record Sound (config : Config) (app : App) (image : Image) : Type 0 where
   pub counters : image.counters ≡ map (λ c. c.name) config.counters
-  pub each : (arrivals : List Arrival) (n : ℕ) → AreArrivals (owners_in config) arrivals → n ≤ 1000000 → SoundRun config app image arrivals n
+  pub each : (arrivals : List Arrival) (n : ℕ) → AreArrivals (owners_in config) arrivals → n ≤ 1000000 → IsSoundRun config app image arrivals n

@@ -2,7 +2,7 @@
 use Rattle.std.proofs.Common.{◌≡◌, ℕ, ◌+◌, ◌-◌, ◌%◌, ◌≤◌, ℤ, List, get_or, set, refl, ap, ◌∙◌, arith, cond, Option, None}
 use Rattle.std.specs.Prelude.{true, false, Bool, eqb, slice_index}
 use Rattle.std.proofs.lemmas.Bool.{eq-eqb}
-use Rattle.sloth_base.specs.Arithmetic.{size_of, extended_number, plus, sign_extended}
+use Rattle.sloth_base.specs.Arithmetic.{size_of, extended_number, plus, sign_extension}
 use Rattle.sloth_base.specs.declared.app.Width.{Width}
 use Rattle.sloth_base.specs.declared.app.Width.TheVariants as width
 use Rattle.sloth_base.specs.Machine.{Core}
@@ -11,7 +11,7 @@ use Rattle.rv32_instr.specs.Access.{load, store}
 use Rattle.rv32_instr.specs.Ram.{half_at, word_at, with_half, with_word}
 use Rattle.rv32_instr.specs.Memory.{memory_of, with_memory, refusal, loaded_number, stored_memory}
 use Rattle.rv32_instr.specs.Effect.{effect}
-use Rattle.rv32_instr.specs.Execute.{perform, touched_by, goes_on, unless_refused, with_register}
+use Rattle.rv32_instr.specs.Execute.{perform, touched_line_by, goes_on, unless_refused, with_register}
 use Rattle.masked_code.proofs.Machine.{in_ram_at}
 use Rattle.masked_code.proofs.Perform.{no_line}
 use Rattle.sim_items.proofs.Bytes.{with_bytes, number_at, low_bytes}
@@ -57,8 +57,8 @@ byte_number ram o = omega arith
 
 gives : (c : Core) (w : Width) (o : ℕ) → o + size_of w ≤ 0x20_0000 → loaded_number (memory_of c) (0x8000_0000 + o) w ≡ extended_number w (number_at c.ram o (size_of w))
 unfolding loaded_number
-gives c width.Byte o l = rw (in_ram_at (0x8000_0000 + o) 1 (omega arith) (omega arith), base o) (ap (sign_extended 8) (byte_number c.ram o))
-gives c width.Half o l = rw (base o) (ap (sign_extended 16) (half_number c.ram o))
+gives c width.Byte o l = rw (in_ram_at (0x8000_0000 + o) 1 (omega arith) (omega arith), base o) (ap (sign_extension 8) (byte_number c.ram o))
+gives c width.Half o l = rw (base o) (ap (sign_extension 16) (half_number c.ram o))
 gives c width.Word o l = rw (base o) (word_number c.ram o)
 gives c width.ByteU o l = rw (in_ram_at (0x8000_0000 + o) 1 (omega arith) (omega arith), base o) (byte_number c.ram o)
 gives c width.HalfU o l = rw (base o) (half_number c.ram o)
@@ -79,8 +79,8 @@ load_performs c w rd address o word pc i =
     ∙ rw (allowed c w o i.aligned i.inside) (ap (λ v. goes_on pc (with_register c rd v)) (gives c w o i.inside))
 
 -- it touches no line
-pub load_quiet : (w : Width) (rd address o : ℕ) → IsPlaceOf w address o → touched_by (Load w rd address) ≡ None
-unfolding touched_by
+pub load_quiet : (w : Width) (rd address o : ℕ) → IsPlaceOf w address o → touched_line_by (Load w rd address) ≡ None
+unfolding touched_line_by
 load_quiet w rd address o i = let e = i.is in no_line address (omega arith)
 
 -- the same of a load by a register and an offset
@@ -91,9 +91,9 @@ load_at c w rd base offset o word pc i =
 
 -- which touches no line either
 pub load_at_quiet : (c : Core) (w : Width) (rd base : ℕ) (offset : ℤ) (o pc : ℕ) → IsPlaceOf w (plus (slice_index c.registers base) offset) o
-    → touched_by (effect (load w rd base offset) pc c.registers) ≡ None
+    → touched_line_by (effect (load w rd base offset) pc c.registers) ≡ None
 load_at_quiet c w rd base offset o pc i =
-    ap touched_by (load_effect w rd base offset pc c.registers) ∙ load_quiet w rd (plus (slice_index c.registers base) offset) o i
+    ap touched_line_by (load_effect w rd base offset pc c.registers) ∙ load_quiet w rd (plus (slice_index c.registers base) offset) o i
 
 -- ---- what a store leaves
 
@@ -136,8 +136,8 @@ both_none : (b : Bool) → ◌≡◌ {A = Option ℕ} (cond b None None) None
 both_none true = refl
 both_none false = refl
 
-store_quiet : (w : Width) (address value o : ℕ) → IsPlaceOf w address o → touched_by (Store w address value) ≡ None
-unfolding touched_by
+store_quiet : (w : Width) (address value o : ℕ) → IsPlaceOf w address o → touched_line_by (Store w address value) ≡ None
+unfolding touched_line_by
 store_quiet w address value o i =
     let e = i.is in
     ap (λ x. cond (eqb (value % 256) 0) x None) (no_line address (omega arith)) ∙ both_none (eqb (value % 256) 0)
@@ -153,7 +153,7 @@ store_at c width.HalfU rs base offset o word pc i = store_performs c width.Half 
 
 -- a store of RAM touches no line
 pub store_at_quiet : (c : Core) (w : Width) (rs base : ℕ) (offset : ℤ) (o pc : ℕ) → IsPlaceOf w (plus (slice_index c.registers base) offset) o
-    → touched_by (effect (store w rs base offset) pc c.registers) ≡ None
+    → touched_line_by (effect (store w rs base offset) pc c.registers) ≡ None
 store_at_quiet c width.Byte rs base offset o pc i = store_quiet width.Byte _ _ o i
 store_at_quiet c width.Half rs base offset o pc i = store_quiet width.Half _ _ o i
 store_at_quiet c width.Word rs base offset o pc i = store_quiet width.Word _ _ o i

@@ -16,27 +16,27 @@ use Rattle.sloth_region.specs.Layout.{context_bytes}
 use Rattle.rv32_instr.specs.declared.InstrKind.TheVariants.{Sw}
 use Rattle.rv32_instr.specs.Encode.{Encode}
 use Rattle.rv32_instr.specs.Effect.{effect}
-use Rattle.rv32_instr.specs.Execute.{Going, perform, touched_by, jumps, goes_on}
+use Rattle.rv32_instr.specs.Execute.{Going, perform, touched_line_by, jumps, goes_on}
 use Rattle.rv32_instr.specs.Ram.{word_at, with_word}
-use Rattle.masked_code.specs.Place.{at}
+use Rattle.masked_code.specs.Place.{offset_state}
 use Rattle.masked_code.proofs.Machine.{next_at}
 use Rattle.masked_code.proofs.Words.{word_at-other, word_at-same, get_or-with_word}
 use Rattle.rv32_expand.specs.Expansion.{item_address, distance, zeros, calls, expansion}
 use Rattle.rv32_expand.specs.InPlace.{result_register, mark_of}
 use Rattle.observe.specs.Observe.{View}
 use Rattle.osek_scheduler.specs.State.{Frame, System, task, entry_frame}
-use Rattle.osek_scheduler.specs.Meaning.{Meant, meaning, if_true}
+use Rattle.osek_scheduler.specs.Meaning.{ItemMeaning, meaning, if_true}
 use Rattle.osek_valid.specs.Valid.{AreCalls, IsCalledFrom}
 use Rattle.code_rules.specs.Code.{IsCalledBy}
 use Rattle.sim_relation.specs.Build.{Build}
-use Rattle.sim_relation.specs.Position.{Position, Calling, AreWords, OuterAt, FramesAt, HasScratch, return_address, called_words, thread_of}
+use Rattle.sim_relation.specs.Position.{IsPosition, IsCalling, AreWords, AreOuterFrames, AreFrames, HasScratch, return_address, called_words, thread_of}
 use Rattle.sim_relation.specs.Stands.{Stands, IsActive}
 use Rattle.sim_relation.proofs.Framing.{frames_kept, frames_below}
 use Rattle.sim_relation.proofs.Machines.{kept_machine}
 use Rattle.sim_relation.proofs.Placed.{active_by_word}
 use Rattle.sim_relation.proofs.Room.{funcs_of, called_room}
 use Rattle.sim_items.specs.Place.{AtItem, InCall, HasInstructions, IsCall}
-use Rattle.sim_items.specs.Outside.{At, GoesOutside}
+use Rattle.sim_items.specs.Outside.{StandsAt, GoesOutside}
 use Rattle.sim_items.specs.Progress.{progress_in}
 use Rattle.sim_items.proofs.Access.{IsPlaceOf, store_at, store_at_quiet, word_bytes}
 use Rattle.sim_items.proofs.CallCode.{lowers, clears, links, stores_link, jumps_away, call_expands, call_size, at_word, behind_words, at_store, behind_link, at_jump, behind_store}
@@ -73,7 +73,7 @@ zeros_long (suc n) = ap suc (zeros_long n)
 
 -- ---- the first instruction
 
-module _ (b : Build) (view : View) (arrivals : List Arrival) (count : ℕ) (state : State) (s : System) (here : At b view arrivals count state s)
+module _ (b : Build) (view : View) (arrivals : List Arrival) (count : ℕ) (state : State) (s : System) (here : StandsAt b view arrivals count state s)
     (t : ℕ) (item : AtItem b (outside.n b view arrivals (progress_in b) count state s here) (outside.s1 b view arrivals (progress_in b) count state s here) t)
     (callee : ℕ) (call : IsCall b view item.frame.func item.frame.item callee) (chain : AreCalls b.app t (item.frame ∷ item.outer)) where
   abbrev n : State
@@ -128,15 +128,15 @@ module _ (b : Build) (view : View) (arrivals : List Arrival) (count : ℕ) (stat
   core_now = record n.core { registers = set x 2 (0x8000_0000 + place) }
 
   performs : (offset word : ℕ) → offset + 4 ≤ 0x20_0000
-      → perform (effect (lowers words) (0x8000_0000 + offset) x) word (0x8000_0000 + offset) n.core ≡ Going (at (offset + 4 * 1) core_now)
+      → perform (effect (lowers words) (0x8000_0000 + offset) x) word (0x8000_0000 + offset) n.core ≡ Going (offset_state (offset + 4 * 1) core_now)
   unfolding perform
   performs offset word l = ap (λ v. goes_on (0x8000_0000 + offset) (record n.core { registers = set x 2 v })) value ∙ next_at offset core_now l
 
-  quiet : (pc : ℕ) → touched_by (effect (lowers words) pc x) ≡ None
-  unfolding touched_by
+  quiet : (pc : ℕ) → touched_line_by (effect (lowers words) pc x) ≡ None
+  unfolding touched_line_by
   quiet pc = refl
 
-  passes : (offset : ℕ) → 0x8000_0000 + offset ≡ address + 4 * 0 → Passes b n (at (offset + 4 * 1) core_now) s1 t
+  passes : (offset : ℕ) → 0x8000_0000 + offset ≡ address + 4 * 0 → Passes b n (offset_state (offset + 4 * 1) core_now) s1 t
   passes offset e =
       let f = now.fixed in
       let r = room in
@@ -157,7 +157,7 @@ module _ (b : Build) (view : View) (arrivals : List Arrival) (count : ℕ) (stat
           some = omega arith;
           within = omega arith;
           pc = omega arith;
-          frames = subst (λ p. FramesAt b n.core.ram item.frame item.outer p (b.top t)) (sym back) item.stood;
+          frames = subst (λ p. AreFrames b n.core.ram item.frame item.outer p (b.top t)) (sym back) item.stood;
           zeros = λ i l h. absurd (omega arith);
           linked = λ h. absurd (omega arith);
           stored = λ h. absurd (omega arith);
@@ -177,7 +177,7 @@ module _ (b : Build) (view : View) (arrivals : List Arrival) (count : ℕ) (stat
 
 -- ---- the others
 
-module _ (b : Build) (view : View) (arrivals : List Arrival) (count : ℕ) (state : State) (s : System) (here : At b view arrivals count state s)
+module _ (b : Build) (view : View) (arrivals : List Arrival) (count : ℕ) (state : State) (s : System) (here : StandsAt b view arrivals count state s)
     (t : ℕ) (item : InCall b (outside.n b view arrivals (progress_in b) count state s here) (outside.s1 b view arrivals (progress_in b) count state s here) t)
     (call : IsCall b view item.frame.func item.frame.item item.calling.callee) where
   abbrev m : State
@@ -189,7 +189,7 @@ module _ (b : Build) (view : View) (arrivals : List Arrival) (count : ℕ) (stat
   stands : Stands b m s2
   stands = outside.now b view arrivals (progress_in b) count state s here
 
-  abbrev c : Calling b m.core.ram (b.top t) (task s2 t) item.frame item.outer (thread_of m) item.place
+  abbrev c : IsCalling b m.core.ram (b.top t) (task s2 t) item.frame item.outer (thread_of m) item.place
   c = item.calling
 
   abbrev ram : List ℕ
@@ -227,11 +227,11 @@ module _ (b : Build) (view : View) (arrivals : List Arrival) (count : ℕ) (stat
 
   -- where so many instructions are done
   module _ (next : State) (done : ℕ) (some : 1 ≤ done) (within : done ≤ size + 3) (pc : next.pc ≡ from + 4 * done)
-      (frames : FramesAt b next.core.ram item.frame item.outer (item.place + 4 + 4 * size) (b.top t))
+      (frames : AreFrames b next.core.ram item.frame item.outer (item.place + 4 + 4 * size) (b.top t))
       (zeros_are : (i : ℕ) → i < size → i + 1 < done → word_at next.core.ram (item.place + 4 * i) ≡ 0)
       (linked : size + 2 ≤ done → slice_index next.core.registers 31 ≡ return_address b item.frame)
       (stored : size + 3 ≤ done → word_at next.core.ram (item.place + 4 * size) ≡ return_address b item.frame) where
-    calling_at : Position b next.core.ram t (task s2 t) (thread_of next) item.place
+    calling_at : IsPosition b next.core.ram t (task s2 t) (thread_of next) item.place
     calling_at = record {
       frame = item.frame;
       outer = item.outer;
@@ -267,7 +267,7 @@ module _ (b : Build) (view : View) (arrivals : List Arrival) (count : ℕ) (stat
     abbrev core_stored : Core
     core_stored = record m.core { ram = new }
 
-    store_passes : (offset : ℕ) → Position b new t (task s2 t) (thread_of (at offset core_stored)) item.place → Passes b m (at offset core_stored) s2 t
+    store_passes : (offset : ℕ) → IsPosition b new t (task s2 t) (thread_of (offset_state offset core_stored)) item.place → Passes b m (offset_state offset core_stored) s2 t
     store_passes offset position =
         let p = in_part in
         let keeps = part_keeps b here.fits ram s2 t is_active.declared (inl is_active.active) stands.apart spot value p.0 p.1 in
@@ -293,17 +293,17 @@ module _ (b : Build) (view : View) (arrivals : List Arrival) (count : ℕ) (stat
         record { is = omega arith; aligned = omega arith; inside = omega arith }
 
     store_performs : (rs offset code_word : ℕ) → slice_index y rs ≡ value → offset + 4 ≤ 0x20_0000
-        → perform (effect (Sw 2 rs (pos (4 * word))) (0x8000_0000 + offset) y) code_word (0x8000_0000 + offset) m.core ≡ Going (at (offset + 4 * 1) core_stored)
+        → perform (effect (Sw 2 rs (pos (4 * word))) (0x8000_0000 + offset) y) code_word (0x8000_0000 + offset) m.core ≡ Going (offset_state (offset + 4 * 1) core_stored)
     store_performs rs offset code_word e l =
         store_at m.core width.Word rs 2 (pos (4 * word)) spot code_word (0x8000_0000 + offset) store_spot
         ∙ ap (λ r. goes_on (0x8000_0000 + offset) (record m.core { ram = r })) (sym (word_bytes ram spot (slice_index y rs)))
         ∙ ap (λ v. goes_on (0x8000_0000 + offset) (record m.core { ram = with_word ram spot v })) e
         ∙ next_at offset core_stored l
 
-    store_quiet : (rs pc : ℕ) → touched_by (effect (Sw 2 rs (pos (4 * word))) pc y) ≡ None
+    store_quiet : (rs pc : ℕ) → touched_line_by (effect (Sw 2 rs (pos (4 * word))) pc y) ≡ None
     store_quiet rs pc = store_at_quiet m.core width.Word rs 2 (pos (4 * word)) spot pc store_spot
 
-    frames_stay : FramesAt b new item.frame item.outer (item.place + 4 + 4 * size) (b.top t)
+    frames_stay : AreFrames b new item.frame item.outer (item.place + 4 + 4 * size) (b.top t)
     frames_stay =
         frames_kept b ram new (item.place + 4 + 4 * size) (b.top t) (λ i l h. get_or-with_word ram spot value i (inr (omega arith)))
         item.frame item.outer (item.place + 4 + 4 * size) (omega arith) c.frames
@@ -329,7 +329,7 @@ module _ (b : Build) (view : View) (arrivals : List Arrival) (count : ℕ) (stat
       (λ offset code_word q to_end even. store_performs word 0 (omega arith) 0 offset code_word stands.fixed.zero to_end) (store_quiet word 0 (omega arith) 0)
       (λ offset q.
       store_passes word 0 (omega arith) (offset + 4 * 1)
-      (calling_at (at (offset + 4 * 1) (core_stored word 0 (omega arith))) (word + 2) (omega arith) (omega arith) (omega arith)
+      (calling_at (offset_state (offset + 4 * 1) (core_stored word 0 (omega arith))) (word + 2) (omega arith) (omega arith) (omega arith)
       (frames_stay word 0 (omega arith))
       (λ i in_size before.
       ⊎_elim
@@ -356,24 +356,24 @@ module _ (b : Build) (view : View) (arrivals : List Arrival) (count : ℕ) (stat
   core_linked = record m.core { registers = set y 31 (return_address b item.frame) }
 
   link_performs : (offset word : ℕ) → 0x8000_0000 + offset ≡ from + 4 * (size + 1) → offset + 4 ≤ 0x20_0000
-      → perform (effect links (0x8000_0000 + offset) y) word (0x8000_0000 + offset) m.core ≡ Going (at (offset + 4 * 1) core_linked)
+      → perform (effect links (0x8000_0000 + offset) y) word (0x8000_0000 + offset) m.core ≡ Going (offset_state (offset + 4 * 1) core_linked)
   unfolding perform
   link_performs offset word q l =
       let r = return_is in
       let v : sum32 (0x8000_0000 + offset) (0 * 4096) ≡ return_address b item.frame = omega arith in
       ap (λ a. goes_on (0x8000_0000 + offset) (record m.core { registers = set y 31 a })) v ∙ next_at offset core_linked l
 
-  link_quiet : (pc : ℕ) → touched_by (effect links pc y) ≡ None
-  unfolding touched_by
+  link_quiet : (pc : ℕ) → touched_line_by (effect links pc y) ≡ None
+  unfolding touched_line_by
   link_quiet pc = refl
 
-  link_passes : (offset : ℕ) → 0x8000_0000 + offset ≡ from + 4 * (size + 2) → c.done ≡ size + 1 → Passes b m (at offset core_linked) s2 t
+  link_passes : (offset : ℕ) → 0x8000_0000 + offset ≡ from + 4 * (size + 2) → c.done ≡ size + 1 → Passes b m (offset_state offset core_linked) s2 t
   link_passes offset q e =
       let f = stands.fixed in
       let link = return_address b item.frame in
       registers_pass b m s2 t stands offset (set y 31 link) (length-set y 31 link) (λ i l z. get_or-set_other y 31 i link 0 (λ q. omega arith)) item.place
       (get_or-set_other y 31 2 link 0 (λ z. omega arith) ∙ item.context.x2)
-      (calling_at (at offset core_linked) (size + 2) (omega arith) (omega arith) q c.frames
+      (calling_at (offset_state offset core_linked) (size + 2) (omega arith) (omega arith) q c.frames
       (λ i in_size before. c.zeros i in_size (omega arith))
       (λ h. get_or-set_same y 31 link 0 (let l = f.registers in omega arith)) (λ h. absurd (omega arith)))
       item.context.room item.context.aligned
@@ -399,7 +399,7 @@ module _ (b : Build) (view : View) (arrivals : List Arrival) (count : ℕ) (stat
       (λ offset word q to_end even. store_performs size link (omega arith) 31 offset word (c.linked (omega arith)) to_end) (store_quiet size link (omega arith) 31)
       (λ offset q.
       store_passes size link (omega arith) (offset + 4 * 1)
-      (calling_at (at (offset + 4 * 1) (core_stored size link (omega arith))) (size + 3) (omega arith) (omega arith) (omega arith)
+      (calling_at (offset_state (offset + 4 * 1) (core_stored size link (omega arith))) (size + 3) (omega arith) (omega arith) (omega arith)
       (frames_stay size link (omega arith))
       (λ i in_size before. other_word size link (omega arith) i (λ z. omega arith) ∙ c.zeros i in_size (omega arith))
       (λ h. c.linked (omega arith)) (λ h. this_word size link (omega arith) (omega arith))))
@@ -409,15 +409,15 @@ module _ (b : Build) (view : View) (arrivals : List Arrival) (count : ℕ) (stat
   abbrev entered : Frame
   entered = entry_frame b.app c.callee
 
-  entered_stands : c.done ≡ size + 3 → FramesAt b ram entered (item.frame ∷ item.outer) item.place (b.top t)
+  entered_stands : c.done ≡ size + 3 → AreFrames b ram entered (item.frame ∷ item.outer) item.place (b.top t)
   entered_stands e =
       let long = zeros_long size in
       let p : item.place + 4 * length entered.words ≡ item.place + 4 * size = ap (λ v. item.place + 4 * v) long in
       let f = c.frames in (
         long,
         words_from ram (replicate size 0) item.place (λ k l. c.zeros k (omega arith) (omega arith) ∙ sym (zero_words size k)),
-        subst (λ q. OuterAt b ram (item.frame ∷ item.outer) q (b.top t)) (sym p)
-            (c.stored (omega arith), f.0, subst (λ q. AreWords ram q item.frame.words) reorder f.1, subst (λ q. OuterAt b ram item.outer (q + 4 * length item.frame.words) (b.top t)) reorder f.2),
+        subst (λ q. AreOuterFrames b ram (item.frame ∷ item.outer) q (b.top t)) (sym p)
+            (c.stored (omega arith), f.0, subst (λ q. AreWords ram q item.frame.words) reorder f.1, subst (λ q. AreOuterFrames b ram item.outer (q + 4 * length item.frame.words) (b.top t)) reorder f.2),
       )
     where
       reorder : item.place + 4 + 4 * size ≡ item.place + 4 * size + 4
@@ -434,14 +434,14 @@ module _ (b : Build) (view : View) (arrivals : List Arrival) (count : ℕ) (stat
       let d = distance (from + 4 * (size + 3)) to in
       ap (λ p. jumps (plus p d) m.core) q ∙ ap (λ p. jumps p m.core) (arrives (from + 4 * (size + 3)) to (omega arith) (omega arith)) ∙ jumps_to to m.core (here.fits.items c.callee 0)
 
-  jump_quiet : (pc : ℕ) → touched_by (effect (jumps_away from size to) pc y) ≡ None
-  unfolding touched_by
+  jump_quiet : (pc : ℕ) → touched_line_by (effect (jumps_away from size to) pc y) ≡ None
+  unfolding touched_line_by
   jump_quiet pc = refl
 
   meant : meaning b.app (operation b.app item.frame.func item.frame.item) (task s2 t).registers item.frame item.outer s2.symbols
       ≡ Some (record { registers = (task s2 t).registers; frames = entered ∷ item.frame ∷ item.outer; symbols = s2.symbols; result = 0 })
   meant =
-      let made : Meant = record { registers = (task s2 t).registers; frames = entered ∷ item.frame ∷ item.outer; symbols = s2.symbols; result = 0 } in
+      let made : ItemMeaning = record { registers = (task s2 t).registers; frames = entered ∷ item.frame ∷ item.outer; symbols = s2.symbols; result = 0 } in
       ap (λ o. meaning b.app o (task s2 t).registers item.frame item.outer s2.symbols) call.is
       ∙ ap (λ k. if_true k (Some made)) (lt-ltb c.callee (length b.app.funcs) call.known)
 

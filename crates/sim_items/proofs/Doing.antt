@@ -16,22 +16,22 @@ use Rattle.rv32_instr.specs.declared.InstrKind.TheVariants.{Lui, Addi, Lw, Sw}
 use Rattle.rv32_instr.specs.declared.effect.Effect.TheVariants.{Write}
 use Rattle.rv32_instr.specs.Access.{load, store}
 use Rattle.rv32_instr.specs.Effect.{effect}
-use Rattle.rv32_instr.specs.Execute.{perform, touched_by, goes_on, with_register}
+use Rattle.rv32_instr.specs.Execute.{perform, touched_line_by, goes_on, with_register}
 use Rattle.rv32_instr.specs.Ram.{with_word}
 use Rattle.masked_code.proofs.Parts.{hi_lo}
 use Rattle.rv32_expand.specs.Expansion.{item_address, symbol_address, register_operation, number_operation, index_code, operation_code}
 use Rattle.data_far.specs.Wide.{far_indexed}
 use Rattle.rv32_expand.specs.InPlace.{result_register}
 use Rattle.osek_scheduler.specs.State.{Frame, Task, System, task}
-use Rattle.osek_scheduler.specs.Meaning.{Meant, meaning, execution, registers_of, register, seen_in, going_on, write_meaning, load_meaning, store_meaning, loaded_word, bytes_after_store, on_some, if_true}
+use Rattle.osek_scheduler.specs.Meaning.{ItemMeaning, meaning, execution, registers_of, register, shown_value, going_on_frame, write_meaning, load_meaning, store_meaning, loaded_word, bytes_after_store, on_some, if_true}
 use Rattle.osek_scheduler.specs.Meaning as meaning
 use Rattle.sim_relation.specs.Build.{Build, Fits}
-use Rattle.sim_relation.specs.Position.{HasAddress, HasScratch, FramesAt, thread_of}
+use Rattle.sim_relation.specs.Position.{HasAddress, HasScratch, AreFrames, thread_of}
 use Rattle.sim_relation.specs.DataStands.{DataStands}
 use Rattle.sim_relation.specs.Stands.{Stands, IsActive}
 use Rattle.sim_relation.proofs.Framing.{frames_kept, outer_below}
 use Rattle.sim_relation.proofs.Placed.{active_by_word}
-use Rattle.sim_items.specs.Place.{AtItem, IsOwn, IsAccess, IsStraight, HasNumbers}
+use Rattle.sim_items.specs.Place.{AtItem, IsTaskRegister, IsAccess, IsStraight, HasNumbers}
 use Rattle.sim_items.proofs.Access.{IsPlaceOf, load_at, load_at_quiet, store_at, store_at_quiet, word_number, word_bytes}
 use Rattle.sim_items.proofs.Bytes.{number_at}
 use Rattle.sim_items.proofs.Cases.{straight_cases}
@@ -48,11 +48,11 @@ pub record Does (b : Build) (state : State) (s : System) (t : ℕ) (at : AtItem 
   pub expands : operation_code b.app b.places at.frame.func (item_address b.places at.frame.func at.frame.item) long operation ≡ before ++ (kind ∷ [])
   pub last : length before ≡ at.here.done
   pub rd : ℕ
-  pub is_own : IsOwn rd
+  pub is_own : IsTaskRegister rd
   pub value : ℕ
   pub ram : List ℕ
   pub performs : (word pc : ℕ) → perform (effect kind pc state.core.registers) word pc state.core ≡ goes_on pc (record (with_register state.core rd value) { ram = ram })
-  pub quiet : (pc : ℕ) → touched_by (effect kind pc state.core.registers) ≡ None
+  pub quiet : (pc : ℕ) → touched_line_by (effect kind pc state.core.registers) ≡ None
   pub words : List ℕ
   pub symbols : List (List ℕ)
   pub result : ℕ
@@ -63,7 +63,7 @@ pub record Does (b : Build) (state : State) (s : System) (t : ℕ) (at : AtItem 
     result = result;
   })
   pub shows : result ≡ slice_index (with_register state.core rd value).registers (result_register operation)
-  pub stood : FramesAt b ram (record at.frame { item = at.frame.item + 1; words = words }) at.outer at.place (b.top t)
+  pub stood : AreFrames b ram (record at.frame { item = at.frame.item + 1; words = words }) at.outer at.place (b.top t)
   pub kept : Keeps b state.core.ram ram s t
   pub data_stands : DataStands b ram symbols
 
@@ -86,7 +86,7 @@ module _ (b : Build) (state : State) (s : System) (t : ℕ) (fits : Fits b) (k :
   active : IsActive b s t
   active = active_by_word b state s t k at.current
 
-  agree : (r : ℕ) → IsOwn r → slice_index x r ≡ register own.registers r
+  agree : (r : ℕ) → IsTaskRegister r → slice_index x r ≡ register own.registers r
   agree = own_agrees x own.registers k.fixed.zero at.context.registers
 
   -- ---- a register alone
@@ -95,9 +95,9 @@ module _ (b : Build) (state : State) (s : System) (t : ℕ) (fits : Fits b) (k :
   same_ram zero value = refl
   same_ram (suc rd) value = refl
 
-  module _ (o : Op) (before : List InstrKind) (kind : InstrKind) (rd value : ℕ) (is_own : IsOwn rd) (expands : expansion_of o ≡ before ++ (kind ∷ [])) (last : length before ≡ at.here.done)
+  module _ (o : Op) (before : List InstrKind) (kind : InstrKind) (rd value : ℕ) (is_own : IsTaskRegister rd) (expands : expansion_of o ≡ before ++ (kind ∷ [])) (last : length before ≡ at.here.done)
       (performs : (word pc : ℕ) → perform (effect kind pc x) word pc state.core ≡ goes_on pc (with_register state.core rd value))
-      (quiet : (pc : ℕ) → touched_by (effect kind pc x) ≡ None) (named : AreOwn (registers_of o))
+      (quiet : (pc : ℕ) → touched_line_by (effect kind pc x) ≡ None) (named : AreOwn (registers_of o))
       (means : execution b.app o own.registers frame at.outer s.symbols ≡ write_meaning rd value own.registers frame at.outer s.symbols) (shown : result_register o ≡ rd) where
     w : Wrote x own.registers rd value (with_register state.core rd value).registers (meaning.with_register own.registers rd value)
     w = wrote state.core own.registers rd value k.fixed.registers k.fixed.zero (k.tidy.each t active.declared).registers at.context.registers is_own
@@ -116,7 +116,7 @@ module _ (b : Build) (state : State) (s : System) (t : ℕ) (fits : Fits b) (k :
       quiet = quiet;
       words = frame.words;
       symbols = s.symbols;
-      result = seen_in rd value;
+      result = shown_value rd value;
       means = own_meaning b.app o own.registers frame at.outer s.symbols named ∙ means;
       shows = w.shows ∙ sym (ap (λ r. slice_index (with_register state.core rd value).registers r) shown);
       stood = at.stood;
@@ -129,11 +129,11 @@ module _ (b : Build) (state : State) (s : System) (t : ℕ) (fits : Fits b) (k :
   unfolding perform
   performs_write kind rd value e word pc = ap (λ f. perform f word pc state.core) (e pc)
 
-  quiet_write : (kind : InstrKind) (rd value : ℕ) → ((pc : ℕ) → effect kind pc x ≡ Write rd value) → (pc : ℕ) → touched_by (effect kind pc x) ≡ None
-  unfolding touched_by
-  quiet_write kind rd value e pc = ap touched_by (e pc)
+  quiet_write : (kind : InstrKind) (rd value : ℕ) → ((pc : ℕ) → effect kind pc x ≡ Write rd value) → (pc : ℕ) → touched_line_by (effect kind pc x) ≡ None
+  unfolding touched_line_by
+  quiet_write kind rd value e pc = ap touched_line_by (e pc)
 
-  computes : (o : Op) (before : List InstrKind) (kind : InstrKind) (rd value : ℕ) → IsOwn rd → expansion_of o ≡ before ++ (kind ∷ []) → length before ≡ at.here.done
+  computes : (o : Op) (before : List InstrKind) (kind : InstrKind) (rd value : ℕ) → IsTaskRegister rd → expansion_of o ≡ before ++ (kind ∷ []) → length before ≡ at.here.done
       → ((pc : ℕ) → effect kind pc x ≡ Write rd value) → AreOwn (registers_of o)
       → execution b.app o own.registers frame at.outer s.symbols ≡ write_meaning rd value own.registers frame at.outer s.symbols → result_register o ≡ rd → Here o
   computes o before kind rd value is_own expands last e named means shown =
@@ -223,7 +223,7 @@ module _ (b : Build) (state : State) (s : System) (t : ℕ) (fits : Fits b) (k :
             s.symbols k.data_stands;
       }
     where
-      stores_as : ℕ → Meant
+      stores_as : ℕ → ItemMeaning
       stores_as v = record {
         registers = own.registers;
         frames = record frame { item = frame.item + 1; words = set frame.words word v } ∷ at.outer;
@@ -240,7 +240,7 @@ module _ (b : Build) (state : State) (s : System) (t : ℕ) (fits : Fits b) (k :
   abbrev Reaches : (number : ℤ) (y offset : ℕ) → Type 0
   Reaches number y offset = plus (slice_index x 31) number ≡ symbol_address b.places y + offset
 
-  loads_into : (o : Op) (before : List InstrKind) (w : Width) (rd y offset : ℕ) (number : ℤ) → IsOwn rd → access w y offset → expansion_of o ≡ before ++ (load w rd 31 number ∷ [])
+  loads_into : (o : Op) (before : List InstrKind) (w : Width) (rd y offset : ℕ) (number : ℤ) → IsTaskRegister rd → access w y offset → expansion_of o ≡ before ++ (load w rd 31 number ∷ [])
       → length before ≡ at.here.done → Reaches number y offset → AreOwn (registers_of o)
       → execution b.app o own.registers frame at.outer s.symbols ≡ load_meaning w rd y offset own.registers frame at.outer s.symbols → result_register o ≡ rd → Here o
   loads_into o before w rd y offset number is_own inside expands last reaches named means shown =
@@ -254,7 +254,7 @@ module _ (b : Build) (state : State) (s : System) (t : ℕ) (fits : Fits b) (k :
       (symbol.accessed_is b fits state.core.ram s.symbols k.data_stands numbers.sizes w y offset inside))
       shown
 
-  stores_from : (o : Op) (before : List InstrKind) (w : Width) (rs y offset : ℕ) (number : ℤ) → IsOwn rs → access w y offset → expansion_of o ≡ before ++ (store w rs 31 number ∷ [])
+  stores_from : (o : Op) (before : List InstrKind) (w : Width) (rs y offset : ℕ) (number : ℤ) → IsTaskRegister rs → access w y offset → expansion_of o ≡ before ++ (store w rs 31 number ∷ [])
       → length before ≡ at.here.done → Reaches number y offset → AreOwn (registers_of o)
       → execution b.app o own.registers frame at.outer s.symbols ≡ store_meaning w rs y offset own.registers frame at.outer s.symbols → result_register o ≡ rs → Here o
   stores_from o before w rs y offset number is_own inside expands last reaches named means shown =
@@ -289,10 +289,10 @@ module _ (b : Build) (state : State) (s : System) (t : ℕ) (fits : Fits b) (k :
         data_stands = symbol.data_stands b fits state.core.ram s.symbols k.data_stands numbers.sizes w y offset inside value k.fixed.ram;
       }
     where
-      stores_as : List ℕ → ℕ → Meant
+      stores_as : List ℕ → ℕ → ItemMeaning
       stores_as found v = record {
         registers = own.registers;
-        frames = going_on frame ∷ at.outer;
+        frames = going_on_frame frame ∷ at.outer;
         symbols = set s.symbols y (bytes_after_store w found offset v);
         result = v;
       }

@@ -4,7 +4,7 @@ use Rattle.std.specs.Prelude.{slice_index}
 use Rattle.std.proofs.lemmas.Option.{slice_get-get_or}
 use Rattle.sloth_base.specs.Arithmetic.{hi, lo, plus, branch_holds}
 use Rattle.sloth_base.specs.Machine.{State}
-use Rattle.sloth_base.specs.Named.{function, label_of, nowhere}
+use Rattle.sloth_base.specs.Named.{function, label_of, no_label}
 use Rattle.sloth_base.specs.declared.app.App.{App}
 use Rattle.sloth_base.specs.declared.app.BranchKind.{BranchKind}
 use Rattle.sloth_base.specs.declared.app.Label.{Label}
@@ -15,8 +15,8 @@ use Rattle.rv32_instr.specs.declared.InstrKind.{InstrKind}
 use Rattle.rv32_instr.specs.declared.InstrKind.TheVariants.{Lui, Addi, Jal, Jalr}
 use Rattle.rv32_instr.specs.declared.effect.Effect.TheVariants.{Branch, Write}
 use Rattle.rv32_instr.specs.Effect.{effect}
-use Rattle.rv32_instr.specs.Execute.{Going, perform, touched_by, jumps}
-use Rattle.masked_code.specs.Place.{at}
+use Rattle.rv32_instr.specs.Execute.{Going, perform, touched_line_by, jumps}
+use Rattle.masked_code.specs.Place.{offset_state}
 use Rattle.masked_code.proofs.Machine.{next_at, jump_at}
 use Rattle.masked_code.proofs.Parts.{hi_lo}
 use Rattle.rv32_expand.specs.Expansion.{item_address, label_address, distance, test, opposite, operation_code}
@@ -26,7 +26,7 @@ use Rattle.osek_scheduler.specs.State.{Frame}
 use Rattle.osek_scheduler.specs.Meaning.{meaning, register, target, goes_to, on_some}
 use Rattle.sim_relation.specs.Build.{Build, Fits}
 use Rattle.sim_relation.specs.Position.{Thread, HasTarget, HasScratch, thread_of}
-use Rattle.sim_items.specs.Place.{FunctionStands, IsOwn, IsTarget, IsFlow}
+use Rattle.sim_items.specs.Place.{FunctionStands, IsTaskRegister, IsTarget, IsFlow}
 use Rattle.sim_items.proofs.Distances.{arrives, jumps_to, IsInRam, item_in_ram, test_effect, opposite_holds}
 use Rattle.sim_items.proofs.Preparing.{Prepares, prepares}
 use Rattle.sim_items.proofs.Values.{own_meaning}
@@ -73,12 +73,12 @@ pub record Turns (b : Build) (state : State) (own : List ℕ) (symbols : List (L
   pub exists : item < length (function b.app frame.func).items
   pub performs : (offset word : ℕ) → 0x8000_0000 + offset ≡ item_address b.places frame.func frame.item + 4 * done → offset + 4 ≤ 0x20_0000
       → perform (effect kind (0x8000_0000 + offset) state.core.registers) word (0x8000_0000 + offset) state.core ≡ Going (record { pc = item_address b.places frame.func item; core = state.core })
-  pub quiet : (pc : ℕ) → touched_by (effect kind pc state.core.registers) ≡ None
+  pub quiet : (pc : ℕ) → touched_line_by (effect kind pc state.core.registers) ≡ None
   pub means : meaning b.app operation own frame outer symbols
       ≡ Some (record { registers = own; frames = record frame { item = item } ∷ outer; symbols = symbols; result = 0 })
 
 module _ (b : Build) (view : View) (fits : Fits b) (state : State) (own : List ℕ) (symbols : List (List ℕ)) (frame : Frame) (outer : List Frame) (wide : length state.core.registers ≡ 32)
-    (agree : (r : ℕ) → IsOwn r → slice_index state.core.registers r ≡ register own r) (inside : frame.item < length (function b.app frame.func).items)
+    (agree : (r : ℕ) → IsTaskRegister r → slice_index state.core.registers r ≡ register own r) (inside : frame.item < length (function b.app frame.func).items)
     (stand : FunctionStands b view frame.func) where
   abbrev x : List ℕ
   x = state.core.registers
@@ -118,12 +118,12 @@ module _ (b : Build) (view : View) (fits : Fits b) (state : State) (own : List �
   jumps_item item = jumps_to (item_address b.places frame.func item) state.core (fits.items frame.func item)
 
   target_is : (label : ℕ) → IsTarget b.app frame.func label → target b.app frame label ≡ Some (label_item label)
-  target_is label h = ap (λ found. on_some found (λ (l : Label). Some l.item)) (slice_get-get_or (function b.app frame.func).labels label nowhere h.known)
+  target_is label h = ap (λ found. on_some found (λ (l : Label). Some l.item)) (slice_get-get_or (function b.app frame.func).labels label no_label h.known)
 
   -- ---- a jump
 
   of_jump : (long : Bool) (label : ℕ) → IsTarget b.app frame.func label → Last long (op.Jump label)
-  unfolding perform touched_by
+  unfolding perform touched_line_by
   of_jump long label h done scratch adjacent last = record {
     before = [];
     kind = Jal 0 (distance address (lands label));
@@ -142,7 +142,7 @@ module _ (b : Build) (view : View) (fits : Fits b) (state : State) (own : List �
           let f : 0x8000_0000 + offset ≡ address = omega arith in
           ap (λ p. jumps (plus p (distance address (lands label))) state.core) f ∙ ap (λ p. jumps p state.core) (arrives_at label h) ∙ jumps_item (label_item label)
 
-      quiet : (pc : ℕ) → touched_by (effect (Jal 0 (distance address (lands label))) pc x) ≡ None
+      quiet : (pc : ℕ) → touched_line_by (effect (Jal 0 (distance address (lands label))) pc x) ≡ None
       quiet pc = refl
 
   -- ---- a branch
@@ -173,9 +173,9 @@ module _ (b : Build) (view : View) (fits : Fits b) (state : State) (own : List �
     tests : branch_holds kind (slice_index x rs1) (slice_index x rs2) ≡ holds
     tests = ap (λ v. branch_holds kind v (slice_index x rs2)) (agree rs1 h.0) ∙ ap (λ v. branch_holds kind (register own rs1) v) (agree rs2 h.1)
 
-    quiet_test : (k : BranchKind) (offset : ℤ) (pc : ℕ) → touched_by (effect (test k rs1 rs2 offset) pc x) ≡ None
-    unfolding touched_by
-    quiet_test k offset pc = ap touched_by (test_effect k rs1 rs2 offset pc x)
+    quiet_test : (k : BranchKind) (offset : ℤ) (pc : ℕ) → touched_line_by (effect (test k rs1 rs2 offset) pc x) ≡ None
+    unfolding touched_line_by
+    quiet_test k offset pc = ap touched_line_by (test_effect k rs1 rs2 offset pc x)
 
     -- short
     short_performs : (taken : Bool) → holds ≡ taken → IsAdjacent false this → (offset word : ℕ) → 0x8000_0000 + offset ≡ address → offset + 4 ≤ 0x20_0000
@@ -230,7 +230,7 @@ module _ (b : Build) (view : View) (fits : Fits b) (state : State) (own : List �
     goal = item_address b.places frame.func (chosen holds)
 
     long : Last true this
-    unfolding perform touched_by
+    unfolding perform touched_line_by
     long done scratch adjacent last = record {
       before = first ++ (tested ∷ second);
       kind = Jalr 0 31 (pos 0);
@@ -256,7 +256,7 @@ module _ (b : Build) (view : View) (fits : Fits b) (state : State) (own : List �
             ap (λ v. jumps (plus v (pos 0) - plus v (pos 0) % 2) state.core) x31
             ∙ ap (λ p. jumps p state.core) (even goal (omega arith) (fits.items frame.func (chosen holds))) ∙ jumps_item (chosen holds)
 
-        quiet : (pc : ℕ) → touched_by (effect (Jalr 0 31 (pos 0)) pc x) ≡ None
+        quiet : (pc : ℕ) → touched_line_by (effect (Jalr 0 31 (pos 0)) pc x) ≡ None
         quiet pc = refl
 
     -- the instruction in the middle
@@ -264,7 +264,7 @@ module _ (b : Build) (view : View) (fits : Fits b) (state : State) (own : List �
     opposite_tests taken e = opposite_holds kind (slice_index x rs1) (slice_index x rs2) ∙ ap not (tests ∙ e)
 
     goes_inside : (taken : Bool) → holds ≡ taken → (offset word : ℕ) → offset + 4 ≤ 0x20_0000 → offset % 4 ≡ 0
-        → perform (effect tested (0x8000_0000 + offset) x) word (0x8000_0000 + offset) state.core ≡ Going (at (offset + 4 * cond taken 1 3) state.core)
+        → perform (effect tested (0x8000_0000 + offset) x) word (0x8000_0000 + offset) state.core ≡ Going (offset_state (offset + 4 * cond taken 1 3) state.core)
     unfolding perform
     goes_inside true e offset word l a =
         ap (λ v. perform v word (0x8000_0000 + offset) state.core)
@@ -279,7 +279,7 @@ module _ (b : Build) (view : View) (fits : Fits b) (state : State) (own : List �
     abbrev Has : ℕ → Thread → Type 0
     Has d th = HasTarget holds next (lands label) d th
 
-    behind_test : (taken : Bool) → holds ≡ taken → Has 2 (thread_of state) → (offset : ℕ) → Has (2 + cond taken 1 3) (thread_of (at offset state.core))
+    behind_test : (taken : Bool) → holds ≡ taken → Has 2 (thread_of state) → (offset : ℕ) → Has (2 + cond taken 1 3) (thread_of (offset_state offset state.core))
     behind_test true e scratch offset = record {
       upper_next = λ c. absurd (omega arith);
       next_one = λ c d. scratch.next_one (omega arith) (omega arith);

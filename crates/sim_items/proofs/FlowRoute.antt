@@ -13,8 +13,8 @@ use Rattle.osek_scheduler.specs.State.{Frame, System, task}
 use Rattle.osek_scheduler.specs.Meaning.{register}
 use Rattle.sim_relation.specs.Build.{Build}
 use Rattle.sim_relation.specs.Stands.{Stands}
-use Rattle.sim_items.specs.Place.{AtItem, FunctionStands, IsOwn, IsFlow}
-use Rattle.sim_items.specs.Outside.{At, GoesOutside}
+use Rattle.sim_items.specs.Place.{AtItem, FunctionStands, IsTaskRegister, IsFlow}
+use Rattle.sim_items.specs.Outside.{StandsAt, GoesOutside}
 use Rattle.sim_items.specs.Progress.{progress_in}
 use Rattle.sim_items.proofs.InRam as code
 use Rattle.sim_items.proofs.Inner.{prepared_outside}
@@ -23,7 +23,7 @@ use Rattle.sim_items.proofs.Turning.{turns}
 use Rattle.sim_items.proofs.Outside as outside
 use Rattle.sim_items.proofs.Flow.{flow_mark, no_result, Turns, last_of, inner_of}
 
-module _ (b : Build) (view : View) (arrivals : List Arrival) (count : ℕ) (state : State) (s : System) (here : At b view arrivals count state s)
+module _ (b : Build) (view : View) (arrivals : List Arrival) (count : ℕ) (state : State) (s : System) (here : StandsAt b view arrivals count state s)
     (t : ℕ) (item : AtItem b (outside.n b view arrivals (progress_in b) count state s here) (outside.s1 b view arrivals (progress_in b) count state s here) t)
     (is : IsFlow b.app item.frame.func item.frame.item (operation b.app item.frame.func item.frame.item)) (stand : FunctionStands b view item.frame.func) where
   abbrev n : State
@@ -47,7 +47,7 @@ module _ (b : Build) (view : View) (arrivals : List Arrival) (count : ℕ) (stat
   abbrev own : List ℕ
   own = (task s1 t).registers
 
-  agree : (r : ℕ) → IsOwn r → slice_index n.core.registers r ≡ register own r
+  agree : (r : ℕ) → IsTaskRegister r → slice_index n.core.registers r ≡ register own r
   agree = own_agrees n.core.registers own now.fixed.zero item.context.registers
 
   abbrev size : ℕ

@@ -4,10 +4,10 @@ use Rattle.sloth_base.specs.Machine.{State}
 use Rattle.rv32_instr.specs.declared.InstrKind.{InstrKind}
 use Rattle.rv32_instr.specs.Encode.{Encode}
 use Rattle.rv32_instr.specs.Effect.{effect}
-use Rattle.rv32_instr.specs.Execute.{Going, step, touched, touched_by, perform}
+use Rattle.rv32_instr.specs.Execute.{Going, step, touched, touched_line_by, perform}
 use Rattle.rv32_instr.specs.Table.{Decode}
 use Rattle.rv32_instr.proofs.Table.{decode_encode}
-use Rattle.masked_code.specs.Place.{at}
+use Rattle.masked_code.specs.Place.{offset_state}
 use Rattle.masked_code.proofs.Words.{word_at-agree}
 use Rattle.masked_code.proofs.Machine.{Here, step_at, touched_at}
 use Rattle.rv32_expand.specs.Expansion.{item_address, expansion}
@@ -56,11 +56,11 @@ module _ (b : Build) (view : View) (state : State) (s : System) (fits : Fits b) 
   code : Here state.core.ram offset kind
   code = code_here b state s (item_address b.places func item + 4 * length before) kind k instruction
 
-  state_is : state ≡ at offset state.core
+  state_is : state ≡ offset_state offset state.core
   state_is = let e : state.pc ≡ 0x8000_0000 + offset = pc_is ∙ sym offset_is in ap (λ p. record { pc = p; core = state.core }) e
 
   pub stepped : (next : State) → perform (effect kind (0x8000_0000 + offset) state.core.registers) (Encode kind) (0x8000_0000 + offset) state.core ≡ Going next → step state ≡ Going next
   stepped next performs = ap step state_is ∙ step_at offset state.core kind code ∙ performs
 
-  pub untouched : touched_by (effect kind (0x8000_0000 + offset) state.core.registers) ≡ None → touched state ≡ None
+  pub untouched : touched_line_by (effect kind (0x8000_0000 + offset) state.core.registers) ≡ None → touched state ≡ None
   untouched quiet = ap touched state_is ∙ touched_at offset state.core kind code.0 ∙ quiet

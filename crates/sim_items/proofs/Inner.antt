@@ -10,7 +10,7 @@ use Rattle.osek_scheduler.specs.State.{System, task}
 use Rattle.sim_relation.specs.Build.{Build}
 use Rattle.sim_relation.specs.Stands.{Stands}
 use Rattle.sim_items.specs.Place.{AtItem, ItemStands, IsStraight}
-use Rattle.sim_items.specs.Outside.{At, GoesOutside}
+use Rattle.sim_items.specs.Outside.{StandsAt, GoesOutside}
 use Rattle.sim_items.specs.Progress.{progress_in}
 use Rattle.sim_items.proofs.Passing.{instruction_outside}
 use Rattle.sim_items.proofs.Preparing.{Prepares, prepares_straight}
@@ -18,7 +18,7 @@ use Rattle.sim_items.proofs.Registers.{own_agrees}
 use Rattle.sim_items.proofs.Scratch.{scratch_passes}
 use Rattle.sim_items.proofs.Outside as outside
 
-module _ (b : Build) (view : View) (arrivals : List Arrival) (count : ℕ) (state : State) (s : System) (here : At b view arrivals count state s)
+module _ (b : Build) (view : View) (arrivals : List Arrival) (count : ℕ) (state : State) (s : System) (here : StandsAt b view arrivals count state s)
     (t : ℕ) (item : AtItem b (outside.n b view arrivals (progress_in b) count state s here) (outside.s1 b view arrivals (progress_in b) count state s here) t)
     (placed : ItemStands b view item.frame.func item.frame.item) where
   abbrev n : State

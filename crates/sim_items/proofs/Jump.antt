@@ -5,8 +5,8 @@ use Rattle.sloth_base.specs.declared.event.Arrival.{Arrival}
 use Rattle.sloth_base.specs.Machine.{State}
 use Rattle.rv32_instr.specs.declared.InstrKind.TheVariants.{Jal}
 use Rattle.sloth_base.specs.Arithmetic.{plus}
-use Rattle.rv32_instr.specs.Execute.{Going, step, touched, touched_by, perform, jumps}
-use Rattle.masked_code.specs.Place.{at}
+use Rattle.rv32_instr.specs.Execute.{Going, step, touched, touched_line_by, perform, jumps}
+use Rattle.masked_code.specs.Place.{offset_state}
 use Rattle.masked_code.proofs.Machine.{Here, step_at, touched_at, jump_at}
 use Rattle.rv32_expand.specs.Expansion.{item_address, block_address, mask_of, distance, is_long, operation_code, expansion}
 use Rattle.sloth_base.specs.Named.{operation}
@@ -16,11 +16,11 @@ use Rattle.sloth_base.specs.declared.app.Call.{Call}
 use Rattle.sloth_base.specs.declared.app.Op.TheVariants as op
 use Rattle.observe.specs.Observe.{View, mark_at, events_of_kind}
 use Rattle.osek_scheduler.specs.State.{System}
-use Rattle.sim_induction.specs.PieceLaws.{seen_at}
+use Rattle.sim_induction.specs.PieceLaws.{seen_step_at}
 use Rattle.sim_relation.specs.Build.{Build}
 use Rattle.sim_relation.specs.Stands.{Stands}
 use Rattle.sim_items.specs.Place.{AtItem, HasInstruction, HasInstructions, ItemStands}
-use Rattle.sim_items.specs.Outside.{At, GoesOutside, JumpsToService}
+use Rattle.sim_items.specs.Outside.{StandsAt, GoesOutside, JumpsToService}
 use Rattle.sim_items.specs.Progress.{progress_in}
 use Rattle.sim_items.proofs.Distances.{arrives}
 use Rattle.sim_items.proofs.InRam.{code_here}
@@ -39,7 +39,7 @@ call_expands b func item call is plain =
     ∙ ap (λ m. m ++ (Jal 31 (distance (address + 4 * length m) target) ∷ [])) plain
     ∙ ap (λ a. Jal 31 (distance a target) ∷ []) zero
 
-module _ (b : Build) (view : View) (arrivals : List Arrival) (count : ℕ) (state : State) (s : System) (here : At b view arrivals count state s)
+module _ (b : Build) (view : View) (arrivals : List Arrival) (count : ℕ) (state : State) (s : System) (here : StandsAt b view arrivals count state s)
     (t : ℕ) (item : AtItem b (outside.n b view arrivals (progress_in b) count state s here) (outside.s1 b view arrivals (progress_in b) count state s here) t)
     (placed : ItemStands b view item.frame.func item.frame.item) (jump : JumpsToService b item.frame.func item.frame.item) where
   abbrev n : State
@@ -78,12 +78,12 @@ module _ (b : Build) (view : View) (arrivals : List Arrival) (count : ℕ) (stat
   link = (0x8000_0000 + offset + 4) % 4294967296
 
   abbrev next : State
-  next = at jump.block (record n.core { registers = set n.core.registers 31 link })
+  next = offset_state jump.block (record n.core { registers = set n.core.registers 31 link })
 
   code : Here n.core.ram offset (Jal 31 (distance address target))
   code = code_here b n s1 address (Jal 31 (distance address target)) now instruction
 
-  n_is : n ≡ at offset n.core
+  n_is : n ≡ offset_state offset n.core
   n_is = ap (λ p. record { pc = p; core = n.core }) (pc_is ∙ instruction.is)
 
   arrives_there : plus (0x8000_0000 + offset) (distance address target) ≡ 0x8000_0000 + jump.block
@@ -105,7 +105,7 @@ module _ (b : Build) (view : View) (arrivals : List Arrival) (count : ℕ) (stat
       ∙ jump_at jump.block (record n.core { registers = set n.core.registers 31 link }) aligned
 
   untouched : touched n ≡ None
-  unfolding touched_by
+  unfolding touched_line_by
   untouched = ap touched n_is ∙ touched_at offset n.core (Jal 31 (distance address target)) code.0
 
   last_is : last_address b.app b.places item.frame.func item.frame.item ≡ address
@@ -155,6 +155,6 @@ module _ (b : Build) (view : View) (arrivals : List Arrival) (count : ℕ) (stat
     next,
     outside.one_instruction b view arrivals (progress_in b) count state s here next [] s1 stepped untouched
         (outside.marked_shows b view arrivals (progress_in b) count state s here next mark [] (ap (mark_at view) (pc_is ∙ sym last_is) ∙ placed.marked)
-        (ap (λ o. events_of_kind (mark_kind o) view mark (seen_at (outside.given b view arrivals (progress_in b) count state s here) count state next)) jump.is))
+        (ap (λ o. events_of_kind (mark_kind o) view mark (seen_step_at (outside.given b view arrivals (progress_in b) count state s here) count state next)) jump.is))
         refl (λ e. rises) stands_next,
   )

@@ -7,7 +7,7 @@ use Rattle.rv32_instr.specs.Ram.{word_at, with_word}
 use Rattle.masked_code.proofs.Words.{length-with_word, get_or-with_word, word_at-other, word_at-same}
 use Rattle.osek_scheduler.specs.State.{Frame, System, task}
 use Rattle.sim_relation.specs.Build.{Build, Fits}
-use Rattle.sim_relation.specs.Position.{AreWords, FramesAt, OuterAt}
+use Rattle.sim_relation.specs.Position.{AreWords, AreFrames, AreOuterFrames}
 use Rattle.sim_relation.specs.DataStands.{DataStands}
 use Rattle.sim_relation.specs.Framing.{Agree}
 use Rattle.sim_relation.specs.Moves.{OthersKept}
@@ -87,7 +87,7 @@ module _ (b : Build) (fits : Fits b) (ram : List ℕ) (s : System) (t : ℕ) (in
   part_data i d = outside_part i (fits.outside t i inside (inr d))
 
 module _ (b : Build) (fits : Fits b) (ram : List ℕ) (s : System) (t : ℕ) (inside : t < length b.config.tasks) (alive : IsAlive (task s t)) (apart : StacksApart b s)
-    (long : length ram ≡ 0x20_0000) (frame : Frame) (outer : List Frame) (place : ℕ) (room : b.low t + 128 ≤ place) (stood : FramesAt b ram frame outer place (b.top t))
+    (long : length ram ≡ 0x20_0000) (frame : Frame) (outer : List Frame) (place : ℕ) (room : b.low t + 128 ≤ place) (stood : AreFrames b ram frame outer place (b.top t))
     (word value : ℕ) (here : word < length frame.words) (small : value < 4294967296) where
   abbrev spot : ℕ
   spot = place + 4 * word
@@ -108,7 +108,7 @@ module _ (b : Build) (fits : Fits b) (ram : List ℕ) (s : System) (t : ℕ) (in
   frame_data symbols = data_kept b ram new symbols (part_data b fits ram s t inside alive apart spot value in_part.0 in_part.1)
 
   -- and the frame has the word
-  pub frame_stood : (item : ℕ) → FramesAt b new (record frame { item = item; words = set frame.words word value }) outer place (b.top t)
+  pub frame_stood : (item : ℕ) → AreFrames b new (record frame { item = item; words = set frame.words word value }) outer place (b.top t)
   frame_stood item =
       let size = length-set frame.words word value in
       let to = fits.to t inside in
@@ -129,7 +129,7 @@ module _ (b : Build) (fits : Fits b) (ram : List ℕ) (s : System) (t : ℕ) (in
             ∙ words_at ram frame.words place k (omega arith) stood.1
             ∙ sym (get_or-set_other frame.words word k value 0 e))
             (cases_eq k word)),
-        subst (λ p. OuterAt b new outer p (b.top t)) (sym end)
+        subst (λ p. AreOuterFrames b new outer p (b.top t)) (sym end)
             (outer_kept b ram new (place + 4 * length frame.words) (b.top t)
             (λ i x y. get_or-with_word ram spot value i (inr (omega arith)))
             outer (place + 4 * length frame.words) (omega arith) stood.2),

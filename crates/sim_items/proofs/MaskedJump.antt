@@ -11,11 +11,11 @@ use Rattle.sloth_base.specs.declared.event.Arrival.{Arrival}
 use Rattle.sloth_base.specs.declared.image.Mark.{Mark}
 use Rattle.rv32_instr.specs.Effect.{effect}
 use Rattle.rv32_instr.specs.Encode.{Encode}
-use Rattle.rv32_instr.specs.Execute.{Going, step, touched, touched_by, perform, jumps}
+use Rattle.rv32_instr.specs.Execute.{Going, step, touched, touched_line_by, perform, jumps}
 use Rattle.rv32_instr.specs.declared.InstrKind.{InstrKind}
 use Rattle.rv32_instr.specs.declared.InstrKind.TheVariants.{Lui, Addi, Jal}
 use Rattle.rv32_instr.specs.declared.effect.Effect.TheVariants.{Write}
-use Rattle.masked_code.specs.Place.{at}
+use Rattle.masked_code.specs.Place.{offset_state}
 use Rattle.masked_code.proofs.Machine.{jump_at}
 use Rattle.masked_code.proofs.Parts.{hi_lo}
 use Rattle.rv32_expand.specs.Expansion.{item_address, block_address, distance, is_long, operation_code, expansion}
@@ -23,12 +23,12 @@ use Rattle.rv32_expand.specs.InPlace.{item_mark, last_address, mark_kind}
 use Rattle.observe.specs.Observe.{View, mark_at, events_of_kind}
 use Rattle.osek_scheduler.specs.State.{System, task}
 use Rattle.osek_scheduler.specs.Meaning.{register}
-use Rattle.sim_induction.specs.PieceLaws.{seen_at}
+use Rattle.sim_induction.specs.PieceLaws.{seen_step_at}
 use Rattle.sim_relation.specs.Build.{Build}
 use Rattle.sim_relation.specs.Position.{HasMask, HasScratch, thread_of}
 use Rattle.sim_relation.specs.Stands.{Stands}
-use Rattle.sim_items.specs.Place.{AtItem, IsOwn, ItemStands}
-use Rattle.sim_items.specs.Outside.{At, GoesOutside, JumpsWithMask}
+use Rattle.sim_items.specs.Place.{AtItem, IsTaskRegister, ItemStands}
+use Rattle.sim_items.specs.Outside.{StandsAt, GoesOutside, JumpsWithMask}
 use Rattle.sim_items.specs.Progress.{progress_in}
 use Rattle.sim_items.proofs.Distances.{arrives}
 use Rattle.sim_items.proofs.InRam as code
@@ -39,7 +39,7 @@ use Rattle.sim_items.proofs.Registers.{own_agrees}
 use Rattle.sim_items.proofs.Scratch.{SameRegisters, scratch_passes}
 use Rattle.sim_items.proofs.Outside as outside
 
-module _ (b : Build) (view : View) (arrivals : List Arrival) (count : ℕ) (state : State) (s : System) (here : At b view arrivals count state s)
+module _ (b : Build) (view : View) (arrivals : List Arrival) (count : ℕ) (state : State) (s : System) (here : StandsAt b view arrivals count state s)
     (t : ℕ) (item : AtItem b (outside.n b view arrivals (progress_in b) count state s here) (outside.s1 b view arrivals (progress_in b) count state s here) t)
     (placed : ItemStands b view item.frame.func item.frame.item) (jump : JumpsWithMask b item.frame.func item.frame.item) where
   abbrev n : State
@@ -96,7 +96,7 @@ module _ (b : Build) (view : View) (arrivals : List Arrival) (count : ℕ) (stat
   three : size ≡ 3
   three = ap (λ (c : List InstrKind). length c) item_expands
 
-  agree : (r : ℕ) → IsOwn r → slice_index x r ≡ register own r
+  agree : (r : ℕ) → IsTaskRegister r → slice_index x r ≡ register own r
   agree = own_agrees x own now.fixed.zero item.context.registers
 
   scratch : HasMask mask item.here.done (thread_of n)
@@ -142,7 +142,7 @@ module _ (b : Build) (view : View) (arrivals : List Arrival) (count : ℕ) (stat
     link = (0x8000_0000 + offset + 4) % 4294967296
 
     abbrev next : State
-    next = at jump.block (record n.core { registers = set x 31 link })
+    next = offset_state jump.block (record n.core { registers = set x 31 link })
 
     here_is : 0x8000_0000 + offset ≡ address + 8
     here_is = let o = offset_is in let d = two in omega arith
@@ -164,8 +164,8 @@ module _ (b : Build) (view : View) (arrivals : List Arrival) (count : ℕ) (stat
         ap (λ p. jumps p (record n.core { registers = set x 31 link })) arrives_there
         ∙ jump_at jump.block (record n.core { registers = set x 31 link }) aligned
 
-    quiet : touched_by (effect jumps_there (0x8000_0000 + offset) x) ≡ None
-    unfolding touched_by
+    quiet : touched_line_by (effect jumps_there (0x8000_0000 + offset) x) ≡ None
+    unfolding touched_line_by
     quiet = refl
 
     stepped : step n ≡ Going next
@@ -216,7 +216,7 @@ module _ (b : Build) (view : View) (arrivals : List Arrival) (count : ℕ) (stat
       next,
       outside.one_instruction b view arrivals (progress_in b) count state s here next [] s1 stepped untouched
           (outside.marked_shows b view arrivals (progress_in b) count state s here next mark [] (ap (mark_at view) (item.here.pc ∙ sym last_is) ∙ placed.marked)
-          (ap (λ o. events_of_kind (mark_kind o) view mark (seen_at (outside.given b view arrivals (progress_in b) count state s here) count state next)) jump.is))
+          (ap (λ o. events_of_kind (mark_kind o) view mark (seen_step_at (outside.given b view arrivals (progress_in b) count state s here) count state next)) jump.is))
           refl (λ e. rises) stands_next,
     )
 

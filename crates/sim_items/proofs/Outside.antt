@@ -8,12 +8,12 @@ use Rattle.sloth_base.specs.declared.event.Event.TheVariants as event
 use Rattle.sloth_base.specs.declared.event.Arrival.{Arrival}
 use Rattle.sloth_base.specs.Choose.{choose}
 use Rattle.sloth_base.specs.Machine.{State}
-use Rattle.sloth_base.specs.Take.{line_to_take, enter}
+use Rattle.sloth_base.specs.Take.{line_to_take, entry_state}
 use Rattle.sloth_region.specs.Layout.{cur}
 use Rattle.rv32_instr.specs.Ram.{word_at}
 use Rattle.rv32_instr.specs.Execute.{Going, step, touched}
-use Rattle.rv32_machine.specs.Run.{arrived}
-use Rattle.masked_code.specs.Place.{at, InPlace}
+use Rattle.rv32_machine.specs.Run.{state_with_arrivals}
+use Rattle.masked_code.specs.Place.{offset_state, InPlace}
 use Rattle.rv32_expand.specs.Expansion.{item_address, expansion}
 use Rattle.sloth_base.specs.Named.{operation, function}
 use Rattle.sloth_base.specs.declared.lines.Owners.{Owners}
@@ -23,12 +23,12 @@ use Rattle.osek_scheduler.specs.State.{System}
 use Rattle.osek_scheduler.specs.Priority.{IsTop}
 use Rattle.osek_scheduler.specs.Steps.{settled_state}
 use Rattle.sim_induction.specs.Admits.{Setting, lines_at, with_admits}
-use Rattle.sim_induction.specs.PieceLaws.{OutsideLaw, Shows, seen_at}
+use Rattle.sim_induction.specs.PieceLaws.{OutsideLaw, Shows, seen_step_at}
 use Rattle.sim_induction.proofs.Routes.{begins_none}
 use Rattle.sim_induction.proofs.Schedule.{owned_at}
 use Rattle.sim_induction.proofs.Stretched.{task_is}
 use Rattle.sim_relation.specs.Build.{Build}
-use Rattle.sim_relation.specs.Context.{Running, RunsIdle}
+use Rattle.sim_relation.specs.Context.{RunsFirst, RunsIdle}
 use Rattle.sim_relation.specs.Stands.{Stands}
 use Rattle.sim_relation.proofs.Arrive.{stands_arrived, stands_fresh}
 use Rattle.sim_relation.proofs.Placed.{placed_in, first_by_word}
@@ -37,12 +37,12 @@ use Rattle.sim_items.proofs.Cases.{mark_shows}
 use Rattle.sim_items.specs.Place.{AtItem, ItemStands, IsStraight, HasNumbers}
 use Rattle.sim_items.specs.ItemSteps.{RunsItem}
 use Rattle.sim_relation.specs.Placed.{setting_of}
-use Rattle.sim_items.specs.Outside.{At, GoesOutside, HasIdle}
+use Rattle.sim_items.specs.Outside.{StandsAt, GoesOutside, HasIdle}
 use Rattle.sim_items.proofs.Straight.{straight_run}
 
-module _ (b : Build) (view : View) (arrivals : List Arrival) (progress : State → System → ℕ) (count : ℕ) (state : State) (s : System) (here : At b view arrivals count state s) where
+module _ (b : Build) (view : View) (arrivals : List Arrival) (progress : State → System → ℕ) (count : ℕ) (state : State) (s : System) (here : StandsAt b view arrivals count state s) where
   abbrev pub n : State
-  n = arrived arrivals count state
+  n = state_with_arrivals arrivals count state
 
   abbrev pub s1 : System
   s1 = with_admits (lines_at arrivals count) s
@@ -61,14 +61,14 @@ module _ (b : Build) (view : View) (arrivals : List Arrival) (progress : State �
 
   -- any instruction after which the relation stands
   pub one_instruction : (next : State) (whats : List Event) (after : System) → step n ≡ Going next → touched n ≡ None
-      → outside_events (mark_at view n.pc) view (seen_at given count state next) ≡ whats → Shows given whats s1 after
+      → outside_events (mark_at view n.pc) view (seen_step_at given count state next) ≡ whats → Shows given whats s1 after
       → (whats ≡ [] → progress state s < progress next after) → Stands b next after → OutsideLaw given (Stands b) progress count state s next
   one_instruction next whats after goes quiet shown shows rises related = record {
-    goes = ap (λ o. step (enter o n)) none ∙ goes;
+    goes = ap (λ o. step (entry_state o n)) none ∙ goes;
     outside = begins_none count n next here.after_boot none related.fixed.open_to_lines;
-    untouched = subst (λ o. IfSome o (Contains [])) (sym (ap (λ o. touched (enter o n)) none ∙ quiet)) tt;
+    untouched = subst (λ o. IfSome o (Contains [])) (sym (ap (λ o. touched (entry_state o n)) none ∙ quiet)) tt;
     whats = whats;
-    whats_are = ap (λ o. outside_events (mark_at view (enter o n).pc) view (seen_at given count state next)) none ∙ shown;
+    whats_are = ap (λ o. outside_events (mark_at view (entry_state o n).pc) view (seen_step_at given count state next)) none ∙ shown;
     after = after;
     shows = shows;
     progresses = rises;
@@ -77,8 +77,8 @@ module _ (b : Build) (view : View) (arrivals : List Arrival) (progress : State �
 
   -- what it shows at a mark
   pub marked_shows : (next : State) (mark : Mark) (whats : List Event) → mark_at view n.pc ≡ Some mark
-      → events_of_kind mark.kind view mark (seen_at given count state next) ≡ whats → outside_events (mark_at view n.pc) view (seen_at given count state next) ≡ whats
-  marked_shows next mark whats marked shown = ap (λ m. outside_events m view (seen_at given count state next)) marked ∙ shown
+      → events_of_kind mark.kind view mark (seen_step_at given count state next) ≡ whats → outside_events (mark_at view n.pc) view (seen_step_at given count state next) ≡ whats
+  marked_shows next mark whats marked shown = ap (λ m. outside_events m view (seen_step_at given count state next)) marked ∙ shown
 
   -- the running task is the top task
   pub top_here : (t : ℕ) → word_at n.core.ram cur ≡ t + 1 → IsTop b.config s1 [] t
@@ -95,10 +95,10 @@ module _ (b : Build) (view : View) (arrivals : List Arrival) (progress : State �
     abbrev result : ℕ
     result = slice_index runs.next.core.registers (result_register (operation b.app func item))
 
-    shown : events_of_kind mark.kind view mark (seen_at given count state runs.next) ≡ event.Run t func item result ∷ []
+    shown : events_of_kind mark.kind view mark (seen_step_at given count state runs.next) ≡ event.Run t func item result ∷ []
     shown =
         let l : t < view.owners.tasks = let v = ap (λ (o : Owners). o.tasks) here.setting.owners in let h = (top_here t current).declared in omega arith in
-        ap (λ m. events_of_kind m.kind view m (seen_at given count state runs.next)) (is_item (last_address b.app b.places func item))
+        ap (λ m. events_of_kind m.kind view m (seen_step_at given count state runs.next)) (is_item (last_address b.app b.places func item))
         ∙ ap (λ u. event.Run u func item result ∷ []) (ap (running_task view.owners.tasks) current ∙ task_is view.owners.tasks t l)
 
     -- an instruction with a mark shows its event
@@ -132,15 +132,15 @@ module _ (b : Build) (view : View) (arrivals : List Arrival) (progress : State �
       where
         by : (stack : List ℕ) → now.stack ≡ stack → now.stack ≡ []
         by [] e = e
-        by (t ∷ below) e = let r = (subst (Running b n s1) e now.running).current in absurd (omega arith)
+        by (t ∷ below) e = let r = (subst (RunsFirst b n s1) e now.running).current in absurd (omega arith)
 
     runs_idle : RunsIdle b n
-    runs_idle = subst (Running b n s1) empty now.running
+    runs_idle = subst (RunsFirst b n s1) empty now.running
 
     pc_is : n.pc ≡ 0x8000_0000 + idle.offset
     pc_is = runs_idle.pc ∙ idle.is
 
-    n_is : n ≡ at idle.offset n.core
+    n_is : n ≡ offset_state idle.offset n.core
     n_is = ap (λ p. record { pc = p; core = n.core }) pc_is
 
     placed : InPlace n.core.ram idle.offset idle.code
@@ -158,6 +158,6 @@ module _ (b : Build) (view : View) (arrivals : List Arrival) (progress : State �
       n,
       one_instruction n (event.Idle ∷ []) (settled_state s1) stays (ap touched n_is ∙ idle.idles.untouched idle.offset n.core placed)
           (marked_shows n idle.mark (event.Idle ∷ []) (ap (mark_at view) runs_idle.pc ∙ idle.marked)
-          (ap (λ k. events_of_kind k view idle.mark (seen_at given count state n)) idle.shows))
+          (ap (λ k. events_of_kind k view idle.mark (seen_step_at given count state n)) idle.shows))
           (now.tidy.booted, none_due b n s1 now few here.none empty, quiet b n s1 now here.none, refl) (λ e. cc) (stands_fresh b n s1 [] now),
     )

@@ -6,31 +6,31 @@ use Rattle.std.proofs.lemmas.List.{set-get_or}
 use Rattle.sloth_base.specs.declared.event.Arrival.{Arrival}
 use Rattle.sloth_base.specs.Machine.{Core, State}
 use Rattle.sloth_region.specs.Layout.{cur, context_bytes}
-use Rattle.rv32_instr.specs.Execute.{Going, step, touched, touched_by, perform}
+use Rattle.rv32_instr.specs.Execute.{Going, step, touched, touched_line_by, perform}
 use Rattle.rv32_instr.specs.Ram.{word_at}
 use Rattle.rv32_expand.specs.Expansion.{item_address, expansion}
 use Rattle.observe.specs.Observe.{View, mark_at, outside_events}
 use Rattle.osek_scheduler.specs.State.{Frame, Task, System, task, sleeping_task}
 use Rattle.sim_induction.specs.Admits.{lines_at}
-use Rattle.sim_induction.specs.PieceLaws.{seen_at}
+use Rattle.sim_induction.specs.PieceLaws.{seen_step_at}
 use Rattle.sim_induction.proofs.Passing.{not_suspended, kept_admits}
 use Rattle.sim_relation.specs.Build.{Build}
-use Rattle.sim_relation.specs.Position.{Position, thread_of}
-use Rattle.sim_relation.specs.Context.{Running, RunsTask}
+use Rattle.sim_relation.specs.Position.{IsPosition, thread_of}
+use Rattle.sim_relation.specs.Context.{RunsFirst, RunsTask}
 use Rattle.sim_relation.specs.Stands.{Stands, IsActive}
-use Rattle.sim_relation.specs.Moves.{moved_to, TaskStep, SameMachine}
+use Rattle.sim_relation.specs.Moves.{moved_system, TaskStep, SameMachine}
 use Rattle.sim_relation.proofs.Arrive.{stands_fresh}
 use Rattle.sim_relation.proofs.Contexts.{data_kept}
 use Rattle.sim_relation.proofs.Framing.{word_kept}
 use Rattle.sim_relation.proofs.TaskSteps.{task_steps}
 use Rattle.sim_relation.proofs.Placed.{first_by_word, active_by_word}
 use Rattle.sim_items.specs.Place.{ItemStands}
-use Rattle.sim_items.specs.Outside.{At, GoesOutside}
-use Rattle.sim_items.specs.Progress.{passed_at, passed_in, progress_in}
+use Rattle.sim_items.specs.Outside.{StandsAt, GoesOutside}
+use Rattle.sim_items.specs.Progress.{passed_count_at, passed_count_in, progress_in}
 use Rattle.rv32_instr.specs.declared.InstrKind.{InstrKind}
 use Rattle.rv32_instr.specs.Encode.{Encode}
 use Rattle.rv32_instr.specs.Effect.{effect}
-use Rattle.masked_code.specs.Place.{at}
+use Rattle.masked_code.specs.Place.{offset_state}
 use Rattle.sim_items.proofs.InRam as code
 use Rattle.sim_items.proofs.Keeping.{Keeps}
 use Rattle.sim_items.proofs.Outside as outside
@@ -38,14 +38,14 @@ use Rattle.sim_items.proofs.Outside as outside
 -- ---- the measure
 
 -- behind so many instructions so many are passed
-pub at_done : (address count done : ℕ) → done < count → passed_at address count (address + 4 * done) ≡ done
+pub at_done : (address count done : ℕ) → done < count → passed_count_at address count (address + 4 * done) ≡ done
 at_done address count done h =
     let z : (address + 4 * done - address) / 4 ≡ done = omega arith in
     ap (λ b. cond b ((address + 4 * done - address) / 4) 40)
     (and_from _ _ (le-leb address (address + 4 * done) (omega arith)) (lt-ltb (address + 4 * done) (address + 4 * count) (omega arith))) ∙ z
 
 -- elsewhere the measure has its greatest value
-pub at_none : (address count pc : ℕ) → (pc < address) ⊎ (address + 4 * count ≤ pc) → passed_at address count pc ≡ 40
+pub at_none : (address count pc : ℕ) → (pc < address) ⊎ (address + 4 * count ≤ pc) → passed_count_at address count pc ≡ 40
 at_none address count pc (inl h) = ap (λ b. cond b ((pc - address) / 4) 40) (and_left _ _ (lt-leb address pc h))
 at_none address count pc (inr h) = ap (λ b. cond b ((pc - address) / 4) 40) (and_right _ _ (le-ltb pc (address + 4 * count) h))
 
@@ -60,11 +60,11 @@ pub record Passes (b : Build) (n next : State) (s : System) (t : ℕ) : Type 0 w
   pub registers : (i : ℕ) → 5 ≤ i → i < 30 → slice_index next.core.registers i ≡ slice_index n.core.registers i
   pub place : ℕ
   pub x2 : slice_index next.core.registers 2 ≡ 0x8000_0000 + place
-  pub position : Position b next.core.ram t (task s t) (thread_of next) place
+  pub position : IsPosition b next.core.ram t (task s t) (thread_of next) place
   pub room : b.low t + context_bytes ≤ place
   pub aligned : place % 4 ≡ 0
 
-module _ (b : Build) (view : View) (arrivals : List Arrival) (count : ℕ) (state : State) (s : System) (here : At b view arrivals count state s)
+module _ (b : Build) (view : View) (arrivals : List Arrival) (count : ℕ) (state : State) (s : System) (here : StandsAt b view arrivals count state s)
     (t : ℕ) (current : word_at (outside.n b view arrivals (progress_in b) count state s here).core.ram cur ≡ t + 1)
     (frame : Frame) (outer : List Frame) (frames : (task (outside.s1 b view arrivals (progress_in b) count state s here) t).frames ≡ frame ∷ outer) where
   abbrev n : State
@@ -86,7 +86,7 @@ module _ (b : Build) (view : View) (arrivals : List Arrival) (count : ℕ) (stat
   found = first_by_word b n s1 t now.stack now.running current
 
   run : RunsTask b n s1 t found.0
-  run = subst (Running b n s1) found.1 now.running
+  run = subst (RunsFirst b n s1) found.1 now.running
 
   here_now : IsActive b s1 t
   here_now = active_by_word b n s1 t now current
@@ -119,14 +119,14 @@ module _ (b : Build) (view : View) (arrivals : List Arrival) (count : ℕ) (stat
     pub passes_stand : Stands b next s1
     passes_stand =
         subst (Stands b next) (ap (λ (v : List Task). record s1 { tasks = v }) (set-get_or s1.tasks t sleeping_task))
-        (stands_fresh b next (moved_to s1 t (task s1 t) s1.symbols) s1.fresh
+        (stands_fresh b next (moved_system s1 t (task s1 t) s1.symbols) s1.fresh
         (task_steps b n next s1 now here.fits t found.0 found.1 (task s1 t) s1.symbols task_step))
 
     current_next : word_at next.core.ram cur - 1 ≡ t
     current_next = let c = current in let e = word_kept n.core.ram next.core.ram 0 1024 cur passes.kept.low (omega arith) (omega arith) in omega arith
 
-    pub progress_next : progress_in b next s1 ≡ passed_at address size next.pc
-    progress_next = ap (passed_in b next.pc) (ap (λ v. (task s1 v).frames) current_next ∙ frames)
+    pub progress_next : progress_in b next s1 ≡ passed_count_at address size next.pc
+    progress_next = ap (passed_count_in b next.pc) (ap (λ v. (task s1 v).frames) current_next ∙ frames)
 
   -- the task's frames, found by the word at 0x80000000 before the arrivals of the count
   frames_of : (task s (word_at state.core.ram cur - 1)).frames ≡ frame ∷ outer
@@ -136,7 +136,7 @@ module _ (b : Build) (view : View) (arrivals : List Arrival) (count : ℕ) (stat
       ap (λ v. (task s v).frames) e ∙ sym (ap (λ v. v.frames) (kept_admits (lines_at arrivals count) t s (not_suspended (task s t).state a))) ∙ frames
 
   pub progress_now : (done : ℕ) → n.pc ≡ address + 4 * done → done < size → progress_in b state s ≡ done
-  progress_now done pc l = ap (passed_in b state.pc) frames_of ∙ ap (passed_at address size) pc ∙ at_done address size done l
+  progress_now done pc l = ap (passed_count_in b state.pc) frames_of ∙ ap (passed_count_at address size) pc ∙ at_done address size done l
 
   -- ---- the instruction
 
@@ -146,7 +146,7 @@ module _ (b : Build) (view : View) (arrivals : List Arrival) (count : ℕ) (stat
     rises : progress_in b state s < progress_in b next s1
     rises =
         let first : progress_in b state s ≡ done = progress_now done pc_is (omega arith) in
-        let last : progress_in b next s1 ≡ done + steps = progress_next next passes ∙ ap (passed_at address size) next_pc ∙ at_done address size (done + steps) within in
+        let last : progress_in b next s1 ≡ done + steps = progress_next next passes ∙ ap (passed_count_at address size) next_pc ∙ at_done address size (done + steps) within in
         omega arith
 
     unmarked : mark_at view n.pc ≡ None
@@ -157,7 +157,7 @@ module _ (b : Build) (view : View) (arrivals : List Arrival) (count : ℕ) (stat
     passing_outside = (
       next,
       outside.one_instruction b view arrivals (progress_in b) count state s here next [] s1 stepped untouched
-          (ap (λ m. outside_events m view (seen_at (outside.given b view arrivals (progress_in b) count state s here) count state next)) unmarked)
+          (ap (λ m. outside_events m view (seen_step_at (outside.given b view arrivals (progress_in b) count state s here) count state next)) unmarked)
           refl (λ e. rises) (passes_stand next passes),
     )
 
@@ -166,9 +166,9 @@ module _ (b : Build) (view : View) (arrivals : List Arrival) (count : ℕ) (stat
       (before : List InstrKind) (kind : InstrKind) (rest : List InstrKind) (expands : expansion b.app b.places frame.func frame.item ≡ before ++ (kind ∷ rest)) (reached : length before ≡ done)
       (steps : ℕ) (some : 0 < steps) (within : done + steps < size) (core_now : Core)
       (performs : (offset word : ℕ) → 0x8000_0000 + offset ≡ address + 4 * done → offset + 4 ≤ 0x20_0000 → offset % 4 ≡ 0
-      → perform (effect kind (0x8000_0000 + offset) n.core.registers) word (0x8000_0000 + offset) n.core ≡ Going (at (offset + 4 * steps) core_now))
-      (quiet : (pc : ℕ) → touched_by (effect kind pc n.core.registers) ≡ None)
-      (passes : (offset : ℕ) → 0x8000_0000 + offset ≡ address + 4 * done → Passes b n (at (offset + 4 * steps) core_now) s1 t) where
+      → perform (effect kind (0x8000_0000 + offset) n.core.registers) word (0x8000_0000 + offset) n.core ≡ Going (offset_state (offset + 4 * steps) core_now))
+      (quiet : (pc : ℕ) → touched_line_by (effect kind pc n.core.registers) ≡ None)
+      (passes : (offset : ℕ) → 0x8000_0000 + offset ≡ address + 4 * done → Passes b n (offset_state (offset + 4 * steps) core_now) s1 t) where
     -- from the instruction itself
     pub instruction_outside : GoesOutside b view arrivals (progress_in b) count state s
     instruction_outside =
@@ -176,7 +176,7 @@ module _ (b : Build) (view : View) (arrivals : List Arrival) (count : ℕ) (stat
         let is = code.offset_is b view n s1 here.fits now frame.func frame.item placed done pc_is before kind rest expands reached in
         let inside = code.offset_inside b view n s1 here.fits now frame.func frame.item placed done pc_is before kind rest expands reached in
         let aligned = code.offset_aligned b view n s1 here.fits now frame.func frame.item placed done pc_is before kind rest expands reached in
-        let next : State = at (offset + 4 * steps) core_now in
+        let next : State = offset_state (offset + 4 * steps) core_now in
         passing_outside placed done pc_is steps some within next (omega arith)
         (code.stepped b view n s1 here.fits now frame.func frame.item placed done pc_is before kind rest expands reached next (performs offset (Encode kind) is inside aligned))
         (code.untouched b view n s1 here.fits now frame.func frame.item placed done pc_is before kind rest expands reached (quiet (0x8000_0000 + offset)))

@@ -13,8 +13,8 @@ use Rattle.rv32_instr.specs.declared.InstrKind.{InstrKind}
 use Rattle.rv32_instr.specs.declared.InstrKind.TheVariants.{Lui, Addi, Andi, Add, And}
 use Rattle.rv32_instr.specs.declared.effect.Effect.TheVariants.{Write}
 use Rattle.rv32_instr.specs.Effect.{effect}
-use Rattle.rv32_instr.specs.Execute.{Going, perform, touched_by, goes_on}
-use Rattle.masked_code.specs.Place.{at}
+use Rattle.rv32_instr.specs.Execute.{Going, perform, touched_line_by, goes_on}
+use Rattle.masked_code.specs.Place.{offset_state}
 use Rattle.masked_code.proofs.Machine.{next_at}
 use Rattle.masked_code.proofs.Parts.{hi_lo}
 use Rattle.data_far.specs.Wide.{far_indexed}
@@ -23,7 +23,7 @@ use Rattle.osek_scheduler.specs.State.{Frame}
 use Rattle.osek_scheduler.specs.Meaning.{register}
 use Rattle.sim_relation.specs.Build.{Build}
 use Rattle.sim_relation.specs.Position.{Thread, HasIndexed, HasFarIndexed, HasScratch, thread_of}
-use Rattle.sim_items.specs.Place.{IsOwn, IsStraight}
+use Rattle.sim_items.specs.Place.{IsTaskRegister, IsStraight}
 use Rattle.sim_items.proofs.Cases.{straight_cases}
 use Rattle.sim_items.proofs.Masked.{load_near, load_far, store_near, store_far}
 use Rattle.sim_items.proofs.Registers.{written}
@@ -43,9 +43,9 @@ pub record Prepares (b : Build) (state : State) (own : List ℕ) (frame : Frame)
   pub registers : List ℕ
   pub same : SameRegisters state.core.registers registers
   pub performs : (offset word : ℕ) → offset + 4 ≤ 0x20_0000 → offset % 4 ≡ 0
-      → perform (effect kind (0x8000_0000 + offset) state.core.registers) word (0x8000_0000 + offset) state.core ≡ Going (at (offset + 4 * steps) (record state.core { registers = registers }))
-  pub quiet : (pc : ℕ) → touched_by (effect kind pc state.core.registers) ≡ None
-  pub scratch : (offset : ℕ) → HasScratch b own frame operation (done + steps) (thread_of (at offset (record state.core { registers = registers })))
+      → perform (effect kind (0x8000_0000 + offset) state.core.registers) word (0x8000_0000 + offset) state.core ≡ Going (offset_state (offset + 4 * steps) (record state.core { registers = registers }))
+  pub quiet : (pc : ℕ) → touched_line_by (effect kind pc state.core.registers) ≡ None
+  pub scratch : (offset : ℕ) → HasScratch b own frame operation (done + steps) (thread_of (offset_state offset (record state.core { registers = registers })))
 
 -- a thread that has a value in one register, and all else of these
 pub record Holds (x : List ℕ) (rd value : ℕ) (th : Thread) : Type 0 where
@@ -53,7 +53,7 @@ pub record Holds (x : List ℕ) (rd value : ℕ) (th : Thread) : Type 0 where
   pub others : (i : ℕ) → i ≢ rd → th.x i ≡ slice_index x i
 
 module _ (b : Build) (state : State) (own : List ℕ) (frame : Frame) (long : Bool) (wide : length state.core.registers ≡ 32)
-    (agree : (r : ℕ) → IsOwn r → slice_index state.core.registers r ≡ register own r) where
+    (agree : (r : ℕ) → IsTaskRegister r → slice_index state.core.registers r ≡ register own r) where
   abbrev x : List ℕ
   x = state.core.registers
 
@@ -69,16 +69,16 @@ module _ (b : Build) (state : State) (own : List ℕ) (frame : Frame) (long : Bo
       (more : done + 1 < length (expansion_of o)) (rd value : ℕ) (from : 30 ≤ rd) (to : rd < 32) (writes : (pc : ℕ) → effect kind pc x ≡ Write rd value)
       (scratch : (th : Thread) → Holds x rd value th → HasScratch b own frame o (done + 1) th) where
     performs_write : (offset word : ℕ) → offset + 4 ≤ 0x20_0000
-        → perform (effect kind (0x8000_0000 + offset) x) word (0x8000_0000 + offset) state.core ≡ Going (at (offset + 4 * 1) (record state.core { registers = set x rd value }))
+        → perform (effect kind (0x8000_0000 + offset) x) word (0x8000_0000 + offset) state.core ≡ Going (offset_state (offset + 4 * 1) (record state.core { registers = set x rd value }))
     unfolding perform
     performs_write offset word l =
         ap (λ e. perform e word (0x8000_0000 + offset) state.core) (writes (0x8000_0000 + offset))
         ∙ ap (goes_on (0x8000_0000 + offset)) (written state.core rd value (omega arith))
         ∙ next_at offset (record state.core { registers = set x rd value }) l
 
-    quiet_write : (pc : ℕ) → touched_by (effect kind pc x) ≡ None
-    unfolding touched_by
-    quiet_write pc = ap touched_by (writes pc)
+    quiet_write : (pc : ℕ) → touched_line_by (effect kind pc x) ≡ None
+    unfolding touched_line_by
+    quiet_write pc = ap touched_line_by (writes pc)
 
     -- each of the ten items, and each instruction before its last
     pub prepares : Before o done
@@ -95,7 +95,7 @@ module _ (b : Build) (state : State) (own : List ℕ) (frame : Frame) (long : Bo
       same = record { long = length-set x rd value; same = λ i l. get_or-set_other x rd i value 0 (λ e. omega arith) };
       performs = λ offset word l a. performs_write offset word l;
       quiet = quiet_write;
-      scratch = λ offset. scratch (thread_of (at offset (record state.core { registers = set x rd value })))
+      scratch = λ offset. scratch (thread_of (offset_state offset (record state.core { registers = set x rd value })))
           (record { is = get_or-set_same x rd value 0 (omega arith); others = λ i n. get_or-set_other x rd i value 0 n });
     }
 
@@ -110,7 +110,7 @@ module _ (b : Build) (state : State) (own : List ℕ) (frame : Frame) (long : Bo
 
   -- ---- the address of a masked index
 
-  module _ (o : Op) (index mask address : ℕ) (last : InstrKind) (own_index : IsOwn index) where
+  module _ (o : Op) (index mask address : ℕ) (last : InstrKind) (own_index : IsTaskRegister index) where
     abbrev masked : ℕ
     masked = bit_and (register own index) mask
 

@@ -5,9 +5,9 @@ use Rattle.std.proofs.lemmas.Bool.{cases_eq}
 use Rattle.std.proofs.lemmas.List.{get_or-set_same, get_or-set_other, length-set}
 use Rattle.sloth_base.specs.Machine.{Core}
 use Rattle.rv32_instr.specs.Execute.{with_register}
-use Rattle.osek_scheduler.specs.Meaning.{register, seen_in}
+use Rattle.osek_scheduler.specs.Meaning.{register, shown_value}
 use Rattle.osek_scheduler.specs.Meaning as meaning
-use Rattle.sim_items.specs.Place.{IsOwn}
+use Rattle.sim_items.specs.Place.{IsTaskRegister}
 
 -- a register other than x0 is written
 pub written : (core : Core) (rd value : ℕ) → 0 < rd → with_register core rd value ≡ record core { registers = set core.registers rd value }
@@ -24,7 +24,7 @@ own_register own zero h = absurd (omega arith)
 own_register own (suc r) h = refl
 
 -- both have the same in each register of task code
-pub own_agrees : (x own : List ℕ) → slice_index x 0 ≡ 0 → ((i : ℕ) → i < 25 → slice_index own i ≡ slice_index x (i + 5)) → (r : ℕ) → IsOwn r → slice_index x r ≡ register own r
+pub own_agrees : (x own : List ℕ) → slice_index x 0 ≡ 0 → ((i : ℕ) → i < 25 → slice_index own i ≡ slice_index x (i + 5)) → (r : ℕ) → IsTaskRegister r → slice_index x r ≡ register own r
 own_agrees x own zero_is same r (inl e) = subst (λ v. slice_index x v ≡ register own v) (sym e) zero_is
 own_agrees x own zero_is same r (inr h) =
     let low = h.0 in
@@ -32,7 +32,7 @@ own_agrees x own zero_is same r (inr h) =
     let e : r - 5 + 5 ≡ r = omega arith in
     sym (own_register own r (omega arith) ∙ same (r - 5) (omega arith) ∙ ap (λ v. slice_index x v) e)
 
-seen_value : (rd value : ℕ) → 0 < rd → seen_in rd value ≡ value
+seen_value : (rd value : ℕ) → 0 < rd → shown_value rd value ≡ value
 seen_value zero value h = absurd (omega arith)
 seen_value (suc rd) value h = refl
 
@@ -45,11 +45,11 @@ pub record Wrote (core own : List ℕ) (rd value : ℕ) (core_now own_now : List
   pub x4 : slice_index core_now 4 ≡ slice_index core 4
   pub own_long : length own_now ≡ 25
   pub same : (i : ℕ) → i < 25 → slice_index own_now i ≡ slice_index core_now (i + 5)
-  pub shows : seen_in rd value ≡ slice_index core_now rd
+  pub shows : shown_value rd value ≡ slice_index core_now rd
 
 -- a register that is written in both
 pub wrote : (core : Core) (own : List ℕ) (rd value : ℕ) → length core.registers ≡ 32 → slice_index core.registers 0 ≡ 0 → length own ≡ 25
-    → ((i : ℕ) → i < 25 → slice_index own i ≡ slice_index core.registers (i + 5)) → IsOwn rd
+    → ((i : ℕ) → i < 25 → slice_index own i ≡ slice_index core.registers (i + 5)) → IsTaskRegister rd
     → Wrote core.registers own rd value (with_register core rd value).registers (meaning.with_register own rd value)
 wrote core own rd value long zero_is own_long same (inl e) =
     subst (λ r. Wrote core.registers own r value (with_register core r value).registers (meaning.with_register own r value)) (sym e)

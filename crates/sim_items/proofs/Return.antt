@@ -14,21 +14,21 @@ use Rattle.rv32_instr.specs.declared.InstrKind.{InstrKind}
 use Rattle.rv32_instr.specs.declared.InstrKind.TheVariants.{Lw, Addi, Jalr}
 use Rattle.rv32_instr.specs.Encode.{Encode}
 use Rattle.rv32_instr.specs.Effect.{effect}
-use Rattle.rv32_instr.specs.Execute.{Going, perform, touched_by, jumps, goes_on}
-use Rattle.masked_code.specs.Place.{at}
+use Rattle.rv32_instr.specs.Execute.{Going, perform, touched_line_by, jumps, goes_on}
+use Rattle.masked_code.specs.Place.{offset_state}
 use Rattle.masked_code.proofs.Machine.{next_at}
 use Rattle.rv32_expand.specs.Expansion.{item_address, is_long, operation_code, expansion}
 use Rattle.rv32_expand.specs.InPlace.{result_register, mark_of}
 use Rattle.observe.specs.Observe.{View}
 use Rattle.osek_scheduler.specs.State.{Frame, System, task}
-use Rattle.osek_scheduler.specs.Meaning.{meaning, going_on}
+use Rattle.osek_scheduler.specs.Meaning.{meaning, going_on_frame}
 use Rattle.sim_relation.specs.Build.{Build}
-use Rattle.sim_relation.specs.Position.{Returning, HasScratch, OuterAt, FramesAt, return_address, called_words, thread_of}
+use Rattle.sim_relation.specs.Position.{IsReturning, HasScratch, AreOuterFrames, AreFrames, return_address, called_words, thread_of}
 use Rattle.sim_relation.specs.Stands.{Stands, IsActive}
 use Rattle.sim_relation.proofs.Framing.{outer_below}
 use Rattle.sim_relation.proofs.Placed.{active_by_word}
 use Rattle.sim_items.specs.Place.{AtItem, InReturn, IsReturn}
-use Rattle.sim_items.specs.Outside.{At, GoesOutside}
+use Rattle.sim_items.specs.Outside.{StandsAt, GoesOutside}
 use Rattle.sim_items.specs.Progress.{progress_in}
 use Rattle.sim_items.proofs.Access.{IsPlaceOf, load_at, load_at_quiet, word_number}
 use Rattle.sim_items.proofs.CallCode.{call_size}
@@ -59,7 +59,7 @@ return_mark b func item address o e =
 
 -- ---- the first instruction
 
-module _ (b : Build) (view : View) (arrivals : List Arrival) (count : ℕ) (state : State) (s : System) (here : At b view arrivals count state s)
+module _ (b : Build) (view : View) (arrivals : List Arrival) (count : ℕ) (state : State) (s : System) (here : StandsAt b view arrivals count state s)
     (t : ℕ) (caller : Frame) (rest : List Frame)
     (item : AtItem b (outside.n b view arrivals (progress_in b) count state s here) (outside.s1 b view arrivals (progress_in b) count state s here) t)
     (called_by : item.outer ≡ caller ∷ rest) (back : IsReturn b view item.frame.func item.frame.item caller) where
@@ -96,11 +96,11 @@ module _ (b : Build) (view : View) (arrivals : List Arrival) (count : ℕ) (stat
   abbrev spot : ℕ
   spot = item.place + 4 * words
 
-  outer_at : OuterAt b n.core.ram (caller ∷ rest) spot (b.top t)
+  outer_at : AreOuterFrames b n.core.ram (caller ∷ rest) spot (b.top t)
   outer_at =
       let long = item.stood.0 in
       let e : item.place + 4 * length item.frame.words ≡ spot = omega arith in
-      subst (λ o. OuterAt b n.core.ram o spot (b.top t)) called_by (subst (λ p. OuterAt b n.core.ram item.outer p (b.top t)) e item.stood.2)
+      subst (λ o. AreOuterFrames b n.core.ram o spot (b.top t)) called_by (subst (λ p. AreOuterFrames b n.core.ram item.outer p (b.top t)) e item.stood.2)
 
   link_spot : IsPlaceOf width.Word (plus (slice_index x 2) (pos (4 * words))) spot
   link_spot =
@@ -117,16 +117,16 @@ module _ (b : Build) (view : View) (arrivals : List Arrival) (count : ℕ) (stat
   core_now = record n.core { registers = set x 31 link }
 
   performs : (offset word : ℕ) → offset + 4 ≤ 0x20_0000
-      → perform (effect (loads_link words) (0x8000_0000 + offset) x) word (0x8000_0000 + offset) n.core ≡ Going (at (offset + 4 * 1) core_now)
+      → perform (effect (loads_link words) (0x8000_0000 + offset) x) word (0x8000_0000 + offset) n.core ≡ Going (offset_state (offset + 4 * 1) core_now)
   performs offset word l =
       load_at n.core width.Word 31 2 (pos (4 * words)) spot word (0x8000_0000 + offset) link_spot
       ∙ ap (λ v. goes_on (0x8000_0000 + offset) (record n.core { registers = set x 31 v })) (sym (word_number n.core.ram spot) ∙ outer_at.0)
       ∙ next_at offset core_now l
 
-  quiet : (pc : ℕ) → touched_by (effect (loads_link words) pc x) ≡ None
+  quiet : (pc : ℕ) → touched_line_by (effect (loads_link words) pc x) ≡ None
   quiet pc = load_at_quiet n.core width.Word 31 2 (pos (4 * words)) spot pc link_spot
 
-  passes : (offset : ℕ) → 0x8000_0000 + offset ≡ address + 4 → Passes b n (at offset core_now) s1 t
+  passes : (offset : ℕ) → 0x8000_0000 + offset ≡ address + 4 → Passes b n (offset_state offset core_now) s1 t
   passes offset e =
       let f = now.fixed in
       registers_pass b n s1 t now offset (set x 31 link) (length-set x 31 link) (λ i l z. get_or-set_other x 31 i link 0 (λ q. omega arith)) item.place
@@ -160,7 +160,7 @@ module _ (b : Build) (view : View) (arrivals : List Arrival) (count : ℕ) (stat
 
 -- ---- the others
 
-module _ (b : Build) (view : View) (arrivals : List Arrival) (count : ℕ) (state : State) (s : System) (here : At b view arrivals count state s)
+module _ (b : Build) (view : View) (arrivals : List Arrival) (count : ℕ) (state : State) (s : System) (here : StandsAt b view arrivals count state s)
     (t : ℕ) (item : InReturn b (outside.n b view arrivals (progress_in b) count state s here) (outside.s1 b view arrivals (progress_in b) count state s here) t)
     (back : IsReturn b view item.frame.func item.frame.item item.returning.caller) where
   abbrev m : State
@@ -172,7 +172,7 @@ module _ (b : Build) (view : View) (arrivals : List Arrival) (count : ℕ) (stat
   stands : Stands b m s2
   stands = outside.now b view arrivals (progress_in b) count state s here
 
-  abbrev r : Returning b m.core.ram (b.top t) (task s2 t) item.frame item.outer (thread_of m) item.place
+  abbrev r : IsReturning b m.core.ram (b.top t) (task s2 t) item.frame item.outer (thread_of m) item.place
   r = item.returning
 
   abbrev y : List ℕ
@@ -198,20 +198,20 @@ module _ (b : Build) (view : View) (arrivals : List Arrival) (count : ℕ) (stat
 
   -- ---- x2 is raised
 
-  module _ (frames : FramesAt b ram item.frame item.outer item.place (b.top t)) where
+  module _ (frames : AreFrames b ram item.frame item.outer item.place (b.top t)) where
     abbrev up : ℕ
     up = item.place + (4 + 4 * size)
 
-    outer_up : OuterAt b ram (r.caller ∷ r.rest) (item.place + 4 * size) (b.top t)
+    outer_up : AreOuterFrames b ram (r.caller ∷ r.rest) (item.place + 4 * size) (b.top t)
     outer_up =
         let long = frames.0 in
         let e : item.place + 4 * length item.frame.words ≡ item.place + 4 * size = omega arith in
-        subst (λ o. OuterAt b ram o (item.place + 4 * size) (b.top t)) r.called_by (subst (λ p. OuterAt b ram item.outer p (b.top t)) e frames.2)
+        subst (λ o. AreOuterFrames b ram o (item.place + 4 * size) (b.top t)) r.called_by (subst (λ p. AreOuterFrames b ram item.outer p (b.top t)) e frames.2)
 
-    caller_stands : FramesAt b ram r.caller r.rest up (b.top t)
+    caller_stands : AreFrames b ram r.caller r.rest up (b.top t)
     caller_stands =
         let e : item.place + 4 * size + 4 ≡ up = omega arith in
-        subst (λ p. FramesAt b ram r.caller r.rest p (b.top t)) e (outer_up.1, outer_up.2, outer_up.3)
+        subst (λ p. AreFrames b ram r.caller r.rest p (b.top t)) e (outer_up.1, outer_up.2, outer_up.3)
 
     up_below : up ≤ b.top t
     up_below = let l = outer_below b ram r.rest (up + 4 * length r.caller.words) (b.top t) caller_stands.2 in omega arith
@@ -223,15 +223,15 @@ module _ (b : Build) (view : View) (arrivals : List Arrival) (count : ℕ) (stat
     core_raised = record m.core { registers = set y 2 (0x8000_0000 + up) }
 
     raise_performs : (offset word : ℕ) → offset + 4 ≤ 0x20_0000
-        → perform (effect (raises size) (0x8000_0000 + offset) y) word (0x8000_0000 + offset) m.core ≡ Going (at (offset + 4 * 1) core_raised)
+        → perform (effect (raises size) (0x8000_0000 + offset) y) word (0x8000_0000 + offset) m.core ≡ Going (offset_state (offset + 4 * 1) core_raised)
     unfolding perform
     raise_performs offset word l = ap (λ v. goes_on (0x8000_0000 + offset) (record m.core { registers = set y 2 v })) raised ∙ next_at offset core_raised l
 
-    raise_quiet : (pc : ℕ) → touched_by (effect (raises size) pc y) ≡ None
-    unfolding touched_by
+    raise_quiet : (pc : ℕ) → touched_line_by (effect (raises size) pc y) ≡ None
+    unfolding touched_line_by
     raise_quiet pc = refl
 
-    raise_passes : (offset : ℕ) → 0x8000_0000 + offset ≡ from + 8 → Passes b m (at offset core_raised) s2 t
+    raise_passes : (offset : ℕ) → 0x8000_0000 + offset ≡ from + 8 → Passes b m (offset_state offset core_raised) s2 t
     raise_passes offset e =
         let f = stands.fixed in
         let value = 0x8000_0000 + up in
@@ -264,7 +264,7 @@ module _ (b : Build) (view : View) (arrivals : List Arrival) (count : ℕ) (stat
   -- ---- the jump to the caller
 
   abbrev behind_call : Frame
-  behind_call = going_on r.caller
+  behind_call = going_on_frame r.caller
 
   abbrev goal : ℕ
   goal = item_address b.places r.caller.func (r.caller.item + 1)
@@ -292,8 +292,8 @@ module _ (b : Build) (view : View) (arrivals : List Arrival) (count : ℕ) (stat
       let a = here.fits.items r.caller.func (r.caller.item + 1) in
       ap (λ v. jumps (v - v % 2) m.core) lands ∙ ap (λ v. jumps v m.core) (even goal a) ∙ jumps_to goal m.core a
 
-  jump_quiet : (pc : ℕ) → touched_by (effect goes_back pc y) ≡ None
-  unfolding touched_by
+  jump_quiet : (pc : ℕ) → touched_line_by (effect goes_back pc y) ≡ None
+  unfolding touched_line_by
   jump_quiet pc = refl
 
   meant : meaning b.app (operation b.app item.frame.func item.frame.item) (task s2 t).registers item.frame item.outer s2.symbols
@@ -302,7 +302,7 @@ module _ (b : Build) (view : View) (arrivals : List Arrival) (count : ℕ) (stat
       ap (λ o. meaning b.app o (task s2 t).registers item.frame item.outer s2.symbols) back.is
       ∙ ap (λ outer. meaning b.app op.Return (task s2 t).registers item.frame outer s2.symbols) r.called_by
 
-  jump_goes : m.pc ≡ from + 8 → FramesAt b ram r.caller r.rest item.place (b.top t) → GoesOutside b view arrivals (progress_in b) count state s
+  jump_goes : m.pc ≡ from + 8 → AreFrames b ram r.caller r.rest item.place (b.top t) → GoesOutside b view arrivals (progress_in b) count state s
   jump_goes pc frames =
       let a = count_is in
       let before = loads_link size ∷ raises size ∷ [] in
@@ -320,6 +320,6 @@ module _ (b : Build) (view : View) (arrivals : List Arrival) (count : ℕ) (stat
   -- each further one
   pub return_goes_on : GoesOutside b view arrivals (progress_in b) count state s
   return_goes_on =
-      ⊎_elim (λ (h : (m.pc ≡ from + 4) × FramesAt b ram item.frame item.outer item.place (b.top t)). raise_goes h.1 h.0)
-      (λ (h : (m.pc ≡ from + 8) × FramesAt b ram r.caller r.rest item.place (b.top t)). jump_goes h.0 h.1)
+      ⊎_elim (λ (h : (m.pc ≡ from + 4) × AreFrames b ram item.frame item.outer item.place (b.top t)). raise_goes h.1 h.0)
+      (λ (h : (m.pc ≡ from + 8) × AreFrames b ram r.caller r.rest item.place (b.top t)). jump_goes h.0 h.1)
       r.here

@@ -3,10 +3,10 @@ use Rattle.std.proofs.Common.{◌≡◌, ℕ, ◌+◌, ◌%◌, ◌<◌, ◌≤�
 use Rattle.std.specs.Prelude.{◌⊎◌, ◌≢◌, slice_index}
 use Rattle.sloth_base.specs.Machine.{State}
 use Rattle.sloth_region.specs.Layout.{context_bytes}
-use Rattle.masked_code.specs.Place.{at}
+use Rattle.masked_code.specs.Place.{offset_state}
 use Rattle.osek_scheduler.specs.State.{System, task}
 use Rattle.sim_relation.specs.Build.{Build}
-use Rattle.sim_relation.specs.Position.{Position, InExpansion, AtBlock, thread_of}
+use Rattle.sim_relation.specs.Position.{IsPosition, InExpansion, AtBlock, thread_of}
 use Rattle.sim_relation.specs.Stands.{Stands}
 use Rattle.sim_relation.proofs.Machines.{kept_machine}
 use Rattle.sim_items.specs.Place.{AtItem}
@@ -17,8 +17,8 @@ use Rattle.sim_items.proofs.Passing.{Passes}
 pub registers_pass : (b : Build) (n : State) (s : System) (t : ℕ) → Stands b n s → (offset : ℕ) (registers : List ℕ)
     → length registers ≡ length n.core.registers → ((i : ℕ) → i < 30 → i ≢ 2 → slice_index registers i ≡ slice_index n.core.registers i)
     → (place : ℕ) → slice_index registers 2 ≡ 0x8000_0000 + place
-    → Position b n.core.ram t (task s t) (thread_of (at offset (record n.core { registers = registers }))) place
-    → b.low t + context_bytes ≤ place → place % 4 ≡ 0 → Passes b n (at offset (record n.core { registers = registers })) s t
+    → IsPosition b n.core.ram t (task s t) (thread_of (offset_state offset (record n.core { registers = registers }))) place
+    → b.low t + context_bytes ≤ place → place % 4 ≡ 0 → Passes b n (offset_state offset (record n.core { registers = registers })) s t
 registers_pass b n s t now offset registers long same place x2 position room aligned = record {
   machine = kept_machine b n now.fixed (0x8000_0000 + offset) registers n.core.ram long (same 0 (omega arith) (λ e. omega arith))
       (same 3 (omega arith) (λ e. omega arith) ∙ now.fixed.bases.0, same 4 (omega arith) (λ e. omega arith) ∙ now.fixed.bases.1) refl;
@@ -40,8 +40,8 @@ pub record SameRegisters (old new : List ℕ) : Type 0 where
 
 -- it keeps all but x30 and x31
 pub scratch_passes : (b : Build) (n : State) (s : System) (t : ℕ) → Stands b n s → (item : AtItem b n s t) → (offset : ℕ) (registers : List ℕ) → SameRegisters n.core.registers registers
-    → InExpansion b (task s t) item.frame (thread_of (at offset (record n.core { registers = registers }))) ⊎ AtBlock b item.frame (thread_of (at offset (record n.core { registers = registers })))
-    → Passes b n (at offset (record n.core { registers = registers })) s t
+    → InExpansion b (task s t) item.frame (thread_of (offset_state offset (record n.core { registers = registers }))) ⊎ AtBlock b item.frame (thread_of (offset_state offset (record n.core { registers = registers })))
+    → Passes b n (offset_state offset (record n.core { registers = registers })) s t
 scratch_passes b n s t now item offset registers r stands_at =
     registers_pass b n s t now offset registers r.long (λ i l m. r.same i l) item.place (r.same 2 (omega arith) ∙ item.context.x2)
     (record {

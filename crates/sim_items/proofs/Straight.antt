@@ -5,7 +5,7 @@ use Rattle.sloth_base.specs.declared.app.Op.{Op}
 use Rattle.sloth_base.specs.Machine.{Core, State}
 use Rattle.rv32_instr.specs.Encode.{Encode}
 use Rattle.rv32_instr.specs.Execute.{Going, step, touched, with_register}
-use Rattle.masked_code.specs.Place.{at}
+use Rattle.masked_code.specs.Place.{offset_state}
 use Rattle.masked_code.proofs.Machine.{Here, step_at, touched_at, next_at}
 use Rattle.rv32_expand.specs.Expansion.{item_address, is_long, expansion}
 use Rattle.sloth_base.specs.Named.{operation, function}
@@ -14,14 +14,14 @@ use Rattle.osek_scheduler.specs.declared.state.TaskState.TheVariants as mode
 use Rattle.osek_scheduler.specs.State.{Frame, Task, System, task}
 use Rattle.observe.specs.Observe.{View}
 use Rattle.osek_scheduler.specs.Priority.{IsTop}
-use Rattle.osek_scheduler.specs.Meaning.{Meant}
+use Rattle.osek_scheduler.specs.Meaning.{ItemMeaning}
 use Rattle.osek_scheduler.specs.Meaning as meaning
 use Rattle.osek_scheduler.specs.Steps.{IsAt, Executes}
 use Rattle.sim_relation.specs.Build.{Build, Fits}
 use Rattle.sim_relation.specs.Position.{thread_of}
-use Rattle.sim_relation.specs.Context.{Context}
+use Rattle.sim_relation.specs.Context.{IsContext}
 use Rattle.sim_relation.specs.Stands.{Stands}
-use Rattle.sim_relation.specs.Moves.{moved_to, TaskStep, SameMachine}
+use Rattle.sim_relation.specs.Moves.{moved_system, TaskStep, SameMachine}
 use Rattle.sim_relation.proofs.AtItem.{position_first}
 use Rattle.sim_relation.proofs.Placed.{first_by_word, active_by_word}
 use Rattle.sim_relation.proofs.TaskSteps.{task_steps}
@@ -66,9 +66,9 @@ module _ (b : Build) (view : View) (state : State) (s : System) (t : ℕ) (fits 
     core_now = record (with_register state.core v.rd v.value) { ram = v.ram }
 
     abbrev next : State
-    next = at (instruction.offset + 4) core_now
+    next = offset_state (instruction.offset + 4) core_now
 
-    state_is : state ≡ at instruction.offset state.core
+    state_is : state ≡ offset_state instruction.offset state.core
     state_is =
         let p = here.here.pc in
         let l = v.last in
@@ -125,7 +125,7 @@ module _ (b : Build) (view : View) (state : State) (s : System) (t : ℕ) (fits 
         let l = last in
         omega arith
 
-    context_now : Context b v.ram t own_now (thread_of next) here.place
+    context_now : IsContext b v.ram t own_now (thread_of next) here.place
     context_now = record {
       x2 = w.x2 ∙ here.context.x2;
       registers = w.same;
@@ -154,10 +154,10 @@ module _ (b : Build) (view : View) (state : State) (s : System) (t : ℕ) (fits 
       data_stands = v.data_stands;
     }
 
-    stands_now : Stands b next (moved_to s t own_now v.symbols)
+    stands_now : Stands b next (moved_system s t own_now v.symbols)
     stands_now = let f = first_by_word b state s t k.stack k.running here.current in task_steps b state next s k fits t f.0 f.1 own_now v.symbols task_step
 
-    abbrev meant : Meant
+    abbrev meant : ItemMeaning
     meant = record {
       registers = meaning.with_register own.registers v.rd v.value;
       frames = moved ∷ here.outer;
@@ -168,7 +168,7 @@ module _ (b : Build) (view : View) (state : State) (s : System) (t : ℕ) (fits 
     abbrev is_at : IsAt b.app s t this
     is_at = record { active = active_is; free = here.free; frame = frame; outer = here.outer; frames = here.frames; inside = here.inside; next = refl }
 
-    executes : Executes b.config b.app t frame.func frame.item (slice_index next.core.registers (result_register this)) s (moved_to s t own_now v.symbols)
+    executes : Executes b.config b.app t frame.func frame.item (slice_index next.core.registers (result_register this)) s (moved_system s t own_now v.symbols)
     executes = record {
       top = top;
       operation = this;
@@ -186,7 +186,7 @@ module _ (b : Build) (view : View) (state : State) (s : System) (t : ℕ) (fits 
       next = next;
       goes = stepped;
       untouched = untouched;
-      after = moved_to s t own_now v.symbols;
+      after = moved_system s t own_now v.symbols;
       step_is = (k.tidy.booted, executes);
       stands = stands_now;
     }

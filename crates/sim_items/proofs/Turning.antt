@@ -10,13 +10,13 @@ use Rattle.rv32_instr.specs.Ram.{word_at}
 use Rattle.rv32_expand.specs.Expansion.{item_address}
 use Rattle.rv32_expand.specs.InPlace.{result_register}
 use Rattle.osek_scheduler.specs.State.{Frame, Task, System, task}
-use Rattle.osek_scheduler.specs.Meaning.{Meant, meaning}
+use Rattle.osek_scheduler.specs.Meaning.{ItemMeaning, meaning}
 use Rattle.osek_scheduler.specs.Priority.{IsTop}
 use Rattle.osek_scheduler.specs.Steps.{IsAt, Executes}
 use Rattle.sim_relation.specs.Build.{Build, Fits}
-use Rattle.sim_relation.specs.Context.{Context}
-use Rattle.sim_relation.specs.Moves.{moved_to, TaskStep}
-use Rattle.sim_relation.specs.Position.{FramesAt, thread_of}
+use Rattle.sim_relation.specs.Context.{IsContext}
+use Rattle.sim_relation.specs.Moves.{moved_system, TaskStep}
+use Rattle.sim_relation.specs.Position.{AreFrames, thread_of}
 use Rattle.sim_relation.specs.Stands.{Stands, IsActive}
 use Rattle.sim_relation.proofs.AtItem.{position_first}
 use Rattle.sim_relation.proofs.Machines.{kept_machine}
@@ -26,7 +26,7 @@ use Rattle.sim_items.specs.ItemSteps.{RunsItem}
 
 module _ (b : Build) (state : State) (s : System) (t : ℕ) (fits : Fits b) (k : Stands b state s) (current : word_at state.core.ram cur ≡ t + 1) (top : IsTop b.config s [] t)
     (free : (task s t).owed ≡ false) (frame : Frame) (outer : List Frame) (frames : (task s t).frames ≡ frame ∷ outer) (inside : frame.item < length (function b.app frame.func).items)
-    (place : ℕ) (context : Context b state.core.ram t (task s t) (thread_of state) place) where
+    (place : ℕ) (context : IsContext b state.core.ram t (task s t) (thread_of state) place) where
   abbrev own : Task
   own = task s t
 
@@ -37,10 +37,10 @@ module _ (b : Build) (state : State) (s : System) (t : ℕ) (fits : Fits b) (k :
   active = active_by_word b state s t k current
 
   -- the frames that it leaves, with x2 where it stands
-  abbrev pub turned : Frame → List Frame → Meant
+  abbrev pub turned : Frame → List Frame → ItemMeaning
   turned new rest = record { registers = own.registers; frames = new ∷ rest; symbols = s.symbols; result = 0 }
 
-  module _ (new : Frame) (rest : List Frame) (exists : new.item < length (function b.app new.func).items) (stood : FramesAt b state.core.ram new rest place (b.top t))
+  module _ (new : Frame) (rest : List Frame) (exists : new.item < length (function b.app new.func).items) (stood : AreFrames b state.core.ram new rest place (b.top t))
       (means : meaning b.app this own.registers frame outer s.symbols ≡ Some (turned new rest)) (no_result : result_register this ≡ 0)
       (goes : step state ≡ Going (record { pc = item_address b.places new.func new.item; core = state.core })) (untouched : touched state ≡ None) where
     abbrev next : State
@@ -72,13 +72,13 @@ module _ (b : Build) (state : State) (s : System) (t : ℕ) (fits : Fits b) (k :
       data_stands = k.data_stands;
     }
 
-    stands_now : Stands b next (moved_to s t own_now s.symbols)
+    stands_now : Stands b next (moved_system s t own_now s.symbols)
     stands_now = let f = first_by_word b state s t k.stack k.running current in task_steps b state next s k fits t f.0 f.1 own_now s.symbols task_step
 
     abbrev is_at : IsAt b.app s t this
     is_at = record { active = active.active; free = free; frame = frame; outer = outer; frames = frames; inside = inside; next = refl }
 
-    executes : Executes b.config b.app t frame.func frame.item (slice_index next.core.registers (result_register this)) s (moved_to s t own_now s.symbols)
+    executes : Executes b.config b.app t frame.func frame.item (slice_index next.core.registers (result_register this)) s (moved_system s t own_now s.symbols)
     executes = record {
       top = top;
       operation = this;
@@ -96,7 +96,7 @@ module _ (b : Build) (state : State) (s : System) (t : ℕ) (fits : Fits b) (k :
       next = next;
       goes = goes;
       untouched = untouched;
-      after = moved_to s t own_now s.symbols;
+      after = moved_system s t own_now s.symbols;
       step_is = (k.tidy.booted, executes);
       stands = stands_now;
     }

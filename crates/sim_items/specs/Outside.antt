@@ -10,7 +10,7 @@ use Rattle.sloth_base.specs.Machine.{State}
 use Rattle.sloth_region.specs.Layout.{cur}
 use Rattle.rv32_instr.specs.declared.InstrKind.{InstrKind}
 use Rattle.rv32_instr.specs.Ram.{word_at}
-use Rattle.rv32_machine.specs.Run.{arrived}
+use Rattle.rv32_machine.specs.Run.{state_with_arrivals}
 use Rattle.rv32_expand.specs.Expansion.{item_address, block_address, mask_of, number_in, expansion}
 use Rattle.sloth_base.specs.Named.{operation, function}
 use Rattle.sloth_base.specs.MemoryMap.{memory_base}
@@ -28,13 +28,13 @@ use Rattle.sim_items.specs.Place.{AtItem, InCall, InReturn, ItemStands, Function
 use Rattle.sim_items.specs.Progress.{progress_in}
 
 -- a state at a count from 1 on, which stands
-pub record At (b : Build) (view : View) (arrivals : List Arrival) (count : ℕ) (state : State) (s : System) : Type 0 where
+pub record StandsAt (b : Build) (view : View) (arrivals : List Arrival) (count : ℕ) (state : State) (s : System) : Type 0 where
   pub fits : Fits b
   pub setting : IsSetting (setting_of b view arrivals)
   pub after_boot : 0 < count
   pub stands : Stands b state s
   -- with the arrivals of the count no line is taken
-  pub none : choose (arrived arrivals count state).core ≡ None
+  pub none : choose (state_with_arrivals arrivals count state).core ≡ None
 
 -- the law of one instruction there
 abbrev pub GoesOutside : Build → View → List Arrival → (State → System → ℕ) → ℕ → State → System → Type 0
@@ -45,8 +45,8 @@ GoesOutside b view arrivals progress count state s = (next : State) × OutsideLa
 -- its last instruction advances the run
 abbrev pub StraightItemsGoOn : Type 0
 StraightItemsGoOn = (b : Build) (view : View) (arrivals : List Arrival) (progress : State → System → ℕ) (count : ℕ) (state : State) (s : System) (t : ℕ)
-    → At b view arrivals count state s → (here : AtItem b (arrived arrivals count state) (with_admits (lines_at arrivals count) s) t)
-    → HasNumbers b (arrived arrivals count state) (with_admits (lines_at arrivals count) s)
+    → StandsAt b view arrivals count state s → (here : AtItem b (state_with_arrivals arrivals count state) (with_admits (lines_at arrivals count) s) t)
+    → HasNumbers b (state_with_arrivals arrivals count state) (with_admits (lines_at arrivals count) s)
     → IsStraight b.app here.frame.func (operation b.app here.frame.func here.frame.item) → ItemStands b view here.frame.func here.frame.item
     → here.here.done + 1 ≡ length (expansion b.app b.places here.frame.func here.frame.item)
     → here.frame.item + 1 < length (function b.app here.frame.func).items
@@ -55,7 +55,7 @@ StraightItemsGoOn = (b : Build) (view : View) (arrivals : List Arrival) (progres
 -- an instruction before its last one shows nothing, and makes progress
 abbrev pub ExpansionsGoOn : Type 0
 ExpansionsGoOn = (b : Build) (view : View) (arrivals : List Arrival) (count : ℕ) (state : State) (s : System) (t : ℕ)
-    → At b view arrivals count state s → (here : AtItem b (arrived arrivals count state) (with_admits (lines_at arrivals count) s) t)
+    → StandsAt b view arrivals count state s → (here : AtItem b (state_with_arrivals arrivals count state) (with_admits (lines_at arrivals count) s) t)
     → IsStraight b.app here.frame.func (operation b.app here.frame.func here.frame.item) → ItemStands b view here.frame.func here.frame.item
     → here.here.done + 1 < length (expansion b.app b.places here.frame.func here.frame.item)
     → GoesOutside b view arrivals (progress_in b) count state s
@@ -65,7 +65,7 @@ ExpansionsGoOn = (b : Build) (view : View) (arrivals : List Arrival) (count : �
 -- each instruction of it advances the run: the last one shows its Run event
 abbrev pub FlowingItemsGoOn : Type 0
 FlowingItemsGoOn = (b : Build) (view : View) (arrivals : List Arrival) (count : ℕ) (state : State) (s : System) (t : ℕ)
-    → At b view arrivals count state s → (here : AtItem b (arrived arrivals count state) (with_admits (lines_at arrivals count) s) t)
+    → StandsAt b view arrivals count state s → (here : AtItem b (state_with_arrivals arrivals count state) (with_admits (lines_at arrivals count) s) t)
     → IsFlow b.app here.frame.func here.frame.item (operation b.app here.frame.func here.frame.item) → FunctionStands b view here.frame.func
     → GoesOutside b view arrivals (progress_in b) count state s
 
@@ -74,26 +74,26 @@ FlowingItemsGoOn = (b : Build) (view : View) (arrivals : List Arrival) (count : 
 -- the first instruction of a call shows nothing, and makes progress; its task's frames are a chain of calls
 abbrev pub CallsBegin : Type 0
 CallsBegin = (b : Build) (view : View) (arrivals : List Arrival) (count : ℕ) (state : State) (s : System) (t callee : ℕ)
-    → At b view arrivals count state s → (here : AtItem b (arrived arrivals count state) (with_admits (lines_at arrivals count) s) t)
+    → StandsAt b view arrivals count state s → (here : AtItem b (state_with_arrivals arrivals count state) (with_admits (lines_at arrivals count) s) t)
     → IsCall b view here.frame.func here.frame.item callee → AreCalls b.app t (here.frame ∷ here.outer)
     → GoesOutside b view arrivals (progress_in b) count state s
 
 -- each further one advances the run: the last one shows its Run event
 abbrev pub CallsGoOn : Type 0
 CallsGoOn = (b : Build) (view : View) (arrivals : List Arrival) (count : ℕ) (state : State) (s : System) (t : ℕ)
-    → At b view arrivals count state s → (here : InCall b (arrived arrivals count state) (with_admits (lines_at arrivals count) s) t)
+    → StandsAt b view arrivals count state s → (here : InCall b (state_with_arrivals arrivals count state) (with_admits (lines_at arrivals count) s) t)
     → IsCall b view here.frame.func here.frame.item here.calling.callee → GoesOutside b view arrivals (progress_in b) count state s
 
 -- the first instruction of a return to a caller
 abbrev pub ReturnsBegin : Type 0
 ReturnsBegin = (b : Build) (view : View) (arrivals : List Arrival) (count : ℕ) (state : State) (s : System) (t : ℕ) (caller : Frame) (rest : List Frame)
-    → At b view arrivals count state s → (here : AtItem b (arrived arrivals count state) (with_admits (lines_at arrivals count) s) t)
+    → StandsAt b view arrivals count state s → (here : AtItem b (state_with_arrivals arrivals count state) (with_admits (lines_at arrivals count) s) t)
     → here.outer ≡ caller ∷ rest → IsReturn b view here.frame.func here.frame.item caller → GoesOutside b view arrivals (progress_in b) count state s
 
 -- each further one: the last one shows its Run event
 abbrev pub ReturnsGoOn : Type 0
 ReturnsGoOn = (b : Build) (view : View) (arrivals : List Arrival) (count : ℕ) (state : State) (s : System) (t : ℕ)
-    → At b view arrivals count state s → (here : InReturn b (arrived arrivals count state) (with_admits (lines_at arrivals count) s) t)
+    → StandsAt b view arrivals count state s → (here : InReturn b (state_with_arrivals arrivals count state) (with_admits (lines_at arrivals count) s) t)
     → IsReturn b view here.frame.func here.frame.item here.returning.caller → GoesOutside b view arrivals (progress_in b) count state s
 
 -- ---- the jump to a service that has no mask
@@ -111,7 +111,7 @@ pub record JumpsToService (b : Build) (func item : ℕ) : Type 0 where
 -- It leads to the opening mark of the block, and makes progress.
 abbrev pub ServiceJumpsGoOn : Type 0
 ServiceJumpsGoOn = (b : Build) (view : View) (arrivals : List Arrival) (count : ℕ) (state : State) (s : System) (t : ℕ)
-    → At b view arrivals count state s → (here : AtItem b (arrived arrivals count state) (with_admits (lines_at arrivals count) s) t)
+    → StandsAt b view arrivals count state s → (here : AtItem b (state_with_arrivals arrivals count state) (with_admits (lines_at arrivals count) s) t)
     → ItemStands b view here.frame.func here.frame.item → JumpsToService b here.frame.func here.frame.item
     → GoesOutside b view arrivals (progress_in b) count state s
 
@@ -135,7 +135,7 @@ pub record JumpsWithMask (b : Build) (func item : ℕ) : Type 0 where
 -- Each instruction of it makes progress; the last one leads to the opening mark of the block, with the mask in its register.
 abbrev pub MaskedJumpsGoOn : Type 0
 MaskedJumpsGoOn = (b : Build) (view : View) (arrivals : List Arrival) (count : ℕ) (state : State) (s : System) (t : ℕ)
-    → At b view arrivals count state s → (here : AtItem b (arrived arrivals count state) (with_admits (lines_at arrivals count) s) t)
+    → StandsAt b view arrivals count state s → (here : AtItem b (state_with_arrivals arrivals count state) (with_admits (lines_at arrivals count) s) t)
     → ItemStands b view here.frame.func here.frame.item → JumpsWithMask b here.frame.func here.frame.item
     → GoesOutside b view arrivals (progress_in b) count state s
 
@@ -155,4 +155,4 @@ pub record HasIdle (b : Build) (view : View) : Type 0 where
 -- an instruction of the idle loop advances the run
 abbrev pub IdleGoesOn : Type 0
 IdleGoesOn = (b : Build) (view : View) (arrivals : List Arrival) (progress : State → System → ℕ) (count : ℕ) (state : State) (s : System)
-    → At b view arrivals count state s → word_at state.core.ram cur ≡ 0 → HasIdle b view → GoesOutside b view arrivals progress count state s
+    → StandsAt b view arrivals count state s → word_at state.core.ram cur ≡ 0 → HasIdle b view → GoesOutside b view arrivals progress count state s

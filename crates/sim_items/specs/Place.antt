@@ -11,7 +11,7 @@ use Rattle.sloth_base.specs.Machine.{State}
 use Rattle.sloth_region.specs.Layout.{cur}
 use Rattle.rv32_instr.specs.declared.InstrKind.{InstrKind}
 use Rattle.rv32_instr.specs.Encode.{Encode}
-use Rattle.rv32_instr.specs.Range.{InRange, Signed}
+use Rattle.rv32_instr.specs.Range.{InRange, IsSigned}
 use Rattle.rv32_instr.specs.Ram.{word_at}
 use Rattle.rv32_expand.specs.Expansion.{item_address, expansion}
 use Rattle.rv32_expand.specs.InPlace.{item_mark, last_address}
@@ -21,43 +21,43 @@ use Rattle.sloth_base.specs.Named.{function, operation, label_of, symbol_size}
 use Rattle.sloth_base.specs.MemoryMap.{memory_base}
 use Rattle.sim_relation.specs.Bounds.{AreBelow}
 use Rattle.sim_relation.specs.Build.{Build}
-use Rattle.sim_relation.specs.Position.{thread_of, FramesAt, InExpansion, Calling, Returning}
-use Rattle.sim_relation.specs.Context.{Context}
+use Rattle.sim_relation.specs.Position.{thread_of, AreFrames, InExpansion, IsCalling, IsReturning}
+use Rattle.sim_relation.specs.Context.{IsContext}
 
 -- the running task stands before an instruction of its next item
 pub record AtItem (b : Build) (state : State) (s : System) (t : ℕ) : Type 0 where
   pub current : word_at state.core.ram cur ≡ t + 1
   pub place : ℕ
-  pub context : Context b state.core.ram t (task s t) (thread_of state) place
+  pub context : IsContext b state.core.ram t (task s t) (thread_of state) place
   pub free : (task s t).owed ≡ false
   pub frame : Frame
   pub outer : List Frame
   pub frames : (task s t).frames ≡ frame ∷ outer
   pub inside : frame.item < length (function b.app frame.func).items
-  pub stood : FramesAt b state.core.ram frame outer place (b.top t)
+  pub stood : AreFrames b state.core.ram frame outer place (b.top t)
   pub here : InExpansion b (task s t) frame (thread_of state)
 
 -- the running task stands inside a call
 pub record InCall (b : Build) (state : State) (s : System) (t : ℕ) : Type 0 where
   pub current : word_at state.core.ram cur ≡ t + 1
   pub place : ℕ
-  pub context : Context b state.core.ram t (task s t) (thread_of state) place
+  pub context : IsContext b state.core.ram t (task s t) (thread_of state) place
   pub frame : Frame
   pub outer : List Frame
   pub frames : (task s t).frames ≡ frame ∷ outer
   pub inside : frame.item < length (function b.app frame.func).items
-  pub calling : Calling b state.core.ram (b.top t) (task s t) frame outer (thread_of state) place
+  pub calling : IsCalling b state.core.ram (b.top t) (task s t) frame outer (thread_of state) place
 
 -- the running task stands inside a return
 pub record InReturn (b : Build) (state : State) (s : System) (t : ℕ) : Type 0 where
   pub current : word_at state.core.ram cur ≡ t + 1
   pub place : ℕ
-  pub context : Context b state.core.ram t (task s t) (thread_of state) place
+  pub context : IsContext b state.core.ram t (task s t) (thread_of state) place
   pub frame : Frame
   pub outer : List Frame
   pub frames : (task s t).frames ≡ frame ∷ outer
   pub inside : frame.item < length (function b.app frame.func).items
-  pub returning : Returning b state.core.ram (b.top t) (task s t) frame outer (thread_of state) place
+  pub returning : IsReturning b state.core.ram (b.top t) (task s t) frame outer (thread_of state) place
 
 -- the image has this instruction at an address, among its code
 pub record HasInstruction (b : Build) (address : ℕ) (kind : InstrKind) : Type 0 where
@@ -82,20 +82,20 @@ pub record ItemStands (b : Build) (view : View) (func item : ℕ) : Type 0 where
       → item_address b.places func (item + 1) ≡ item_address b.places func item + 4 * length (expansion b.app b.places func item)
 
 -- a register of task code: x0, or one of x5 to x29
-abbrev pub IsOwn : ℕ → Type 0
-IsOwn r = (r ≡ 0) ⊎ ((5 ≤ r) × (r < 30))
+abbrev pub IsTaskRegister : ℕ → Type 0
+IsTaskRegister r = (r ≡ 0) ⊎ ((5 ≤ r) × (r < 30))
 
 -- a number of 12 bits; of a shift, an amount
-abbrev pub IsNumber : ImmKind → ℤ → Type 0
-IsNumber imm.Slli number = (n : ℕ) × (number ≡ pos n) × (n < 32)
-IsNumber imm.Srli number = (n : ℕ) × (number ≡ pos n) × (n < 32)
-IsNumber imm.Srai number = (n : ℕ) × (number ≡ pos n) × (n < 32)
-IsNumber imm.Addi number = Signed 12 number
-IsNumber imm.Slti number = Signed 12 number
-IsNumber imm.Sltiu number = Signed 12 number
-IsNumber imm.Xori number = Signed 12 number
-IsNumber imm.Ori number = Signed 12 number
-IsNumber imm.Andi number = Signed 12 number
+abbrev pub IsImmediate : ImmKind → ℤ → Type 0
+IsImmediate imm.Slli number = (n : ℕ) × (number ≡ pos n) × (n < 32)
+IsImmediate imm.Srli number = (n : ℕ) × (number ≡ pos n) × (n < 32)
+IsImmediate imm.Srai number = (n : ℕ) × (number ≡ pos n) × (n < 32)
+IsImmediate imm.Addi number = IsSigned 12 number
+IsImmediate imm.Slti number = IsSigned 12 number
+IsImmediate imm.Sltiu number = IsSigned 12 number
+IsImmediate imm.Xori number = IsSigned 12 number
+IsImmediate imm.Ori number = IsSigned 12 number
+IsImmediate imm.Andi number = IsSigned 12 number
 
 -- an access to a symbol lies inside its bytes, at a multiple of its width
 pub record IsAccess (app : App) (w : Width) (symbol offset : ℕ) : Type 0 where
@@ -111,16 +111,16 @@ pub record IsMasked (app : App) (w : Width) (symbol mask : ℕ) : Type 0 where
 -- An item behind which the next one follows. It computes on registers and numbers, or moves a word of its frame or a number of a
 -- symbol, at a place that its code names or at an index under a mask.
 abbrev pub IsStraight : App → (func : ℕ) → Op → Type 0
-IsStraight app func (op.Alu kind rd rs1 rs2) = IsOwn rd × IsOwn rs1 × IsOwn rs2
-IsStraight app func (op.AluImm kind rd rs1 number) = IsOwn rd × IsOwn rs1 × IsNumber kind number
-IsStraight app func (op.Lui rd number) = IsOwn rd × (number < 2 ^ 20)
-IsStraight app func (op.Li rd value) = IsOwn rd × (value < 2 ^ 32)
-IsStraight app func (op.FrameLoad rd word) = IsOwn rd × (word < (function app func).frame_words)
-IsStraight app func (op.FrameStore rs word) = IsOwn rs × (word < (function app func).frame_words)
-IsStraight app func (op.Load width rd symbol offset) = IsOwn rd × IsAccess app width symbol offset
-IsStraight app func (op.Store width rs symbol offset) = IsOwn rs × IsAccess app width symbol offset
-IsStraight app func (op.LoadAt width rd symbol index mask) = IsOwn rd × IsOwn index × IsMasked app width symbol mask
-IsStraight app func (op.StoreAt width rs symbol index mask) = IsOwn rs × IsOwn index × IsMasked app width symbol mask
+IsStraight app func (op.Alu kind rd rs1 rs2) = IsTaskRegister rd × IsTaskRegister rs1 × IsTaskRegister rs2
+IsStraight app func (op.AluImm kind rd rs1 number) = IsTaskRegister rd × IsTaskRegister rs1 × IsImmediate kind number
+IsStraight app func (op.Lui rd number) = IsTaskRegister rd × (number < 2 ^ 20)
+IsStraight app func (op.Li rd value) = IsTaskRegister rd × (value < 2 ^ 32)
+IsStraight app func (op.FrameLoad rd word) = IsTaskRegister rd × (word < (function app func).frame_words)
+IsStraight app func (op.FrameStore rs word) = IsTaskRegister rs × (word < (function app func).frame_words)
+IsStraight app func (op.Load width rd symbol offset) = IsTaskRegister rd × IsAccess app width symbol offset
+IsStraight app func (op.Store width rs symbol offset) = IsTaskRegister rs × IsAccess app width symbol offset
+IsStraight app func (op.LoadAt width rd symbol index mask) = IsTaskRegister rd × IsTaskRegister index × IsMasked app width symbol mask
+IsStraight app func (op.StoreAt width rs symbol index mask) = IsTaskRegister rs × IsTaskRegister index × IsMasked app width symbol mask
 IsStraight app func (op.Branch kind rs1 rs2 label) = ⊥
 IsStraight app func (op.Jump label) = ⊥
 IsStraight app func (op.Invoke callee) = ⊥
@@ -134,7 +134,7 @@ pub record IsTarget (app : App) (func label : ℕ) : Type 0 where
 
 -- an item that goes on at a label of its function, or may go on there or at the next item
 abbrev pub IsFlow : App → (func item : ℕ) → Op → Type 0
-IsFlow app func item (op.Branch kind rs1 rs2 label) = IsOwn rs1 × IsOwn rs2 × IsTarget app func label × (item + 1 < length (function app func).items)
+IsFlow app func item (op.Branch kind rs1 rs2 label) = IsTaskRegister rs1 × IsTaskRegister rs2 × IsTarget app func label × (item + 1 < length (function app func).items)
 IsFlow app func item (op.Jump label) = IsTarget app func label
 IsFlow app func item (op.Alu kind rd rs1 rs2) = ⊥
 IsFlow app func item (op.AluImm kind rd rs1 number) = ⊥

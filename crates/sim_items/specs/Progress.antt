@@ -8,15 +8,15 @@ use Rattle.osek_scheduler.specs.State.{Frame, System, task}
 use Rattle.sim_relation.specs.Build.{Build}
 
 -- of `count` instructions at an address, how many stand before pc; and 40 where pc is none of them
-abbrev pub passed_at : (address count pc : ℕ) → ℕ
-passed_at address count pc = if nat_le address pc && nat_lt pc (address + 4 * count) then (pc - address) / 4 else 40
+abbrev pub passed_count_at : (address count pc : ℕ) → ℕ
+passed_count_at address count pc = if nat_le address pc && nat_lt pc (address + 4 * count) then (pc - address) / 4 else 40
 
 -- by the item at which the innermost frame stands
-abbrev pub passed_in : Build → ℕ → List Frame → ℕ
-passed_in b pc [] = 0
-passed_in b pc (frame ∷ outer) =
-    passed_at (item_address b.places frame.func frame.item) (length (expansion b.app b.places frame.func frame.item)) pc
+abbrev pub passed_count_in : Build → ℕ → List Frame → ℕ
+passed_count_in b pc [] = 0
+passed_count_in b pc (frame ∷ outer) =
+    passed_count_at (item_address b.places frame.func frame.item) (length (expansion b.app b.places frame.func frame.item)) pc
 
 -- of the running task
 abbrev pub progress_in : Build → State → System → ℕ
-progress_in b state s = passed_in b state.pc (task s (word_at state.core.ram cur - 1)).frames
+progress_in b state s = passed_count_in b state.pc (task s (word_at state.core.ram cur - 1)).frames

@@ -9,7 +9,7 @@ use Rattle.sloth_base.specs.declared.step.Step.{Step}
 use Rattle.sloth_base.specs.Machine.{Core, State}
 use Rattle.sloth_base.specs.Lines.{Lines, controller_byte, with_controller_byte, flag_of}
 use Rattle.sloth_base.specs.Arrive.{state_arrive}
-use Rattle.sloth_base.specs.Take.{line_to_take, enter, entered}
+use Rattle.sloth_base.specs.Take.{line_to_take, entry_state, execution_state}
 use Rattle.rv32_instr.specs.declared.csr.TheConstants.{MSTATUS, MSCRATCH, MEPC, ILEVEL, PLEVEL}
 use Rattle.rv32_instr.specs.declared.stop.Bad.{Bad}
 use Rattle.rv32_instr.specs.declared.stop.Bad.TheVariants as bad
@@ -28,7 +28,7 @@ use Rattle.rv32_instr.specs.Execute.{Next, Going, Stopped, with_register, mstatu
 use Rattle.rv32_instr.proofs.Table.{decode_is}
 use Rattle.masked_code.proofs.Words.{word_below}
 use Rattle.rv32_machine.specs.Advance.{Goes, advance, outcome}
-use Rattle.rv32_machine.specs.Run.{moment, arrived}
+use Rattle.rv32_machine.specs.Run.{moment, state_with_arrivals}
 use Rattle.sim_induction.specs.Admits.{lines_at}
 use Rattle.sim_relation.specs.Bounds.{AreBelow}
 use Rattle.sim_laws.specs.Bounded.{CoreBounded, IsBounded}
@@ -285,7 +285,7 @@ arrive_fits (line ∷ lines) state h =
       };
     })
 
-enter_fits : (o : Option ℕ) (state : State) → IsBounded state → CoreBounded (enter o state).core
+enter_fits : (o : Option ℕ) (state : State) → IsBounded state → CoreBounded (entry_state o state).core
 enter_fits None state h = h.core
 enter_fits (Some line) state h =
     let c = h.core in
@@ -309,5 +309,5 @@ goes_fits (Stopped why) count before next seen e h = cc
 pub bounds_stay : (arrivals : List Arrival) (count : ℕ) (state next : State) (seen : Step) → moment arrivals count state ≡ Goes seen next → IsBounded state → IsBounded next
 unfolding advance
 bounds_stay arrivals count state next seen e h =
-    let n = arrived arrivals count state in
-    goes_fits (step (entered n)) count n next seen e (step_fits (entered n) (enter_fits (line_to_take n) n (arrive_fits (lines_at arrivals count) state h)))
+    let n = state_with_arrivals arrivals count state in
+    goes_fits (step (execution_state n)) count n next seen e (step_fits (execution_state n) (enter_fits (line_to_take n) n (arrive_fits (lines_at arrivals count) state h)))

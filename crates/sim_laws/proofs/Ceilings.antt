@@ -10,13 +10,13 @@ use Rattle.sloth_base.specs.declared.config.TaskDecl.{TaskDecl}
 use Rattle.sloth_base.specs.declared.places.Levels.{Levels}
 use Rattle.sloth_base.specs.declared.service.Service.TheVariants as service
 use Rattle.sloth_base.specs.PriorityLevels.{level_among, level_of}
-use Rattle.code_rules.specs.Code.{serve, is_in}
-use Rattle.code_rules.specs.WellFormed.{held_before}
+use Rattle.code_rules.specs.Code.{service_op, is_in}
+use Rattle.code_rules.specs.WellFormed.{held_list_before}
 use Rattle.prio_levels.specs.Levels.{AreLevels, lists}
 use Rattle.osek_scheduler.specs.Priority.{greatest, highest_priority, ceiling}
 use Rattle.osek_scheduler.specs.State.{System, task}
 use Rattle.osek_scheduler.specs.Steps.{IsAt}
-use Rattle.osek_valid.specs.Valid.{Valid, held_by}
+use Rattle.osek_valid.specs.Valid.{IsValid, held_by}
 use Rattle.osek_valid.proofs.Excluding.{below_ceiling}
 use Rattle.osek_valid.proofs.Facts.{Facts}
 use Rattle.osek_valid.proofs.Going.{Running, running}
@@ -94,18 +94,18 @@ ceiling_level b levels are r small p =
 -- ---- a task that takes a resource
 
 -- a task that calls GetResource may have the resource
-pub may_have : (b : Build) → Facts b.config b.app → (levels : Levels) → AreLevels b.config levels → (s : System) (t : ℕ) (call : Call) → Valid b.config b.app s → t < length b.config.tasks
+pub may_have : (b : Build) → Facts b.config b.app → (levels : Levels) → AreLevels b.config levels → (s : System) (t : ℕ) (call : Call) → IsValid b.config b.app s → t < length b.config.tasks
     → IsAt b.app s t (op.Serve call) → call.service ≡ service.GetResource → MayHaveResource b t (task s t) call.object (slice_index levels.ceiling call.object)
 may_have b w levels are s t call v declared at is =
     let q = call.object in
     let m = call.mask in
     let frame = at.frame in
-    let same : op.Serve call ≡ serve service.GetResource q m = ap (λ served. serve served q m) is in
-    let r : Running b.config b.app t (task s t) frame at.outer (serve service.GetResource q m) =
+    let same : op.Serve call ≡ service_op service.GetResource q m = ap (λ served. service_op served q m) is in
+    let r : Running b.config b.app t (task s t) frame at.outer (service_op service.GetResource q m) =
     subst (Running b.config b.app t (task s t) frame at.outer) same (running b.config b.app s t (op.Serve call) v declared at) in
     let range = w.in_range.configuration.few_resources in
-    let small : q < 33 = ⊎_elim (λ h. omega arith) (λ h. let e = h.0 in omega arith) (w.items frame.func frame.item (serve service.GetResource q m) r.item).0 in
-    let before = held_before b.app frame.func frame.item in
+    let small : q < 33 = ⊎_elim (λ h. omega arith) (λ h. let e = h.0 in omega arith) (w.items frame.func frame.item (service_op service.GetResource q m) r.item).0 in
+    let before = held_list_before b.app frame.func frame.item in
     record {
       is_level = ceiling_level b levels are q small;
       is_resource = small;

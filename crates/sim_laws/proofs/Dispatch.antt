@@ -9,8 +9,8 @@ use Rattle.sloth_base.specs.Choose.{choose}
 use Rattle.sloth_base.specs.Machine.{State}
 use Rattle.sloth_base.specs.Owners.{counter_line, owners_in}
 use Rattle.sloth_base.proofs.Owners.{IsCounterLine}
-use Rattle.rv32_machine.specs.Run.{arrived}
-use Rattle.masked_code.specs.Trace.{Trace, late}
+use Rattle.rv32_machine.specs.Run.{state_with_arrivals}
+use Rattle.masked_code.specs.Trace.{Trace, late_arrivals}
 use Rattle.rv32_expand.specs.Expansion.{expansion}
 use Rattle.sloth_base.specs.Named.{operation, function}
 use Rattle.observe.specs.Observe.{View, view_of_image}
@@ -25,17 +25,17 @@ use Rattle.sim_induction.proofs.OutsidePiece.{outside_advances}
 use Rattle.sim_induction.proofs.Schedule.{owned_at}
 use Rattle.sim_induction.proofs.StretchPiece.{stretch_advances}
 use Rattle.sim_relation.specs.Build.{Build}
-use Rattle.sim_relation.specs.Position.{Position, Standing, Owing, InExpansion, AtBlock, Calling, Returning, thread_of}
-use Rattle.sim_relation.specs.Context.{Running, RunsIdle, RunsTask}
+use Rattle.sim_relation.specs.Position.{IsPosition, IsStanding, IsOwing, InExpansion, AtBlock, IsCalling, IsReturning, thread_of}
+use Rattle.sim_relation.specs.Context.{RunsFirst, RunsIdle, RunsTask}
 use Rattle.sim_relation.specs.Stands.{Stands, AreActive, IsActive}
 use Rattle.sim_relation.proofs.Arrive.{stands_arrived}
 use Rattle.sim_relation.proofs.Choice.{taken_cases, taken_ready}
 use Rattle.sim_relation.proofs.Framing.{position_elim}
 use Rattle.sim_relation.proofs.Tops.{falling_head}
-use Rattle.sim_entries.specs.Range.{Sane}
+use Rattle.sim_entries.specs.Range.{IsSane}
 use Rattle.sim_entries.proofs.EnterRoute.{enter_advances}
 use Rattle.sim_items.specs.Place.{AtItem, HasNumbers, IsStraight, IsFlow, IsCall, IsReturn}
-use Rattle.sim_items.specs.Outside.{setting_of, At, GoesOutside, JumpsToService, JumpsWithMask}
+use Rattle.sim_items.specs.Outside.{setting_of, StandsAt, GoesOutside, JumpsToService, JumpsWithMask}
 use Rattle.sim_items.specs.Progress.{progress_in}
 use Rattle.sim_items.proofs.Call.{call_begins, call_goes_on}
 use Rattle.sim_items.proofs.Return.{return_begins, return_goes_on}
@@ -147,9 +147,9 @@ module _ (b : Build) (image : Image) (kernel : Kernel b image) where
   view = view_of_image image
 
   module _ (arrivals : List Arrival) (setting : IsSetting (setting_of b view arrivals)) (count : ℕ) (after_boot : 0 < count) (state : State) (s : System)
-      (stands : Stands b state s) (bounded : IsBounded (arrived arrivals count state)) (steady : IsSteady b.config b.app (with_admits (lines_at arrivals count) s)) where
+      (stands : Stands b state s) (bounded : IsBounded (state_with_arrivals arrivals count state)) (steady : IsSteady b.config b.app (with_admits (lines_at arrivals count) s)) where
     abbrev n : State
-    n = arrived arrivals count state
+    n = state_with_arrivals arrivals count state
 
     abbrev s1 : System
     s1 = with_admits (lines_at arrivals count) s
@@ -171,20 +171,20 @@ module _ (b : Build) (image : Image) (kernel : Kernel b image) where
     stretch : (next : State) × (trace : Trace) × (end : State) × StretchLaw (setting_of b view arrivals) (Stands b) count state s next trace end → Goes
     stretch h =
         stretch_advances (setting_of b view arrivals) setting (Stands b) (progress_in b) count after_boot state s h.0 h.1 h.2 h.3 stands.tidy.booted
-        (sym (booted_admits (late h.1) h.3.after) ∙ h.3.related.tidy.booted)
+        (sym (booted_admits (late_arrivals h.1) h.3.after) ∙ h.3.related.tidy.booted)
 
     module _ (none : choose n.core ≡ None) where
-      here : At b view arrivals count state s
+      here : StandsAt b view arrivals count state s
       here = record { fits = kernel.fits; setting = setting; after_boot = after_boot; stands = stands; none = none }
 
       module _ (t : ℕ) (below : List ℕ) (stack_is : k.stack ≡ t ∷ below) where
         abbrev run : RunsTask b n s1 t below
-        run = subst (Running b n s1) stack_is k.running
+        run = subst (RunsFirst b n s1) stack_is k.running
 
         active : IsActive b s1 t
         active = falling_head b s1 t below (subst (AreActive b s1) stack_is k.active).falling
 
-        abbrev p : Position b n.core.ram t (task s1 t) (thread_of n) run.place
+        abbrev p : IsPosition b n.core.ram t (task s1 t) (thread_of n) run.place
         p = run.context.position
 
         not_fresh : is_in t s1.fresh ≡ false
@@ -200,7 +200,7 @@ module _ (b : Build) (image : Image) (kernel : Kernel b image) where
         known : IsKnown b view p.frame.func p.frame.item
         known = kernel.operations p.frame.func p.frame.item p.inside
 
-        module _ (q : Standing b n.core.ram (b.top t) (task s1 t) p.frame p.outer (thread_of n) run.place) where
+        module _ (q : IsStanding b n.core.ram (b.top t) (task s1 t) p.frame p.outer (thread_of n) run.place) where
           -- before an instruction of its item
           abbrev at_item : InExpansion b (task s1 t) p.frame (thread_of n) → AtItem b n s1 t
           at_item e = record {
@@ -416,7 +416,7 @@ module _ (b : Build) (image : Image) (kernel : Kernel b image) where
           standing = ⊎_elim (λ (e : InExpansion b (task s1 t) p.frame (thread_of n)). in_item e known) (λ (a : AtBlock b p.frame (thread_of n)). at_block a known) q.here
 
         -- behind Schedule
-        owing : Owing b n.core.ram t (task s1 t) p.frame p.outer (thread_of n) run.place → Goes
+        owing : IsOwing b n.core.ram t (task s1 t) p.frame p.outer (thread_of n) run.place → Goes
         owing w =
             let calls = steady.owing t w.owes in
             let state_is = subst (InState b.config t (task s1 t)) active.active (steady.valid.each t active.declared).in_state in
@@ -430,7 +430,7 @@ module _ (b : Build) (image : Image) (kernel : Kernel b image) where
             }))
 
         -- inside a call, and inside a return
-        calling : Calling b n.core.ram (b.top t) (task s1 t) p.frame p.outer (thread_of n) run.place → Goes
+        calling : IsCalling b n.core.ram (b.top t) (task s1 t) p.frame p.outer (thread_of n) run.place → Goes
         calling c =
             outside (call_goes_on b view arrivals count state s here t (record {
               current = run.current;
@@ -443,7 +443,7 @@ module _ (b : Build) (image : Image) (kernel : Kernel b image) where
               calling = c;
             }) (is_call b image kernel t p.frame p.outer chain p.inside c.callee c.is))
 
-        returning : Returning b n.core.ram (b.top t) (task s1 t) p.frame p.outer (thread_of n) run.place → Goes
+        returning : IsReturning b n.core.ram (b.top t) (task s1 t) p.frame p.outer (thread_of n) run.place → Goes
         returning r =
             outside (return_goes_on b view arrivals count state s here t (record {
               current = run.current;
@@ -463,11 +463,11 @@ module _ (b : Build) (image : Image) (kernel : Kernel b image) where
 
       by_stack : (stack : List ℕ) → k.stack ≡ stack → Goes
       by_stack [] e =
-          let r : RunsIdle b n = subst (Running b n s1) e k.running in
+          let r : RunsIdle b n = subst (RunsFirst b n s1) e k.running in
           outside (idle_outside b view arrivals (progress_in b) count state s here r.current kernel.idle)
       by_stack (t ∷ below) e = task_goes t below e
 
-    sane : Sane n
+    sane : IsSane n
     sane = record { pc = bounded.pc; registers = bounded.core.registers; bytes = bounded.core.bytes; level = bounded.core.level }
 
     -- a task's line is taken: the task starts anew, or goes on behind its wait

@@ -11,7 +11,7 @@ use Rattle.sloth_base.specs.Arithmetic.{plus}
 use Rattle.rv32_instr.specs.Ram.{word_at}
 use Rattle.rv32_instr.specs.Table.{Decode}
 use Rattle.masked_code.specs.Place.{InPlace}
-use Rattle.osek_scheduler.specs.State.{undeclared}
+use Rattle.osek_scheduler.specs.State.{undeclared_task}
 use Rattle.vector_gen.specs.Boot.{Boots}
 use Rattle.vector_gen.specs.Vectors.{AreJumps}
 use Rattle.prologue_gen.specs.Fresh.{vector}
@@ -56,7 +56,7 @@ vector_of b handlers code t l jumps p =
 
 module _ (b : Build) (image : Image) (levels : Levels) (map : Map) (g : IsGenerated b image levels map) where
   built : IsBuiltFrom b levels map
-  built = record { places = g.places; idle = g.idle_is; tops = g.tops; ranks = λ t l. g.are_levels.tasks.of_task t undeclared l; highest = g.are_levels.top }
+  built = record { places = g.places; idle = g.idle_is; tops = g.tops; ranks = λ t l. g.are_levels.tasks.of_task t undeclared_task l; highest = g.are_levels.top }
 
   prologue : (t : ℕ) → t < length b.config.tasks → PrologueStands b t
   prologue t l =

@@ -10,8 +10,8 @@ use Rattle.sloth_base.specs.Machine.{State}
 use Rattle.sloth_region.specs.Layout.{cur}
 use Rattle.rv32_instr.specs.Ram.{word_at}
 use Rattle.rv32_machine.specs.Start.{start}
-use Rattle.rv32_machine.specs.Run.{state_after, arrived}
-use Rattle.masked_code.specs.Trace.{late}
+use Rattle.rv32_machine.specs.Run.{state_after, state_with_arrivals}
+use Rattle.masked_code.specs.Trace.{late_arrivals}
 use Rattle.rv32_expand.proofs.Counts.{size_is, size_few}
 use Rattle.rv32_expand.proofs.InRangeOf.{frame_of}
 use Rattle.rv32_expand.specs.Expansion.{item_address, is_long, expansion}
@@ -37,7 +37,7 @@ use Rattle.sim_entries.proofs.Boot.{ram_at}
 use Rattle.sim_entries.proofs.BootRoute.{boot_stretch}
 use Rattle.sim_entries.proofs.Spot.{zero_at}
 use Rattle.sim_items.specs.Outside.{setting_of}
-use Rattle.sim_items.specs.Progress.{passed_at, passed_in, progress_in}
+use Rattle.sim_items.specs.Progress.{passed_count_at, passed_count_in, progress_in}
 use Rattle.sim_laws.specs.Bounded.{IsBounded}
 use Rattle.sim_laws.specs.Kernel.{Kernel}
 use Rattle.sim_laws.specs.Standing.{StandsNested}
@@ -57,7 +57,7 @@ other_at_most : (x : Bool) (a : ℕ) → (if x && false then a else 40) ≤ 40
 other_at_most true a = omega arith
 other_at_most false a = omega arith
 
-passed_small : (address count pc : ℕ) → count ≤ 40 → passed_at address count pc ≤ 40
+passed_small : (address count pc : ℕ) → count ≤ 40 → passed_count_at address count pc ≤ 40
 passed_small address count pc l =
     ⊎_elim
     (λ (h : pc < address + 4 * count). at_most (nat_le address pc && nat_lt pc (address + 4 * count)) ((pc - address) / 4) 40 (omega arith) (omega arith))
@@ -100,7 +100,7 @@ module _ (b : Build) (image : Image) (kernel : Kernel b image) where
       let f = size_few b.app (frame_of b.app (b.config, kernel.well_formed.in_range)) long o in
       omega (arith, e, f.few)
 
-  in_frames : (pc : ℕ) (frames : List Frame) → passed_in b pc frames ≤ 40
+  in_frames : (pc : ℕ) (frames : List Frame) → passed_count_in b pc frames ≤ 40
   in_frames pc [] = omega arith
   in_frames pc (frame ∷ outer) =
       passed_small (item_address b.places frame.func frame.item) (length (expansion b.app b.places frame.func frame.item)) pc (few_instructions frame.func frame.item)
@@ -129,7 +129,7 @@ module _ (b : Build) (image : Image) (kernel : Kernel b image) where
     booting =
         let law = boot_stretch b view arrivals setting image kernel.fits kernel.is_image kernel.boot in
         boot_with (setting_of b view arrivals) setting (Stands b) IsBounded (IsSteady b.config b.app) (progress_in b) (bounds_stay arrivals) (steady_stays b.config b.app kernel.well_formed)
-        (start image) law (sym (booted_admits (late law.trace) law.after) ∙ law.related.tidy.booted)
+        (start image) law (sym (booted_admits (late_arrivals law.trace) law.after) ∙ law.related.tidy.booted)
         (start_bounded image kernel.bytes) (opening_steady b.config b.app kernel.well_formed)
 
   pub sound_kernel : Sound b.config b.app image
@@ -141,7 +141,7 @@ module _ (b : Build) (image : Image) (kernel : Kernel b image) where
   pub stands_kernel : (arrivals : List Arrival) (n count : ℕ) (state : State) → AreArrivals (owners_in b.config) arrivals → n ≤ 1000000 → count < n
       → state_after count arrivals (start image) ≡ Some state → state.core.mie ≡ true
       → (s : System) × Leads b.config b.app (filter (stands_before count) (events_of image arrivals n)) (opening b.config b.app) s
-      × StandsNested b (arrived arrivals count state) s
+      × StandsNested b (state_with_arrivals arrivals count state) s
   stands_kernel arrivals n count state are bound before after enabled =
       let setting = is_setting b.config b.app image arrivals kernel.fits.few_tasks kernel.tasks kernel.counters are in
       let whole = whole_run (setting_of b view arrivals) setting R (progress_in b) (simulation arrivals setting) (start image) (booting arrivals setting) n in

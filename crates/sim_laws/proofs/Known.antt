@@ -16,20 +16,20 @@ use Rattle.code_rules.specs.AppRange.{IsRegister, IsShort, IsNumberOf, IsOp}
 use Rattle.code_rules.specs.Code.{IsItem, is_followed}
 use Rattle.code_rules.specs.WellFormed as rule
 use Rattle.code_rules.specs.WellFormed.{WellFormed, at_item}
-use Rattle.rv32_instr.specs.Range.{Signed}
+use Rattle.rv32_instr.specs.Range.{IsSigned}
 use Rattle.observe.specs.Observe.{View}
 use Rattle.osek_valid.proofs.Facts.{Facts, facts}
 use Rattle.osek_valid.proofs.Held.{falls_inside, jumps_inside}
 use Rattle.sim_relation.specs.Build.{Build}
-use Rattle.sim_items.specs.Place.{IsOwn, IsNumber, IsAccess, IsStraight, IsFlow}
+use Rattle.sim_items.specs.Place.{IsTaskRegister, IsImmediate, IsAccess, IsStraight, IsFlow}
 use Rattle.sim_laws.specs.Kernel.{IsKnown}
 use Rattle.sim_laws.specs.Kernel.IsKnown.{computes, flows, invokes, returns}
 
-own : (r : ℕ) → IsRegister r → IsOwn r
+own : (r : ℕ) → IsRegister r → IsTaskRegister r
 own r (inl e) = inl e
 own r (inr h) = let l = h.1 in inr (h.0, omega arith)
 
-short : (z : ℤ) → IsShort z → Signed 12 z
+short : (z : ℤ) → IsShort z → IsSigned 12 z
 short (pos n) h = omega (arith, ints)
 short (negsuc n) h = omega (arith, ints)
 
@@ -37,7 +37,7 @@ amount : (z : ℤ) → (kind : ImmKind) → IsNumberOf imm.Slli z → (n : ℕ) 
 amount (pos n) kind h = (n, refl, omega arith)
 amount (negsuc n) kind h = absurd h
 
-number : (kind : ImmKind) (z : ℤ) → IsNumberOf kind z → IsNumber kind z
+number : (kind : ImmKind) (z : ℤ) → IsNumberOf kind z → IsImmediate kind z
 number imm.Slli z h = amount z imm.Slli h
 number imm.Srli z h = amount z imm.Srli h
 number imm.Srai z h = amount z imm.Srai h

@@ -7,7 +7,7 @@ use Rattle.stack_bounds.specs.Bounds.MayMeet.{meets_waiting, is_over}
 use Rattle.osek_scheduler.specs.declared.state.TaskState.{TaskState}
 use Rattle.osek_scheduler.specs.declared.state.TaskState.TheVariants as mode
 use Rattle.osek_scheduler.specs.State.{System, task, declaration}
-use Rattle.osek_valid.specs.Valid.{Valid, InState}
+use Rattle.osek_valid.specs.Valid.{IsValid, InState}
 use Rattle.osek_valid.specs.Together.{OwesBySchedule}
 use Rattle.osek_valid.proofs.Apart.{at_least_static}
 use Rattle.osek_valid.proofs.Together.{lower_may}
@@ -18,7 +18,7 @@ use Rattle.sim_relation.proofs.Choice.{taken_above}
 clash : {X : Type 0} → true ≡ false → X
 clash e = cc
 
-module _ (b : Build) (state : State) (s : System) (k : Stands b state s) (few : length b.config.tasks ≤ 32) (valid : Valid b.config b.app s) (owing : OwesBySchedule b.app s) where
+module _ (b : Build) (state : State) (s : System) (k : Stands b state s) (few : length b.config.tasks ≤ 32) (valid : IsValid b.config b.app s) (owing : OwesBySchedule b.app s) where
   -- a basic task never waits, so that it has something on its stack while it is Active
   alive_active : (u : ℕ) → u < length b.config.tasks → (declaration b.config u).extended ≡ false → IsAlive (task s u) → (task s u).state ≡ mode.Active
   alive_active u declared basic (inl active) = active

@@ -1,17 +1,17 @@
 -- The parts of the Active basic tasks lie one below the other, as the tasks were entered.
 use Rattle.std.proofs.Common.{ℕ, List, [], ◌∷◌, arith}
 use Rattle.osek_scheduler.specs.State.{System, task}
-use Rattle.osek_valid.specs.Valid.{Valid}
+use Rattle.osek_valid.specs.Valid.{IsValid}
 use Rattle.osek_valid.specs.Together.{OwesBySchedule}
 use Rattle.osek_valid.proofs.Apart.{at_least_static}
 use Rattle.osek_valid.proofs.Together.{lower_may}
 use Rattle.sim_relation.specs.Build.{Build}
-use Rattle.sim_relation.specs.Stands.{Falling}
+use Rattle.sim_relation.specs.Stands.{AreFalling}
 use Rattle.sim_relation.proofs.Tops.{below_first, falling_active, falling_head, falling_tail}
 use Rattle.sim_laws.specs.Nested.{HasNestedParts, AreNested}
 
-module _ (b : Build) (s : System) (valid : Valid b.config b.app s) (owing : OwesBySchedule b.app s) (nested : HasNestedParts b) where
-  pub stack_nested : (stack : List ℕ) → Falling b s stack → AreNested b stack
+module _ (b : Build) (s : System) (valid : IsValid b.config b.app s) (owing : OwesBySchedule b.app s) (nested : HasNestedParts b) where
+  pub stack_nested : (stack : List ℕ) → AreFalling b s stack → AreNested b stack
   stack_nested [] falling = tt
   stack_nested (t ∷ below) falling = (
     λ u under basic other.

@@ -12,7 +12,7 @@ use Rattle.rv32_instr.specs.declared.effect.Effect.TheVariants.{Nothing, Write, 
 use Rattle.rv32_instr.specs.declared.InstrKind.{InstrKind}
 use Rattle.rv32_instr.specs.declared.InstrKind.TheVariants.{Lui, Auipc, Jal, Jalr, Beq, Bne, Blt, Bge, Bltu, Bgeu, Lb, Lh, Lw, Lbu, Lhu, Sb, Sh, Sw, Addi, Slti, Sltiu, Xori, Ori, Andi, Slli, Srli, Srai, Add, Sub, Sll, Slt, Sltu, Xor, Srl, Sra, Or, And, Fence, Csrrw, Csrrs, Csrrc, Csrrwi, Csrrsi, Csrrci, Ecall, Ebreak, Mret}
 use Rattle.sloth_base.specs.Arithmetic.{signed, complement, one_if, halved_number}
-use Rattle.rv32_instr.specs.Range.{Signed, InRange}
+use Rattle.rv32_instr.specs.Range.{IsSigned, InRange}
 use Rattle.rv32_instr.specs.Effect.{effect}
 use Rattle.rv32_instr.proofs.Words.{signed_pos, signed_neg}
 use Rattle.sim_relation.specs.Bounds.{AreBelow}
@@ -44,7 +44,7 @@ signed_fits n v h l =
     (λ (a : 2 ^ (n - 1) ≤ v). subst (λ z. complement z < 4294967296) (sym (signed_neg n v (2 ^ n - 1 - v) a (omega arith))) (negative_fits (2 ^ n - 1 - v)))
     (cases_lt v (2 ^ (n - 1)))
 
-number_fits : (z : ℤ) → Signed 12 z → complement z < 4294967296
+number_fits : (z : ℤ) → IsSigned 12 z → complement z < 4294967296
 number_fits (pos n) h = omega (arith, ints)
 number_fits (negsuc n) h = negative_fits n
 

@@ -11,11 +11,11 @@ use Rattle.sloth_base.specs.declared.app.Op.TheVariants as op
 use Rattle.sloth_base.specs.declared.app.Symbol.{Symbol}
 use Rattle.sloth_base.specs.declared.event.Event.{Event}
 use Rattle.sloth_base.specs.Named.{no_symbol}
-use Rattle.code_rules.specs.WellFormed.{WellFormed, held_before}
+use Rattle.code_rules.specs.WellFormed.{WellFormed, held_list_before}
 use Rattle.osek_scheduler.specs.declared.state.TaskState.TheVariants as mode
 use Rattle.osek_scheduler.specs.State.{Frame, System, task, declaration, opening}
 use Rattle.osek_scheduler.specs.Steps.{IsAt, OsekStep}
-use Rattle.osek_valid.specs.Valid.{Valid, InState, held_by}
+use Rattle.osek_valid.specs.Valid.{IsValid, InState, held_by}
 use Rattle.osek_valid.proofs.Apart.{step_apart, opening_apart}
 use Rattle.osek_valid.proofs.Facts.{Facts, facts}
 use Rattle.osek_valid.proofs.Going.{running}
@@ -31,41 +31,41 @@ clash e = cc
 -- ---- what a valid system has
 
 -- the symbols have their bytes
-pub valid_sizes : (config : Config) (app : App) (s : System) → Valid config app s → HasSizes app s.symbols
+pub valid_sizes : (config : Config) (app : App) (s : System) → IsValid config app s → HasSizes app s.symbols
 valid_sizes config app s v y =
     sym (get_or-map length s.symbols y []) ∙ ap (λ (l : List ℕ). get_or l y 0) v.sizes ∙ get_or-map (λ (x : Symbol). length x.bytes) app.symbols y no_symbol
 
 -- a task that ends holds nothing
-pub ends_free : (config : Config) (app : App) → Facts config app → (s : System) (t : ℕ) (call : Call) → Valid config app s → t < length config.tasks → IsAt app s t (op.Serve call)
+pub ends_free : (config : Config) (app : App) → Facts config app → (s : System) (t : ℕ) (call : Call) → IsValid config app s → t < length config.tasks → IsAt app s t (op.Serve call)
     → Ends call.service → (task s t).held ≡ []
 ends_free config app w s t call v declared at e =
     let r = running config app s t (op.Serve call) v declared at in
     let frame = at.frame in
     let body = w.ends_in_task frame.func frame.item call.object call.mask call.service r.item e in
     r.held
-    ∙ ap (λ (o : List Frame). held_by app o ++ held_before app frame.func frame.item) (in_body_alone config app w t frame.func at.outer r.called body.0 body.1)
+    ∙ ap (λ (o : List Frame). held_by app o ++ held_list_before app frame.func frame.item) (in_body_alone config app w t frame.func at.outer r.called body.0 body.1)
     ∙ w.serves_free frame.func frame.item call.object call.mask call.service r.item (inl e)
 
 -- nor does one that gives way
-pub pauses_free : (config : Config) (app : App) → Facts config app → (s : System) (t : ℕ) (call : Call) → Valid config app s → t < length config.tasks → IsAt app s t (op.Serve call)
+pub pauses_free : (config : Config) (app : App) → Facts config app → (s : System) (t : ℕ) (call : Call) → IsValid config app s → t < length config.tasks → IsAt app s t (op.Serve call)
     → Pauses call.service → (task s t).held ≡ []
 pauses_free config app w s t call v declared at e =
     let r = running config app s t (op.Serve call) v declared at in
     let frame = at.frame in
     r.held
-    ∙ ap (λ l. l ++ held_before app frame.func frame.item)
+    ∙ ap (λ l. l ++ held_list_before app frame.func frame.item)
     (outer_free config app w t frame.func frame.func frame.item call.object call.mask call.service at.outer r.called (inl refl) r.item e)
     ∙ w.serves_free frame.func frame.item call.object call.mask call.service r.item (inr e)
 
 -- a task that runs and owes nothing has its internal resource where its scheduling is NON
-pub has_internal : (config : Config) (app : App) (s : System) (t : ℕ) (call : Call) → Valid config app s → t < length config.tasks → IsAt app s t (op.Serve call)
+pub has_internal : (config : Config) (app : App) (s : System) (t : ℕ) (call : Call) → IsValid config app s → t < length config.tasks → IsAt app s t (op.Serve call)
     → (task s t).raised ≡ (declaration config t).non
 has_internal config app s t call v declared at =
     let r = running config app s t (op.Serve call) v declared at in
     r.raised ∙ ap (λ x. (declaration config t).non && not x) at.free ∙ and-true (declaration config t).non
 
 -- a basic task that is Ready has no frames: it starts anew
-pub basic_anew : (config : Config) (app : App) (s : System) (t : ℕ) → Valid config app s → t < length config.tasks → (task s t).state ≡ mode.Ready
+pub basic_anew : (config : Config) (app : App) (s : System) (t : ℕ) → IsValid config app s → t < length config.tasks → (task s t).state ≡ mode.Ready
     → (declaration config t).extended ≡ false → (task s t).frames ≡ []
 basic_anew config app s t v declared ready basic = by (subst (InState config t (task s t)) ready (v.each t declared).in_state).1
   where

@@ -41,7 +41,7 @@ pub record Invokes (b : Build) (func item : ℕ) : Type 0 where
   pub is : operation b.app func item ≡ op.Invoke callee
 
 -- an item returns
-pub record Returns (b : Build) (func item : ℕ) : Type 0 where
+pub record ItemReturns (b : Build) (func item : ℕ) : Type 0 where
   pub is : operation b.app func item ≡ op.Return
 
 -- an item calls a service, whose block for its object stands in the image, apart from the item, as the generator says
@@ -60,7 +60,7 @@ pub data IsKnown (b : Build) (view : View) (func item : ℕ) : Type 0 where
   computes : Computes b func item → IsKnown b view func item
   flows : Flows b func item → IsKnown b view func item
   invokes : Invokes b func item → IsKnown b view func item
-  returns : Returns b func item → IsKnown b view func item
+  returns : ItemReturns b func item → IsKnown b view func item
   serves : CallsService b view func item → IsKnown b view func item
 
 -- where an item calls Schedule, the way back stands in the block for its object

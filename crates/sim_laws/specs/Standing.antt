@@ -6,7 +6,7 @@ use Rattle.sloth_base.specs.Owners.{owners_in}
 use Rattle.sloth_base.specs.Arrivals.{AreArrivals}
 use Rattle.sloth_base.specs.Machine.{State}
 use Rattle.rv32_machine.specs.Start.{start}
-use Rattle.rv32_machine.specs.Run.{state_after, arrived}
+use Rattle.rv32_machine.specs.Run.{state_after, state_with_arrivals}
 use Rattle.osek_scheduler.specs.State.{System, opening}
 use Rattle.osek_scheduler.specs.Runs.{Leads}
 use Rattle.sim_induction.specs.Sound.{events_of, stands_before}
@@ -28,4 +28,4 @@ KernelStands = (b : Build) (image : Image) → Kernel b image → (arrivals : Li
     → AreArrivals (owners_in b.config) arrivals → n ≤ 1000000 → count < n
     → state_after count arrivals (start image) ≡ Some state → state.core.mie ≡ true
     → (s : System) × Leads b.config b.app (filter (stands_before count) (events_of image arrivals n)) (opening b.config b.app) s
-    × StandsNested b (arrived arrivals count state) s
+    × StandsNested b (state_with_arrivals arrivals count state) s

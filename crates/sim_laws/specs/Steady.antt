@@ -5,14 +5,14 @@ use Rattle.sloth_base.specs.declared.event.Event.{Event}
 use Rattle.code_rules.specs.WellFormed.{WellFormed}
 use Rattle.osek_scheduler.specs.State.{System}
 use Rattle.osek_scheduler.specs.Steps.{OsekStep}
-use Rattle.osek_valid.specs.Valid.{Valid}
-use Rattle.osek_valid.specs.Apart.{Apart}
+use Rattle.osek_valid.specs.Valid.{IsValid}
+use Rattle.osek_valid.specs.Apart.{TasksAreApart}
 use Rattle.osek_valid.specs.Together.{OwesBySchedule}
 
 -- what each step keeps: the system is valid, and a task owes the way back only where it reaches a Schedule
 pub record IsSteady (config : Config) (app : App) (s : System) : Type 0 where
-  pub valid : Valid config app s
-  pub apart : Apart config s
+  pub valid : IsValid config app s
+  pub apart : TasksAreApart config s
   pub owing : OwesBySchedule app s
 
 -- each event keeps that

@@ -15,13 +15,13 @@ use Rattle.osek_scheduler.specs.declared.state.TaskState.TheVariants as mode
 use Rattle.osek_scheduler.specs.State.{Task, System, Clock, sleeping_task, task, with_task, counter, no_counter}
 use Rattle.osek_scheduler.specs.Priority.{is_in, is_active}
 use Rattle.osek_scheduler.specs.Services.{if_suspended, activated_state}
-use Rattle.osek_scheduler.specs.Steps.{admitted_state, made_due}
+use Rattle.osek_scheduler.specs.Steps.{admitted_state, due_state}
 use Rattle.sim_induction.specs.Admits.{with_arrival, with_admits}
 use Rattle.sim_induction.proofs.Lines.{task_arrival}
 use Rattle.sim_relation.specs.Build.{Build}
 use Rattle.sim_relation.specs.ClockStands.{CounterLineStands}
-use Rattle.sim_relation.specs.ServiceWords.{ServiceWords, active_word}
-use Rattle.sim_relation.specs.Stands.{Stands, IsLineOf, IsAlive, TidyTask}
+use Rattle.sim_relation.specs.ServiceWords.{AreServiceWords, active_word}
+use Rattle.sim_relation.specs.Stands.{Stands, AreLineBytes, IsAlive, IsTidyTask}
 use Rattle.sim_relation.proofs.Tops.{falling_active}
 use Rattle.sim_relation.specs.Moves.{changed_system, WholeMachine}
 use Rattle.sim_relation.proofs.Parts.{other_task, by_element, by_task, falling_kept, running_tasks, rests, anew}
@@ -30,28 +30,28 @@ use Rattle.sim_relation.proofs.Aside.{aside}
 use Rattle.sim_relation.proofs.ClockKept.{line_stands, no_task, in_range}
 
 -- the arrival of a counter's line makes the counter due
-counter_arrival : (c : ℕ) (s : System) → with_arrival (counter_line c) s ≡ made_due c s
+counter_arrival : (c : ℕ) (s : System) → with_arrival (counter_line c) s ≡ due_state c s
 counter_arrival c s =
     let back : counter_line c - first_counter_line ≡ c = omega arith in
-    ap (λ v. cond v (admitted_state (counter_line c) s) (made_due (counter_line c - first_counter_line) s))
+    ap (λ v. cond v (admitted_state (counter_line c) s) (due_state (counter_line c - first_counter_line) s))
     (le-ltb (counter_line c) first_counter_line (omega arith))
-    ∙ ap (λ d. made_due d s) back
+    ∙ ap (λ d. due_state d s) back
 
 -- the line of a task that is not Suspended
-more_pending : (m : TaskState) (p e : ℕ) → (m ≡ mode.Suspended → ⊥) → IsLineOf m p e → IsLineOf m 1 e
+more_pending : (m : TaskState) (p e : ℕ) → (m ≡ mode.Suspended → ⊥) → AreLineBytes m p e → AreLineBytes m 1 e
 more_pending mode.Suspended p e n h = absurd (n refl)
 more_pending mode.Ready p e n h = (refl, h.1)
 more_pending mode.Active p e n h = h
 more_pending (mode.Waiting w) p e n h = h
 
-line_ready : (m : TaskState) (p e : ℕ) → m ≡ mode.Suspended → IsLineOf m p e → IsLineOf mode.Ready 1 e
+line_ready : (m : TaskState) (p e : ℕ) → m ≡ mode.Suspended → AreLineBytes m p e → AreLineBytes mode.Ready 1 e
 line_ready mode.Suspended p e n h = (refl, h.1)
 line_ready mode.Ready p e n h = cc
 line_ready mode.Active p e n h = cc
 line_ready (mode.Waiting w) p e n h = cc
 
-line_pending : (m : TaskState) (p q e : ℕ) → q ≡ p → IsLineOf m p e → IsLineOf m q e
-line_pending m p q e k h = subst (λ x. IsLineOf m x e) (sym k) h
+line_pending : (m : TaskState) (p q e : ℕ) → q ≡ p → AreLineBytes m p e → AreLineBytes m q e
+line_pending m p q e k h = subst (λ x. AreLineBytes m x e) (sym k) h
 
 -- a task is Suspended or not
 pub is_suspended : (m : TaskState) → (m ≡ mode.Suspended) ⊎ (m ≡ mode.Suspended → ⊥)
@@ -91,7 +91,7 @@ module _ (b : Build) (state : State) (s : System) (l : ℕ) (k : Stands b state 
   here_pending = let f = k.fixed.pending in get_or-set_same state.core.pending l 1 0 (omega arith)
 
   -- the task has this record now, and is Active or alive only where it was so
-  module _ (own : Task) (fresh : List ℕ) (own_line : IsLineOf own.state 1 (slice_index state.core.enabled l)) (own_words : ServiceWords b state.core.ram l own) (own_tidy : TidyTask own)
+  module _ (own : Task) (fresh : List ℕ) (own_line : AreLineBytes own.state 1 (slice_index state.core.enabled l)) (own_words : AreServiceWords b state.core.ram l own) (own_tidy : IsTidyTask own)
       (in_stack : (u : ℕ) → is_in u k.stack ≡ true → task (with_task s l own) u ≡ task s u)
       (was_active : own.state ≡ mode.Active → (task s l).state ≡ mode.Active) (was_alive : IsAlive own → IsAlive (task s l)) where
     abbrev next : System
@@ -143,7 +143,7 @@ module _ (b : Build) (state : State) (s : System) (l : ℕ) (k : Stands b state 
     in_stack : (u : ℕ) → is_in u k.stack ≡ true → task (with_task s l as_ready) u ≡ task s u
     in_stack u h = other_task s l u as_ready (not_active u (falling_active b s k.stack k.active.falling u h).active)
 
-    ready_words : ServiceWords b state.core.ram l as_ready
+    ready_words : AreServiceWords b state.core.ram l as_ready
     ready_words =
         let w = k.words l inside in
         record {
@@ -155,7 +155,7 @@ module _ (b : Build) (state : State) (s : System) (l : ℕ) (k : Stands b state 
           held = w.held;
         }
 
-    ready_tidy : TidyTask as_ready
+    ready_tidy : IsTidyTask as_ready
     ready_tidy =
         let y = k.tidy.each l inside in
         record { registers = y.registers; at_rest = λ _. y.at_rest (ap is_active e); asleep = λ a. cc; few = y.few }
@@ -213,7 +213,7 @@ module _ (b : Build) (state : State) (s : System) (c : ℕ) (k : Stands b state 
   is_due = record (counter s c) { due = true }
 
   abbrev with_due : Clock
-  with_due = (made_due c s).clock
+  with_due = (due_state c s).clock
 
   is_there : c < length s.clock.counters
   is_there = let l = k.clock.counters in omega (arith, l, declared)
@@ -222,7 +222,7 @@ module _ (b : Build) (state : State) (s : System) (c : ℕ) (k : Stands b state 
   here_set = let f = k.fixed.pending in let l = in_range b state s k c declared in get_or-set_same state.core.pending (counter_line c) 1 0 (omega (arith, f, l))
 
   -- the relation stands with the line pending and the counter due
-  pub arrived_counter : Stands b ticking (made_due c s)
+  pub arrived_counter : Stands b ticking (due_state c s)
   arrived_counter =
       aside b state ticking s k with_due s.fresh
       (record {

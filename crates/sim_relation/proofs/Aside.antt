@@ -4,8 +4,8 @@ use Rattle.std.specs.Prelude.{slice_index}
 use Rattle.sloth_base.specs.Machine.{State}
 use Rattle.osek_scheduler.specs.State.{Clock, System, task}
 use Rattle.sim_relation.specs.Build.{Build}
-use Rattle.sim_relation.specs.Context.{Running}
-use Rattle.sim_relation.specs.ServiceWords.{ServiceWords}
+use Rattle.sim_relation.specs.Context.{RunsFirst}
+use Rattle.sim_relation.specs.ServiceWords.{AreServiceWords}
 use Rattle.sim_relation.specs.ClockStands.{CountersStand, ClockStands}
 use Rattle.sim_relation.specs.DataStands.{DataStands}
 use Rattle.sim_relation.specs.Stands.{Stands}
@@ -21,10 +21,10 @@ timed_system s clock fresh = record s { clock = clock; fresh = fresh }
 pub record IsAside (b : Build) (old now : State) (s : System) (clock : Clock) (stack : List ℕ) : Type 0 where
   pub machine : WholeMachine old now
   pub code : (i : ℕ) → b.is_code i ≡ true → slice_index now.core.ram i ≡ slice_index old.core.ram i
-  pub running : Running b now s stack
+  pub running : RunsFirst b now s stack
   pub pending : (t : ℕ) → t < length b.config.tasks → slice_index now.core.pending t ≡ slice_index old.core.pending t
   pub enabled : now.core.enabled ≡ old.core.enabled
-  pub words : (t : ℕ) → t < length b.config.tasks → ServiceWords b now.core.ram t (task s t)
+  pub words : (t : ℕ) → t < length b.config.tasks → AreServiceWords b now.core.ram t (task s t)
   pub data_stands : DataStands b now.core.ram s.symbols
   pub counters : CountersStand b.config now.core clock
   pub clock_stands : ClockStands b.config now.core.ram clock

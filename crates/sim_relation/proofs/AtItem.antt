@@ -7,8 +7,8 @@ use Rattle.rv32_expand.proofs.Counts.{expanded_some}
 use Rattle.sloth_base.specs.Named.{operation, function}
 use Rattle.osek_scheduler.specs.State.{Frame, Task}
 use Rattle.sim_relation.specs.Build.{Build}
-use Rattle.sim_relation.specs.Position.{Thread, FramesAt, InExpansion, Position}
-use Rattle.sim_relation.specs.Context.{Context, Rested}
+use Rattle.sim_relation.specs.Position.{Thread, AreFrames, InExpansion, IsPosition}
+use Rattle.sim_relation.specs.Context.{IsContext, IsRested}
 use Rattle.sim_relation.proofs.Framing.{scratch_first}
 
 -- at the address of an item its expansion has not begun
@@ -23,7 +23,7 @@ at_first b own frame th e = record {
 -- a task whose pc is that of its next item has its position there
 pub position_first : (b : Build) (ram : List ℕ) (t : ℕ) (own : Task) (th : Thread) (place : ℕ) (frame : Frame) (outer : List Frame)
     → own.frames ≡ frame ∷ outer → own.owed ≡ false → frame.item < length (function b.app frame.func).items
-    → th.pc ≡ item_address b.places frame.func frame.item → FramesAt b ram frame outer place (b.top t) → Position b ram t own th place
+    → th.pc ≡ item_address b.places frame.func frame.item → AreFrames b ram frame outer place (b.top t) → IsPosition b ram t own th place
 position_first b ram t own th place frame outer e w l pc f = record {
   frame = frame;
   outer = outer;
@@ -34,8 +34,8 @@ position_first b ram t own th place frame outer e w l pc f = record {
 
 -- a task that goes on from its own context; its registers may have changed since
 pub rested_context : (b : Build) (ram : List ℕ) (t : ℕ) (own new : Task) (frame : Frame) (outer : List Frame) (place : ℕ) (th : Thread)
-    → Rested b ram t own frame outer place → new.frames ≡ frame ∷ outer → new.owed ≡ false → th.pc ≡ word_at ram place → th.x2 ≡ 0x8000_0000 + (place + 128)
-    → ((i : ℕ) → i < 25 → slice_index new.registers i ≡ th.x (i + 5)) → Context b ram t new th (place + 128)
+    → IsRested b ram t own frame outer place → new.frames ≡ frame ∷ outer → new.owed ≡ false → th.pc ≡ word_at ram place → th.x2 ≡ 0x8000_0000 + (place + 128)
+    → ((i : ℕ) → i < 25 → slice_index new.registers i ≡ th.x (i + 5)) → IsContext b ram t new th (place + 128)
 rested_context b ram t own new frame outer place th r e w pc x2 x =
     let room = r.room in
     let a = r.aligned in

@@ -8,16 +8,16 @@ use Rattle.masked_code.specs.Kernel.{IsBelow}
 use Rattle.osek_scheduler.specs.State.{Task, System, task}
 use Rattle.sim_induction.specs.Mirror.{priority_of}
 use Rattle.sim_relation.specs.Build.{Build, Fits}
-use Rattle.sim_relation.specs.Position.{Thread, thread_at, FramesAt, InExpansion, AtBlock, Position}
-use Rattle.sim_relation.specs.Context.{Chain, RunsTask}
-use Rattle.sim_relation.specs.Stands.{Falling, AreActive}
+use Rattle.sim_relation.specs.Position.{Thread, thread_at, AreFrames, InExpansion, AtBlock, IsPosition}
+use Rattle.sim_relation.specs.Context.{IsContextChain, RunsTask}
+use Rattle.sim_relation.specs.Stands.{AreFalling, AreActive}
 use Rattle.sim_relation.proofs.Levels.{level_of-few}
 use Rattle.sim_relation.proofs.Framing.{position_elim}
 use Rattle.sim_relation.proofs.Contexts.{context_below}
 use Rattle.sim_relation.proofs.Tops.{falling_head, falling_tail}
 
 -- each instruction before which a task may stand is at a multiple of 4
-pub position_aligned : (b : Build) (ram : List ℕ) (t : ℕ) (own : Task) (th : Thread) (place : ℕ) → Fits b → Position b ram t own th place → th.pc % 4 ≡ 0
+pub position_aligned : (b : Build) (ram : List ℕ) (t : ℕ) (own : Task) (th : Thread) (place : ℕ) → Fits b → IsPosition b ram t own th place → th.pc % 4 ≡ 0
 position_aligned b ram t own th place fits p =
     let i = fits.items p.frame.func p.frame.item in
     position_elim b ram t own p.frame p.outer th place (th.pc % 4 ≡ 0)
@@ -28,8 +28,8 @@ position_aligned b ram t own th place fits p =
     (λ h. let e = h.pc in let a = fits.back_address in omega arith)
     (λ h. let e = h.pc in omega arith)
     (λ h. ⊎_elim
-    (λ (w : (th.pc ≡ item_address b.places p.frame.func p.frame.item + 4) × FramesAt b ram p.frame p.outer place (b.top t)). let e = w.0 in omega arith)
-    (λ (w : (th.pc ≡ item_address b.places p.frame.func p.frame.item + 8) × FramesAt b ram h.caller h.rest place (b.top t)). let e = w.0 in omega arith)
+    (λ (w : (th.pc ≡ item_address b.places p.frame.func p.frame.item + 4) × AreFrames b ram p.frame p.outer place (b.top t)). let e = w.0 in omega arith)
+    (λ (w : (th.pc ≡ item_address b.places p.frame.func p.frame.item + 8) × AreFrames b ram h.caller h.rest place (b.top t)). let e = w.0 in omega arith)
     h.here)
     p.here
 
@@ -42,7 +42,7 @@ pub record StartsAt (ram : List ℕ) (place : ℕ) : Type 0 where
   pub level : word_at ram (place + 4) < 256
 
 -- what the chain says of the next context is what a routine needs of it
-pub chain_starts : (b : Build) (ram : List ℕ) (s : System) (stack : List ℕ) (place : ℕ) → Fits b → Falling b s stack → Chain b ram s stack place → StartsAt ram place
+pub chain_starts : (b : Build) (ram : List ℕ) (s : System) (stack : List ℕ) (place : ℕ) → Fits b → AreFalling b s stack → IsContextChain b ram s stack place → StartsAt ram place
 chain_starts b ram s [] place fits f k =
     let p = k.is in
     let c = ap (word_at ram) p ∙ k.pc in

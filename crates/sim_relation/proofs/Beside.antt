@@ -9,8 +9,8 @@ use Rattle.osek_scheduler.specs.Priority.{is_in}
 use Rattle.sim_relation.specs.Build.{Build, Fits}
 use Rattle.sim_relation.specs.ClockStands.{CountersStand, ClockStands, IsBesideClock}
 use Rattle.sim_relation.specs.Position.{thread_of}
-use Rattle.sim_relation.specs.Context.{Running}
-use Rattle.sim_relation.specs.ServiceWords.{ServiceWords}
+use Rattle.sim_relation.specs.Context.{RunsFirst}
+use Rattle.sim_relation.specs.ServiceWords.{AreServiceWords}
 use Rattle.sim_relation.specs.Stands.{Stands}
 use Rattle.sim_relation.specs.Framing.{SamePart}
 use Rattle.sim_relation.specs.Moves.{WholeMachine}
@@ -35,7 +35,7 @@ module _ (b : Build) (old now : State) (s : System) (k : Stands b old s) (fits :
   in_stack : (u : ℕ) → is_in u k.stack ≡ true → u < length b.config.tasks
   in_stack u h = (falling_active b s k.stack k.active.falling u h).declared
 
-  running : (stack : List ℕ) → ((u : ℕ) → is_in u stack ≡ true → u < length b.config.tasks) → Running b old s stack → Running b now s stack
+  running : (stack : List ℕ) → ((u : ℕ) → is_in u stack ≡ true → u < length b.config.tasks) → RunsFirst b old s stack → RunsFirst b now s stack
   running [] inside r = record {
     level = m.level ∙ r.level;
     current = m.named cur (omega arith) (inl (omega arith)) ∙ r.current;
@@ -60,7 +60,7 @@ module _ (b : Build) (old now : State) (s : System) (k : Stands b old s) (fits :
             r.chain;
       }
 
-  words : (t : ℕ) → t < length b.config.tasks → ServiceWords b now.core.ram t (task s t)
+  words : (t : ℕ) → t < length b.config.tasks → AreServiceWords b now.core.ram t (task s t)
   words t h =
       let few = fits.few_tasks in
       service_kept b old.core.ram now.core.ram t (task s t)

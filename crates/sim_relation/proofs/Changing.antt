@@ -13,11 +13,11 @@ use Rattle.osek_scheduler.specs.State.{Frame, Task, System, task, declaration}
 use Rattle.osek_scheduler.specs.Priority.{is_in, is_active, current_priority}
 use Rattle.sim_relation.specs.Build.{Build, Fits}
 use Rattle.sim_relation.specs.Position.{Thread, thread_of, thread_at}
-use Rattle.sim_relation.specs.Context.{Context, Saved, Chain, Running, Resumes}
-use Rattle.sim_relation.specs.ServiceWords.{ServiceWords, base_priority}
-use Rattle.sim_relation.specs.Stands.{Stands, IsActive, Falling}
+use Rattle.sim_relation.specs.Context.{IsContext, IsSaved, IsContextChain, RunsFirst, Resumes}
+use Rattle.sim_relation.specs.ServiceWords.{AreServiceWords, base_priority}
+use Rattle.sim_relation.specs.Stands.{Stands, IsActive, AreFalling}
 use Rattle.sim_relation.specs.Framing.{Agree, SamePart}
-use Rattle.sim_relation.specs.Changes.{changed_task, changed_to, TaskChange}
+use Rattle.sim_relation.specs.Changes.{changed_task, system_with_task_state, TaskChange}
 use Rattle.sim_relation.proofs.ClockKept.{clock_kept}
 use Rattle.sim_relation.proofs.Contexts.{context_same, chain_kept, data_kept}
 use Rattle.sim_relation.proofs.Framing.{position_task}
@@ -50,7 +50,7 @@ like_still old new l h = active_is new.state (l.active ∙ ap is_active h)
 like_priority : (config : Config) (d : TaskDecl) (old new : Task) → IsLike old new → current_priority config d new ≡ current_priority config d old
 like_priority config d old new l = same_current config d old new l.held l.raised
 
-context_like : (b : Build) (ram : List ℕ) (t : ℕ) (old new : Task) (th : Thread) (place : ℕ) → IsLike old new → Context b ram t old th place → Context b ram t new th place
+context_like : (b : Build) (ram : List ℕ) (t : ℕ) (old new : Task) (th : Thread) (place : ℕ) → IsLike old new → IsContext b ram t old th place → IsContext b ram t new th place
 context_like b ram t old new th place l k = record {
   x2 = k.x2;
   registers = λ i h. ap (λ x. slice_index x i) l.registers ∙ k.registers i h;
@@ -59,7 +59,7 @@ context_like b ram t old new th place l k = record {
   aligned = k.aligned;
 }
 
-saved_like : (b : Build) (ram : List ℕ) (s next : System) (t place : ℕ) → IsLike (task s t) (task next t) → Saved b ram s t place → Saved b ram next t place
+saved_like : (b : Build) (ram : List ℕ) (s next : System) (t place : ℕ) → IsLike (task s t) (task next t) → IsSaved b ram s t place → IsSaved b ram next t place
 saved_like b ram s next t place l k = record {
   level = k.level ∙ sym (ap (level_of b.config) (like_priority b.config (declaration b.config t) (task s t) (task next t) l));
   current = k.current;
@@ -67,14 +67,14 @@ saved_like b ram s next t place l k = record {
 }
 
 chain_like : (b : Build) (ram : List ℕ) (s next : System) → ((u : ℕ) → IsLike (task s u) (task next u)) → (stack : List ℕ) (place : ℕ)
-    → Chain b ram s stack place → Chain b ram next stack place
+    → IsContextChain b ram s stack place → IsContextChain b ram next stack place
 chain_like b ram s next l [] place k = k
 chain_like b ram s next l (t ∷ below) place k = (saved_like b ram s next t place (l t) k.0, (k.1.0, k.1.1, chain_like b ram s next l below k.1.0 k.1.2))
 
 active_like : (b : Build) (s next : System) (t : ℕ) → IsLike (task s t) (task next t) → IsActive b s t → IsActive b next t
 active_like b s next t l a = record { declared = a.declared; active = like_still (task s t) (task next t) l a.active }
 
-falling_like : (b : Build) (s next : System) → ((u : ℕ) → IsLike (task s u) (task next u)) → (stack : List ℕ) → Falling b s stack → Falling b next stack
+falling_like : (b : Build) (s next : System) → ((u : ℕ) → IsLike (task s u) (task next u)) → (stack : List ℕ) → AreFalling b s stack → AreFalling b next stack
 falling_like b s next l [] f = tt
 falling_like b s next l (t ∷ []) f = active_like b s next t (l t) f
 falling_like b s next l (t ∷ u ∷ below) f = (
@@ -88,7 +88,7 @@ running_like : (b : Build) (old now : State) (s next : System) → ((u : ℕ) �
     → now.pc ≡ old.pc → now.core.registers ≡ old.core.registers → now.core.ilevel ≡ old.core.ilevel
     → ((i : ℕ) → idle_context ≤ i → slice_index now.core.ram i ≡ slice_index old.core.ram i)
     → word_at now.core.ram cur ≡ word_at old.core.ram cur → word_at now.core.ram below_word ≡ word_at old.core.ram below_word
-    → (stack : List ℕ) → ((u : ℕ) → is_in u stack ≡ true → u < length b.config.tasks) → Running b old s stack → Running b now next stack
+    → (stack : List ℕ) → ((u : ℕ) → is_in u stack ≡ true → u < length b.config.tasks) → RunsFirst b old s stack → RunsFirst b now next stack
 running_like b old now s next l low p x v high current link [] inside k = record {
   level = v ∙ k.level;
   current = current ∙ k.current;
@@ -138,7 +138,7 @@ module _ (b : Build) (old now : State) (s : System) (k : Stands b old s) (fits :
   own = changed_task s t m set
 
   abbrev next : System
-  next = changed_to s t m set
+  next = system_with_task_state s t m set
 
   here : t < length s.tasks
   here = among b old s t k declared
@@ -165,7 +165,7 @@ module _ (b : Build) (old now : State) (s : System) (k : Stands b old s) (fits :
   part : (u : ℕ) → u < length b.config.tasks → Agree old.core.ram now.core.ram (b.low u) (b.top u)
   part u h i x y = change.high i (let f = fits.from u h in omega arith)
 
-  own_words : ServiceWords b now.core.ram t own
+  own_words : AreServiceWords b now.core.ram t own
   own_words =
       let g = few in
       let w = k.words t declared in
@@ -180,7 +180,7 @@ module _ (b : Build) (old now : State) (s : System) (k : Stands b old s) (fits :
         held = held_kept b old.core.ram now.core.ram (base_priority b t (task s t)) (task s t).held (held_word t declared) w.held;
       }
 
-  other_words : (u : ℕ) → u < length b.config.tasks → u ≢ t → ServiceWords b now.core.ram u (task s u)
+  other_words : (u : ℕ) → u < length b.config.tasks → u ≢ t → AreServiceWords b now.core.ram u (task s u)
   other_words u h n =
       let g = few in
       let c = fits.few_tasks in

@@ -15,8 +15,8 @@ use Rattle.sloth_base.specs.PriorityLevels.{level_of}
 use Rattle.sloth_base.specs.Owners.{counter_line, owners_in, IsOwned}
 use Rattle.sloth_base.proofs.Owners.{IsCounterLine, owned_cases}
 use Rattle.sim_relation.specs.Build.{Build}
-use Rattle.sim_relation.specs.Context.{Running, RunsTask, RunsIdle}
-use Rattle.sim_relation.specs.Stands.{Stands, IsLineOf, Falling, AreActive}
+use Rattle.sim_relation.specs.Context.{RunsFirst, RunsTask, RunsIdle}
+use Rattle.sim_relation.specs.Stands.{Stands, AreLineBytes, AreFalling, AreActive}
 use Rattle.sim_relation.proofs.ClockKept.{in_range}
 use Rattle.sim_relation.proofs.Levels.{above_from, at_most_from, level_of-below, level_of-some, level_of-few}
 use Rattle.sim_relation.proofs.Tops.{static_le, rank_active, rank_ready, first_most, top_running}
@@ -34,13 +34,13 @@ chosen_some core line h e = subst (IsChosen (lines_of core) core.ilevel) e (choi
 pub chosen_none : (core : Core) → core.controller ≡ true → choose core ≡ None → IsChosen (lines_of core) core.ilevel None
 chosen_none core h e = subst (IsChosen (lines_of core) core.ilevel) e (choice_is core h)
 
-ready_line : (m : TaskState) (pending enabled : ℕ) → m ≡ mode.Ready → IsLineOf m pending enabled → (pending ≡ 1) × (enabled ≡ 1)
+ready_line : (m : TaskState) (pending enabled : ℕ) → m ≡ mode.Ready → AreLineBytes m pending enabled → (pending ≡ 1) × (enabled ≡ 1)
 ready_line mode.Ready p e q h = h
 ready_line mode.Suspended p e q h = cc
 ready_line mode.Active p e q h = cc
 ready_line (mode.Waiting w) p e q h = cc
 
-ready_or_active : (m : TaskState) (pending enabled : ℕ) → pending ≡ 1 → enabled ≡ 1 → IsLineOf m pending enabled → (m ≡ mode.Ready) ⊎ (m ≡ mode.Active)
+ready_or_active : (m : TaskState) (pending enabled : ℕ) → pending ≡ 1 → enabled ≡ 1 → AreLineBytes m pending enabled → (m ≡ mode.Ready) ⊎ (m ≡ mode.Active)
 ready_or_active mode.Ready p e a b h = inl refl
 ready_or_active mode.Active p e a b h = inr refl
 ready_or_active mode.Suspended p e a b h = absurd (omega (arith, h.0))
@@ -51,14 +51,14 @@ runs_at : Build → System → List ℕ → ℕ
 runs_at b s [] = 0
 runs_at b s (t ∷ below) = level_of b.config (priority_of b.config s t)
 
-runs_level : (b : Build) (state : State) (s : System) (stack : List ℕ) → Running b state s stack → state.core.ilevel ≡ runs_at b s stack
+runs_level : (b : Build) (state : State) (s : System) (stack : List ℕ) → RunsFirst b state s stack → state.core.ilevel ≡ runs_at b s stack
 unfolding runs_at
 runs_level b state s [] k = k.level
 runs_level b state s (t ∷ below) k = k.level
 
 -- ---- counters
 
-runs_low : (b : Build) (state : State) (s : System) (stack : List ℕ) → Running b state s stack → state.core.ilevel ≤ length b.config.tasks
+runs_low : (b : Build) (state : State) (s : System) (stack : List ℕ) → RunsFirst b state s stack → state.core.ilevel ≤ length b.config.tasks
 runs_low b state s [] r = let e = r.level in omega (arith, e)
 runs_low b state s (t ∷ below) r = let e = r.level in let l = level_of-few b.config (priority_of b.config s t) in omega (arith, e, l)
 
@@ -125,7 +125,7 @@ module _ (b : Build) (state : State) (s : System) (k : Stands b state s) where
 -- ---- tasks
 
 -- a task of a level above the running one has a priority above the current ones of all Active tasks
-above_all : (b : Build) (s : System) (stack : List ℕ) → Falling b s stack → (t : ℕ) → runs_at b s stack < level_of b.config (declaration b.config t).priority
+above_all : (b : Build) (s : System) (stack : List ℕ) → AreFalling b s stack → (t : ℕ) → runs_at b s stack < level_of b.config (declaration b.config t).priority
     → (u : ℕ) → is_in u stack ≡ true → priority_of b.config s u < (declaration b.config t).priority
 unfolding runs_at
 above_all b s [] f t l u h = cc
@@ -156,7 +156,7 @@ module _ (b : Build) (state : State) (s : System) (k : Stands b state s) (few : 
   pub running_top : choose state.core ≡ None → (t : ℕ) (below : List ℕ) → k.stack ≡ t ∷ below → IsTop b.config s [] t
   running_top e t below is =
       let active : AreActive b s (t ∷ below) = subst (AreActive b s) is k.active in
-      let run : RunsTask b state s t below = subst (Running b state s) is k.running in
+      let run : RunsTask b state s t below = subst (RunsFirst b state s) is k.running in
       top_running b s t below [] active refl
       (λ u h r o.
       let a = none_above e u h r in
@@ -169,7 +169,7 @@ module _ (b : Build) (state : State) (s : System) (k : Stands b state s) (few : 
   none_due e is u h due =
       ⊎_elim
       (λ (r : (task s u).state ≡ mode.Ready).
-      let run : RunsIdle b state = subst (Running b state s) is k.running in
+      let run : RunsIdle b state = subst (RunsFirst b state s) is k.running in
       let a = none_above e u h r in
       let v = run.level in
       let w = level_of-some b.config u h in

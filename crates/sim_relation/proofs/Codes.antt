@@ -7,8 +7,8 @@ use Rattle.rv32_instr.specs.declared.InstrKind.{InstrKind}
 use Rattle.osek_scheduler.specs.State.{System, task}
 use Rattle.sim_relation.specs.Build.{Build, Fits}
 use Rattle.sim_relation.specs.Position.{thread_of}
-use Rattle.sim_relation.specs.Context.{Running}
-use Rattle.sim_relation.specs.Stands.{Falling}
+use Rattle.sim_relation.specs.Context.{RunsFirst}
+use Rattle.sim_relation.specs.Stands.{AreFalling}
 use Rattle.sim_relation.specs.Placed.{IsPlaced}
 use Rattle.sim_relation.proofs.Contexts.{context_below}
 use Rattle.sim_relation.proofs.Placed.{code_behind}
@@ -32,8 +32,8 @@ code_apart b t offset code fits declared room some p =
     (cases_lt offset (b.low t))
 
 -- and from the place of the context that is stored at an entry
-pub code_beside : (b : Build) (state : State) (s : System) (stack : List ℕ) (place offset : ℕ) (code : List InstrKind) → Fits b → Falling b s stack
-    → slice_index state.core.registers 2 ≡ 0x8000_0000 + (place + 128) → Running b state s stack → 0 < length code → IsPlaced b offset code
+pub code_beside : (b : Build) (state : State) (s : System) (stack : List ℕ) (place offset : ℕ) (code : List InstrKind) → Fits b → AreFalling b s stack
+    → slice_index state.core.registers 2 ≡ 0x8000_0000 + (place + 128) → RunsFirst b state s stack → 0 < length code → IsPlaced b offset code
     → (place + 128 ≤ offset) ⊎ (offset + 4 * length code ≤ place)
 code_beside b state s [] place offset code fits f x k some p =
     let y = k.x2 in

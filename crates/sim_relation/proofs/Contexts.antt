@@ -7,21 +7,21 @@ use Rattle.osek_scheduler.specs.Priority.{current_priority}
 use Rattle.sloth_base.specs.PriorityLevels.{level_of}
 use Rattle.sim_relation.specs.Build.{Build}
 use Rattle.sim_relation.specs.Position.{Thread, thread_at}
-use Rattle.sim_relation.specs.Context.{Context, Saved, Chain}
+use Rattle.sim_relation.specs.Context.{IsContext, IsSaved, IsContextChain}
 use Rattle.sim_relation.specs.DataStands.{DataStands}
 use Rattle.sim_relation.specs.Framing.{Agree, IdleKept, SameThread, SamePart}
 use Rattle.std.specs.List.{AllByRecursion}
 use Rattle.sim_relation.proofs.Framing.{word_kept, position_kept, position_below}
 
 -- a context lies below the top of its task's part of the stacks
-pub context_below : (b : Build) (ram : List ℕ) (t : ℕ) (own : Task) (th : Thread) (place : ℕ) → Context b ram t own th place → place ≤ b.top t
+pub context_below : (b : Build) (ram : List ℕ) (t : ℕ) (own : Task) (th : Thread) (place : ℕ) → IsContext b ram t own th place → place ≤ b.top t
 context_below b ram t own th place k = position_below b ram t own th place k.position
 
 -- a context stands where its task, its thread and its bytes are the same
 pub context_same : (b : Build) (old new : List ℕ) (t : ℕ) (own next : Task) (th now : Thread) (place : ℕ)
-    → next ≡ own → SameThread th now → Agree old new place (b.top t) → Context b old t own th place → Context b new t next now place
+    → next ≡ own → SameThread th now → Agree old new place (b.top t) → IsContext b old t own th place → IsContext b new t next now place
 context_same b old new t own next th now place e s g k =
-    subst (λ v. Context b new t v now place) (sym e)
+    subst (λ v. IsContext b new t v now place) (sym e)
     (record {
       x2 = s.x2 ∙ k.x2;
       registers = λ i l. k.registers i l ∙ sym (s.x (i + 5) (omega arith) (omega arith));
@@ -42,7 +42,7 @@ saved_same old new place a = record {
 
 -- the same of the context of a task below another, and its thread as the context has it
 pub context_kept : (b : Build) (old new : List ℕ) (s next : System) (t place : ℕ) → SamePart b old new s next t
-    → Context b old t (task s t) (thread_at old place) (place + 128) → Context b new t (task next t) (thread_at new place) (place + 128)
+    → IsContext b old t (task s t) (thread_at old place) (place + 128) → IsContext b new t (task next t) (thread_at new place) (place + 128)
 context_kept b old new s next t place p k =
     let low = k.room in
     let top = context_below b old t (task s t) (thread_at old place) (place + 128) k in
@@ -51,7 +51,7 @@ context_kept b old new s next t place p k =
     (λ i l h. p.bytes i (omega arith) (omega arith)) k
 
 -- and so does a context that is saved, or none
-pub saved_kept : (b : Build) (old new : List ℕ) (s next : System) (t place : ℕ) → SamePart b old new s next t → Saved b old s t place → Saved b new next t place
+pub saved_kept : (b : Build) (old new : List ℕ) (s next : System) (t place : ℕ) → SamePart b old new s next t → IsSaved b old s t place → IsSaved b new next t place
 saved_kept b old new s next t place p k =
     let low = k.context.room in
     let top = context_below b old t (task s t) (thread_at old place) (place + 128) k.context in
@@ -65,7 +65,7 @@ saved_kept b old new s next t place p k =
 
 -- the chain stands as long as each task's part does, and the idle loop's context
 pub chain_kept : (b : Build) (old new : List ℕ) (s next : System) → IdleKept old new → (stack : List ℕ) (place : ℕ)
-    → AllByRecursion (SamePart b old new s next) stack → Chain b old s stack place → Chain b new next stack place
+    → AllByRecursion (SamePart b old new s next) stack → IsContextChain b old s stack place → IsContextChain b new next stack place
 chain_kept b old new s next idle [] place e k = record {
   is = k.is;
   pc = word_kept old new idle_context (idle_context + 12) idle_context idle (omega arith) (omega arith) ∙ k.pc;

@@ -15,9 +15,9 @@ use Rattle.osek_scheduler.specs.Steps.{settled_state}
 use Rattle.sloth_base.specs.PriorityLevels.{level_of}
 use Rattle.sim_relation.specs.Build.{Build, Fits, IsElsewhere}
 use Rattle.sim_relation.specs.Position.{thread_of, thread_at}
-use Rattle.sim_relation.specs.Context.{Context, Chain, Running, RunsTask}
-use Rattle.sim_relation.specs.ServiceWords.{ServiceWords, HeldWords, IsWaitWord, active_word}
-use Rattle.sim_relation.specs.Stands.{Stands, Falling, IsLineOf, IsAlive, TidyTask}
+use Rattle.sim_relation.specs.Context.{IsContext, IsContextChain, RunsFirst, RunsTask}
+use Rattle.sim_relation.specs.ServiceWords.{AreServiceWords, AreHeldWords, IsWaitWord, active_word}
+use Rattle.sim_relation.specs.Stands.{Stands, AreFalling, AreLineBytes, IsAlive, IsTidyTask}
 use Rattle.sim_relation.specs.Framing.{Agree, NamedKept, SameThread, SamePart}
 use Rattle.sim_relation.specs.Entry.{TaskEntry}
 use Rattle.sim_relation.specs.Moves.{WholeMachine}
@@ -31,13 +31,13 @@ use Rattle.sim_relation.proofs.TaskSteps.{resumes_active}
 use Rattle.sim_relation.proofs.Fresh.{start_priority, falling_cons}
 use Rattle.sim_relation.proofs.Spot.{is_first, is_first_in, Spot, spot}
 
-enabled_ready : (m : TaskState) (p e : ℕ) → m ≡ mode.Ready → IsLineOf m p e → e ≡ 1
+enabled_ready : (m : TaskState) (p e : ℕ) → m ≡ mode.Ready → AreLineBytes m p e → e ≡ 1
 enabled_ready mode.Ready p e q h = h.1
 enabled_ready mode.Suspended p e q h = cc
 enabled_ready mode.Active p e q h = cc
 enabled_ready (mode.Waiting v) p e q h = cc
 
-not_first : (b : Build) (s : System) (t : ℕ) (below : List ℕ) → Falling b s (t ∷ below) → (u : ℕ) → is_in u below ≡ true → eqb t u ≡ false
+not_first : (b : Build) (s : System) (t : ℕ) (below : List ℕ) → AreFalling b s (t ∷ below) → (u : ℕ) → is_in u below ≡ true → eqb t u ≡ false
 not_first b s t below f u h = ne_eqb t u (λ e. below_other b s t below f u h (sym e))
 
 module _ (b : Build) (old now : State) (s : System) (k : Stands b old s) (fits : Fits b) (t : ℕ) (declared : t < length b.config.tasks) (e : choose old.core ≡ Some t)
@@ -97,9 +97,9 @@ module _ (b : Build) (old now : State) (s : System) (k : Stands b old s) (fits :
   same_thread : word_at old_ram cur ≢ 0 → SameThread (thread_of old) (thread_at new_ram place)
   same_thread some = record { pc = entry.ram.pc_word; x2 = sym entry.x2; x = entry.ram.register_words some }
 
-  chain_of : (stack : List ℕ) → Falling b s stack → ((u : ℕ) → is_in u stack ≡ true → task next u ≡ task s u)
+  chain_of : (stack : List ℕ) → AreFalling b s stack → ((u : ℕ) → is_in u stack ≡ true → task next u ≡ task s u)
       → ((u : ℕ) → u < length b.config.tasks → u ≢ t → IsAlive (task s u) → is_first stack u ≡ false → Agree old_ram new_ram (b.low u) (b.top u))
-      → Running b old s stack → Chain b new_ram next stack place
+      → RunsFirst b old s stack → IsContextChain b new_ram next stack place
   chain_of [] fl same pt run =
       let x = run.x2 in
       let y = entry.x2 in
@@ -120,7 +120,7 @@ module _ (b : Build) (old now : State) (s : System) (k : Stands b old s) (fits :
         record {
           level = entry.ram.level_word ∙ run.level ∙ sym (ap (λ x. level_of b.config (current_priority b.config (declaration b.config a) x)) same_a);
           current = entry.ram.current_word ∙ run.current;
-          context = subst (λ p. Context b new_ram a (task next a) (thread_at new_ram place) p) frame
+          context = subst (λ p. IsContext b new_ram a (task next a) (thread_at new_ram place) p) frame
               (context_same b old_ram new_ram a (task s a) (task next a) (thread_of old) (thread_at new_ram place) run.place same_a
               (same_thread (λ z. let c = run.current in absurd (omega (arith, z, c))))
               (λ i x y. entry.ram.outside i (omega arith) (inr (omega arith))
@@ -163,7 +163,7 @@ module _ (b : Build) (old now : State) (s : System) (k : Stands b old s) (fits :
         ∙ sym (ap (λ x. level_of b.config (current_priority b.config (declaration b.config t) x)) this);
     current = entry.ram.current;
     place = entry.frame;
-    context = subst (λ x. Context b new_ram t x (thread_of now) entry.frame) (sym this) entry.context;
+    context = subst (λ x. IsContext b new_ram t x (thread_of now) entry.frame) (sym this) entry.context;
     next = place;
     link = entry.ram.link;
     chain = chain_of k.stack k.active.falling in_stack part k.running;
@@ -171,8 +171,8 @@ module _ (b : Build) (old now : State) (s : System) (k : Stands b old s) (fits :
 
   -- ---- the rest
 
-  own_line : IsLineOf own.state (slice_index now.core.pending t) (slice_index now.core.enabled t)
-  own_line = subst (λ a. IsLineOf a (slice_index now.core.pending t) (slice_index now.core.enabled t)) (sym entry.state)
+  own_line : AreLineBytes own.state (slice_index now.core.pending t) (slice_index now.core.enabled t)
+  own_line = subst (λ a. AreLineBytes a (slice_index now.core.pending t) (slice_index now.core.enabled t)) (sym entry.state)
       (ap (λ l. slice_index l t) entry.machine.enabled
       ∙ enabled_ready (task s t).state (slice_index old.core.pending t) (slice_index old.core.enabled t) ready (k.lines.each t declared))
 
@@ -190,7 +190,7 @@ module _ (b : Build) (old now : State) (s : System) (k : Stands b old s) (fits :
   named : NamedKept old_ram new_ram t
   named p h a n0 n1 n2 n3 n4 n5 = entry.ram.named p h a n0 n1 n2 n5
 
-  own_words : ServiceWords b new_ram t own
+  own_words : AreServiceWords b new_ram t own
   own_words =
       let v = k.words t declared in
       let g = few30 in
@@ -199,10 +199,10 @@ module _ (b : Build) (old now : State) (s : System) (k : Stands b old s) (fits :
         event_mask = entry.ram.named (events t) (omega arith) (omega arith) (omega arith) (λ a. omega arith) (λ a. omega arith) (λ a. omega arith) ∙ v.event_mask ∙ sym entry.events;
         wait_mask = subst (λ a. IsWaitWord a (word_at new_ram (wait t))) (sym entry.state) tt;
         resumption = resumes_active b new_ram t own (is_active own.state) own.frames (ap is_active entry.state) entry.ram.resumption;
-        held = subst (λ x. HeldWords b new_ram (max (declaration b.config t).priority (cond own.raised (highest_priority b.config) 0)) x) (sym (entry.held ∙ held_nil)) tt;
+        held = subst (λ x. AreHeldWords b new_ram (max (declaration b.config t).priority (cond own.raised (highest_priority b.config) 0)) x) (sym (entry.held ∙ held_nil)) tt;
       }
 
-  tidy : TidyTask own
+  tidy : IsTidyTask own
   tidy = record {
     registers = entry.registers;
     at_rest = λ a. let c = ap is_active entry.state in cc;

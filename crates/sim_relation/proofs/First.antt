@@ -7,9 +7,9 @@ use Rattle.osek_scheduler.specs.State.{Task, System, with_task}
 use Rattle.osek_scheduler.specs.Steps.{settled_state}
 use Rattle.sim_induction.specs.Mirror.{Runs}
 use Rattle.sim_relation.specs.Build.{Build, Fits}
-use Rattle.sim_relation.specs.Context.{Running, RunsTask}
+use Rattle.sim_relation.specs.Context.{RunsFirst, RunsTask}
 use Rattle.sim_relation.specs.Stands.{Stands, AreActive}
-use Rattle.sim_relation.specs.Moves.{moved_to, TaskStep, TaskMove, TaskLeave}
+use Rattle.sim_relation.specs.Moves.{moved_system, TaskStep, TaskMove, TaskLeave}
 use Rattle.sim_relation.proofs.Below.{is_below}
 use Rattle.sim_relation.proofs.Leaving.{leave_stands}
 use Rattle.sim_relation.proofs.MirrorOf.{first_is}
@@ -27,11 +27,11 @@ module _ (b : Build) (state : State) (s : System) (t : ℕ) (fits : Fits b) (k :
   first_of = by_stack k.stack refl
 
   -- a step of the running task keeps the relation
-  pub steps_keep : (now : State) (own : Task) (symbols : List (List ℕ)) → TaskStep b state now s t own symbols → Stands b now (moved_to s t own symbols)
+  pub steps_keep : (now : State) (own : Task) (symbols : List (List ℕ)) → TaskStep b state now s t own symbols → Stands b now (moved_system s t own symbols)
   steps_keep now own symbols step = task_steps b state now s k fits t first_of.0 first_of.1 own symbols step
 
   -- a move of it does
-  pub moves_keep : (now : State) (own : Task) (symbols : List (List ℕ)) → TaskMove b state now s t own symbols → Stands b now (moved_to s t own symbols)
+  pub moves_keep : (now : State) (own : Task) (symbols : List (List ℕ)) → TaskMove b state now s t own symbols → Stands b now (moved_system s t own symbols)
   moves_keep now own symbols step = task_moves b state now s k t first_of.0 first_of.1 own symbols step
 
   -- so does a task that leaves the processor
@@ -40,7 +40,7 @@ module _ (b : Build) (state : State) (s : System) (t : ℕ) (fits : Fits b) (k :
 
   -- the running task runs, by the relation
   pub runs_task : RunsTask b state s t first_of.0
-  runs_task = subst (Running b state s) first_of.1 k.running
+  runs_task = subst (RunsFirst b state s) first_of.1 k.running
 
   -- the context of what runs below it
   pub below_found : (place : ℕ) × IsBelow place state.core

@@ -9,7 +9,7 @@ use Rattle.rv32_expand.specs.Expansion.{item_address}
 use Rattle.sloth_base.specs.Named.{operation, function}
 use Rattle.osek_scheduler.specs.State.{Frame, Task}
 use Rattle.sim_relation.specs.Build.{Build}
-use Rattle.sim_relation.specs.Position.{Thread, AreWords, OuterAt, FramesAt, HasIndexed, HasFarIndexed, HasAddress, HasTarget, HasScratch, InExpansion, AtBlock, Standing, Owing, Calling, Returning, Position}
+use Rattle.sim_relation.specs.Position.{Thread, AreWords, AreOuterFrames, AreFrames, HasIndexed, HasFarIndexed, HasAddress, HasTarget, HasScratch, InExpansion, AtBlock, IsStanding, IsOwing, IsCalling, IsReturning, IsPosition}
 use Rattle.sim_relation.specs.Framing.{Agree, SamePlace}
 
 -- a word is the same where the bytes around it are
@@ -26,14 +26,14 @@ words_kept old new from to a (x ∷ words) place l h w = (
 )
 
 -- the frames of callers lie below the top
-pub outer_below : (b : Build) (ram : List ℕ) (outer : List Frame) (place top : ℕ) → OuterAt b ram outer place top → place ≤ top
+pub outer_below : (b : Build) (ram : List ℕ) (outer : List Frame) (place top : ℕ) → AreOuterFrames b ram outer place top → place ≤ top
 outer_below b ram [] place top h = omega arith
 outer_below b ram (frame ∷ outer) place top h =
     let below = outer_below b ram outer (place + 4 + 4 * length frame.words) top h.3 in omega arith
 
 -- they stand where their bytes are the same
 pub outer_kept : (b : Build) (old new : List ℕ) (from top : ℕ) → Agree old new from top → (outer : List Frame) (place : ℕ) → from ≤ place
-    → OuterAt b old outer place top → OuterAt b new outer place top
+    → AreOuterFrames b old outer place top → AreOuterFrames b new outer place top
 outer_kept b old new from top a [] place l h = h
 outer_kept b old new from top a (frame ∷ outer) place l h =
     let below = outer_below b old outer (place + 4 + 4 * length frame.words) top h.3 in (
@@ -45,13 +45,13 @@ outer_kept b old new from top a (frame ∷ outer) place l h =
 
 -- so do all frames of a task
 pub frames_kept : (b : Build) (old new : List ℕ) (from top : ℕ) → Agree old new from top → (frame : Frame) (outer : List Frame) (place : ℕ) → from ≤ place
-    → FramesAt b old frame outer place top → FramesAt b new frame outer place top
+    → AreFrames b old frame outer place top → AreFrames b new frame outer place top
 frames_kept b old new from top a frame outer place l h =
     let below = outer_below b old outer (place + 4 * length frame.words) top h.2 in
     (h.0, words_kept old new from top a frame.words place l (omega arith) h.1, outer_kept b old new from top a outer (place + 4 * length frame.words) (omega arith) h.2)
 
 -- all frames of a task lie below the top
-pub frames_below : (b : Build) (ram : List ℕ) (frame : Frame) (outer : List Frame) (place top : ℕ) → FramesAt b ram frame outer place top → place ≤ top
+pub frames_below : (b : Build) (ram : List ℕ) (frame : Frame) (outer : List Frame) (place top : ℕ) → AreFrames b ram frame outer place top → place ≤ top
 frames_below b ram frame outer place top h = let below = outer_below b ram outer (place + 4 * length frame.words) top h.2 in omega arith
 
 -- ---- what x30 and x31 hold
@@ -117,11 +117,11 @@ module _ (old new : Thread) (e : SamePlace old new) where
 
 -- how a position is by cases
 pub position_elim : (b : Build) (ram : List ℕ) (t : ℕ) (own : Task) (frame : Frame) (outer : List Frame) (th : Thread) (place : ℕ) (P : Type 0)
-    → (Standing b ram (b.top t) own frame outer th place → P) → (Owing b ram t own frame outer th place → P)
-    → (Calling b ram (b.top t) own frame outer th place → P) → (Returning b ram (b.top t) own frame outer th place → P)
-    → Standing b ram (b.top t) own frame outer th place
-    ⊎ (Owing b ram t own frame outer th place
-    ⊎ (Calling b ram (b.top t) own frame outer th place ⊎ Returning b ram (b.top t) own frame outer th place)) → P
+    → (IsStanding b ram (b.top t) own frame outer th place → P) → (IsOwing b ram t own frame outer th place → P)
+    → (IsCalling b ram (b.top t) own frame outer th place → P) → (IsReturning b ram (b.top t) own frame outer th place → P)
+    → IsStanding b ram (b.top t) own frame outer th place
+    ⊎ (IsOwing b ram t own frame outer th place
+    ⊎ (IsCalling b ram (b.top t) own frame outer th place ⊎ IsReturning b ram (b.top t) own frame outer th place)) → P
 position_elim b ram t own frame outer th place P f g h k (inl x) = f x
 position_elim b ram t own frame outer th place P f g h k (inr (inl x)) = g x
 position_elim b ram t own frame outer th place P f g h k (inr (inr (inl x))) = h x
@@ -131,14 +131,14 @@ module _ (b : Build) (ram new : List ℕ) (t : ℕ) (own : Task) (old now : Thre
   abbrev top : ℕ
   top = b.top t
 
-  standing_kept : (frame : Frame) (outer : List Frame) → Standing b ram top own frame outer old place → Standing b new top own frame outer now place
+  standing_kept : (frame : Frame) (outer : List Frame) → IsStanding b ram top own frame outer old place → IsStanding b new top own frame outer now place
   standing_kept frame outer p = record {
     free = p.free;
     frames = frames_kept b ram new place top g frame outer place (omega arith) p.frames;
     here = ⊎_elim (λ (h : InExpansion b own frame old). inl (expansion_same old now e b own frame h)) (λ (h : AtBlock b frame old). inr (block_same old now e b frame h)) p.here;
   }
 
-  owing_kept : (frame : Frame) (outer : List Frame) → Owing b ram t own frame outer old place → Owing b new t own frame outer now place
+  owing_kept : (frame : Frame) (outer : List Frame) → IsOwing b ram t own frame outer old place → IsOwing b new t own frame outer now place
   owing_kept frame outer p = record {
     owes = p.owes;
     frames = frames_kept b ram new place top g frame outer place (omega arith) p.frames;
@@ -147,7 +147,7 @@ module _ (b : Build) (ram new : List ℕ) (t : ℕ) (own : Task) (old now : Thre
     level = e.x30 ∙ p.level;
   }
 
-  calling_kept : (frame : Frame) (outer : List Frame) → Calling b ram top own frame outer old place → Calling b new top own frame outer now place
+  calling_kept : (frame : Frame) (outer : List Frame) → IsCalling b ram top own frame outer old place → IsCalling b new top own frame outer now place
   calling_kept frame outer p =
       let w = (function b.app p.callee).frame_words in
       let l = frames_below b ram frame outer (place + 4 + 4 * w) top p.frames in
@@ -165,7 +165,7 @@ module _ (b : Build) (ram new : List ℕ) (t : ℕ) (own : Task) (old now : Thre
         stored = λ h. word_kept ram new place top (place + 4 * w) g (omega arith) (omega arith) ∙ p.stored h;
       }
 
-  returning_kept : (frame : Frame) (outer : List Frame) → Returning b ram top own frame outer old place → Returning b new top own frame outer now place
+  returning_kept : (frame : Frame) (outer : List Frame) → IsReturning b ram top own frame outer old place → IsReturning b new top own frame outer now place
   returning_kept frame outer p = record {
     free = p.free;
     is = p.is;
@@ -174,15 +174,15 @@ module _ (b : Build) (ram new : List ℕ) (t : ℕ) (own : Task) (old now : Thre
     called_by = p.called_by;
     linked = e.x31 ∙ p.linked;
     here = ⊎_elim
-        (λ (h : (old.pc ≡ item_address b.places frame.func frame.item + 4) × FramesAt b ram frame outer place top).
+        (λ (h : (old.pc ≡ item_address b.places frame.func frame.item + 4) × AreFrames b ram frame outer place top).
         inl (e.pc ∙ h.0, frames_kept b ram new place top g frame outer place (omega arith) h.1))
-        (λ (h : (old.pc ≡ item_address b.places frame.func frame.item + 8) × FramesAt b ram p.caller p.rest place top).
+        (λ (h : (old.pc ≡ item_address b.places frame.func frame.item + 8) × AreFrames b ram p.caller p.rest place top).
         inr (e.pc ∙ h.0, frames_kept b ram new place top g p.caller p.rest place (omega arith) h.1))
         p.here;
   }
 
   -- a task's position stands where its bytes, its thread and what its record says of it are the same
-  pub position_kept : Position b ram t own old place → Position b new t own now place
+  pub position_kept : IsPosition b ram t own old place → IsPosition b new t own now place
   position_kept p = record {
     frame = p.frame;
     outer = p.outer;
@@ -197,23 +197,23 @@ module _ (b : Build) (ram new : List ℕ) (t : ℕ) (own : Task) (old now : Thre
   }
 
 -- x2 stands at most at the top
-pub position_below : (b : Build) (ram : List ℕ) (t : ℕ) (own : Task) (th : Thread) (place : ℕ) → Position b ram t own th place → place ≤ b.top t
+pub position_below : (b : Build) (ram : List ℕ) (t : ℕ) (own : Task) (th : Thread) (place : ℕ) → IsPosition b ram t own th place → place ≤ b.top t
 position_below b ram t own th place p =
     position_elim b ram t own p.frame p.outer th place (place ≤ b.top t)
     (λ h. frames_below b ram p.frame p.outer place (b.top t) h.frames)
     (λ h. frames_below b ram p.frame p.outer place (b.top t) h.frames)
     (λ h. let l = frames_below b ram p.frame p.outer (place + 4 + 4 * (function b.app h.callee).frame_words) (b.top t) h.frames in omega arith)
     (λ h. ⊎_elim
-    (λ (w : (th.pc ≡ item_address b.places p.frame.func p.frame.item + 4) × FramesAt b ram p.frame p.outer place (b.top t)).
+    (λ (w : (th.pc ≡ item_address b.places p.frame.func p.frame.item + 4) × AreFrames b ram p.frame p.outer place (b.top t)).
     frames_below b ram p.frame p.outer place (b.top t) w.1)
-    (λ (w : (th.pc ≡ item_address b.places p.frame.func p.frame.item + 8) × FramesAt b ram h.caller h.rest place (b.top t)).
+    (λ (w : (th.pc ≡ item_address b.places p.frame.func p.frame.item + 8) × AreFrames b ram h.caller h.rest place (b.top t)).
     frames_below b ram h.caller h.rest place (b.top t) w.1)
     h.here)
     p.here
 
 -- a position speaks of the task's registers, frames and debt alone
 pub position_task : (b : Build) (ram : List ℕ) (t : ℕ) (own new : Task) (th : Thread) (place : ℕ)
-    → new.registers ≡ own.registers → new.frames ≡ own.frames → new.owed ≡ own.owed → Position b ram t own th place → Position b ram t new th place
+    → new.registers ≡ own.registers → new.frames ≡ own.frames → new.owed ≡ own.owed → IsPosition b ram t own th place → IsPosition b ram t new th place
 position_task b ram t own new th place r e w p = record {
   frame = p.frame;
   outer = p.outer;

@@ -3,14 +3,14 @@ use Rattle.std.proofs.Common.{◌≡◌, ℕ, zero, suc, ◌<◌, ◌≤◌, Lis
 use Rattle.std.specs.Prelude.{map}
 use Rattle.sloth_base.specs.declared.config.Config.{Config}
 use Rattle.sloth_base.specs.declared.config.TaskDecl.{TaskDecl}
-use Rattle.osek_scheduler.specs.State.{Task, System, declaration, undeclared}
+use Rattle.osek_scheduler.specs.State.{Task, System, declaration, undeclared_task}
 use Rattle.osek_scheduler.specs.Priority.{is_in, greatest, highest_priority, ceiling, current_priority}
 use Rattle.sim_induction.specs.Mirror.{priority_of}
 use Rattle.sim_relation.specs.Build.{Build}
-use Rattle.sim_relation.specs.Stands.{IsActive, Falling}
+use Rattle.sim_relation.specs.Stands.{IsActive, AreFalling}
 use Rattle.sim_relation.proofs.Tops.{is_in-head}
 
-greatest_holds : (ds : List TaskDecl) (t : ℕ) → (get_or ds t undeclared).priority ≤ greatest (map (λ (d : TaskDecl). d.priority) ds)
+greatest_holds : (ds : List TaskDecl) (t : ℕ) → (get_or ds t undeclared_task).priority ≤ greatest (map (λ (d : TaskDecl). d.priority) ds)
 greatest_holds [] t = omega arith
 greatest_holds (d ∷ ds) zero = omega arith
 greatest_holds (d ∷ ds) (suc t) = let a = greatest_holds ds t in omega arith
@@ -30,6 +30,6 @@ start_priority config t own h r =
 
 -- a task of higher priority may go on top of the stack
 pub falling_cons : (b : Build) (s : System) (t : ℕ) (stack : List ℕ) → IsActive b s t
-    → ((u : ℕ) → is_in u stack ≡ true → priority_of b.config s u < (declaration b.config t).priority) → Falling b s stack → Falling b s (t ∷ stack)
+    → ((u : ℕ) → is_in u stack ≡ true → priority_of b.config s u < (declaration b.config t).priority) → AreFalling b s stack → AreFalling b s (t ∷ stack)
 falling_cons b s t [] a h f = a
 falling_cons b s t (u ∷ below) a h f = (a, h u (is_in-head u below), f)

@@ -11,7 +11,7 @@ use Rattle.osek_scheduler.specs.Priority.{is_in, current_priority}
 use Rattle.sloth_base.specs.PriorityLevels.{level_of}
 use Rattle.sim_relation.specs.Build.{Build}
 use Rattle.sim_relation.specs.Position.{thread_of, thread_at}
-use Rattle.sim_relation.specs.Context.{Context, Chain, Running}
+use Rattle.sim_relation.specs.Context.{IsContext, IsContextChain, RunsFirst}
 use Rattle.sim_relation.specs.Stands.{AreActive}
 use Rattle.sim_relation.specs.Framing.{IdleKept, SamePart, HasLeftFor}
 use Rattle.sim_relation.proofs.Contexts.{context_same, context_below, chain_kept}
@@ -20,7 +20,7 @@ use Rattle.sim_relation.proofs.Tops.{falling_tail, is_in-head, is_in-tail}
 
 -- what runs behind the end or the wait of the task above: the other tasks of the stack have kept their parts
 pub leave_runs : (b : Build) (old new : List ℕ) (s next : System) (end : State) (place : ℕ) (stack : List ℕ) → HasLeftFor old new place end
-    → IdleKept old new → ((u : ℕ) → is_in u stack ≡ true → SamePart b old new s next u) → Chain b old s stack place → Running b end next stack
+    → IdleKept old new → ((u : ℕ) → is_in u stack ≡ true → SamePart b old new s next u) → IsContextChain b old s stack place → RunsFirst b end next stack
 leave_runs b old new s next end place [] l idle part k =
     let p = k.is in
     let x = l.x2 in
@@ -38,13 +38,13 @@ leave_runs b old new s next end place (t ∷ below) l idle part k =
       level = l.level ∙ k.0.level ∙ sym (ap (λ v. level_of b.config (current_priority b.config (declaration b.config t) v)) here.tasks);
       current = ap (λ q. word_at q cur) l.ram ∙ l.current ∙ k.0.current;
       place = place + 128;
-      context = subst (λ q. Context b q t (task next t) (thread_of end) (place + 128)) (sym l.ram)
+      context = subst (λ q. IsContext b q t (task next t) (thread_of end) (place + 128)) (sym l.ram)
           (context_same b old new t (task s t) (task next t) (thread_at old place) (thread_of end) (place + 128) here.tasks
           (record { pc = l.pc; x2 = l.x2; x = l.loaded (λ z. let c = k.0.current in absurd (omega (arith, z, c))) })
           (λ i x y. here.bytes i (omega arith) (omega arith)) k.0.context);
       next = k.1.0;
       link = ap (λ q. word_at q below_word) l.ram ∙ l.link ∙ k.1.1;
-      chain = subst (λ q. Chain b q next below k.1.0) (sym l.ram)
+      chain = subst (λ q. IsContextChain b q next below k.1.0) (sym l.ram)
           (chain_kept b old new s next idle below k.1.0 (each_from (SamePart b old new s next) below (λ u h. part u (is_in-tail t u below h))) k.1.2);
     }
 

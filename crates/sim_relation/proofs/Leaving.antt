@@ -7,7 +7,7 @@ use Rattle.osek_scheduler.specs.State.{Task, System, task, with_task}
 use Rattle.osek_scheduler.specs.Priority.{is_in, is_active}
 use Rattle.osek_scheduler.specs.Steps.{settled_state}
 use Rattle.sim_relation.specs.Build.{Build, Fits}
-use Rattle.sim_relation.specs.Context.{Chain, Running, RunsTask}
+use Rattle.sim_relation.specs.Context.{IsContextChain, RunsFirst, RunsTask}
 use Rattle.sim_relation.specs.Stands.{Stands, IsActive, AreActive}
 use Rattle.sim_relation.specs.Framing.{SamePart}
 use Rattle.sim_relation.specs.Moves.{TaskLeave}
@@ -27,7 +27,7 @@ module _ (b : Build) (old now : State) (s : System) (k : Stands b old s) (fits :
   stack = subst (AreActive b s) stack_is k.active
 
   run : RunsTask b old s t below
-  run = subst (Running b old s) stack_is k.running
+  run = subst (RunsFirst b old s) stack_is k.running
 
   here : IsActive b s t
   here = falling_head b s t below stack.falling
@@ -38,9 +38,9 @@ module _ (b : Build) (old now : State) (s : System) (k : Stands b old s) (fits :
   next_is : run.next ≡ place
   next_is = let a = run.link in let c = leave.link in omega arith
 
-  runs : Running b now next below
+  runs : RunsFirst b now next below
   runs = leave_runs b old.core.ram now.core.ram s next now place below leave.left leave.idle part
-      (subst (Chain b old.core.ram s below) next_is run.chain)
+      (subst (IsContextChain b old.core.ram s below) next_is run.chain)
 
   -- who is Active now was so, and is another task
   still : (u : ℕ) → (task next u).state ≡ mode.Active → (u ≢ t) × ((task s u).state ≡ mode.Active)

@@ -5,7 +5,7 @@ use Rattle.std.proofs.lemmas.Bool.{cases_lt, le-leb, lt-leb}
 use Rattle.std.proofs.lemmas.List.Sums.{sum_by-cons, count_by-le-length}
 use Rattle.sloth_base.specs.declared.config.Config.{Config}
 use Rattle.sloth_base.specs.declared.config.TaskDecl.{TaskDecl}
-use Rattle.osek_scheduler.specs.State.{declaration, undeclared}
+use Rattle.osek_scheduler.specs.State.{declaration, undeclared_task}
 use Rattle.sloth_base.specs.PriorityLevels.{level_of}
 
 -- how many of these tasks have at most a priority
@@ -36,8 +36,8 @@ counts_itself : (g p : ℕ) → p < g → cond (leb g p) 1 0 + 1 ≤ cond (leb g
 counts_itself g p h = rw (lt-leb g p h, le-leb g g (omega arith)) (omega arith)
 
 -- and one more, where a task stands between the two
-pub levels_in-below : (ds : List TaskDecl) (t p : ℕ) → t < length ds → p < (get_or ds t undeclared).priority
-    → levels_in ds p < levels_in ds (get_or ds t undeclared).priority
+pub levels_in-below : (ds : List TaskDecl) (t p : ℕ) → t < length ds → p < (get_or ds t undeclared_task).priority
+    → levels_in ds p < levels_in ds (get_or ds t undeclared_task).priority
 levels_in-below [] t p l h = absurd (omega arith)
 levels_in-below (d ∷ ds) zero p l h =
     let m = levels_in-mono ds p d.priority (omega arith) in
@@ -46,7 +46,7 @@ levels_in-below (d ∷ ds) zero p l h =
     let e = levels_in-cons d ds d.priority in
     omega arith
 levels_in-below (d ∷ ds) (suc t) p l h =
-    let q = (get_or ds t undeclared).priority in
+    let q = (get_or ds t undeclared_task).priority in
     let a = one_more d.priority p q (omega arith) in
     let b = levels_in-below ds t p (omega arith) h in
     let c = levels_in-cons d ds p in
@@ -62,14 +62,14 @@ pub level_of-below : (config : Config) (t p : ℕ) → t < length config.tasks �
     → level_of config p < level_of config (declaration config t).priority
 level_of-below config t p l h = levels_in-below config.tasks t p l h
 
-levels_in-some : (ds : List TaskDecl) (t : ℕ) → t < length ds → 0 < levels_in ds (get_or ds t undeclared).priority
+levels_in-some : (ds : List TaskDecl) (t : ℕ) → t < length ds → 0 < levels_in ds (get_or ds t undeclared_task).priority
 levels_in-some [] t l = absurd (omega arith)
 levels_in-some (d ∷ ds) zero l =
     let c = levels_in-cons d ds d.priority in
     let e : ◌≡◌ {A = ℕ} (cond (leb d.priority d.priority) 1 0) 1 = rw (le-leb d.priority d.priority (omega arith)) refl in
     omega arith
 levels_in-some (d ∷ ds) (suc t) l =
-    let q = (get_or ds t undeclared).priority in
+    let q = (get_or ds t undeclared_task).priority in
     let h = levels_in-some ds t (omega arith) in
     let c = levels_in-cons d ds q in
     omega arith

@@ -12,23 +12,23 @@ use Rattle.osek_scheduler.specs.Priority.{is_in}
 use Rattle.sim_induction.specs.Mirror.{Mirror, Runs, priority_of}
 use Rattle.sloth_base.specs.PriorityLevels.{level_of}
 use Rattle.sim_relation.specs.Build.{Build}
-use Rattle.sim_relation.specs.Context.{Running}
-use Rattle.sim_relation.specs.Stands.{Stands, IsLineOf, AreActive}
+use Rattle.sim_relation.specs.Context.{RunsFirst}
+use Rattle.sim_relation.specs.Stands.{Stands, AreLineBytes, AreActive}
 use Rattle.sim_relation.proofs.Tops.{static_le, below_first, falling_head}
 
-line_suspended : (m : TaskState) (pending enabled : ℕ) → m ≡ mode.Suspended → IsLineOf m pending enabled → (enabled ≡ 1) × (pending ≡ 0)
+line_suspended : (m : TaskState) (pending enabled : ℕ) → m ≡ mode.Suspended → AreLineBytes m pending enabled → (enabled ≡ 1) × (pending ≡ 0)
 line_suspended mode.Suspended p e q h = (h.1, h.0)
 line_suspended mode.Ready p e q h = cc
 line_suspended mode.Active p e q h = cc
 line_suspended (mode.Waiting w) p e q h = cc
 
-line_ready : (m : TaskState) (pending enabled : ℕ) → m ≡ mode.Ready → IsLineOf m pending enabled → (enabled ≡ 1) × (pending ≡ 1)
+line_ready : (m : TaskState) (pending enabled : ℕ) → m ≡ mode.Ready → AreLineBytes m pending enabled → (enabled ≡ 1) × (pending ≡ 1)
 line_ready mode.Suspended p e q h = cc
 line_ready mode.Ready p e q h = (h.1, h.0)
 line_ready mode.Active p e q h = cc
 line_ready (mode.Waiting w) p e q h = cc
 
-line_waiting : (m : TaskState) (mask pending enabled : ℕ) → m ≡ mode.Waiting mask → IsLineOf m pending enabled → enabled ≡ 0
+line_waiting : (m : TaskState) (mask pending enabled : ℕ) → m ≡ mode.Waiting mask → AreLineBytes m pending enabled → enabled ≡ 0
 line_waiting mode.Suspended mask p e q h = cc
 line_waiting mode.Ready mask p e q h = cc
 line_waiting mode.Active mask p e q h = cc
@@ -46,14 +46,14 @@ first_is b s t below a u r =
     absurd (omega arith))
     (or_cases (eqb t u) (is_in u below) (a.all u r.declared r.active))
 
-runs : (b : Build) (state : State) (s : System) (stack : List ℕ) → AreActive b s stack → Running b state s stack → (u : ℕ) → Runs b.config s u
+runs : (b : Build) (state : State) (s : System) (stack : List ℕ) → AreActive b s stack → RunsFirst b state s stack → (u : ℕ) → Runs b.config s u
     → (state.core.ilevel ≡ level_of b.config (priority_of b.config s u)) × (word_at state.core.ram cur ≡ u + 1)
 runs b state s [] a k u r = let e = a.all u r.declared r.active in absurd (false≢true e)
 runs b state s (t ∷ below) a k u r =
     subst (λ v. (state.core.ilevel ≡ level_of b.config (priority_of b.config s v)) × (word_at state.core.ram cur ≡ v + 1)) (first_is b s t below a u r)
     (k.level, k.current)
 
-idles : (b : Build) (state : State) (s : System) (stack : List ℕ) → AreActive b s stack → Running b state s stack
+idles : (b : Build) (state : State) (s : System) (stack : List ℕ) → AreActive b s stack → RunsFirst b state s stack
     → ((t : ℕ) → t < length b.config.tasks → ¬ ((task s t).state ≡ mode.Active)) → (state.core.ilevel ≡ 0) × (word_at state.core.ram cur ≡ 0)
 idles b state s [] a k none = (k.level, k.current)
 idles b state s (t ∷ below) a k none = let h = falling_head b s t below a.falling in absurd (none t h.declared h.active)

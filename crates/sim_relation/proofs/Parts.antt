@@ -14,9 +14,9 @@ use Rattle.osek_scheduler.specs.Priority.{is_in, is_active, ceiling, current_pri
 use Rattle.sloth_base.specs.PriorityLevels.{level_of}
 use Rattle.sim_relation.specs.Build.{Build}
 use Rattle.sim_relation.specs.Position.{thread_of}
-use Rattle.sim_relation.specs.Context.{Running, Rested, Resumes}
-use Rattle.sim_relation.specs.ServiceWords.{ServiceWords, HeldWords, IsWaitWord, base_priority}
-use Rattle.sim_relation.specs.Stands.{IsActive, Falling, IsLineOf}
+use Rattle.sim_relation.specs.Context.{RunsFirst, IsRested, Resumes}
+use Rattle.sim_relation.specs.ServiceWords.{AreServiceWords, AreHeldWords, IsWaitWord, base_priority}
+use Rattle.sim_relation.specs.Stands.{IsActive, AreFalling, AreLineBytes}
 use Rattle.sim_relation.specs.Framing.{Agree, SamePart}
 use Rattle.std.specs.List.{AllByRecursion}
 use Rattle.sim_relation.proofs.Framing.{word_kept, frames_kept, frames_below}
@@ -50,10 +50,10 @@ by_task P s t new l here other = by_element P s.tasks t new sleeping_task l here
 -- ---- the line of a task
 
 -- what a line says of its task's state goes by its two bytes
-pub line_same : (m : TaskState) (p q a d : ℕ) → q ≡ p → d ≡ a → IsLineOf m p a → IsLineOf m q d
-line_same m p q a d e f h = subst (λ x. IsLineOf m x d) (sym e) (subst (λ x. IsLineOf m p x) (sym f) h)
+pub line_same : (m : TaskState) (p q a d : ℕ) → q ≡ p → d ≡ a → AreLineBytes m p a → AreLineBytes m q d
+line_same m p q a d e f h = subst (λ x. AreLineBytes m x d) (sym e) (subst (λ x. AreLineBytes m p x) (sym f) h)
 
-pub line_active : (m : TaskState) (p a : ℕ) → m ≡ mode.Active → IsLineOf m p a → IsLineOf mode.Active p a
+pub line_active : (m : TaskState) (p a : ℕ) → m ≡ mode.Active → AreLineBytes m p a → AreLineBytes mode.Active p a
 line_active mode.Active p a e h = h
 line_active mode.Suspended p a e h = cc
 line_active mode.Ready p a e h = cc
@@ -65,7 +65,7 @@ active_kept : (b : Build) (s next : System) (t : ℕ) → task next t ≡ task s
 active_kept b s next t e f = record { declared = f.declared; active = ap (λ v. v.state) e ∙ f.active }
 
 -- priorities fall along the stack where its tasks are as before
-pub falling_kept : (b : Build) (s next : System) (stack : List ℕ) → ((u : ℕ) → is_in u stack ≡ true → task next u ≡ task s u) → Falling b s stack → Falling b next stack
+pub falling_kept : (b : Build) (s next : System) (stack : List ℕ) → ((u : ℕ) → is_in u stack ≡ true → task next u ≡ task s u) → AreFalling b s stack → AreFalling b next stack
 falling_kept b s next [] e f = tt
 falling_kept b s next (t ∷ []) e f = active_kept b s next t (e t (is_in-head t [])) f
 falling_kept b s next (t ∷ u ∷ below) e f = (
@@ -83,7 +83,7 @@ each_from P (t ∷ below) h = (h t (is_in-head t below), each_from P below (λ u
 -- what runs, and the chain, where the tasks of the stack are the same, as pc, registers, RAM and level are
 pub running_tasks : (b : Build) (state now : State) (s next : System) (stack : List ℕ)
     → now.pc ≡ state.pc → now.core.registers ≡ state.core.registers → now.core.ram ≡ state.core.ram → now.core.ilevel ≡ state.core.ilevel
-    → ((u : ℕ) → is_in u stack ≡ true → task next u ≡ task s u) → Running b state s stack → Running b now next stack
+    → ((u : ℕ) → is_in u stack ≡ true → task next u ≡ task s u) → RunsFirst b state s stack → RunsFirst b now next stack
 running_tasks b state now s next [] p x r l e k = record {
   level = l ∙ k.level;
   current = ap (λ q. word_at q cur) r ∙ k.current;
@@ -111,7 +111,7 @@ running_tasks b state now s next (t ∷ below) p x r l e k =
 
 -- the saved levels stand where their words are the same
 pub held_kept : (b : Build) (old new : List ℕ) (priority : ℕ) (held : List ℕ)
-    → ((r : ℕ) → is_in r held ≡ true → word_at new (saved_level r) ≡ word_at old (saved_level r)) → HeldWords b old priority held → HeldWords b new priority held
+    → ((r : ℕ) → is_in r held ≡ true → word_at new (saved_level r) ≡ word_at old (saved_level r)) → AreHeldWords b old priority held → AreHeldWords b new priority held
 held_kept b old new priority [] e h = tt
 held_kept b old new priority (r ∷ held) e h = (
   e r (is_in-head r held) ∙ h.0,
@@ -119,7 +119,7 @@ held_kept b old new priority (r ∷ held) e h = (
 )
 
 rested_kept : (b : Build) (old new : List ℕ) (t : ℕ) (own : Task) (frame : Frame) (outer : List Frame) (place : ℕ)
-    → word_at new (resume t) ≡ word_at old (resume t) → Agree old new (b.low t) (b.top t) → Rested b old t own frame outer place → Rested b new t own frame outer place
+    → word_at new (resume t) ≡ word_at old (resume t) → Agree old new (b.low t) (b.top t) → IsRested b old t own frame outer place → IsRested b new t own frame outer place
 rested_kept b old new t own frame outer place e a k =
     let low = k.room in
     let top = frames_below b old frame outer (place + 128) (b.top t) k.frames in
@@ -145,7 +145,7 @@ pub service_kept : (b : Build) (old new : List ℕ) (t : ℕ) (own : Task)
     → word_at new (active t) ≡ word_at old (active t) → word_at new (events t) ≡ word_at old (events t) → word_at new (wait t) ≡ word_at old (wait t)
     → word_at new (resume t) ≡ word_at old (resume t)
     → ((r : ℕ) → is_in r own.held ≡ true → word_at new (saved_level r) ≡ word_at old (saved_level r))
-    → (is_active own.state ≡ false → own.frames ≢ [] → Agree old new (b.low t) (b.top t)) → ServiceWords b old t own → ServiceWords b new t own
+    → (is_active own.state ≡ false → own.frames ≢ [] → Agree old new (b.low t) (b.top t)) → AreServiceWords b old t own → AreServiceWords b new t own
 service_kept b old new t own ea ee ew er eh g k = record {
   activity = ea ∙ k.activity;
   event_mask = ee ∙ k.event_mask;

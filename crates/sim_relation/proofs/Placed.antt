@@ -10,7 +10,7 @@ use Rattle.masked_code.specs.Place.{InPlace}
 use Rattle.masked_code.proofs.Words.{word_at-agree}
 use Rattle.osek_scheduler.specs.State.{System}
 use Rattle.sim_relation.specs.Build.{Build, Fits}
-use Rattle.sim_relation.specs.Context.{Running}
+use Rattle.sim_relation.specs.Context.{RunsFirst}
 use Rattle.sim_relation.specs.Placed.{IsPlaced}
 use Rattle.sim_relation.specs.Stands.{Stands, IsActive, AreActive}
 use Rattle.sim_relation.proofs.Tops.{falling_head}
@@ -34,7 +34,7 @@ pub code_behind : (b : Build) (offset : ℕ) (code : List InstrKind) → Fits b 
 code_behind b offset code fits some p = fits.elsewhere offset (inl (p.is_code offset (omega arith) (omega arith)))
 
 -- the task that the word names is the first of the stack
-pub first_by_word : (b : Build) (state : State) (s : System) (t : ℕ) (stack : List ℕ) → Running b state s stack → word_at state.core.ram cur ≡ t + 1
+pub first_by_word : (b : Build) (state : State) (s : System) (t : ℕ) (stack : List ℕ) → RunsFirst b state s stack → word_at state.core.ram cur ≡ t + 1
     → (below : List ℕ) × (stack ≡ t ∷ below)
 first_by_word b state s t [] run h = let a = run.current in absurd (omega arith)
 first_by_word b state s t (u ∷ below) run h = let a = run.current in let e : u ≡ t = omega arith in (below, ap (λ v. v ∷ below) e)

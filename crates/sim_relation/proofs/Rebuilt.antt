@@ -10,13 +10,13 @@ use Rattle.sloth_region.specs.Layout.{active, events, wait, resume, saved_level}
 use Rattle.osek_scheduler.specs.State.{Task, System, task}
 use Rattle.osek_scheduler.specs.Priority.{is_in, is_active}
 use Rattle.sim_relation.specs.Build.{Build, Fits}
-use Rattle.sim_relation.specs.Context.{Running}
-use Rattle.sim_relation.specs.ServiceWords.{ServiceWords}
+use Rattle.sim_relation.specs.Context.{RunsFirst}
+use Rattle.sim_relation.specs.ServiceWords.{AreServiceWords}
 use Rattle.sim_relation.specs.ClockStands.{ClockStands}
 use Rattle.sim_relation.specs.DataStands.{DataStands}
-use Rattle.sim_relation.specs.Stands.{Stands, Falling, AreActive, IsLineOf, IsAlive, AreApart, TidyTask, Fixed}
+use Rattle.sim_relation.specs.Stands.{Stands, AreFalling, AreActive, AreLineBytes, IsAlive, AreApart, IsTidyTask, IsFixed}
 use Rattle.sim_relation.specs.Framing.{Agree, NamedKept, SamePart}
-use Rattle.sim_relation.specs.Moves.{changed_system, moved_to, WholeMachine, OthersKept}
+use Rattle.sim_relation.specs.Moves.{changed_system, moved_system, WholeMachine, OthersKept}
 use Rattle.sim_relation.proofs.ClockKept.{line_stands, no_task}
 use Rattle.sim_relation.proofs.Parts.{other_task, by_task, line_same, service_kept}
 use Rattle.sim_relation.proofs.Tops.{falling_active, below_other, is_in-tail}
@@ -24,17 +24,17 @@ use Rattle.sim_relation.proofs.Tops.{falling_active, below_other, is_in-tail}
 -- ---- the other tasks
 
 -- those below the running one keep their records and stacks
-pub below_parts : (b : Build) (old new : List ℕ) (s : System) (t : ℕ) (below : List ℕ) (own : Task) (symbols : List (List ℕ)) → Falling b s (t ∷ below)
-    → OthersKept b old new s t → (u : ℕ) → is_in u below ≡ true → SamePart b old new s (moved_to s t own symbols) u
+pub below_parts : (b : Build) (old new : List ℕ) (s : System) (t : ℕ) (below : List ℕ) (own : Task) (symbols : List (List ℕ)) → AreFalling b s (t ∷ below)
+    → OthersKept b old new s t → (u : ℕ) → is_in u below ≡ true → SamePart b old new s (moved_system s t own symbols) u
 below_parts b old new s t below own symbols f kept u h =
     let a = falling_active b s (t ∷ below) f u (is_in-tail t u below h) in
     let n = below_other b s t below f u h in
     record { tasks = other_task s t u own n; bytes = kept u a.declared n (inl a.active) }
 
 -- a task keeps its service words, where of those only another task's have changed
-pub other_kept : (b : Build) (old new : List ℕ) (s : System) (t u : ℕ) → Fits b → t < length b.config.tasks → u < length b.config.tasks → u ≢ t → TidyTask (task s u)
+pub other_kept : (b : Build) (old new : List ℕ) (s : System) (t u : ℕ) → Fits b → t < length b.config.tasks → u < length b.config.tasks → u ≢ t → IsTidyTask (task s u)
     → NamedKept old new t → (is_active (task s u).state ≡ false → (task s u).frames ≢ [] → Agree old new (b.low u) (b.top u))
-    → ServiceWords b old u (task s u) → ServiceWords b new u (task s u)
+    → AreServiceWords b old u (task s u) → AreServiceWords b new u (task s u)
 other_kept b old new s t u fits declared h n tidy named stack k =
     let c = fits.few_tasks in
     service_kept b old new u (task s u)
@@ -60,24 +60,24 @@ pub record Rebuilds (b : Build) (old now : State) (s : System) (t : ℕ) (own : 
   pub code : (i : ℕ) → b.is_code i ≡ true → slice_index now.core.ram i ≡ slice_index old.core.ram i
   -- the Active tasks
   pub active : AreActive b (changed_system s t own symbols fresh) stack
-  pub running : Running b now (changed_system s t own symbols fresh) stack
+  pub running : RunsFirst b now (changed_system s t own symbols fresh) stack
   -- the lines
-  pub own_line : IsLineOf own.state (slice_index now.core.pending t) (slice_index now.core.enabled t)
+  pub own_line : AreLineBytes own.state (slice_index now.core.pending t) (slice_index now.core.enabled t)
   pub own_bit : slice_index now.core.pending t < 2
   pub other_pending : (line : ℕ) → line ≢ t → slice_index now.core.pending line ≡ slice_index old.core.pending line
   pub other_enabled : (line : ℕ) → line ≢ t → slice_index now.core.enabled line ≡ slice_index old.core.enabled line
   -- RAM
-  pub own_words : ServiceWords b now.core.ram t own
-  pub other_words : (u : ℕ) → u < length b.config.tasks → u ≢ t → ServiceWords b now.core.ram u (task s u)
+  pub own_words : AreServiceWords b now.core.ram t own
+  pub other_words : (u : ℕ) → u < length b.config.tasks → u ≢ t → AreServiceWords b now.core.ram u (task s u)
   pub clock : ClockStands b.config now.core.ram s.clock
   pub data_stands : DataStands b now.core.ram symbols
   pub apart : (u : ℕ) → u < length b.config.tasks → u ≢ t → IsAlive (task s u) → IsAlive own → AreApart b t u
   -- the task
-  pub tidy : TidyTask own
+  pub tidy : IsTidyTask own
 
 -- sizes, code and what never changes
 pub fixed_kept : (b : Build) (old now : State) → WholeMachine old now → ((i : ℕ) → b.is_code i ≡ true → slice_index now.core.ram i ≡ slice_index old.core.ram i)
-    → Fixed b old.core → Fixed b now.core
+    → IsFixed b old.core → IsFixed b now.core
 fixed_kept b old now m code f = record {
   open_to_lines = m.open_to_lines;
   previous = m.previous;
@@ -120,7 +120,7 @@ module _ (b : Build) (old now : State) (s : System) (k : Stands b old s) (t : �
     stack = stack;
     active = r.active;
     lines = record {
-      each = by_task (λ u v. u < length b.config.tasks → IsLineOf v.state (slice_index now.core.pending u) (slice_index now.core.enabled u)) s t own here
+      each = by_task (λ u v. u < length b.config.tasks → AreLineBytes v.state (slice_index now.core.pending u) (slice_index now.core.enabled u)) s t own here
           (λ h. r.own_line)
           (λ u m h. line_same (task s u).state (slice_index old.core.pending u) (slice_index now.core.pending u) (slice_index old.core.enabled u)
           (slice_index now.core.enabled u) (r.other_pending u m) (r.other_enabled u m) (k.lines.each u h));
@@ -134,14 +134,14 @@ module _ (b : Build) (old now : State) (s : System) (k : Stands b old s) (t : �
       others = λ l h. r.other_enabled l (λ e. let c = r.declared in let f = unused_behind (owners_in b.config) l h in omega arith) ∙ k.lines.others l h;
     };
     running = r.running;
-    words = by_task (λ u v. u < length b.config.tasks → ServiceWords b now.core.ram u v) s t own here (λ h. r.own_words) (λ u m h. r.other_words u h m);
+    words = by_task (λ u v. u < length b.config.tasks → AreServiceWords b now.core.ram u v) s t own here (λ h. r.own_words) (λ u m h. r.other_words u h m);
     clock = r.clock;
     data_stands = r.data_stands;
     apart = apart;
     tidy = record {
       booted = k.tidy.booted;
       tasks = length-set s.tasks t own ∙ k.tidy.tasks;
-      each = by_task (λ u w. u < length b.config.tasks → TidyTask w) s t own here (λ h. r.tidy) (λ u m h. k.tidy.each u h);
+      each = by_task (λ u w. u < length b.config.tasks → IsTidyTask w) s t own here (λ h. r.tidy) (λ u m h. k.tidy.each u h);
     };
     fixed = fixed_kept b old now r.machine r.code k.fixed;
   }

@@ -8,8 +8,8 @@ use Rattle.osek_scheduler.specs.State.{System, task}
 use Rattle.osek_scheduler.specs.Priority.{is_in}
 use Rattle.sim_relation.specs.Build.{Build, Fits, IsElsewhere}
 use Rattle.sim_relation.specs.Position.{thread_of}
-use Rattle.sim_relation.specs.Context.{Running}
-use Rattle.sim_relation.specs.Stands.{Falling, IsAlive, StacksApart}
+use Rattle.sim_relation.specs.Context.{RunsFirst}
+use Rattle.sim_relation.specs.Stands.{AreFalling, IsAlive, StacksApart}
 use Rattle.sim_relation.proofs.Contexts.{context_below}
 use Rattle.sim_relation.proofs.Tops.{falling_head}
 
@@ -33,8 +33,8 @@ pub record Spot (b : Build) (s : System) (stack : List ℕ) (place : ℕ) : Type
   pub apart : (u : ℕ) → u < length b.config.tasks → IsAlive (task s u) → is_first stack u ≡ false → (b.top u ≤ place) ⊎ (place + 128 ≤ b.low u)
 
 -- the context has room where it is to be saved
-pub spot : (b : Build) (state : State) (s : System) (stack : List ℕ) (place : ℕ) → Fits b → StacksApart b s → Falling b s stack
-    → slice_index state.core.registers 2 ≡ 0x8000_0000 + (place + 128) → Running b state s stack → Spot b s stack place
+pub spot : (b : Build) (state : State) (s : System) (stack : List ℕ) (place : ℕ) → Fits b → StacksApart b s → AreFalling b s stack
+    → slice_index state.core.registers 2 ≡ 0x8000_0000 + (place + 128) → RunsFirst b state s stack → Spot b s stack place
 spot b state s [] place fits apart f x k =
     let y = k.x2 in
     record {

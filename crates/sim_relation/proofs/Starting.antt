@@ -7,12 +7,12 @@ use Rattle.sloth_base.specs.declared.config.CounterDecl.{CounterDecl}
 use Rattle.sloth_region.specs.Layout.{cur, active, events, counter_value, below_word, resume, idle_context}
 use Rattle.rv32_instr.specs.Ram.{word_at}
 use Rattle.osek_scheduler.specs.declared.state.TaskState.TheVariants as mode
-use Rattle.osek_scheduler.specs.State.{Task, System, sleeping_task, no_counter, task, declaration, undeclared}
+use Rattle.osek_scheduler.specs.State.{Task, System, sleeping_task, no_counter, task, declaration, undeclared_task}
 use Rattle.osek_scheduler.specs.Steps.{autostarted_tasks}
 use Rattle.sim_relation.specs.Build.{Build, Fits}
 use Rattle.sim_relation.specs.ClockStands.{CounterLineStands}
-use Rattle.sim_relation.specs.ServiceWords.{ServiceWords}
-use Rattle.sim_relation.specs.Stands.{Stands, IsLineOf, IsAlive, TidyTask}
+use Rattle.sim_relation.specs.ServiceWords.{AreServiceWords}
+use Rattle.sim_relation.specs.Stands.{Stands, AreLineBytes, IsAlive, IsTidyTask}
 use Rattle.sim_relation.specs.Start.{Starts, started_system}
 
 -- a task as the start leaves it
@@ -20,7 +20,7 @@ abbrev pub awake : Bool → Task
 awake autostart = cond autostart (record sleeping_task { state = mode.Ready }) sleeping_task
 
 autostarted_at : (ds : List TaskDecl) (t : ℕ) → t < length ds
-    → get_or (autostarted_tasks ds (map (λ (_ : TaskDecl). sleeping_task) ds)) t sleeping_task ≡ awake (get_or ds t undeclared).autostart
+    → get_or (autostarted_tasks ds (map (λ (_ : TaskDecl). sleeping_task) ds)) t sleeping_task ≡ awake (get_or ds t undeclared_task).autostart
 autostarted_at [] t l = absurd (omega arith)
 autostarted_at (d ∷ ds) zero l = refl
 autostarted_at (d ∷ ds) (suc t) l = autostarted_at ds t (omega arith)
@@ -46,7 +46,7 @@ none_due (d ∷ ds) zero = refl
 none_due (d ∷ ds) (suc c) = none_due ds c
 
 -- what holds of a task that the start leaves
-line_of : (autostart : Bool) (pending enabled : ℕ) → pending ≡ cond autostart 1 0 → enabled ≡ 1 → IsLineOf (awake autostart).state pending enabled
+line_of : (autostart : Bool) (pending enabled : ℕ) → pending ≡ cond autostart 1 0 → enabled ≡ 1 → AreLineBytes (awake autostart).state pending enabled
 line_of true p e a c = (a, c)
 line_of false p e a c = (a, c)
 
@@ -57,12 +57,12 @@ rests false = ((λ e. cc), refl)
 few : (r : ℕ) → false ≡ true → r < 33
 few r e = cc
 
-tidy_of : (autostart : Bool) → TidyTask (awake autostart)
+tidy_of : (autostart : Bool) → IsTidyTask (awake autostart)
 tidy_of true = record { registers = refl; at_rest = λ _. (refl, refl, refl); asleep = λ e. (refl, refl); few = few }
 tidy_of false = record { registers = refl; at_rest = λ _. (refl, refl, refl); asleep = λ e. (refl, refl); few = few }
 
 words_of : (b : Build) (ram : List ℕ) (t : ℕ) (autostart : Bool) → word_at ram (active t) ≡ 0 → word_at ram (events t) ≡ 0 → word_at ram (resume t) ≡ 0
-    → ServiceWords b ram t (awake autostart)
+    → AreServiceWords b ram t (awake autostart)
 words_of b ram t true a e r = record { activity = a; event_mask = e; wait_mask = tt; resumption = r; held = tt }
 words_of b ram t false a e r = record { activity = a; event_mask = e; wait_mask = tt; resumption = r; held = tt }
 
@@ -99,7 +99,7 @@ module _ (b : Build) (state : State) (fits : Fits b) (start : Starts b state) wh
     stack = [];
     active = record { falling = tt; all = λ t h a. absurd (not_active t h a) };
     lines = record {
-      each = by_awake (λ t v. IsLineOf v.state (slice_index state.core.pending t) (slice_index state.core.enabled t))
+      each = by_awake (λ t v. AreLineBytes v.state (slice_index state.core.pending t) (slice_index state.core.enabled t))
           (λ t h. line_of (declaration b.config t).autostart (slice_index state.core.pending t) (slice_index state.core.enabled t) (start.pending t h) (start.enabled t h));
       bits = λ t h. small (declaration b.config t).autostart (slice_index state.core.pending t) (start.pending t h);
       levels = start.levels;
@@ -107,13 +107,13 @@ module _ (b : Build) (state : State) (fits : Fits b) (start : Starts b state) wh
       others = start.other_enabled;
     };
     running = record { level = start.level; current = low_word cur (omega arith); pc = start.pc; x2 = start.x2 };
-    words = by_awake (λ t v. ServiceWords b state.core.ram t v)
+    words = by_awake (λ t v. AreServiceWords b state.core.ram t v)
         (λ t h. let n = fits.few_tasks in
         words_of b state.core.ram t (declaration b.config t).autostart (low_word (active t) (omega (arith, n, h))) (low_word (events t) (omega (arith, n, h)))
         (high_word (resume t) (omega arith) (omega (arith, n, h))));
     clock = start.clock;
     data_stands = start.data_stands;
     apart = λ t u h i n x y. absurd (not_alive t h x);
-    tidy = record { booted = refl; tasks = length-autostarted b.config.tasks; each = by_awake (λ t v. TidyTask v) (λ t h. tidy_of (declaration b.config t).autostart) };
+    tidy = record { booted = refl; tasks = length-autostarted b.config.tasks; each = by_awake (λ t v. IsTidyTask v) (λ t h. tidy_of (declaration b.config t).autostart) };
     fixed = start.fixed;
   }

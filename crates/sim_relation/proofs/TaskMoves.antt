@@ -8,17 +8,17 @@ use Rattle.osek_scheduler.specs.Priority.{is_in, current_priority}
 use Rattle.sloth_base.specs.PriorityLevels.{level_of}
 use Rattle.sim_relation.specs.Build.{Build}
 use Rattle.sim_relation.specs.Position.{thread_of}
-use Rattle.sim_relation.specs.Context.{Context, Running, RunsTask}
-use Rattle.sim_relation.specs.Stands.{Stands, IsActive, Falling, AreActive, IsLineOf}
+use Rattle.sim_relation.specs.Context.{IsContext, RunsFirst, RunsTask}
+use Rattle.sim_relation.specs.Stands.{Stands, IsActive, AreFalling, AreActive, AreLineBytes}
 use Rattle.sim_relation.specs.Framing.{SamePart}
-use Rattle.sim_relation.specs.Moves.{moved_to, TaskMove}
+use Rattle.sim_relation.specs.Moves.{moved_system, TaskMove}
 use Rattle.sim_relation.proofs.Contexts.{chain_kept}
 use Rattle.sim_relation.proofs.Parts.{this_task, by_task, falling_kept, each_from, line_same, line_active}
 use Rattle.sim_relation.proofs.Rebuilt.{below_parts, among, rebuilt}
 use Rattle.sim_relation.proofs.Tops.{falling_head, is_in-head}
 
 falling_current : (b : Build) (s next : System) (t : ℕ) (below : List ℕ) → (task next t).state ≡ mode.Active
-    → ((u : ℕ) → is_in u below ≡ true → task next u ≡ task s u) → Falling b s (t ∷ below) → Falling b next (t ∷ below)
+    → ((u : ℕ) → is_in u below ≡ true → task next u ≡ task s u) → AreFalling b s (t ∷ below) → AreFalling b next (t ∷ below)
 falling_current b s next t [] a e f = record { declared = f.declared; active = a }
 falling_current b s next t (u ∷ below) a e f = (
   record { declared = f.0.declared; active = a },
@@ -29,13 +29,13 @@ falling_current b s next t (u ∷ below) a e f = (
 module _ (b : Build) (old now : State) (s : System) (k : Stands b old s) (t : ℕ) (below : List ℕ) (stack_is : k.stack ≡ t ∷ below)
     (own : Task) (symbols : List (List ℕ)) (step : TaskMove b old now s t own symbols) where
   abbrev next : System
-  next = moved_to s t own symbols
+  next = moved_system s t own symbols
 
   stack : AreActive b s (t ∷ below)
   stack = subst (AreActive b s) stack_is k.active
 
   run : RunsTask b old s t below
-  run = subst (Running b old s) stack_is k.running
+  run = subst (RunsFirst b old s) stack_is k.running
 
   here : IsActive b s t
   here = falling_head b s t below stack.falling
@@ -54,7 +54,7 @@ module _ (b : Build) (old now : State) (s : System) (k : Stands b old s) (t : �
     level = step.level ∙ sym (ap (λ v. level_of b.config (current_priority b.config (declaration b.config t) v)) this);
     current = step.current ∙ run.current;
     place = step.place;
-    context = subst (λ v. Context b now.core.ram t v (thread_of now) step.place) (sym this) step.context;
+    context = subst (λ v. IsContext b now.core.ram t v (thread_of now) step.place) (sym this) step.context;
     next = run.next;
     link = step.link ∙ run.link;
     chain = chain_kept b old.core.ram now.core.ram s next step.idle below run.next
@@ -62,8 +62,8 @@ module _ (b : Build) (old now : State) (s : System) (k : Stands b old s) (t : �
         run.chain;
   }
 
-  own_line : IsLineOf own.state (slice_index now.core.pending t) (slice_index now.core.enabled t)
-  own_line = subst (λ m. IsLineOf m (slice_index now.core.pending t) (slice_index now.core.enabled t)) (sym step.active)
+  own_line : AreLineBytes own.state (slice_index now.core.pending t) (slice_index now.core.enabled t)
+  own_line = subst (λ m. AreLineBytes m (slice_index now.core.pending t) (slice_index now.core.enabled t)) (sym step.active)
       (line_same mode.Active (slice_index old.core.pending t) (slice_index now.core.pending t) (slice_index old.core.enabled t) (slice_index now.core.enabled t)
       (ap (λ l. slice_index l t) step.machine.pending) (ap (λ l. slice_index l t) step.machine.enabled)
       (line_active (task s t).state (slice_index old.core.pending t) (slice_index old.core.enabled t) here.active (k.lines.each t here.declared)))

@@ -10,10 +10,10 @@ use Rattle.osek_scheduler.specs.State.{Frame, Task, System, task, declaration}
 use Rattle.osek_scheduler.specs.Priority.{is_in, is_active, highest_priority, ceiling, greatest, current_priority}
 use Rattle.sloth_base.specs.PriorityLevels.{level_of}
 use Rattle.sim_relation.specs.Build.{Build, Fits}
-use Rattle.sim_relation.specs.Context.{Running, RunsTask, Resumes}
-use Rattle.sim_relation.specs.ServiceWords.{ServiceWords, HeldWords, IsWaitWord, active_word}
-use Rattle.sim_relation.specs.Stands.{Stands, IsActive, AreActive, TidyTask}
-use Rattle.sim_relation.specs.Moves.{moved_to, TaskMove, TaskStep}
+use Rattle.sim_relation.specs.Context.{RunsFirst, RunsTask, Resumes}
+use Rattle.sim_relation.specs.ServiceWords.{AreServiceWords, AreHeldWords, IsWaitWord, active_word}
+use Rattle.sim_relation.specs.Stands.{Stands, IsActive, AreActive, IsTidyTask}
+use Rattle.sim_relation.specs.Moves.{moved_system, TaskMove, TaskStep}
 use Rattle.sim_relation.proofs.ClockKept.{clock_low}
 use Rattle.sim_relation.proofs.Framing.{word_kept}
 use Rattle.sim_relation.proofs.Parts.{service_kept, held_kept}
@@ -42,7 +42,7 @@ module _ (b : Build) (old now : State) (s : System) (k : Stands b old s) (fits :
   stack = subst (AreActive b s) stack_is k.active
 
   run : RunsTask b old s t below
-  run = subst (Running b old s) stack_is k.running
+  run = subst (RunsFirst b old s) stack_is k.running
 
   here : IsActive b s t
   here = falling_head b s t below stack.falling
@@ -53,7 +53,7 @@ module _ (b : Build) (old now : State) (s : System) (k : Stands b old s) (fits :
   held_word : (u : ℕ) → u < length b.config.tasks → (r : ℕ) → is_in r (task s u).held ≡ true → word_at now.core.ram (saved_level r) ≡ word_at old.core.ram (saved_level r)
   held_word u h r a = let l = (k.tidy.each u h).few r a in low_word (saved_level r) (omega arith)
 
-  own_words : ServiceWords b now.core.ram t own
+  own_words : AreServiceWords b now.core.ram t own
   own_words =
       let h = here.declared in
       let w = k.words t h in
@@ -66,19 +66,19 @@ module _ (b : Build) (old now : State) (s : System) (k : Stands b old s) (fits :
         resumption = resumes_active b now.core.ram t own (is_active own.state) own.frames a
             (low_word (resume t) (omega arith)
             ∙ active_resumes b old.core.ram t (task s t) (is_active (task s t).state) (task s t).frames (ap is_active here.active) w.resumption);
-        held = subst (λ (v : List ℕ). HeldWords b now.core.ram (max (declaration b.config t).priority (cond own.raised (highest_priority b.config) 0)) v) (sym step.held)
-            (subst (λ (v : Bool). HeldWords b now.core.ram (max (declaration b.config t).priority (cond v (highest_priority b.config) 0)) (task s t).held) (sym step.raised)
+        held = subst (λ (v : List ℕ). AreHeldWords b now.core.ram (max (declaration b.config t).priority (cond own.raised (highest_priority b.config) 0)) v) (sym step.held)
+            (subst (λ (v : Bool). AreHeldWords b now.core.ram (max (declaration b.config t).priority (cond v (highest_priority b.config) 0)) (task s t).held) (sym step.raised)
             (held_kept b old.core.ram now.core.ram _ (task s t).held (held_word t h) w.held));
       }
 
-  other_words : (u : ℕ) → u < length b.config.tasks → u ≢ t → ServiceWords b now.core.ram u (task s u)
+  other_words : (u : ℕ) → u < length b.config.tasks → u ≢ t → AreServiceWords b now.core.ram u (task s u)
   other_words u h m =
       let f = fits.few_tasks in
       service_kept b old.core.ram now.core.ram u (task s u)
       (low_word (active u) (omega arith)) (low_word (events u) (omega arith)) (low_word (wait u) (omega arith)) (low_word (resume u) (omega arith))
       (held_word u h) (λ a f. step.others u h m (inr f)) (k.words u h)
 
-  tidy : TidyTask own
+  tidy : IsTidyTask own
   tidy = record {
     registers = step.registers;
     at_rest = λ a. let c = ap is_active step.active in cc;
@@ -106,5 +106,5 @@ module _ (b : Build) (old now : State) (s : System) (k : Stands b old s) (fits :
         data_stands = step.data_stands;
       }
 
-  pub task_steps : Stands b now (moved_to s t own symbols)
+  pub task_steps : Stands b now (moved_system s t own symbols)
   task_steps = task_moves b old now s k t below stack_is own symbols move

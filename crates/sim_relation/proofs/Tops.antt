@@ -7,7 +7,7 @@ use Rattle.osek_scheduler.specs.State.{System, task, declaration}
 use Rattle.osek_scheduler.specs.Priority.{rank, is_in, is_active, IsTop, NoTicks}
 use Rattle.sim_induction.specs.Mirror.{priority_of}
 use Rattle.sim_relation.specs.Build.{Build}
-use Rattle.sim_relation.specs.Stands.{IsActive, Falling, AreActive}
+use Rattle.sim_relation.specs.Stands.{IsActive, AreFalling, AreActive}
 
 -- a task's current priority is at least its own
 pub static_le : (config : Config) (s : System) (t : ℕ) → (declaration config t).priority ≤ priority_of config s t
@@ -30,17 +30,17 @@ pub is_in-tail : (t u : ℕ) (below : List ℕ) → is_in u below ≡ true → i
 is_in-tail t u below h = or_right (eqb t u) (is_in u below) h
 
 -- priorities fall along the rest of the stack
-pub falling_tail : (b : Build) (s : System) (t : ℕ) (below : List ℕ) → Falling b s (t ∷ below) → Falling b s below
+pub falling_tail : (b : Build) (s : System) (t : ℕ) (below : List ℕ) → AreFalling b s (t ∷ below) → AreFalling b s below
 falling_tail b s t [] f = tt
 falling_tail b s t (u ∷ below) f = f.2
 
 -- the first of the stack is Active
-pub falling_head : (b : Build) (s : System) (t : ℕ) (below : List ℕ) → Falling b s (t ∷ below) → IsActive b s t
+pub falling_head : (b : Build) (s : System) (t : ℕ) (below : List ℕ) → AreFalling b s (t ∷ below) → IsActive b s t
 falling_head b s t [] f = f
 falling_head b s t (u ∷ below) f = f.0
 
 -- the tasks below the first have current priorities below its static one
-pub below_first : (b : Build) (s : System) (t : ℕ) (below : List ℕ) → Falling b s (t ∷ below) → (u : ℕ) → is_in u below ≡ true
+pub below_first : (b : Build) (s : System) (t : ℕ) (below : List ℕ) → AreFalling b s (t ∷ below) → (u : ℕ) → is_in u below ≡ true
     → priority_of b.config s u < (declaration b.config t).priority
 below_first b s t [] f u h = cc
 below_first b s t (v ∷ below) f u h =
@@ -54,7 +54,7 @@ below_first b s t (v ∷ below) f u h =
     (or_cases (eqb v u) (is_in u below) h)
 
 -- none of the stack has a higher rank than its first
-pub first_most : (b : Build) (s : System) (t : ℕ) (below : List ℕ) → Falling b s (t ∷ below) → (u : ℕ) → is_in u (t ∷ below) ≡ true
+pub first_most : (b : Build) (s : System) (t : ℕ) (below : List ℕ) → AreFalling b s (t ∷ below) → (u : ℕ) → is_in u (t ∷ below) ≡ true
     → priority_of b.config s u ≤ priority_of b.config s t
 first_most b s t below f u h =
     ⊎_elim
@@ -66,7 +66,7 @@ first_most b s t below f u h =
     (or_cases (eqb t u) (is_in u below) h)
 
 -- the first is none of those below it
-pub not_below : (b : Build) (s : System) (t : ℕ) (below : List ℕ) → Falling b s (t ∷ below) → is_in t below ≡ false
+pub not_below : (b : Build) (s : System) (t : ℕ) (below : List ℕ) → AreFalling b s (t ∷ below) → is_in t below ≡ false
 not_below b s t below f =
     ⊎_elim
     (λ (h : is_in t below ≡ true). absurd (let lower = below_first b s t below f t h in let e = static_le b.config s t in omega arith))
@@ -74,12 +74,12 @@ not_below b s t below f =
     (cases_Bool (is_in t below))
 
 -- a task below the first is another
-pub below_other : (b : Build) (s : System) (t : ℕ) (below : List ℕ) → Falling b s (t ∷ below) → (u : ℕ) → is_in u below ≡ true → u ≢ t
+pub below_other : (b : Build) (s : System) (t : ℕ) (below : List ℕ) → AreFalling b s (t ∷ below) → (u : ℕ) → is_in u below ≡ true → u ≢ t
 below_other b s t below f u h e =
     let a = not_below b s t below f in let c : is_in t below ≡ true = subst (λ v. is_in v below ≡ true) e h in cc
 
 -- each task of the stack is Active
-pub falling_active : (b : Build) (s : System) (stack : List ℕ) → Falling b s stack → (u : ℕ) → is_in u stack ≡ true → IsActive b s u
+pub falling_active : (b : Build) (s : System) (stack : List ℕ) → AreFalling b s stack → (u : ℕ) → is_in u stack ≡ true → IsActive b s u
 falling_active b s [] f u h = cc
 falling_active b s (t ∷ below) f u h =
     ⊎_elim

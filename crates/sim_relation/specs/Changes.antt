@@ -8,17 +8,17 @@ use Rattle.osek_scheduler.specs.declared.state.TaskState.TheVariants as mode
 use Rattle.osek_scheduler.specs.State.{Task, System, task}
 use Rattle.osek_scheduler.specs.Priority.{is_active}
 use Rattle.sim_relation.specs.Build.{Build}
-use Rattle.sim_relation.specs.Moves.{moved_to, WholeMachine}
+use Rattle.sim_relation.specs.Moves.{moved_system, WholeMachine}
 use Rattle.sim_relation.specs.ServiceWords.{IsWaitWord}
-use Rattle.sim_relation.specs.Stands.{IsLineOf}
+use Rattle.sim_relation.specs.Stands.{AreLineBytes}
 
 -- a task's record with this state and these events
 abbrev pub changed_task : System → ℕ → TaskState → ℕ → Task
 changed_task s t state set = record (task s t) { state = state; events = set }
 
 -- the abstract state where a task has this state and these events now
-abbrev pub changed_to : System → ℕ → TaskState → ℕ → System
-changed_to s t state set = moved_to s t (changed_task s t state set) s.symbols
+abbrev pub system_with_task_state : System → ℕ → TaskState → ℕ → System
+system_with_task_state s t state set = moved_system s t (changed_task s t state set) s.symbols
 
 -- The task `t` has this state and these events now; it is Active where it was, and it is not Suspended. What runs goes on, with
 -- all registers. Of RAM the word of the task's events alone changes.
@@ -30,7 +30,7 @@ pub record TaskChange (b : Build) (old now : State) (s : System) (t : ℕ) (stat
   pub registers : now.core.registers ≡ old.core.registers
   pub level : now.core.ilevel ≡ old.core.ilevel
   -- the lines
-  pub own_line : IsLineOf state (slice_index now.core.pending t) (slice_index now.core.enabled t)
+  pub own_line : AreLineBytes state (slice_index now.core.pending t) (slice_index now.core.enabled t)
   pub own_bit : slice_index now.core.pending t < 2
   pub other_pending : (line : ℕ) → line ≢ t → slice_index now.core.pending line ≡ slice_index old.core.pending line
   pub other_enabled : (line : ℕ) → line ≢ t → slice_index now.core.enabled line ≡ slice_index old.core.enabled line

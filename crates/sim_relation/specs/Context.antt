@@ -10,14 +10,14 @@ use Rattle.sim_induction.specs.Mirror.{priority_of}
 use Rattle.sloth_base.specs.PriorityLevels.{level_of}
 use Rattle.sloth_base.specs.MemoryMap.{memory_base}
 use Rattle.sim_relation.specs.Build.{Build}
-use Rattle.sim_relation.specs.Position.{Thread, thread_of, thread_at, FramesAt, Position}
+use Rattle.sim_relation.specs.Position.{Thread, thread_of, thread_at, AreFrames, IsPosition}
 
 -- A task's registers, position and frames, with x2 at the offset `place`. All that this says of RAM lies from there up to the
 -- task's top.
-pub record Context (b : Build) (ram : List ℕ) (t : ℕ) (own : Task) (th : Thread) (place : ℕ) : Type 0 where
+pub record IsContext (b : Build) (ram : List ℕ) (t : ℕ) (own : Task) (th : Thread) (place : ℕ) : Type 0 where
   pub x2 : th.x2 ≡ memory_base + place
   pub registers : (i : ℕ) → i < 25 → slice_index own.registers i ≡ th.x (i + 5)
-  pub position : Position b ram t own th place
+  pub position : IsPosition b ram t own th place
   -- there is room for a context below
   pub room : b.low t + context_bytes ≤ place
   pub aligned : place % 4 ≡ 0
@@ -25,23 +25,23 @@ pub record Context (b : Build) (ram : List ℕ) (t : ℕ) (own : Task) (th : Thr
 -- ---- the Active tasks below the running one
 
 -- an Active task's context, at an offset
-pub record Saved (b : Build) (ram : List ℕ) (s : System) (t place : ℕ) : Type 0 where
+pub record IsSaved (b : Build) (ram : List ℕ) (s : System) (t place : ℕ) : Type 0 where
   pub level : word_at ram (place + 4) ≡ level_of b.config (priority_of b.config s t)
   pub current : word_at ram (place + 8) ≡ t + 1
-  pub context : Context b ram t (task s t) (thread_at ram place) (place + context_bytes)
+  pub context : IsContext b ram t (task s t) (thread_at ram place) (place + context_bytes)
 
 -- the idle loop's context
-pub record SavedIdle (b : Build) (ram : List ℕ) (place : ℕ) : Type 0 where
+pub record IsIdleSaved (b : Build) (ram : List ℕ) (place : ℕ) : Type 0 where
   pub is : place ≡ idle_context
   pub pc : word_at ram idle_context ≡ b.idle
   pub level : word_at ram (idle_context + 4) ≡ 0
   pub current : word_at ram (idle_context + 8) ≡ 0
 
 -- the first of these tasks has its context at an offset, and each context has the address of the next
-abbrev pub Chain : Build → List ℕ → System → List ℕ → ℕ → Type 0
-Chain b ram s [] place = SavedIdle b ram place
-Chain b ram s (t ∷ below) place =
-    Saved b ram s t place × ((next : ℕ) × (word_at ram (place + 12) ≡ memory_base + next) × Chain b ram s below next)
+abbrev pub IsContextChain : Build → List ℕ → System → List ℕ → ℕ → Type 0
+IsContextChain b ram s [] place = IsIdleSaved b ram place
+IsContextChain b ram s (t ∷ below) place =
+    IsSaved b ram s t place × ((next : ℕ) × (word_at ram (place + 12) ≡ memory_base + next) × IsContextChain b ram s below next)
 
 -- ---- what runs
 
@@ -50,10 +50,10 @@ pub record RunsTask (b : Build) (state : State) (s : System) (t : ℕ) (below : 
   pub level : state.core.ilevel ≡ level_of b.config (priority_of b.config s t)
   pub current : word_at state.core.ram cur ≡ t + 1
   pub place : ℕ
-  pub context : Context b state.core.ram t (task s t) (thread_of state) place
+  pub context : IsContext b state.core.ram t (task s t) (thread_of state) place
   pub next : ℕ
   pub link : word_at state.core.ram below_word ≡ memory_base + next
-  pub chain : Chain b state.core.ram s below next
+  pub chain : IsContextChain b state.core.ram s below next
 
 -- the machine runs the idle loop
 pub record RunsIdle (b : Build) (state : State) : Type 0 where
@@ -63,19 +63,19 @@ pub record RunsIdle (b : Build) (state : State) : Type 0 where
   pub x2 : slice_index state.core.registers 2 ≡ memory_base + (idle_context + context_bytes)
 
 -- the first of the Active tasks runs, above the others
-abbrev pub Running : Build → State → System → List ℕ → Type 0
-Running b state s [] = RunsIdle b state
-Running b state s (t ∷ below) = RunsTask b state s t below
+abbrev pub RunsFirst : Build → State → System → List ℕ → Type 0
+RunsFirst b state s [] = RunsIdle b state
+RunsFirst b state s (t ∷ below) = RunsTask b state s t below
 
 -- ---- a task that is to go on from a wait
 
 -- its context, at an offset, is at the first instruction of its next item
-pub record Rested (b : Build) (ram : List ℕ) (t : ℕ) (own : Task) (frame : Frame) (outer : List Frame) (place : ℕ) : Type 0 where
+pub record IsRested (b : Build) (ram : List ℕ) (t : ℕ) (own : Task) (frame : Frame) (outer : List Frame) (place : ℕ) : Type 0 where
   pub link : word_at ram (resume t) ≡ memory_base + place
   pub inside : frame.item < length (function b.app frame.func).items
   pub pc : word_at ram place ≡ item_address b.places frame.func frame.item
   pub registers : (i : ℕ) → i < 25 → slice_index own.registers i ≡ word_at ram (place + 4 * (i + 5))
-  pub frames : FramesAt b ram frame outer (place + context_bytes) (b.top t)
+  pub frames : AreFrames b ram frame outer (place + context_bytes) (b.top t)
   pub room : b.low t ≤ place
   pub aligned : place % 4 ≡ 0
 
@@ -83,4 +83,4 @@ pub record Rested (b : Build) (ram : List ℕ) (t : ℕ) (own : Task) (frame : F
 abbrev pub Resumes : Build → List ℕ → ℕ → Task → Bool → List Frame → Type 0
 Resumes b ram t own true frames = word_at ram (resume t) ≡ 0
 Resumes b ram t own false [] = word_at ram (resume t) ≡ 0
-Resumes b ram t own false (frame ∷ outer) = (place : ℕ) × Rested b ram t own frame outer place
+Resumes b ram t own false (frame ∷ outer) = (place : ℕ) × IsRested b ram t own frame outer place

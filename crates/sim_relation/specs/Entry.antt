@@ -8,7 +8,7 @@ use Rattle.osek_scheduler.specs.declared.state.TaskState.TheVariants as mode
 use Rattle.osek_scheduler.specs.State.{Task, System, task, declaration}
 use Rattle.sim_relation.specs.Build.{Build, start_level}
 use Rattle.sim_relation.specs.Position.{thread_of}
-use Rattle.sim_relation.specs.Context.{Context}
+use Rattle.sim_relation.specs.Context.{IsContext}
 use Rattle.masked_code.specs.Kernel.{HoldBases}
 use Rattle.sim_relation.specs.Stands.{IsAlive, AreApart}
 
@@ -57,4 +57,4 @@ pub record TaskEntry (b : Build) (old now : State) (s : System) (t : ℕ) (own :
   -- its part of the stacks is apart from those of the tasks that have something there
   pub apart : (u : ℕ) → u < length b.config.tasks → u ≢ t → IsAlive (task s u) → AreApart b t u
   pub frame : ℕ
-  pub context : Context b now.core.ram t own (thread_of now) frame
+  pub context : IsContext b now.core.ram t own (thread_of now) frame

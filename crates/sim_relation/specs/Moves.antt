@@ -10,11 +10,11 @@ use Rattle.sloth_base.specs.PriorityLevels.{level_of}
 use Rattle.sloth_base.specs.MemoryMap.{memory_base}
 use Rattle.sim_relation.specs.Build.{Build, IsElsewhere}
 use Rattle.sim_relation.specs.Position.{thread_of}
-use Rattle.sim_relation.specs.Context.{Context}
-use Rattle.sim_relation.specs.ServiceWords.{ServiceWords}
+use Rattle.sim_relation.specs.Context.{IsContext}
+use Rattle.sim_relation.specs.ServiceWords.{AreServiceWords}
 use Rattle.sim_relation.specs.ClockStands.{ClockStands}
 use Rattle.sim_relation.specs.DataStands.{DataStands}
-use Rattle.sim_relation.specs.Stands.{IsAlive, IsLineOf, TidyTask}
+use Rattle.sim_relation.specs.Stands.{IsAlive, AreLineBytes, IsTidyTask}
 use Rattle.masked_code.specs.Kernel.{HoldBases}
 use Rattle.sim_relation.specs.Framing.{Agree, IdleKept, NamedKept, HasLeftFor}
 
@@ -23,8 +23,8 @@ abbrev pub changed_system : System → ℕ → Task → List (List ℕ) → List
 changed_system s t own symbols fresh = record (with_task s t own) { symbols = symbols; fresh = fresh }
 
 -- the same behind an event
-abbrev pub moved_to : System → ℕ → Task → List (List ℕ) → System
-moved_to s t own symbols = changed_system s t own symbols []
+abbrev pub moved_system : System → ℕ → Task → List (List ℕ) → System
+moved_system s t own symbols = changed_system s t own symbols []
 
 -- what each change that keeps the relation leaves of the machine: sizes, x0, the lines' levels and the controller; interrupts are open,
 -- and plevel is the level that runs
@@ -69,12 +69,12 @@ pub record TaskMove (b : Build) (old now : State) (s : System) (t : ℕ) (own : 
   pub idle : IdleKept old.core.ram now.core.ram
   pub code : (i : ℕ) → b.is_code i ≡ true → slice_index now.core.ram i ≡ slice_index old.core.ram i
   pub others : OthersKept b old.core.ram now.core.ram s t
-  pub own_words : ServiceWords b now.core.ram t own
-  pub other_words : (u : ℕ) → u < length b.config.tasks → u ≢ t → ServiceWords b now.core.ram u (task s u)
+  pub own_words : AreServiceWords b now.core.ram t own
+  pub other_words : (u : ℕ) → u < length b.config.tasks → u ≢ t → AreServiceWords b now.core.ram u (task s u)
   pub clock : ClockStands b.config now.core.ram s.clock
-  pub tidy : TidyTask own
+  pub tidy : IsTidyTask own
   pub place : ℕ
-  pub context : Context b now.core.ram t own (thread_of now) place
+  pub context : IsContext b now.core.ram t own (thread_of now) place
   pub data_stands : DataStands b now.core.ram symbols
 
 -- The same, where only its own stack and the data change.
@@ -90,7 +90,7 @@ pub record TaskStep (b : Build) (old now : State) (s : System) (t : ℕ) (own : 
   pub raised : own.raised ≡ (task s t).raised
   pub registers : length own.registers ≡ 25
   pub place : ℕ
-  pub context : Context b now.core.ram t own (thread_of now) place
+  pub context : IsContext b now.core.ram t own (thread_of now) place
   pub data_stands : DataStands b now.core.ram symbols
 
 -- The running task leaves: its record is `own` now, and what the context at `place` says goes on.
@@ -99,7 +99,7 @@ pub record TaskLeave (b : Build) (old now : State) (s : System) (t : ℕ) (own :
   pub left : HasLeftFor old.core.ram now.core.ram place now
   pub machine : WholeMachine old now
   -- the lines
-  pub own_line : IsLineOf own.state (slice_index now.core.pending t) (slice_index now.core.enabled t)
+  pub own_line : AreLineBytes own.state (slice_index now.core.pending t) (slice_index now.core.enabled t)
   pub own_bit : slice_index now.core.pending t < 2
   pub other_pending : (line : ℕ) → line ≢ t → slice_index now.core.pending line ≡ slice_index old.core.pending line
   pub other_enabled : (line : ℕ) → line ≢ t → slice_index now.core.enabled line ≡ slice_index old.core.enabled line
@@ -108,7 +108,7 @@ pub record TaskLeave (b : Build) (old now : State) (s : System) (t : ℕ) (own :
   pub elsewhere : (i : ℕ) → IsElsewhere b i → slice_index now.core.ram i ≡ slice_index old.core.ram i
   pub others : OthersKept b old.core.ram now.core.ram s t
   pub named : NamedKept old.core.ram now.core.ram t
-  pub own_words : ServiceWords b now.core.ram t own
+  pub own_words : AreServiceWords b now.core.ram t own
   -- the task
   pub at_rest : is_active own.state ≡ false
-  pub tidy : TidyTask own
+  pub tidy : IsTidyTask own

@@ -47,17 +47,17 @@ return_address b frame =
     item_address b.places frame.func frame.item + 4 * (called_words b.app (operation b.app frame.func frame.item) + 1)
 
 -- the frames outside the innermost, from an offset up to the top: each a return address and its words
-abbrev pub OuterAt : Build → List ℕ → List Frame → (place top : ℕ) → Type 0
-OuterAt b ram [] place top = place ≡ top
-OuterAt b ram (frame ∷ outer) place top =
+abbrev pub AreOuterFrames : Build → List ℕ → List Frame → (place top : ℕ) → Type 0
+AreOuterFrames b ram [] place top = place ≡ top
+AreOuterFrames b ram (frame ∷ outer) place top =
     (word_at ram place ≡ return_address b frame) × (length frame.words ≡ (function b.app frame.func).frame_words)
-    × AreWords ram (place + 4) frame.words × OuterAt b ram outer (place + 4 + 4 * length frame.words) top
+    × AreWords ram (place + 4) frame.words × AreOuterFrames b ram outer (place + 4 + 4 * length frame.words) top
 
 -- the frames of a task stand from this place up to its top
-abbrev pub FramesAt : Build → List ℕ → Frame → List Frame → (place top : ℕ) → Type 0
-FramesAt b ram frame outer place top =
+abbrev pub AreFrames : Build → List ℕ → Frame → List Frame → (place top : ℕ) → Type 0
+AreFrames b ram frame outer place top =
     (length frame.words ≡ (function b.app frame.func).frame_words)
-    × AreWords ram place frame.words × OuterAt b ram outer (place + 4 * length frame.words) top
+    × AreWords ram place frame.words × AreOuterFrames b ram outer (place + 4 * length frame.words) top
 
 -- ---- inside an expansion
 
@@ -133,21 +133,21 @@ pub record AtBlock (b : Build) (frame : Frame) (th : Thread) : Type 0 where
 -- ---- positions; x2 stands at the offset `place`
 
 -- at the next item or its service's block, with the frames from x2 on
-pub record Standing (b : Build) (ram : List ℕ) (top : ℕ) (own : Task) (frame : Frame) (outer : List Frame) (th : Thread) (place : ℕ) : Type 0 where
+pub record IsStanding (b : Build) (ram : List ℕ) (top : ℕ) (own : Task) (frame : Frame) (outer : List Frame) (th : Thread) (place : ℕ) : Type 0 where
   pub free : own.owed ≡ false
-  pub frames : FramesAt b ram frame outer place top
+  pub frames : AreFrames b ram frame outer place top
   pub here : InExpansion b own frame th ⊎ AtBlock b frame th
 
 -- behind Schedule, before the instruction that masks again
-pub record Owing (b : Build) (ram : List ℕ) (t : ℕ) (own : Task) (frame : Frame) (outer : List Frame) (th : Thread) (place : ℕ) : Type 0 where
+pub record IsOwing (b : Build) (ram : List ℕ) (t : ℕ) (own : Task) (frame : Frame) (outer : List Frame) (th : Thread) (place : ℕ) : Type 0 where
   pub owes : own.owed ≡ true
-  pub frames : FramesAt b ram frame outer place (b.top t)
+  pub frames : AreFrames b ram frame outer place (b.top t)
   pub pc : th.pc ≡ b.back
   pub returns : th.x 31 ≡ item_address b.places frame.func frame.item
   pub level : th.x 30 ≡ start_level b t
 
 -- inside a call: x2 is lowered, and the first words of the new frame are stored
-pub record Calling (b : Build) (ram : List ℕ) (top : ℕ) (own : Task) (frame : Frame) (outer : List Frame) (th : Thread) (place : ℕ) : Type 0 where
+pub record IsCalling (b : Build) (ram : List ℕ) (top : ℕ) (own : Task) (frame : Frame) (outer : List Frame) (th : Thread) (place : ℕ) : Type 0 where
   pub free : own.owed ≡ false
   pub callee : ℕ
   pub is : operation b.app frame.func frame.item ≡ op.Invoke callee
@@ -155,29 +155,29 @@ pub record Calling (b : Build) (ram : List ℕ) (top : ℕ) (own : Task) (frame 
   pub some : 1 ≤ done
   pub within : done ≤ (function b.app callee).frame_words + 3
   pub pc : th.pc ≡ item_address b.places frame.func frame.item + 4 * done
-  pub frames : FramesAt b ram frame outer (place + 4 + 4 * (function b.app callee).frame_words) top
+  pub frames : AreFrames b ram frame outer (place + 4 + 4 * (function b.app callee).frame_words) top
   pub zeros : (i : ℕ) → i < (function b.app callee).frame_words → i + 1 < done → word_at ram (place + 4 * i) ≡ 0
   pub linked : (function b.app callee).frame_words + 2 ≤ done → th.x 31 ≡ return_address b frame
   pub stored : (function b.app callee).frame_words + 3 ≤ done
       → word_at ram (place + 4 * (function b.app callee).frame_words) ≡ return_address b frame
 
 -- inside a return: the address is loaded; behind the `addi` nothing is said of the frame that is left
-pub record Returning (b : Build) (ram : List ℕ) (top : ℕ) (own : Task) (frame : Frame) (outer : List Frame) (th : Thread) (place : ℕ) : Type 0 where
+pub record IsReturning (b : Build) (ram : List ℕ) (top : ℕ) (own : Task) (frame : Frame) (outer : List Frame) (th : Thread) (place : ℕ) : Type 0 where
   pub free : own.owed ≡ false
   pub is : operation b.app frame.func frame.item ≡ op.Return
   pub caller : Frame
   pub rest : List Frame
   pub called_by : outer ≡ caller ∷ rest
   pub linked : th.x 31 ≡ return_address b caller
-  pub here : (th.pc ≡ item_address b.places frame.func frame.item + 4) × FramesAt b ram frame outer place top
-      ⊎ (th.pc ≡ item_address b.places frame.func frame.item + 8) × FramesAt b ram caller rest place top
+  pub here : (th.pc ≡ item_address b.places frame.func frame.item + 4) × AreFrames b ram frame outer place top
+      ⊎ (th.pc ≡ item_address b.places frame.func frame.item + 8) × AreFrames b ram caller rest place top
 
 -- where a task is in its code
-pub record Position (b : Build) (ram : List ℕ) (t : ℕ) (own : Task) (th : Thread) (place : ℕ) : Type 0 where
+pub record IsPosition (b : Build) (ram : List ℕ) (t : ℕ) (own : Task) (th : Thread) (place : ℕ) : Type 0 where
   pub frame : Frame
   pub outer : List Frame
   pub frames : own.frames ≡ frame ∷ outer
   pub inside : frame.item < length (function b.app frame.func).items
-  pub here : Standing b ram (b.top t) own frame outer th place
-      ⊎ (Owing b ram t own frame outer th place
-      ⊎ (Calling b ram (b.top t) own frame outer th place ⊎ Returning b ram (b.top t) own frame outer th place))
+  pub here : IsStanding b ram (b.top t) own frame outer th place
+      ⊎ (IsOwing b ram t own frame outer th place
+      ⊎ (IsCalling b ram (b.top t) own frame outer th place ⊎ IsReturning b ram (b.top t) own frame outer th place))

@@ -14,8 +14,8 @@ use Rattle.sim_induction.specs.Admits.{with_admits}
 use Rattle.sim_induction.specs.Mirror.{Mirror, Runs}
 use Rattle.sim_relation.specs.Build.{Build, Fits}
 use Rattle.sim_relation.specs.Stands.{Stands}
-use Rattle.sim_relation.specs.Moves.{moved_to, TaskStep, TaskMove, TaskLeave}
-use Rattle.sim_relation.specs.Changes.{changed_to, TaskChange}
+use Rattle.sim_relation.specs.Moves.{moved_system, TaskStep, TaskMove, TaskLeave}
+use Rattle.sim_relation.specs.Changes.{system_with_task_state, TaskChange}
 use Rattle.sim_relation.specs.Entry.{TaskEntry}
 use Rattle.sim_relation.specs.Start.{Starts, started_system}
 
@@ -57,12 +57,12 @@ NoneTaken = (b : Build) (state : State) (s : System) → length b.config.tasks �
 -- an instruction of it, and a service that goes back to it
 abbrev pub StepsKeep : Type 0
 StepsKeep = (b : Build) (old now : State) (s : System) (t : ℕ) (own : Task) (symbols : List (List ℕ)) → Fits b → Stands b old s → Runs b.config s t
-    → TaskStep b old now s t own symbols → Stands b now (moved_to s t own symbols)
+    → TaskStep b old now s t own symbols → Stands b now (moved_system s t own symbols)
 
 -- a move of the running task keeps the relation
 abbrev pub MovesKeep : Type 0
 MovesKeep = (b : Build) (old now : State) (s : System) (t : ℕ) (own : Task) (symbols : List (List ℕ)) → Fits b → Stands b old s → Runs b.config s t
-    → TaskMove b old now s t own symbols → Stands b now (moved_to s t own symbols)
+    → TaskMove b old now s t own symbols → Stands b now (moved_system s t own symbols)
 
 -- its end, or its wait
 abbrev pub LeavesKeep : Type 0
@@ -72,7 +72,7 @@ LeavesKeep = (b : Build) (old now : State) (s : System) (t : ℕ) (own : Task) (
 -- a change of any task's events and state, that of the running one or of another
 abbrev pub ChangesKeep : Type 0
 ChangesKeep = (b : Build) (old now : State) (s : System) (t : ℕ) (state : TaskState) (set : ℕ) → Fits b → Stands b old s → t < length b.config.tasks
-    → TaskChange b old now s t state set → Stands b now (changed_to s t state set)
+    → TaskChange b old now s t state set → Stands b now (system_with_task_state s t state set)
 
 -- the entry of the task whose line is taken
 abbrev pub EntriesKeep : Type 0

@@ -22,19 +22,19 @@ IsWaitWord mode.Ready word = Unit {0}
 IsWaitWord mode.Active word = Unit {0}
 
 -- each held resource's word is the level that ran as it was taken; `priority` was the current priority before the first
-abbrev pub HeldWords : Build → List ℕ → ℕ → List ℕ → Type 0
-HeldWords b ram priority [] = Unit {0}
-HeldWords b ram priority (r ∷ held) =
-    (word_at ram (saved_level r) ≡ level_of b.config priority) × HeldWords b ram (max priority (ceiling b.config r)) held
+abbrev pub AreHeldWords : Build → List ℕ → ℕ → List ℕ → Type 0
+AreHeldWords b ram priority [] = Unit {0}
+AreHeldWords b ram priority (r ∷ held) =
+    (word_at ram (saved_level r) ≡ level_of b.config priority) × AreHeldWords b ram (max priority (ceiling b.config r)) held
 
 -- the priority of a task less the ceilings of what it holds
 abbrev pub base_priority : Build → ℕ → Task → ℕ
 base_priority b t own = max (declaration b.config t).priority (cond own.raised (highest_priority b.config) 0)
 
 -- the service words of a task say what its record does
-pub record ServiceWords (b : Build) (ram : List ℕ) (t : ℕ) (own : Task) : Type 0 where
+pub record AreServiceWords (b : Build) (ram : List ℕ) (t : ℕ) (own : Task) : Type 0 where
   pub activity : word_at ram (active t) ≡ active_word own.state
   pub event_mask : word_at ram (events t) ≡ own.events
   pub wait_mask : IsWaitWord own.state (word_at ram (wait t))
   pub resumption : Resumes b ram t own (is_active own.state) own.frames
-  pub held : HeldWords b ram (base_priority b t own) own.held
+  pub held : AreHeldWords b ram (base_priority b t own) own.held

@@ -10,8 +10,8 @@ use Rattle.sloth_base.specs.PriorityLevels.{level_of}
 use Rattle.sloth_base.specs.Owners.{line_kind, owners_in}
 use Rattle.sloth_base.specs.declared.lines.LineKind.TheVariants as line_of
 use Rattle.sim_relation.specs.Build.{Build}
-use Rattle.sim_relation.specs.Context.{Running}
-use Rattle.sim_relation.specs.ServiceWords.{ServiceWords}
+use Rattle.sim_relation.specs.Context.{RunsFirst}
+use Rattle.sim_relation.specs.ServiceWords.{AreServiceWords}
 use Rattle.masked_code.specs.Kernel.{HoldBases}
 use Rattle.sim_relation.specs.DataStands.{DataStands}
 use Rattle.sim_relation.specs.ClockStands.{CountersStand, ClockStands}
@@ -19,15 +19,15 @@ use Rattle.sim_relation.specs.ClockStands.{CountersStand, ClockStands}
 -- ---- the lines
 
 -- the pending and the enable byte of a task in this state
-abbrev pub IsLineOf : TaskState → (pending enabled : ℕ) → Type 0
-IsLineOf mode.Suspended pending enabled = (pending ≡ 0) × (enabled ≡ 1)
-IsLineOf mode.Ready pending enabled = (pending ≡ 1) × (enabled ≡ 1)
-IsLineOf mode.Active pending enabled = enabled ≡ 1
-IsLineOf (mode.Waiting mask) pending enabled = enabled ≡ 0
+abbrev pub AreLineBytes : TaskState → (pending enabled : ℕ) → Type 0
+AreLineBytes mode.Suspended pending enabled = (pending ≡ 0) × (enabled ≡ 1)
+AreLineBytes mode.Ready pending enabled = (pending ≡ 1) × (enabled ≡ 1)
+AreLineBytes mode.Active pending enabled = enabled ≡ 1
+AreLineBytes (mode.Waiting mask) pending enabled = enabled ≡ 0
 
 -- the controller's bytes say what the system is
 pub record LinesStand (b : Build) (core : Core) (s : System) : Type 0 where
-  pub each : (t : ℕ) → t < length b.config.tasks → IsLineOf (task s t).state (slice_index core.pending t) (slice_index core.enabled t)
+  pub each : (t : ℕ) → t < length b.config.tasks → AreLineBytes (task s t).state (slice_index core.pending t) (slice_index core.enabled t)
   -- whatever the state, a pending byte is 0 or 1
   pub bits : (t : ℕ) → t < length b.config.tasks → slice_index core.pending t < 2
   pub levels : (t : ℕ) → t < length b.config.tasks → slice_index core.levels t ≡ level_of b.config (declaration b.config t).priority
@@ -43,14 +43,14 @@ pub record IsActive (b : Build) (s : System) (t : ℕ) : Type 0 where
   pub active : (task s t).state ≡ mode.Active
 
 -- each has a current priority below the static one of the task above it
-abbrev pub Falling : Build → System → List ℕ → Type 0
-Falling b s [] = Unit {0}
-Falling b s (t ∷ []) = IsActive b s t
-Falling b s (t ∷ u ∷ below) = IsActive b s t × (priority_of b.config s u < (declaration b.config t).priority) × Falling b s (u ∷ below)
+abbrev pub AreFalling : Build → System → List ℕ → Type 0
+AreFalling b s [] = Unit {0}
+AreFalling b s (t ∷ []) = IsActive b s t
+AreFalling b s (t ∷ u ∷ below) = IsActive b s t × (priority_of b.config s u < (declaration b.config t).priority) × AreFalling b s (u ∷ below)
 
 -- these are the Active tasks, the running one first
 pub record AreActive (b : Build) (s : System) (stack : List ℕ) : Type 0 where
-  pub falling : Falling b s stack
+  pub falling : AreFalling b s stack
   pub all : (u : ℕ) → u < length b.config.tasks → (task s u).state ≡ mode.Active → is_in u stack ≡ true
 
 -- ---- stacks
@@ -71,22 +71,22 @@ StacksApart b s =
 -- ---- what holds of the abstract state alone
 
 -- what holds of a task's record in every state
-pub record TidyTask (own : Task) : Type 0 where
+pub record IsTidyTask (own : Task) : Type 0 where
   pub registers : length own.registers ≡ 25
   pub at_rest : is_active own.state ≡ false → (own.held ≡ []) × (own.owed ≡ false) × (own.raised ≡ false)
   pub asleep : own.state ≡ mode.Suspended → (own.frames ≡ []) × (own.events ≡ 0)
   pub few : (r : ℕ) → is_in r own.held ≡ true → r < 33
 
 -- what holds of the system in every state after its start
-pub record Tidy (b : Build) (s : System) : Type 0 where
+pub record IsTidySystem (b : Build) (s : System) : Type 0 where
   pub booted : s.booted ≡ true
   pub tasks : length s.tasks ≡ length b.config.tasks
-  pub each : (t : ℕ) → t < length b.config.tasks → TidyTask (task s t)
+  pub each : (t : ℕ) → t < length b.config.tasks → IsTidyTask (task s t)
 
 -- ---- what no stretch changes
 
 -- what holds of the machine at each relation of the two states
-pub record Fixed (b : Build) (core : Core) : Type 0 where
+pub record IsFixed (b : Build) (core : Core) : Type 0 where
   pub open_to_lines : core.mie ≡ true
   pub previous : core.mpie ≡ true
   pub same_level : core.plevel ≡ core.ilevel
@@ -106,10 +106,10 @@ pub record Stands (b : Build) (state : State) (s : System) : Type 0 where
   pub stack : List ℕ
   pub active : AreActive b s stack
   pub lines : LinesStand b state.core s
-  pub running : Running b state s stack
-  pub words : (t : ℕ) → t < length b.config.tasks → ServiceWords b state.core.ram t (task s t)
+  pub running : RunsFirst b state s stack
+  pub words : (t : ℕ) → t < length b.config.tasks → AreServiceWords b state.core.ram t (task s t)
   pub clock : ClockStands b.config state.core.ram s.clock
   pub data_stands : DataStands b state.core.ram s.symbols
   pub apart : StacksApart b s
-  pub tidy : Tidy b s
-  pub fixed : Fixed b state.core
+  pub tidy : IsTidySystem b s
+  pub fixed : IsFixed b state.core

@@ -15,7 +15,7 @@ use Rattle.block_parts.specs.Looks.{LooksSuspended}
 use Rattle.block_parts.specs.Back.{a0}
 use Rattle.osek_scheduler.specs.declared.state.TaskState.TheVariants as mode
 use Rattle.osek_scheduler.specs.State.{Task, System, task}
-use Rattle.osek_scheduler.specs.Services.{activated_state, answers, answered_state, is_there, GoesOn}
+use Rattle.osek_scheduler.specs.Services.{activated_state, answered_task, answered_state, is_there, GoesOn}
 use Rattle.osek_scheduler.specs.Outcomes.{outcome}
 use Rattle.osek_scheduler.specs.Steps.{settled_state}
 use Rattle.sim_relation.specs.Build.{Build, Fits}
@@ -81,7 +81,7 @@ module _ (b : Build) (state : State) (s : System) (t : ℕ) (own : Task) (object
     among = let v = k.tidy.tasks in let h = (active b state s t own service.ActivateTask is fits).declared in omega arith
 
     same_state : (task after object).state ≡ (task s object).state
-    same_state = by_task (λ u (v : Task). v.state ≡ (task s u).state) s t (answers status (task s t)) among refl (λ u n. refl) object
+    same_state = by_task (λ u (v : Task). v.state ≡ (task s u).state) s t (answered_task status (task s t)) among refl (λ u n. refl) object
 
     module _ (next : System) (answer_is : outcome b.config service.ActivateTask is.opening.block.call.object is.opening.block.call.mask t s ≡ GoesOn status next)
         (stands : Stands b (state_arrive (object ∷ []) middle) (settled_state next)) where

@@ -7,10 +7,10 @@ use Rattle.service_gen.specs.Schedule.{CameBack, start_register}
 use Rattle.osek_scheduler.specs.State.{Task, System, task, with_task, declaration}
 use Rattle.osek_scheduler.specs.Steps.{settled_state}
 use Rattle.sim_relation.specs.Build.{Build, Fits}
-use Rattle.sim_relation.specs.Context.{RunsTask, Running}
-use Rattle.sim_relation.specs.Moves.{moved_to}
-use Rattle.sim_relation.specs.Position.{FramesAt, Position, Owing, Thread, thread_of}
-use Rattle.sim_relation.specs.ServiceWords.{HeldWords, base_priority}
+use Rattle.sim_relation.specs.Context.{RunsTask, RunsFirst}
+use Rattle.sim_relation.specs.Moves.{moved_system}
+use Rattle.sim_relation.specs.Position.{AreFrames, IsPosition, IsOwing, Thread, thread_of}
+use Rattle.sim_relation.specs.ServiceWords.{AreHeldWords, base_priority}
 use Rattle.sim_relation.specs.Stands.{Stands, IsActive}
 use Rattle.sim_relation.proofs.AtItem.{position_first}
 use Rattle.sim_relation.proofs.Framing.{position_elim}
@@ -23,10 +23,10 @@ clash : {X : Type 0} → true ≡ false → X
 clash e = cc
 
 -- a task that owes the way back stands before it
-pub owing_of : (b : Build) (ram : List ℕ) (t : ℕ) (own : Task) (th : Thread) (place : ℕ) → own.owed ≡ true → (p : Position b ram t own th place)
-    → Owing b ram t own p.frame p.outer th place
+pub owing_of : (b : Build) (ram : List ℕ) (t : ℕ) (own : Task) (th : Thread) (place : ℕ) → own.owed ≡ true → (p : IsPosition b ram t own th place)
+    → IsOwing b ram t own p.frame p.outer th place
 owing_of b ram t own th place owes p =
-    position_elim b ram t own p.frame p.outer th place (Owing b ram t own p.frame p.outer th place)
+    position_elim b ram t own p.frame p.outer th place (IsOwing b ram t own p.frame p.outer th place)
     (λ h. clash (sym owes ∙ h.free)) (λ h. h) (λ h. clash (sym owes ∙ h.free)) (λ h. clash (sym owes ∙ h.free)) p.here
 
 module _ (b : Build) (state : State) (s : System) (t : ℕ) (touched : List ℕ) (end : State) (fits : Fits b) (may : MayReturn b state s t)
@@ -50,24 +50,24 @@ module _ (b : Build) (state : State) (s : System) (t : ℕ) (touched : List ℕ)
   register i = ap (λ r. slice_index r i) effect.registers
 
   module _ (below : List ℕ) (run : RunsTask b state s t below) where
-    abbrev p : Position b state.core.ram t own (thread_of state) run.place
+    abbrev p : IsPosition b state.core.ram t own (thread_of state) run.place
     p = run.context.position
 
-    owing : Owing b state.core.ram t own p.frame p.outer (thread_of state) run.place
+    owing : IsOwing b state.core.ram t own p.frame p.outer (thread_of state) run.place
     owing = owing_of b state.core.ram t own (thread_of state) run.place may.owes p
 
-    position : Position b end.core.ram t own_now (thread_of end) run.place
+    position : IsPosition b end.core.ram t own_now (thread_of end) run.place
     position =
         position_first b end.core.ram t own_now (thread_of end) run.place p.frame p.outer p.frames refl p.inside
-        (effect.pc ∙ owing.returns) (at_ram (λ r. FramesAt b r p.frame p.outer run.place (b.top t)) owing.frames)
+        (effect.pc ∙ owing.returns) (at_ram (λ r. AreFrames b r p.frame p.outer run.place (b.top t)) owing.frames)
 
   same : (i : ℕ) → i < 25 → slice_index own.registers i ≡ slice_index end.core.registers (i + 5)
   same i l =
       let f = first_by_word b state s t k.stack k.running may.current in
-      let run : RunsTask b state s t f.0 = subst (Running b state s) f.1 k.running in
+      let run : RunsTask b state s t f.0 = subst (RunsFirst b state s) f.1 k.running in
       run.context.registers i l ∙ sym (register (i + 5))
 
-  stands : Stands b end (moved_to s t own_now s.symbols)
+  stands : Stands b end (moved_system s t own_now s.symbols)
   stands =
       at_other_level b state s k fits t may.current 0 own_now (slice_index state.core.registers start_register) state.core.ram end
       (record {
@@ -77,7 +77,7 @@ module _ (b : Build) (state : State) (s : System) (t : ℕ) (touched : List ℕ)
         events = refl;
         long = (k.tidy.each t here.declared).registers;
         same = same;
-        words = subst (λ x. HeldWords b state.core.ram (base_priority b t own_now) x) (sym may.holds_nothing) tt;
+        words = subst (λ x. AreHeldWords b state.core.ram (base_priority b t own_now) x) (sym may.holds_nothing) tt;
         few = (k.tidy.each t here.declared).few;
         ram_long = refl;
         high = λ i h. refl;

@@ -15,8 +15,8 @@ use Rattle.osek_scheduler.specs.Services.{ended_state}
 use Rattle.osek_scheduler.specs.Steps.{settled_state}
 use Rattle.sim_induction.proofs.Passing.{not_suspended}
 use Rattle.sim_relation.specs.Build.{Build, Fits}
-use Rattle.sim_relation.specs.ServiceWords.{ServiceWords, HeldWords, base_priority}
-use Rattle.sim_relation.specs.Stands.{Stands, IsActive, AreActive, IsLineOf}
+use Rattle.sim_relation.specs.ServiceWords.{AreServiceWords, AreHeldWords, base_priority}
+use Rattle.sim_relation.specs.Stands.{Stands, IsActive, AreActive, AreLineBytes}
 use Rattle.sim_relation.specs.Moves.{TaskLeave}
 use Rattle.sim_relation.proofs.Machines.{left_whole}
 use Rattle.sim_relation.proofs.Parts.{this_task, line_active}
@@ -78,20 +78,20 @@ module _ (b : Build) (state : State) (s : System) (t : ℕ) (called : Task) (ser
         let g = few30 in
         ap (λ l. slice_index l t) eff.left.pending ∙ get_or-set_same state.core.pending t 0 0 (omega arith)
 
-    own_line : IsLineOf own.state (slice_index end.core.pending t) (slice_index end.core.enabled t)
+    own_line : AreLineBytes own.state (slice_index end.core.pending t) (slice_index end.core.enabled t)
     own_line = (
       not_pending,
       ap (λ l. slice_index l t) eff.left.enabled
           ∙ line_active (task s t).state (slice_index state.core.pending t) (slice_index state.core.enabled t) here.active (k.lines.each t here.declared),
     )
 
-    own_words : ServiceWords b new t own
+    own_words : AreServiceWords b new t own
     own_words = let g = few30 in record {
       activity = mem.activity;
       event_mask = mem.event_mask;
       wait_mask = tt;
       resumption = mem.named (resume t) (omega arith) (omega arith) (λ a. omega arith) (λ a. omega arith) (λ a. omega arith) ∙ resume_zero;
-      held = subst (λ (l : List ℕ). HeldWords b new (base_priority b t own) l) (sym held_nil) tt;
+      held = subst (λ (l : List ℕ). AreHeldWords b new (base_priority b t own) l) (sym held_nil) tt;
     }
 
     leave : TaskLeave b state end s t own place

@@ -13,14 +13,14 @@ use Rattle.sloth_region.specs.Layout.{cur}
 use Rattle.rv32_instr.specs.Ram.{word_at}
 use Rattle.service_gen.specs.Schedule.{Yielded}
 use Rattle.osek_scheduler.specs.State.{Task, System, task, with_task, declaration}
-use Rattle.osek_scheduler.specs.Meaning.{going_on}
+use Rattle.osek_scheduler.specs.Meaning.{going_on_frame}
 use Rattle.osek_scheduler.specs.Priority.{current_priority, greatest, ceiling, highest_priority}
-use Rattle.osek_scheduler.specs.Services.{answers, is_there, moved_frames}
+use Rattle.osek_scheduler.specs.Services.{answered_task, is_there, moved_frames}
 use Rattle.sim_relation.specs.Build.{Build, Fits}
 use Rattle.sim_relation.specs.Context.{RunsTask}
-use Rattle.sim_relation.specs.Moves.{moved_to}
-use Rattle.sim_relation.specs.Position.{FramesAt, Position, thread_of}
-use Rattle.sim_relation.specs.ServiceWords.{HeldWords, base_priority}
+use Rattle.sim_relation.specs.Moves.{moved_system}
+use Rattle.sim_relation.specs.Position.{AreFrames, IsPosition, thread_of}
+use Rattle.sim_relation.specs.ServiceWords.{AreHeldWords, base_priority}
 use Rattle.sim_relation.specs.Stands.{Stands, IsActive}
 use Rattle.sim_relation.proofs.Fresh.{start_priority}
 use Rattle.sim_services.specs.Opening.{AtOpening}
@@ -54,7 +54,7 @@ module _ (b : Build) (state : State) (s : System) (t : ℕ) (called : Task) (obj
   registers = set own.registers 5 E_OK
 
   abbrev own_now : Task
-  own_now = record (answers E_OK own) { raised = false; owed = true }
+  own_now = record (answered_task E_OK own) { raised = false; owed = true }
 
   here : IsActive b s t
   here = active b state s t called service.Schedule is fits
@@ -84,16 +84,16 @@ module _ (b : Build) (state : State) (s : System) (t : ℕ) (called : Task) (obj
   at_ram : (P : List ℕ → Type 0) → P state.core.ram → P end.core.ram
   at_ram P h = subst P (sym effect.left.ram) h
 
-  position : (below : List ℕ) (run : RunsTask b state s t below) → Position b end.core.ram t own_now (thread_of end) run.place
+  position : (below : List ℕ) (run : RunsTask b state s t below) → IsPosition b end.core.ram t own_now (thread_of end) run.place
   position below run =
       record {
-        frame = going_on opening.frame;
+        frame = going_on_frame opening.frame;
         outer = opening.outer;
         frames = ap moved_frames (frames_are b state s t called service.Schedule is fits);
         inside = may.followed.more;
         here = inr (inl (record {
           owes = refl;
-          frames = at_ram (λ r. FramesAt b r (going_on opening.frame) opening.outer run.place (b.top t))
+          frames = at_ram (λ r. AreFrames b r (going_on_frame opening.frame) opening.outer run.place (b.top t))
               (stood b state s t called service.Schedule is fits run.place run.context.position);
           pc = effect.pc ∙ sym way.back;
           returns = effect.kept 31 (omega arith) (λ e. absurd (omega arith)) (λ e. absurd (omega arith)) ∙ opening.block.returns ∙ sym may.followed.adjacent;
@@ -101,7 +101,7 @@ module _ (b : Build) (state : State) (s : System) (t : ℕ) (called : Task) (obj
         }));
       }
 
-  stands : Stands b end (moved_to s t own_now s.symbols)
+  stands : Stands b end (moved_system s t own_now s.symbols)
   stands =
       at_other_level b state s k fits t opening.current 0 own_now (slice_index state.core.levels t) state.core.ram end
       (record {
@@ -111,7 +111,7 @@ module _ (b : Build) (state : State) (s : System) (t : ℕ) (called : Task) (obj
         events = refl;
         long = length-set own.registers 5 E_OK ∙ long;
         same = same;
-        words = subst (λ x. HeldWords b state.core.ram (base_priority b t own_now) x) (sym holds_nothing) tt;
+        words = subst (λ x. AreHeldWords b state.core.ram (base_priority b t own_now) x) (sym holds_nothing) tt;
         few = (k.tidy.each t here.declared).few;
         ram_long = refl;
         high = λ i h. refl;

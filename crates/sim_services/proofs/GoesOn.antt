@@ -13,16 +13,16 @@ use Rattle.rv32_instr.specs.Ram.{word_at}
 use Rattle.masked_code.specs.Kernel.{LeftAs}
 use Rattle.block_parts.specs.Back.{WentBack, a0, a1}
 use Rattle.osek_scheduler.specs.State.{Frame, Task, System, task}
-use Rattle.osek_scheduler.specs.Meaning.{going_on}
-use Rattle.osek_scheduler.specs.Services.{moved_frames, is_there, Outcome, GoesOn, Leaves, answered_state, answered_with}
+use Rattle.osek_scheduler.specs.Meaning.{going_on_frame}
+use Rattle.osek_scheduler.specs.Services.{moved_frames, is_there, Outcome, GoesOn, Leaves, answered_state, answered_state_with}
 use Rattle.osek_scheduler.specs.Outcomes.{outcome}
 use Rattle.osek_scheduler.specs.Steps.{OsekStep, ServesCall, settled_state}
 use Rattle.sim_induction.proofs.Stretched.{shows_call, shows_left}
 use Rattle.sim_relation.specs.Build.{Build, Fits}
-use Rattle.sim_relation.specs.Context.{RunsTask, Running}
+use Rattle.sim_relation.specs.Context.{RunsTask, RunsFirst}
 use Rattle.sim_relation.specs.DataStands.{DataStands}
-use Rattle.sim_relation.specs.Moves.{moved_to, TaskStep}
-use Rattle.sim_relation.specs.Position.{FramesAt, Position, thread_of}
+use Rattle.sim_relation.specs.Moves.{moved_system, TaskStep}
+use Rattle.sim_relation.specs.Position.{AreFrames, IsPosition, thread_of}
 use Rattle.sim_relation.specs.Stands.{Stands, IsActive}
 use Rattle.sim_relation.proofs.AtItem.{position_first}
 use Rattle.sim_relation.proofs.Framing.{position_elim}
@@ -56,15 +56,15 @@ module _ (b : Build) (state : State) (s : System) (t : ℕ) (called : Task) (ser
   active = active_by_word b state s t k opening.current
 
   -- the task's frames stand on its stack
-  pub stood : (place : ℕ) → Position b state.core.ram t own (thread_of state) place → FramesAt b state.core.ram frame opening.outer place (b.top t)
+  pub stood : (place : ℕ) → IsPosition b state.core.ram t own (thread_of state) place → AreFrames b state.core.ram frame opening.outer place (b.top t)
   stood place p =
       let both : p.frame ∷ p.outer ≡ frame ∷ opening.outer = sym p.frames ∙ frames_are in
       let first : p.frame ≡ frame = cc in
       let rest : p.outer ≡ opening.outer = cc in
       let serves : operation b.app p.frame.func p.frame.item ≡ op.Serve opening.block.call = ap (λ (f : Frame). operation b.app f.func f.item) first ∙ opening.block.is in
-      subst (λ (o : List Frame). FramesAt b state.core.ram frame o place (b.top t)) rest
-      (subst (λ (f : Frame). FramesAt b state.core.ram f p.outer place (b.top t)) first
-      (position_elim b state.core.ram t own p.frame p.outer (thread_of state) place (FramesAt b state.core.ram p.frame p.outer place (b.top t))
+      subst (λ (o : List Frame). AreFrames b state.core.ram frame o place (b.top t)) rest
+      (subst (λ (f : Frame). AreFrames b state.core.ram f p.outer place (b.top t)) first
+      (position_elim b state.core.ram t own p.frame p.outer (thread_of state) place (AreFrames b state.core.ram p.frame p.outer place (b.top t))
       (λ h. h.frames)
       (λ h. let e : true ≡ false = sym h.owes ∙ free in cc)
       (λ h. let e : op.Invoke h.callee ≡ op.Serve opening.block.call = sym h.is ∙ serves in cc)
@@ -78,7 +78,7 @@ module _ (b : Build) (state : State) (s : System) (t : ℕ) (called : Task) (ser
   pub held_registers : (i : ℕ) → i < 25 → slice_index own.registers i ≡ slice_index state.core.registers (i + 5)
   held_registers =
       let f = first_by_word b state s t k.stack k.running opening.current in
-      let run : RunsTask b state s t f.0 = subst (Running b state s) f.1 k.running in
+      let run : RunsTask b state s t f.0 = subst (RunsFirst b state s) f.1 k.running in
       run.context.registers
 
   module _ (followed : IsFollowed b frame.func frame.item) (end : State) (left : LeftAs state.core end.core) (pc : end.pc ≡ slice_index state.core.registers 31)
@@ -87,7 +87,7 @@ module _ (b : Build) (state : State) (s : System) (t : ℕ) (called : Task) (ser
     abbrev own_now : Task
     own_now = record own { registers = registers; frames = moved_frames own.frames }
 
-    frames_now : moved_frames own.frames ≡ going_on frame ∷ opening.outer
+    frames_now : moved_frames own.frames ≡ going_on_frame frame ∷ opening.outer
     frames_now = ap moved_frames frames_are
 
     at_ram : (i : ℕ) → slice_index end.core.ram i ≡ slice_index state.core.ram i
@@ -95,13 +95,13 @@ module _ (b : Build) (state : State) (s : System) (t : ℕ) (called : Task) (ser
 
     module _ (below : List ℕ) (stack_is : k.stack ≡ t ∷ below) where
       run : RunsTask b state s t below
-      run = subst (Running b state s) stack_is k.running
+      run = subst (RunsFirst b state s) stack_is k.running
 
-      position : Position b end.core.ram t own_now (thread_of end) run.place
+      position : IsPosition b end.core.ram t own_now (thread_of end) run.place
       position =
-          position_first b end.core.ram t own_now (thread_of end) run.place (going_on frame) opening.outer frames_now free followed.more
+          position_first b end.core.ram t own_now (thread_of end) run.place (going_on_frame frame) opening.outer frames_now free followed.more
           (pc ∙ opening.block.returns ∙ sym followed.adjacent)
-          (subst (λ r. FramesAt b r (going_on frame) opening.outer run.place (b.top t)) (sym left.ram) (stood run.place run.context.position))
+          (subst (λ r. AreFrames b r (going_on_frame frame) opening.outer run.place (b.top t)) (sym left.ram) (stood run.place run.context.position))
 
       task_step : TaskStep b state end s t own_now s.symbols
       task_step = record {
@@ -126,11 +126,11 @@ module _ (b : Build) (state : State) (s : System) (t : ℕ) (called : Task) (ser
         data_stands = subst (λ r. DataStands b r s.symbols) (sym left.ram) k.data_stands;
       }
 
-      stands_behind : Stands b end (moved_to s t own_now s.symbols)
+      stands_behind : Stands b end (moved_system s t own_now s.symbols)
       stands_behind = task_steps b state end s k fits t below stack_is own_now s.symbols task_step
 
     -- the relation stands there
-    pub behind : Stands b end (moved_to s t own_now s.symbols)
+    pub behind : Stands b end (moved_system s t own_now s.symbols)
     behind = let f = first_by_word b state s t k.stack k.running opening.current in stands_behind f.0 f.1
 
   -- the relation stands behind a status
@@ -186,9 +186,9 @@ module _ (b : Build) (state : State) (s : System) (t : ℕ) (called : Task) (ser
     -- it answers a number besides
     pub answers_number : IsFollowed b frame.func frame.item → WentBack a1 state.core state end → slice_index end.core.registers a0 ≡ E_OK
         → (number : ℕ) → slice_index end.core.registers a1 ≡ number
-        → outcome b.config served opening.block.call.object opening.block.call.mask t s ≡ GoesOn E_OK (answered_with number t s) → Answers b s t served touched end
+        → outcome b.config served opening.block.call.object opening.block.call.mask t s ≡ GoesOn E_OK (answered_state_with number t s) → Answers b s t served touched end
     answers_number followed back status_is number number_is answer_is =
-        answers_so E_OK status_is (answered_with number t s) answer_is
+        answers_so E_OK status_is (answered_state_with number t s) answer_is
         (behind followed end back.left back.pc back.x2 (set (set own.registers 5 E_OK) 6 number)
         (long_both own.registers state.core.registers end.core.registers long_registers held_registers E_OK status_is number number_is back.kept)
         (both_held own.registers state.core.registers end.core.registers long_registers held_registers E_OK status_is number number_is back.kept))

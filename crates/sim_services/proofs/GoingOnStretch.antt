@@ -11,10 +11,10 @@ use Rattle.sloth_base.specs.Machine.{State}
 use Rattle.sloth_base.specs.Named.{operation}
 use Rattle.sloth_base.specs.Stretches.{Masks, stretch_limit}
 use Rattle.rv32_instr.specs.declared.InstrKind.{InstrKind}
-use Rattle.rv32_machine.specs.Run.{arrived}
+use Rattle.rv32_machine.specs.Run.{state_with_arrivals}
 use Rattle.masked_code.specs.Kernel.{masking}
 use Rattle.masked_code.specs.Masked.{FromOpening}
-use Rattle.masked_code.specs.Place.{at}
+use Rattle.masked_code.specs.Place.{offset_state}
 use Rattle.observe.specs.Observe.{View}
 use Rattle.service_gen.specs.ActivateTask.{Activates, Activated}
 use Rattle.service_gen.specs.ChainTask.{Chains, Chained}
@@ -54,10 +54,10 @@ module _ (b : Build) (one two : State) (t : ℕ) (own : Task) (served : Service)
 
 module _ (b : Build) (view : View) (arrivals : List Arrival) (count : ℕ) (state : State) (s : System) (t : ℕ) (served : Service) (Contract : ℕ → List InstrKind → Type 0)
     (fits : Fits b) (setting : IsSetting (setting_of b view arrivals)) (after_boot : 0 < count) (stands : Stands b state s)
-    (o : OpensGoingOn b view (arrived arrivals count state) (with_admits (lines_at arrivals count) s) t served Contract)
+    (o : OpensGoingOn b view (state_with_arrivals arrivals count state) (with_admits (lines_at arrivals count) s) t served Contract)
     (masks : (rest : List InstrKind) × (o.opens.block.code ≡ masking ∷ rest)) where
   abbrev n : State
-  n = arrived arrivals count state
+  n = state_with_arrivals arrivals count state
 
   abbrev own : Task
   own = task (with_admits (lines_at arrivals count) s) t
@@ -77,7 +77,7 @@ module _ (b : Build) (view : View) (arrivals : List Arrival) (count : ℕ) (stat
 
   -- the code runs as its contract says, and its effect is an answer
   pub going_on_stretches : (most : ℕ) → suc most ≤ stretch_limit b.config Masks → (Effect : ℕ → List ℕ → State → State → Type 0) → ((place : ℕ) → TouchesTasks b (Effect place))
-      → ((place : ℕ) → CanServe o.opens.block.offset o.opens.block.code t place n.core → FromOpening most (at o.opens.block.offset n.core) (Effect place))
+      → ((place : ℕ) → CanServe o.opens.block.offset o.opens.block.code t place n.core → FromOpening most (offset_state o.opens.block.offset n.core) (Effect place))
       → ((place : ℕ) (lines touched : List ℕ) (s2 : System) (end : State) → CanServe o.opens.block.offset o.opens.block.code t place n.core
       → MayGoOn b (state_arrive lines n) s2 t own served object → Effect place touched (state_arrive lines n) end → Answers b s2 t served touched end)
       → Stretches b view arrivals count state s
@@ -90,7 +90,7 @@ module _ (b : Build) (view : View) (arrivals : List Arrival) (count : ℕ) (stat
 module _ (b : Build) (view : View) (arrivals : List Arrival) (count : ℕ) (state : State) (s : System) (t : ℕ) (fits : Fits b)
     (setting : IsSetting (setting_of b view arrivals)) (after_boot : 0 < count) (stands : Stands b state s) where
   abbrev start : State
-  start = arrived arrivals count state
+  start = state_with_arrivals arrivals count state
 
   abbrev found : System
   found = with_admits (lines_at arrivals count) s

@@ -9,7 +9,7 @@ use Rattle.osek_scheduler.specs.State.{Task, declaration}
 use Rattle.osek_scheduler.specs.Priority.{is_in, greatest, ceiling, current_priority}
 use Rattle.code_rules.specs.Code.{is_last, without_last}
 use Rattle.sim_relation.specs.Build.{Build}
-use Rattle.sim_relation.specs.ServiceWords.{HeldWords, base_priority}
+use Rattle.sim_relation.specs.ServiceWords.{AreHeldWords, base_priority}
 
 -- the priority at which a task runs that took these resources, from this one on
 abbrev pub with_held : Build → ℕ → List ℕ → ℕ
@@ -30,19 +30,19 @@ with_one_more b priority [] r = omega arith
 with_one_more b priority (q ∷ held) r = with_one_more b (max priority (ceiling b.config q)) held r
 
 -- one more is taken
-pub words_push : (b : Build) (ram : List ℕ) (priority : ℕ) (held : List ℕ) (r : ℕ) → HeldWords b ram priority held
-    → word_at ram (saved_level r) ≡ level_of b.config (with_held b priority held) → HeldWords b ram priority (held ++ r ∷ [])
+pub words_push : (b : Build) (ram : List ℕ) (priority : ℕ) (held : List ℕ) (r : ℕ) → AreHeldWords b ram priority held
+    → word_at ram (saved_level r) ≡ level_of b.config (with_held b priority held) → AreHeldWords b ram priority (held ++ r ∷ [])
 words_push b ram priority [] r h e = (e, tt)
 words_push b ram priority (q ∷ held) r h e = (h.0, words_push b ram (max priority (ceiling b.config q)) held r h.1 e)
 
 -- the last one is released
 pub record Popped (b : Build) (ram : List ℕ) (priority : ℕ) (held : List ℕ) (r : ℕ) : Type 0 where
-  pub words : HeldWords b ram priority (without_last held)
+  pub words : AreHeldWords b ram priority (without_last held)
   pub level : word_at ram (saved_level r) ≡ level_of b.config (with_held b priority (without_last held))
   pub among : is_in r held ≡ true
 
 -- behind the release of the last one the words of the others stand, and its word is the level to go back to
-pub words_pop : (b : Build) (ram : List ℕ) (priority : ℕ) (held : List ℕ) (r : ℕ) → is_last r held ≡ true → HeldWords b ram priority held → Popped b ram priority held r
+pub words_pop : (b : Build) (ram : List ℕ) (priority : ℕ) (held : List ℕ) (r : ℕ) → is_last r held ≡ true → AreHeldWords b ram priority held → Popped b ram priority held r
 words_pop b ram priority [] r l h = absurd (false≢true l)
 words_pop b ram priority (q ∷ []) r l h =
     let e : q ≡ r = eqb-true q r l in

@@ -17,11 +17,11 @@ use Rattle.osek_scheduler.specs.declared.state.TaskState.{TaskState}
 use Rattle.osek_scheduler.specs.declared.state.TaskState.TheVariants as mode
 use Rattle.osek_scheduler.specs.State.{Task, System, task, with_task, declaration}
 use Rattle.osek_scheduler.specs.Priority.{is_in, is_active, ceiling}
-use Rattle.osek_scheduler.specs.Services.{answers, is_there, GoesOn}
+use Rattle.osek_scheduler.specs.Services.{answered_task, is_there, GoesOn}
 use Rattle.osek_valid.proofs.Stacks.{is_in-append, in-without_last}
 use Rattle.sim_relation.specs.Build.{Build, Fits}
-use Rattle.sim_relation.specs.Context.{RunsTask, Running}
-use Rattle.sim_relation.specs.ServiceWords.{HeldWords, base_priority}
+use Rattle.sim_relation.specs.Context.{RunsTask, RunsFirst}
+use Rattle.sim_relation.specs.ServiceWords.{AreHeldWords, base_priority}
 use Rattle.sim_relation.specs.Stands.{Stands, AreActive, IsActive}
 use Rattle.sim_relation.proofs.Levels.{level_of-few}
 use Rattle.sim_relation.proofs.Parts.{held_kept, word_other}
@@ -91,7 +91,7 @@ module _ (b : Build) (state : State) (s : System) (t : ℕ) (called : Task) (obj
   held_now = own.held ++ object ∷ []
 
   abbrev own_now : Task
-  own_now = record (answers E_OK own) { held = held_now }
+  own_now = record (answered_task E_OK own) { held = held_now }
 
   abbrev base : ℕ
   base = base_priority b t own
@@ -105,7 +105,7 @@ module _ (b : Build) (state : State) (s : System) (t : ℕ) (called : Task) (obj
   runs_at : state.core.ilevel ≡ level_of b.config (with_held b base own.held)
   runs_at =
       let f = first_by_word b state s t k.stack k.running is.opening.current in
-      let run : RunsTask b state s t f.0 = subst (Running b state s) f.1 k.running in
+      let run : RunsTask b state s t f.0 = subst (RunsFirst b state s) f.1 k.running in
       run.level ∙ ap (level_of b.config) (current_is b t own)
 
   small : state.core.ilevel < 4294967296
@@ -120,7 +120,7 @@ module _ (b : Build) (state : State) (s : System) (t : ℕ) (called : Task) (obj
   differs : (q : ℕ) → is_in q own.held ≡ true → saved_level q ≢ saved_level object
   differs q i e = let same : q ≡ object = omega arith in let c : is_in object own.held ≡ true = subst (λ x. is_in x own.held ≡ true) same i in let d = not_yet in cc
 
-  words : HeldWords b new base held_now
+  words : AreHeldWords b new base held_now
   words =
       words_push b new base own.held object
       (held_kept b old new base own.held (λ q i. named (saved_level q) (omega arith) (differs q i)) (k.words t here.declared).held) saved_is
@@ -170,7 +170,7 @@ module _ (b : Build) (state : State) (s : System) (t : ℕ) (called : Task) (obj
       (subst (AllByRecursion (Contains (t ∷ t ∷ []))) (sym effect.touches) tt)
       (subst (λ o. is_there b.config called.held service.GetResource o ≡ true) (sym on.object_is) on.names)
       E_OK effect.status (with_task s t own_now)
-      (ap (λ o. GoesOn E_OK (with_task s t (record (answers E_OK own) { held = own.held ++ (o ∷ []) }))) on.object_is)
+      (ap (λ o. GoesOn E_OK (with_task s t (record (answered_task E_OK own) { held = own.held ++ (o ∷ []) }))) on.object_is)
       (at_other_level b state s k fits t is.opening.current object own_now (max state.core.ilevel level) new end holds)
       (ap (λ r. word_at r cur) effect.back.left.ram ∙ named cur (omega arith) (λ e. omega arith))
 
@@ -195,7 +195,7 @@ module _ (b : Build) (state : State) (s : System) (t : ℕ) (called : Task) (obj
   releasing = task s t
 
   abbrev released : Task
-  released = record (answers E_OK releasing) { held = without_last releasing.held }
+  released = record (answered_task E_OK releasing) { held = without_last releasing.held }
 
   releaser : IsActive b s t
   releaser = active b state s t called service.ReleaseResource release_is fits

@@ -9,14 +9,14 @@ use Rattle.rv32_instr.specs.Ram.{word_at}
 use Rattle.masked_code.specs.Kernel.{LeftAs}
 use Rattle.osek_scheduler.specs.declared.state.TaskState.TheVariants as mode
 use Rattle.osek_scheduler.specs.State.{Task, System, task, declaration}
-use Rattle.osek_scheduler.specs.Meaning.{going_on}
+use Rattle.osek_scheduler.specs.Meaning.{going_on_frame}
 use Rattle.osek_scheduler.specs.Priority.{is_in, is_active, current_priority}
 use Rattle.osek_scheduler.specs.Services.{moved_frames}
 use Rattle.sim_relation.specs.Build.{Build, Fits}
-use Rattle.sim_relation.specs.Context.{RunsTask, Running}
-use Rattle.sim_relation.specs.Moves.{moved_to, TaskMove}
-use Rattle.sim_relation.specs.Position.{FramesAt, Position, thread_of}
-use Rattle.sim_relation.specs.ServiceWords.{ServiceWords, HeldWords, IsWaitWord, active_word, base_priority}
+use Rattle.sim_relation.specs.Context.{RunsTask, RunsFirst}
+use Rattle.sim_relation.specs.Moves.{moved_system, TaskMove}
+use Rattle.sim_relation.specs.Position.{AreFrames, IsPosition, thread_of}
+use Rattle.sim_relation.specs.ServiceWords.{AreServiceWords, AreHeldWords, IsWaitWord, active_word, base_priority}
 use Rattle.sim_relation.specs.Stands.{Stands, IsActive}
 use Rattle.sim_relation.proofs.AtItem.{position_first}
 use Rattle.sim_relation.proofs.ClockKept.{clock_kept}
@@ -39,14 +39,14 @@ pub record AtOtherLevel (b : Build) (state : State) (s : System) (t resource : �
   pub events : own.events ≡ (task s t).events
   pub long : length own.registers ≡ 25
   pub same : (i : ℕ) → i < 25 → slice_index own.registers i ≡ slice_index end.core.registers (i + 5)
-  pub words : HeldWords b ram (base_priority b t own) own.held
+  pub words : AreHeldWords b ram (base_priority b t own) own.held
   pub few : (r : ℕ) → is_in r own.held ≡ true → r < 33
   pub ram_long : length ram ≡ length state.core.ram
   pub high : (i : ℕ) → idle_context ≤ i → slice_index ram i ≡ slice_index state.core.ram i
   pub named : (p : ℕ) → p % 4 ≡ 0 → p ≢ saved_level resource → word_at ram p ≡ word_at state.core.ram p
   pub others : (u r : ℕ) → u < length b.config.tasks → u ≢ t → is_in r (task s u).held ≡ true → word_at ram (saved_level r) ≡ word_at state.core.ram (saved_level r)
   pub level_is : (below : List ℕ) → RunsTask b state s t below → level ≡ level_of b.config (current_priority b.config (declaration b.config t) own)
-  pub position : (below : List ℕ) (run : RunsTask b state s t below) → Position b end.core.ram t own (thread_of end) run.place
+  pub position : (below : List ℕ) (run : RunsTask b state s t below) → IsPosition b end.core.ram t own (thread_of end) run.place
 
 module _ (b : Build) (state : State) (s : System) (k : Stands b state s) (fits : Fits b) (t : ℕ) (current : word_at state.core.ram cur ≡ t + 1)
     (resource : ℕ) (own : Task) (level : ℕ) (ram : List ℕ) (end : State) (h : AtOtherLevel b state s t resource own level ram end) where
@@ -65,7 +65,7 @@ module _ (b : Build) (state : State) (s : System) (k : Stands b state s) (fits :
   named : (p : ℕ) → p % 4 ≡ 0 → p ≢ saved_level resource → word_at new p ≡ word_at old p
   named p a n = ap (λ r. word_at r p) h.left.ram ∙ h.named p a n
 
-  own_words : ServiceWords b new t own
+  own_words : AreServiceWords b new t own
   own_words =
       let g = fits.few_tasks in
       let l = here.declared in
@@ -77,10 +77,10 @@ module _ (b : Build) (state : State) (s : System) (k : Stands b state s) (fits :
         resumption = resumes_active b new t own (is_active own.state) own.frames (ap is_active h.active)
             (named (resume t) (omega arith) (λ e. omega arith)
             ∙ active_resumes b old t (task s t) (is_active (task s t).state) (task s t).frames (ap is_active here.active) w.resumption);
-        held = subst (λ r. HeldWords b r (base_priority b t own) own.held) (sym h.left.ram) h.words;
+        held = subst (λ r. AreHeldWords b r (base_priority b t own) own.held) (sym h.left.ram) h.words;
       }
 
-  other_words : (u : ℕ) → u < length b.config.tasks → u ≢ t → ServiceWords b new u (task s u)
+  other_words : (u : ℕ) → u < length b.config.tasks → u ≢ t → AreServiceWords b new u (task s u)
   other_words u l n =
       let g = fits.few_tasks in
       service_kept b old new u (task s u)
@@ -91,7 +91,7 @@ module _ (b : Build) (state : State) (s : System) (k : Stands b state s) (fits :
 
   module _ (below : List ℕ) (stack_is : k.stack ≡ t ∷ below) where
     run : RunsTask b state s t below
-    run = subst (Running b state s) stack_is k.running
+    run = subst (RunsFirst b state s) stack_is k.running
 
     move : TaskMove b state end s t own s.symbols
     move = record {
@@ -123,11 +123,11 @@ module _ (b : Build) (state : State) (s : System) (k : Stands b state s) (fits :
       data_stands = data_kept b old new s.symbols (λ i x. let g = fits.elsewhere i (inr x) in high i (omega arith)) k.data_stands;
     }
 
-    moves : Stands b end (moved_to s t own s.symbols)
+    moves : Stands b end (moved_system s t own s.symbols)
     moves = task_moves b state end s k t below stack_is own s.symbols move
 
   -- the relation stands there
-  pub at_other_level : Stands b end (moved_to s t own s.symbols)
+  pub at_other_level : Stands b end (moved_system s t own s.symbols)
   at_other_level = let f = first_by_word b state s t k.stack k.running current in moves f.0 f.1
 
 -- where a service goes back to its caller, the task stands at the item behind it
@@ -141,14 +141,14 @@ module _ (b : Build) (state : State) (s : System) (t : ℕ) (called : Task) (ser
   low : 1024 ≤ run.place
   low = let r = run.context.room in let f = fits.from t (active b state s t called served is fits).declared in omega arith
 
-  frames_now : FramesAt b end.core.ram (going_on opening.frame) opening.outer run.place (b.top t)
+  frames_now : AreFrames b end.core.ram (going_on_frame opening.frame) opening.outer run.place (b.top t)
   frames_now =
       frames_kept b state.core.ram end.core.ram run.place (b.top t) (λ i x y. let l = low in ap (λ r. slice_index r i) ram_is ∙ high i (omega arith))
       opening.frame opening.outer run.place (omega arith)
       (stood b state s t called served is fits run.place run.context.position)
 
-  pub position_behind : Position b end.core.ram t own (thread_of end) run.place
+  pub position_behind : IsPosition b end.core.ram t own (thread_of end) run.place
   position_behind =
-      position_first b end.core.ram t own (thread_of end) run.place (going_on opening.frame) opening.outer
+      position_first b end.core.ram t own (thread_of end) run.place (going_on_frame opening.frame) opening.outer
       (frames ∙ ap moved_frames (frames_are b state s t called served is fits)) (owes ∙ free b state s t called served is fits) followed.more
       (pc ∙ opening.block.returns ∙ sym followed.adjacent) frames_now

@@ -13,17 +13,17 @@ use Rattle.osek_scheduler.specs.Services.{if_suspended, activated_state, Outcome
 use Rattle.osek_scheduler.specs.Steps.{admitted_state, settled_state}
 use Rattle.sim_relation.specs.Build.{Build}
 use Rattle.sim_relation.specs.ServiceWords.{active_word}
-use Rattle.sim_relation.specs.Stands.{Stands, IsLineOf}
+use Rattle.sim_relation.specs.Stands.{Stands, AreLineBytes}
 use Rattle.sim_relation.proofs.Arrive.{arrived_one, not_suspended, stands_fresh}
 
 -- what the kernel's words say of a task
-looks_of : (m : TaskState) (word pending enabled : ℕ) → word ≡ active_word m → IsLineOf m pending enabled → m ≡ mode.Suspended → (word ≡ 0) × (pending ≡ 0) × (enabled ≡ 1)
+looks_of : (m : TaskState) (word pending enabled : ℕ) → word ≡ active_word m → AreLineBytes m pending enabled → m ≡ mode.Suspended → (word ≡ 0) × (pending ≡ 0) × (enabled ≡ 1)
 looks_of mode.Suspended word pending enabled w l e = (w, l.0, l.1)
 looks_of mode.Ready word pending enabled w l e = cc
 looks_of mode.Active word pending enabled w l e = cc
 looks_of (mode.Waiting mask) word pending enabled w l e = cc
 
-of_looks : (m : TaskState) (word pending enabled : ℕ) → word ≡ active_word m → IsLineOf m pending enabled → word ≡ 0 → pending ≡ 0 → enabled ≡ 1 → m ≡ mode.Suspended
+of_looks : (m : TaskState) (word pending enabled : ℕ) → word ≡ active_word m → AreLineBytes m pending enabled → word ≡ 0 → pending ≡ 0 → enabled ≡ 1 → m ≡ mode.Suspended
 of_looks mode.Suspended word pending enabled w l x y z = refl
 of_looks mode.Ready word pending enabled w l x y z = let p = l.0 in absurd (omega arith)
 of_looks mode.Active word pending enabled w l x y z = absurd (omega arith)
@@ -35,7 +35,7 @@ active_small mode.Ready word e = omega arith
 active_small mode.Active word e = omega arith
 active_small (mode.Waiting mask) word e = omega arith
 
-enabled_small : (m : TaskState) (pending enabled : ℕ) → IsLineOf m pending enabled → enabled < 2
+enabled_small : (m : TaskState) (pending enabled : ℕ) → AreLineBytes m pending enabled → enabled < 2
 enabled_small mode.Suspended pending enabled l = let e = l.1 in omega arith
 enabled_small mode.Ready pending enabled l = let e = l.1 in omega arith
 enabled_small mode.Active pending enabled l = omega arith
@@ -56,7 +56,7 @@ module _ (b : Build) (state : State) (s : System) (k : Stands b state s) (u : �
   word_is : word_at state.core.ram (active u) ≡ active_word (task s u).state
   word_is = (k.words u declared).activity
 
-  line_is : IsLineOf (task s u).state (slice_index state.core.pending u) (slice_index state.core.enabled u)
+  line_is : AreLineBytes (task s u).state (slice_index state.core.pending u) (slice_index state.core.enabled u)
   line_is = k.lines.each u declared
 
   -- what the code looks at says of a Suspended task that it is

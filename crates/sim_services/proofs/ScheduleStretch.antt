@@ -8,17 +8,17 @@ use Rattle.sloth_base.specs.declared.service.Service.TheVariants as service
 use Rattle.sloth_base.specs.Arrive.{state_arrive}
 use Rattle.sloth_base.specs.Choose.{choose}
 use Rattle.sloth_base.specs.Machine.{State}
-use Rattle.sloth_base.specs.Take.{line_to_take, enter, entered}
+use Rattle.sloth_base.specs.Take.{line_to_take, entry_state, execution_state}
 use Rattle.sloth_base.specs.Owners.{owners_in, IsOwned, AreOwned}
 use Rattle.sloth_base.specs.Stretches.{later_beginning, stretch_limit}
 use Rattle.sloth_base.specs.declared.lines.Owners.{Owners}
 use Rattle.rv32_instr.specs.declared.InstrKind.{InstrKind}
-use Rattle.rv32_instr.specs.Execute.{touched, touched_by}
-use Rattle.rv32_machine.specs.Run.{arrived}
+use Rattle.rv32_instr.specs.Execute.{touched, touched_line_by}
+use Rattle.rv32_machine.specs.Run.{state_with_arrivals}
 use Rattle.masked_code.specs.Kernel as kernel
 use Rattle.masked_code.specs.Masked.{FromOpening}
-use Rattle.masked_code.specs.Place.{at, InPlace}
-use Rattle.masked_code.specs.Trace.{touched_lines, early, late}
+use Rattle.masked_code.specs.Place.{offset_state, InPlace}
+use Rattle.masked_code.specs.Trace.{touched_lines, early_arrivals, late_arrivals}
 use Rattle.masked_code.proofs.Machine.{touched_at}
 use Rattle.service_gen.specs.Schedule.{CameBack, MayComeBack, way_back, Yielded, Yields}
 use Rattle.service_gen.proofs.Yielding.{in_place-rest}
@@ -26,15 +26,15 @@ use Rattle.observe.specs.Observe.{View, mark_at, marked_event, running_task}
 use Rattle.osek_scheduler.specs.State.{System, task}
 use Rattle.osek_scheduler.specs.Steps.{OsekStep}
 use Rattle.sim_induction.specs.Admits.{IsSetting, lines_at, with_admits}
-use Rattle.sim_induction.specs.PieceLaws.{StretchLaw, seen_at}
+use Rattle.sim_induction.specs.PieceLaws.{StretchLaw, seen_step_at}
 use Rattle.sim_induction.proofs.Routes.{Masking, masking, begins_masked, opened_event}
 use Rattle.sim_induction.proofs.Schedule.{owned_at}
 use Rattle.sim_induction.proofs.Stretched.{early_none, task_is}
 use Rattle.sim_induction.proofs.Traces.{lines_trace}
 use Rattle.sim_relation.specs.Build.{Build, Fits}
-use Rattle.sim_relation.specs.Context.{RunsTask, Running}
+use Rattle.sim_relation.specs.Context.{RunsTask, RunsFirst}
 use Rattle.sim_relation.specs.Placed.{setting_of}
-use Rattle.sim_relation.specs.Position.{Owing, Position, thread_of}
+use Rattle.sim_relation.specs.Position.{IsOwing, IsPosition, thread_of}
 use Rattle.sim_relation.specs.Stands.{Stands, IsActive}
 use Rattle.sim_relation.proofs.Arrive.{stands_arrived}
 use Rattle.sim_relation.proofs.Choice.{running_top}
@@ -53,9 +53,9 @@ use Rattle.sim_services.proofs.Touching.{touches_none}
 -- Schedule, up to the count before the way back
 pub yields_stretches : (b : Build) (view : View) (arrivals : List Arrival) (count : ℕ) (state : State) (s : System) (t : ℕ)
     → Fits b → IsSetting (setting_of b view arrivals) → 0 < count → Stands b state s
-    → OpensSchedule b view (arrived arrivals count state) (with_admits (lines_at arrivals count) s) t → Stretches b view arrivals count state s
+    → OpensSchedule b view (state_with_arrivals arrivals count state) (with_admits (lines_at arrivals count) s) t → Stretches b view arrivals count state s
 yields_stretches b view arrivals count state s t fits setting after_boot stands o =
-    let n = arrived arrivals count state in
+    let n = state_with_arrivals arrivals count state in
     let s1 = with_admits (lines_at arrivals count) s in
     let block = o.goes_on.opens.block in
     let object = o.goes_on.opens.opening.block.call.object in
@@ -76,9 +76,9 @@ yields_stretches b view arrivals count state s t fits setting after_boot stands 
 
 module _ (b : Build) (view : View) (arrivals : List Arrival) (count : ℕ) (state : State) (s : System) (t : ℕ)
     (fits : Fits b) (setting : IsSetting (setting_of b view arrivals)) (after_boot : 0 < count) (stands : Stands b state s)
-    (opens : OpensWayBack b view (arrived arrivals count state) (with_admits (lines_at arrivals count) s) t) where
+    (opens : OpensWayBack b view (state_with_arrivals arrivals count state) (with_admits (lines_at arrivals count) s) t) where
   abbrev n : State
-  n = arrived arrivals count state
+  n = state_with_arrivals arrivals count state
 
   abbrev s1 : System
   s1 = with_admits (lines_at arrivals count) s
@@ -104,28 +104,28 @@ module _ (b : Build) (view : View) (arrivals : List Arrival) (count : ℕ) (stat
   placed : InPlace n.core.ram offset opens.way.code
   placed = placed_in b n.core.ram offset opens.way.code there.fixed.code opens.way.placed
 
-  untouched_at : n.pc ≡ b.back → touched (entered n) ≡ None
-  unfolding touched_by
+  untouched_at : n.pc ≡ b.back → touched (execution_state n) ≡ None
+  unfolding touched_line_by
   untouched_at pc =
       let again = opens.way.yields.runs.masks_again in
       let whole : InPlace n.core.ram offset (again.0 ++ kernel.masking ∷ again.1) = subst (InPlace n.core.ram offset) again.2 placed in
       let rest = in_place-rest n.core.ram again.0 (kernel.masking ∷ again.1) offset whole in
       let e : offset + 4 * length again.0 ≡ offset + way_back = let l = again.3 in omega arith in
       let c : InPlace n.core.ram (offset + way_back) (kernel.masking ∷ again.1) = subst (λ o. InPlace n.core.ram o (kernel.masking ∷ again.1)) e rest in
-      ap (λ o. touched (enter o n)) none ∙ ap (λ p. touched (record { pc = p; core = n.core })) (pc ∙ opens.way.is)
+      ap (λ o. touched (entry_state o n)) none ∙ ap (λ p. touched (record { pc = p; core = n.core })) (pc ∙ opens.way.is)
       ∙ touched_at (offset + way_back) n.core kernel.masking c.0
 
   module _ (below : List ℕ) (stack_is : there.stack ≡ t ∷ below) where
     run : RunsTask b n s1 t below
-    run = subst (Running b n s1) stack_is there.running
+    run = subst (RunsFirst b n s1) stack_is there.running
 
-    abbrev p : Position b n.core.ram t (task s1 t) (thread_of n) run.place
+    abbrev p : IsPosition b n.core.ram t (task s1 t) (thread_of n) run.place
     p = run.context.position
 
-    owing : Owing b n.core.ram t (task s1 t) p.frame p.outer (thread_of n) run.place
+    owing : IsOwing b n.core.ram t (task s1 t) p.frame p.outer (thread_of n) run.place
     owing = owing_of b n.core.ram t (task s1 t) (thread_of n) run.place opens.owes p
 
-    n_is : n ≡ at (offset + way_back) n.core
+    n_is : n ≡ offset_state (offset + way_back) n.core
     n_is = ap (λ q. record { pc = q; core = n.core }) (owing.pc ∙ opens.way.is)
 
     may_come_back : MayComeBack offset opens.way.code n.core
@@ -157,10 +157,10 @@ module _ (b : Build) (view : View) (arrivals : List Arrival) (count : ℕ) (stat
         }
 
     module _ (e : Masking arrivals 3 count state CameBack) where
-      in_range : AreOwned (owners_in b.config) (early e.trace) × AreOwned (owners_in b.config) (late e.trace)
+      in_range : AreOwned (owners_in b.config) (early_arrivals e.trace) × AreOwned (owners_in b.config) (late_arrivals e.trace)
       in_range = lines_trace (IsOwned (owners_in b.config)) e.more (count + 1) (lines_at arrivals) e.next e.trace e.end all_owned e.steps
 
-      no_early : early e.trace ≡ []
+      no_early : early_arrivals e.trace ≡ []
       no_early = early_none e.trace e.effect.touches
 
       answer : Returns b s1 t e.last
@@ -191,15 +191,15 @@ module _ (b : Build) (view : View) (arrivals : List Arrival) (count : ℕ) (stat
         what = event.Back t;
         what_is = λ last regs current.
             opened_event view count n e.next last opens.way.mark after_boot none
-            (ap (λ o. mark_at view (enter o n).pc) none ∙ ap (mark_at view) owing.pc ∙ opens.way.marked)
-            ∙ ap (λ v. marked_event v view opens.way.mark (seen_at (setting_of b view arrivals) count state e.next) last) opens.way.is_back
+            (ap (λ o. mark_at view (entry_state o n).pc) none ∙ ap (mark_at view) owing.pc ∙ opens.way.marked)
+            ∙ ap (λ v. marked_event v view opens.way.mark (seen_step_at (setting_of b view arrivals) count state e.next) last) opens.way.is_back
             ∙ ap (λ v. event.Back (running_task view.owners.tasks v)) opens.current
             ∙ ap (λ (v : ℕ). event.Back v) (task_is view.owners.tasks t (let v = ap (λ (o : Owners). o.tasks) setting.owners in let h = here.declared in omega arith));
         after = answer.after;
         step_is = subst (λ lines. OsekStep b.config b.app (event.Back t) (with_admits lines s1) answer.after) (sym no_early) answer.step_is;
         passes = λ past h. tt;
-        related = subst (λ (x : State). Stands b x (with_admits (late e.trace) answer.after)) (sym e.late_behind)
-            (stands_arrived b (late e.trace) e.last answer.after fits.few_tasks in_range.1 answer.stands);
+        related = subst (λ (x : State). Stands b x (with_admits (late_arrivals e.trace) answer.after)) (sym e.late_behind)
+            (stands_arrived b (late_arrivals e.trace) e.last answer.after fits.few_tasks in_range.1 answer.stands);
       }
 
   -- the way back

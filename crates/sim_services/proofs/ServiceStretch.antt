@@ -6,17 +6,17 @@ use Rattle.sloth_base.specs.declared.service.Service.{Service}
 use Rattle.sloth_base.specs.Choose.{choose}
 use Rattle.sloth_base.specs.Machine.{State}
 use Rattle.sloth_base.specs.Arrive.{state_arrive}
-use Rattle.sloth_base.specs.Take.{line_to_take, enter, entered}
+use Rattle.sloth_base.specs.Take.{line_to_take, entry_state, execution_state}
 use Rattle.sloth_base.specs.Owners.{owners_in, IsOwned, AreOwned, AreTasks}
 use Rattle.sloth_base.specs.Stretches.{Masks, stretch_limit}
 use Rattle.sloth_base.specs.declared.lines.Owners.{Owners}
 use Rattle.rv32_instr.specs.declared.InstrKind.{InstrKind}
-use Rattle.rv32_instr.specs.Execute.{touched, touched_by}
-use Rattle.rv32_machine.specs.Run.{arrived}
+use Rattle.rv32_instr.specs.Execute.{touched, touched_line_by}
+use Rattle.rv32_machine.specs.Run.{state_with_arrivals}
 use Rattle.masked_code.specs.Kernel as kernel
 use Rattle.masked_code.specs.Masked.{FromOpening}
-use Rattle.masked_code.specs.Place.{at, InPlace}
-use Rattle.masked_code.specs.Trace.{touched_lines, early, late}
+use Rattle.masked_code.specs.Place.{offset_state, InPlace}
+use Rattle.masked_code.specs.Trace.{touched_lines, early_arrivals, late_arrivals}
 use Rattle.masked_code.proofs.Machine.{touched_at}
 use Rattle.rv32_expand.specs.Expansion.{block_address, item_address, expansion}
 use Rattle.observe.specs.Observe.{View, mark_at}
@@ -32,7 +32,7 @@ use Rattle.sim_induction.proofs.Schedule.{owned_at}
 use Rattle.sim_induction.proofs.Stretched.{service_law}
 use Rattle.sim_induction.proofs.Traces.{lines_trace, early_touched}
 use Rattle.sim_relation.specs.Build.{Build, Fits}
-use Rattle.sim_relation.specs.Context.{RunsTask, Running}
+use Rattle.sim_relation.specs.Context.{RunsTask, RunsFirst}
 use Rattle.sim_relation.specs.Placed.{setting_of}
 use Rattle.sim_relation.specs.Stands.{Stands, IsActive, AreActive}
 use Rattle.sim_relation.proofs.Arrive.{stands_arrived}
@@ -47,10 +47,10 @@ use Rattle.sim_services.specs.Stretch.{Stretches}
 
 module _ (b : Build) (view : View) (arrivals : List Arrival) (count : ℕ) (state : State) (s : System) (t : ℕ) (served : Service) (Contract : ℕ → List InstrKind → Type 0)
     (fits : Fits b) (setting : IsSetting (setting_of b view arrivals)) (after_boot : 0 < count) (stands : Stands b state s)
-    (opens : OpensService b view (arrived arrivals count state) (with_admits (lines_at arrivals count) s) t served Contract)
+    (opens : OpensService b view (state_with_arrivals arrivals count state) (with_admits (lines_at arrivals count) s) t served Contract)
     (masks : (rest : List InstrKind) × (opens.block.code ≡ kernel.masking ∷ rest)) where
   abbrev n : State
-  n = arrived arrivals count state
+  n = state_with_arrivals arrivals count state
 
   abbrev s1 : System
   s1 = with_admits (lines_at arrivals count) s
@@ -82,7 +82,7 @@ module _ (b : Build) (view : View) (arrivals : List Arrival) (count : ℕ) (stat
       ∙ ap (λ v. block_address b.places v op.block.call.object) op.calls
       ∙ opens.block.is
 
-  n_is : n ≡ at offset n.core
+  n_is : n ≡ offset_state offset n.core
   n_is = ap (λ p. record { pc = p; core = n.core }) pc_is
 
   placed : InPlace n.core.ram offset code
@@ -94,18 +94,18 @@ module _ (b : Build) (view : View) (arrivals : List Arrival) (count : ℕ) (stat
       ap (λ x. x % 4) op.block.returns
       ∙ (let e : (item_address b.places op.frame.func op.frame.item + 4 * length (expansion b.app b.places op.frame.func op.frame.item)) % 4 ≡ 0 = omega arith in e)
 
-  untouched : touched (entered n) ≡ None
-  unfolding touched_by
+  untouched : touched (execution_state n) ≡ None
+  unfolding touched_line_by
   untouched =
       let c : InPlace n.core.ram offset (kernel.masking ∷ masks.0) = subst (InPlace n.core.ram offset) masks.1 placed in
-      ap (λ o. touched (enter o n)) none ∙ ap touched n_is ∙ touched_at offset n.core kernel.masking c.0
+      ap (λ o. touched (entry_state o n)) none ∙ ap touched n_is ∙ touched_at offset n.core kernel.masking c.0
 
   module _ (below : List ℕ) (stack_is : k.stack ≡ t ∷ below) where
     active : AreActive b s1 (t ∷ below)
     active = subst (AreActive b s1) stack_is k.active
 
     run : RunsTask b n s1 t below
-    run = subst (Running b n s1) stack_is k.running
+    run = subst (RunsFirst b n s1) stack_is k.running
 
     here : IsActive b s1 t
     here = falling_head b s1 t below active.falling
@@ -147,19 +147,19 @@ module _ (b : Build) (view : View) (arrivals : List Arrival) (count : ℕ) (stat
 
     module _ (most : ℕ) (short : suc most ≤ stretch_limit b.config Masks) (Effect : List ℕ → State → State → Type 0) (tasks_alone : TouchesTasks b Effect)
         (law : ServiceLaw b n t (task s1 t) served Effect) (e : Masking arrivals most count state Effect) where
-      in_range : AreOwned (owners_in b.config) (early e.trace) × AreOwned (owners_in b.config) (late e.trace)
+      in_range : AreOwned (owners_in b.config) (early_arrivals e.trace) × AreOwned (owners_in b.config) (late_arrivals e.trace)
       in_range = lines_trace (IsOwned (owners_in b.config)) e.more (count + 1) (lines_at arrivals) e.next e.trace e.end all_owned e.steps
 
-      early_tasks : AreTasks (owners_in b.config) (early e.trace)
-      early_tasks = early_touched (λ line. line < length b.config.tasks) e.trace (tasks_alone (touched_lines e.trace) (state_arrive (early e.trace) n) e.last e.effect)
+      early_tasks : AreTasks (owners_in b.config) (early_arrivals e.trace)
+      early_tasks = early_touched (λ line. line < length b.config.tasks) e.trace (tasks_alone (touched_lines e.trace) (state_arrive (early_arrivals e.trace) n) e.last e.effect)
 
       abbrev s2 : System
-      s2 = with_admits (early e.trace) s1
+      s2 = with_admits (early_arrivals e.trace) s1
 
-      is_served : IsServed b (state_arrive (early e.trace) n) s2 t (task s1 t) served
+      is_served : IsServed b (state_arrive (early_arrivals e.trace) n) s2 t (task s1 t) served
       is_served = record {
-        stands = stands_arrived b (early e.trace) n s1 fits.few_tasks in_range.0 k;
-        own_is = kept_admits (early e.trace) t s1 (not_suspended (task s1 t).state here.active);
+        stands = stands_arrived b (early_arrivals e.trace) n s1 fits.few_tasks in_range.0 k;
+        own_is = kept_admits (early_arrivals e.trace) t s1 (not_suspended (task s1 t).state here.active);
         opening = record {
           current = op.current;
           free = op.free;
@@ -170,12 +170,12 @@ module _ (b : Build) (view : View) (arrivals : List Arrival) (count : ℕ) (stat
           block = op.block;
           calls = op.calls;
         };
-        top = still_top b.config s1 t (early e.trace) fits.few_tasks early_tasks top here.active opens.not_fresh;
+        top = still_top b.config s1 t (early_arrivals e.trace) fits.few_tasks early_tasks top here.active opens.not_fresh;
         bytes = opens.bytes;
       }
 
       a : Answers b s2 t served (touched_lines e.trace) e.last
-      a = law (early e.trace) (touched_lines e.trace) s2 e.last is_served e.effect
+      a = law (early_arrivals e.trace) (touched_lines e.trace) s2 e.last is_served e.effect
 
       stretch : StretchLaw (setting_of b view arrivals) (Stands b) count state s e.next e.trace e.end
       stretch =
@@ -185,7 +185,7 @@ module _ (b : Build) (view : View) (arrivals : List Arrival) (count : ℕ) (stat
             enabled = stands.fixed.open_to_lines;
             none = none;
             mark = opens.block.mark;
-            at_mark = ap (λ o. mark_at view (enter o n).pc) none ∙ ap (mark_at view) pc_is ∙ opens.block.marked;
+            at_mark = ap (λ o. mark_at view (entry_state o n).pc) none ∙ ap (mark_at view) pc_is ∙ opens.block.marked;
             opens = opens.block.opens;
             is_called = opens.block.calls;
             is_task = let v = ap (λ (o : Owners). o.tasks) setting.owners in let h = here.declared in omega arith;
@@ -203,7 +203,7 @@ module _ (b : Build) (view : View) (arrivals : List Arrival) (count : ℕ) (stat
             tasks_alone = early_tasks;
             after = a.after;
             step_is = subst (λ (x : State). OsekStep b.config b.app (served_event t served x) s2 a.after) (sym e.late_behind) a.step_is;
-            related = stands_arrived b (late e.trace) e.last a.after fits.few_tasks in_range.1 a.stands;
+            related = stands_arrived b (late_arrivals e.trace) e.last a.after fits.few_tasks in_range.1 a.stands;
           })
 
   -- the machine is as the service's contract asks
@@ -211,7 +211,7 @@ module _ (b : Build) (view : View) (arrivals : List Arrival) (count : ℕ) (stat
   can_serve = let f = first_by_word b n s1 t k.stack k.running op.current in serves_from f.0 f.1
 
   -- where the block has its effect from there on, and the service its law, it is a stretch
-  pub service_stretches : (most : ℕ) → suc most ≤ stretch_limit b.config Masks → (Effect : List ℕ → State → State → Type 0) → TouchesTasks b Effect → FromOpening most (at offset n.core) Effect
+  pub service_stretches : (most : ℕ) → suc most ≤ stretch_limit b.config Masks → (Effect : List ℕ → State → State → Type 0) → TouchesTasks b Effect → FromOpening most (offset_state offset n.core) Effect
       → ServiceLaw b n t (task s1 t) served Effect → Stretches b view arrivals count state s
   service_stretches most short Effect tasks_alone runs law =
       let f = first_by_word b n s1 t k.stack k.running op.current in

@@ -8,8 +8,8 @@ use Rattle.sloth_base.specs.Machine.{State}
 use Rattle.sloth_region.specs.Layout.{active}
 use Rattle.rv32_instr.specs.Ram.{word_at}
 use Rattle.block_parts.specs.Back.{a1}
-use Rattle.service_gen.specs.GetTaskState.{IsNumber, StateTold}
-use Rattle.service_gen.specs.GetTaskState.IsNumber.{running, preempted, waiting, ready, suspended}
+use Rattle.service_gen.specs.GetTaskState.{IsStateNumber, StateTold}
+use Rattle.service_gen.specs.GetTaskState.IsStateNumber.{running, preempted, waiting, ready, suspended}
 use Rattle.osek_scheduler.specs.declared.state.TaskState.{TaskState}
 use Rattle.osek_scheduler.specs.declared.state.TaskState.TheVariants as mode
 use Rattle.osek_scheduler.specs.State.{Task, System, task}
@@ -17,7 +17,7 @@ use Rattle.osek_scheduler.specs.Services.{is_there, state_number}
 use Rattle.osek_scheduler.specs.Outcomes.{outcome}
 use Rattle.sim_relation.specs.Build.{Build, Fits}
 use Rattle.sim_relation.specs.ServiceWords.{active_word}
-use Rattle.sim_relation.specs.Stands.{Stands, IsLineOf}
+use Rattle.sim_relation.specs.Stands.{Stands, AreLineBytes}
 use Rattle.sim_services.specs.Served.{Answers}
 use Rattle.sim_services.specs.ServiceSteps.{MayGoOn}
 use Rattle.sim_services.proofs.GoesOn.{answers_number}
@@ -29,19 +29,19 @@ active_number mode.Ready word own object number w a n = absurd (omega arith)
 active_number mode.Active word own object number w a n = n
 active_number (mode.Waiting mask) word own object number w a n = absurd (omega arith)
 
-waiting_number : (m : TaskState) (word pending enabled own object : ℕ) → word ≡ active_word m → IsLineOf m pending enabled → word ≡ 0 → enabled ≡ 0 → 1 ≡ state_number own object m
+waiting_number : (m : TaskState) (word pending enabled own object : ℕ) → word ≡ active_word m → AreLineBytes m pending enabled → word ≡ 0 → enabled ≡ 0 → 1 ≡ state_number own object m
 waiting_number mode.Suspended word pending enabled own object w l a e = let f = l.1 in absurd (omega arith)
 waiting_number mode.Ready word pending enabled own object w l a e = let f = l.1 in absurd (omega arith)
 waiting_number mode.Active word pending enabled own object w l a e = absurd (omega arith)
 waiting_number (mode.Waiting mask) word pending enabled own object w l a e = refl
 
-ready_number : (m : TaskState) (word pending enabled own object : ℕ) → word ≡ active_word m → IsLineOf m pending enabled → word ≡ 0 → enabled ≡ 1 → pending ≡ 1 → 2 ≡ state_number own object m
+ready_number : (m : TaskState) (word pending enabled own object : ℕ) → word ≡ active_word m → AreLineBytes m pending enabled → word ≡ 0 → enabled ≡ 1 → pending ≡ 1 → 2 ≡ state_number own object m
 ready_number mode.Suspended word pending enabled own object w l a e p = let f = l.0 in absurd (omega arith)
 ready_number mode.Ready word pending enabled own object w l a e p = refl
 ready_number mode.Active word pending enabled own object w l a e p = absurd (omega arith)
 ready_number (mode.Waiting mask) word pending enabled own object w l a e p = absurd (omega arith)
 
-suspended_number : (m : TaskState) (word pending enabled own object : ℕ) → word ≡ active_word m → IsLineOf m pending enabled → word ≡ 0 → pending ≡ 0 → enabled ≡ 1 → 3 ≡ state_number own object m
+suspended_number : (m : TaskState) (word pending enabled own object : ℕ) → word ≡ active_word m → AreLineBytes m pending enabled → word ≡ 0 → pending ≡ 0 → enabled ≡ 1 → 3 ≡ state_number own object m
 suspended_number mode.Suspended word pending enabled own object w l a p e = refl
 suspended_number mode.Ready word pending enabled own object w l a p e = let f = l.0 in absurd (omega arith)
 suspended_number mode.Active word pending enabled own object w l a p e = absurd (omega arith)
@@ -60,11 +60,11 @@ module _ (b : Build) (state : State) (s : System) (k : Stands b state s) (own ob
   word_is : word ≡ active_word (task s object).state
   word_is = (k.words object declared).activity
 
-  line_is : IsLineOf (task s object).state pending enabled
+  line_is : AreLineBytes (task s object).state pending enabled
   line_is = k.lines.each object declared
 
   -- what the service tells is the number of the task's state
-  number_is : (touched : List ℕ) (number : ℕ) → IsNumber object own state.core touched number → number ≡ state_number own object (task s object).state
+  number_is : (touched : List ℕ) (number : ℕ) → IsStateNumber object own state.core touched number → number ≡ state_number own object (task s object).state
   number_is touched number (running a same none n) =
       active_number (task s object).state word own object number word_is a (n ∙ sym (ap (λ x. cond x 0 2) (eq-eqb object own same)))
   number_is touched number (preempted a other none n) =
@@ -80,7 +80,7 @@ module _ (b : Build) (state : State) (s : System) (k : Stands b state s) (own ob
   one = ((0, (omega arith), refl), tt)
 
   -- at most the task's line is touched
-  touches : (touched : List ℕ) (number : ℕ) → IsNumber object own state.core touched number → AreOne touched
+  touches : (touched : List ℕ) (number : ℕ) → IsStateNumber object own state.core touched number → AreOne touched
   touches touched number (running a same none n) = subst AreOne (sym none) tt
   touches touched number (preempted a other none n) = subst AreOne (sym none) tt
   touches touched number (waiting a e none n) = subst AreOne (sym none) tt

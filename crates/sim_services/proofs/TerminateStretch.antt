@@ -4,7 +4,7 @@ use Rattle.sloth_base.specs.declared.event.Arrival.{Arrival}
 use Rattle.sloth_base.specs.declared.service.Service.TheVariants as service
 use Rattle.sloth_base.specs.Arrive.{state_arrive}
 use Rattle.sloth_base.specs.Machine.{State}
-use Rattle.rv32_machine.specs.Run.{arrived}
+use Rattle.rv32_machine.specs.Run.{state_with_arrivals}
 use Rattle.observe.specs.Observe.{View}
 use Rattle.service_gen.specs.TerminateTask.{Terminates, Terminated}
 use Rattle.osek_scheduler.specs.State.{System, task}
@@ -20,9 +20,9 @@ use Rattle.sim_services.proofs.Terminate.{terminate_ends}
 
 pub terminate_stretches : (b : Build) (view : View) (arrivals : List Arrival) (count : ℕ) (state : State) (s : System) (t : ℕ)
     → Fits b → IsSetting (setting_of b view arrivals) → 0 < count → Stands b state s
-    → OpensTerminateTask b view (arrived arrivals count state) (with_admits (lines_at arrivals count) s) t → Stretches b view arrivals count state s
+    → OpensTerminateTask b view (state_with_arrivals arrivals count state) (with_admits (lines_at arrivals count) s) t → Stretches b view arrivals count state s
 terminate_stretches b view arrivals count state s t fits setting after_boot stands o =
-    let n = arrived arrivals count state in
+    let n = state_with_arrivals arrivals count state in
     let own = task (with_admits (lines_at arrivals count) s) t in
     let block = o.opens.block in
     let found = can_serve b view arrivals count state s t service.TerminateTask (λ object. Terminates) fits setting after_boot stands o.opens block.serves.masks in

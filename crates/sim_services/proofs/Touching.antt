@@ -2,8 +2,8 @@
 use Rattle.std.proofs.Common.{◌≡◌, ℕ, ◌<◌, List, [], ◌∷◌, length, sym, subst, ⊎_elim}
 use Rattle.sloth_base.specs.Owners.{owners_in, AreTasks}
 use Rattle.service_gen.specs.ChainTask.{Chained, HasChained, HasNotChained}
-use Rattle.service_gen.specs.GetTaskState.{IsNumber, StateTold}
-use Rattle.service_gen.specs.GetTaskState.IsNumber.{running, preempted, waiting, ready, suspended}
+use Rattle.service_gen.specs.GetTaskState.{IsStateNumber, StateTold}
+use Rattle.service_gen.specs.GetTaskState.IsStateNumber.{running, preempted, waiting, ready, suspended}
 use Rattle.sim_relation.specs.Build.{Build}
 use Rattle.sim_services.specs.Served.{TouchesTasks}
 
@@ -32,7 +32,7 @@ module _ (b : Build) where
   pub state_touches : (t own : ℕ) → t < length b.config.tasks → TouchesTasks b (StateTold t own)
   state_touches t own l touched start end effect = by effect.number
     where
-      by : {number : ℕ} → IsNumber t own start.core touched number → AreTasks (owners_in b.config) touched
+      by : {number : ℕ} → IsStateNumber t own start.core touched number → AreTasks (owners_in b.config) touched
       by (running a is e n) = touches_none touched e
       by (preempted a is e n) = touches_none touched e
       by (waiting a is e n) = touches_none touched e

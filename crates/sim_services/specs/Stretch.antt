@@ -10,7 +10,7 @@ use Rattle.sloth_base.specs.declared.service.Service.{Service}
 use Rattle.sloth_base.specs.declared.service.Service.TheVariants as service
 use Rattle.sloth_base.specs.Machine.{State}
 use Rattle.sloth_base.specs.MemoryMap.{memory_base}
-use Rattle.rv32_machine.specs.Run.{arrived}
+use Rattle.rv32_machine.specs.Run.{state_with_arrivals}
 use Rattle.masked_code.specs.Trace.{Trace}
 use Rattle.rv32_expand.specs.Expansion.{block_address}
 use Rattle.observe.specs.Observe.{View, mark_at}
@@ -47,7 +47,7 @@ pub record OpensTerminateTask (b : Build) (view : View) (state : State) (s : Sys
 abbrev pub TerminateTaskStretches : Type 0
 TerminateTaskStretches = (b : Build) (view : View) (arrivals : List Arrival) (count : ℕ) (state : State) (s : System) (t : ℕ)
     → Fits b → IsSetting (setting_of b view arrivals) → 0 < count → Stands b state s
-    → OpensTerminateTask b view (arrived arrivals count state) (with_admits (lines_at arrivals count) s) t
+    → OpensTerminateTask b view (state_with_arrivals arrivals count state) (with_admits (lines_at arrivals count) s) t
     → Stretches b view arrivals count state s
 
 -- what holds at the opening mark of a service behind which its task may go on: another item follows
@@ -61,7 +61,7 @@ pub record OpensGoingOn (b : Build) (view : View) (state : State) (s : System) (
 abbrev pub GoingOnStretches : Service → (ℕ → List InstrKind → Type 0) → Type 0
 GoingOnStretches served Contract = (b : Build) (view : View) (arrivals : List Arrival) (count : ℕ) (state : State) (s : System) (t : ℕ)
     → Fits b → IsSetting (setting_of b view arrivals) → 0 < count → Stands b state s
-    → OpensGoingOn b view (arrived arrivals count state) (with_admits (lines_at arrivals count) s) t served Contract
+    → OpensGoingOn b view (state_with_arrivals arrivals count state) (with_admits (lines_at arrivals count) s) t served Contract
     → Stretches b view arrivals count state s
 
 -- The stretch that begins at the opening mark of GetTaskID is its event Call.
@@ -85,7 +85,7 @@ pub record OpensChainTask (b : Build) (view : View) (state : State) (s : System)
 abbrev pub ChainTaskStretches : Type 0
 ChainTaskStretches = (b : Build) (view : View) (arrivals : List Arrival) (count : ℕ) (state : State) (s : System) (t : ℕ)
     → Fits b → IsSetting (setting_of b view arrivals) → 0 < count → Stands b state s
-    → OpensChainTask b view (arrived arrivals count state) (with_admits (lines_at arrivals count) s) t
+    → OpensChainTask b view (state_with_arrivals arrivals count state) (with_admits (lines_at arrivals count) s) t
     → Stretches b view arrivals count state s
 
 -- what holds at the opening mark of GetResource
@@ -97,7 +97,7 @@ pub record OpensGetResource (b : Build) (view : View) (state : State) (s : Syste
 abbrev pub GetResourceStretches : Type 0
 GetResourceStretches = (b : Build) (view : View) (arrivals : List Arrival) (count : ℕ) (state : State) (s : System) (t level : ℕ)
     → Fits b → IsSetting (setting_of b view arrivals) → 0 < count → Stands b state s
-    → OpensGetResource b view (arrived arrivals count state) (with_admits (lines_at arrivals count) s) t level
+    → OpensGetResource b view (state_with_arrivals arrivals count state) (with_admits (lines_at arrivals count) s) t level
     → Stretches b view arrivals count state s
 
 -- The stretch that begins at the opening mark of ReleaseResource is its event Call.
@@ -113,7 +113,7 @@ pub record OpensSchedule (b : Build) (view : View) (state : State) (s : System) 
 abbrev pub ScheduleStretches : Type 0
 ScheduleStretches = (b : Build) (view : View) (arrivals : List Arrival) (count : ℕ) (state : State) (s : System) (t : ℕ)
     → Fits b → IsSetting (setting_of b view arrivals) → 0 < count → Stands b state s
-    → OpensSchedule b view (arrived arrivals count state) (with_admits (lines_at arrivals count) s) t
+    → OpensSchedule b view (state_with_arrivals arrivals count state) (with_admits (lines_at arrivals count) s) t
     → Stretches b view arrivals count state s
 
 -- the way back stands in the block of Schedule with this object, with its mark
@@ -141,5 +141,5 @@ pub record OpensWayBack (b : Build) (view : View) (state : State) (s : System) (
 abbrev pub WayBackStretches : Type 0
 WayBackStretches = (b : Build) (view : View) (arrivals : List Arrival) (count : ℕ) (state : State) (s : System) (t : ℕ)
     → Fits b → IsSetting (setting_of b view arrivals) → 0 < count → Stands b state s
-    → OpensWayBack b view (arrived arrivals count state) (with_admits (lines_at arrivals count) s) t
+    → OpensWayBack b view (state_with_arrivals arrivals count state) (with_admits (lines_at arrivals count) s) t
     → Stretches b view arrivals count state s

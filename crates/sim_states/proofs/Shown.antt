@@ -4,14 +4,14 @@ use Rattle.std.specs.Prelude.{◌==◌, slice_index, if◌then◌else◌}
 use Rattle.sloth_base.specs.Machine.{State}
 use Rattle.sloth_region.specs.Layout.{active, wait}
 use Rattle.rv32_instr.specs.Ram.{word_at}
-use Rattle.rv32_machine.specs.Run.{arrived}
+use Rattle.rv32_machine.specs.Run.{state_with_arrivals}
 use Rattle.osek_scheduler.specs.declared.state.TaskState.{TaskState}
 use Rattle.osek_scheduler.specs.declared.state.TaskState.TheVariants as mode
 use Rattle.osek_scheduler.specs.State.{System, task, opening}
 use Rattle.osek_scheduler.proofs.Leading.{one_end}
 use Rattle.sim_relation.specs.Build.{Build}
 use Rattle.sim_relation.specs.ServiceWords.{active_word, IsWaitWord}
-use Rattle.sim_relation.specs.Stands.{Stands, IsLineOf}
+use Rattle.sim_relation.specs.Stands.{Stands, AreLineBytes}
 use Rattle.sloth_inspect.specs.States.{state_in}
 use Rattle.sim_laws.proofs.KernelRuns.{stands_kernel}
 use Rattle.sim_states.specs.Shown.{ShowStates, KernelShowsStates}
@@ -24,7 +24,7 @@ shown activity mask pending enabled =
     else mode.Waiting mask
 
 -- where they are those of a state, it is this one
-shown_is : (m : TaskState) (activity mask pending enabled : ℕ) → activity ≡ active_word m → IsWaitWord m mask → IsLineOf m pending enabled
+shown_is : (m : TaskState) (activity mask pending enabled : ℕ) → activity ≡ active_word m → IsWaitWord m mask → AreLineBytes m pending enabled
     → shown activity mask pending enabled ≡ m
 shown_is mode.Suspended activity mask pending enabled is waits line = rw (is, line.0, line.1) refl
 shown_is mode.Ready activity mask pending enabled is waits line = rw (is, line.0, line.1) refl
@@ -43,6 +43,6 @@ kernel_shows b image kernel = record {
   each = λ arrivals n count state s are few before after enabled leads.
       let found = stands_kernel b image kernel arrivals n count state are few before after enabled in
       let same : found.0 ≡ s = one_end b.config b.app _ (opening b.config b.app) found.0 s found.1 leads in
-      subst (λ (x : System). ShowStates b.config (arrived arrivals count state).core x) same
-      (states_shown b (arrived arrivals count state) found.0 found.2.stands);
+      subst (λ (x : System). ShowStates b.config (state_with_arrivals arrivals count state).core x) same
+      (states_shown b (state_with_arrivals arrivals count state) found.0 found.2.stands);
 }

@@ -9,7 +9,7 @@ use Rattle.sloth_base.specs.Arrivals.{AreArrivals}
 use Rattle.sloth_base.specs.Machine.{Core, State}
 use Rattle.rv32_instr.specs.Memory.{memory_of}
 use Rattle.rv32_machine.specs.Start.{start}
-use Rattle.rv32_machine.specs.Run.{state_after, arrived}
+use Rattle.rv32_machine.specs.Run.{state_after, state_with_arrivals}
 use Rattle.osek_scheduler.specs.State.{System, task, opening}
 use Rattle.osek_scheduler.specs.Runs.{Leads}
 use Rattle.sloth_inspect.specs.States.{state_in}
@@ -27,7 +27,7 @@ pub record ShowsStates (config : Config) (app : App) (image : Image) : Type 0 wh
   pub each : (arrivals : List Arrival) (n count : ℕ) (state : State) (s : System) → AreArrivals (owners_in config) arrivals → n ≤ 1000000
       → count < n → state_after count arrivals (start image) ≡ Some state → state.core.mie ≡ true
       → Leads config app (filter (stands_before count) (events_of image arrivals n)) (opening config app) s
-      → ShowStates config (arrived arrivals count state).core s
+      → ShowStates config (state_with_arrivals arrivals count state).core s
 
 -- a kernel in place does
 abbrev pub KernelShowsStates : Type 0

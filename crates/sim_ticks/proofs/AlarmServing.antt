@@ -13,12 +13,12 @@ use Rattle.sloth_region.specs.Layout.{cur, counter_value, alarm_left, alarm_cycl
 use Rattle.rv32_instr.specs.Ram.{word_at, with_word}
 use Rattle.masked_code.proofs.Words.{word_at-same, length-with_word, get_or-with_word}
 use Rattle.block_parts.specs.Back.{WentBack, a0, a1}
-use Rattle.alarm_gen.specs.CancelAlarm.{left_in, HasNoAlarm, HasCancelled, AlarmCancelled}
+use Rattle.alarm_gen.specs.CancelAlarm.{left_ticks, HasNoAlarm, HasCancelled, AlarmCancelled}
 use Rattle.alarm_gen.specs.GetAlarm.{HasToldLeft, AlarmTold}
-use Rattle.alarm_gen.specs.SetAlarm.{CycleFits, TicksFit, ValueFits, first_operand, second_operand, ticks_until, HasAlarm, HasNoFit, HasAlarmSet, AlarmSet}
+use Rattle.alarm_gen.specs.SetAlarm.{CycleFits, TicksFit, AlarmValueFits, first_operand, second_operand, ticks_until, HasAlarm, HasNoFit, HasAlarmSet, AlarmSet}
 use Rattle.osek_scheduler.specs.declared.state.Alarm.{Alarm}
 use Rattle.osek_scheduler.specs.State.{Task, System, task, counter, alarm, with_alarm}
-use Rattle.osek_scheduler.specs.Services.{answered_state, answered_with, is_in_use, allows_cycle, allows_relative, allows_absolute, ticks_to, is_there, Outcome, GoesOn}
+use Rattle.osek_scheduler.specs.Services.{answered_state, answered_state_with, is_in_use, allows_cycle, allows_relative, allows_absolute, ticks_to, is_there, Outcome, GoesOn}
 use Rattle.osek_scheduler.specs.Outcomes.{outcome}
 use Rattle.sim_relation.specs.Build.{Build, Fits}
 use Rattle.sim_relation.specs.Stands.{Stands}
@@ -85,7 +85,7 @@ module _ (b : Build) (state : State) (s : System) (t : ℕ) (own : Task) (served
   few : a < 32
   few = let f = fits.few_alarms in omega (arith, there, f)
 
-  left_is : left_in a state.core ≡ used.left
+  left_is : left_ticks a state.core ≡ used.left
   left_is = k.clock.left a there
 
   none : AllByRecursion (Contains (0 ∷ 0 ∷ [])) touched
@@ -118,15 +118,15 @@ module _ (b : Build) (state : State) (s : System) (t : ℕ) (own : Task) (served
 
   -- the ticks that are left are told
   pub tells : slice_index end.core.registers a0 ≡ E_OK → (number : ℕ) → slice_index end.core.registers a1 ≡ number → WentBack a1 state.core state end
-      → outcome b.config served a mask t s ≡ GoesOn E_OK (answered_with number t s) → Answers b s t served touched end
+      → outcome b.config served a mask t s ≡ GoesOn E_OK (answered_state_with number t s) → Answers b s t served touched end
   tells status_is number number_is back answer_is =
       answers_number b state s t own served is fits touched end 0 0 none names may.goes_on.followed back status_is number number_is (outcome_at ∙ answer_is)
 
   -- the test whether it is in use
-  pub not_used : left_in a state.core ≡ 0 → is_in_use s a ≡ false
+  pub not_used : left_ticks a state.core ≡ 0 → is_in_use s a ≡ false
   not_used z = ap not (eq-eqb used.left 0 (sym left_is ∙ z))
 
-  pub is_used : left_in a state.core ≢ 0 → is_in_use s a ≡ true
+  pub is_used : left_ticks a state.core ≢ 0 → is_in_use s a ≡ true
   is_used n = ap not (ne_eqb used.left 0 (λ z. n (left_is ∙ z)))
 
   -- the operands
@@ -200,7 +200,7 @@ module _ (b : Build) (state : State) (s : System) (t : ℕ) (own : Task) (a : �
   pub tells_left : MayUseAlarm b state s t own service.GetAlarm a → AlarmTold a touched state end → Answers b s t service.GetAlarm touched end
   tells_left may effect =
       let there = ltb-true a (length b.config.alarms) may.goes_on.names in
-      let now : Outcome = GoesOn E_OK (answered_with (alarm s a).left t s) in
+      let now : Outcome = GoesOn E_OK (answered_state_with (alarm s a).left t s) in
       let no : Outcome = GoesOn E_OS_NOFUNC (answered_state E_OS_NOFUNC t s) in
       ⊎_elim
       (λ (h : HasNoAlarm a state end).
@@ -242,7 +242,7 @@ module _ (b : Build) (state : State) (s : System) (t : ℕ) (own : Task) (a : �
 
   -- SetAbsAlarm
   pub sets_absolute : MayUseAlarm b state s t own service.SetAbsAlarm a
-      → AlarmSet a (ValueFits declared.max declared.min_cycle) (ticks_until (alarm_declaration b.config a).counter declared.max) touched state end
+      → AlarmSet a (AlarmValueFits declared.max declared.min_cycle) (ticks_until (alarm_declaration b.config a).counter declared.max) touched state end
       → Answers b s t service.SetAbsAlarm touched end
   sets_absolute may effect =
       let there = ltb-true a (length b.config.alarms) may.goes_on.names in
@@ -260,7 +260,7 @@ module _ (b : Build) (state : State) (s : System) (t : ℕ) (own : Task) (a : �
       let one : Outcome = GoesOn E_OS_STATE (answered_state E_OS_STATE t s) in
       let two : (ticks cycle : ℕ) → Outcome = λ ticks cycle. GoesOn E_OK (with_alarm (answered_state E_OK t s) a (record { left = ticks; cycle = cycle })) in
       let three : Outcome = GoesOn E_OS_VALUE (answered_state E_OS_VALUE t s) in
-      set_answers b state s t own service.SetAbsAlarm a touched end fits may there effect.touches (ValueFits max declared.min_cycle) (ticks_until c max)
+      set_answers b state s t own service.SetAbsAlarm a touched end fits may there effect.touches (AlarmValueFits max declared.min_cycle) (ticks_until c max)
       (allows_absolute declared x y)
       (λ f. and_from (leb x max) (allows_cycle declared y) (le-leb x max f.0) (cycle_yes declared y f.1))
       (λ n. absolute_no declared x y n)

@@ -6,12 +6,12 @@ use Rattle.sloth_base.specs.Machine.{State}
 use Rattle.sloth_base.specs.Named.{counter_of, alarm_declaration, undeclared_alarm}
 use Rattle.sloth_base.specs.declared.event.Arrival.{Arrival}
 use Rattle.sloth_base.specs.declared.service.Service.TheVariants as service
-use Rattle.rv32_machine.specs.Run.{arrived}
+use Rattle.rv32_machine.specs.Run.{state_with_arrivals}
 use Rattle.observe.specs.Observe.{View}
 use Rattle.alarm_gen.specs.Block.{ServesAlarm}
 use Rattle.alarm_gen.specs.CancelAlarm.{AlarmCancelled}
 use Rattle.alarm_gen.specs.GetAlarm.{AlarmTold}
-use Rattle.alarm_gen.specs.SetAlarm.{AlarmSet, TicksFit, ValueFits, first_operand, ticks_until}
+use Rattle.alarm_gen.specs.SetAlarm.{AlarmSet, TicksFit, AlarmValueFits, first_operand, ticks_until}
 use Rattle.osek_scheduler.specs.State.{System, task}
 use Rattle.sim_induction.specs.Admits.{IsSetting, lines_at, with_admits}
 use Rattle.sim_relation.specs.Build.{Build, Fits}
@@ -27,7 +27,7 @@ use Rattle.sim_ticks.proofs.AlarmServing.{cancels, tells_left, sets_relative, se
 module _ (b : Build) (view : View) (arrivals : List Arrival) (count : ℕ) (state : State) (s : System) (t : ℕ) (fits : Fits b)
     (setting : IsSetting (setting_of b view arrivals)) (after_boot : 0 < count) (stands : Stands b state s) where
   abbrev start : State
-  start = arrived arrivals count state
+  start = state_with_arrivals arrivals count state
 
   abbrev found : System
   found = with_admits (lines_at arrivals count) s
@@ -59,7 +59,7 @@ module _ (b : Build) (view : View) (arrivals : List Arrival) (count : ℕ) (stat
       let found_there = k b view arrivals count state s t service.SetAbsAlarm (ServesAlarm b.config service.SetAbsAlarm) fits setting after_boot stands o.goes_on.opens block.serves.masks in
       going_on_stretches b view arrivals count state s t service.SetAbsAlarm (ServesAlarm b.config service.SetAbsAlarm) fits setting after_boot stands o.goes_on
       block.serves.masks 27 (omega arith)
-      (λ place. AlarmSet a (ValueFits (counter_of b.config a).max (counter_of b.config a).min_cycle) (ticks_until c (counter_of b.config a).max))
+      (λ place. AlarmSet a (AlarmValueFits (counter_of b.config a).max (counter_of b.config a).min_cycle) (ticks_until c (counter_of b.config a).max))
       (λ place touched from to e. touches_none b touched e.touches)
       (λ place can. block.serves.runs block.offset start.core (record {
         may_use = record { goes_back = can.goes_back; is_alarm = few a there };

@@ -15,7 +15,7 @@ use Rattle.alarm_gen.specs.Tick.{Ground}
 use Rattle.alarm_gen.specs.Tick as code
 use Rattle.osek_scheduler.specs.declared.state.Alarm.{Alarm}
 use Rattle.osek_scheduler.specs.State.{System, alarm, no_alarm}
-use Rattle.osek_scheduler.specs.Services.{acted_state, with_left, alarm_ticked, alarms_ticked}
+use Rattle.osek_scheduler.specs.Services.{acted_state, with_left, alarm_ticked_state, alarms_ticked_state}
 use Rattle.osek_scheduler.specs.Steps.{settled_state}
 use Rattle.sim_relation.specs.Build.{Build, Fits}
 use Rattle.sim_relation.proofs.Beside.{beside}
@@ -103,12 +103,12 @@ module _ (b : Build) (end : State) (fits : Fits b) where
 
     -- what the tick leaves, by what was left
     abbrev Leaves : Ground → Type 0
-    Leaves now = Holds b end fits now (alarm_ticked does a s)
+    Leaves now = Holds b end fits now (alarm_ticked_state does a s)
 
     abbrev expired : System
     expired = acted_state does (with_left a (alarm s a).cycle s)
 
-    not_expired : (alarm s a).left ≢ 1 → alarm_ticked does a s ≡ with_left a ((alarm s a).left - 1) s
+    not_expired : (alarm s a).left ≢ 1 → alarm_ticked_state does a s ≡ with_left a ((alarm s a).left - 1) s
     not_expired n = ap (λ c. cond c expired (with_left a ((alarm s a).left - 1) s)) (ne_eqb (alarm s a).left 1 n)
 
     at_rest : v ≡ 0 → Leaves g
@@ -128,25 +128,25 @@ module _ (b : Build) (end : State) (fits : Fits b) where
         subst (λ y. Holds b end fits less y) (sym (not_expired (λ y. f (omega arith))))
         (subst (λ (y : ℕ). Holds b end fits less (with_left a y s)) fewer_is (left_holds a fewer less.ram g s there first_written h))
 
-    expires : v ≢ 0 → fewer ≡ 0 → Leaves (code.acted does anew)
+    expires : v ≢ 0 → fewer ≡ 0 → Leaves (code.action_ground does anew)
     expires m f =
         let e = v_is in
         let l = v_small in
         let one : (alarm s a).left ≡ 1 = omega arith in
-        subst (λ y. Holds b end fits (code.acted does anew) y)
+        subst (λ y. Holds b end fits (code.action_ground does anew) y)
         (sym (ap (λ c. cond c expired (with_left a ((alarm s a).left - 1) s)) (eq-eqb (alarm s a).left 1 one)))
         (acts_hold b end fits does acts anew (with_left a (alarm s a).cycle s)
         (subst (λ (y : ℕ). Holds b end fits anew (with_left a y s)) cycle_is (left_holds a cycle anew.ram g s there then_written h)))
 
-    pub alarm_holds : Leaves (code.alarm_ticked (record { number = a; action = does }) g)
+    pub alarm_holds : Leaves (code.alarm_ground (record { number = a; action = does }) g)
     alarm_holds =
         ⊎_elim
-        (λ (z : v ≡ 0). subst Leaves (ap (λ c. cond c g (cond (fewer == 0) (code.acted does anew) less)) (sym (eq-eqb v 0 z))) (at_rest z))
+        (λ (z : v ≡ 0). subst Leaves (ap (λ c. cond c g (cond (fewer == 0) (code.action_ground does anew) less)) (sym (eq-eqb v 0 z))) (at_rest z))
         (λ (m : v ≢ 0).
-        subst Leaves (ap (λ c. cond c g (cond (fewer == 0) (code.acted does anew) less)) (sym (ne_eqb v 0 m)))
+        subst Leaves (ap (λ c. cond c g (cond (fewer == 0) (code.action_ground does anew) less)) (sym (ne_eqb v 0 m)))
         (⊎_elim
-        (λ (z : fewer ≡ 0). subst Leaves (ap (λ c. cond c (code.acted does anew) less) (sym (eq-eqb fewer 0 z))) (expires m z))
-        (λ (f : fewer ≢ 0). subst Leaves (ap (λ c. cond c (code.acted does anew) less) (sym (ne_eqb fewer 0 f))) (goes_on m f))
+        (λ (z : fewer ≡ 0). subst Leaves (ap (λ c. cond c (code.action_ground does anew) less) (sym (eq-eqb fewer 0 z))) (expires m z))
+        (λ (f : fewer ≢ 0). subst Leaves (ap (λ c. cond c (code.action_ground does anew) less) (sym (ne_eqb fewer 0 f))) (goes_on m f))
         (cases_eq fewer 0)))
         (cases_eq v 0)
 
@@ -154,17 +154,17 @@ module _ (b : Build) (end : State) (fits : Fits b) where
 
   -- by whether the first is the counter's
   by_counter : (c first : ℕ) (d : AlarmDecl) (later : List AlarmDecl) (g : Ground) (s : System) → first < length b.config.alarms → ActsOn b d.action
-      → ((g : Ground) (s : System) → Holds b end fits g s → Holds b end fits (code.alarms_ticked (alarms_from c (first + 1) later) g) (alarms_ticked c (first + 1) later s))
+      → ((g : Ground) (s : System) → Holds b end fits g s → Holds b end fits (code.alarms_ground (alarms_from c (first + 1) later) g) (alarms_ticked_state c (first + 1) later s))
       → (is : Bool) → Holds b end fits g s
       → Holds b end fits
-      (code.alarms_ticked (cond is (record { number = first; action = d.action } ∷ alarms_from c (first + 1) later) (alarms_from c (first + 1) later)) g)
-      (alarms_ticked c (first + 1) later (cond is (alarm_ticked d.action first s) s))
+      (code.alarms_ground (cond is (record { number = first; action = d.action } ∷ alarms_from c (first + 1) later) (alarms_from c (first + 1) later)) g)
+      (alarms_ticked_state c (first + 1) later (cond is (alarm_ticked_state d.action first s) s))
   by_counter c first d later g s there acts rest true h =
-      rest (code.alarm_ticked (record { number = first; action = d.action }) g) (alarm_ticked d.action first s) (alarm_holds d.action first g s there acts h)
+      rest (code.alarm_ground (record { number = first; action = d.action }) g) (alarm_ticked_state d.action first s) (alarm_holds d.action first g s there acts h)
   by_counter c first d later g s there acts rest false h = rest g s h
 
   pub alarms_hold : (c first : ℕ) (ds : List AlarmDecl) → first + length ds ≤ length b.config.alarms → AllByRecursion (λ (d : AlarmDecl). ActsOn b d.action) ds
-      → (g : Ground) (s : System) → Holds b end fits g s → Holds b end fits (code.alarms_ticked (alarms_from c first ds) g) (alarms_ticked c first ds s)
+      → (g : Ground) (s : System) → Holds b end fits g s → Holds b end fits (code.alarms_ground (alarms_from c first ds) g) (alarms_ticked_state c first ds s)
   alarms_hold c first [] few acts g s h = h
   alarms_hold c first (d ∷ later) few acts g s h =
       by_counter c first d later g s (omega arith) acts.0

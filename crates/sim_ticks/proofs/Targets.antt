@@ -7,7 +7,7 @@ use Rattle.sloth_base.specs.declared.config.Action.{Action}
 use Rattle.sloth_base.specs.declared.config.Action.TheVariants.{Activate, Set}
 use Rattle.sloth_base.specs.declared.config.AlarmDecl.{AlarmDecl}
 use Rattle.alarm_gen.specs.declared.alarms.NumberedAlarm.{NumberedAlarm}
-use Rattle.alarm_gen.specs.Alarms.{alarms_from, is_target, before_later, targets}
+use Rattle.alarm_gen.specs.Alarms.{alarms_from, is_target, tasks_before_later, targets}
 use Rattle.sim_relation.specs.Build.{Build}
 use Rattle.sim_ticks.proofs.Acting.{ActsOn}
 
@@ -17,7 +17,7 @@ OnTarget P (Activate t) = Unit {0}
 OnTarget P (Set t mask) = P t
 
 each_before : (P : ℕ → Type 0) (action : Action) (later : List NumberedAlarm) (ts : List ℕ) → OnTarget P action → AllByRecursion P ts
-    → AllByRecursion P (before_later action later ts)
+    → AllByRecursion P (tasks_before_later action later ts)
 each_before P (Activate t) later ts own h = h
 each_before P (Set t mask) later ts own h = by (is_target t later)
   where
@@ -41,7 +41,7 @@ each_from P c first (d ∷ later) h = by (d.counter == c) (each_from P c (first 
     by true rest = (h.0, rest)
     by false rest = rest
 
-few_before : (action : Action) (later : List NumberedAlarm) (ts : List ℕ) → length (before_later action later ts) ≤ length ts + 1
+few_before : (action : Action) (later : List NumberedAlarm) (ts : List ℕ) → length (tasks_before_later action later ts) ≤ length ts + 1
 few_before (Activate t) later ts = omega arith
 few_before (Set t mask) later ts = by (is_target t later)
   where

@@ -10,7 +10,7 @@ use Rattle.sloth_base.specs.Machine.{Core, State}
 use Rattle.sloth_base.specs.Named.{counter_declaration, alarms_of}
 use Rattle.sloth_base.specs.Owners.{counter_line, line_kind, owners_in, IsOwned, AreTasks}
 use Rattle.sloth_base.specs.Stretches.{later_beginning, stretch_limit, touch_limit}
-use Rattle.sloth_base.specs.Take.{take, line_to_take, enter, entered}
+use Rattle.sloth_base.specs.Take.{take, line_to_take, entry_state, execution_state}
 use Rattle.sloth_base.specs.declared.config.AlarmDecl.{AlarmDecl}
 use Rattle.sloth_base.specs.declared.event.Arrival.{Arrival}
 use Rattle.sloth_base.specs.declared.event.Event.TheVariants as event
@@ -20,14 +20,14 @@ use Rattle.sloth_base.proofs.Owners.{kind_of_counter, tasks_owned}
 use Rattle.sloth_base.proofs.Stretches.{counter_limit, counter_touches}
 use Rattle.rv32_instr.specs.Execute.{touched}
 use Rattle.rv32_machine.specs.Advance.{seen_step}
-use Rattle.rv32_machine.specs.Run.{arrived}
+use Rattle.rv32_machine.specs.Run.{state_with_arrivals}
 use Rattle.masked_code.specs.Masked.{Masked, WithArrivals}
-use Rattle.masked_code.specs.Place.{at}
-use Rattle.masked_code.specs.Trace.{Trace, lines_of, touched_lines, early, late}
+use Rattle.masked_code.specs.Place.{offset_state}
+use Rattle.masked_code.specs.Trace.{Trace, lines_of, touched_lines, early_arrivals, late_arrivals}
 use Rattle.observe.specs.Observe.{View, stretch_event, later_event, entry_event}
 use Rattle.alarm_gen.specs.declared.alarms.NumberedAlarm.{NumberedAlarm}
 use Rattle.alarm_gen.specs.Alarms.{counter_alarms, targets}
-use Rattle.alarm_gen.specs.Tick.{vector, ground, IsTold, MayTick, Ticked}
+use Rattle.alarm_gen.specs.Tick.{vector, ground, AreTaskBits, MayTick, Ticked}
 use Rattle.osek_scheduler.specs.State.{Clock, System, no_counter}
 use Rattle.osek_scheduler.specs.Priority.{IsNextTick}
 use Rattle.osek_scheduler.specs.Services.{ticked_state}
@@ -75,10 +75,10 @@ contains_all (x ∷ xs) = ((0, omega arith, refl), deeper xs (contains_all xs))
     deeper (y ∷ ys) h = ((suc h.0.0, omega (arith, h.0.1), h.0.2), deeper ys h.1)
 
 module _ (b : Build) (view : View) (arrivals : List Arrival) (setting : IsSetting (setting_of b view arrivals)) (fits : Fits b) (count : ℕ) (late_count : 0 < count)
-    (state : State) (s : System) (stands : Stands b state s) (c : ℕ) (chosen : choose (arrived arrivals count state).core ≡ Some (counter_line c))
-    (may : MayCount b (arrived arrivals count state) (with_admits (lines_at arrivals count) s) c) (tick : TickStands b c) where
+    (state : State) (s : System) (stands : Stands b state s) (c : ℕ) (chosen : choose (state_with_arrivals arrivals count state).core ≡ Some (counter_line c))
+    (may : MayCount b (state_with_arrivals arrivals count state) (with_admits (lines_at arrivals count) s) c) (tick : TickStands b c) where
   abbrev now : State
-  now = arrived arrivals count state
+  now = state_with_arrivals arrivals count state
 
   abbrev found : System
   found = with_admits (lines_at arrivals count) s
@@ -109,7 +109,7 @@ module _ (b : Build) (view : View) (arrivals : List Arrival) (setting : IsSettin
 
   -- ---- the code may run
 
-  told : (t : ℕ) → t < length b.config.tasks → IsTold (ground core) t
+  told : (t : ℕ) → t < length b.config.tasks → AreTaskBits (ground core) t
   told t declared =
       let f = few in
       let bit = k.lines.bits t declared in
@@ -130,10 +130,10 @@ module _ (b : Build) (view : View) (arrivals : List Arrival) (setting : IsSettin
       by [] h = tt
       by (d ∷ later) h = (target_acts b d.action h.0, by later h.1)
 
-  all_told : AllByRecursion (IsTold (ground core)) (targets alarms)
+  all_told : AllByRecursion (AreTaskBits (ground core)) (targets alarms)
   all_told = by (targets alarms) are_tasks
     where
-      by : (ts : List ℕ) → AllByRecursion (λ t. t < length b.config.tasks) ts → AllByRecursion (IsTold (ground core)) ts
+      by : (ts : List ℕ) → AllByRecursion (λ t. t < length b.config.tasks) ts → AllByRecursion (AreTaskBits (ground core)) ts
       by [] h = tt
       by (t ∷ ts) h = (told t h.0, by ts h.1)
 
@@ -163,59 +163,59 @@ module _ (b : Build) (view : View) (arrivals : List Arrival) (setting : IsSettin
   abbrev Effect : List ℕ → State → State → Type 0
   Effect = Ticked c max alarms
 
-  at_vector : at (vector line) core ≡ entered now
+  at_vector : offset_state (vector line) core ≡ execution_state now
   at_vector =
       let e : 0x8000_0000 + vector line ≡ 0x8000_0400 + 4 * line = omega arith in
-      ap (λ p. record { pc = p; core = core }) e ∙ sym (ap (λ o. enter o now) taken)
+      ap (λ p. record { pc = p; core = core }) e ∙ sym (ap (λ o. entry_state o now) taken)
 
   abbrev most : ℕ
   most = 11 + 34 * length alarms
 
   route : Entering arrivals most count state Effect
   route =
-      entering arrivals most count state Effect (λ lines from last e. e.left.opened) (ap (λ o. (enter o now).core.mie) taken)
+      entering arrivals most count state Effect (λ lines from last e. e.left.opened) (ap (λ o. (entry_state o now).core.mie) taken)
       (subst (λ x. Masked (suc most) x (WithArrivals Effect x)) at_vector
-      (subst (λ n. Masked n (at (vector line) core) (WithArrivals Effect (at (vector line) core))) (omega arith) (tick.is_tick.ticks tick.offset core may_tick)))
+      (subst (λ n. Masked n (offset_state (vector line) core) (WithArrivals Effect (offset_state (vector line) core))) (omega arith) (tick.is_tick.ticks tick.offset core may_tick)))
 
   -- ---- what arrives inside
 
   abbrev all_touched : List ℕ
-  all_touched = lines_of (touched (entered now)) (touched_lines route.trace)
+  all_touched = lines_of (touched (execution_state now)) (touched_lines route.trace)
 
   touched_is : all_touched ≡ targets alarms
   touched_is = route.effect.touches
 
-  early_tasks : AreTasks (owners_in b.config) (early route.trace)
+  early_tasks : AreTasks (owners_in b.config) (early_arrivals route.trace)
   early_tasks =
       early_touched (λ l. l < length b.config.tasks) route.trace
-      (rest_touched (λ l. l < length b.config.tasks) (touched (entered now)) (touched_lines route.trace)
+      (rest_touched (λ l. l < length b.config.tasks) (touched (execution_state now)) (touched_lines route.trace)
       (subst (AllByRecursion (λ l. l < length b.config.tasks)) (sym touched_is) are_tasks))
 
   abbrev old : State
-  old = state_arrive (early route.trace) now
+  old = state_arrive (early_arrivals route.trace) now
 
   abbrev then : System
-  then = with_admits (early route.trace) found
+  then = with_admits (early_arrivals route.trace) found
 
-  same_start : state_arrive (early route.trace) (take line now) ≡ take line old
+  same_start : state_arrive (early_arrivals route.trace) (take line now) ≡ take line old
   same_start =
       let f = few in
       ap (λ p. record (take line now) { core = record (take line now).core { pending = p } })
-      (arrive_clear (length b.config.tasks) line (early route.trace) now.core.pending (omega (arith, f)) early_tasks)
+      (arrive_clear (length b.config.tasks) line (early_arrivals route.trace) now.core.pending (omega (arith, f)) early_tasks)
 
   effect : HasTicked b c all_touched old route.last
   effect =
       subst (λ x. Effect all_touched x route.last) same_start
-      (subst (λ x. Effect all_touched (state_arrive (early route.trace) x) route.last) (ap (λ o. enter o now) taken) route.effect)
+      (subst (λ x. Effect all_touched (state_arrive (early_arrivals route.trace) x) route.last) (ap (λ o. entry_state o now) taken) route.effect)
 
   clock_same : then.clock ≡ found.clock
-  clock_same = same_clock b.config (early route.trace) found fits.few_tasks early_tasks
+  clock_same = same_clock b.config (early_arrivals route.trace) found fits.few_tasks early_tasks
 
   may_then : MayCount b old then c
   may_then = record {
     range = may.range;
     declared = may.declared;
-    stands = stands_arrived b (early route.trace) now found fits.few_tasks (tasks_owned (owners_in b.config) (early route.trace) early_tasks) k;
+    stands = stands_arrived b (early_arrivals route.trace) now found fits.few_tasks (tasks_owned (owners_in b.config) (early_arrivals route.trace) early_tasks) k;
     value = subst (λ (x : Clock). (get_or x.counters c no_counter).value ≤ max) (sym clock_same) may.value;
     bytes = may.bytes;
   }
@@ -249,9 +249,9 @@ module _ (b : Build) (view : View) (arrivals : List Arrival) (setting : IsSettin
       ∙ ap (λ o. later_event o view (seen_step count now route.next) last) taken
       ∙ ap (entry_event line) kind_is
 
-  touches : IfSome (touched (entered now)) (Contains (targets alarms)) × AllByRecursion (Contains (targets alarms)) (touched_lines route.trace)
+  touches : IfSome (touched (execution_state now)) (Contains (targets alarms)) × AllByRecursion (Contains (targets alarms)) (touched_lines route.trace)
   touches =
-      touches_parted (targets alarms) (touched (entered now)) (touched_lines route.trace)
+      touches_parted (targets alarms) (touched (execution_state now)) (touched_lines route.trace)
       (subst (AllByRecursion (Contains (targets alarms))) (sym touched_is) (contains_all (targets alarms)))
 
   -- It is the event Tick, and the states at its end are related.
@@ -283,8 +283,8 @@ module _ (b : Build) (view : View) (arrivals : List Arrival) (setting : IsSettin
         after = after;
         step_is = (may_then.stands.tidy.booted, next_then, refl);
         passes = λ past h. tt;
-        related = subst (λ x. Stands b x (with_admits (late route.trace) after)) (sym route.late_behind)
-            (stands_arrived b (late route.trace) route.last after fits.few_tasks in_range.1 ticks);
+        related = subst (λ x. Stands b x (with_admits (late_arrivals route.trace) after)) (sym route.late_behind)
+            (stands_arrived b (late_arrivals route.trace) route.last after fits.few_tasks in_range.1 ticks);
       }
 
   pub stretches : (next : State) × (trace : Trace) × (end : State) × StretchLaw (setting_of b view arrivals) (Stands b) count state s next trace end
@@ -295,4 +295,4 @@ module _ (b : Build) (view : View) (arrivals : List Arrival) (setting : IsSettin
   tick_advances progress =
       let h = stretches in
       stretch_advances (setting_of b view arrivals) setting (Stands b) progress count late_count state s h.0 h.1 h.2 h.3
-      stands.tidy.booted (sym (booted_admits (late h.1) h.3.after) ∙ h.3.related.tidy.booted)
+      stands.tidy.booted (sym (booted_admits (late_arrivals h.1) h.3.after) ∙ h.3.related.tidy.booted)

@@ -17,11 +17,11 @@ use Rattle.sloth_base.specs.declared.config.AlarmDecl.{AlarmDecl}
 use Rattle.sloth_region.specs.Layout.{counter_value, below_word}
 use Rattle.rv32_instr.specs.Ram.{word_at}
 use Rattle.alarm_gen.specs.Alarms.{counter_alarms}
-use Rattle.alarm_gen.specs.Tick.{Ground, ground, on}
+use Rattle.alarm_gen.specs.Tick.{Ground, ground}
 use Rattle.alarm_gen.specs.Tick as code
 use Rattle.osek_scheduler.specs.declared.state.Counter.{Counter}
 use Rattle.osek_scheduler.specs.State.{System, counter, no_counter}
-use Rattle.osek_scheduler.specs.Services.{next_value, counted_on, ticked_state}
+use Rattle.osek_scheduler.specs.Services.{next_value, counted_on_state, ticked_state}
 use Rattle.osek_scheduler.specs.Steps.{settled_state}
 use Rattle.sim_relation.specs.Build.{Build, Fits}
 use Rattle.sim_relation.specs.ClockStands.{CounterLineStands}
@@ -72,7 +72,7 @@ module _ (b : Build) (old end : State) (s : System) (c : ℕ) (touched : List �
   next = code.next_value max v
 
   abbrev grown : Ground
-  grown = code.counted c max (ground start.core)
+  grown = code.counted_ground c max (ground start.core)
 
   abbrev own : Counter
   own = record { value = next_value max value; due = false }
@@ -142,11 +142,11 @@ module _ (b : Build) (old end : State) (s : System) (c : ℕ) (touched : List �
   cleared : slice_index begun.core.pending (counter_line c) ≡ 0
   cleared = let f = k.fixed.pending in let l = in_range b old s k c may.declared in get_or-set_same old.core.pending (counter_line c) 0 0 (omega (arith, f, l))
 
-  holds_first : Holds b end fits grown (counted_on c max s)
+  holds_first : Holds b end fits grown (counted_on_state c max s)
   holds_first =
       let w = one_word in
       record {
-        stands = beside b old begun s k fits begins (counted_on c max s).clock []
+        stands = beside b old begun s k fits begins (counted_on_state c max s).clock []
             (by_element (λ d (x : Counter). d < length b.config.counters → CounterLineStands b.config begun.core d x.due) s.clock.counters c own no_counter inside
             (λ h. let l = k.lines.counters c h in record { enabled = l.enabled; pending = cleared; level = ap (λ x. slice_index x (counter_line c)) effect.left.levels ∙ l.level })
             (λ d n h. line_stands b.config old.core begun.core d _ refl
@@ -156,10 +156,10 @@ module _ (b : Build) (old end : State) (s : System) (c : ℕ) (touched : List �
       }
 
   abbrev last : Ground
-  last = code.ground_ticked c max (counter_alarms b.config c) (ground start.core)
+  last = code.ticked_ground c max (counter_alarms b.config c) (ground start.core)
 
   holds_last : Holds b end fits last (ticked_state b.config c s)
-  holds_last = alarms_hold b end fits c 0 b.config.alarms (omega arith) (each_acts b may.range) grown (counted_on c max s) holds_first
+  holds_last = alarms_hold b end fits c 0 b.config.alarms (omega arith) (each_acts b may.range) grown (counted_on_state c max s) holds_first
 
   end_is : at b end fits last ≡ end
   end_is =

@@ -6,12 +6,12 @@ use Rattle.sloth_base.specs.Named.{counter_of, alarm_declaration}
 use Rattle.sloth_base.specs.declared.event.Arrival.{Arrival}
 use Rattle.sloth_base.specs.declared.service.Service.{Service}
 use Rattle.sloth_base.specs.declared.service.Service.TheVariants as service
-use Rattle.rv32_machine.specs.Run.{arrived}
+use Rattle.rv32_machine.specs.Run.{state_with_arrivals}
 use Rattle.observe.specs.Observe.{View}
 use Rattle.alarm_gen.specs.Block.{ServesAlarm}
 use Rattle.alarm_gen.specs.CancelAlarm.{AlarmCancelled}
 use Rattle.alarm_gen.specs.GetAlarm.{AlarmTold}
-use Rattle.alarm_gen.specs.SetAlarm.{AlarmSet, TicksFit, ValueFits, first_operand, ticks_until}
+use Rattle.alarm_gen.specs.SetAlarm.{AlarmSet, TicksFit, AlarmValueFits, first_operand, ticks_until}
 use Rattle.osek_scheduler.specs.State.{Task, System}
 use Rattle.sim_induction.specs.Admits.{IsSetting, lines_at, with_admits}
 use Rattle.sim_relation.specs.Bounds.{AreBelow}
@@ -21,7 +21,7 @@ use Rattle.sim_relation.specs.Stands.{Stands}
 use Rattle.sim_services.specs.Served.{Answers}
 use Rattle.sim_services.specs.ServiceSteps.{MayGoOn}
 use Rattle.sim_services.specs.Stretch.{OpensGoingOn, Stretches}
-use Rattle.sim_ticks.specs.TickSteps.{HasValue}
+use Rattle.sim_ticks.specs.TickSteps.{HasCounterValue}
 
 -- what holds where a service on an alarm begins: the machine's registers hold words
 pub record MayUseAlarm (b : Build) (state : State) (s : System) (t : ℕ) (own : Task) (served : Service) (alarm : ℕ) : Type 0 where
@@ -42,7 +42,7 @@ SetRelAlarmGoesOn =
 -- SetAbsAlarm
 abbrev pub SetAbsAlarmGoesOn : Type 0
 SetAbsAlarmGoesOn =
-    AlarmLaw service.SetAbsAlarm (λ b alarm. AlarmSet alarm (ValueFits (counter_of b.config alarm).max (counter_of b.config alarm).min_cycle)
+    AlarmLaw service.SetAbsAlarm (λ b alarm. AlarmSet alarm (AlarmValueFits (counter_of b.config alarm).max (counter_of b.config alarm).min_cycle)
     (ticks_until (alarm_declaration b.config alarm).counter (counter_of b.config alarm).max))
 
 -- CancelAlarm
@@ -60,11 +60,11 @@ pub record OpensAlarm (b : Build) (view : View) (state : State) (s : System) (t 
   pub range : InRange b.config
   pub goes_on : OpensGoingOn b view state s t served (ServesAlarm b.config served)
   pub words : AreBelow (2 ^ 32) state.core.registers
-  pub values : (c : ℕ) → HasValue b s c
+  pub values : (c : ℕ) → HasCounterValue b s c
 
 -- The stretch that begins there is the event Call of the service.
 abbrev pub AlarmStretches : Service → Type 0
 AlarmStretches served = (b : Build) (view : View) (arrivals : List Arrival) (count : ℕ) (state : State) (s : System) (t : ℕ)
     → Fits b → IsSetting (setting_of b view arrivals) → 0 < count → Stands b state s
-    → OpensAlarm b view (arrived arrivals count state) (with_admits (lines_at arrivals count) s) t served
+    → OpensAlarm b view (state_with_arrivals arrivals count state) (with_admits (lines_at arrivals count) s) t served
     → Stretches b view arrivals count state s

@@ -13,7 +13,7 @@ use Rattle.sloth_base.specs.declared.event.Arrival.{Arrival}
 use Rattle.code_lengths.specs.CodeLengths.{tick_length}
 use Rattle.rv32_instr.specs.declared.InstrKind.{InstrKind}
 use Rattle.rv32_instr.specs.declared.InstrKind.TheVariants.{Jal}
-use Rattle.rv32_machine.specs.Run.{arrived}
+use Rattle.rv32_machine.specs.Run.{state_with_arrivals}
 use Rattle.masked_code.specs.Trace.{Trace}
 use Rattle.observe.specs.Observe.{View}
 use Rattle.alarm_gen.specs.Alarms.{counter_alarms}
@@ -29,15 +29,15 @@ use Rattle.sim_relation.specs.Placed.{IsPlaced, setting_of}
 use Rattle.sim_relation.specs.Stands.{Stands}
 
 -- the counter's value is in range
-abbrev pub HasValue : Build → System → ℕ → Type 0
-HasValue b s c = (counter s c).value ≤ (counter_declaration b.config c).max
+abbrev pub HasCounterValue : Build → System → ℕ → Type 0
+HasCounterValue b s c = (counter s c).value ≤ (counter_declaration b.config c).max
 
 -- what holds where the line of a counter is taken
 pub record MayCount (b : Build) (state : State) (s : System) (c : ℕ) : Type 0 where
   pub range : InRange b.config
   pub declared : c < length b.config.counters
   pub stands : Stands b state s
-  pub value : HasValue b s c
+  pub value : HasCounterValue b s c
   pub bytes : AreBelow 256 state.core.ram
 
 -- Its line was taken, and then the code of its tick has run.
@@ -68,6 +68,6 @@ pub record TickStands (b : Build) (c : ℕ) : Type 0 where
 -- Where the line that is taken at a count is that of a counter, the code of its tick is a stretch, whatever lines arrive.
 abbrev pub TickStretch : Type 0
 TickStretch = (b : Build) (view : View) (arrivals : List Arrival) (count c : ℕ) (state : State) (s : System) → IsSetting (setting_of b view arrivals)
-    → Fits b → 0 < count → Stands b state s → choose (arrived arrivals count state).core ≡ Some (counter_line c)
-    → MayCount b (arrived arrivals count state) (with_admits (lines_at arrivals count) s) c → TickStands b c
+    → Fits b → 0 < count → Stands b state s → choose (state_with_arrivals arrivals count state).core ≡ Some (counter_line c)
+    → MayCount b (state_with_arrivals arrivals count state) (with_admits (lines_at arrivals count) s) c → TickStands b c
     → (next : State) × (trace : Trace) × (end : State) × StretchLaw (setting_of b view arrivals) (Stands b) count state s next trace end

@@ -7,7 +7,7 @@ use Rattle.sloth_base.specs.declared.lines.LineKind.{LineKind}
 use Rattle.sloth_base.specs.declared.lines.LineKind.TheVariants as line_of
 use Rattle.sloth_base.specs.declared.step.Step.{Step}
 use Rattle.sloth_base.specs.Owners.{first_counter_line, counter_line, line_kind, owners_in}
-use Rattle.sloth_base.specs.Named.{alarms_of, greatest_below, most_alarms}
+use Rattle.sloth_base.specs.Named.{alarms_of, greatest_value_below, most_alarms}
 use Rattle.sloth_base.specs.Stretches.{Boots, Takes, beginning_of, later_beginning, stretch_limit, touch_limit, entry_limit, entry_touches, longest_stretch}
 use Rattle.sloth_base.proofs.Owners.{kind_of_task, kind_of_counter, kind_tells}
 
@@ -17,12 +17,12 @@ begins_later first h = ap (λ b. cond b Boots (later_beginning first.entered)) (
 -- ---- the greatest number of alarms
 
 -- a value of a function is at most the greatest
-pub at_most_greatest : (n : ℕ) (f : ℕ → ℕ) (k : ℕ) → k < n → f k ≤ greatest_below n f
+pub at_most_greatest : (n : ℕ) (f : ℕ → ℕ) (k : ℕ) → k < n → f k ≤ greatest_value_below n f
 at_most_greatest zero f k h = absurd (omega arith)
 at_most_greatest (suc n) f k h =
-    let left : f n ≤ greatest_below (suc n) f = le-max_left (f n) (greatest_below n f) in
-    let right : greatest_below n f ≤ greatest_below (suc n) f = le-max_right (f n) (greatest_below n f) in
-    ⊎_elim (λ (e : k ≡ n). subst (λ j. f j ≤ greatest_below (suc n) f) (sym e) left)
+    let left : f n ≤ greatest_value_below (suc n) f = le-max_left (f n) (greatest_value_below n f) in
+    let right : greatest_value_below n f ≤ greatest_value_below (suc n) f = le-max_right (f n) (greatest_value_below n f) in
+    ⊎_elim (λ (e : k ≡ n). subst (λ j. f j ≤ greatest_value_below (suc n) f) (sym e) left)
     (λ (e : k ≡ n → ⊥). let earlier = at_most_greatest n f k (omega arith) in omega (arith, earlier, right)) (cases_eq k n)
 
 pub alarms_at_most : (config : Config) (c : ℕ) → c < length config.counters → alarms_of config c ≤ most_alarms config
@@ -30,7 +30,7 @@ alarms_at_most config c h = at_most_greatest (length config.counters) (alarms_of
 
 -- where there is no counter it is 0
 pub no_alarms : (config : Config) → length config.counters ≡ 0 → most_alarms config ≡ 0
-no_alarms config none = ap (λ n. greatest_below n (alarms_of config)) none
+no_alarms config none = ap (λ n. greatest_value_below n (alarms_of config)) none
 
 -- ---- limits
 

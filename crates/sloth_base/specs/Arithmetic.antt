@@ -21,8 +21,8 @@ complement (pos n) = n
 complement (negsuc n) = 2 ^ 32 - 1 - n
 
 -- the word that a number of `n` bits becomes by sign extension
-abbrev pub sign_extended : ℕ → ℕ → ℕ
-sign_extended n v = complement (signed n v)
+abbrev pub sign_extension : ℕ → ℕ → ℕ
+sign_extension n v = complement (signed n v)
 
 -- ---- sums, which wrap
 
@@ -51,12 +51,12 @@ one_if test = if test then 1 else 0
 -- ---- shifts, by at most 31
 
 -- SLL
-abbrev pub shifted_left : ℕ → ℕ → ℕ
-shifted_left a count = a * 2 ^ count % 2 ^ 32
+abbrev pub left_shift : ℕ → ℕ → ℕ
+left_shift a count = a * 2 ^ count % 2 ^ 32
 
 -- SRL: zeros come in
-abbrev pub shifted_right : ℕ → ℕ → ℕ
-shifted_right a count = a / 2 ^ count
+abbrev pub right_shift : ℕ → ℕ → ℕ
+right_shift a count = a / 2 ^ count
 
 -- a signed number halved so many times, rounding down
 abbrev pub halved_number : ℤ → ℕ → ℤ
@@ -64,8 +64,8 @@ halved_number (pos a) count = pos (a / 2 ^ count)
 halved_number (negsuc a) count = negsuc (a / 2 ^ count)
 
 -- SRA: the sign comes in
-abbrev pub shifted_right_signed : ℕ → ℕ → ℕ
-shifted_right_signed a count = complement (halved_number (signed 32 a) count)
+abbrev pub signed_right_shift : ℕ → ℕ → ℕ
+signed_right_shift a count = complement (halved_number (signed 32 a) count)
 
 -- ---- the two parts of a word, for LUI and ADDI (RISC-V assembly: %hi and %lo): the word is hi * 2^12 + lo modulo 2^32
 
@@ -89,8 +89,8 @@ size_of width.HalfU = 2
 
 -- the word that a load makes of the number in its bytes
 abbrev pub extended_number : Width → ℕ → ℕ
-extended_number width.Byte value = sign_extended 8 value
-extended_number width.Half value = sign_extended 16 value
+extended_number width.Byte value = sign_extension 8 value
+extended_number width.Half value = sign_extension 16 value
 extended_number width.Word value = value
 extended_number width.ByteU value = value
 extended_number width.HalfU value = value
@@ -101,12 +101,12 @@ extended_number width.HalfU value = value
 abbrev pub register_result : AluKind → ℕ → ℕ → ℕ
 register_result alu.Add a b = sum32 a b
 register_result alu.Sub a b = difference32 a b
-register_result alu.Sll a b = shifted_left a (b % 32)
+register_result alu.Sll a b = left_shift a (b % 32)
 register_result alu.Slt a b = one_if (signed_less a b)
 register_result alu.Sltu a b = one_if (nat_lt a b)
 register_result alu.Xor a b = bit_xor a b
-register_result alu.Srl a b = shifted_right a (b % 32)
-register_result alu.Sra a b = shifted_right_signed a (b % 32)
+register_result alu.Srl a b = right_shift a (b % 32)
+register_result alu.Sra a b = signed_right_shift a (b % 32)
 register_result alu.Or a b = bit_or a b
 register_result alu.And a b = bit_and a b
 
@@ -118,9 +118,9 @@ number_result imm.Sltiu a b = one_if (nat_lt a b)
 number_result imm.Xori a b = bit_xor a b
 number_result imm.Ori a b = bit_or a b
 number_result imm.Andi a b = bit_and a b
-number_result imm.Slli a b = shifted_left a b
-number_result imm.Srli a b = shifted_right a b
-number_result imm.Srai a b = shifted_right_signed a b
+number_result imm.Slli a b = left_shift a b
+number_result imm.Srli a b = right_shift a b
+number_result imm.Srai a b = signed_right_shift a b
 
 -- whether a test of two registers holds
 abbrev pub branch_holds : BranchKind → ℕ → ℕ → Bool

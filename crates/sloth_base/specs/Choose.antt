@@ -35,14 +35,14 @@ better_line lines (Some best) line =
     if nat_lt (slice_index lines.levels best) (slice_index lines.levels line) then Some line else Some best
 
 -- the best line below a number
-unfoldable pub best_below : Lines → ℕ → ℕ → Option ℕ
-best_below lines level zero = None
-best_below lines level (suc line) =
-    if may_take lines level line then better_line lines (best_below lines level line) line else best_below lines level line
+unfoldable pub best_line_below : Lines → ℕ → ℕ → Option ℕ
+best_line_below lines level zero = None
+best_line_below lines level (suc line) =
+    if may_take lines level line then better_line lines (best_line_below lines level line) line else best_line_below lines level line
 
 -- the best of the 32 lines
 unfoldable pub choose_line : Lines → ℕ → Option ℕ
-choose_line lines level = best_below lines level 32
+choose_line lines level = best_line_below lines level 32
 
 -- the choice in a state of the machine; without a controller there is none
 unfoldable pub choose : Core → Option ℕ

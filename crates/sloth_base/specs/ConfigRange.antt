@@ -82,8 +82,3 @@ pub record InRange (config : Config) : Type 0 where
   pub counters_apart : AreApart (map (λ c. c.name) config.counters) (map (λ t. t.name) config.tasks)
   pub counters : All IsCounter config.counters
   pub alarms : All (IsAlarm config) config.alarms
-
--- a configuration without counters, and so without alarms
-pub record HasNoCounters (config : Config) : Type 0 where
-  pub counters : config.counters ≡ []
-  pub alarms : config.alarms ≡ []

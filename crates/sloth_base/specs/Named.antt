@@ -15,12 +15,12 @@ use Rattle.sloth_base.specs.declared.app.Symbol.{Symbol}
 use Rattle.sloth_base.specs.Options.{is_number}
 
 -- what stands in the place of a task that is not declared
-abbrev pub undeclared : TaskDecl
-undeclared = record { name = []; priority = 0; extended = false; non = false; autostart = false; resources = []; events = 0 }
+abbrev pub undeclared_task : TaskDecl
+undeclared_task = record { name = []; priority = 0; extended = false; non = false; autostart = false; resources = []; events = 0 }
 
 -- a task's declaration
 abbrev pub declaration : Config → ℕ → TaskDecl
-declaration config t = get_or config.tasks t undeclared
+declaration config t = get_or config.tasks t undeclared_task
 
 -- ---- counters and alarms
 
@@ -49,31 +49,31 @@ abbrev pub alarms_of : Config → (counter : ℕ) → ℕ
 alarms_of config c = count_by (λ alarm. alarm.counter == c) config.alarms
 
 -- the greatest of the first n values of a function, 0 where there is none
-abbrev pub greatest_below : ℕ → (ℕ → ℕ) → ℕ
-greatest_below zero f = 0
-greatest_below (suc n) f = max (f n) (greatest_below n f)
+abbrev pub greatest_value_below : ℕ → (ℕ → ℕ) → ℕ
+greatest_value_below zero f = 0
+greatest_value_below (suc n) f = max (f n) (greatest_value_below n f)
 
 -- the greatest number of alarms of one counter
 abbrev pub most_alarms : Config → ℕ
-most_alarms config = greatest_below (length config.counters) (alarms_of config)
+most_alarms config = greatest_value_below (length config.counters) (alarms_of config)
 
 -- ---- functions, items and data
 
 -- what stands in the place of a function that is not there
-abbrev pub missing : Func
-missing = record { name = []; line = 0; task = None; frame_words = 0; items = []; labels = [] }
+abbrev pub no_function : Func
+no_function = record { name = []; line = 0; task = None; frame_words = 0; items = []; labels = [] }
 
 -- a function by its number
 abbrev pub function : App → ℕ → Func
-function app f = get_or app.funcs f missing
+function app f = get_or app.funcs f no_function
 
 -- what stands in the place of a label that is not there
-abbrev pub nowhere : Label
-nowhere = record { name = []; line = 0; item = 0; holds = [] }
+abbrev pub no_label : Label
+no_label = record { name = []; line = 0; item = 0; holds = [] }
 
 -- a label of a function
 abbrev pub label_of : Func → ℕ → Label
-label_of f k = get_or f.labels k nowhere
+label_of f k = get_or f.labels k no_label
 
 -- what stands in the place of an item that is not there
 abbrev pub no_item : Item

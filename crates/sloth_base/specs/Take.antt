@@ -27,10 +27,10 @@ abbrev pub line_to_take : State → Option ℕ
 line_to_take state = if state.core.mie then choose state.core else None
 
 -- the state after the entry of a line, if there is one
-abbrev pub enter : Option ℕ → State → State
-enter None state = state
-enter (Some line) state = take line state
+abbrev pub entry_state : Option ℕ → State → State
+entry_state None state = state
+entry_state (Some line) state = take line state
 
 -- the state in which the next instruction is executed
-abbrev pub entered : State → State
-entered state = enter (line_to_take state) state
+abbrev pub execution_state : State → State
+execution_state state = entry_state (line_to_take state) state

@@ -11,23 +11,23 @@ use Rattle.code_rules.specs.WellFormed.{WellFormed}
 use Rattle.osek_blocking.proofs.Protocol.{keeps_protocol}
 use Rattle.run_bounds.proofs.Runs.{keeps_blocking_bounds}
 use Rattle.sim_induction.specs.Sound.{Sound, events_of}
-use Rattle.sloth_source.specs.Texts.{Accepted}
+use Rattle.sloth_source.specs.Texts.{AreAccepted}
 use Rattle.command_line.specs.Command.{Run, IsInLimit}
 use Rattle.sloth_cli.specs.Top.{RunsKeepProtocol, RunsKeepBlockingBounds, ShownKeepProtocol, ShownKeepBlockingBounds}
 
 -- accepted task code is well formed
-well_formed : (oil src : List ℕ) (config : Config) (app : App) → AppInRange config app → Accepted oil src config app → WellFormed config app
+well_formed : (oil src : List ℕ) (config : Config) (app : App) → AppInRange config app → AreAccepted oil src config app → WellFormed config app
 well_formed oil src config app range accepted =
     let code = accepted.code in
     record { in_range = range; no_cycle = code.no_cycle; no_fault = code.no_fault }
 
 -- and each run of its image is one of the abstract scheduler
-pub runs-keep : (oil src : List ℕ) (config : Config) (app : App) (image : Image) → AppInRange config app → Accepted oil src config app → Sound config app image
+pub runs-keep : (oil src : List ℕ) (config : Config) (app : App) (image : Image) → AppInRange config app → AreAccepted oil src config app → Sound config app image
     → RunsKeepProtocol config app image
 runs-keep oil src config app image range accepted sound arrivals n in_range few =
     keeps_protocol config app (events_of image arrivals n) (well_formed oil src config app range accepted) (sound.each arrivals n in_range few).osek
 
-pub runs-keep_bounds : (oil src : List ℕ) (config : Config) (app : App) (image : Image) → AppInRange config app → Accepted oil src config app
+pub runs-keep_bounds : (oil src : List ℕ) (config : Config) (app : App) (image : Image) → AppInRange config app → AreAccepted oil src config app
     → Sound config app image → RunsKeepBlockingBounds config app image
 runs-keep_bounds oil src config app image range accepted sound arrivals n in_range few =
     keeps_blocking_bounds config app image arrivals n (well_formed oil src config app range accepted) (sound.each arrivals n in_range few)

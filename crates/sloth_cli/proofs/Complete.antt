@@ -13,7 +13,7 @@ use Rattle.sloth_io.specs.Counts.{Rose, Stays}
 use Rattle.sloth_io.specs.Sink.{Output, HasNoSpace}
 use Rattle.sloth_io.specs.Store.{Files, Holds, IsMissing, IsTooLong, IsUnwritten}
 use Rattle.image_file.specs.ImageText.{image_bytes}
-use Rattle.sloth_source.specs.Texts.{Accepted}
+use Rattle.sloth_source.specs.Texts.{AreAccepted}
 use Rattle.sloth_source.proofs.Unique.{one_meaning}
 use Rattle.command_line.specs.LastLine.{refusal_line}
 use Rattle.command_line.specs.Command.{Command, Building, Run, Builds, Uses, IsCommand, IsNoTool, NoCommand}
@@ -104,7 +104,7 @@ told-refusal old c oil src arr r s there refused refusal =
     one-way refused.oil refused.src refused.arr r s refused.is (subst (λ x. IsRefusal x refused.src refused.arr s) oil_is by_src)
 
 refused-verdict : (old : Files) (c : Building) (config : Config) (app : App) (oil src arr : List ℕ) (r : Refusal)
-    → AreThere old c oil src arr → Accepted oil src config app → NoFault (ArrivalsFault (names_of config) (counter_names config) arr) → IsRefused old c r → ⊥
+    → AreThere old c oil src arr → AreAccepted oil src config app → NoFault (ArrivalsFault (names_of config) (counter_names config) arr) → IsRefused old c r → ⊥
 refused-verdict old c config app oil src arr r there h none refused =
     let i = refused.inputs in
     let oil_is : refused.oil ≡ oil = told old c.oil refused.oil oil there.tells i.oil_read there.inputs.oil_read in
@@ -206,15 +206,15 @@ stands wanted answer words old new text w q (inr p) = absurd (no-broken-put old.
 
 -- the inputs have one meaning
 one-app : (old : Files) (c : Building) (oil src arr : List ℕ) (config other : Config) (app another : App) (arrivals others : List Arrival)
-    → AreThere old c oil src arr → Accepted oil src config app → AreRead (names_of config) (counter_names config) arr arrivals → IsAccepted old c other another others
+    → AreThere old c oil src arr → AreAccepted oil src config app → AreRead (names_of config) (counter_names config) arr arrivals → IsAccepted old c other another others
     → (other ≡ config) × (another ≡ app) × (others ≡ arrivals)
 one-app old c oil src arr config other app another arrivals others there h read g =
     let i = g.inputs in
     let oil_is : g.oil ≡ oil = told old c.oil g.oil oil there.tells i.oil_read there.inputs.oil_read in
     let src_is : g.src ≡ src = told old c.src g.src src there.tells i.src_read there.inputs.src_read in
     let arr_is : g.arr ≡ arr = told-arrivals old c.run g.arr arr there.tells i.arr_read there.inputs.arr_read in
-    let by_src : Accepted g.oil src other another = subst (λ x. Accepted g.oil x other another) src_is g.accepted in
-    let same = one_meaning oil src other config another app (subst (λ x. Accepted x src other another) oil_is by_src) h in
+    let by_src : AreAccepted g.oil src other another = subst (λ x. AreAccepted g.oil x other another) src_is g.accepted in
+    let same = one_meaning oil src other config another app (subst (λ x. AreAccepted x src other another) oil_is by_src) h in
     let by_names = ap (λ (k : Config). arrivals_in (names_of k) (counter_names k) g.arr) same.0 in
     let by_text = ap (λ x. arrivals_in (names_of config) (counter_names config) x) arr_is in
     (same.0, same.1, g.read.arrivals_are ∙ (by_names ∙ (by_text ∙ sym read.arrivals_are)))
@@ -226,7 +226,7 @@ image-of config other app another image same h =
     subst (λ x. IsBuiltImage config x image) same.1 (subst (λ x. IsBuiltImage x another image) same.0 h)
 
 module _ (old new : World) (c : Building) (oil src arr : List ℕ) (config : Config) (app : App) (arrivals : List Arrival)
-    (there : AreThere old.files c oil src arr) (h : Accepted oil src config app) (read : AreRead (names_of config) (counter_names config) arr arrivals)
+    (there : AreThere old.files c oil src arr) (h : AreAccepted oil src config app) (read : AreRead (names_of config) (counter_names config) arr arrivals)
     (works : CallsWork c config app arrivals old new) where
   complete-by : (wanted answer : Status) (words : List (List ℕ)) (text : List ℕ) → Requires wanted words old.files new.files text
       → Puts wanted answer old.sink new.sink text → IsCommand words (Builds c)

@@ -8,7 +8,7 @@ use Rattle.sloth_base.specs.declared.refusal.Refusal.{Refusal}
 use Rattle.least_fault.specs.Order.{IsLeast}
 use Rattle.sloth_io.specs.Store.{Files, Holds, IsMissing, IsTooLong}
 use Rattle.image_file.specs.ImageText.{ImageText}
-use Rattle.image_file.specs.Faults.{Faulty}
+use Rattle.image_file.specs.Faults.{IsFirstImageFault}
 use Rattle.image_file.specs.declared.fault.ImageFault.{ImageFault}
 use Rattle.image_file.proofs.Faulted.{fault_is_one, none_is_both}
 use Rattle.image_file.proofs.Images.{image-unique}
@@ -146,7 +146,7 @@ own-image old (Uses u) file a tells i h other = other-answer old u file a tells 
 -- what an answer says of the image file: it is one, or has this fault, or memory was wanting
 abbrev Verdict : Status → List ℕ → List ℕ → Type 0
 Verdict wanted file text =
-    HasImage file ⊎ (((wanted ≡ status.NotAnImage) × ((fault : ImageFault) × Faulty fault file × (text ≡ no_image_line fault))) ⊎ (wanted ≡ status.NoMemory))
+    HasImage file ⊎ (((wanted ≡ status.NotAnImage) × ((fault : ImageFault) × IsFirstImageFault fault file × (text ≡ no_image_line fault))) ⊎ (wanted ≡ status.NoMemory))
 
 module _ (words : List (List ℕ)) (old new : Files) (text : List ℕ) (c : Command) (file : List ℕ) (is : IsCommand words c) (tells : IsTrue old.tells)
     (i : ReadsImageFile old c file) (works : ReadsWork old new) where
@@ -157,7 +157,7 @@ module _ (words : List (List ℕ)) (old new : Files) (text : List ℕ) (c : Comm
   verdict status.NotAnImage q =
       let n = subst (λ x. IsNoImage old x q.2) (one-command words q.0 c q.1 is) q.3 in
       let same : n.file ≡ file = told-file old c n.file file tells n.inputs i in
-      inr (inl (refl, (q.2, subst (Faulty q.2) same n.faulty, q.4)))
+      inr (inl (refl, (q.2, subst (IsFirstImageFault q.2) same n.faulty, q.4)))
   verdict status.NoMemory q = inr (inr refl)
   verdict status.Usage q = absurd (q.0 c is)
   verdict status.ReadFault q =
@@ -174,7 +174,7 @@ module _ (words : List (List ℕ)) (old new : Files) (text : List ℕ) (c : Comm
       inl (own-image old c file tool_answer.NoHolds tells i (subst (AnswersAs old tool_answer.NoHolds) (one-command words (Uses q.0) c q.1 is) q.2)
       (λ fault e. let same : tool_answer.NoHolds ≡ tool_answer.NotAnImage fault = e in cc))
 
-fault-by : (wanted answer : Status) (old new : World) (file text : List ℕ) (fault : ImageFault) → Faulty fault file → Verdict wanted file text
+fault-by : (wanted answer : Status) (old new : World) (file text : List ℕ) (fault : ImageFault) → IsFirstImageFault fault file → Verdict wanted file text
     → Puts wanted answer old.sink new.sink text → AnswersFault old new fault answer
 fault-by wanted answer old new file text fault h (inl image) p = absurd (none_is_both file image.0 fault image.1 h)
 fault-by wanted answer old new file text fault h v (inr p) = inr (inr (p.0, counted-put old.sink new.sink text p.1))
@@ -234,7 +234,7 @@ module _ (words : List (List ℕ)) (old new : World) (answer : Status) (e : Exec
   no-fault : (fault : ImageFault) → IsNoImage old.files (Executes e) fault → ⊥
   no-fault fault n =
       let same : n.file ≡ file = told-file old.files (Executes e) n.file file tells n.inputs (arr, i) in
-      none_is_both file image fault is_image (subst (Faulty fault) same n.faulty)
+      none_is_both file image fault is_image (subst (IsFirstImageFault fault) same n.faulty)
 
   executed-by : (wanted : Status) (arrivals : List Arrival) (text : List ℕ) → AreRead image.tasks image.counters arr arrivals → LinesWork old new (exec_text image arrivals e.n)
       → Requires wanted words old.files new.files text → Puts wanted answer old.sink new.sink text
@@ -331,7 +331,7 @@ module _ (words : List (List ℕ)) (old new : World) (answer : Status) (img file
   listed-by status.NotAnImage text q p =
       let n = subst (λ x. IsNoImage old.files x q.2) (one-command words q.0 (Lists img) q.1 is) q.3 in
       let same : n.file ≡ file = told-file old.files (Lists img) n.file file tells n.inputs i in
-      absurd (none_is_both file image q.2 is_image (subst (Faulty q.2) same n.faulty))
+      absurd (none_is_both file image q.2 is_image (subst (IsFirstImageFault q.2) same n.faulty))
   listed-by status.Stopped text q p = absurd (subst (λ x. CommandStopped old.files new.files x text) (one-command words q.0 (Lists img) q.1 is) q.2)
   listed-by status.Refused text q p = absurd (subst (λ x. CommandRefused old.files x q.2) (one-command words q.0 (Lists img) q.1 is) q.3)
   listed-by status.Usage text q p = absurd (q.0 (Lists img) is)

@@ -13,14 +13,14 @@ use Rattle.sloth_cli.specs.Samples.{sample_arrivals, sample_text}
 use Rattle.sloth_cli.specs.Top.{World, world, HasSpace, CallsWork, done_text}
 use Rattle.sloth_cli.specs.ImageAnswers.{LinesWork}
 use Rattle.sloth_cli.specs.SampleAnswers.{SampleWorks}
-use Rattle.sloth_cli.specs.InMemory.{HasRoom, NoneFails, AreEnough, AreEnoughForLines, AreEnoughForSample}
+use Rattle.sloth_cli.specs.InMemory.{HasSinkRoom, NoneFails, AreEnough, AreEnoughForLines, AreEnoughForSample}
 
 -- a store without failing calls is sure
 sure-of : (store : MemStore) (sink : MemSink) → NoneFails store sink → IsTrue (is_sure store.fails.items)
 sure-of store sink none = subst (λ (f : List ℕ). IsTrue (is_sure f)) (sym none.store_calls) refl
 
 -- a sink without failing calls tells its space
-room : (store : MemStore) (sink : MemSink) (text : List ℕ) → NoneFails store sink → HasRoom sink text
+room : (store : MemStore) (sink : MemSink) (text : List ℕ) → NoneFails store sink → HasSinkRoom sink text
     → HasSpace (Some (taken_by sink)) (told_space sink.buffer.space sink.fails.items) text
 room store sink text none enough =
     subst (λ (f : List (ℕ × ℕ)). HasSpace (Some (taken_by sink)) (told_space sink.buffer.space f) text) (sym none.sink_calls) enough

@@ -11,7 +11,7 @@ use Rattle.sloth_base.specs.Owners.{IsOwned, owners_in}
 use Rattle.code_rules.specs.AppRange.{AppInRange}
 use Rattle.next_events.proofs.WithoutArrivals.{only_run}
 use Rattle.sim_induction.specs.Sound.{Sound, events_of}
-use Rattle.sloth_source.specs.Texts.{Accepted}
+use Rattle.sloth_source.specs.Texts.{AreAccepted}
 use Rattle.sloth_cli.specs.Top.{RunsAreOnly}
 
 -- no arrivals are arrivals of any owners
@@ -24,7 +24,7 @@ no_arrivals owners = record {
 }
 
 -- accepted task code is well formed, and each run of its image is one of the abstract scheduler and in time
-pub runs-only : (oil src : List ℕ) (config : Config) (app : App) (image : Image) → AppInRange config app → Accepted oil src config app → Sound config app image
+pub runs-only : (oil src : List ℕ) (config : Config) (app : App) (image : Image) → AppInRange config app → AreAccepted oil src config app → Sound config app image
     → RunsAreOnly config app image
 runs-only oil src config app image range accepted sound n few =
     let code = accepted.code in

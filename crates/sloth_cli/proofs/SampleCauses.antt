@@ -9,7 +9,7 @@ use Rattle.sloth_base.specs.Owners.{owners_in}
 use Rattle.sloth_io.specs.Sink.{Output}
 use Rattle.sloth_io.specs.Store.{Files}
 use Rattle.image_file.specs.ImageText.{image_bytes}
-use Rattle.sloth_source.specs.Texts.{Accepted}
+use Rattle.sloth_source.specs.Texts.{AreAccepted}
 use Rattle.command_line.specs.Command.{Samples}
 use Rattle.sloth_runner.proofs.SoundRuns.{whole-run}
 use Rattle.sloth_cli.specs.Samples.{sample_oil, sample_source, sample_arrivals, sample_text}
@@ -23,11 +23,11 @@ use Rattle.sloth_cli.specs.declared.failure.Failure.TheVariants as failure
 pub record IsGenerated (seed : ℕ) (image : Image) : Type 0 where
   pub config : Config
   pub app : App
-  pub accepted : Accepted sample_oil (sample_source seed) config app
+  pub accepted : AreAccepted sample_oil (sample_source seed) config app
   pub is_image : IsBuiltImage config app image
   pub in_range : AreArrivals (owners_in config) (sample_arrivals seed)
 
-pub generated : (seed : ℕ) (config : Config) (app : App) (image : Image) (arrivals : List Arrival) → Accepted sample_oil (sample_source seed) config app
+pub generated : (seed : ℕ) (config : Config) (app : App) (image : Image) (arrivals : List Arrival) → AreAccepted sample_oil (sample_source seed) config app
     → IsBuiltImage config app image → arrivals ≡ sample_arrivals seed → AreArrivals (owners_in config) arrivals → IsGenerated seed image
 generated seed config app image arrivals accepted is_image are in_range = record {
   config = config;

@@ -5,7 +5,7 @@ use Rattle.sloth_base.specs.declared.config.Config.{Config}
 use Rattle.sloth_base.specs.declared.app.App.{App}
 use Rattle.sloth_base.specs.declared.refusal.Refusal.{Refusal}
 use Rattle.image_file.specs.ImageText.{image_bytes}
-use Rattle.sloth_source.specs.Texts.{Accepted, FirstRefusal}
+use Rattle.sloth_source.specs.Texts.{AreAccepted, FirstRefusal}
 use Rattle.sloth_source.proofs.Refusals.{one_refusal}
 use Rattle.sloth_source.proofs.Unique.{one_meaning, never_both}
 use Rattle.command_line.specs.Command.{Samples, IsCommand}
@@ -49,7 +49,7 @@ module _ (words : List (List ℕ)) (old new : World) (answer : Status) (seed : �
   refused-by status.BadTrace text r refusal q p = absurd (no-tool words q.0 (Samples seed img) q.1 is tt)
   refused-by status.NoHolds text r refusal q p = absurd (no-tool words q.0 (Samples seed img) q.1 is tt)
 
-  sampled-by : (wanted : Status) (text : List ℕ) (config : Config) (app : App) → Accepted sample_oil (sample_source seed) config app
+  sampled-by : (wanted : Status) (text : List ℕ) (config : Config) (app : App) → AreAccepted sample_oil (sample_source seed) config app
       → SampleWorks seed img config app old new → Requires wanted words old.files new.files text → Puts wanted answer old.sink new.sink text
       → EndsAs status.Done words old new answer ⊎ EndsAs status.NoMemory words old new answer
   sampled-by status.Done text config app accepted works q p =

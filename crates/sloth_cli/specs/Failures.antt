@@ -10,9 +10,10 @@ use Rattle.sloth_base.specs.declared.image.Image.{Image}
 use Rattle.least_fault.specs.Order.{IsLeast}
 use Rattle.trace_text.specs.ArrivalsText.{ArrivalsFault}
 use Rattle.image_file.specs.ImageText.{ImageText}
-use Rattle.image_file.specs.Faults.{Faulty}
-use Rattle.image_file.specs.declared.fault.ImageError.{ImageError}
-use Rattle.image_file.specs.declared.fault.ImageError.TheVariants as image_error
+use Rattle.image_file.specs.Faults.{IsFirstImageFault}
+use Rattle.image_file.specs.declared.fault.ImageFault.{ImageFault}
+use Rattle.image_file.specs.declared.fault.FileError.{FileError}
+use Rattle.image_file.specs.declared.fault.FileError.TheVariants as image_error
 use Rattle.sloth_source.specs.Texts.{FirstRefusal}
 use Rattle.command_line.specs.Command.{Command, Builds, Executes, Lists, Samples, Uses}
 use Rattle.tool_commands.specs.Lines.{tool_text}
@@ -41,7 +42,7 @@ judge_failure (error.Refused refusal) = failure.Refused refusal
 judge_failure error.Memory = failure.NoMemory
 
 -- the failure of reading an image that ended so
-abbrev pub image_failure : ImageError → Failure
+abbrev pub image_failure : FileError ImageFault → Failure
 image_failure (image_error.Fault fault) = failure.NotAnImage fault
 image_failure image_error.Memory = failure.NoMemory
 
@@ -73,7 +74,7 @@ SampleFailed _ seed = ⊥
 
 -- no image and no arrivals were read of these files for this reason
 abbrev pub LoadFailed : Failure → List ℕ → List ℕ → Type 0
-LoadFailed (failure.NotAnImage fault) file arr = Faulty fault file
+LoadFailed (failure.NotAnImage fault) file arr = IsFirstImageFault fault file
 LoadFailed (failure.Refused refusal) file arr = (image : Image) × ImageText file image × IsLeast (ArrivalsFault image.tasks image.counters arr) refusal
 LoadFailed failure.NoMemory file arr = Unit {0}
 LoadFailed _ file arr = ⊥

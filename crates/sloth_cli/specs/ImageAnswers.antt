@@ -5,7 +5,7 @@ use Rattle.sloth_base.specs.declared.image.Image.{Image}
 use Rattle.sloth_base.specs.declared.refusal.Refusal.{Refusal}
 use Rattle.least_fault.specs.Order.{IsLeast}
 use Rattle.image_file.specs.ImageText.{ImageText}
-use Rattle.image_file.specs.Faults.{Faulty}
+use Rattle.image_file.specs.Faults.{IsFirstImageFault}
 use Rattle.image_file.specs.declared.fault.ImageFault.{ImageFault}
 use Rattle.trace_text.specs.ArrivalsText.{ArrivalsFault}
 use Rattle.trace_text.specs.Listing.{listing}
@@ -45,7 +45,7 @@ AnswersFault old new fault answer =
 abbrev pub TellsFault : List (List ℕ) → World → World → Status → Type 0
 TellsFault words old new answer =
     (c : Command) → IsCommand words c → IsTrue old.files.tells → (file : List ℕ) → ReadsImageFile old.files c file → ReadsWork old.files new.files
-    → (fault : ImageFault) → Faulty fault file → AnswersFault old new fault answer
+    → (fault : ImageFault) → IsFirstImageFault fault file → AnswersFault old new fault answer
 
 -- The inputs are there, and no image has the bytes of the image file: NotAnImage.
 abbrev pub TellsNoImage : List (List ℕ) → World → World → Status → Type 0

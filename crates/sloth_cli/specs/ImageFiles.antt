@@ -8,7 +8,7 @@ use Rattle.sloth_base.specs.Owners.{owners_named}
 use Rattle.least_fault.specs.Order.{IsLeast}
 use Rattle.sloth_io.specs.Store.{Files}
 use Rattle.image_file.specs.ImageText.{ImageText}
-use Rattle.image_file.specs.Faults.{Faulty}
+use Rattle.image_file.specs.Faults.{IsFirstImageFault}
 use Rattle.image_file.specs.declared.fault.ImageFault.{ImageFault}
 use Rattle.trace_text.specs.ArrivalsText.{ArrivalsFault}
 use Rattle.trace_text.specs.Listing.{listing}
@@ -91,4 +91,4 @@ pub record IsListed (old : Files) (img : List ℕ) (text : List ℕ) : Type 0 wh
 pub record IsNoImage (old : Files) (c : Command) (fault : ImageFault) : Type 0 where
   pub file : List ℕ
   pub inputs : ReadsImageFile old c file
-  pub faulty : Faulty fault file
+  pub faulty : IsFirstImageFault fault file

@@ -14,8 +14,8 @@ use Rattle.sloth_cli.specs.Samples.{sample_arrivals, sample_text}
 use Rattle.sloth_cli.specs.Top.{IsBuiltImage, done_text}
 
 -- the sink has space for a text
-abbrev pub HasRoom : MemSink → List ℕ → Type 0
-HasRoom sink text = length (taken_by sink) + length text ≤ sink.buffer.space
+abbrev pub HasSinkRoom : MemSink → List ℕ → Type 0
+HasSinkRoom sink text = length (taken_by sink) + length text ≤ sink.buffer.space
 
 -- the store has space for a file of so many bytes
 abbrev pub HasRoomFor : MemStore → List ℕ → ℕ → Type 0
@@ -25,21 +25,21 @@ HasRoomFor store name size = IsTrue (has_space name size (files_of store))
 pub record NoneFails (store : MemStore) (sink : MemSink) : Type 0 where
   pub store_calls : store.fails.items ≡ []
   pub sink_calls : sink.fails.items ≡ []
-  pub last_line : HasRoom sink (codes "no memory\n")
+  pub last_line : HasSinkRoom sink (codes "no memory\n")
 
 -- and there is space for the image and for the lines of a command that builds
 pub record AreEnough (store : MemStore) (sink : MemSink) (c : Building) (config : Config) (app : App) (arrivals : List Arrival) : Type 0 where
   pub calls : NoneFails store sink
   pub file : (image : Image) → IsBuiltImage config app image → HasRoomFor store c.img (length (image_bytes image))
-  pub lines : (image : Image) → IsBuiltImage config app image → HasRoom sink (done_text image arrivals c.run)
+  pub lines : (image : Image) → IsBuiltImage config app image → HasSinkRoom sink (done_text image arrivals c.run)
 
 -- and there is space for the lines of a command on an image file
 pub record AreEnoughForLines (store : MemStore) (sink : MemSink) (text : List ℕ) : Type 0 where
   pub calls : NoneFails store sink
-  pub lines : HasRoom sink text
+  pub lines : HasSinkRoom sink text
 
 -- and there is space for the image and for the summary of a generated application
 pub record AreEnoughForSample (store : MemStore) (sink : MemSink) (seed : ℕ) (img : List ℕ) (config : Config) (app : App) : Type 0 where
   pub calls : NoneFails store sink
   pub file : (image : Image) → IsBuiltImage config app image → HasRoomFor store img (length (image_bytes image))
-  pub lines : (image : Image) → IsBuiltImage config app image → HasRoom sink (sample_text image (sample_arrivals seed))
+  pub lines : (image : Image) → IsBuiltImage config app image → HasSinkRoom sink (sample_text image (sample_arrivals seed))

@@ -5,7 +5,7 @@ use Rattle.sloth_base.specs.declared.app.App.{App}
 use Rattle.sloth_base.specs.declared.image.Image.{Image}
 use Rattle.sloth_base.specs.declared.refusal.Refusal.{Refusal}
 use Rattle.image_file.specs.ImageText.{image_bytes}
-use Rattle.sloth_source.specs.Texts.{Accepted, FirstRefusal}
+use Rattle.sloth_source.specs.Texts.{AreAccepted, FirstRefusal}
 use Rattle.command_line.specs.Command.{Samples, IsCommand}
 use Rattle.sloth_cli.specs.Samples.{sample_oil, sample_source, sample_arrivals, sample_text}
 use Rattle.sloth_cli.specs.Top.{World, IsBuiltImage, EndsAs, AnswersRefused, WritesWork, PutsWork}
@@ -28,5 +28,5 @@ TellsSampleRefused words old new answer =
 abbrev pub TellsSampled : List (List ℕ) → World → World → Status → Type 0
 TellsSampled words old new answer =
     (seed : ℕ) (img : List ℕ) → IsCommand words (Samples seed img)
-    → (config : Config) (app : App) → Accepted sample_oil (sample_source seed) config app → SampleWorks seed img config app old new
+    → (config : Config) (app : App) → AreAccepted sample_oil (sample_source seed) config app → SampleWorks seed img config app old new
     → EndsAs status.Done words old new answer ⊎ EndsAs status.NoMemory words old new answer

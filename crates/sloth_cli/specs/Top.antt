@@ -21,7 +21,7 @@ use Rattle.sloth_io.specs.Store.{Files, Holds, KeepsOthers, IsMissing, IsTooLong
 use Rattle.image_file.specs.ImageText.{image_bytes}
 use Rattle.image_file.specs.declared.fault.ImageFault.{ImageFault}
 use Rattle.rv32_instr.specs.declared.stop.Stop.{Stop}
-use Rattle.sloth_source.specs.Texts.{Accepted, FirstRefusal}
+use Rattle.sloth_source.specs.Texts.{AreAccepted, FirstRefusal}
 use Rattle.command_line.specs.Command.{Command, Building, Run, Builds, Executes, Lists, Samples, Uses, IsCommand, NoCommand}
 use Rattle.command_line.specs.Tools.{ToolUse}
 use Rattle.elf_image.specs.declared.fault.ElfFault.{ElfFault}
@@ -117,7 +117,7 @@ pub record IsAccepted (old : Files) (c : Building) (config : Config) (app : App)
   pub src : List ℕ
   pub arr : List ℕ
   pub inputs : AreInputs old c oil src arr
-  pub accepted : Accepted oil src config app
+  pub accepted : AreAccepted oil src config app
   pub read : AreRead (names_of config) (counter_names config) arr arrivals
   -- so they are among those of which an image is sound
   pub in_range : AreArrivals (owners_in config) arrivals
@@ -209,7 +209,7 @@ pub record IsSampled (old new : Files) (seed : ℕ) (img text : List ℕ) : Type
   pub config : Config
   pub app : App
   pub image : Image
-  pub accepted : Accepted sample_oil (sample_source seed) config app
+  pub accepted : AreAccepted sample_oil (sample_source seed) config app
   pub is_image : IsBuiltImage config app image
   pub written : IsWritten old new img (image_bytes image)
   pub text_is : text ≡ sample_text image (sample_arrivals seed)
@@ -224,7 +224,7 @@ pub record IsUnwrittenSample (old new : Files) (seed : ℕ) (img : List ℕ) : T
   pub config : Config
   pub app : App
   pub image : Image
-  pub accepted : Accepted sample_oil (sample_source seed) config app
+  pub accepted : AreAccepted sample_oil (sample_source seed) config app
   pub is_image : IsBuiltImage config app image
   pub failed : IsUnwritten old new img (length (image_bytes image))
   pub others : KeepsOthers old new img
@@ -408,5 +408,5 @@ TellsRefused words old new answer =
 abbrev pub IsComplete : List (List ℕ) → World → World → Status → Type 0
 IsComplete words old new answer =
     (c : Building) → IsCommand words (Builds c) → (oil src arr : List ℕ) → AreThere old.files c oil src arr
-    → (config : Config) (app : App) → Accepted oil src config app → (arrivals : List Arrival) → AreRead (names_of config) (counter_names config) arr arrivals
+    → (config : Config) (app : App) → AreAccepted oil src config app → (arrivals : List Arrival) → AreRead (names_of config) (counter_names config) arr arrivals
     → CallsWork c config app arrivals old new → EndsAs status.Done words old new answer ⊎ EndsAs status.NoMemory words old new answer

@@ -1,5 +1,5 @@
 //! Reads the files that a command names.
-ghost use Rattle.std.specs.Prelude.{◌≡◌, ◌≤◌, IfOk, IfErr, length};
+ghost use Rattle.std.specs.Prelude.{◌≤◌, IfOk, IfErr, length};
 ghost use Rattle.sloth_io.specs.Store.{KeepsFiles, Holds};
 ghost use Rattle.sloth_cli.specs.Inputs.{input_limit};
 ghost use Rattle.sloth_cli.specs.Failures.{FetchFailed};

@@ -1,5 +1,5 @@
 //! Puts listings.
-ghost use Rattle.std.specs.Prelude.{◌≡◌, ◌+◌, ◌≤◌, ◌/◌, ◌∷◌, [], ◌++◌, OnOk, OnErr, length};
+ghost use Rattle.std.specs.Prelude.{◌≡◌, ◌≤◌, ◌/◌, ◌∷◌, [], ◌++◌, OnOk, OnErr, length};
 ghost use Rattle.sloth_base.specs.ImageRange.{InFormat};
 ghost use Rattle.sloth_io.specs.Sink.{output_with, GainsPart};
 ghost use Rattle.trace_text.specs.Listing.{line_at, listing};

@@ -1,11 +1,11 @@
 //! The command `sample`: an application is generated, built and run, and its events are counted.
-ghost use Rattle.std.specs.Prelude.{◌≡◌, IfOk, IfErr, OnOk, OnErr, length};
+ghost use Rattle.std.specs.Prelude.{◌≡◌, IfOk, IfErr, OnOk, OnErr};
 ghost use Rattle.sloth_base.specs.Arrivals.{AreArrivals};
 ghost use Rattle.sloth_base.specs.Owners.{owners_in, owners_named};
 ghost use Rattle.sloth_base.specs.ImageRange.{InFormat};
 ghost use Rattle.sloth_io.specs.Sink.{output_with, GainsPart};
 ghost use Rattle.image_file.specs.ImageText.{image_bytes};
-ghost use Rattle.sloth_source.specs.Texts.{Accepted};
+ghost use Rattle.sloth_source.specs.Texts.{AreAccepted};
 ghost use Rattle.command_line.specs.Command.{Samples};
 ghost use Rattle.sloth_runner.specs.Runner.{IsFresh, image_of, given_arrivals};
 ghost use Rattle.sloth_cli.specs.Samples.{sample_oil, sample_source, sample_arrivals, sample_text};
@@ -46,7 +46,7 @@ struct Generated {
 
 // Generates an application, and builds its image.
 fn generate(alloc: Global, seed: u32) -> Result<Generated, Failure>
-    ensures accepted { IfOk result (λ made. Accepted sample_oil (sample_source seed) made.config made.app) }
+    ensures accepted { IfOk result (λ made. AreAccepted sample_oil (sample_source seed) made.config made.app) }
     ensures image { IfOk result (λ made. IsBuiltImage made.config made.app made.image) }
     ensures arrivals { IfOk result (λ made. made.arrivals ≡ sample_arrivals seed) }
     ensures in_range { IfOk result (λ made. AreArrivals (owners_in made.config) made.arrivals) }

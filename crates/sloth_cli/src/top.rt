@@ -5,7 +5,7 @@ ghost use Rattle.sloth_base.specs.Owners.{owners_in, owners_named};
 ghost use Rattle.sloth_base.specs.ImageRange.{InFormat};
 ghost use Rattle.sloth_io.specs.Store.{KeepsFiles};
 ghost use Rattle.image_file.specs.ImageText.{image_bytes};
-ghost use Rattle.sloth_source.specs.Texts.{Accepted};
+ghost use Rattle.sloth_source.specs.Texts.{AreAccepted};
 ghost use Rattle.command_line.specs.Command.{words_of, Builds, IsInLimit, KeepsLimit};
 ghost use Rattle.command_line.specs.Words.{building_of, command_of, run_of};
 ghost use Rattle.sloth_cli.specs.Inputs.{input_limit, AreRead};
@@ -132,7 +132,7 @@ fn judge(alloc: Global, inputs: &Inputs) -> Result<Judged, Failure>
     requires oil { length inputs.now.oil.items ≤ input_limit }
     requires src { length inputs.now.src.items ≤ input_limit }
     requires arr { length inputs.now.arr.items ≤ input_limit }
-    ensures accepted { IfOk result (λ judged. Accepted inputs.now.oil.items inputs.now.src.items judged.config judged.app) }
+    ensures accepted { IfOk result (λ judged. AreAccepted inputs.now.oil.items inputs.now.src.items judged.config judged.app) }
     ensures image { IfOk result (λ judged. IsBuiltImage judged.config judged.app judged.image) }
     ensures read { IfOk result (λ judged. AreRead (names_of judged.config) (counter_names judged.config) inputs.now.arr.items judged.arrivals.items) }
     ensures in_range { IfOk result (λ judged. AreArrivals (owners_in judged.config) judged.arrivals.items) }

@@ -21,16 +21,16 @@ abbrev pub states_in : Memory → ℕ → List TaskState
 states_in memory tasks = map (state_in memory) (range_with_len 0 tasks) ++ replicate (30 - tasks) mode.Suspended
 
 -- the running task's number and 1 more, or 0, as the first service word says
-abbrev pub running_in : Memory → ℕ
-running_in memory = word_at memory.ram cur
+abbrev pub running_number_in : Memory → ℕ
+running_number_in memory = word_at memory.ram cur
 
 -- the line of a task is pending
 abbrev pub is_pending_in : Memory → ℕ → Bool
 is_pending_in memory task = slice_index memory.lines.pending task == 1
 
 -- that of each of so many tasks, in 30 places; an unused place has false
-abbrev pub pending_in : Memory → ℕ → List Bool
-pending_in memory tasks = map (is_pending_in memory) (range_with_len 0 tasks) ++ replicate (30 - tasks) false
+abbrev pub pending_lines_in : Memory → ℕ → List Bool
+pending_lines_in memory tasks = map (is_pending_in memory) (range_with_len 0 tasks) ++ replicate (30 - tasks) false
 
 -- the level byte of the line of each of so many tasks, in 30 places; an unused place has 0
 abbrev pub levels_in : Memory → ℕ → List ℕ

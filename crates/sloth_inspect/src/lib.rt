@@ -3,7 +3,7 @@
 
 ghost use Rattle.std.specs.Prelude.{◌≡◌, ◌≤◌, ◌<◌, ◌+◌, ◌%◌};
 ghost use Rattle.rv32_instr.specs.Ram.{word_at};
-ghost use Rattle.sloth_inspect.specs.States.{state_in, states_in, running_in, is_pending_in, pending_in, levels_in};
+ghost use Rattle.sloth_inspect.specs.States.{state_in, states_in, running_number_in, pending_lines_in, levels_in};
 
 use osek_scheduler::state::TaskState;
 use rv32_machine::{Bus, SlothBus};
@@ -63,7 +63,7 @@ pub fn states(bus: &mut SlothBus, tasks: u32) -> [TaskState; TASKS]
 
 /// The number of the running task and 1 more, or 0 where none runs. The bus keeps its contents.
 pub fn running(bus: &mut SlothBus) -> u32
-    ensures running { result ≡ running_in bus.old }
+    ensures running { result ≡ running_number_in bus.old }
     ensures same { bus.new ≡ bus.old }
 {
     word(bus, CUR as u32)
@@ -72,7 +72,7 @@ pub fn running(bus: &mut SlothBus) -> u32
 /// Whether the line of each of so many tasks is pending; an unused place has false.
 pub fn pending(bus: &SlothBus, tasks: u32) -> [bool; TASKS]
     requires { tasks ≤ 30 }
-    ensures { result ≡ pending_in bus.now tasks }
+    ensures { result ≡ pending_lines_in bus.now tasks }
 {
     let mut pending = [false; TASKS];
     for task in 0..tasks {

@@ -3,7 +3,7 @@ use Rattle.std.proofs.Common.{◌≡◌, ◌≢◌, ◌<◌, ◌⊎◌, ℕ, zer
 use Rattle.std.specs.Str.{bytes_eq}
 use Rattle.std.proofs.Math.ListN.{set}
 use Rattle.std.proofs.lemmas.Slice.Eq.{bytes_eq-Decides}
-use Rattle.sloth_io.specs.MemStore.{IsPlace, bytes_named, file_named, file_of, has_space, space_named, files_with}
+use Rattle.sloth_io.specs.MemStore.{IsFilePlace, bytes_named, file_named, file_of, has_space, space_named, files_with}
 use Rattle.sloth_io.specs.declared.mem_store.MemFile.{MemFile}
 use Rattle.sloth_io.specs.declared.mem_store.Slot.{Slot}
 
@@ -21,7 +21,7 @@ differ false x y e n = refl
 
 -- the first slot of a name stands at its place
 pub place_by : (name : List ℕ) (slots : List Slot) (i : ℕ) (s : Slot) → i < length slots → s ≡ get_or slots i s → bytes_eq s.name name ≡ true
-    → ((k : ℕ) (d : Slot) → k < i → bytes_eq (get_or slots k d).name name ≡ false) → IsPlace name (map file_of slots) i
+    → ((k : ℕ) (d : Slot) → k < i → bytes_eq (get_or slots k d).name name ≡ false) → IsFilePlace name (map file_of slots) i
 place_by name [] i s lt e here before = absurd (omega arith)
 place_by name (f ∷ fs) zero s lt e here before = rw (← e) here
 place_by name (f ∷ fs) (suc i) s lt e here before =
@@ -35,14 +35,14 @@ absent name (f ∷ fs) h =
     let off : bytes_eq f.name name ≡ false = h 0 f (omega arith) in rw off (absent name fs (λ k d lt. h (suc k) d (omega arith)))
 
 -- the file at its place is the file of the name
-pub found_at : (name : List ℕ) (slots : List Slot) (k : ℕ) (s : Slot) → IsPlace name (map file_of slots) k → s ≡ get_or slots k s
+pub found_at : (name : List ℕ) (slots : List Slot) (k : ℕ) (s : Slot) → IsFilePlace name (map file_of slots) k → s ≡ get_or slots k s
     → file_named name (map file_of slots) ≡ Some (file_of s)
 found_at name [] k s h e = absurd h
 found_at name (f ∷ fs) zero s h e = rw h (ap (λ x. Some (file_of x)) (sym e))
 found_at name (f ∷ fs) (suc k) s h e = let off : bytes_eq f.name name ≡ false = h.0 in rw off (found_at name fs k s h.1 e)
 
 -- the slot at its place is written, or kept as it is
-pub replaced : (name bytes : List ℕ) (slots : List Slot) (k : ℕ) (s t : Slot) (done : Bool) → IsPlace name (map file_of slots) k
+pub replaced : (name bytes : List ℕ) (slots : List Slot) (k : ℕ) (s t : Slot) (done : Bool) → IsFilePlace name (map file_of slots) k
     → s ≡ get_or slots k s → file_of t ≡ cond done (record (file_of s) { bytes = bytes }) (file_of s)
     → map file_of (set slots k t) ≡ cond done (files_with name bytes (map file_of slots)) (map file_of slots)
 replaced name bytes [] k s t done h e q = absurd h

@@ -2,8 +2,8 @@
 use Rattle.std.specs.Prelude.{ℕ, ◌≡◌, ◌+◌, ◌≤◌, ◌<◌, min, Bool, if◌then◌else◌}
 
 -- the count after a call: one higher where the call is counted, but for its last value
-abbrev pub counted_more : Bool → ℕ → ℕ
-counted_more call count = if call then min (count + 1) 18446744073709551615 else count
+abbrev pub count_after_call : Bool → ℕ → ℕ
+count_after_call call count = if call then min (count + 1) 18446744073709551615 else count
 
 -- the count has risen, or stands at its last value
 abbrev pub Rose : ℕ → ℕ → Type 0

@@ -45,8 +45,8 @@ abbrev pub takes_next : MemSink → List ℕ → Bool
 takes_next sink piece = has_space sink piece && is_none (next_limit sink)
 
 -- what the sink holds after the next call; a part for which there is no space is not taken at all
-abbrev pub taken_next : MemSink → List ℕ → List ℕ
-taken_next sink piece =
+abbrev pub bytes_after_call : MemSink → List ℕ → List ℕ
+bytes_after_call sink piece =
     let part = part_of (next_limit sink) piece in if has_space sink part then taken_by sink ++ part else taken_by sink
 
 -- a sink of this space with these failing calls, which was not yet called

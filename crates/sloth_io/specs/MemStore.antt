@@ -100,7 +100,7 @@ pub record IsCalled (old new : MemStore) : Type 0 where
   pub calls : new.calls ≡ next_call old.calls
 
 -- the first file of a name stands at this place
-abbrev pub IsPlace : List ℕ → List MemFile → ℕ → Type 0
-IsPlace name [] place = ⊥
-IsPlace name (file ∷ rest) zero = bytes_eq file.name name ≡ true
-IsPlace name (file ∷ rest) (suc place) = (bytes_eq file.name name ≡ false) × IsPlace name rest place
+abbrev pub IsFilePlace : List ℕ → List MemFile → ℕ → Type 0
+IsFilePlace name [] place = ⊥
+IsFilePlace name (file ∷ rest) zero = bytes_eq file.name name ≡ true
+IsFilePlace name (file ∷ rest) (suc place) = (bytes_eq file.name name ≡ false) × IsFilePlace name rest place

@@ -1,10 +1,10 @@
 //! A store in memory.
-ghost use Rattle.std.specs.Prelude.{◌≡◌, ◌≢◌, ◌≤◌, ◌<◌, List, Option, None, Some, length, map, All};
+ghost use Rattle.std.specs.Prelude.{◌≡◌, ◌≢◌, ◌≤◌, ◌<◌, None, Some, length, map, All};
 ghost use Rattle.std.specs.Prelude.{OnErr, OnOk, IfOk, IfSome, IfNone, IsOkUnless, MatchOption, is_ok, is_err, if◌then◌else◌};
 ghost use Rattle.std.specs.List.{AllPairs};
-ghost use Rattle.sloth_io.specs.Counts.{counted_more, next_call};
+ghost use Rattle.sloth_io.specs.Counts.{count_after_call, next_call};
 ghost use Rattle.sloth_io.specs.MemStore.{IsFresh, bytes_named, fails_next, file_named, file_of, files_of, has_space, IsCalled};
-ghost use Rattle.sloth_io.specs.MemStore.{IsPlace, is_too_long, read_fault, shown_files, writes_next, files_with};
+ghost use Rattle.sloth_io.specs.MemStore.{IsFilePlace, is_too_long, read_fault, shown_files, writes_next, files_with};
 ghost use Rattle.sloth_io.specs.Store.{Appends, IsMissing, IsTooLong, IsUnwritten, Holds, KeepsOthers, KeepsFiles, KeepsReads};
 
 use crate::buffer::Buffer;
@@ -111,7 +111,7 @@ fn bytes_of<'a>(slots: &'a [Slot], name: &[u8]) -> Option<&'a [u8]>
 
 // The place of the file of a name.
 fn place_of(slots: &[Slot], name: &[u8]) -> Option<usize>
-    ensures found { IfSome result (IsPlace name.now (map file_of slots.now)) }
+    ensures found { IfSome result (IsFilePlace name.now (map file_of slots.now)) }
     ensures within { IfSome result (λ place. place < length slots.now) }
     ensures none { IfNone result (file_named name.now (map file_of slots.now) ≡ None) }
 {
@@ -151,9 +151,9 @@ impl Store for MemStore {
         // It refuses exactly the calls that are to fail, files that are not there and files that are too long.
         ensures refused { MatchOption (read_fault self.old name.now limit)
             (IsOkUnless result StoreFault.Memory) (λ fault. result ≡ Err fault) }
-        ensures counted_failed { self.new.failed_reads ≡ counted_more (fails_next self.old) self.old.failed_reads }
+        ensures counted_failed { self.new.failed_reads ≡ count_after_call (fails_next self.old) self.old.failed_reads }
         ensures counted_overlong { self.new.overlong_reads ≡
-            counted_more (is_too_long (read_fault self.old name.now limit)) self.old.overlong_reads }
+            count_after_call (is_too_long (read_fault self.old name.now limit)) self.old.overlong_reads }
         ensures called { IsCalled self.old self.new }
         ensures files { files_of self.new ≡ files_of self.old }
     {
@@ -184,7 +184,7 @@ impl Store for MemStore {
 
         // It fails exactly at the calls that are to fail, and where there is no file with space for the bytes.
         ensures done { is_ok result ≡ writes_next self.old name.now (length bytes.now) }
-        ensures counted_failed { self.new.failed_writes ≡ counted_more (is_err result) self.old.failed_writes }
+        ensures counted_failed { self.new.failed_writes ≡ count_after_call (is_err result) self.old.failed_writes }
         ensures called { IsCalled self.old self.new }
         ensures files { files_of self.new ≡
             (if is_ok result then files_with name.now bytes.now (files_of self.old) else files_of self.old) }

@@ -1,7 +1,7 @@
 //! Standard output.
 ghost use Rattle.std.specs.Prelude.{◌≡◌, ◌≤◌, ◌++◌, [], OnErr, OnOk};
 ghost use Rattle.sloth_io.specs.Sink.{output_with, failed_output, GainsPart, FailsToPassOn};
-ghost use Rattle.sloth_io.specs.OutSink.{shown_output, held_back, EndsWith};
+ghost use Rattle.sloth_io.specs.OutSink.{shown_output, held_back_bytes, EndsWith};
 
 use crate::buffered::Buffered;
 use crate::sink::{Sink, SinkFault};
@@ -19,7 +19,7 @@ impl<'a, P: Print> OutSink<'a, P> {
     /// What this handle prints to, with no fault counted, and nothing held back.
     pub fn new(to: &'a P) -> OutSink<'a, P>
         ensures faults { (shown_output result).faults ≡ 0 }
-        ensures backlog { held_back result ≡ [] }
+        ensures backlog { held_back_bytes result ≡ [] }
     {
         OutSink {
             to: Buffered::new(Printer(to)),
@@ -65,7 +65,7 @@ impl<'a, P: Print> Sink for OutSink<'a, P> {
         ensures never_falls { (shown_output self.old).faults ≤ (shown_output self.new).faults }
 
         // What is not written of the bytes taken is held back.
-        ensures kept { OnOk result (EndsWith (held_back self.old ++ piece.now) (held_back self.new)) }
+        ensures kept { OnOk result (EndsWith (held_back_bytes self.old ++ piece.now) (held_back_bytes self.new)) }
     {
         let outcome = self.to.put(piece);
         self.counted(outcome)
@@ -75,7 +75,7 @@ impl<'a, P: Print> Sink for OutSink<'a, P> {
         ensures ok { OnOk result (shown_output self.new ≡ shown_output self.old) }
         ensures err { OnErr result (FailsToPassOn (shown_output self.old) (shown_output self.new)) }
         ensures never_falls { (shown_output self.old).faults ≤ (shown_output self.new).faults }
-        ensures backlog { held_back self.new ≡ [] }
+        ensures backlog { held_back_bytes self.new ≡ [] }
     {
         let outcome = self.to.flush();
         self.counted(outcome)

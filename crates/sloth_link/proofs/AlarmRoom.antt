@@ -69,6 +69,7 @@ alarms_above first [] = λ k d l. absurd (omega (arith, l))
 alarms_above first (alarm ∷ later) =
     All-cons (λ (d : Datum). 0x8000_0000 ≤ d.at) _ (alarm_data (first + 1) later) (omega arith) (alarms_above (first + 1) later)
 
+-- so the alarms' words may be linked with all else
 pub alarms_have_room : (size : ℕ) (blocks : List Block) (symbols : List Datum) (alarms : List AlarmDecl) → length alarms ≤ 32 → 1024 ≤ size
     → All (λ b. 0x8000_0400 ≤ b.at) blocks → All (λ d. 0x8000_0400 ≤ d.at) symbols → HaveRoom size blocks symbols
     → HaveRoom size blocks (alarm_data 0 alarms ++ symbols)

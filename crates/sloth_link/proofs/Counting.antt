@@ -4,7 +4,7 @@ use Rattle.std.specs.Prelude as prelude
 use Rattle.std.proofs.lemmas.Bool.{cases_lt}
 use Rattle.std.proofs.lemmas.List.{length-append, get_or_append_left, get_or-append-add}
 use Rattle.std.proofs.lemmas.List.FromFn.{length-map-range_with_len, get_or-map-range_with_len, map-range_with_len_more}
-use Rattle.sloth_base.specs.Named.{function, missing}
+use Rattle.sloth_base.specs.Named.{function, no_function}
 use Rattle.sloth_base.specs.declared.app.App.{App}
 use Rattle.sloth_base.specs.declared.app.Func.{Func}
 use Rattle.sloth_base.specs.declared.places.Places.{Places}
@@ -15,23 +15,26 @@ use Rattle.mem_map.specs.Run.{starts}
 use Rattle.sloth_link.specs.Items.{item_block, first_items, items_of, item_blocks}
 use Rattle.sloth_link.proofs.Growing.{flat_more}
 
+-- how many items a function has
 abbrev pub count_of : Func → ℕ
 count_of f = length f.items
 
+-- a function's items begin behind those of all functions before it
 pub starts_at : (from : ℕ) (funcs : List Func) (k : ℕ) → k < length funcs → get_or (starts from (prelude.map count_of funcs)) k 0 ≡ from + items_before funcs k
 starts_at from [] k l = absurd (omega (arith, l))
 starts_at from (f ∷ funcs) zero l = omega arith
 starts_at from (f ∷ funcs) (suc k) l = let h = starts_at (from + count_of f) funcs k (omega (arith, l)) in omega (arith, h)
 
 -- one function more
-before_more : (funcs : List Func) (n : ℕ) → items_before funcs (suc n) ≡ items_before funcs n + length (get_or funcs n missing).items
+before_more : (funcs : List Func) (n : ℕ) → items_before funcs (suc n) ≡ items_before funcs n + length (get_or funcs n no_function).items
 before_more [] zero = refl
 before_more [] (suc n) = refl
 before_more (f ∷ []) zero = omega arith
 before_more (f ∷ g ∷ funcs) zero = omega arith
 before_more (f ∷ funcs) (suc n) = let h = before_more funcs n in omega (arith, h)
 
-pub before_within : (funcs : List Func) (n func index : ℕ) → func < n → index < length (get_or funcs func missing).items → items_before funcs func + index < items_before funcs n
+-- the place of an item is below the number of all items
+pub before_within : (funcs : List Func) (n func index : ℕ) → func < n → index < length (get_or funcs func no_function).items → items_before funcs func + index < items_before funcs n
 before_within funcs zero func index l i = absurd (omega (arith, l))
 before_within [] (suc n) zero index l i = absurd (omega (arith, i))
 before_within [] (suc n) (suc func) index l i = absurd (omega (arith, i))
@@ -43,9 +46,10 @@ pub record Located (funcs : List Func) (n k : ℕ) : Type 0 where
   pub func : ℕ
   pub index : ℕ
   pub declared : func < n
-  pub inside : index < length (get_or funcs func missing).items
+  pub inside : index < length (get_or funcs func no_function).items
   pub is : k ≡ items_before funcs func + index
 
+-- each place of the list has an item
 pub located : (funcs : List Func) (n k : ℕ) → k < items_before funcs n → Located funcs n k
 located [] zero k l = absurd (omega (arith, l))
 located [] (suc n) k l = absurd (omega (arith, l))
@@ -60,21 +64,25 @@ located (f ∷ funcs) (suc n) k l =
     record { func = suc h.func; index = h.index; declared = omega (arith, d); inside = h.inside; is = omega (arith, x, is) })
     (cases_lt k (length f.items))
 
+-- a verified body has at most 4,096 items
 pub few_items : (app : App) → IsVerified app → (func : ℕ) → func < length app.funcs → length (function app func).items ≤ 4096
-few_items app verified func l = (small app (verified.0, verified.1.in_range) func missing l).items
+few_items app verified func l = (small app (verified.0, verified.1.in_range) func no_function l).items
 
 module _ (app : App) (places : Places) where
+  -- the blocks of a function, and one item's more
   pub item_more : (func index : ℕ) (blocks more : List Block) (block : Block) → more ≡ blocks ++ block ∷ [] → blocks ≡ first_items app places func index
       → block ≡ item_block app places func index → more ≡ first_items app places func (index + 1)
   item_more func index blocks more block is before own =
       is ∙ ap (λ (bs : List Block). bs ++ block ∷ []) before ∙ ap (λ (b : Block). first_items app places func index ++ b ∷ []) own
       ∙ sym (map-range_with_len_more (item_block app places func) 0 index index (omega arith))
 
+  -- the blocks of all functions so far, and those of one more
   pub function_more : (func : ℕ) (blocks more own : List Block) → more ≡ blocks ++ own → blocks ≡ item_blocks app places func → own ≡ items_of app places func
       → more ≡ item_blocks app places (func + 1)
   function_more func blocks more own is before same =
       is ∙ ap (λ (bs : List Block). bs ++ own) before ∙ ap (λ (bs : List Block). item_blocks app places func ++ bs) same ∙ sym (flat_more (items_of app places) func)
 
+  -- each item has one block
   pub length_blocks : (n : ℕ) → length (item_blocks app places n) ≡ items_before app.funcs n
   length_blocks zero = none app.funcs
     where

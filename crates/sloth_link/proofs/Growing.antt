@@ -10,6 +10,7 @@ range_more a (suc n) =
     let k : (a + 1) + n ≡ a + suc n = omega arith in
     ap (λ l. a ∷ l) (range_more (a + 1) n ∙ ap (λ j. range_with_len (a + 1) n ++ j ∷ []) k)
 
+-- the list of the next number comes at the end
 pub flat_more : {A : Type 0} (f : ℕ → List A) (n : ℕ) → flat_map f (range_with_len 0 (n + 1)) ≡ flat_map f (range_with_len 0 n) ++ f n
 flat_more f n =
     let one : n + 1 ≡ suc n = omega arith in

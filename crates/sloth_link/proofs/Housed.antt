@@ -26,6 +26,7 @@ behind from end p (e ∷ extents) (q ∷ sections) le f z =
     let low = z.0.0 in
     All-cons (AreApart p) q sections (inl (omega (arith, le, low, f.0))) (behind (e.base + e.len) end p extents sections (omega (arith, le, f.0)) f.2 z.1)
 
+-- no two of them share a byte
 pub sections_apart : (from end : ℕ) (extents : List Extent) (sections : List Section) → FollowWithin from end extents → AreIn extents sections → AllPairs AreApart sections
 sections_apart from end [] [] f z = λ i j d l m. absurd (omega arith)
 sections_apart from end [] (q ∷ sections) f z = absurd z
@@ -33,6 +34,7 @@ sections_apart from end (e ∷ extents) [] f z = absurd z
 sections_apart from end (e ∷ extents) (q ∷ sections) f z =
     AllPairs-cons AreApart q sections (behind (e.base + e.len) end q extents sections z.0.1 f.2 z.1) (sections_apart (e.base + e.len) end extents sections f.2 z.1)
 
+-- and all are inside the memory
 pub sections_inside : (size from end : ℕ) (extents : List Extent) (sections : List Section) → end ≤ 0x8000_0000 + size → FollowWithin from end extents → AreIn extents sections → All (IsInside size) sections
 sections_inside size from end [] [] h f z = λ k d l. absurd (omega arith)
 sections_inside size from end [] (q ∷ sections) h f z = absurd z
@@ -42,12 +44,14 @@ sections_inside size from end (e ∷ extents) (q ∷ sections) h f z =
     let high = z.0.1 in
     All-cons (IsInside size) q sections (omega (arith, le, high, h)) (sections_inside size (e.base + e.len) end extents sections h f.2 z.1)
 
+-- one list of sections behind another
 pub housed_join : (xs ys : List Extent) (ps qs : List Section) → AreIn xs ps → AreIn ys qs → AreIn (xs ++ ys) (ps ++ qs)
 housed_join [] ys [] qs a b = b
 housed_join [] ys (p ∷ ps) qs a b = absurd a
 housed_join (x ∷ xs) ys [] qs a b = absurd a
 housed_join (x ∷ xs) ys (p ∷ ps) qs a b = (a.0, housed_join xs ys ps qs a.1 b)
 
+-- so blocks and symbols have room
 pub room_follows : RoomFollows
 room_follows size from mid end rooms data_rooms blocks symbols fits h =
     let all : List Extent = rooms ++ data_rooms in

@@ -24,6 +24,7 @@ module _ (config : Config) (app : App) (map : Map) (blocks : List Block) (may : 
   abbrev own : List Block
   own = item_blocks app map.places (length app.funcs)
 
+  -- each item's code stands at its address, and its mark is there
   pub stand : (memory : List ℕ) (marks : List Mark) → AreLinked (memory_size map) (sections_of (all_blocks app map blocks) (all_data config app map)) memory
       → All (BlockStands memory) (all_blocks app map blocks) → IsPermutation (marks_of (all_blocks app map blocks)) marks → ItemsStand app map.places memory marks
   stand memory marks linked code moved =
@@ -32,6 +33,7 @@ module _ (config : Config) (app : App) (map : Map) (blocks : List Block) (may : 
       (All-append (MarksAreOfItems app map.places) blocks own may.routines (items_own app map.places))
       may.room.blocks_above (blocks_inside (memory_size map) (all_blocks app map blocks) (symbol_data app map) may.room) linked.size_is code moved
 
+  -- an image with these marks and names has its items in place
   pub in_place : (image : Image) → ItemsStand app map.places image.memory image.marks → image.tasks ≡ task_names config → image.funcs ≡ function_names app
       → ItemsInPlace image config app
   in_place image stands tasks functions =

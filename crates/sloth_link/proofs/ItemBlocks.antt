@@ -24,6 +24,7 @@ abbrev no_block : Block
 no_block = record { at = 0; code = []; marks = [] }
 
 module _ (app : App) (places : Places) where
+  -- an item's block is one of them
   pub item_among : (func index : ℕ) → IsItem app func index → Contains (item_blocks app places (length app.funcs)) (item_block app places func index)
   item_among func index is =
       let long = length_blocks app places (length app.funcs) in
@@ -35,6 +36,7 @@ module _ (app : App) (places : Places) where
   with_one : (b : Block) (m : Mark) → b.marks ≡ m ∷ [] → IsOwnMark app places m → MarksAreOfItems app places b
   with_one b m e o = subst (All (IsOwnMark app places)) (sym e) (All-cons (IsOwnMark app places) m [] o (All-nil (IsOwnMark app places)))
 
+  -- and the marks of each are those of items
   pub items_own : All (MarksAreOfItems app places) (item_blocks app places (length app.funcs))
   items_own = λ k d l.
       let long = length_blocks app places (length app.funcs) in

@@ -6,14 +6,16 @@ use Rattle.std.proofs.lemmas.Grind.{flat_map-append}
 use Rattle.sloth_base.specs.declared.image.Mark.{Mark}
 use Rattle.rv32_instr.specs.declared.block.Block.{Block}
 use Rattle.sloth_link.specs.declared.datum.Datum.{Datum}
-use Rattle.sloth_link.specs.Linked.{Section, HaveRoom, IsInside, block_section, datum_section, linked, marks_of, sections_of}
+use Rattle.sloth_link.specs.Linked.{Section, HaveRoom, IsInside, block_section, datum_section, linked_memory, marks_of, sections_of}
 use Rattle.sloth_link.proofs.Written.{linked_append}
 use Rattle.sloth_link.proofs.WrittenMemory.{blocks_inside}
 
+-- what all have, those of the first list have
 pub front : {X : Type 0} (P : X → Type 0) (xs ys : List X) → All P (xs ++ ys) → All P xs
 front P [] ys h = λ k d l. absurd (omega (arith, l))
 front P (x ∷ xs) ys h = All-cons P x xs (All-head P x (xs ++ ys) h) (front P xs ys (All-tail P x (xs ++ ys) h))
 
+-- and those of the second
 pub back : {X : Type 0} (P : X → Type 0) (xs ys : List X) → All P (xs ++ ys) → All P ys
 back P [] ys h = h
 back P (x ∷ xs) ys h = back P xs ys (All-tail P x (xs ++ ys) h)
@@ -24,10 +26,10 @@ sections_join (x ∷ xs) ys = ap (λ l. block_section x ∷ l) (sections_join xs
 
 -- three writings are one
 pub written_in_turn : (xs ys : List Block) (symbols : List Datum) (memory : List ℕ)
-    → linked (linked (linked memory (map block_section xs)) (map block_section ys)) (map datum_section symbols) ≡ linked memory (sections_of (xs ++ ys) symbols)
+    → linked_memory (linked_memory (linked_memory memory (map block_section xs)) (map block_section ys)) (map datum_section symbols) ≡ linked_memory memory (sections_of (xs ++ ys) symbols)
 written_in_turn xs ys symbols memory =
-    ap (λ m. linked m (map datum_section symbols)) (sym (linked_append (map block_section xs) (map block_section ys) memory))
-    ∙ ap (λ (s : List Section). linked (linked memory s) (map datum_section symbols)) (sym (sections_join xs ys))
+    ap (λ m. linked_memory m (map datum_section symbols)) (sym (linked_append (map block_section xs) (map block_section ys) memory))
+    ∙ ap (λ (s : List Section). linked_memory (linked_memory memory s) (map datum_section symbols)) (sym (sections_join xs ys))
     ∙ sym (linked_append (map block_section (xs ++ ys)) (map datum_section symbols) memory)
 
 -- the marks of both
@@ -39,6 +41,7 @@ marks_join xs ys marks own e f =
 pub front_inside : (size : ℕ) (xs ys : List Block) (symbols : List Datum) → HaveRoom size (xs ++ ys) symbols → All (λ b. IsInside size (block_section b)) xs
 front_inside size xs ys symbols room = front (λ (b : Block). IsInside size (block_section b)) xs ys (blocks_inside size (xs ++ ys) symbols room)
 
+-- and those of the second list
 pub back_inside : (size n : ℕ) (xs ys : List Block) (symbols : List Datum) → HaveRoom size (xs ++ ys) symbols → n ≡ size
     → All (λ b. IsInside n (block_section b)) ys
 back_inside size n xs ys symbols room e = λ k d l.

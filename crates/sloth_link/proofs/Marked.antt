@@ -16,6 +16,7 @@ none = record { address = 0; kind = kind.Idle; a = 0; b = 0; c = 0 }
 flips : (x y : ℕ) → eqb x y ≡ eqb y x
 flips x y = same_from_decides (eqb x y) (eqb y x) (Decides-eqb x y) (Decides-like (eqb y x) sym sym (Decides-eqb y x))
 
+-- sorted marks of which each has an address of its own rise
 pub ascending : (xs ys : List Mark) → IsPermutation xs ys → HaveOwnAddresses xs → IsNonDecreasingBy (λ (m : Mark). m.address) ys → IsStrictlyIncreasing (addresses ys)
 ascending xs ys moved own order = λ k l.
     let f : Mark → ℕ = λ m. m.address in

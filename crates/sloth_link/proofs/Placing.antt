@@ -1,7 +1,7 @@
 -- Items that stand are in place.
 use Rattle.std.proofs.Common.{◌≡◌, ℕ, List, [], length, get_or, sym, ap, subst, ◌∙◌, arith}
 use Rattle.std.proofs.Math.ListN.{get_or-map, length-map}
-use Rattle.sloth_base.specs.Named.{declaration, undeclared}
+use Rattle.sloth_base.specs.Named.{declaration, undeclared_task}
 use Rattle.sloth_base.specs.declared.config.TaskDecl.{TaskDecl}
 use Rattle.sloth_base.specs.Named.{operation}
 use Rattle.rv32_expand.specs.Expansion.{item_address, is_long}
@@ -40,6 +40,6 @@ items_are_placed image config app places well agree stand names = record {
   bodies = λ task l.
       let same = names.tasks in
       let n : length image.tasks ≡ length config.tasks = ap length same ∙ length-map config.tasks name_of in
-      let is : get_or image.tasks task [] ≡ (declaration config task).name = ap (λ (names : List (List ℕ)). get_or names task []) same ∙ get_or-map name_of config.tasks task undeclared in
+      let is : get_or image.tasks task [] ≡ (declaration config task).name = ap (λ (names : List (List ℕ)). get_or names task []) same ∙ get_or-map name_of config.tasks task undeclared_task in
       subst (IsBodyName app task) (sym is) (names.bodies task (omega (arith, n, l)));
 }

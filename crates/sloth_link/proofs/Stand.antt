@@ -31,6 +31,7 @@ behind memory o kind code h = λ k l.
     let e : o + 4 + k ≡ o + (4 + k) = omega arith in
     ap (slice_index memory) e ∙ h (4 + k) (omega (arith, four, n, l)) ∙ get_or-append-add (to_le_bytes w32 (Encode kind)) (code_bytes code) k 0
 
+-- each instruction is the word at its address
 pub written : (code : List InstrKind) (memory : List ℕ) (o : ℕ) → All InRange code → Holds memory (record { offset = o; bytes = code_bytes code }) → AreWritten memory o code
 written [] memory o r h = tt
 written (kind ∷ code) memory o r h =
@@ -46,8 +47,10 @@ written (kind ∷ code) memory o r h =
 stand : (blocks : List Block) (memory : List ℕ) → All (λ b. All InRange b.code) blocks → All (λ b. Holds memory (block_section b)) blocks → All (BlockStands memory) blocks
 stand blocks memory r h = λ k d l. written _ memory _ (r k d l) (h k d l)
 
+-- the code of each
 pub blocks_stand : (size : ℕ) (blocks : List Block) (symbols : List Datum) (memory : List ℕ) → All (λ b. All InRange b.code) blocks → AreLinked size (sections_of blocks symbols) memory → All (BlockStands memory) blocks
 blocks_stand size blocks symbols memory r linked = stand blocks memory r (front_of (Holds memory) block_section blocks _ linked.hold)
 
+-- the bytes of each
 pub symbols_stand : (size : ℕ) (blocks : List Block) (symbols : List Datum) (memory : List ℕ) → AreLinked size (sections_of blocks symbols) memory → All (λ d. Holds memory (datum_section d)) symbols
 symbols_stand size blocks symbols memory linked = each_of (Holds memory) datum_section symbols (back_of (Holds memory) _ _ linked.hold)

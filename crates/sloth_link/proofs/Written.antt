@@ -6,8 +6,9 @@ use Rattle.std.proofs.lemmas.List.Elements.{All-cons, All-head, All-tail}
 use Rattle.std.specs.Int.{to_le_bytes, w32}
 use Rattle.rv32_instr.specs.Encode.{Encode}
 use Rattle.rv32_instr.specs.declared.InstrKind.{InstrKind}
-use Rattle.sloth_link.specs.Linked.{Section, code_bytes, with_bytes, linked, Holds, Misses, IsInside, AreApart, AreLinked}
+use Rattle.sloth_link.specs.Linked.{Section, code_bytes, with_bytes, linked_memory, Holds, Misses, IsInside, AreApart, AreLinked}
 
+-- four bytes for each instruction
 pub code_bytes_length : (code : List InstrKind) → length (code_bytes code) ≡ 4 * length code
 code_bytes_length [] = refl
 code_bytes_length (kind ∷ code) =
@@ -18,6 +19,7 @@ code_bytes_length (kind ∷ code) =
 
 -- ---- bytes
 
+-- the memory is as long as before
 pub length-with_bytes : (bytes memory : List ℕ) (o : ℕ) → length (with_bytes memory o bytes) ≡ length memory
 length-with_bytes [] memory o = refl
 length-with_bytes (b ∷ bytes) memory o = length-with_bytes bytes (set memory o b) (o + 1) ∙ length-set memory o b
@@ -45,15 +47,18 @@ own_byte (b ∷ bytes) memory o (suc k) h l =
 
 -- ---- sections
 
-pub length-linked : (sections : List Section) (memory : List ℕ) → length (linked memory sections) ≡ length memory
+-- nor do sections change its length
+pub length-linked : (sections : List Section) (memory : List ℕ) → length (linked_memory memory sections) ≡ length memory
 length-linked [] memory = refl
 length-linked (p ∷ sections) memory = length-linked sections (with_bytes memory p.offset p.bytes) ∙ length-with_bytes p.bytes memory p.offset
 
-pub linked_append : (xs ys : List Section) (memory : List ℕ) → linked memory (xs ++ ys) ≡ linked (linked memory xs) ys
+-- one list of sections behind another
+pub linked_append : (xs ys : List Section) (memory : List ℕ) → linked_memory memory (xs ++ ys) ≡ linked_memory (linked_memory memory xs) ys
 linked_append [] ys memory = refl
 linked_append (x ∷ xs) ys memory = linked_append xs ys (with_bytes memory x.offset x.bytes)
 
-pub untouched : (sections : List Section) (memory : List ℕ) (i : ℕ) → All (Misses i) sections → slice_index (linked memory sections) i ≡ slice_index memory i
+-- a byte that no section has stays
+pub untouched : (sections : List Section) (memory : List ℕ) (i : ℕ) → All (Misses i) sections → slice_index (linked_memory memory sections) i ≡ slice_index memory i
 untouched [] memory i h = refl
 untouched (p ∷ sections) memory i h =
     untouched sections (with_bytes memory p.offset p.bytes) i (All-tail (Misses i) p sections h)
@@ -69,12 +74,13 @@ later p sections h = λ k d l. h 0 (suc k) d (omega arith) (omega arith)
 rest : (p : Section) (sections : List Section) → AllPairs AreApart (p ∷ sections) → AllPairs AreApart sections
 rest p sections h = λ i j d l m. h (suc i) (suc j) d (omega arith) (omega arith)
 
-pub all_hold : (sections : List Section) (memory : List ℕ) → All (IsInside (length memory)) sections → AllPairs AreApart sections → All (Holds (linked memory sections)) sections
+-- sections that are apart all hold their bytes at the end
+pub all_hold : (sections : List Section) (memory : List ℕ) → All (IsInside (length memory)) sections → AllPairs AreApart sections → All (Holds (linked_memory memory sections)) sections
 all_hold [] memory inside apart = λ k d l. absurd (omega arith)
 all_hold (p ∷ sections) memory inside apart =
     let first = with_bytes memory p.offset p.bytes in
     let n = length-with_bytes p.bytes memory p.offset in
-    All-cons (Holds (linked first sections)) p sections
+    All-cons (Holds (linked_memory first sections)) p sections
     (λ k l. untouched sections first (p.offset + k) (λ j d m. misses p _ k l (later p sections apart j d m)) ∙ own_byte p.bytes memory p.offset k l (All-head (IsInside (length memory)) p sections inside))
     (all_hold sections first (λ j d m. let h = All-tail (IsInside (length memory)) p sections inside j d m in omega (arith, n, h)) (rest p sections apart))
 
@@ -84,7 +90,8 @@ zero_at zero (suc i) = refl
 zero_at (suc n) zero = refl
 zero_at (suc n) (suc i) = zero_at n i
 
-pub are_linked : (size : ℕ) (sections : List Section) → All (IsInside size) sections → AllPairs AreApart sections → AreLinked size sections (linked (replicate size 0) sections)
+-- written into zeros they are linked: all else is zero
+pub are_linked : (size : ℕ) (sections : List Section) → All (IsInside size) sections → AllPairs AreApart sections → AreLinked size sections (linked_memory (replicate size 0) sections)
 are_linked size sections inside apart =
     let n = length-replicate {A = ℕ} size 0 in
     record {
@@ -95,15 +102,18 @@ are_linked size sections inside apart =
 
 -- ---- lists of sections
 
+-- what all sections have, those of the first list have
 pub front_of : {X : Type 0} (P : Section → Type 0) (f : X → Section) (xs : List X) (others : List Section) → All P (map f xs ++ others) → All (λ x. P (f x)) xs
 front_of P f [] others h = λ k d l. absurd (omega arith)
 front_of P f (x ∷ xs) others h =
     All-cons (λ y. P (f y)) x xs (All-head P (f x) (map f xs ++ others) h) (front_of P f xs others (All-tail P (f x) (map f xs ++ others) h))
 
+-- and those of the second
 pub back_of : (P : Section → Type 0) (front others : List Section) → All P (front ++ others) → All P others
 back_of P [] others h = h
 back_of P (x ∷ front) others h = back_of P front others (All-tail P x (front ++ others) h)
 
+-- what the sections of things have, told of the things
 pub each_of : {X : Type 0} (P : Section → Type 0) (f : X → Section) (xs : List X) → All P (map f xs) → All (λ x. P (f x)) xs
 each_of P f [] h = λ k d l. absurd (omega arith)
 each_of P f (x ∷ xs) h = All-cons (λ y. P (f y)) x xs (All-head P (f x) (map f xs) h) (each_of P f xs (All-tail P (f x) (map f xs) h))

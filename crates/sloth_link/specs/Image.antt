@@ -1,4 +1,4 @@
--- What is linked into an image: the blocks of routines, the items of the task code, and the bytes of its symbols.
+-- What is linked into an image: the blocks of routines, the items of the task code, the words of alarms, and the bytes of the symbols.
 use Rattle.std.specs.Prelude.{ℕ, ◌+◌, ◌-◌, ◌<◌, ◌≤◌, ◌≡◌, List, ◌++◌, length, All}
 use Rattle.sloth_base.specs.Named.{declaration}
 use Rattle.sloth_base.specs.declared.app.App.{App}
@@ -31,8 +31,8 @@ all_data config app map = alarm_data 0 config.alarms ++ symbol_data app map
 abbrev pub memory_size : Map → ℕ
 memory_size map = (data_zone map).base + (data_zone map).len - memory_base
 
--- Routines that can be linked with well-formed task code by its map: all blocks and symbols have room apart from one another. The body of
--- each task has the task's name.
+-- Routines that can be linked with well-formed task code by its map: all blocks and symbols have room apart from one another, behind the
+-- service words, where those of alarms stand. The body of each task has the task's name.
 pub record MayLink (config : Config) (app : App) (map : Map) (blocks : List Block) : Type 0 where
   pub well_formed : WellFormed config app
   pub named : (t : ℕ) → t < length config.tasks → IsBodyName app t (declaration config t).name

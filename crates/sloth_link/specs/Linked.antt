@@ -24,11 +24,11 @@ code_bytes (kind ∷ code) = to_le_bytes w32 (Encode kind) ++ code_bytes code
 abbrev pub block_section : Block → Section
 block_section block = record { offset = block.at - memory_base; bytes = code_bytes block.code }
 
--- the bytes of a symbol
+-- the bytes of a symbol, or of the words of an alarm
 abbrev pub datum_section : Datum → Section
 datum_section datum = record { offset = datum.at - memory_base; bytes = datum.bytes }
 
--- the blocks, and behind them the symbols
+-- the blocks, and behind them the data: the words of the alarms, and then the bytes of the symbols
 abbrev pub sections_of : List Block → List Datum → List Section
 sections_of blocks symbols = map block_section blocks ++ map datum_section symbols
 
@@ -62,9 +62,9 @@ with_bytes memory offset [] = memory
 with_bytes memory offset (byte ∷ bytes) = with_bytes (slice_set memory offset byte) (offset + 1) bytes
 
 -- a memory in which these sections are written, one after the other
-abbrev pub linked : List ℕ → List Section → List ℕ
-linked memory [] = memory
-linked memory (section ∷ sections) = linked (with_bytes memory section.offset section.bytes) sections
+abbrev pub linked_memory : List ℕ → List Section → List ℕ
+linked_memory memory [] = memory
+linked_memory memory (section ∷ sections) = linked_memory (with_bytes memory section.offset section.bytes) sections
 
 -- ---- marks
 
@@ -84,7 +84,7 @@ HaveOwnAddresses marks = AllPairs (λ a b. a ≢ b) (addresses marks)
 abbrev pub BlockStands : List ℕ → Block → Type 0
 BlockStands memory block = AreWritten memory (block.at - memory_base) block.code
 
--- the blocks and the bytes of symbols lie in a memory of so many bytes, apart from one another
+-- the blocks and these data lie in a memory of so many bytes, apart from one another
 pub record HaveRoom (size : ℕ) (blocks : List Block) (symbols : List Datum) : Type 0 where
   pub blocks_above : All (λ b. memory_base ≤ b.at) blocks
   pub symbols_above : All (λ d. memory_base ≤ d.at) symbols

@@ -1,7 +1,6 @@
 //! The items of task code, each as a block of its own.
-ghost use Rattle.std.specs.Prelude.{◌≡◌, ◌*◌, ◌<◌, ◌++◌, ◌∷◌, [], IfOk, OnOk, length};
+ghost use Rattle.std.specs.Prelude.{◌≡◌, ◌<◌, ◌++◌, ◌∷◌, [], IfOk, OnOk, length};
 ghost use Rattle.sloth_base.specs.Named.{function, item_of};
-ghost use Rattle.rv32_expand.specs.Expansion.{expansion, item_address};
 ghost use Rattle.rv32_expand.specs.InPlace.{IsItem, mark_of, result_register};
 ghost use Rattle.rv32_expand.specs.Sizes.{AgreeWithSizes, Covers, IsVerified};
 ghost use Rattle.sloth_link.specs.Items.{item_block, items_of, item_blocks};

@@ -7,7 +7,7 @@ ghost use Rattle.rv32_instr.specs.Range.{InRange};
 ghost use Rattle.rv32_expand.specs.InPlace.{ItemsInPlace};
 ghost use Rattle.mem_map.specs.Zones.{data_zone};
 ghost use Rattle.sloth_link.specs.Image.{MayLink, all_blocks, all_data, memory_size};
-ghost use Rattle.sloth_link.specs.Linked.{marks_of, HaveOwnAddresses, addresses, HaveRoom, AreLinked, sections_of, BlockStands, datum_section, Holds, linked};
+ghost use Rattle.sloth_link.specs.Linked.{marks_of, HaveOwnAddresses, addresses, HaveRoom, AreLinked, sections_of, BlockStands, datum_section, Holds, linked_memory};
 ghost use Rattle.sloth_link.specs.Names.{task_names, counter_names, function_names};
 ghost use Rattle.sloth_link.specs.Standing.{ItemsStand};
 
@@ -57,7 +57,7 @@ pub fn are_in_range(blocks: &[Block])
 // Writes the blocks, the items and the bytes.
 fn write_all(memory: &mut [u8], blocks: &[Block], items: &[Block], symbols: &[Datum])
     requires room { HaveRoom (length memory.old) (blocks.now ++ items.now) symbols.now }
-    ensures { memory.new ≡ linked memory.old (sections_of (blocks.now ++ items.now) symbols.now) }
+    ensures { memory.new ≡ linked_memory memory.old (sections_of (blocks.now ++ items.now) symbols.now) }
 {
     write_blocks(memory, blocks);
     write_blocks(memory, items);

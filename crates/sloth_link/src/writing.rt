@@ -1,7 +1,7 @@
 //! Sections of bytes, written into a memory.
-ghost use Rattle.std.specs.Prelude.{◌≡◌, ◌≤◌, ◌+◌, ◌-◌, ◌*◌, length, map, All};
+ghost use Rattle.std.specs.Prelude.{◌≡◌, ◌≤◌, ◌+◌, ◌*◌, length, map, All};
 ghost use Rattle.sloth_base.specs.MemoryMap.{memory_base};
-ghost use Rattle.sloth_link.specs.Linked.{code_bytes, with_bytes, linked, block_section, datum_section, IsInside};
+ghost use Rattle.sloth_link.specs.Linked.{code_bytes, with_bytes, linked_memory, block_section, datum_section, IsInside};
 
 use crate::datum::Datum;
 use rv32_instr::{Block, Instr, encode};
@@ -36,7 +36,7 @@ fn write_code(memory: &mut [u8], at: usize, code: &[Instr])
 pub fn write_blocks(memory: &mut [u8], blocks: &[Block])
     requires above { All (λ b. memory_base ≤ b.at) blocks.now }
     requires inside { All (λ b. IsInside (length memory.old) (block_section b)) blocks.now }
-    ensures { memory.new ≡ linked memory.old (map block_section blocks.now) }
+    ensures { memory.new ≡ linked_memory memory.old (map block_section blocks.now) }
 {
     for block in blocks {
         write_code(
@@ -51,7 +51,7 @@ pub fn write_blocks(memory: &mut [u8], blocks: &[Block])
 pub fn write_data(memory: &mut [u8], symbols: &[Datum])
     requires above { All (λ d. memory_base ≤ d.at) symbols.now }
     requires inside { All (λ d. IsInside (length memory.old) (datum_section d)) symbols.now }
-    ensures { memory.new ≡ linked memory.old (map datum_section symbols.now) }
+    ensures { memory.new ≡ linked_memory memory.old (map datum_section symbols.now) }
 {
     for datum in symbols {
         write(

@@ -4,19 +4,19 @@ use Rattle.std.specs.Prelude.{All, AllPairs}
 use Rattle.std.proofs.lemmas.List.Kept.{AllPairs-cons}
 use Rattle.std.proofs.lemmas.List.Elements.{All-cons}
 use Rattle.sloth_region.specs.declared.extent.Extent.{Extent}
-use Rattle.sloth_region.specs.Region.{IsBelow, FollowWithin, AreApartWithin, first_free}
+use Rattle.sloth_region.specs.Region.{IsBelow, FollowWithin, AreApartWithin, first_free_address}
 
 -- one more behind the last
-pub first_free-append : (base : ℕ) (extents : List Extent) (e : Extent) → first_free base (extents ++ e ∷ []) ≡ e.base + e.len
+pub first_free-append : (base : ℕ) (extents : List Extent) (e : Extent) → first_free_address base (extents ++ e ∷ []) ≡ e.base + e.len
 first_free-append base [] e = refl
 first_free-append base (x ∷ rest) e = first_free-append (x.base + x.len) rest e
 
-pub follow-append : (from end : ℕ) (extents : List Extent) (e : Extent) → FollowWithin from end extents → first_free from extents ≤ e.base → 1 ≤ e.len → e.base + e.len ≤ end → FollowWithin from end (extents ++ e ∷ [])
+pub follow-append : (from end : ℕ) (extents : List Extent) (e : Extent) → FollowWithin from end extents → first_free_address from extents ≤ e.base → 1 ≤ e.len → e.base + e.len ≤ end → FollowWithin from end (extents ++ e ∷ [])
 follow-append from end [] e h behind some inside = (behind, some, inside)
 follow-append from end (x ∷ rest) e h behind some inside = (h.0, h.1, follow-append (x.base + x.len) end rest e h.2 behind some inside)
 
 -- the first free address is inside
-pub free_inside : (from end : ℕ) (extents : List Extent) → FollowWithin from end extents → first_free from extents ≤ end
+pub free_inside : (from end : ℕ) (extents : List Extent) → FollowWithin from end extents → first_free_address from extents ≤ end
 free_inside from end [] h = h
 free_inside from end (x ∷ rest) h = free_inside (x.base + x.len) end rest h.2
 

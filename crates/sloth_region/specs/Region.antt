@@ -14,9 +14,9 @@ abbrev pub aligned : ℕ → ℕ → ℕ
 aligned address align = (address + (align - 1)) / align * align
 
 -- the first address behind the last of these extents, which begin at `base`
-abbrev pub first_free : ℕ → List Extent → ℕ
-first_free base [] = base
-first_free base (e ∷ rest) = first_free (e.base + e.len) rest
+abbrev pub first_free_address : ℕ → List Extent → ℕ
+first_free_address base [] = base
+first_free_address base (e ∷ rest) = first_free_address (e.base + e.len) rest
 
 -- two extents have no address in common, and the first lies below the second
 abbrev pub IsBelow : Extent → Extent → Type 0

@@ -58,7 +58,7 @@ pub fn wait(task: u8) -> i32
     12 + 12 * task as i32
 }
 
-/// A counter's value.
+/// The value of a counter, 0 or 1: from 0 to the counter's greatest value.
 pub fn counter_value(counter: u8) -> i32
     requires { counter < 2 }
     ensures { result ≡ pos (counter_value counter) }
@@ -66,7 +66,7 @@ pub fn counter_value(counter: u8) -> i32
     364 + 4 * counter as i32
 }
 
-/// The ticks that an alarm has left, 0 where it isn't in use.
+/// The ticks that an alarm, 0 to 31, has left: 0 where it isn't in use, at most 1 more than its counter's greatest value.
 pub fn alarm_left(alarm: u8) -> i32
     requires { alarm < 32 }
     ensures { result ≡ pos (alarm_left alarm) }
@@ -74,7 +74,7 @@ pub fn alarm_left(alarm: u8) -> i32
     372 + 8 * alarm as i32
 }
 
-/// An alarm's cycle.
+/// The cycle of an alarm, 0 to 31: in ticks, 0 where it expires once.
 pub fn alarm_cycle(alarm: u8) -> i32
     requires { alarm < 32 }
     ensures { result ≡ pos (alarm_cycle alarm) }

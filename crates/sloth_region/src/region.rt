@@ -1,6 +1,6 @@
 //! An allocator of addresses: extents one behind the other, each aligned.
-ghost use Rattle.std.specs.Prelude.{◌≡◌, ◌⊎◌, ◌+◌, ◌-◌, ◌<◌, ◌≤◌, length, [], ◌∷◌, ◌++◌, IsErr, IfOk};
-ghost use Rattle.sloth_region.specs.Region.{AreApartWithin, aligned, first_free, Area};
+ghost use Rattle.std.specs.Prelude.{◌≡◌, ◌⊎◌, ◌+◌, ◌<◌, ◌≤◌, length, [], ◌∷◌, ◌++◌, IsErr, IfOk};
+ghost use Rattle.sloth_region.specs.Region.{AreApartWithin, aligned, first_free_address, Area};
 
 use crate::extent::Extent;
 use std::marker::Model;
@@ -25,7 +25,7 @@ pub struct Region {
 
 impl Model for Region {
     ghost use Rattle.std.specs.Prelude.{◌≡◌, ◌+◌, ◌<◌, ◌≤◌, take};
-    ghost use Rattle.sloth_region.specs.Region.{Area, first_free, FollowWithin};
+    ghost use Rattle.sloth_region.specs.Region.{Area, first_free_address, FollowWithin};
 
     ghost Value = { Area };
 
@@ -38,7 +38,7 @@ impl Model for Region {
     ghost invariant = { λ region. (region.count ≤ 96)
         × (region.base + region.len < 4294967296)
         × (region.free ≤ region.base + region.len)
-        × (region.free ≡ first_free region.base (take region.count region.extents))
+        × (region.free ≡ first_free_address region.base (take region.count region.extents))
         × FollowWithin region.base (region.base + region.len) (take region.count region.extents) };
 }
 
@@ -62,10 +62,10 @@ impl Region {
         requires some { 1 ≤ len }
         requires word { (align ≡ 4) ⊎ (align ≡ 16) }
         requires room { length self.old.placed < 96 }
-        ensures next { IfOk result (λ extent. extent ≡ record { base = aligned (first_free self.old.base self.old.placed) align; len = len }) }
+        ensures next { IfOk result (λ extent. extent ≡ record { base = aligned (first_free_address self.old.base self.old.placed) align; len = len }) }
         ensures placed { IfOk result (λ extent. self.new ≡ record self.old { placed = self.old.placed ++ extent ∷ [] }) }
         ensures inside { IfOk result (λ extent. extent.base + extent.len ≤ self.old.end) }
-        ensures full { IsErr result → self.old.end < aligned (first_free self.old.base self.old.placed) align + len }
+        ensures full { IsErr result → self.old.end < aligned (first_free_address self.old.base self.old.placed) align + len }
         ensures unchanged { IsErr result → self.new ≡ self.old }
     {
         let free = self.free;

@@ -14,9 +14,9 @@ use Rattle.sloth_base.specs.declared.image.Image.{Image}
 use Rattle.sloth_base.specs.declared.image.Mark.{Mark}
 use Rattle.sloth_base.specs.declared.image.MarkKind.{MarkKind}
 use Rattle.sloth_base.specs.declared.image.MarkKind.TheVariants as kind
-use Rattle.observe.specs.Pieces.{Piece, Outside, Stretch, pieces, cut_off, begins}
-use Rattle.observe.specs.Observe.{View, view_of_image, mark_at, events_of_kind, outside_events, admission, stamp, is_early, masked_from, last_of, found_admits, stretch_event, stretch_events, piece_events, observe}
-use Rattle.rv32_machine.specs.Coherent.{Coherent}
+use Rattle.observe.specs.Pieces.{Piece, Outside, Stretch, pieces, cut_off_steps, begins}
+use Rattle.observe.specs.Observe.{View, view_of_image, mark_at, events_of_kind, outside_events, admission, stamp, is_early, first_masked_moment, last_of, found_admits, stretch_event, stretch_events, piece_events, observe}
+use Rattle.rv32_machine.specs.Coherent.{AreCoherent}
 use Rattle.rv32_machine.specs.Start.{start}
 use Rattle.rv32_machine.specs.Advance.{Outcome, Goes, Halts}
 use Rattle.rv32_machine.specs.Run.{moment, moment_of, on_goes, run_from, run, steps_of}
@@ -75,9 +75,9 @@ module _ (view : View) (A : List Arrival) where
       let all = length-append admits (map (stamp step.count step.count) events) in omega (arith, a, b, few, all)
 
   of-stretch : (first : Step) (more : List Step)
-      → length (stretch_events view A (first ∷ more)) ≡ length (moments (masked_from first) ((last_of first more).count + 1) A) + 1
+      → length (stretch_events view A (first ∷ more)) ≡ length (moments (first_masked_moment first) ((last_of first more).count + 1) A) + 1
   of-stretch first more =
-      let inside = moments (masked_from first) ((last_of first more).count + 1) A in
+      let inside = moments (first_masked_moment first) ((last_of first more).count + 1) A in
       let early : Arrival → Bool = is_early (first ∷ more) in
       let late : Arrival → Bool = λ a. not (early a) in
       let a = length-map (filter early inside) (admission view) in
@@ -87,10 +87,10 @@ module _ (view : View) (A : List Arrival) where
       (stamp first.count (last_of first more).count (stretch_event view first (last_of first more)) ∷ map (admission view) (filter late inside)) in
       omega (arith, a, b, both, all)
 
-  of-found : (first : Step) (more : List Step) → length (found_admits view A (first ∷ more)) ≡ length (moments first.count (masked_from first) A)
-  of-found first more = length-map (moments first.count (masked_from first) A) (admission view)
+  of-found : (first : Step) (more : List Step) → length (found_admits view A (first ∷ more)) ≡ length (moments first.count (first_masked_moment first) A)
+  of-found first more = length-map (moments first.count (first_masked_moment first) A) (admission view)
 
-  masked-late : (first : Step) → (first.count ≤ masked_from first) × (masked_from first ≤ first.count + 1)
+  masked-late : (first : Step) → (first.count ≤ first_masked_moment first) × (first_masked_moment first ≤ first.count + 1)
   masked-late first =
       let P : Bool → Type 0 = λ b. (first.count ≤ (if b then first.count + 1 else first.count)) × ((if b then first.count + 1 else first.count) ≤ first.count + 1) in
       elim first.enabled_before as P [ true ↦ (omega arith, omega arith) | false ↦ (omega arith, omega arith) ]
@@ -113,11 +113,11 @@ module _ (view : View) (A : List Arrival) where
   in-stretch true first more parts rest on on_rest n c last begun ends goes =
       let found = of-found first more in
       let stretch = of-stretch first more in
-      let P : ℕ → Type 0 = λ k. length (stretch_events view A (first ∷ more)) ≡ length (moments (masked_from first) (k + 1) A) + 1 in
+      let P : ℕ → Type 0 = λ k. length (stretch_events view A (first ∷ more)) ≡ length (moments (first_masked_moment first) (k + 1) A) + 1 in
       let at_c = subst P last stretch in
       let masked = masked-late first in
-      let m1 = left-moments first.count (masked_from first) A masked.0 in
-      let m2 = left-moments (masked_from first) (c + 1) A (omega (arith, masked, begun)) in
+      let m1 = left-moments first.count (first_masked_moment first) A masked.0 in
+      let m2 = left-moments (first_masked_moment first) (c + 1) A (omega (arith, masked, begun)) in
       let own = length-append (found_admits view A (first ∷ more)) (stretch_events view A (first ∷ more)) in
       let all = length-append (piece_events view A (Stretch (first ∷ more))) (flat_map (piece_events view A) parts) in
       omega (arith, found, at_c, m1, m2, own, all, ends)
@@ -142,39 +142,39 @@ module _ (view : View) (A : List Arrival) where
   BegunBefore [] count = Unit {0}
   BegunBefore (first ∷ more) count = first.count < count
 
-  few-from : (opened steps : List Step) (c : ℕ) (enabled : Bool) → Coherent c enabled steps → BegunBefore opened c
-      → shown (pieces opened steps) (cut_off opened steps) ≤ length steps + left (opened_at opened c) A
+  few-from : (opened steps : List Step) (c : ℕ) (enabled : Bool) → AreCoherent c enabled steps → BegunBefore opened c
+      → shown (pieces opened steps) (cut_off_steps opened steps) ≤ length steps + left (opened_at opened c) A
   few-from [] [] c enabled h begun = omega arith
   few-from (first ∷ more) [] c enabled h begun =
       let found = of-found first more in
       let masked = masked-late first in
-      let m = left-moments first.count (masked_from first) A masked.0 in omega (arith, found, m)
+      let m = left-moments first.count (first_masked_moment first) A masked.0 in omega (arith, found, m)
   few-from [] (step ∷ steps) c enabled h begun =
       let apart = few-from [] steps (c + 1) step.enabled_after h.2 tt in
       let own : step.count ≡ c = h.0 in
       let joined = few-from (step ∷ []) steps (c + 1) step.enabled_after h.2 (omega (arith, own)) in
       let L : ℕ → Type 0 = λ k. shown (if step.enabled_after then Stretch (step ∷ []) ∷ pieces [] steps else pieces (step ∷ []) steps)
-      (if step.enabled_after then cut_off [] steps else cut_off (step ∷ []) steps) ≤ suc (length steps) + left k A in
+      (if step.enabled_after then cut_off_steps [] steps else cut_off_steps (step ∷ []) steps) ≤ suc (length steps) + left k A in
       let P : Bool → Type 0 = λ b. shown (if b then Outside step ∷ pieces [] steps
       else if step.enabled_after then Stretch (step ∷ []) ∷ pieces [] steps else pieces (step ∷ []) steps)
-      (if b then cut_off [] steps else if step.enabled_after then cut_off [] steps else cut_off (step ∷ []) steps) ≤ suc (length steps) + left c A in
+      (if b then cut_off_steps [] steps else if step.enabled_after then cut_off_steps [] steps else cut_off_steps (step ∷ []) steps) ≤ suc (length steps) + left c A in
       elim (not (begins step)) as P [
-        | true ↦ outside-one step (pieces [] steps) (cut_off [] steps) (length steps) c own apart
-        | false ↦ subst L own (in-stretch step.enabled_after step [] (pieces [] steps) (cut_off [] steps) (pieces (step ∷ []) steps) (cut_off (step ∷ []) steps) (length steps) c own
+        | true ↦ outside-one step (pieces [] steps) (cut_off_steps [] steps) (length steps) c own apart
+        | false ↦ subst L own (in-stretch step.enabled_after step [] (pieces [] steps) (cut_off_steps [] steps) (pieces (step ∷ []) steps) (cut_off_steps (step ∷ []) steps) (length steps) c own
             (omega (arith, own)) apart joined)
       ]
   few-from (first ∷ more) (step ∷ steps) c enabled h begun =
       let apart = few-from [] steps (c + 1) step.enabled_after h.2 tt in
       let joined = few-from (first ∷ (more ++ step ∷ [])) steps (c + 1) step.enabled_after h.2 (omega (arith, begun)) in
-      in-stretch step.enabled_after first (more ++ step ∷ []) (pieces [] steps) (cut_off [] steps) (pieces (first ∷ (more ++ step ∷ [])) steps) (cut_off (first ∷ (more ++ step ∷ [])) steps)
+      in-stretch step.enabled_after first (more ++ step ∷ []) (pieces [] steps) (cut_off_steps [] steps) (pieces (first ∷ (more ++ step ∷ [])) steps) (cut_off_steps (first ∷ (more ++ step ∷ [])) steps)
       (length steps) c (ap (λ s. s.count) (last-is first more step) ∙ h.0) (omega (arith, begun)) apart joined
 
-  few : (steps : List Step) (enabled : Bool) → Coherent 0 enabled steps → length (observe view A steps) ≤ length steps + length A
+  few : (steps : List Step) (enabled : Bool) → AreCoherent 0 enabled steps → length (observe view A steps) ≤ length steps + length A
   unfolding observe
   few steps enabled h =
       let all = few-from [] steps 0 enabled h tt in
       let those = left-all 0 A in
-      let both = length-append (flat_map (piece_events view A) (pieces [] steps)) (found_admits view A (cut_off [] steps)) in
+      let both = length-append (flat_map (piece_events view A) (pieces [] steps)) (found_admits view A (cut_off_steps [] steps)) in
       omega (arith, all, those, both)
 
 -- ---- the steps of a run

@@ -10,7 +10,7 @@ use Rattle.trace_text.specs.declared.printing.Form.{Form}
 use Rattle.trace_text.specs.declared.printing.Form.TheVariants as form
 use Rattle.trace_text.proofs.Appends.{text_after-append}
 use Rattle.observe.specs.declared.observing.Observer.{Observer}
-use Rattle.observe.specs.Progress.{Fed, remaining, view_of, arrivals_of, expected_of}
+use Rattle.observe.specs.Progress.{Fed, remaining, view_of, arrivals_of, expected_count}
 use Rattle.sloth_runner.specs.Runner.{HandsOut, HandingOut, Draining}
 
 pub handing-init : (o : Observer) → HandingOut o o
@@ -18,7 +18,7 @@ handing-init o = record { view = refl; arrivals = refl; expected = refl; fed = �
 
 -- one event more was handed out
 pub handing-more : (o0 o p : Observer) (e : Stamped) → HandingOut o0 o → remaining o ≡ e ∷ remaining p → view_of p ≡ view_of o → arrivals_of p ≡ arrivals_of o
-    → expected_of p ≡ expected_of o → ((steps : List Step) (events : List Stamped) → Fed o steps events → Fed p steps (events ++ e ∷ [])) → HandingOut o0 p
+    → expected_count p ≡ expected_count o → ((steps : List Step) (events : List Stamped) → Fed o steps events → Fed p steps (events ++ e ∷ [])) → HandingOut o0 p
 handing-more o0 o p e h head view arrivals expected fed = record {
   view = view ∙ h.view;
   arrivals = arrivals ∙ h.arrivals;
@@ -46,7 +46,7 @@ draining-init image form idle o t = record {
 
 -- one more line was put, where its event needs one
 pub draining-more : (image : Image) (form : Form) (idle : Bool) (o0 : Observer) (last : Bool) (o p : Observer) (t0 t u : Output) (e : Stamped)
-    → Draining image form idle o0 last o t0 t → remaining o ≡ e ∷ remaining p → view_of p ≡ view_of o → arrivals_of p ≡ arrivals_of o → expected_of p ≡ expected_of o
+    → Draining image form idle o0 last o t0 t → remaining o ≡ e ∷ remaining p → view_of p ≡ view_of o → arrivals_of p ≡ arrivals_of o → expected_count p ≡ expected_count o
     → ((steps : List Step) (events : List Stamped) → Fed o steps events → Fed p steps (events ++ e ∷ []))
     → u ≡ output_with t (text_after image form last (e ∷ []))
     → Draining image form idle o0 (is_idle e.event) p t0 u
@@ -90,7 +90,7 @@ draining-ends image form idle o0 last o t0 t d none = sym (d.ends ∙ ap (ends_i
 -- one more line was put by a printer of the same image and form
 pub draining-put : (image i : Image) (form f : Form) (idle : Bool) (o0 : Observer) (last next : Bool) (o p : Observer) (t0 t u : Output) (e : Stamped)
     → Draining image form idle o0 last o t0 t → i ≡ image → f ≡ form → next ≡ is_idle e.event
-    → remaining o ≡ e ∷ remaining p → view_of p ≡ view_of o → arrivals_of p ≡ arrivals_of o → expected_of p ≡ expected_of o
+    → remaining o ≡ e ∷ remaining p → view_of p ≡ view_of o → arrivals_of p ≡ arrivals_of o → expected_count p ≡ expected_count o
     → ((steps : List Step) (events : List Stamped) → Fed o steps events → Fed p steps (events ++ e ∷ []))
     → u ≡ output_with t (text_after i f last (e ∷ []))
     → Draining image form idle o0 next p t0 u

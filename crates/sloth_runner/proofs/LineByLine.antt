@@ -1,5 +1,5 @@
 -- Texts that are put line by line: the first lines, and all of them.
-use Rattle.std.proofs.Common.{◌≡◌, ◌≤◌, ◌<◌, ◌+◌, ◌-◌, ◌∙◌, ℕ, zero, suc, List, [], ◌++◌, refl, sym, ap, arith, append_assoc, append-nil}
+use Rattle.std.proofs.Common.{◌≡◌, ◌<◌, ◌+◌, ◌-◌, ◌∙◌, ℕ, zero, suc, List, [], ◌++◌, refl, sym, ap, arith, append_assoc, append-nil}
 use Rattle.sloth_io.specs.Sink.{Output, output_with, GainsPart}
 use Rattle.sloth_io.proofs.Gains.{gains-gains, gains-nil, part-behind}
 

@@ -1,6 +1,6 @@
 -- A run, instruction by instruction.
 use Rattle.std.proofs.Common.{◌≡◌, ◌<◌, ◌+◌, ℕ, List, [], ◌∷◌, ◌++◌, Some, None, Bool, false, refl, sym, ◌∙◌, ap, subst, arith, append_assoc}
-use Rattle.sloth_base.specs.Take.{entered}
+use Rattle.sloth_base.specs.Take.{execution_state}
 use Rattle.sloth_base.specs.declared.image.Image.{Image}
 use Rattle.sloth_base.specs.declared.event.Arrival.{Arrival}
 use Rattle.sloth_base.specs.declared.event.Stamped.{Stamped}
@@ -14,10 +14,10 @@ use Rattle.observe.specs.Observe.{observe, view_of_image}
 use Rattle.observe.proofs.Growing.{observe-front, observe-nothing}
 use Rattle.rv32_machine.specs.Start.{start}
 use Rattle.rv32_machine.specs.Advance.{Halts}
-use Rattle.rv32_machine.specs.Run.{Moment, moment, arrived, run, run_from, steps_of, state_after}
+use Rattle.rv32_machine.specs.Run.{Moment, moment, state_with_arrivals, run, run_from, steps_of, state_after}
 use Rattle.rv32_machine.proofs.Runs.{run_halts, stop_halts, stop_none, run_front}
 use Rattle.sim_induction.specs.Sound.{events_of}
-use Rattle.sloth_runner.specs.Runner.{Ran, Running, IsFresh, IsRunning, Went, Broke, Halted, Adds, image_of, given_arrivals, count_of, sloth_state, run_steps, run_text, run_end, end_of}
+use Rattle.sloth_runner.specs.Runner.{Ran, Running, IsFresh, IsRunning, Went, Broke, HaltsWith, Adds, image_of, given_arrivals, count_of, sloth_state, run_steps, run_text, run_end, end_of}
 use Rattle.sloth_runner.specs.declared.runner.Runner.{Runner}
 use Rattle.sloth_runner.specs.declared.runner.Printer.{Printer}
 use Rattle.sloth_runner.specs.declared.runner.RunEnd.{RunEnd}
@@ -99,25 +99,25 @@ after-is r0 r k ran =
     ∙ ap (λ A. state_after (count_of r) A (start (image_of r0))) (sym ran.arrivals)
     ∙ ap (λ (i : Image). state_after (count_of r) (given_arrivals r) (start i)) (sym ran.image) ∙ ran.running.ran.after
 
-halted-is : (r0 r : Runner) (k : ℕ) (e : RunEnd) → Ran r0 r k → (h : Halted r e) → moment (given_arrivals r0) k (sloth_state r.machine) ≡ Halts h.0
+halted-is : (r0 r : Runner) (k : ℕ) (e : RunEnd) → Ran r0 r k → (h : HaltsWith r e) → moment (given_arrivals r0) k (sloth_state r.machine) ≡ Halts h.0
 halted-is r0 r k e ran h =
     ap (λ A. moment A k (sloth_state r.machine)) (sym ran.arrivals) ∙ ap (λ n. moment (given_arrivals r) n (sloth_state r.machine)) (sym ran.count) ∙ h.1
 
 -- a run that stops shows no more
-pub stopped-events : (r0 r : Runner) (k n : ℕ) (e : RunEnd) → Ran r0 r k → Halted r e → k < n → events_of (image_of r0) (given_arrivals r0) k ≡ events_of (image_of r0) (given_arrivals r0) n
+pub stopped-events : (r0 r : Runner) (k n : ℕ) (e : RunEnd) → Ran r0 r k → HaltsWith r e → k < n → events_of (image_of r0) (given_arrivals r0) k ≡ events_of (image_of r0) (given_arrivals r0) n
 stopped-events r0 r k n e ran h lt =
     let i0 : Image = image_of r0 in
     ap (λ ms. observe (view_of_image i0) (given_arrivals r0) (steps_of ms))
     (sym (run_halts n k (given_arrivals r0) (start i0) (sloth_state r.machine) h.0 lt (after-is r0 r k ran) (halted-is r0 r k e ran h)))
 
-pub stopped-text : (r0 r : Runner) (form : Form) (p : Printer) (t0 t u : Output) (k n : ℕ) (e : RunEnd) → Running r0 r form p t0 t k → Halted r e → k < n → u ≡ t → u ≡ output_with t0 (run_text (image_of r0) (given_arrivals r0) form n)
+pub stopped-text : (r0 r : Runner) (form : Form) (p : Printer) (t0 t u : Output) (k n : ℕ) (e : RunEnd) → Running r0 r form p t0 t k → HaltsWith r e → k < n → u ≡ t → u ≡ output_with t0 (run_text (image_of r0) (given_arrivals r0) form n)
 stopped-text r0 r form p t0 t u k n e run h lt same =
     same ∙ run.taken ∙ ap (λ es. output_with t0 (text_in (image_of r0) form es)) (stopped-events r0 r k n e run.ran h lt)
 
-pub stopped-end : (r0 r : Runner) (k n : ℕ) (e : RunEnd) → Ran r0 r k → Halted r e → k < n → e ≡ run_end (image_of r0) (given_arrivals r0) n
+pub stopped-end : (r0 r : Runner) (k n : ℕ) (e : RunEnd) → Ran r0 r k → HaltsWith r e → k < n → e ≡ run_end (image_of r0) (given_arrivals r0) n
 stopped-end r0 r k n e ran h lt =
-    h.2 ∙ ap (λ A. end_of (Some (record { pc = (entered (arrived A (count_of r) (sloth_state r.machine))).pc; stop = h.0 }))) ran.arrivals
-    ∙ ap (λ c. end_of (Some (record { pc = (entered (arrived (given_arrivals r0) c (sloth_state r.machine))).pc; stop = h.0 }))) ran.count
+    h.2 ∙ ap (λ A. end_of (Some (record { pc = (execution_state (state_with_arrivals A (count_of r) (sloth_state r.machine))).pc; stop = h.0 }))) ran.arrivals
+    ∙ ap (λ c. end_of (Some (record { pc = (execution_state (state_with_arrivals (given_arrivals r0) c (sloth_state r.machine))).pc; stop = h.0 }))) ran.count
     ∙ ap end_of (sym (stop_halts n k (given_arrivals r0) (start (image_of r0)) (sloth_state r.machine) h.0 lt (after-is r0 r k ran) (halted-is r0 r k e ran h)))
 
 pub whole-end : (r0 r : Runner) (k : ℕ) → Ran r0 r k → end_of None ≡ run_end (image_of r0) (given_arrivals r0) k

@@ -5,19 +5,19 @@ use Rattle.std.proofs.lemmas.Bool.{cases_lt}
 use Rattle.sloth_base.specs.declared.image.Image.{Image}
 use Rattle.sloth_base.specs.declared.event.Arrival.{Arrival}
 use Rattle.sloth_base.specs.Machine.{State}
-use Rattle.sloth_base.specs.Take.{entered}
+use Rattle.sloth_base.specs.Take.{execution_state}
 use Rattle.rv32_instr.specs.declared.stop.Stop.{Stop}
 use Rattle.rv32_machine.specs.Start.{start}
 use Rattle.rv32_machine.specs.Advance.{Halts}
-use Rattle.rv32_machine.specs.Run.{arrived, moment, state_after}
+use Rattle.rv32_machine.specs.Run.{state_with_arrivals, moment, state_after}
 use Rattle.rv32_machine.proofs.Runs.{stop_halts, stop_none}
 use Rattle.sloth_runner.specs.declared.runner.Runner.{Runner}
-use Rattle.sloth_runner.specs.Runner.{HasRun, run_end, end_of, image_of, given_arrivals, count_of, sloth_state}
+use Rattle.sloth_runner.specs.Runner.{HasRun, end_of, image_of, given_arrivals, count_of, sloth_state}
 use Rattle.sloth_runner.specs.declared.runner.RunEnd.TheVariants as ends
 use Rattle.sloth_runner.specs.declared.sight.Seen.{Seen}
 use Rattle.sloth_runner.specs.declared.sight.Sight.{Sight}
 use Rattle.sloth_runner.specs.declared.sight.Sight.TheVariants as sights
-use Rattle.sloth_runner.specs.Sight.{task_states, running_task, AreMasked, IsSeen, IsSight, IsLast, seen_at, sight_of}
+use Rattle.sloth_runner.specs.Sight.{task_states, running_task, AreMasked, IsSeen, IsSight, IsLast, sight_at, sight_of}
 
 module _ (image : Image) (A : List Arrival) where
   -- ---- one count more
@@ -44,11 +44,11 @@ module _ (image : Image) (A : List Arrival) where
   }
 
   last-more : (k : ℕ) (m : State) (last : Option Seen) → state_after k A (start image) ≡ Some m → IsLast image A k last
-      → IsLast image A (k + 1) (option_or (seen_at image k (arrived A k m)) last)
+      → IsLast image A (k + 1) (option_or (sight_at image k (state_with_arrivals A k m)) last)
   last-more k m last after is = by m.core.mie refl
     where
       by : (b : Bool) → m.core.mie ≡ b
-          → IsLast image A (k + 1) (option_or (if b then Some (record { count = k; tasks = task_states image (arrived A k m); running = running_task (arrived A k m) }) else None) last)
+          → IsLast image A (k + 1) (option_or (if b then Some (record { count = k; tasks = task_states image (state_with_arrivals A k m); running = running_task (state_with_arrivals A k m) }) else None) last)
       by true on = record {
         state = m;
         within = omega arith;
@@ -62,10 +62,10 @@ module _ (image : Image) (A : List Arrival) where
 
   -- the same of what was looked at
   pub last-behind : (k : ℕ) (m looked : State) (shows : Image) (seen last : Option Seen) → state_after k A (start image) ≡ Some m → IsLast image A k last
-      → shows ≡ image → looked ≡ arrived A k m → seen ≡ seen_at shows k looked → IsLast image A (k + 1) (option_or seen last)
+      → shows ≡ image → looked ≡ state_with_arrivals A k m → seen ≡ sight_at shows k looked → IsLast image A (k + 1) (option_or seen last)
   last-behind k m looked shows seen last after is same there e =
       let L : Option Seen → Type 0 = λ o. IsLast image A (k + 1) (option_or o last) in
-      subst L (sym (e ∙ ap (λ (i : Image). seen_at i k looked) same ∙ ap (seen_at image k) there)) (last-more k m last after is)
+      subst L (sym (e ∙ ap (λ (i : Image). sight_at i k looked) same ∙ ap (sight_at image k) there)) (last-more k m last after is)
 
   -- ---- the end
 
@@ -74,7 +74,7 @@ module _ (image : Image) (A : List Arrival) where
   sight-whole k m (Some seen) after is = (ap end_of (stop_none (k + 1) A 0 (start image) m after), is)
 
   pub sight-stopped : (k n pc : ℕ) (m : State) (stop : Stop) → k < n + 1 → state_after k A (start image) ≡ Some m → moment A k m ≡ Halts stop
-      → pc ≡ (entered (arrived A k m)).pc → IsSight image A n (sights.Stopped pc stop)
+      → pc ≡ (execution_state (state_with_arrivals A k m)).pc → IsSight image A n (sights.Stopped pc stop)
   sight-stopped k n pc m stop below after halts is =
       ap end_of (stop_halts (n + 1) k A (start image) m stop below after halts) ∙ ap (λ p. ends.Stopped p stop) (sym is)
 
@@ -99,9 +99,9 @@ module _ (image : Image) (A : List Arrival) where
       let found : Some h.state ≡ Some k.state = sym h.after ∙ ap (λ c. state_after c A (start image)) count ∙ k.after in
       let state : h.state ≡ k.state = cc in
       let tasks : a.tasks ≡ b.tasks =
-      h.tasks ∙ ap (λ c. task_states image (arrived A c h.state)) count ∙ ap (λ (x : State). task_states image (arrived A b.count x)) state ∙ sym k.tasks in
+      h.tasks ∙ ap (λ c. task_states image (state_with_arrivals A c h.state)) count ∙ ap (λ (x : State). task_states image (state_with_arrivals A b.count x)) state ∙ sym k.tasks in
       let running : a.running ≡ b.running =
-      h.running ∙ ap (λ c. running_task (arrived A c h.state)) count ∙ ap (λ (x : State). running_task (arrived A b.count x)) state ∙ sym k.running in
+      h.running ∙ ap (λ c. running_task (state_with_arrivals A c h.state)) count ∙ ap (λ (x : State). running_task (state_with_arrivals A b.count x)) state ∙ sym k.running in
       ap (λ c. record { count = c; tasks = a.tasks; running = a.running }) count ∙ ap (λ ts. record { count = b.count; tasks = ts; running = a.running }) tasks
       ∙ ap (λ r. record { count = b.count; tasks = b.tasks; running = r }) running
 

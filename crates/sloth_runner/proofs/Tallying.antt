@@ -12,7 +12,7 @@ use Rattle.sloth_base.specs.declared.event.Stamped.{Stamped}
 use Rattle.trace_text.specs.Summary.{kind_of, count_of_kind, counts_of}
 use Rattle.observe.specs.Progress.{remaining}
 use Rattle.sim_induction.specs.Sound.{events_of}
-use Rattle.sloth_runner.specs.Tally.{counted_one, counts_with}
+use Rattle.sloth_runner.specs.Tally.{counts_with_one, counts_with}
 use Rattle.sloth_runner.specs.Runner.{Advanced, Adds, Ran, image_of, given_arrivals, count_of}
 use Rattle.sloth_runner.specs.declared.runner.Runner.{Runner}
 use Rattle.sloth_runner.proofs.Running.{adds-at}
@@ -33,7 +33,7 @@ kind-below : (e : Event) → kind_of e < 10
 kind-below event.Boot = omega arith
 kind-below e = omega arith
 
-one-more : (events : List Stamped) (e : Stamped) → counted_one (counts_of events) e ≡ counts_of (events ++ e ∷ [])
+one-more : (events : List Stamped) (e : Stamped) → counts_with_one (counts_of events) e ≡ counts_of (events ++ e ∷ [])
 one-more events e =
     let k = kind_of e.event in
     let below = kind-below e.event in

@@ -12,7 +12,7 @@ use Rattle.sloth_base.specs.Owners.{owners_named, IsOwned}
 use Rattle.sloth_base.specs.declared.lines.Owners.{Owners}
 use Rattle.sloth_base.proofs.Owners.{owned_below}
 use Rattle.observe.specs.Observe.{observe, view_of_image}
-use Rattle.observe.specs.Progress.{Fed, remaining, view_of, arrivals_of, expected_of, from, here, behind}
+use Rattle.observe.specs.Progress.{Fed, remaining, view_of, arrivals_of, expected_count, arrivals_from, arrivals_due, arrivals_behind}
 use Rattle.observe.specs.declared.observing.Observer.{Observer}
 use Rattle.observe.proofs.Moments.{here-from, behind-from}
 use Rattle.observe.proofs.Growing.{observe-nothing}
@@ -20,12 +20,12 @@ use Rattle.rv32_machine.specs.Start.{start}
 use Rattle.rv32_machine.specs.Advance.{Outcome, Goes, advance}
 use Rattle.rv32_machine.specs.declared.machine.Machine.{Machine}
 use Rattle.rv32_machine.specs.declared.sloth.SlothBus.{SlothBus}
-use Rattle.rv32_machine.specs.Run.{Moment, moment, moment_of, arrived, run, run_from, steps_of, state_after}
+use Rattle.rv32_machine.specs.Run.{Moment, moment, moment_of, state_with_arrivals, run, run_from, steps_of, state_after}
 use Rattle.sim_induction.specs.Sound.{events_of}
 use Rattle.sloth_runner.specs.Runner.{AreLines, HasRun, HasDone, HasArrived, HasExecuted, HandsOut, Advanced, Adds, IsRunning, image_of, given_arrivals, count_of, sloth_state, run_steps}
 use Rattle.sloth_runner.specs.declared.runner.Runner.{Runner}
 use Rattle.rv32_machine.proofs.Runs.{after_more, run_more}
-use Rattle.std.proofs.lemmas.List.Elements.{All-take, All-drop}
+use Rattle.std.proofs.lemmas.List.Elements.{All-drop}
 
 pub front-is : {X : Type 0} (n : ℕ) (xs : List X) → take (length (take n xs)) xs ≡ take n xs
 front-is zero xs = refl
@@ -42,16 +42,16 @@ in-order r image k ran = weaker 1 0 (given_arrivals r) (omega arith) ran.arrival
 
 -- the state with the arrivals of the next moment
 pub arrived-is : (r : Runner) (image : Image) (k : ℕ) (h : List Arrival) (m : State) → HasRun r image k
-    → h ≡ take (length (here r.count r.coming.now)) r.coming.now → m ≡ state_arrive (map (λ a. a.line) h) (sloth_state r.machine)
-    → m ≡ arrived (given_arrivals r) k (sloth_state r.machine)
+    → h ≡ take (length (arrivals_due r.count r.coming.now)) r.coming.now → m ≡ state_arrive (map (λ a. a.line) h) (sloth_state r.machine)
+    → m ≡ state_with_arrivals (given_arrivals r) k (sloth_state r.machine)
 arrived-is r image k h m st e n =
-    let H : ℕ → List Arrival → List Arrival = λ c xs. take (length (here c xs)) xs in
+    let H : ℕ → List Arrival → List Arrival = λ c xs. take (length (arrivals_due c xs)) xs in
     let mine : h ≡ moments k (k + 1) (given_arrivals r) =
-    e ∙ ap (λ c. H c r.coming.now) st.count ∙ ap (H k) st.coming ∙ front-is _ (from k (given_arrivals r)) ∙ here-from 0 k (given_arrivals r) (in-order r image k st) in
+    e ∙ ap (λ c. H c r.coming.now) st.count ∙ ap (H k) st.coming ∙ front-is _ (arrivals_from k (given_arrivals r)) ∙ here-from 0 k (given_arrivals r) (in-order r image k st) in
     n ∙ ap (λ g. state_arrive (map (λ a. a.line) g) (sloth_state r.machine)) mine
 
 -- where none is due nothing arrives
-pub none-arrive : (r : Runner) → HasRun r (image_of r) (count_of r) → length (here r.count r.coming.now) ≡ 0 → HasArrived r r
+pub none-arrive : (r : Runner) → HasRun r (image_of r) (count_of r) → length (arrivals_due r.count r.coming.now) ≡ 0 → HasArrived r r
 none-arrive r ran none = record {
   state = arrived-is r (image_of r) (count_of r) [] (sloth_state r.machine) ran (sym (ap (λ n. take n r.coming.now) none)) refl;
   coming = sym (ap (λ n. drop n r.coming.now) none);
@@ -86,7 +86,7 @@ machine-more r a q image step ran arrived executed same coming =
       arrivals = subst (λ B. AreArrivals (owners_named image) B) (sym same) ran.arrivals;
       lines = subst L (sym coming) arrived.lines;
       after = ap (λ B. state_after (k + 1) B (start image)) same ∙ after_more k A (start image) (sloth_state r.machine) (sloth_state q.machine) step ran.after goes;
-      coming = coming ∙ arrived.coming ∙ ap (behind k) ran.coming ∙ behind-from 0 k A (in-order r image k ran) ∙ ap (from (k + 1)) (sym same);
+      coming = coming ∙ arrived.coming ∙ ap (arrivals_behind k) ran.coming ∙ behind-from 0 k A (in-order r image k ran) ∙ ap (arrivals_from (k + 1)) (sym same);
       count = executed.count ∙ ap (λ c. c + 1) arrived.count;
       executed = executed.executed ∙ ap (λ c. c + 1) (arrived.executed ∙ ran.executed);
     }
@@ -115,14 +115,14 @@ ran-beside p q image k ran same machine coming count =
       arrivals = subst (λ B. AreArrivals (owners_named image) B) (sym same) ran.arrivals;
       lines = subst L (sym coming) ran.lines;
       after = ap (λ B. state_after k B (start image)) same ∙ ran.after ∙ ap (λ (m : Machine SlothBus). Some (sloth_state m)) (sym machine);
-      coming = coming ∙ ran.coming ∙ ap (from k) (sym same);
+      coming = coming ∙ ran.coming ∙ ap (arrivals_from k) (sym same);
       count = count ∙ ran.count;
       executed = ap (λ (m : Machine SlothBus). m.count) machine ∙ ran.executed;
     }
 
 -- the runner behind an instruction whose events were all handed out
 done-more : (r p q : Runner) → IsRunning r → Advanced r p → given_arrivals p ≡ given_arrivals r → HandsOut p.observer q.observer
-    → view_of q.observer ≡ view_of p.observer → arrivals_of q.observer ≡ arrivals_of p.observer → expected_of q.observer ≡ expected_of p.observer → remaining q.observer ≡ []
+    → view_of q.observer ≡ view_of p.observer → arrivals_of q.observer ≡ arrivals_of p.observer → expected_count q.observer ≡ expected_count p.observer → remaining q.observer ≡ []
     → HasRun q (image_of r) (count_of r + 1) → HasDone q (image_of r) (count_of r + 1)
 done-more r p q st a arrivals hands view same expected none ran =
     let image : Image = image_of r in
@@ -150,7 +150,7 @@ running-at q k st = let P : ℕ → Type 0 = λ n. HasDone q q.image.now n in su
 
 -- the runner behind an instruction, once its events were handed out
 pub running-behind : (r p q : Runner) → IsRunning r → Advanced r p → image_of q ≡ image_of r → given_arrivals p ≡ given_arrivals r → HandsOut p.observer q.observer
-    → view_of q.observer ≡ view_of p.observer → arrivals_of q.observer ≡ arrivals_of p.observer → expected_of q.observer ≡ expected_of p.observer → remaining q.observer ≡ []
+    → view_of q.observer ≡ view_of p.observer → arrivals_of q.observer ≡ arrivals_of p.observer → expected_count q.observer ≡ expected_count p.observer → remaining q.observer ≡ []
     → q.machine ≡ p.machine → q.coming.now ≡ p.coming.now → q.count ≡ p.count → IsRunning q
 running-behind r p q st a image arrivals hands view same expected none machine coming count =
     let P : Image → Type 0 = λ i. HasDone q i (count_of r + 1) in

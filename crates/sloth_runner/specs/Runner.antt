@@ -11,7 +11,7 @@ use Rattle.sloth_io.specs.Sink.{Output, output_with, GainsPart}
 use Rattle.trace_text.specs.Texts.{text_after, text_in, ends_idle}
 use Rattle.trace_text.specs.declared.printing.Form.{Form}
 use Rattle.observe.specs.Observe.{view_of_image}
-use Rattle.observe.specs.Progress.{Fed, remaining, view_of, arrivals_of, expected_of, from, behind}
+use Rattle.observe.specs.Progress.{Fed, remaining, view_of, arrivals_of, expected_count, arrivals_from, arrivals_behind}
 use Rattle.observe.specs.declared.observing.Observer.{Observer}
 use Rattle.sim_induction.specs.Sound.{events_of}
 use Rattle.rv32_machine.specs.Start.{start}
@@ -19,10 +19,10 @@ use Rattle.rv32_machine.specs.Advance.{Goes, Halts, advance}
 use Rattle.rv32_machine.specs.State.{state}
 use Rattle.rv32_machine.specs.declared.machine.Machine.{Machine}
 use Rattle.rv32_machine.specs.declared.sloth.SlothBus.{SlothBus}
-use Rattle.sloth_base.specs.Take.{entered}
+use Rattle.sloth_base.specs.Take.{execution_state}
 use Rattle.sloth_base.specs.Owners.{owners_named}
 use Rattle.rv32_instr.specs.declared.stop.Stop.{Stop}
-use Rattle.rv32_machine.specs.Run.{Stopping, moment, arrived, run, steps_of, state_after, stop_of}
+use Rattle.rv32_machine.specs.Run.{Stopping, moment, state_with_arrivals, run, steps_of, state_after, stop_of}
 use Rattle.sloth_runner.specs.declared.runner.Halt.{Halt}
 use Rattle.sloth_runner.specs.declared.runner.Printer.{Printer}
 use Rattle.sloth_runner.specs.declared.runner.Runner.{Runner}
@@ -62,7 +62,7 @@ HandsOut old new = (steps : List Step) (events : List Stamped) → Fed old steps
 pub record HandingOut (o0 o : Observer) : Type 0 where
   pub view : view_of o ≡ view_of o0
   pub arrivals : arrivals_of o ≡ arrivals_of o0
-  pub expected : expected_of o ≡ expected_of o0
+  pub expected : expected_count o ≡ expected_count o0
   pub fed : (steps : List Step) (events : List Stamped) → Fed o0 steps events
       → (front : List Stamped) × Fed o steps front × (front ++ remaining o ≡ events ++ remaining o0)
 
@@ -101,7 +101,7 @@ pub record HasRun (runner : Runner) (image : Image) (k : ℕ) : Type 0 where
   pub arrivals : AreArrivals (owners_named image) (given_arrivals runner)
   pub lines : AreLines runner.coming.now
   pub after : state_after k (given_arrivals runner) (start image) ≡ Some (sloth_state runner.machine)
-  pub coming : runner.coming.now ≡ from k (given_arrivals runner)
+  pub coming : runner.coming.now ≡ arrivals_from k (given_arrivals runner)
   pub count : runner.count ≡ k
   pub executed : runner.machine.count ≡ k
 
@@ -112,7 +112,7 @@ pub record HasDone (runner : Runner) (image : Image) (k : ℕ) : Type 0 where
   pub view : view_of runner.observer ≡ view_of_image image
   pub fed : Fed runner.observer (run_steps image (given_arrivals runner) k) (events_of image (given_arrivals runner) k)
   pub drained : remaining runner.observer ≡ []
-  pub expected : expected_of runner.observer ≡ k
+  pub expected : expected_count runner.observer ≡ k
 
 -- between two instructions
 abbrev pub IsRunning : Runner → Type 0
@@ -128,8 +128,8 @@ Adds image arrivals k events = events_of image arrivals (k + 1) ≡ events_of im
 
 -- the arrivals of the moment have come
 pub record HasArrived (old new : Runner) : Type 0 where
-  pub state : sloth_state new.machine ≡ arrived (given_arrivals old) (count_of old) (sloth_state old.machine)
-  pub coming : new.coming.now ≡ behind old.count old.coming.now
+  pub state : sloth_state new.machine ≡ state_with_arrivals (given_arrivals old) (count_of old) (sloth_state old.machine)
+  pub coming : new.coming.now ≡ arrivals_behind old.count old.coming.now
   pub lines : AreLines new.coming.now
   pub count : count_of new ≡ count_of old
   pub executed : new.machine.count ≡ old.machine.count
@@ -144,7 +144,7 @@ pub record HasExecuted (old new : Runner) (step : Step) : Type 0 where
 -- the machine stops at the next one, there and so
 pub record HaltsAt (old : Runner) (halt : Halt) : Type 0 where
   pub halts : advance old.machine.count (sloth_state old.machine) ≡ Halts halt.stop
-  pub pc : halt.pc ≡ (entered (sloth_state old.machine)).pc
+  pub pc : halt.pc ≡ (execution_state (sloth_state old.machine)).pc
 
 -- an instruction was done, and its step fed to the observer, which has its events
 pub record Advanced (old new : Runner) : Type 0 where
@@ -152,7 +152,7 @@ pub record Advanced (old new : Runner) : Type 0 where
   pub goes : moment (given_arrivals old) (count_of old) (sloth_state old.machine) ≡ Goes step (sloth_state new.machine)
   pub fed : (steps : List Step) (events : List Stamped) → Fed old.observer steps events → Fed new.observer (steps ++ step ∷ []) events
   pub view : view_of new.observer ≡ view_of old.observer
-  pub expected : expected_of new.observer ≡ expected_of old.observer + 1
+  pub expected : expected_count new.observer ≡ expected_count old.observer + 1
   pub ran : HasRun new (image_of old) (count_of old + 1)
 
 -- an instruction was done, and its events' lines were put
@@ -171,9 +171,9 @@ pub record Broke (old : Runner) (before : Printer) (t u : Output) : Type 0 where
   pub taken : GainsPart t u (text_after (image_of old) before.form before.after_idle events)
 
 -- the next instruction stops, and the run ends so
-abbrev pub Halted : Runner → RunEnd → Type 0
-Halted old end = (stop : Stop) × (moment (given_arrivals old) (count_of old) (sloth_state old.machine) ≡ Halts stop)
-    × (end ≡ ends.Stopped (entered (arrived (given_arrivals old) (count_of old) (sloth_state old.machine))).pc stop)
+abbrev pub HaltsWith : Runner → RunEnd → Type 0
+HaltsWith old end = (stop : Stop) × (moment (given_arrivals old) (count_of old) (sloth_state old.machine) ≡ Halts stop)
+    × (end ≡ ends.Stopped (execution_state (state_with_arrivals (given_arrivals old) (count_of old) (sloth_state old.machine))).pc stop)
 
 -- k instructions were done since the runner was fresh
 pub record Ran (r0 r : Runner) (k : ℕ) : Type 0 where

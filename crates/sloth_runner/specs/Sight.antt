@@ -5,10 +5,10 @@ use Rattle.sloth_base.specs.declared.event.Arrival.{Arrival}
 use Rattle.sloth_base.specs.Machine.{State}
 use Rattle.rv32_instr.specs.Memory.{Memory, memory_of}
 use Rattle.rv32_machine.specs.Start.{start}
-use Rattle.rv32_machine.specs.Run.{arrived, state_after}
+use Rattle.rv32_machine.specs.Run.{state_with_arrivals, state_after}
 use Rattle.osek_scheduler.specs.declared.state.TaskState.{TaskState}
 use Rattle.sloth_base.specs.Owners.{counter_line}
-use Rattle.sloth_inspect.specs.States.{states_in, running_in, is_pending_in, pending_in, levels_in}
+use Rattle.sloth_inspect.specs.States.{states_in, running_number_in, is_pending_in, pending_lines_in, levels_in}
 use Rattle.sloth_runner.specs.declared.runner.RunEnd.TheVariants as ends
 use Rattle.sloth_runner.specs.declared.sight.Interrupts.{Interrupts}
 use Rattle.sloth_runner.specs.declared.sight.Seen.{Seen}
@@ -22,18 +22,18 @@ task_states image state = states_in (memory_of state.core) (length image.tasks)
 
 -- the running task's number and 1 more, or 0, as a state of the machine shows it
 abbrev pub running_task : State → ℕ
-running_task state = running_in (memory_of state.core)
+running_task state = running_number_in (memory_of state.core)
 
 -- the lines of the two counters that there may be are pending
-abbrev pub counters_pending_in : Memory → List Bool
-counters_pending_in memory = is_pending_in memory (counter_line 0) ∷ is_pending_in memory (counter_line 1) ∷ []
+abbrev pub pending_counters_in : Memory → List Bool
+pending_counters_in memory = is_pending_in memory (counter_line 0) ∷ is_pending_in memory (counter_line 1) ∷ []
 
 -- what a state of the machine shows of interrupts: which lines of the image's tasks and which of counters are pending, the running level, and
 -- whether all are masked
 abbrev pub interrupts_in : Image → State → Interrupts
 interrupts_in image state = record {
-  pending = pending_in (memory_of state.core) (length image.tasks);
-  counters_pending = counters_pending_in (memory_of state.core);
+  pending = pending_lines_in (memory_of state.core) (length image.tasks);
+  counters_pending = pending_counters_in (memory_of state.core);
   level = state.core.ilevel;
   masked = not state.core.mie;
 }
@@ -54,8 +54,8 @@ pub record IsSeen (image : Image) (arrivals : List Arrival) (below : ℕ) (seen 
   pub within : seen.count < below
   pub after : state_after seen.count arrivals (start image) ≡ Some state
   pub enabled : state.core.mie ≡ true
-  pub tasks : seen.tasks ≡ task_states image (arrived arrivals seen.count state)
-  pub running : seen.running ≡ running_task (arrived arrivals seen.count state)
+  pub tasks : seen.tasks ≡ task_states image (state_with_arrivals arrivals seen.count state)
+  pub running : seen.running ≡ running_task (state_with_arrivals arrivals seen.count state)
   pub last : AreMasked image arrivals (seen.count + 1) below
 
 -- What a run of k + 1 instructions shows: where and why it stops; or that no count up to k finds MIE 1; or the last count that does, with
@@ -68,8 +68,8 @@ IsSight image arrivals k (sights.At seen) = (run_end image arrivals (k + 1) ≡ 
 -- ---- on the way
 
 -- what is seen of a state at a count: the tasks' states, where it finds MIE 1
-abbrev pub seen_at : Image → ℕ → State → Option Seen
-seen_at image count state =
+abbrev pub sight_at : Image → ℕ → State → Option Seen
+sight_at image count state =
     if state.core.mie
     then Some (record { count = count; tasks = task_states image state; running = running_task state })
     else None

@@ -4,10 +4,10 @@ use Rattle.sloth_base.specs.declared.event.Stamped.{Stamped}
 use Rattle.trace_text.specs.Summary.{kind_of}
 
 -- these numbers of events of each kind, with one event more
-abbrev pub counted_one : List ℕ → Stamped → List ℕ
-counted_one counts e = slice_set counts (kind_of e.event) (slice_index counts (kind_of e.event) + 1)
+abbrev pub counts_with_one : List ℕ → Stamped → List ℕ
+counts_with_one counts e = slice_set counts (kind_of e.event) (slice_index counts (kind_of e.event) + 1)
 
 -- with all of these events more
 abbrev pub counts_with : List ℕ → List Stamped → List ℕ
 counts_with counts [] = counts
-counts_with counts (e ∷ rest) = counts_with (counted_one counts e) rest
+counts_with counts (e ∷ rest) = counts_with (counts_with_one counts e) rest

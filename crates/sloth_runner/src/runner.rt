@@ -6,10 +6,10 @@ ghost use Rattle.sloth_base.specs.Owners.{owners_named};
 ghost use Rattle.sloth_base.specs.Arrive.{state_arrive};
 ghost use Rattle.sloth_io.specs.Sink.{output_with, GainsPart};
 ghost use Rattle.trace_text.specs.Texts.{ends_idle, is_idle};
-ghost use Rattle.observe.specs.Progress.{remaining, view_of, arrivals_of, expected_of, here};
+ghost use Rattle.observe.specs.Progress.{remaining, view_of, arrivals_of, expected_count, arrivals_due};
 ghost use Rattle.sloth_runner.specs.Runner.{AreLines, sloth_state, lines_of, HandsOut};
 
-use observe::Observer;
+use observe::{Observer, passing};
 use rv32_machine::{Machine, SlothBus, Step, Stop, blank_step};
 use sloth_base::event::{Arrival, Event, Stamped};
 use sloth_base::image::Image;
@@ -80,23 +80,13 @@ impl<'a> Printer<'a> {
         ensures fed { OnOk result (HandsOut observer.old observer.new) }
         ensures view { view_of observer.new ≡ view_of observer.old }
         ensures arrivals { arrivals_of observer.new ≡ arrivals_of observer.old }
-        ensures expected { expected_of observer.new ≡ expected_of observer.old }
+        ensures expected { expected_count observer.new ≡ expected_count observer.old }
     {
         while let Some(event) = observer.next() {
             self.put(&event, out)?;
         }
         Ok(())
     }
-}
-
-// How many arrivals at the front are of this moment or an earlier one.
-fn passing(coming: &[Arrival], count: u32) -> usize
-    ensures { result ≡ length (here count coming.now) }
-{
-    coming
-        .iter()
-        .take_while(|arrival| arrival.at <= count)
-        .count()
 }
 
 // The lines of these arrivals become pending.
@@ -124,7 +114,7 @@ pub struct Runner<'a> {
 }
 
 impl<'a> Runner<'a> {
-    ghost use Rattle.sloth_runner.specs.Runner.{IsFresh, IsRunning, HasRun, HasArrived, HasExecuted, HaltsAt, Advanced, Went, Broke, Halted, image_of, count_of, given_arrivals, run_text, run_end};
+    ghost use Rattle.sloth_runner.specs.Runner.{IsFresh, IsRunning, HasRun, HasArrived, HasExecuted, HaltsAt, Advanced, Went, Broke, HaltsWith, image_of, count_of, given_arrivals, run_text, run_end};
 
     /// A runner that has run nothing, with all memory of a run.
     pub fn new(
@@ -168,7 +158,7 @@ impl<'a> Runner<'a> {
     #[inline(never)]
     fn arrive_first(&mut self, due: usize)
         requires ran { HasRun self.old (image_of self.old) (count_of self.old) }
-        requires due { due ≡ length (here self.old.count self.old.coming.now) }
+        requires due { due ≡ length (arrivals_due self.old.count self.old.coming.now) }
         ensures arrived { HasArrived self.old self.new }
         ensures image { image_of self.new ≡ image_of self.old }
         ensures observer { self.new.observer ≡ self.old.observer }
@@ -223,7 +213,7 @@ impl<'a> Runner<'a> {
         requires few { count_of self.old < 1000000 }
         requires running { IsRunning self.old }
         ensures went { IfNone result (Advanced self.old self.new) }
-        ensures halted { IfSome result (Halted self.old) }
+        ensures halted { IfSome result (HaltsWith self.old) }
         ensures image { image_of self.new ≡ image_of self.old }
         ensures arrivals { given_arrivals self.new ≡ given_arrivals self.old }
     {
@@ -251,7 +241,7 @@ impl<'a> Runner<'a> {
         requires printer { printer.old.image.now ≡ image_of self.old }
         ensures went { IfOk result (λ end. IfNone end
             (Went self.old self.new printer.old printer.new (S.seen out.old) (S.seen out.new))) }
-        ensures halted { IfOk result (λ end. IfSome end (Halted self.old)) }
+        ensures halted { IfOk result (λ end. IfSome end (HaltsWith self.old)) }
         ensures untold { IfOk result (λ end. OnSome end (S.seen out.new ≡ S.seen out.old)) }
         ensures broke { OnErr result (Broke self.old printer.old (S.seen out.old) (S.seen out.new)) }
         ensures image { image_of self.new ≡ image_of self.old }

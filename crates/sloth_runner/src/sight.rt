@@ -1,8 +1,8 @@
 //! The states of the tasks at a count of a run.
 ghost use Rattle.std.specs.Prelude.{◌≡◌, ◌<◌, ◌≤◌, length};
-ghost use Rattle.sloth_inspect.specs.States.{states_in, running_in};
+ghost use Rattle.sloth_inspect.specs.States.{states_in, running_number_in};
 ghost use Rattle.sloth_runner.specs.Runner.{sloth_state};
-ghost use Rattle.sloth_runner.specs.Sight.{seen_at, counters_pending_in, interrupts_in, task_levels};
+ghost use Rattle.sloth_runner.specs.Sight.{sight_at, pending_counters_in, interrupts_in, task_levels};
 
 use crate::runner::Runner;
 use osek_scheduler::state::TaskState;
@@ -50,7 +50,7 @@ pub enum Sight {
 // What memory and the controller show of so many tasks, at a count.
 fn seen_of(bus: &mut SlothBus, count: u32, tasks: u32) -> Seen
     requires { tasks ≤ 30 }
-    ensures is { result ≡ record { count = count; tasks = states_in bus.old tasks; running = running_in bus.old } }
+    ensures is { result ≡ record { count = count; tasks = states_in bus.old tasks; running = running_number_in bus.old } }
     ensures same { bus.new ≡ bus.old }
 {
     Seen {
@@ -62,7 +62,7 @@ fn seen_of(bus: &mut SlothBus, count: u32, tasks: u32) -> Seen
 
 // Whether the line of each counter is pending.
 fn counters_pending(bus: &SlothBus) -> [bool; COUNTERS]
-    ensures { result ≡ counters_pending_in bus.now }
+    ensures { result ≡ pending_counters_in bus.now }
 {
     [
         bus.is_pending(Line(COUNTER_LINE)),
@@ -77,7 +77,7 @@ impl<'a> Runner<'a> {
     /// What the machine shows of the tasks, where interrupts are open.
     pub fn look(&mut self) -> Option<Seen>
         requires { length (image_of self.old).tasks ≤ 30 }
-        ensures seen { result ≡ seen_at (image_of self.old) (count_of self.old) (sloth_state self.old.machine) }
+        ensures seen { result ≡ sight_at (image_of self.old) (count_of self.old) (sloth_state self.old.machine) }
         ensures same { self.new ≡ self.old }
     {
         if !self.machine.enabled() {

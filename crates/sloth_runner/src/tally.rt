@@ -1,7 +1,7 @@
 //! Counts what is observed of a run.
 ghost use Rattle.std.specs.Prelude.{◌≡◌, ◌<◌, ◌≤◌, ◌+◌, ◌^◌, [], All, length};
 ghost use Rattle.sim_induction.specs.Sound.{events_of};
-ghost use Rattle.observe.specs.Progress.{remaining, view_of, arrivals_of, expected_of};
+ghost use Rattle.observe.specs.Progress.{remaining, view_of, arrivals_of, expected_count};
 ghost use Rattle.trace_text.specs.Summary.{counts_of};
 ghost use Rattle.sloth_runner.specs.Runner.{HandsOut};
 ghost use Rattle.sloth_runner.specs.Tally.{counts_with};
@@ -25,7 +25,7 @@ fn count_events(observer: &mut Observer, counts: &mut [u32; KINDS])
     ensures fed { HandsOut observer.old observer.new }
     ensures view { view_of observer.new ≡ view_of observer.old }
     ensures arrivals { arrivals_of observer.new ≡ arrivals_of observer.old }
-    ensures expected { expected_of observer.new ≡ expected_of observer.old }
+    ensures expected { expected_count observer.new ≡ expected_count observer.old }
 {
     while let Some(event) = observer.next() {
         counts[kind_of(&event.event)] += 1;

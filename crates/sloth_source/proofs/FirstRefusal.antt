@@ -16,7 +16,7 @@ use Rattle.asm_items.specs.Apps.{app_of}
 use Rattle.asm_parse.specs.AppTexts.{SourceTextFault}
 use Rattle.sloth_source.specs.OilText.{OilText, OilRefusal}
 use Rattle.sloth_source.specs.SourceText.{HasApp, SourceText, SourceRefusal}
-use Rattle.sloth_source.specs.Texts.{Accepted, FirstRefusal}
+use Rattle.sloth_source.specs.Texts.{AreAccepted, FirstRefusal}
 use Rattle.sloth_source.proofs.Least.{least_or_none}
 
 -- a configuration or a refusal
@@ -47,7 +47,7 @@ source_whole text config none kept = least_or_none (SourceTextFault config text)
         least_or_none (RuleFault config app) (λ r l. kept r (inr (inr (record { app = app; has_app = has; no_cycle = no_cycle; least = l }))))
         (λ no_fault. none app (record { has_app = has; no_cycle = no_cycle; no_fault = no_fault })))
 
-pub not_neither : (oil src : List ℕ) → ((config : Config) (app : App) → Accepted oil src config app → ⊥) → ((r : Refusal) → FirstRefusal oil src r → ⊥) → ⊥
+pub not_neither : (oil src : List ℕ) → ((config : Config) (app : App) → AreAccepted oil src config app → ⊥) → ((r : Refusal) → FirstRefusal oil src r → ⊥) → ⊥
 not_neither oil src none kept =
     oil_whole oil (λ config declared.
     source_whole src config (λ app code. none config app (record { configuration = declared; code = code }))

@@ -3,7 +3,7 @@ use Rattle.std.proofs.Common.{◌≡◌, ◌∙◌, ap, sym, ℕ, Bool, true, fa
 use Rattle.std.specs.Prelude.{position}
 use Rattle.std.specs.Str.{bytes_eq}
 use Rattle.std.proofs.lemmas.List.{length-map, get_or-map}
-use Rattle.sloth_base.specs.Named.{function, missing, declaration, undeclared}
+use Rattle.sloth_base.specs.Named.{function, no_function, declaration, undeclared_task}
 use Rattle.sloth_base.specs.declared.app.Func.{Func}
 use Rattle.sloth_base.specs.declared.config.Config.{Config}
 use Rattle.sloth_base.specs.declared.config.TaskDecl.{TaskDecl}
@@ -25,7 +25,7 @@ module _ (config : Config) (ls : List SourceLine) where
       let at = stands (task_names config) name t [] found in
       let inside = at.0 in
       let count = length-map config.tasks (λ (task : TaskDecl). task.name) in
-      sym at.1 ∙ get_or-map (λ (task : TaskDecl). task.name) config.tasks t undeclared [] (omega (arith, inside, count))
+      sym at.1 ∙ get_or-map (λ (task : TaskDecl). task.name) config.tasks t undeclared_task [] (omega (arith, inside, count))
 
   -- only the body of a task has one
   of_task : (body : BodyText) (t : ℕ) (b : Bool) → cond b (position (bytes_eq (body_name body)) (task_names config)) None ≡ Some t
@@ -38,5 +38,5 @@ module _ (config : Config) (ls : List SourceLine) where
       let below = is.0 in
       let count = length-map bodies (func_of config (scope_of config ls bodies)) in
       let at : function (app_of config ls) f ≡ func_of config (scope_of config ls bodies) (get_or bodies f no_body) =
-      get_or-map (func_of config (scope_of config ls bodies)) bodies f no_body missing (omega (arith, below, count)) in
+      get_or-map (func_of config (scope_of config ls bodies)) bodies f no_body no_function (omega (arith, below, count)) in
       ap (λ (g : Func). g.name) at ∙ of_task (get_or bodies f no_body) t (is_task_body (get_or bodies f no_body)) (sym (ap (λ (g : Func). g.task) at) ∙ is.1)

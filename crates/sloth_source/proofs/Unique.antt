@@ -11,7 +11,7 @@ use Rattle.asm_lines.specs.Faults.{source_lines}
 use Rattle.asm_items.specs.Apps.{app_of}
 use Rattle.sloth_source.specs.OilText.{OilText, OilRefusal}
 use Rattle.sloth_source.specs.SourceText.{HasApp, SourceText, SourceRefusal}
-use Rattle.sloth_source.specs.Texts.{Accepted, FirstRefusal}
+use Rattle.sloth_source.specs.Texts.{AreAccepted, FirstRefusal}
 use Rattle.sloth_source.specs.Ranked.{HasRanks, EarlySourceRefusal}
 use Rattle.sloth_source.proofs.Readings.{one_configuration}
 
@@ -20,7 +20,7 @@ pub one_app : (text : List ℕ) (config : Config) (app other : App) → HasApp t
 one_app text config app other a b = a.says ∙ sym b.says
 
 -- what is accepted has ranks
-pub accepted_ranks : (oil src : List ℕ) (config : Config) (app : App) → Accepted oil src config app → HasRanks oil src config app
+pub accepted_ranks : (oil src : List ℕ) (config : Config) (app : App) → AreAccepted oil src config app → HasRanks oil src config app
 accepted_ranks oil src config app h = record { configuration = h.configuration; has_app = h.code.has_app; no_cycle = h.code.no_cycle }
 
 pub one_ranked : (oil src : List ℕ) (c d : Config) (a b : App) → HasRanks oil src c a → HasRanks oil src d b → (c ≡ d) × (a ≡ b)
@@ -28,7 +28,7 @@ one_ranked oil src c d a b h i =
     let one = one_configuration oil c d h.configuration i.configuration in
     (one, h.has_app.says ∙ ap (λ config. app_of config (source_lines src)) one ∙ sym i.has_app.says)
 
-pub one_meaning : (oil src : List ℕ) (c d : Config) (a b : App) → Accepted oil src c a → Accepted oil src d b → (c ≡ d) × (a ≡ b)
+pub one_meaning : (oil src : List ℕ) (c d : Config) (a b : App) → AreAccepted oil src c a → AreAccepted oil src d b → (c ≡ d) × (a ≡ b)
 one_meaning oil src c d a b h i = one_ranked oil src c d a b (accepted_ranks oil src c a h) (accepted_ranks oil src d b i)
 
 -- what declares a configuration is not refused
@@ -54,7 +54,7 @@ kept text config app r t (inr (inr h)) =
     t.no_fault r (subst (λ (a : App). RuleFault config a r) (one_app text config h.app app h.has_app t.has_app) h.least.is_fault)
 
 -- what is accepted is not refused
-pub never_both : (oil src : List ℕ) (config : Config) (app : App) (r : Refusal) → Accepted oil src config app → FirstRefusal oil src r → ⊥
+pub never_both : (oil src : List ℕ) (config : Config) (app : App) (r : Refusal) → AreAccepted oil src config app → FirstRefusal oil src r → ⊥
 never_both oil src config app r h (inl refused) = declared oil config r h.configuration refused
 never_both oil src config app r h (inr refused) =
     kept src config app r h.code

@@ -9,7 +9,7 @@ use Rattle.sloth_source.specs.OilText.{OilText, OilRefusal}
 use Rattle.sloth_source.specs.SourceText.{SourceText, SourceRefusal}
 
 -- the first text declares the configuration, and the second says its task code, without a fault of either
-pub record Accepted (oil src : List ℕ) (config : Config) (app : App) : Type 0 where
+pub record AreAccepted (oil src : List ℕ) (config : Config) (app : App) : Type 0 where
   pub configuration : OilText oil config
   pub code : SourceText src config app
 

@@ -3,7 +3,7 @@ ghost use Rattle.std.specs.Prelude.{◌<◌, IfOk, IfErr, length};
 ghost use Rattle.code_rules.specs.WellFormed.{WellFormed};
 ghost use Rattle.stack_bounds.specs.Bounds.{AreBounds};
 ghost use Rattle.sloth_source.specs.SourceText.{BodiesAreNamed};
-ghost use Rattle.sloth_source.specs.Texts.{Accepted, ErrorIs};
+ghost use Rattle.sloth_source.specs.Texts.{AreAccepted, ErrorIs};
 
 use crate::ranked::{Ranked, read_ranked};
 use sloth_base::app::App;
@@ -27,7 +27,7 @@ pub struct Source {
 pub fn read(alloc: Global, oil: &[u8], src: &[u8]) -> Result<Source, BuildError>
     requires oil { length oil.now < 4294967295 }
     requires src { length src.now < 4294967295 }
-    ensures accepted { IfOk result (λ source. Accepted oil.now src.now source.config source.app) }
+    ensures accepted { IfOk result (λ source. AreAccepted oil.now src.now source.config source.app) }
     ensures well_formed { IfOk result (λ source. WellFormed source.config source.app) }
     ensures named { IfOk result (λ source. BodiesAreNamed source.config source.app) }
     ensures bounds { IfOk result (λ source. AreBounds source.config source.app source.bounds) }

@@ -8,7 +8,7 @@ use Rattle.sloth_base.specs.declared.app.Func.{Func}
 use Rattle.sloth_base.specs.declared.app.Op.{Op}
 use Rattle.sloth_base.specs.declared.app.Op.TheVariants as op
 use Rattle.sloth_base.specs.Options.{is_number}
-use Rattle.sloth_base.specs.Named.{function, body_of, missing, no_item, IsBodyOf}
+use Rattle.sloth_base.specs.Named.{function, body_of, no_function, no_item, IsBodyOf}
 use Rattle.code_rules.specs.AppRange.{AppInRange, IsOp}
 use Rattle.code_rules.specs.WellFormed.{WellFormed}
 use Rattle.stack_bounds.specs.Tables.{IsKnown, AreCallable, HasBody}
@@ -18,15 +18,15 @@ some_number t None e = absurd (true≢false (sym e))
 some_number t (Some u) e = ap Some (eqb-true u t e)
 
 abbrev Found : List Func → ℕ → ℕ → Type 0
-Found funcs t f = (f < length funcs) × ((get_or funcs f missing).task ≡ Some t)
+Found funcs t f = (f < length funcs) × ((get_or funcs f no_function).task ≡ Some t)
 
 -- the body of a task is found
-found : (funcs : List Func) (t f : ℕ) → f < length funcs → (get_or funcs f missing).task ≡ Some t → Found funcs t (body_of funcs t)
+found : (funcs : List Func) (t f : ℕ) → f < length funcs → (get_or funcs f no_function).task ≡ Some t → Found funcs t (body_of funcs t)
 found [] t f l is = absurd (omega (arith, l))
 found (g ∷ rest) t f l is = by (is_number t g.task) refl (later (found rest t) f l is)
   where
-    later : ((n : ℕ) → n < length rest → (get_or rest n missing).task ≡ Some t → Found rest t (body_of rest t))
-        → (n : ℕ) → n < length (g ∷ rest) → (get_or (g ∷ rest) n missing).task ≡ Some t → is_number t g.task ≡ false → Found rest t (body_of rest t)
+    later : ((n : ℕ) → n < length rest → (get_or rest n no_function).task ≡ Some t → Found rest t (body_of rest t))
+        → (n : ℕ) → n < length (g ∷ rest) → (get_or (g ∷ rest) n no_function).task ≡ Some t → is_number t g.task ≡ false → Found rest t (body_of rest t)
     later more zero l e differs = absurd (true≢false (sym (ap (is_number t) e ∙ eq-eqb t t refl) ∙ differs))
     later more (suc n) l e differs = more n (omega (arith, l)) e
 
@@ -51,8 +51,8 @@ module _ (config : Config) (app : App) (in_range : AppInRange config app) where
   pub callable : AreCallable app.funcs
   callable = record {
     few = in_range.limits.few_bodies;
-    frames = λ f l. (in_range.bodies f missing l).frame;
-    callees = λ f i l inside. known f _ ((in_range.bodies f missing l).items i no_item inside);
+    frames = λ f l. (in_range.bodies f no_function l).frame;
+    callees = λ f i l inside. known f _ ((in_range.bodies f no_function l).items i no_item inside);
   }
 
 -- as the lists that the functions take

@@ -11,7 +11,7 @@ use Rattle.code_rules.specs.WellFormed.{WellFormed}
 use Rattle.call_graph.specs.declared.ranking.Ranks.{Ranks}
 use Rattle.call_graph.specs.Ranks.{RanksOf}
 use Rattle.stack_bounds.specs.Bounds.{total, IsGreatest, context_bytes, frame_bytes, call_bytes, CallsInTurn, used_bytes, AreBounds, HaveRoom, IsLength}
-use Rattle.stack_bounds.specs.Tables.{in_table, IsTable, task_bytes, gives_way, most_stacked, task_at}
+use Rattle.stack_bounds.specs.Tables.{table_entry, IsTable, task_bytes, gives_way, most_stacked, task_at}
 use Rattle.stack_bounds.proofs.Bodies.{has_body, callable}
 use Rattle.stack_bounds.proofs.Chains.{greatest, greatest_small, inwards, words}
 use Rattle.stack_bounds.proofs.Rows.{AreRows, preempted, greatest_shared}
@@ -57,7 +57,7 @@ module _ (config : Config) (app : App) (ranks : Ranks) (table : List ℕ) (yield
     (h : AreTables config app ranks table yielding bytes) where
   -- ---- each task's bytes
 
-  greatest_calls : (f : ℕ) → f < length app.funcs → IsGreatest (CallsInTurn app f) (total (call_bytes app)) (in_table table f)
+  greatest_calls : (f : ℕ) → f < length app.funcs → IsGreatest (CallsInTurn app f) (total (call_bytes app)) (table_entry table f)
   greatest_calls f known =
       subst (IsGreatest (CallsInTurn app f) (total (call_bytes app))) (sym (h.calls.calls f known)) (greatest app (callable config app h.verified.in_range) ranks h.belong f known)
 
@@ -66,7 +66,7 @@ module _ (config : Config) (app : App) (ranks : Ranks) (table : List ℕ) (yield
   greatest_bytes t declared =
       let body = body_of app.funcs t in
       subst (IsGreatest (CallsInTurn app body) (used_bytes app body)) (sym (h.bytes_are t declared))
-      (with_more (CallsInTurn app body) (total (call_bytes app)) (in_table table body) (frame_bytes app body) context_bytes
+      (with_more (CallsInTurn app body) (total (call_bytes app)) (table_entry table body) (frame_bytes app body) context_bytes
       (greatest_calls body (has_body config app h.verified.in_range t declared).0))
 
   length_is : (t : ℕ) → t < length config.tasks → IsLength (get_or bytes t 0)
@@ -75,7 +75,7 @@ module _ (config : Config) (app : App) (ranks : Ranks) (table : List ℕ) (yield
       let known = (has_body config app h.verified.in_range t declared).0 in
       let functions = callable config app h.verified.in_range in
       let calls = greatest_calls body known in
-      let small = greatest_small app functions ranks h.belong body (in_table table body) known calls in
+      let small = greatest_small app functions ranks h.belong body (table_entry table body) known calls in
       let frame = functions.frames body known in
       let is = h.bytes_are t declared in
       let whole = words app calls.some.0 in

@@ -6,7 +6,7 @@ use Rattle.sloth_base.specs.declared.app.Func.{Func}
 use Rattle.sloth_base.specs.declared.app.Op.{Op}
 use Rattle.sloth_base.specs.declared.app.Op.TheVariants as op
 use Rattle.sloth_base.specs.Named.{no_item}
-use Rattle.stack_bounds.specs.Tables.{func_of, bytes_called, most_called, calls_to_depth, in_table, IsTable, IsKnown, IsSmall, AreCallable}
+use Rattle.stack_bounds.specs.Tables.{func_of, bytes_called, most_called, calls_to_depth, table_entry, IsTable, IsKnown, IsSmall, AreCallable}
 use Rattle.stack_bounds.proofs.Below.{max_below-le, max_below-same}
 
 module _ (funcs : List Func) where
@@ -34,15 +34,15 @@ module _ (funcs : List Func) where
     count = is.count;
     small = λ f. ⊎_elim
         (λ l. let s = depth_small callable depth f l in let e = is.calls f l in omega (arith, s, e, few))
-        (λ past. let c = is.count in let e : in_table table f ≡ 0 = get_or_past table f 0 (omega (arith, past, c)) in omega (arith, e))
+        (λ past. let c = is.count in let e : table_entry table f ≡ 0 = get_or_past table f 0 (omega (arith, past, c)) in omega (arith, e))
         (cases_lt f (length funcs));
   }
 
   pub one_deeper : (depth next_depth : ℕ) (table next : List ℕ) → next_depth ≡ suc depth → AreCallable funcs → IsTable funcs depth table → length next ≡ length funcs
-      → ((f : ℕ) → f < length funcs → in_table next f ≡ most_called funcs (in_table table) (func_of funcs f).items)
+      → ((f : ℕ) → f < length funcs → table_entry next f ≡ most_called funcs (table_entry table) (func_of funcs f).items)
       → IsTable funcs next_depth next
   one_deeper depth next_depth table next e callable is count calls = subst (λ (d : ℕ). IsTable funcs d next) (sym e) (record {
     count = count;
     calls = λ f l. calls f l ∙ max_below-same (length (func_of funcs f).items) _ _ (λ i inside.
-        called_same (in_table table) (λ g. calls_to_depth funcs depth g) is.calls (get_or (func_of funcs f).items i no_item).op (callable.callees f i l inside));
+        called_same (table_entry table) (λ g. calls_to_depth funcs depth g) is.calls (get_or (func_of funcs f).items i no_item).op (callable.callees f i l inside));
   })

@@ -21,7 +21,7 @@ words_below (suc n) some h =
     omega (arith, before, last)
 
 -- there is one greatest size
-one_greatest : (Kind : List ℕ → Type 0) (size : List ℕ → ℕ) (m n : ℕ) → IsGreatest Kind size m → IsGreatest Kind size n → m ≡ n
+pub one_greatest : (Kind : List ℕ → Type 0) (size : List ℕ → ℕ) (m n : ℕ) → IsGreatest Kind size m → IsGreatest Kind size n → m ≡ n
 one_greatest Kind size m n h k =
     let one = h.none_greater k.some.0 k.some.1 in
     let other = k.none_greater h.some.0 h.some.1 in

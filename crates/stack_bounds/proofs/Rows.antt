@@ -8,7 +8,7 @@ use Rattle.sloth_base.specs.declared.config.Config.{Config}
 use Rattle.sloth_base.specs.declared.config.TaskDecl.{TaskDecl}
 use Rattle.sloth_base.specs.declared.app.App.{App}
 use Rattle.sloth_base.specs.declared.app.Func.{Func}
-use Rattle.sloth_base.specs.Named.{declaration, body_of, undeclared}
+use Rattle.sloth_base.specs.Named.{declaration, body_of, undeclared_task}
 use Rattle.code_rules.specs.WellFormed.{WellFormed}
 use Rattle.call_graph.specs.declared.ranking.Ranks.{Ranks}
 use Rattle.call_graph.specs.Ranks.{RanksOf}
@@ -120,7 +120,7 @@ module _ (config : Config) (app : App) (ranks : Ranks) (yielding : List Bool) (b
       (cases_Bool (declaration config t).extended)
 
   differ : (t u : ℕ) → t < u → u < length config.tasks → priority t ≡ priority u → ⊥
-  differ t u l m = h.verified.in_range.configuration.priorities_differ t u undeclared l m
+  differ t u l m = h.verified.in_range.configuration.priorities_differ t u undeclared_task l m
 
   pub greatest_shared : IsGreatest (AreStacked config app) (total size) (most_stacked config.tasks yielding bytes)
   greatest_shared =

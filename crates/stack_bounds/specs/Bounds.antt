@@ -5,7 +5,7 @@ use Rattle.sloth_base.specs.declared.app.App.{App}
 use Rattle.sloth_base.specs.declared.places.Bounds.{Bounds}
 use Rattle.sloth_base.specs.declared.service.Service.TheVariants as service
 use Rattle.sloth_base.specs.Named.{declaration, function, IsBodyOf}
-use Rattle.code_rules.specs.Code.{IsItem, serve, Calls, IsCalledBy, TaskReaches}
+use Rattle.code_rules.specs.Code.{IsItem, service_op, Calls, IsCalledBy, TaskReaches}
 
 -- a size summed over a list
 abbrev pub total : (ℕ → ℕ) → List ℕ → ℕ
@@ -48,7 +48,7 @@ IsBasic config t = (t < length config.tasks) × ((declaration config t).extended
 
 -- the task reaches a Schedule
 abbrev pub ReachesSchedule : App → ℕ → Type 0
-ReachesSchedule app t = (f : ℕ) × (i : ℕ) × (object : ℕ) × (mask : ℕ) × TaskReaches app t f × IsItem app f i (serve service.Schedule object mask)
+ReachesSchedule app t = (f : ℕ) × (i : ℕ) × (object : ℕ) × (mask : ℕ) × TaskReaches app t f × IsItem app f i (service_op service.Schedule object mask)
 
 -- a basic task that another may preempt: its scheduling is FULL, or it reaches a Schedule
 abbrev pub MayBePreempted : Config → App → ℕ → Type 0

@@ -5,7 +5,7 @@ use Rattle.sloth_base.specs.declared.app.Item.{Item}
 use Rattle.sloth_base.specs.declared.app.Op.{Op}
 use Rattle.sloth_base.specs.declared.app.Op.TheVariants as op
 use Rattle.sloth_base.specs.declared.config.TaskDecl.{TaskDecl}
-use Rattle.sloth_base.specs.Named.{missing, no_item, undeclared, body_of}
+use Rattle.sloth_base.specs.Named.{no_function, no_item, undeclared_task, body_of}
 
 -- the sum of a size over the numbers below n
 abbrev pub sum_below : ℕ → (ℕ → ℕ) → ℕ
@@ -19,7 +19,7 @@ max_below (suc n) size = max (max_below n size) (size n)
 
 -- the function with this number
 abbrev pub func_of : List Func → ℕ → Func
-func_of funcs f = get_or funcs f missing
+func_of funcs f = get_or funcs f no_function
 
 -- ---- calls
 
@@ -38,13 +38,13 @@ calls_to_depth funcs zero f = 0
 calls_to_depth funcs (suc depth) f = most_called funcs (λ g. calls_to_depth funcs depth g) (func_of funcs f).items
 
 -- a table by function
-abbrev pub in_table : List ℕ → ℕ → ℕ
-in_table table f = get_or table f 0
+abbrev pub table_entry : List ℕ → ℕ → ℕ
+table_entry table f = get_or table f 0
 
 -- the table has these of all functions
 pub record IsTable (funcs : List Func) (depth : ℕ) (table : List ℕ) : Type 0 where
   pub count : length table ≡ length funcs
-  pub calls : (f : ℕ) → f < length funcs → in_table table f ≡ calls_to_depth funcs depth f
+  pub calls : (f : ℕ) → f < length funcs → table_entry table f ≡ calls_to_depth funcs depth f
 
 -- the function that this operation calls is there
 abbrev pub IsKnown : List Func → Op → Type 0
@@ -60,7 +60,7 @@ pub record AreCallable (funcs : List Func) : Type 0 where
 -- as many entries as functions, none above that of 64 calls
 pub record IsSmall (funcs : List Func) (table : List ℕ) : Type 0 where
   pub count : length table ≡ length funcs
-  pub small : (f : ℕ) → in_table table f ≤ 8448
+  pub small : (f : ℕ) → table_entry table f ≤ 8448
 
 -- ---- tasks
 
@@ -70,11 +70,11 @@ HasBody funcs t = (f : ℕ) × (f < length funcs) × ((func_of funcs f).task ≡
 
 -- the bytes of a task by the table
 abbrev pub task_bytes : List Func → List ℕ → ℕ → ℕ
-task_bytes funcs table t = 4 * (func_of funcs (body_of funcs t)).frame_words + in_table table (body_of funcs t) + 128
+task_bytes funcs table t = 4 * (func_of funcs (body_of funcs t)).frame_words + table_entry table (body_of funcs t) + 128
 
 -- the task's declaration
 abbrev pub task_at : List TaskDecl → ℕ → TaskDecl
-task_at tasks t = get_or tasks t undeclared
+task_at tasks t = get_or tasks t undeclared_task
 
 -- it is basic and may be preempted, by whether its body waits or calls Schedule
 abbrev pub gives_way : TaskDecl → Bool → Bool

@@ -1,7 +1,7 @@
 //! The most bytes that each function's calls need.
 ghost use Rattle.std.specs.Prelude.{◌≡◌, ℕ, ◌<◌, max, length, get_or, IfOk};
 ghost use Rattle.sloth_base.specs.Named.{no_item};
-ghost use Rattle.stack_bounds.specs.Tables.{bytes_called, most_called, in_table, func_of, IsTable, IsKnown, IsSmall, AreCallable};
+ghost use Rattle.stack_bounds.specs.Tables.{bytes_called, most_called, table_entry, func_of, IsTable, IsKnown, IsSmall, AreCallable};
 
 use sloth_base::app::{Func, Item, Op};
 use sloth_base::memory::NoMemory;
@@ -22,7 +22,7 @@ fn bytes_called(funcs: &[Func], table: &[u32], op: Op) -> u32
     requires known { IsKnown funcs.now op }
     requires frames { AreCallable funcs.now }
     requires small { IsSmall funcs.now table.now }
-    ensures { result ≡ bytes_called funcs.now (in_table table.now) op }
+    ensures { result ≡ bytes_called funcs.now (table_entry table.now) op }
 {
     match op {
         Op::Invoke { func } => {
@@ -38,7 +38,7 @@ fn most_called(funcs: &[Func], table: &[u32], items: &[Item]) -> u32
     requires known { (i : ℕ) → i < length items.now → IsKnown funcs.now (get_or items.now i no_item).op }
     requires frames { AreCallable funcs.now }
     requires small { IsSmall funcs.now table.now }
-    ensures { result ≡ most_called funcs.now (in_table table.now) items.now }
+    ensures { result ≡ most_called funcs.now (table_entry table.now) items.now }
 {
     let mut most = 0;
     for item in items {
@@ -53,14 +53,12 @@ fn deeper(alloc: Global, funcs: &[Func], table: &[u32]) -> Result<Vec<u32>, NoMe
     requires small { IsSmall funcs.now table.now }
     ensures count { IfOk result (λ next. length next.items ≡ length funcs.now) }
     ensures calls { IfOk result (λ next. (f : ℕ) → f < length funcs.now
-        → in_table next.items f ≡ most_called funcs.now (in_table table.now) (func_of funcs.now f).items) }
+        → table_entry next.items f ≡ most_called funcs.now (table_entry table.now) (func_of funcs.now f).items) }
 {
     let mut next = Vec::new(alloc);
     for func in funcs {
-        match next.push(most_called(funcs, table, func.items.items())) {
-            Ok(()) => {}
-            Err(_) => return Err(NoMemory),
-        }
+        next.push(most_called(funcs, table, func.items.items()))
+            .map_err(|_| NoMemory)?;
     }
     Ok(next)
 }
@@ -68,14 +66,11 @@ fn deeper(alloc: Global, funcs: &[Func], table: &[u32]) -> Result<Vec<u32>, NoMe
 /// So many zeros.
 fn no_calls(alloc: Global, count: usize) -> Result<Vec<u32>, NoMemory>
     ensures count { IfOk result (λ table. length table.items ≡ count) }
-    ensures none { IfOk result (λ table. (f : ℕ) → in_table table.items f ≡ 0) }
+    ensures none { IfOk result (λ table. (f : ℕ) → table_entry table.items f ≡ 0) }
 {
     let mut table = Vec::new(alloc);
     for _number in 0..count {
-        match table.push(0) {
-            Ok(()) => {}
-            Err(_) => return Err(NoMemory),
-        }
+        table.push(0).map_err(|_| NoMemory)?;
     }
     Ok(table)
 }

@@ -1,6 +1,6 @@
 //! The most bytes that all basic tasks need on one stack.
-ghost use Rattle.std.specs.Prelude.{◌≡◌, ℕ, ◌<◌, ◌≤◌, false, length, get_or, cond, nat_lt, ◌&&◌, IfOk};
-ghost use Rattle.stack_bounds.specs.Tables.{sum_below, task_at, bytes_under, bytes_lower, bytes_with_lower, most_stacked, AreStacks, AreOffsets};
+ghost use Rattle.std.specs.Prelude.{◌≡◌, ◌<◌, ◌≤◌, length, cond, nat_lt, ◌&&◌, IfOk};
+ghost use Rattle.stack_bounds.specs.Tables.{sum_below, bytes_under, bytes_lower, bytes_with_lower, most_stacked, AreStacks, AreOffsets};
 
 use crate::calls::larger;
 use sloth_base::config::TaskDecl;
@@ -56,10 +56,9 @@ pub fn offsets_of_tasks(
 {
     let mut offsets = Vec::new(alloc);
     for number in 0..tasks.len() {
-        match offsets.push(bytes_lower(tasks, yielding, bytes, number)) {
-            Ok(()) => {}
-            Err(_) => return Err(NoMemory),
-        }
+        offsets
+            .push(bytes_lower(tasks, yielding, bytes, number))
+            .map_err(|_| NoMemory)?;
     }
     Ok(offsets)
 }

@@ -1,5 +1,5 @@
 //! The parts of the shared stack.
-ghost use Rattle.std.specs.Prelude.{◌≡◌, IfOk};
+ghost use Rattle.std.specs.Prelude.{IfOk};
 ghost use Rattle.code_rules.specs.WellFormed.{WellFormed};
 ghost use Rattle.call_graph.specs.Ranks.{RanksOf};
 ghost use Rattle.stack_bounds.specs.Bounds.{AreBounds, AreParts};

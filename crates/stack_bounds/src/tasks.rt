@@ -1,8 +1,8 @@
 //! What each task needs for itself, and which tasks may be preempted.
-ghost use Rattle.std.specs.Prelude.{◌≡◌, ℕ, ◌<◌, ◌||◌, ◌&&◌, not, false, length, get_or, Some, IfOk};
+ghost use Rattle.std.specs.Prelude.{◌≡◌, ℕ, ◌<◌, false, length, get_or, IfOk};
 ghost use Rattle.sloth_base.specs.Options.{is_number};
 ghost use Rattle.sloth_base.specs.Named.{body_of};
-ghost use Rattle.stack_bounds.specs.Tables.{AreCallable, HasBody, IsSmall, func_of, task_at, task_bytes, gives_way};
+ghost use Rattle.stack_bounds.specs.Tables.{AreCallable, HasBody, IsSmall, task_at, task_bytes, gives_way};
 
 use sloth_base::app::Func;
 use sloth_base::config::TaskDecl;
@@ -54,10 +54,9 @@ pub fn bytes_of_tasks(
     let mut bytes = Vec::new(alloc);
     for task in 0..count {
         let body = body_of(funcs, task);
-        match bytes.push(WORD * funcs[body].frame_words + table[body] + CONTEXT) {
-            Ok(()) => {}
-            Err(_) => return Err(NoMemory),
-        }
+        bytes
+            .push(WORD * funcs[body].frame_words + table[body] + CONTEXT)
+            .map_err(|_| NoMemory)?;
     }
     Ok(bytes)
 }
@@ -84,10 +83,9 @@ pub fn yielding_tasks(
 {
     let mut yielding = Vec::new(alloc);
     for (number, task) in tasks.iter().enumerate() {
-        match yielding.push(gives_way(task, pauses[body_of(funcs, number)])) {
-            Ok(()) => {}
-            Err(_) => return Err(NoMemory),
-        }
+        yielding
+            .push(gives_way(task, pauses[body_of(funcs, number)]))
+            .map_err(|_| NoMemory)?;
     }
     Ok(yielding)
 }

@@ -2,12 +2,12 @@
 use Rattle.std.proofs.Common.{ℕ, ◌<◌, List, [], ◌∷◌, get_or, arith}
 use Rattle.sloth_base.specs.declared.app.App.{App}
 use Rattle.least_fault.specs.Order.{NoFault}
-use Rattle.code_rules.specs.Code.{CallChain}
+use Rattle.code_rules.specs.Code.{IsCallChain}
 use Rattle.code_rules.specs.WellFormed.{CycleFault, on_cycle}
 use Rattle.call_graph.specs.declared.ranking.Ranks.{Ranks}
 use Rattle.call_graph.specs.Ranks.{RanksOf}
 
-chain_falls : (app : App) (ranks : Ranks) → RanksOf app ranks → (f g : ℕ) (between : List ℕ) → CallChain app f between g
+chain_falls : (app : App) (ranks : Ranks) → RanksOf app ranks → (f g : ℕ) (between : List ℕ) → IsCallChain app f between g
     → get_or ranks.rank g 0 < get_or ranks.rank f 0
 chain_falls app ranks belong f g [] calls = belong.above f g calls
 chain_falls app ranks belong f g (k ∷ between) chain =

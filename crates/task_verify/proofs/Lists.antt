@@ -9,7 +9,7 @@ use Rattle.std.proofs.lemmas.List.{get_or_default}
 use Rattle.sloth_base.specs.declared.app.Func.{Func}
 use Rattle.sloth_base.specs.declared.app.Item.{Item}
 use Rattle.sloth_base.specs.declared.app.Label.{Label}
-use Rattle.sloth_base.specs.Named.{item_of, no_item, label_of, nowhere}
+use Rattle.sloth_base.specs.Named.{item_of, no_item, label_of, no_label}
 use Rattle.code_rules.specs.Code.{is_in, is_last, without_last}
 use Rattle.call_graph.specs.Bits.{is_member}
 
@@ -56,7 +56,7 @@ pub item_is : (f : Func) (items : List Item) (i : ℕ) (x : Item) → items ≡ 
 item_is f items i x e l is = is ∙ ap (λ (y : List Item). get_or y i x) e ∙ get_or_default f.items i x no_item l
 
 pub label_is : (f : Func) (labels : List Label) (k : ℕ) (x : Label) → labels ≡ f.labels → k < length f.labels → x ≡ get_or labels k x → x ≡ label_of f k
-label_is f labels k x e l is = is ∙ ap (λ (y : List Label). get_or y k x) e ∙ get_or_default f.labels k x nowhere l
+label_is f labels k x e l is = is ∙ ap (λ (y : List Label). get_or y k x) e ∙ get_or_default f.labels k x no_label l
 
 -- one of the numbers is this one, asked of each in turn
 pub any_is_in : (x : ℕ) (ys : List ℕ) → list_any (λ y. y == x) ys ≡ is_in x ys

@@ -9,31 +9,31 @@ use Rattle.sloth_base.specs.declared.refusal.Code.{Code}
 use Rattle.sloth_base.specs.declared.refusal.Code.TheVariants as code
 use Rattle.sloth_base.specs.declared.refusal.Refusal.{Refusal}
 use Rattle.sloth_base.specs.Named.{function, item_of, label_of}
-use Rattle.code_rules.specs.Code.{held_fallen_into, is_fallen_into, held_entering, is_entered}
-use Rattle.code_rules.specs.WellFormed.{Breaks, accesses_past, is_uneven, masks_past, runs_out, is_unreached, holds_other, releases_other, takes_held, leaves_holding, leaves_wrongly, uses_undeclared, Differs, falling_in, at_begin, BodyFault, at_header, at_label, at_item, at_line}
+use Rattle.code_rules.specs.Code.{held_list_fallen_into, is_fallen_into, held_list_entering, is_entered}
+use Rattle.code_rules.specs.WellFormed.{Breaks, accesses_past, is_uneven, masks_past, runs_out, is_unreached, holds_other, releases_other, takes_held, leaves_holding, leaves_wrongly, uses_undeclared, Differs, falling_in, at_begin, BodyFault, at_header, at_label, at_item, fault_at_line}
 use Rattle.task_verify.specs.Cases.{EmptyFault, LabelFaults, ItemFaults, PlacesFault, FallFault}
-use Rattle.task_verify.specs.Labels.{last_below, list_of, ArePlaced}
+use Rattle.task_verify.specs.Labels.{last_label_below, list_of, ArePlaced}
 use Rattle.task_verify.proofs.Labelled.{is_first, first_is, entering_is, entered_is}
 
 -- ---- labels that are fallen into
 
-fall_of : (f : Func) (k : ℕ) → k < length f.labels → is_entered f k ≡ true → (label_of f k).holds ≢ held_entering f k → last_below f.labels (label_of f k).item k ≡ None
-    → FallFault f (label_of f k).item (at_line (label_of f k).line code.V7)
+fall_of : (f : Func) (k : ℕ) → k < length f.labels → is_entered f k ≡ true → (label_of f k).holds ≢ held_list_entering f k → last_label_below f.labels (label_of f k).item k ≡ None
+    → FallFault f (label_of f k).item (fault_at_line (label_of f k).line code.V7)
 fall_of f k l entered differs none =
     let place = (label_of f k).item in
     let into : is_fallen_into f place ≡ true = sym (entered_is f k l ∙ ap (λ o. is_some o || is_fallen_into f place) none) ∙ entered in
-    let held : held_entering f k ≡ held_fallen_into f place = entering_is f k l ∙ ap (λ o. list_of f.labels o (held_fallen_into f place)) none in
+    let held : held_list_entering f k ≡ held_list_fallen_into f place = entering_is f k l ∙ ap (λ o. list_of f.labels o (held_list_fallen_into f place)) none in
     (k, is_first f.labels place (length f.labels) k l refl none, ((into, λ e. differs (e ∙ sym held)), refl))
 
 differs_of : (f : Func) (place : ℕ) (r : Refusal) → FallFault f place r
-    → (k : ℕ) × (k < length f.labels) × Differs f k × (r ≡ at_line (label_of f k).line code.V7)
+    → (k : ℕ) × (k < length f.labels) × Differs f k × (r ≡ fault_at_line (label_of f k).line code.V7)
 differs_of f place r x =
     let k = x.0 in
     let first = first_is f.labels place (length f.labels) k x.1 in
-    let none : last_below f.labels (label_of f k).item k ≡ None = subst (λ (p : ℕ). last_below f.labels p k ≡ None) (sym first.1) first.2 in
+    let none : last_label_below f.labels (label_of f k).item k ≡ None = subst (λ (p : ℕ). last_label_below f.labels p k ≡ None) (sym first.1) first.2 in
     let into : is_fallen_into f (label_of f k).item ≡ true = ap (is_fallen_into f) first.1 ∙ x.2.0.0 in
-    let held : held_entering f k ≡ held_fallen_into f place =
-    entering_is f k first.0 ∙ ap (λ o. list_of f.labels o (held_fallen_into f (label_of f k).item)) none ∙ ap (held_fallen_into f) first.1 in (
+    let held : held_list_entering f k ≡ held_list_fallen_into f place =
+    entering_is f k first.0 ∙ ap (λ o. list_of f.labels o (held_list_fallen_into f (label_of f k).item)) none ∙ ap (held_list_fallen_into f) first.1 in (
       k,
       first.0,
       falling_in (entered_is f k first.0 ∙ ap (λ o. is_some o || is_fallen_into f (label_of f k).item) none ∙ into) (λ e. x.2.0.1 (e ∙ held)),
@@ -50,19 +50,19 @@ module _ (config : Config) (app : App) (b : ℕ) where
       (λ ge. let e : place ≡ length (function app b).items = omega (arith, l, ge) in inr (subst (λ (p : ℕ). FallFault (function app b) p r) e x))
       (cases_lt place (length (function app b).items))
 
-  label_part : ArePlaced (function app b) → (k : ℕ) → k < length (function app b).labels → Differs (function app b) k → Parts (at_line (label_of (function app b) k).line code.V7)
+  label_part : ArePlaced (function app b) → (k : ℕ) → k < length (function app b).labels → Differs (function app b) k → Parts (fault_at_line (label_of (function app b) k).line code.V7)
   label_part placed k l (at_begin e n) = inr (inl (k, l, (inr (e, n), refl)))
-  label_part placed k l (falling_in entered differs) = by (last_below (function app b).labels (label_of (function app b) k).item k) refl
+  label_part placed k l (falling_in entered differs) = by (last_label_below (function app b).labels (label_of (function app b) k).item k) refl
     where
-      by : (o : Option ℕ) → last_below (function app b).labels (label_of (function app b) k).item k ≡ o → Parts (at_line (label_of (function app b) k).line code.V7)
+      by : (o : Option ℕ) → last_label_below (function app b).labels (label_of (function app b) k).item k ≡ o → Parts (fault_at_line (label_of (function app b) k).line code.V7)
       by (Some j) e =
           let f = function app b in
-          let held = entering_is f k l ∙ ap (λ o. list_of f.labels o (held_fallen_into f (label_of f k).item)) e in
+          let held = entering_is f k l ∙ ap (λ o. list_of f.labels o (held_list_fallen_into f (label_of f k).item)) e in
           inr (inl (k, l, (inl (j, e, λ same. differs (same ∙ sym held)), refl)))
       by None e =
           let f = function app b in inr (inr (inr (fallen_part (label_of f k).item _ (placed k l) (fall_of f k l entered differs e))))
 
-  item_part : (i : ℕ) (c : Code) → i < length (function app b).items → Breaks config app b i c → Parts (at_line (item_of (function app b) i).line c)
+  item_part : (i : ℕ) (c : Code) → i < length (function app b).items → Breaks config app b i c → Parts (fault_at_line (item_of (function app b) i).line c)
   item_part i c l (accesses_past x) = inr (inr (inl (i, l, inl (inl (x, refl)))))
   item_part i c l (is_uneven x) = inr (inr (inl (i, l, inl (inr (inl (x, refl))))))
   item_part i c l (masks_past x) = inr (inr (inl (i, l, inl (inr (inr (x, refl))))))
@@ -82,7 +82,7 @@ module _ (config : Config) (app : App) (b : ℕ) where
 
   -- ---- the other way
 
-  at : (i : ℕ) (c : Code) (r : Refusal) → i < length (function app b).items → Breaks config app b i c → r ≡ at_line (item_of (function app b) i).line c → BodyFault config app b r
+  at : (i : ℕ) (c : Code) (r : Refusal) → i < length (function app b).items → Breaks config app b i c → r ≡ fault_at_line (item_of (function app b) i).line c → BodyFault config app b r
   at i c r l breaks e = subst (BodyFault config app b) (sym e) (at_item i c l breaks)
 
   fall_back : (place : ℕ) (r : Refusal) → FallFault (function app b) place r → BodyFault config app b r
@@ -92,7 +92,7 @@ module _ (config : Config) (app : App) (b : ℕ) where
   from_parts r (inl x) = subst (BodyFault config app b) (sym x.1) (at_header x.0)
   from_parts r (inr (inl (k, l, (inl (j, e, differs), q)))) =
       let f = function app b in
-      let held = entering_is f k l ∙ ap (λ o. list_of f.labels o (held_fallen_into f (label_of f k).item)) e in
+      let held = entering_is f k l ∙ ap (λ o. list_of f.labels o (held_list_fallen_into f (label_of f k).item)) e in
       subst (BodyFault config app b) (sym q)
       (at_label k l
       (falling_in (entered_is f k l ∙ ap (λ o. is_some o || is_fallen_into f (label_of f k).item) e) (λ same. differs (same ∙ held))))

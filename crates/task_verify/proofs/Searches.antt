@@ -7,7 +7,7 @@ use Rattle.std.proofs.lemmas.List.Folds.{list_any-append}
 use Rattle.sloth_base.specs.declared.app.Func.{Func}
 use Rattle.sloth_base.specs.Named.{item_of, label_of}
 use Rattle.code_rules.specs.Code.{is_followed, way, is_in}
-use Rattle.task_verify.specs.Ways.{inside_or, next_of, label_place, jump_of, Reached, first, by_next, by_jump, Marked, Visited, Searching}
+use Rattle.task_verify.specs.Ways.{inside_or, next_of, label_place, jump_of, IsReachedItem, first, by_next, by_jump, IsMarked, Visited, IsMarking}
 use Rattle.task_verify.proofs.Paths.{closed_all}
 
 -- ---- members
@@ -55,9 +55,9 @@ jump_inside f x l = by (way (item_of f x).op)
 
 -- ---- marks
 
-marked_more : (marks : List Bool) (at i : ℕ) → Marked marks i → Marked (set marks at true) i
+marked_more : (marks : List Bool) (at i : ℕ) → IsMarked marks i → IsMarked (set marks at true) i
 marked_more marks at i m = ⊎_elim
-    (λ e. subst (λ (x : ℕ). Marked (set marks at true) x) (sym e) (get_or-set_same marks at true false (inside (cases_lt i (length marks)) e)))
+    (λ e. subst (λ (x : ℕ). IsMarked (set marks at true) x) (sym e) (get_or-set_same marks at true false (inside (cases_lt i (length marks)) e)))
     (λ n. get_or-set_other marks at i true false n ∙ m)
     (cases_eq i at)
   where
@@ -69,14 +69,14 @@ marked_more marks at i m = ⊎_elim
 
 pub record Owing (f : Func) (marks : List Bool) (pending : List ℕ) (x : ℕ) : Type 0 where
   pub count : length marks ≡ length f.items
-  pub start : Marked marks 0
-  pub sound : (i : ℕ) → Marked marks i → Reached f i
-  pub kept : (i : ℕ) → is_in i pending ≡ true → (i < length f.items) × Marked marks i
+  pub start : IsMarked marks 0
+  pub sound : (i : ℕ) → IsMarked marks i → IsReachedItem f i
+  pub kept : (i : ℕ) → is_in i pending ≡ true → (i < length f.items) × IsMarked marks i
   pub known : x < length f.items
-  pub here : Marked marks x
-  pub closed : (i : ℕ) → i ≢ x → Marked marks i → (is_in i pending ≡ true) ⊎ (Marked marks (next_of f i) × Marked marks (jump_of f i))
+  pub here : IsMarked marks x
+  pub closed : (i : ℕ) → i ≢ x → IsMarked marks i → (is_in i pending ≡ true) ⊎ (IsMarked marks (next_of f i) × IsMarked marks (jump_of f i))
 
-pub taken : (f : Func) (marks : List Bool) (pending rest : List ℕ) (x : ℕ) → pending ≡ rest ++ x ∷ [] → Searching f marks pending → Owing f marks rest x
+pub taken : (f : Func) (marks : List Bool) (pending rest : List ℕ) (x : ℕ) → pending ≡ rest ++ x ∷ [] → IsMarking f marks pending → Owing f marks rest x
 taken f marks pending rest x e s =
     let mine = s.kept x (ap (is_in x) e ∙ at_end x rest) in
     record {
@@ -94,20 +94,20 @@ taken f marks pending rest x e s =
 -- a visit keeps it, and the place is marked
 pub record Kept (f : Func) (marks new : List Bool) (pending : List ℕ) (x at : ℕ) : Type 0 where
   pub owing : Owing f new pending x
-  pub marked : Marked new at
-  pub keeps : (i : ℕ) → Marked marks i → Marked new i
+  pub marked : IsMarked new at
+  pub keeps : (i : ℕ) → IsMarked marks i → IsMarked new i
 
-pub visited : (f : Func) (marks new : List Bool) (pending kept : List ℕ) (x at : ℕ) → at < length f.items → Reached f at → Visited marks new pending kept at
+pub visited : (f : Func) (marks new : List Bool) (pending kept : List ℕ) (x at : ℕ) → at < length f.items → IsReachedItem f at → Visited marks new pending kept at
     → Owing f marks pending x → Kept f marks new kept x at
 visited f marks new pending kept x at l r v o = by (get_or marks at false) refl v
   where
-    same : (new ≡ marks) × (kept ≡ pending) → Marked marks at → Kept f marks new kept x at
+    same : (new ≡ marks) × (kept ≡ pending) → IsMarked marks at → Kept f marks new kept x at
     same e m =
         let P : List Bool → Type 0 = λ ms. Kept f marks ms kept x at in
         let Q : List ℕ → Type 0 = λ ps. Owing f marks ps x in
         subst P (sym e.0) (record { owing = subst Q (sym e.1) o; marked = m; keeps = λ i h. h })
 
-    here : Marked (set marks at true) at
+    here : IsMarked (set marks at true) at
     here = let c = o.count in get_or-set_same marks at true false (omega (arith, l, c))
 
     more : Owing f (set marks at true) (pending ++ at ∷ []) x
@@ -115,12 +115,12 @@ visited f marks new pending kept x at l r v o = by (get_or marks at false) refl 
       count = length-set marks at true ∙ o.count;
       start = marked_more marks at 0 o.start;
       sound = λ i m. ⊎_elim
-          (λ e. subst (Reached f) (sym e) r)
+          (λ e. subst (IsReachedItem f) (sym e) r)
           (λ n. o.sound i (sym (get_or-set_other marks at i true false n) ∙ m))
           (cases_eq i at);
       kept = λ i h. ⊎_elim
           (λ g. let k = o.kept i g in (k.0, marked_more marks at i k.1))
-          (λ e. (subst (λ (y : ℕ). y < length f.items) e l, subst (λ (y : ℕ). Marked (set marks at true) y) e here))
+          (λ e. (subst (λ (y : ℕ). y < length f.items) e l, subst (λ (y : ℕ). IsMarked (set marks at true) y) e here))
           (front_or_end i at pending h);
       known = o.known;
       here = marked_more marks at x o.here;
@@ -146,7 +146,7 @@ visited f marks new pending kept x at l r v o = by (get_or marks at false) refl 
 
 -- both ways of x are visited
 pub gone_on : (f : Func) (marks mid new : List Bool) (pending more kept : List ℕ) (x : ℕ) → next_of f x < length f.items → jump_of f x < length f.items
-    → Visited marks mid pending more (next_of f x) → Visited mid new more kept (jump_of f x) → Owing f marks pending x → Searching f new kept
+    → Visited marks mid pending more (next_of f x) → Visited mid new more kept (jump_of f x) → Owing f marks pending x → IsMarking f new kept
 gone_on f marks mid new pending more kept x l m v w o =
     let one = visited f marks mid pending more x (next_of f x) l (by_next x (next_of f x) o.known (o.sound x o.here) refl) v o in
     let p = one.owing in
@@ -158,13 +158,13 @@ gone_on f marks mid new pending more kept x l m v w o =
       sound = q.sound;
       kept = q.kept;
       closed = λ i h. ⊎_elim
-          (λ e. inr (subst (λ (y : ℕ). Marked new (next_of f y) × Marked new (jump_of f y)) (sym e) (two.keeps (next_of f x) one.marked, two.marked)))
+          (λ e. inr (subst (λ (y : ℕ). IsMarked new (next_of f y) × IsMarked new (jump_of f y)) (sym e) (two.keeps (next_of f x) one.marked, two.marked)))
           (λ n. q.closed i n h)
           (cases_eq i x);
     }
 
 -- nothing is kept any more
-pub ended : (f : Func) (marks : List Bool) (pending : List ℕ) → length pending ≡ 0 → Searching f marks pending → (i : ℕ) → Marked marks i ↔ Reached f i
+pub ended : (f : Func) (marks : List Bool) (pending : List ℕ) → length pending ≡ 0 → IsMarking f marks pending → (i : ℕ) → IsMarked marks i ↔ IsReachedItem f i
 ended f marks pending e s i = (
   s.sound i,
   λ r. closed_all r marks s.start (λ k l m. ⊎_elim (λ h. absurd (no_member k pending e h)) (λ h. h) (s.closed k m)),
@@ -172,34 +172,34 @@ ended f marks pending e s i = (
 
 -- the first item alone is marked and kept
 pub begun : (f : Func) (marks new : List Bool) (pending kept : List ℕ) → length marks ≡ length f.items → 0 < length marks
-    → ((i : ℕ) → i < length marks → get_or marks i false ≡ false) → pending ≡ [] → Visited marks new pending kept 0 → Searching f new kept
+    → ((i : ℕ) → i < length marks → get_or marks i false ≡ false) → pending ≡ [] → Visited marks new pending kept 0 → IsMarking f new kept
 begun f marks new pending kept count some clear none v = by (get_or marks 0 false) refl v
   where
     clear_all : (i : ℕ) → get_or marks i false ≡ false
     clear_all i = ⊎_elim (λ h. clear i h) (λ h. get_or_past marks i false h) (cases_lt i (length marks))
 
-    only : (i : ℕ) → Marked (set marks 0 true) i → i ≡ 0
+    only : (i : ℕ) → IsMarked (set marks 0 true) i → i ≡ 0
     only i m = ⊎_elim (λ e. e) (λ n. absurd (false≢true (sym (clear_all i) ∙ (sym (get_or-set_other marks 0 i true false n) ∙ m)))) (cases_eq i 0)
 
-    here : Marked (set marks 0 true) 0
+    here : IsMarked (set marks 0 true) 0
     here = get_or-set_same marks 0 true false some
 
-    start : Searching f (set marks 0 true) (0 ∷ [])
+    start : IsMarking f (set marks 0 true) (0 ∷ [])
     start = record {
       count = length-set marks 0 true ∙ count;
       start = here;
-      sound = λ i m. subst (Reached f) (sym (only i m)) first;
+      sound = λ i m. subst (IsReachedItem f) (sym (only i m)) first;
       kept = λ i h. ⊎_elim
           (λ g. absurd (false≢true g))
-          (λ e. (subst (λ (y : ℕ). y < length f.items) e (subst (λ (n : ℕ). 0 < n) count some), subst (λ (y : ℕ). Marked (set marks 0 true) y) e here))
+          (λ e. (subst (λ (y : ℕ). y < length f.items) e (subst (λ (n : ℕ). 0 < n) count some), subst (λ (y : ℕ). IsMarked (set marks 0 true) y) e here))
           (front_or_end i 0 [] h);
       closed = λ i m. inl (subst (λ (y : ℕ). is_in y (0 ∷ []) ≡ true) (sym (only i m)) (at_end 0 []));
     }
 
     by : (b : Bool) → get_or marks 0 false ≡ b → MatchBool b ((new ≡ marks) × (kept ≡ pending)) ((new ≡ set marks 0 true) × (kept ≡ pending ++ 0 ∷ []))
-        → Searching f new kept
+        → IsMarking f new kept
     by true e w = absurd (true≢false (sym e ∙ clear 0 some))
     by false e w =
-        let P : List Bool → Type 0 = λ ms. Searching f ms kept in
-        let Q : List ℕ → Type 0 = λ ps. Searching f (set marks 0 true) ps in
+        let P : List Bool → Type 0 = λ ms. IsMarking f ms kept in
+        let Q : List ℕ → Type 0 = λ ps. IsMarking f (set marks 0 true) ps in
         subst P (sym w.0) (subst Q (sym (w.1 ∙ ap (λ ps. ps ++ 0 ∷ []) none)) start)

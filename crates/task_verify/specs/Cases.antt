@@ -9,14 +9,14 @@ use Rattle.sloth_base.specs.declared.refusal.Code.TheVariants as code
 use Rattle.sloth_base.specs.declared.refusal.Refusal.{Refusal}
 use Rattle.sloth_base.specs.Named.{item_of, label_of}
 use Rattle.code_rules.specs.AppRange.{IsOp}
-use Rattle.code_rules.specs.Code.{TaskReaches, held_at, held_fallen_into, is_fallen_into}
-use Rattle.code_rules.specs.WellFormed.{AccessesPast, IsUneven, MasksPast, RunsOut, IsUnreached, HoldsOther, ReleasesOther, TakesHeld, LeavesHolding, LeavesWrongly, UsesUndeclared, at_line}
+use Rattle.code_rules.specs.Code.{TaskReaches, held_list_at, held_list_fallen_into, is_fallen_into}
+use Rattle.code_rules.specs.WellFormed.{AccessesPast, IsUneven, MasksPast, RunsOut, IsUnreached, HoldsOther, ReleasesOther, TakesHeld, LeavesHolding, LeavesWrongly, UsesUndeclared, fault_at_line}
 use Rattle.call_graph.specs.Bits.{is_member}
-use Rattle.task_verify.specs.Labels.{last_below, first_below}
+use Rattle.task_verify.specs.Labels.{last_label_below, first_label_below}
 
 -- a refusal of this code at this line, where this is so
 abbrev pub Case : Type 0 → ℕ → Code → Refusal → Type 0
-Case P line c r = P × (r ≡ at_line line c)
+Case P line c r = P × (r ≡ fault_at_line line c)
 
 -- V2 to V4 of item i
 abbrev pub AccessFault : App → Func → ℕ → Refusal → Type 0
@@ -54,11 +54,11 @@ HeldFault app f held line o r =
 
 -- V7 to V10 of item i
 abbrev pub HeldFaultAt : App → Func → ℕ → Refusal → Type 0
-HeldFaultAt app f i r = HeldFault app f (held_at f i) (item_of f i).line (item_of f i).op r
+HeldFaultAt app f i r = HeldFault app f (held_list_at f i) (item_of f i).line (item_of f i).op r
 
 -- another label before it stands at the place of label k, the last such with another list
 abbrev pub FollowsOther : Func → ℕ → Type 0
-FollowsOther f k = (j : ℕ) × (last_below f.labels (label_of f k).item k ≡ Some j) × ((label_of f k).holds ≢ (label_of f j).holds)
+FollowsOther f k = (j : ℕ) × (last_label_below f.labels (label_of f k).item k ≡ Some j) × ((label_of f k).holds ≢ (label_of f j).holds)
 
 -- it stands before the first item with a list that is not empty
 abbrev pub BeginsHolding : Func → ℕ → Type 0
@@ -74,11 +74,11 @@ LabelFaults f r = (k : ℕ) × (k < length f.labels) × LabelFault f k r
 
 -- V7 of label k at a place, where the place is fallen into
 abbrev pub FallsOther : Func → (place k : ℕ) → Refusal → Type 0
-FallsOther f place k r = Case ((is_fallen_into f place ≡ true) × ((label_of f k).holds ≢ held_fallen_into f place)) (label_of f k).line code.V7 r
+FallsOther f place k r = Case ((is_fallen_into f place ≡ true) × ((label_of f k).holds ≢ held_list_fallen_into f place)) (label_of f k).line code.V7 r
 
 -- V7 of the first label at a place that is fallen into
 abbrev pub FallFault : Func → ℕ → Refusal → Type 0
-FallFault f place r = (k : ℕ) × (first_below f.labels place (length f.labels) ≡ Some k) × FallsOther f place k r
+FallFault f place r = (k : ℕ) × (first_label_below f.labels place (length f.labels) ≡ Some k) × FallsOther f place k r
 
 -- V7 to V10 at place i
 abbrev pub PlaceFault : App → Func → ℕ → Refusal → Type 0

@@ -27,16 +27,16 @@ abbrev pub jump_of : Func → ℕ → ℕ
 jump_of f i = label_place f (way (item_of f i).op) i
 
 -- what these ways from the first item reach
-pub data Reached (f : Func) : ℕ → Type 0 where
-  first : Reached f 0
-  by_next : (i j : ℕ) → i < length f.items → Reached f i → next_of f i ≡ j → Reached f j
-  by_jump : (i j : ℕ) → i < length f.items → Reached f i → jump_of f i ≡ j → Reached f j
+pub data IsReachedItem (f : Func) : ℕ → Type 0 where
+  first : IsReachedItem f 0
+  by_next : (i j : ℕ) → i < length f.items → IsReachedItem f i → next_of f i ≡ j → IsReachedItem f j
+  by_jump : (i j : ℕ) → i < length f.items → IsReachedItem f i → jump_of f i ≡ j → IsReachedItem f j
 
 -- ---- marks
 
 -- item i is marked
-abbrev pub Marked : List Bool → ℕ → Type 0
-Marked marks i = get_or marks i false ≡ true
+abbrev pub IsMarked : List Bool → ℕ → Type 0
+IsMarked marks i = get_or marks i false ≡ true
 
 -- how many items are not marked
 abbrev pub unmarked_count : List Bool → ℕ
@@ -49,9 +49,9 @@ Visited old new pending kept at = MatchBool (get_or old at false)
     ((new ≡ set old at true) × (kept ≡ pending ++ at ∷ []))
 
 -- what is marked is reached; of each marked item that is not kept both ways are marked
-pub record Searching (f : Func) (marks : List Bool) (pending : List ℕ) : Type 0 where
+pub record IsMarking (f : Func) (marks : List Bool) (pending : List ℕ) : Type 0 where
   pub count : length marks ≡ length f.items
-  pub start : Marked marks 0
-  pub sound : (i : ℕ) → Marked marks i → Reached f i
-  pub kept : (i : ℕ) → is_in i pending ≡ true → (i < length f.items) × Marked marks i
-  pub closed : (i : ℕ) → Marked marks i → (is_in i pending ≡ true) ⊎ (Marked marks (next_of f i) × Marked marks (jump_of f i))
+  pub start : IsMarked marks 0
+  pub sound : (i : ℕ) → IsMarked marks i → IsReachedItem f i
+  pub kept : (i : ℕ) → is_in i pending ≡ true → (i < length f.items) × IsMarked marks i
+  pub closed : (i : ℕ) → IsMarked marks i → (is_in i pending ≡ true) ⊎ (IsMarked marks (next_of f i) × IsMarked marks (jump_of f i))

@@ -1,5 +1,5 @@
 //! V7 to V10: what is held at an item.
-ghost use Rattle.std.specs.Prelude.{◌≡◌, ◌==◌, ℕ, ◌<◌, ◌||◌, length, get_or, false, Some, Decides, IfOk};
+ghost use Rattle.std.specs.Prelude.{◌≡◌, ◌==◌, ◌||◌, get_or, false, Decides, IfOk};
 ghost use Rattle.std.specs.List.{list_any};
 ghost use Rattle.code_rules.specs.Code.{is_in, is_last, held_behind, held_after};
 ghost use Rattle.code_rules.specs.WellFormed.{HoldsOther};
@@ -157,10 +157,10 @@ fn held_behind(held: Vec<u32>, call: Call) -> Result<Vec<u32>, NoMemory>
 {
     let mut held = held;
     match call.service {
-        Service::GetResource => match held.push(call.object) {
-            Ok(()) => Ok(held),
-            Err(_) => Err(NoMemory),
-        },
+        Service::GetResource => {
+            held.push(call.object).map_err(|_| NoMemory)?;
+            Ok(held)
+        }
         Service::ReleaseResource => {
             held.pop();
             Ok(held)
@@ -185,10 +185,7 @@ pub fn held_by(alloc: Global, holds: &[ResId]) -> Result<Vec<u32>, NoMemory>
 {
     let mut held = Vec::new(alloc);
     for resource in holds {
-        match held.push(resource.0) {
-            Ok(()) => {}
-            Err(_) => return Err(NoMemory),
-        }
+        held.push(resource.0).map_err(|_| NoMemory)?;
     }
     Ok(held)
 }

@@ -3,9 +3,8 @@ ghost use Rattle.std.specs.Prelude.{◌≡◌, ℕ, ◌<◌, ◌↔◌, length, 
 ghost use Rattle.least_fault.specs.Search.{Finds};
 ghost use Rattle.code_rules.specs.AppRange.{AppInRange, IsOp};
 ghost use Rattle.sloth_base.specs.Named.{item_of};
-ghost use Rattle.code_rules.specs.WellFormed.{at_line};
-ghost use Rattle.task_verify.specs.Ways.{Marked, Reached};
-ghost use Rattle.task_verify.specs.Cases.{AccessFault, FlowFault, PathFault, ItemFault, ItemFaults, AreOps, AreUsers};
+ghost use Rattle.task_verify.specs.Ways.{IsMarked, IsReachedItem};
+ghost use Rattle.task_verify.specs.Cases.{AccessFault, FlowFault, PathFault, ItemFaults, AreOps, AreUsers};
 
 use crate::accesses::{accesses_past, is_uneven, masks_past};
 use crate::reachable::reached;
@@ -67,7 +66,7 @@ fn flow_fault(
 
 fn path_fault(func: &Func, marks: &[bool], number: usize) -> Option<Refusal>
     requires count { length marks.now ≡ length func.now.items }
-    requires exact { (i : ℕ) → Marked marks.now i ↔ Reached func.now i }
+    requires exact { (i : ℕ) → IsMarked marks.now i ↔ IsReachedItem func.now i }
     requires inside { number < length func.now.items }
     ensures { Finds (PathFault func.now number) result }
 {
@@ -87,7 +86,7 @@ fn marked_faults(
     requires users { AreUsers app.now body users }
     requires items { AreOps config.now app.now func.now }
     requires count { length marks.now ≡ length func.now.items }
-    requires exact { (i : ℕ) → Marked marks.now i ↔ Reached func.now i }
+    requires exact { (i : ℕ) → IsMarked marks.now i ↔ IsReachedItem func.now i }
     ensures { Finds (ItemFaults config.now app.now body func.now) result }
 {
     let mut least = None;

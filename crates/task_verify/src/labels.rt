@@ -2,8 +2,8 @@
 ghost use Rattle.std.specs.Prelude.{◌≡◌, ◌≢◌, ℕ, ◌+◌, ◌<◌, ◌≤◌, ◌||◌, [], Some, None, length, get_or, Decides, IfOk};
 ghost use Rattle.least_fault.specs.Search.{Finds};
 ghost use Rattle.sloth_base.specs.Named.{label_of};
-ghost use Rattle.task_verify.specs.Labels.{or_else, first_below, last_below, ArePlaced};
-ghost use Rattle.task_verify.specs.Cases.{FollowsOther, BeginsHolding, LabelFault, LabelFaults};
+ghost use Rattle.task_verify.specs.Labels.{or_else, first_label_below, last_label_below, ArePlaced};
+ghost use Rattle.task_verify.specs.Cases.{FollowsOther, LabelFault, LabelFaults};
 
 use least_fault::{merge, when};
 use sloth_base::app::{Func, Label};
@@ -19,10 +19,7 @@ pub fn no_labels(alloc: Global, count: usize) -> Result<Vec<Option<usize>>, NoMe
 {
     let mut places = Vec::new(alloc);
     for place in 0..count {
-        match places.push(None) {
-            Ok(()) => {}
-            Err(_) => return Err(NoMemory),
-        }
+        places.push(None).map_err(|_| NoMemory)?;
     }
     Ok(places)
 }
@@ -32,7 +29,7 @@ pub fn last_labels(alloc: Global, func: &Func) -> Result<Vec<Option<usize>>, NoM
     requires { ArePlaced func.now }
     ensures count { IfOk result (λ places. length places.items ≡ length func.now.items + 1) }
     ensures exact { IfOk result (λ places. (place : ℕ) → place ≤ length func.now.items
-        → get_or places.items place None ≡ last_below func.now.labels place (length func.now.labels)) }
+        → get_or places.items place None ≡ last_label_below func.now.labels place (length func.now.labels)) }
 {
     let mut places = no_labels(alloc, func.items.items().len() + 1)?;
     for (number, label) in func.labels.items().iter().enumerate() {
@@ -55,7 +52,7 @@ pub fn first_labels(alloc: Global, func: &Func) -> Result<Vec<Option<usize>>, No
     requires { ArePlaced func.now }
     ensures count { IfOk result (λ places. length places.items ≡ length func.now.items + 1) }
     ensures exact { IfOk result (λ places. (place : ℕ) → place ≤ length func.now.items
-        → get_or places.items place None ≡ first_below func.now.labels place (length func.now.labels)) }
+        → get_or places.items place None ≡ first_label_below func.now.labels place (length func.now.labels)) }
 {
     let mut places = no_labels(alloc, func.items.items().len() + 1)?;
     for (number, label) in func.labels.items().iter().enumerate() {
@@ -92,7 +89,7 @@ fn have_other_lists(func: &Func, one: usize, other: usize) -> bool
 /// Whether the label before this one at the same place has another list.
 fn follows_other(func: &Func, number: usize, before: Option<usize>) -> bool
     requires inside { number < length func.now.labels }
-    requires before { before ≡ last_below func.now.labels (label_of func.now number).item number }
+    requires before { before ≡ last_label_below func.now.labels (label_of func.now number).item number }
     ensures { Decides result (FollowsOther func.now number) }
 {
     match before {
@@ -115,7 +112,7 @@ fn either(one: bool, other: bool) -> bool
 
 fn label_fault(func: &Func, number: usize, before: Option<usize>) -> Option<Refusal>
     requires inside { number < length func.now.labels }
-    requires before { before ≡ last_below func.now.labels (label_of func.now number).item number }
+    requires before { before ≡ last_label_below func.now.labels (label_of func.now number).item number }
     ensures { Finds (LabelFault func.now number) result }
 {
     let label = &func.labels.items()[number];
@@ -128,16 +125,13 @@ fn labels_before(alloc: Global, func: &Func) -> Result<Vec<Option<usize>>, NoMem
     requires { ArePlaced func.now }
     ensures count { IfOk result (λ before. length before.items ≡ length func.now.labels) }
     ensures exact { IfOk result (λ before. (k : ℕ) → k < length func.now.labels
-        → get_or before.items k None ≡ last_below func.now.labels (label_of func.now k).item k) }
+        → get_or before.items k None ≡ last_label_below func.now.labels (label_of func.now k).item k) }
 {
     let mut places = no_labels(alloc, func.items.items().len() + 1)?;
     let mut before = Vec::new(alloc);
     for (number, label) in func.labels.items().iter().enumerate() {
         let place = label.item as usize;
-        match before.push(places[place]) {
-            Ok(()) => {}
-            Err(_) => return Err(NoMemory),
-        }
+        before.push(places[place]).map_err(|_| NoMemory)?;
         places[place] = Some(number);
     }
     Ok(before)
@@ -145,7 +139,7 @@ fn labels_before(alloc: Global, func: &Func) -> Result<Vec<Option<usize>>, NoMem
 
 fn judged_labels(func: &Func, before: &[Option<usize>]) -> Option<Refusal>
     requires count { length before.now ≡ length func.now.labels }
-    requires exact { (k : ℕ) → k < length func.now.labels → get_or before.now k None ≡ last_below func.now.labels (label_of func.now k).item k }
+    requires exact { (k : ℕ) → k < length func.now.labels → get_or before.now k None ≡ last_label_below func.now.labels (label_of func.now k).item k }
     ensures { Finds (LabelFaults func.now) result }
 {
     let mut least = None;

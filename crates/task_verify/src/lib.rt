@@ -31,13 +31,7 @@ fn copied(alloc: Global, config: &Config, app: &App) -> Result<Verified, BuildEr
     ensures is { IfOk result (λ verified. verified ≡ record { config = config.now; app = app.now }) }
     ensures memory { IfErr result (λ error. error ≡ BuildError.Memory) }
 {
-    match config.copy(alloc) {
-        Err(_) => Err(BuildError::Memory),
-        Ok(config) => match app.copy(alloc) {
-            Err(_) => Err(BuildError::Memory),
-            Ok(app) => Ok(Verified::new(config, app)),
-        },
-    }
+    Ok(Verified::new(config.copy(alloc)?, app.copy(alloc)?))
 }
 
 /// Equal copies of a configuration and its task code, where no rule of V2 to V12 has a fault; else the least fault.
@@ -53,9 +47,8 @@ pub fn verify(
     ensures none { OnOk result (NoFault (RuleFault config.now app.now)) }
     ensures refused { IfErr result (ErrorIs (RuleFault config.now app.now)) }
 {
-    match judge(alloc, config, app, ranks) {
-        Err(_) => Err(BuildError::Memory),
-        Ok(Some(refusal)) => Err(BuildError::Refused(refusal)),
-        Ok(None) => copied(alloc, config, app),
+    match judge(alloc, config, app, ranks)? {
+        Some(refusal) => Err(BuildError::Refused(refusal)),
+        None => copied(alloc, config, app),
     }
 }

@@ -1,7 +1,7 @@
 //! V6: which items the paths from the first one reach.
 ghost use Rattle.std.specs.Prelude.{◌≡◌, ℕ, ◌+◌, ◌*◌, ◌<◌, ◌≤◌, ◌↔◌, false, length, get_or, [], IfOk, OnOk};
 ghost use Rattle.sloth_base.specs.Named.{item_of};
-ghost use Rattle.task_verify.specs.Ways.{LeadsToLabels, Marked, Reached, unmarked_count, Visited, Searching};
+ghost use Rattle.task_verify.specs.Ways.{LeadsToLabels, IsMarked, IsReachedItem, unmarked_count, Visited, IsMarking};
 
 use crate::ways::{jump_of, next_of};
 use sloth_base::app::Func;
@@ -17,20 +17,16 @@ fn visit(marks: &mut [bool], pending: &mut Vec<usize>, at: usize) -> Result<(), 
     if marks[at] {
         return Ok(());
     }
-    match pending.push(at) {
-        Ok(()) => {
-            marks[at] = true;
-            Ok(())
-        }
-        Err(_) => Err(NoMemory),
-    }
+    pending.push(at).map_err(|_| NoMemory)?;
+    marks[at] = true;
+    Ok(())
 }
 
 /// Marks what the items that are kept lead to.
 fn spread(func: &Func, marks: &mut [bool], pending: &mut Vec<usize>) -> Result<(), NoMemory>
     requires labels { (i : ℕ) → i < length func.now.items → LeadsToLabels func.now (item_of func.now i).op }
-    requires searching { Searching func.now marks.old pending.old.items }
-    ensures { OnOk result ((i : ℕ) → Marked marks.new i ↔ Reached func.now i) }
+    requires searching { IsMarking func.now marks.old pending.old.items }
+    ensures { OnOk result ((i : ℕ) → IsMarked marks.new i ↔ IsReachedItem func.now i) }
 {
     loop {
         match pending.pop() {
@@ -50,7 +46,7 @@ fn mark_reached(func: &Func, marks: &mut [bool], pending: &mut Vec<usize>) -> Re
     requires count { length marks.old ≡ length func.now.items }
     requires none { pending.old.items ≡ [] }
     requires labels { (i : ℕ) → i < length func.now.items → LeadsToLabels func.now (item_of func.now i).op }
-    ensures { OnOk result ((i : ℕ) → Marked marks.new i ↔ Reached func.now i) }
+    ensures { OnOk result ((i : ℕ) → IsMarked marks.new i ↔ IsReachedItem func.now i) }
 {
     visit(marks, pending, 0)?;
     spread(func, marks, pending)
@@ -62,10 +58,7 @@ fn no_marks(alloc: Global, count: usize) -> Result<Vec<bool>, NoMemory>
 {
     let mut marks = Vec::new(alloc);
     for place in 0..count {
-        match marks.push(false) {
-            Ok(()) => {}
-            Err(_) => return Err(NoMemory),
-        }
+        marks.push(false).map_err(|_| NoMemory)?;
     }
     Ok(marks)
 }
@@ -75,7 +68,7 @@ pub fn reached(alloc: Global, func: &Func) -> Result<Vec<bool>, NoMemory>
     requires some { 0 < length func.now.items }
     requires labels { (i : ℕ) → i < length func.now.items → LeadsToLabels func.now (item_of func.now i).op }
     ensures count { IfOk result (λ marks. length marks.items ≡ length func.now.items) }
-    ensures exact { IfOk result (λ marks. (i : ℕ) → Marked marks.items i ↔ Reached func.now i) }
+    ensures exact { IfOk result (λ marks. (i : ℕ) → IsMarked marks.items i ↔ IsReachedItem func.now i) }
 {
     let mut marks = no_marks(alloc, func.items.items().len())?;
     let mut pending = Vec::new(alloc);

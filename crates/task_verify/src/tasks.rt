@@ -1,5 +1,5 @@
 //! V11 and V12: what the tasks that reach an item may do there.
-ghost use Rattle.std.specs.Prelude.{◌≡◌, ◌==◌, ℕ, ◌<◌, ◌||◌, ◌&&◌, not, length};
+ghost use Rattle.std.specs.Prelude.{◌≡◌, ◌==◌, ◌<◌, ◌||◌, ◌&&◌, not, length};
 ghost use Rattle.std.specs.List.{list_any};
 ghost use Rattle.code_rules.specs.AppRange.{AreOperands};
 ghost use Rattle.code_rules.specs.Code.{is_in};

@@ -1,11 +1,11 @@
 //! V7 to V10: a walk over the items of a body with the list of held resources.
-ghost use Rattle.std.specs.Prelude.{◌≡◌, ◌≢◌, ℕ, ◌+◌, ◌<◌, ◌≤◌, true, Some, None, length, get_or, Decides, IfOk};
+ghost use Rattle.std.specs.Prelude.{◌≡◌, ◌≢◌, ℕ, ◌<◌, ◌≤◌, true, Some, length, Decides, IfOk};
 ghost use Rattle.least_fault.specs.Search.{Finds};
 ghost use Rattle.code_rules.specs.AppRange.{AppInRange, IsOp};
 ghost use Rattle.sloth_base.specs.Named.{item_of, label_of};
-ghost use Rattle.code_rules.specs.Code.{held_fallen_into, is_fallen_into};
+ghost use Rattle.code_rules.specs.Code.{held_list_fallen_into, is_fallen_into};
 ghost use Rattle.call_graph.specs.Ranks.{RanksOf};
-ghost use Rattle.task_verify.specs.Labels.{first_below, last_below, list_of, ArePlaced, AreTables};
+ghost use Rattle.task_verify.specs.Labels.{first_label_below, list_of, ArePlaced, AreTables};
 ghost use Rattle.task_verify.specs.Cases.{FallsOther, FallFault, HeldFault, PlacesFault, AreOps};
 
 use crate::held::{
@@ -44,7 +44,7 @@ fn falls_other(func: &Func, place: usize, label: usize, held: &[u32]) -> bool
 fn labelled_fault(func: &Func, place: usize, label: usize, held: &[u32]) -> Option<Refusal>
     requires inside { place ≤ length func.now.items }
     requires known { label < length func.now.labels }
-    requires held { held.now ≡ held_fallen_into func.now place }
+    requires held { held.now ≡ held_list_fallen_into func.now place }
     ensures { Finds (FallsOther func.now place label) result }
 {
     let differs = falls_other(func, place, label, held);
@@ -54,8 +54,8 @@ fn labelled_fault(func: &Func, place: usize, label: usize, held: &[u32]) -> Opti
 
 fn fall_fault(func: &Func, place: usize, first: Option<usize>, held: &[u32]) -> Option<Refusal>
     requires inside { place ≤ length func.now.items }
-    requires first { first ≡ first_below func.now.labels place (length func.now.labels) }
-    requires held { held.now ≡ held_fallen_into func.now place }
+    requires first { first ≡ first_label_below func.now.labels place (length func.now.labels) }
+    requires held { held.now ≡ held_list_fallen_into func.now place }
     ensures { Finds (FallFault func.now place) result }
 {
     match first {

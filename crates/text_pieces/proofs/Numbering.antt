@@ -6,7 +6,7 @@ use Rattle.std.specs.Str.{bytes_eq}
 use Rattle.std.proofs.lemmas.Map.Text.{hash_map_updates_str}
 use Rattle.std.proofs.lemmas.Slice.Eq.{bytes_eq-Decides}
 use Rattle.indexmap.specs.IndexMap.{IndexMap, UpdatesBy}
-use Rattle.text_pieces.specs.Names.{now, number_in, with_first, AreNumbered}
+use Rattle.text_pieces.specs.Names.{referent, number_in, with_first, AreNumbered}
 use Rattle.text_pieces.proofs.Places.{bytes_eq-sym, position_push}
 
 either_same : (o : Option ℕ) → (if is_some o then o else o) ≡ o
@@ -36,6 +36,6 @@ numbered_push m n names name number c a f = λ word.
     ∙ ap (λ k. if is_some (position (bytes_eq word) names) then position (bytes_eq word) names else if bytes_eq word name then Some k else position (bytes_eq word) names) c
     ∙ sym (position_push (bytes_eq word) name names)
 
-pub names_push : (names : List (Bor (List ℕ))) (name : Bor (List ℕ)) → map now (names ++ name ∷ []) ≡ map now names ++ name.now ∷ []
+pub names_push : (names : List (Bor (List ℕ))) (name : Bor (List ℕ)) → map referent (names ++ name ∷ []) ≡ map referent names ++ name.now ∷ []
 names_push [] name = refl
 names_push (n ∷ names) name = ap (λ (x : List (List ℕ)). n.now ∷ x) (names_push names name)

@@ -5,8 +5,8 @@ use Rattle.std.specs.Str.{bytes_eq}
 use Rattle.indexmap.specs.IndexMap.{IndexMap, get_by}
 
 -- what a reference points to
-abbrev pub now : Bor (List ℕ) → List ℕ
-now r = r.now
+abbrev pub referent : Bor (List ℕ) → List ℕ
+referent r = r.now
 
 -- the number that a map has for a name
 abbrev pub number_in : {S : Type 0} → IndexMap (Bor (List ℕ)) ℕ S → List ℕ → Option ℕ

@@ -18,13 +18,13 @@ pub struct Names<'t> {
 
 impl<'t> Model for Names<'t> {
     ghost use Rattle.std.specs.Prelude.{List, ℕ, map};
-    ghost use Rattle.text_pieces.specs.Names.{now, AreNumbered};
+    ghost use Rattle.text_pieces.specs.Names.{referent, AreNumbered};
 
     ghost Value = { List (List ℕ) };
 
-    ghost view = { λ names. map now names.list.items };
+    ghost view = { λ names. map referent names.list.items };
 
-    ghost invariant = { λ names. AreNumbered names.first (map now names.list.items) };
+    ghost invariant = { λ names. AreNumbered names.first (map referent names.list.items) };
 }
 
 /// The number of a name, unless it has one.

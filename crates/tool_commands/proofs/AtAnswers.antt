@@ -6,7 +6,7 @@ use Rattle.sloth_base.specs.declared.refusal.Part.TheVariants.{Arr}
 use Rattle.sloth_base.specs.declared.refusal.Refusal.{Refusal}
 use Rattle.least_fault.specs.Order.{IsLeast, NoFault}
 use Rattle.image_file.specs.ImageText.{ImageText}
-use Rattle.image_file.specs.Faults.{Faulty}
+use Rattle.image_file.specs.Faults.{IsFirstImageFault}
 use Rattle.image_file.specs.declared.fault.ImageFault.{ImageFault}
 use Rattle.image_file.proofs.Faulted.{fault_is_one, none_is_both}
 use Rattle.image_file.proofs.Images.{image-unique}
@@ -24,7 +24,7 @@ use Rattle.trace_command.proofs.Refused.{of-arrivals}
 -- what an answer of `at` is
 pub data AtView (img arr : List ℕ) (k : ℕ) (a : ToolAnswer) : Type 0 where
   shows : IsShown img arr k a → AtView img arr k a
-  faults : (fault : ImageFault) → a ≡ answer.NotAnImage fault → Faulty fault img → AtView img arr k a
+  faults : (fault : ImageFault) → a ≡ answer.NotAnImage fault → IsFirstImageFault fault img → AtView img arr k a
   refuses : (refusal : Refusal) → a ≡ answer.Refused refusal → IsRefused img arr refusal → AtView img arr k a
 
 pub at-view : (img arr : List ℕ) (k : ℕ) (a : ToolAnswer) → IsAtAnswer img arr k a → AtView img arr k a

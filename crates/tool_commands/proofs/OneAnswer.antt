@@ -4,7 +4,7 @@ use Rattle.std.specs.Prelude.{Option, IsTrue}
 use Rattle.std.proofs.lemmas.Bool.{false≢true}
 use Rattle.sloth_base.specs.declared.image.Image.{Image}
 use Rattle.image_file.specs.ImageText.{ImageText}
-use Rattle.image_file.specs.Faults.{Faulty}
+use Rattle.image_file.specs.Faults.{IsFirstImageFault}
 use Rattle.image_file.specs.declared.fault.ImageFault.{ImageFault}
 use Rattle.command_line.specs.Tools.{input_count, number_of, window_of}
 use Rattle.command_line.specs.declared.counts.Counts.{Counts}
@@ -58,7 +58,7 @@ reads-one tool.Map h = omega arith
 
 -- only a tool that reads an image file says that it is none, by its first fault
 pub no-image : (t : Tool) (counts : Option Counts) (inputs : List (List ℕ)) (fault : ImageFault) → IsAnswer t counts inputs (answer.NotAnImage fault)
-    → IsTrue (reads_image t) × Faulty fault (input inputs 0)
+    → IsTrue (reads_image t) × IsFirstImageFault fault (input inputs 0)
 no-image tool.Elf counts inputs fault h = (refl, h)
 no-image tool.Unelf counts inputs fault h = absurd h
 no-image tool.Infer counts inputs fault h = absurd h
@@ -79,7 +79,7 @@ pub image-or-fault : (t : Tool) (counts : Option Counts) (inputs : List (List �
     → HasImage (input inputs 0) ⊎ ((fault : ImageFault) × (a ≡ answer.NotAnImage fault))
 image-or-fault tool.Elf counts inputs a reads h = by (elf-view (input inputs 0) a h)
   where
-    by : Wrote (λ out. (image : Image) × ImageText (input inputs 0) image × ElfText out image) a ⊎ ((fault : ImageFault) × (a ≡ answer.NotAnImage fault) × Faulty fault (input inputs 0))
+    by : Wrote (λ out. (image : Image) × ImageText (input inputs 0) image × ElfText out image) a ⊎ ((fault : ImageFault) × (a ≡ answer.NotAnImage fault) × IsFirstImageFault fault (input inputs 0))
         → HasImage (input inputs 0) ⊎ ((fault : ImageFault) × (a ≡ answer.NotAnImage fault))
     by (inl w) = inl (w.file.0, w.file.1)
     by (inr w) = inr (w.0, w.1)

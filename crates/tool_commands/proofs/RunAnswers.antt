@@ -5,7 +5,7 @@ use Rattle.sloth_base.specs.declared.image.Image.{Image}
 use Rattle.sloth_base.specs.declared.refusal.Refusal.{Refusal}
 use Rattle.least_fault.specs.Order.{NoFault}
 use Rattle.image_file.specs.ImageText.{ImageText}
-use Rattle.image_file.specs.Faults.{Faulty}
+use Rattle.image_file.specs.Faults.{IsFirstImageFault}
 use Rattle.image_file.specs.declared.fault.ImageFault.{ImageFault}
 use Rattle.image_file.proofs.Faulted.{fault_is_one, none_is_both}
 use Rattle.image_file.proofs.Images.{image-unique}
@@ -36,7 +36,7 @@ module _ (img arr : List ℕ) where
       let N : Image → Type 0 = λ x. NoFault (ArrivalsFault x.tasks x.counters arr) in
       subst N (image-unique i k.0 img h.is_image k.1) h.no_fault r k.2.is_fault
 
-  not-faulty : (i : Image) (A : List Arrival) (f : ImageFault) → AreRunInputs img arr i A → Faulty f img → ⊥
+  not-faulty : (i : Image) (A : List Arrival) (f : ImageFault) → AreRunInputs img arr i A → IsFirstImageFault f img → ⊥
   not-faulty i A f h k = none_is_both img i f h.is_image k
 
 -- What is shown of a run is one text, and the run of n instructions is whole where it is shown.
@@ -74,7 +74,7 @@ module _ (Shows : Image → List Arrival → List ℕ → Type 0) (img arr : Lis
   pub data RunView (a : ToolAnswer) : Type 0 where
     draws : (o : Outcome) → a ≡ answer.Done o → IsDrawn Shows img arr o → RunView a
     halts : (pc : ℕ) (stop : Stop) → a ≡ answer.Stopped pc stop → IsHalted img arr n pc stop → RunView a
-    faults : (fault : ImageFault) → a ≡ answer.NotAnImage fault → Faulty fault img → RunView a
+    faults : (fault : ImageFault) → a ≡ answer.NotAnImage fault → IsFirstImageFault fault img → RunView a
     refuses : (refusal : Refusal) → a ≡ answer.Refused refusal → IsRefused img arr refusal → RunView a
 
   run-view : (a : ToolAnswer) → IsRunAnswer Shows img arr n a → RunView a

@@ -5,7 +5,7 @@ use Rattle.sloth_base.specs.declared.image.Image.{Image}
 use Rattle.sloth_base.specs.declared.refusal.Refusal.{Refusal}
 use Rattle.least_fault.specs.Order.{IsLeast, NoFault}
 use Rattle.image_file.specs.ImageText.{ImageText}
-use Rattle.image_file.specs.Faults.{Faulty}
+use Rattle.image_file.specs.Faults.{IsFirstImageFault}
 use Rattle.trace_text.specs.ArrivalsText.{ArrivalsFault, arrivals_in}
 use Rattle.sloth_runner.specs.Sight.{IsSight}
 use Rattle.sloth_runner.specs.declared.sight.Sight.{Sight}
@@ -20,8 +20,8 @@ sight_answer image (sight.At seen) = answer.Done (record { file = []; text = see
 sight_answer image sight.Booting = answer.Done (record { file = []; text = codes "booting\n" })
 sight_answer image (sight.Stopped pc stop) = answer.Stopped pc stop
 
--- The first file is that of an image, the second has arrivals by the image's names of tasks, and this is the answer to what a run of k + 1
--- instructions shows.
+-- The first file is that of an image, the second has arrivals by the image's names of tasks and counters, and this is the answer to what a run of
+-- k + 1 instructions shows.
 pub record IsShown (img arr : List ℕ) (k : ℕ) (shown : ToolAnswer) : Type 0 where
   pub image : Image
   pub arrivals : List Arrival
@@ -40,7 +40,7 @@ IsRefused img arr refusal = (image : Image) × ImageText img image × IsLeast (A
 abbrev pub IsAtAnswer : (img arr : List ℕ) (k : ℕ) → ToolAnswer → Type 0
 IsAtAnswer img arr k (answer.Done outcome) = IsShown img arr k (answer.Done outcome)
 IsAtAnswer img arr k (answer.Stopped pc stop) = IsShown img arr k (answer.Stopped pc stop)
-IsAtAnswer img arr k (answer.NotAnImage fault) = Faulty fault img
+IsAtAnswer img arr k (answer.NotAnImage fault) = IsFirstImageFault fault img
 IsAtAnswer img arr k (answer.Refused refusal) = IsRefused img arr refusal
 IsAtAnswer img arr k (answer.NotAnElf fault) = ⊥
 IsAtAnswer img arr k (answer.BadTrace fault) = ⊥

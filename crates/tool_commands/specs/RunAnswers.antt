@@ -4,7 +4,7 @@ use Rattle.sloth_base.specs.declared.event.Arrival.{Arrival}
 use Rattle.sloth_base.specs.declared.image.Image.{Image}
 use Rattle.least_fault.specs.Order.{NoFault}
 use Rattle.image_file.specs.ImageText.{ImageText}
-use Rattle.image_file.specs.Faults.{Faulty}
+use Rattle.image_file.specs.Faults.{IsFirstImageFault}
 use Rattle.rv32_instr.specs.declared.stop.Stop.{Stop}
 use Rattle.trace_text.specs.ArrivalsText.{ArrivalsFault, arrivals_in}
 use Rattle.sloth_runner.specs.Runner.{run_end}
@@ -15,7 +15,7 @@ use Rattle.tool_commands.specs.declared.answer.Outcome.{Outcome}
 use Rattle.tool_commands.specs.declared.answer.ToolAnswer.{ToolAnswer}
 use Rattle.tool_commands.specs.declared.answer.ToolAnswer.TheVariants as answer
 
--- the first file is that of an image, and the second has arrivals by the image's names of tasks
+-- the first file is that of an image, and the second has arrivals by the image's names of tasks and counters
 pub record AreRunInputs (img arr : List ℕ) (image : Image) (arrivals : List Arrival) : Type 0 where
   pub is_image : ImageText img image
   pub no_fault : NoFault (ArrivalsFault image.tasks image.counters arr)
@@ -40,7 +40,7 @@ pub record IsHalted (img arr : List ℕ) (n pc : ℕ) (stop : Stop) : Type 0 whe
 abbrev pub IsRunAnswer : (Shows : Image → List Arrival → List ℕ → Type 0) (img arr : List ℕ) (n : ℕ) → ToolAnswer → Type 0
 IsRunAnswer Shows img arr n (answer.Done outcome) = IsDrawn Shows img arr outcome
 IsRunAnswer Shows img arr n (answer.Stopped pc stop) = IsHalted img arr n pc stop
-IsRunAnswer Shows img arr n (answer.NotAnImage fault) = Faulty fault img
+IsRunAnswer Shows img arr n (answer.NotAnImage fault) = IsFirstImageFault fault img
 IsRunAnswer Shows img arr n (answer.Refused refusal) = IsRefused img arr refusal
 IsRunAnswer Shows img arr n (answer.NotAnElf fault) = ⊥
 IsRunAnswer Shows img arr n (answer.BadTrace fault) = ⊥

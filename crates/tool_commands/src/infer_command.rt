@@ -1,5 +1,5 @@
 //! The command `infer`.
-ghost use Rattle.std.specs.Prelude.{◌≡◌, ◌≤◌, IfOk, length};
+ghost use Rattle.std.specs.Prelude.{◌≤◌, IfOk, length};
 ghost use Rattle.tool_commands.specs.InferAnswers.{IsInferAnswer};
 
 use crate::answer::ToolAnswer;

@@ -1,10 +1,10 @@
 -- What the pass over a text has found: with one line more, and at its end.
-use Rattle.std.proofs.Common.{◌≡◌, ◌∙◌, ℕ, ◌+◌, ◌<◌, ◌≤◌, ◌⊎◌, inl, inr, List, [], ◌∷◌, ◌++◌, Bool, true, false, Option, Some, None, length, get_or, refl, sym, ap, subst, arith}
+use Rattle.std.proofs.Common.{◌≡◌, ℕ, ◌<◌, ◌≤◌, ◌⊎◌, inl, inr, List, [], ◌∷◌, Bool, true, Option, Some, None, length, get_or, refl, subst, arith}
 use Rattle.std.specs.Prelude.{◌==◌, All}
 use Rattle.std.proofs.lemmas.Bool.{eqb-true}
 use Rattle.std.specs.Bool.{Decides}
 use Rattle.std.proofs.lemmas.List.{length-map}
-use Rattle.sloth_base.specs.Arrivals.{AreArrivals, NeverFalls}
+use Rattle.sloth_base.specs.Arrivals.{AreArrivals}
 use Rattle.sloth_base.specs.declared.app.App.{App}
 use Rattle.sloth_base.specs.declared.config.Config.{Config}
 use Rattle.sloth_base.specs.declared.config.CounterDecl.{CounterDecl}
@@ -21,7 +21,7 @@ use Rattle.trace_text.specs.EventLines.{HasNumbers}
 use Rattle.trace_time.specs.Counts.{AreSmall, IsSmall}
 use Rattle.trace_check.specs.TraceText.{HasLine, HasRead, Shows}
 use Rattle.trace_check.specs.Verdicts.{counter_names}
-use Rattle.trace_check.specs.Walk.{StraysAt, Walked, Walking, Walk}
+use Rattle.trace_check.specs.Walk.{StraysAt, IsWalked, WalksOrStrays, Walk}
 use Rattle.trace_check.proofs.TraceText.{reads_all}
 
 -- the admissions of events that have lines are of numbers of 32 bits
@@ -55,12 +55,12 @@ pub line_words : (config : Config) (arrivals : List Arrival) → InRange config 
     → All (λ a. a.line < 4294967296) arrivals
 line_words config arrivals range are k d l = line_word config range (get_or arrivals k d).line (are.lines_owned k d l)
 
-module _ (config : Config) (app : App) (events : List Stamped) (stray : Option ℕ) (walk : Walk) (h : Walking config app events stray walk) where
+module _ (config : Config) (app : App) (events : List Stamped) (stray : Option ℕ) (walk : Walk) (h : WalksOrStrays config app events stray walk) where
   pub stray_at : (k : ℕ) → stray ≡ Some k → StraysAt config app events k
-  stray_at k is = let P : Option ℕ → Type 0 = λ o. Walking config app events o walk in subst P is h
+  stray_at k is = let P : Option ℕ → Type 0 = λ o. WalksOrStrays config app events o walk in subst P is h
 
-  pub none_strays : stray ≡ None → Walked config app events walk
-  none_strays is = let P : Option ℕ → Type 0 = λ o. Walking config app events o walk in subst P is h
+  pub none_strays : stray ≡ None → IsWalked config app events walk
+  none_strays is = let P : Option ℕ → Type 0 = λ o. WalksOrStrays config app events o walk in subst P is h
 
 empty : (text : List ℕ) → length text ≡ 0 → text ≡ []
 empty [] h = refl

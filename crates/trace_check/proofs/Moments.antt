@@ -1,6 +1,6 @@
 -- The moments of moments tells since when each Ready task has been Ready, whatever the events.
-use Rattle.std.proofs.Common.{◌≡◌, ◌∙◌, ℕ, ◌<◌, ◌≤◌, ◌⊎◌, inl, inr, List, [], ◌∷◌, ◌++◌, Bool, true, false, length, get_or, set, refl, sym, ap, subst, arith, append_assoc}
-use Rattle.std.specs.Prelude.{◌≢◌, ◌↔◌}
+use Rattle.std.proofs.Common.{◌≡◌, ◌∙◌, ℕ, ◌<◌, ◌≤◌, ◌⊎◌, inl, inr, List, [], ◌∷◌, ◌++◌, length, get_or, set, refl, sym, ap, subst, arith, append_assoc}
+use Rattle.std.specs.Prelude.{◌↔◌}
 use Rattle.std.proofs.lemmas.Bool.{cases_eq}
 use Rattle.std.proofs.lemmas.List.{append-nil, length-set, get_or-set_same, get_or-set_other}
 use Rattle.sloth_base.specs.declared.config.Config.{Config}
@@ -12,12 +12,12 @@ use Rattle.sloth_base.specs.declared.event.Stamped.{Stamped}
 use Rattle.osek_scheduler.specs.declared.state.TaskState.{TaskState}
 use Rattle.osek_scheduler.specs.declared.state.TaskState.TheVariants as mode
 use Rattle.osek_scheduler.specs.State.{Task, System, task, sleeping_task, opening, declaration}
-use Rattle.osek_scheduler.specs.Services.{if_suspended, activated_state, entered_state, started_task}
+use Rattle.osek_scheduler.specs.Services.{if_suspended, activated_state, started_task}
 use Rattle.osek_scheduler.specs.Steps.{OsekStep, admitted_state}
 use Rattle.osek_scheduler.specs.Runs.{Leads, ReadySince}
 use Rattle.osek_scheduler.proofs.Leading.{leads-append, leads-parts, one_end}
 use Rattle.osek_blocking.proofs.Effects.{Ordered, Effect, effect, opening_ordered, leads_ordered}
-use Rattle.trace_check.specs.Moments.{KeepsMoments, noted}
+use Rattle.trace_check.specs.Moments.{KeepsMoments, noted_moments}
 
 -- ---- lists
 
@@ -306,7 +306,7 @@ module _ (config : Config) (app : App) where
       admits t step mode.Active is = passes_by t step (λ asleep. cc)
       admits t step (mode.Waiting mask) is = passes_by t step (λ asleep. cc)
 
-      told : (what : Event) → OsekStep config app what s next → Told what (noted what stamp.at s moments)
+      told : (what : Event) → OsekStep config app what s next → Told what (noted_moments what stamp.at s moments)
       told event.Boot step = plain event.Boot step (λ u h. cc) (λ u h. cc)
       told (event.Admit t) step = admits t step (task s t).state refl
       told (event.Enter t) step = enters t step
@@ -319,7 +319,7 @@ module _ (config : Config) (app : App) where
       told (event.Due c) step = plain (event.Due c) step (λ u h. cc) (λ u h. cc)
       told (event.Tick c) step = plain (event.Tick c) step (λ u h. cc) (λ u h. cc)
 
-      kept_count : (what : Event) → length (noted what stamp.at s moments) ≡ length moments
+      kept_count : (what : Event) → length (noted_moments what stamp.at s moments) ≡ length moments
       kept_count event.Boot = refl
       kept_count (event.Admit t) = by (task s t).state
         where
@@ -339,7 +339,7 @@ module _ (config : Config) (app : App) where
       kept_count (event.Tick c) = refl
 
       -- the moments behind one event more
-      pub moments_more : (what : Event) → OsekStep config app what s next → KeepsMoments config app (past ++ it what ∷ []) next (noted what stamp.at s moments)
+      pub moments_more : (what : Event) → OsekStep config app what s next → KeepsMoments config app (past ++ it what ∷ []) next (noted_moments what stamp.at s moments)
       moments_more what step = record {
         leads = leads-append config app past (it what ∷ []) (opening config app) s next keeps.leads (next, step, refl);
         count = kept_count what ∙ keeps.count;

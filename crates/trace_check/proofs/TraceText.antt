@@ -1,5 +1,5 @@
 -- A text shows one list of events at most, and none where a line is bad.
-use Rattle.std.proofs.Common.{◌≡◌, ◌∙◌, ℕ, suc, ◌+◌, ◌<◌, ◌≤◌, ◌^◌, ◌⊎◌, inl, inr, ⊎_elim, Bool, true, false, List, [], ◌∷◌, ◌++◌, Some, None, length, get_or, refl, sym, ap, subst, arith, append_assoc, length-append, true≢false}
+use Rattle.std.proofs.Common.{◌≡◌, ◌∙◌, ℕ, suc, ◌+◌, ◌<◌, ◌≤◌, ◌⊎◌, inl, inr, Bool, true, false, List, [], ◌∷◌, ◌++◌, Some, None, length, get_or, refl, sym, ap, subst, arith, append_assoc, length-append, true≢false}
 use Rattle.std.specs.Prelude.{◌==◌, ◌&&◌, ◌||◌, decimal, codes, All, ◌≢◌, unwrap_or, IfSome, IfNone, Option, ◌↔◌}
 use Rattle.std.proofs.lemmas.List.{append-nil}
 use Rattle.std.specs.Char.{is_ascii_digit}
@@ -8,7 +8,7 @@ use Rattle.std.proofs.lemmas.List.Elements.{All-cons, All-head, All-tail}
 use Rattle.std.proofs.lemmas.List.Sums.{list_all-from_AllPass}
 use Rattle.std.specs.List.{list_any}
 use Rattle.std.proofs.lemmas.Option.{same_Some, slice_get-get_or, slice_get_past}
-use Rattle.sloth_base.specs.ImageRange.{AreApart, AreNames, IsName, IsWord, begins_word, continues_word}
+use Rattle.sloth_base.specs.ImageRange.{AreApart, AreNames, IsName, begins_word, continues_word}
 use Rattle.sloth_base.specs.declared.event.Event.{Event}
 use Rattle.sloth_base.specs.declared.event.Event.TheVariants as event
 use Rattle.sloth_base.specs.declared.event.Stamped.{Stamped}
@@ -17,7 +17,7 @@ use Rattle.sloth_base.specs.declared.service.Service.TheVariants as service
 use Rattle.text_pieces.specs.Bytes.{is_byte_of}
 use Rattle.asm_lines.specs.Operands.{before, behind}
 use Rattle.asm_lines.proofs.Cuts.{lacks, has_in, has_here, before_is, behind_is}
-use Rattle.trace_text.specs.EventLines.{HasNumbers, IsLineOf, Has32Bits, counted_line}
+use Rattle.trace_text.specs.EventLines.{HasNumbers, IsLineOf, counted_line}
 use Rattle.sloth_base.specs.ServiceCodes.{service_name}
 use Rattle.trace_text.specs.Lines.{name_of, event_text}
 use Rattle.trace_text.proofs.Digits.{writes}

@@ -1,12 +1,12 @@
 -- A walk goes on exactly where the events are a run.
-use Rattle.std.proofs.Common.{◌≡◌, ◌∙◌, ℕ, zero, suc, replicate, ◌+◌, ◌<◌, ◌≤◌, ◌⊎◌, inl, inr, List, [], ◌∷◌, ◌++◌, Bool, true, false, cond, length, get_or, take, drop, refl, sym, ap, subst, arith, append_assoc, length-append, Option, Some, None}
+use Rattle.std.proofs.Common.{◌≡◌, ◌∙◌, ℕ, zero, suc, replicate, ◌+◌, ◌<◌, ◌≤◌, ◌⊎◌, inl, inr, List, [], ◌∷◌, ◌++◌, Bool, true, false, cond, length, get_or, take, refl, sym, ap, subst, arith, append_assoc, length-append, Option, Some, None}
 use Rattle.std.specs.Prelude.{◌-◌, ◌==◌, ◌&&◌, ◌||◌, is_some, not, leb, ltb}
 use Rattle.std.specs.Bool.{Decides}
 use Rattle.std.proofs.lemmas.Bool.{and_from, and_parts, lt-ltb, ltb-true, true≢false}
 use Rattle.std.specs.Int.{bit_at}
 use Rattle.osek_machine.specs.Steps.{Machine}
-use Rattle.std.proofs.lemmas.Bool.Decides.{Decides-and, Decides-or, Decides-not, Decides-ltb, Decides-like, Decides-below_and}
-use Rattle.std.proofs.lemmas.List.{append-nil, take-append-drop}
+use Rattle.std.proofs.lemmas.Bool.Decides.{Decides-and, Decides-or, Decides-not, Decides-ltb, Decides-below_and}
+use Rattle.std.proofs.lemmas.List.{append-nil}
 use Rattle.std.proofs.Math.Seq.{take-append_seam}
 use Rattle.std.proofs.lemmas.List.{take_all, take-append-le}
 use Rattle.sloth_base.specs.declared.config.Config.{Config}
@@ -18,14 +18,14 @@ use Rattle.osek_scheduler.specs.declared.state.TaskState.TheVariants as mode
 use Rattle.osek_scheduler.specs.State.{System, task, counter, opening}
 use Rattle.osek_scheduler.specs.Priority.{rank, is_active, NoTicks}
 use Rattle.osek_scheduler.specs.Steps.{OsekStep}
-use Rattle.osek_scheduler.specs.Next.{is_ready, all_below}
-use Rattle.osek_scheduler.specs.Runs.{Leads, Follows, ReadySince, OsekRun, PassesOver, PassesOverArrivals}
+use Rattle.osek_scheduler.specs.Next.{all_below}
+use Rattle.osek_scheduler.specs.Runs.{Follows, ReadySince, OsekRun, PassesOver, PassesOverArrivals}
 use Rattle.osek_scheduler.proofs.Tests.{Decides-is_ready, Decides-is_active}
-use Rattle.osek_scheduler.proofs.Leading.{follows_leads, one_end, one_step}
+use Rattle.osek_scheduler.proofs.Leading.{follows_leads, one_end}
 use Rattle.sloth_base.specs.Owners.{is_counter_line, owners_in}
 use Rattle.osek_plans.specs.Above.{is_above, is_due_line, is_line_above}
-use Rattle.trace_check.specs.Moments.{KeepsMoments, all_later, noted}
-use Rattle.trace_check.specs.Walk.{Walk, Walks, Walking, StraysAt, Stops, Walked, task_passes, event_passes}
+use Rattle.trace_check.specs.Moments.{KeepsMoments, all_later}
+use Rattle.trace_check.specs.Walk.{Walk, Walks, WalksOrStrays, StraysAt, Stops, IsWalked, task_passes, event_passes}
 use Rattle.trace_check.proofs.Moments.{moments_more, no_moments}
 
 abbrev one_bit : Bool → ℕ
@@ -149,8 +149,8 @@ module _ (config : Config) (app : App) where
   pub run_front : (front back : List Stamped) → OsekRun config app (front ++ back) → OsekRun config app front
   run_front front back h = let c = follows_cut [] front back (opening config app) h.0 h.1 in (c.middle, c.before)
 
-module _ (config : Config) (app : App) (past : List Stamped) (walk : Walk) (h : Walked config app past walk) (e : Stamped) where
-  goes_on : (new : Walk) → walk.machine.config ≡ config → walk.machine.app ≡ app → Walks e walk new → Walked config app (past ++ e ∷ []) new
+module _ (config : Config) (app : App) (past : List Stamped) (walk : Walk) (h : IsWalked config app past walk) (e : Stamped) where
+  goes_on : (new : Walk) → walk.machine.config ≡ config → walk.machine.app ≡ app → Walks e walk new → IsWalked config app (past ++ e ∷ []) new
   goes_on new c a w =
       let P : Config → App → Type 0 = λ x y. OsekStep x y e.event walk.machine.system new.machine.system in
       let step = subst (λ (y : App). P config y) a (subst (λ (x : Config). P x walk.machine.app) c w.step) in
@@ -165,7 +165,7 @@ module _ (config : Config) (app : App) (past : List Stamped) (walk : Walk) (h : 
         keeps = subst R (sym w.moments) (moments_more config app past walk.machine.system walk.moments h.keeps h.few e.stamp new.machine.system e.event step);
       }
 
-  pub walked_more : (new : Walk) → Walks e walk new → Walked config app (past ++ e ∷ []) new
+  pub walked_more : (new : Walk) → Walks e walk new → IsWalked config app (past ++ e ∷ []) new
   walked_more new w = goes_on new h.config_is h.app_is w
 
   pub walked_stops : Stops e walk → OsekRun config app (past ++ e ∷ []) → ⊥
@@ -212,19 +212,19 @@ still_strays config app events e k h =
 
 -- behind a stray event nothing is looked at
 pub stays_stray : (config : Config) (app : App) (events : List Stamped) (e : Stamped) (stray : Option ℕ) (walk : Walk) → is_some stray ≡ true
-    → Walking config app events stray walk → Walking config app (events ++ e ∷ []) stray walk
+    → WalksOrStrays config app events stray walk → WalksOrStrays config app (events ++ e ∷ []) stray walk
 stays_stray config app events e (Some k) walk some h = still_strays config app events e k h
 stays_stray config app events e None walk some h = absurd cc
 
 -- where none strayed, the walk goes on
-pub walks_here : (config : Config) (app : App) (events : List Stamped) (stray : Option ℕ) (walk : Walk) → is_some stray ≡ false → Walking config app events stray walk
-    → Walked config app events walk
+pub walks_here : (config : Config) (app : App) (events : List Stamped) (stray : Option ℕ) (walk : Walk) → is_some stray ≡ false → WalksOrStrays config app events stray walk
+    → IsWalked config app events walk
 walks_here config app events None walk none h = h
 walks_here config app events (Some k) walk none h = absurd cc
 
 -- before the first event
 pub walked_none : (config : Config) (app : App) (walk : Walk) → length config.tasks ≤ 30 → walk.machine ≡ record { config = config; app = app; system = opening config app }
-    → length walk.moments ≡ 32 → ((u : ℕ) → get_or walk.moments u 0 ≡ 0) → Walked config app [] walk
+    → length walk.moments ≡ 32 → ((u : ℕ) → get_or walk.moments u 0 ≡ 0) → IsWalked config app [] walk
 walked_none config app walk few is count zeros = record {
   few = few;
   config_is = ap (λ (m : Machine). m.config) is;

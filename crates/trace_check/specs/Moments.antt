@@ -11,10 +11,10 @@ use Rattle.osek_scheduler.specs.Next.{all_below}
 use Rattle.osek_scheduler.specs.Runs.{Leads, ReadySince}
 
 -- the moments after an event of moment `at` in state s: that of an admit that makes its task Ready is noted, an entry clears
-abbrev pub noted : Event → ℕ → System → List ℕ → List ℕ
-noted (event.Admit t) at s moments = if_suspended (task s t).state (set moments t at) moments
-noted (event.Enter t) at s moments = set moments t 0
-noted _ at s moments = moments
+abbrev pub noted_moments : Event → ℕ → System → List ℕ → List ℕ
+noted_moments (event.Admit t) at s moments = if_suspended (task s t).state (set moments t at) moments
+noted_moments (event.Enter t) at s moments = set moments t 0
+noted_moments _ at s moments = moments
 
 -- The events lead to s, and the moment kept for each task is the number of the moments k such that the task has been Ready since an
 -- admit behind k: the moment of that admit, or 0 where there is none.

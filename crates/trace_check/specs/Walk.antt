@@ -1,5 +1,5 @@
 -- Events followed along the abstract scheduler, one after the other.
-use Rattle.std.specs.Prelude.{ℕ, ◌+◌, ◌-◌, ◌<◌, ◌≤◌, ◌≡◌, ◌&&◌, List, [], Bool, true, cond, length, ltb, set, take, Option, Some, None}
+use Rattle.std.specs.Prelude.{ℕ, ◌-◌, ◌<◌, ◌≤◌, ◌≡◌, ◌&&◌, List, [], Bool, true, cond, length, ltb, set, take, Option, Some, None}
 use Rattle.sloth_base.specs.declared.config.Config.{Config}
 use Rattle.sloth_base.specs.declared.app.App.{App}
 use Rattle.sloth_base.specs.declared.event.Event.{Event}
@@ -11,7 +11,7 @@ use Rattle.osek_scheduler.specs.Steps.{OsekStep}
 use Rattle.osek_scheduler.specs.Runs.{OsekRun, Follows}
 use Rattle.osek_plans.specs.Above.{is_line_above}
 use Rattle.osek_machine.specs.Steps.{Machine}
-use Rattle.trace_check.specs.Moments.{KeepsMoments, all_later, noted}
+use Rattle.trace_check.specs.Moments.{KeepsMoments, all_later, noted_moments}
 
 -- the scheduler as it stands, and the moments
 pub record Walk : Type 0 where
@@ -42,7 +42,7 @@ pub record Walks (e : Stamped) (old new : Walk) : Type 0 where
   pub app : new.machine.app ≡ old.machine.app
   pub step : OsekStep old.machine.config old.machine.app e.event old.machine.system new.machine.system
   pub passes : event_passes old.machine.config old.machine.system old.moments e.event e.stamp.from ≡ true
-  pub moments : new.moments ≡ noted e.event e.stamp.at old.machine.system old.moments
+  pub moments : new.moments ≡ noted_moments e.event e.stamp.at old.machine.system old.moments
 
 -- and to none
 abbrev pub Stops : Stamped → Walk → Type 0
@@ -50,7 +50,7 @@ Stops e old = event_passes old.machine.config old.machine.system old.moments e.e
     → (next : System) → OsekStep old.machine.config old.machine.app e.event old.machine.system next → ⊥
 
 -- a walk of a configuration behind these events
-pub record Walked (config : Config) (app : App) (past : List Stamped) (walk : Walk) : Type 0 where
+pub record IsWalked (config : Config) (app : App) (past : List Stamped) (walk : Walk) : Type 0 where
   pub few : length config.tasks ≤ 30
   pub config_is : walk.machine.config ≡ config
   pub app_is : walk.machine.app ≡ app
@@ -65,6 +65,6 @@ pub record StraysAt (config : Config) (app : App) (events : List Stamped) (k : �
   pub stray : OsekRun config app (take k events) → ⊥
 
 -- behind these events: the walk, where they are a run, else the line of the first with which they are none
-abbrev pub Walking : Config → App → List Stamped → Option ℕ → Walk → Type 0
-Walking config app events None walk = Walked config app events walk
-Walking config app events (Some k) walk = StraysAt config app events k
+abbrev pub WalksOrStrays : Config → App → List Stamped → Option ℕ → Walk → Type 0
+WalksOrStrays config app events None walk = IsWalked config app events walk
+WalksOrStrays config app events (Some k) walk = StraysAt config app events k

@@ -1,5 +1,5 @@
 //! The first event line of a text in the counted form.
-ghost use Rattle.std.specs.Prelude.{◌≡◌, IfSome, IfNone};
+ghost use Rattle.std.specs.Prelude.{IfSome, IfNone};
 ghost use Rattle.sloth_base.specs.ImageRange.{AreApart, AreNames};
 ghost use Rattle.trace_check.specs.TraceText.{Begins, BeginsWithNone};
 

@@ -1,5 +1,5 @@
 //! Events followed along the abstract scheduler.
-ghost use Rattle.std.specs.Prelude.{◌≡◌, ◌<◌, ◌&&◌, ◌||◌, ◌==◌, ◌+◌, ◌∷◌, ◌++◌, ℕ, [], not, IfOk, OnOk, OnErr, List, length, ltb, true, false};
+ghost use Rattle.std.specs.Prelude.{◌≡◌, ◌<◌, ◌&&◌, ◌||◌, ◌==◌, ◌+◌, ◌∷◌, ◌++◌, [], not, IfOk, OnOk, OnErr, List, length, ltb, true, false};
 ghost use Rattle.std.specs.Int.{bit_at};
 ghost use Rattle.sloth_base.specs.declared.app.App.{App as AnyApp};
 ghost use Rattle.sloth_base.specs.declared.config.Config.{Config as AnyConfig};
@@ -9,13 +9,12 @@ ghost use Rattle.osek_scheduler.specs.State.{System, task as task_of};
 ghost use Rattle.osek_scheduler.specs.Steps.{OsekStep};
 ghost use Rattle.osek_scheduler.specs.Priority.{is_active};
 ghost use Rattle.osek_scheduler.specs.Services.{if_suspended};
-ghost use Rattle.trace_check.specs.Moments.{all_later, noted};
-ghost use Rattle.trace_check.specs.Walk.{Stops, Walked, Walking, Walks, event_passes, task_passes, with_moment};
+ghost use Rattle.trace_check.specs.Moments.{all_later, noted_moments};
+ghost use Rattle.trace_check.specs.Walk.{Stops, IsWalked, WalksOrStrays, Walks, event_passes, task_passes, with_moment};
 
 use osek_machine::{NotARun, Osek};
 use osek_plans::priority::is_active;
 use osek_plans::store::is_suspended;
-use osek_scheduler::state::TaskState;
 use sloth_base::app::App;
 use sloth_base::config::Config;
 use sloth_base::event::{Event, Stamped};
@@ -78,7 +77,7 @@ impl Walk {
     /// Before the first event.
     pub fn new(alloc: Global, config: &Config, app: &App) -> Result<Walk, NoMemory>
         requires { WellFormed config.now app.now }
-        ensures { IfOk result (λ w. Walked config.now app.now [] w) }
+        ensures { IfOk result (λ w. IsWalked config.now app.now [] w) }
     {
         let osek = Osek::boot(alloc, config, app)?;
         Ok(Walk {
@@ -133,7 +132,7 @@ impl Walk {
     // The task whose moment changes with an event, and that moment, if the event is a step.
     fn note(&self, event: &Stamped) -> Option<(u32, u32)>
         ensures { (next : System) → OsekStep self.now.machine.config self.now.machine.app event.now.event self.now.machine.system next
-            → noted event.now.event event.now.stamp.at self.now.machine.system self.now.moments ≡ with_moment result self.now.moments }
+            → noted_moments event.now.event event.now.stamp.at self.now.machine.system self.now.moments ≡ with_moment result self.now.moments }
     {
         match event.event {
             Event::Admit(task) => {
@@ -176,8 +175,8 @@ impl Walk {
 
     /// One event more, of a line, where none has strayed: the line of the first that strays.
     pub fn follow(&mut self, stray: Option<u32>, event: &Stamped, line: u32) -> Option<u32>
-        ensures { (config : AnyConfig) (app : AnyApp) (past : List AnyEvent) → line ≡ length past + 1 → Walking config app past stray self.old
-            → Walking config app (past ++ event.now ∷ []) result self.new }
+        ensures { (config : AnyConfig) (app : AnyApp) (past : List AnyEvent) → line ≡ length past + 1 → WalksOrStrays config app past stray self.old
+            → WalksOrStrays config app (past ++ event.now ∷ []) result self.new }
     {
         if stray.is_some() {
             return stray;

@@ -3,13 +3,12 @@ use Rattle.std.proofs.Common.{◌≡◌, ◌∙◌, ℕ, List, sym, ap, subst}
 use Rattle.sloth_base.specs.declared.app.App.{App}
 use Rattle.sloth_base.specs.declared.config.Config.{Config}
 use Rattle.sloth_base.specs.declared.event.Arrival.{Arrival}
-use Rattle.sloth_base.specs.declared.refusal.Refusal.{Refusal}
 use Rattle.sloth_source.proofs.Unique.{one_meaning}
 use Rattle.trace_text.specs.ArrivalsText.{arrivals_in}
 use Rattle.trace_check.specs.Answer.{IsVerdict}
 use Rattle.trace_check.specs.declared.verdict.Verdict.{Verdict}
 use Rattle.trace_check.proofs.Exact.{one_verdict}
-use Rattle.trace_command.specs.Inputs.{AreRead, counter_names, names_of}
+use Rattle.trace_command.specs.Inputs.{counter_names, names_of}
 use Rattle.trace_command.specs.Answers.{IsJudged, IsTraceAnswer}
 use Rattle.trace_command.specs.declared.answer.TraceAnswer.{TraceAnswer}
 use Rattle.trace_command.specs.declared.answer.TraceAnswer.TheVariants as answer

@@ -1,13 +1,12 @@
 -- Inputs that are accepted are not refused, and others are refused in one way.
 use Rattle.std.proofs.Common.{◌≡◌, ◌+◌, inl, inr, ℕ, List, [], ap, subst, length}
-use Rattle.std.specs.Prelude.{◌⊎◌}
 use Rattle.sloth_base.specs.declared.app.App.{App}
 use Rattle.sloth_base.specs.declared.config.Config.{Config}
 use Rattle.sloth_base.specs.declared.event.Arrival.{Arrival}
 use Rattle.sloth_base.specs.declared.refusal.Part.TheVariants.{Arr}
 use Rattle.sloth_base.specs.declared.refusal.Refusal.{Refusal}
 use Rattle.least_fault.specs.Order.{IsLeast, NoFault}
-use Rattle.sloth_source.specs.Texts.{Accepted}
+use Rattle.sloth_source.specs.Texts.{AreAccepted}
 use Rattle.sloth_source.proofs.Least.{one_least, of_some}
 use Rattle.sloth_source.proofs.Refusals.{one_refusal}
 use Rattle.sloth_source.proofs.Unique.{one_meaning, never_both}
@@ -15,7 +14,7 @@ use Rattle.trace_text.specs.ArrivalsText.{ArrivalsFault, FaultAt, LineFault, arr
 use Rattle.trace_command.specs.Inputs.{IsRefusal, counter_names, names_of}
 
 -- accepted inputs are not refused
-pub not-refused : (oil src arr : List ℕ) (config : Config) (app : App) (r : Refusal) → Accepted oil src config app
+pub not-refused : (oil src arr : List ℕ) (config : Config) (app : App) (r : Refusal) → AreAccepted oil src config app
     → NoFault (ArrivalsFault (names_of config) (counter_names config) arr) → IsRefusal oil src arr r → ⊥
 not-refused oil src arr config app r h none (inl first) = never_both oil src config app r h first
 not-refused oil src arr config app r h none (inr other) =

@@ -4,7 +4,7 @@ use Rattle.sloth_base.specs.declared.app.App.{App}
 use Rattle.sloth_base.specs.declared.config.Config.{Config}
 use Rattle.sloth_base.specs.declared.event.Arrival.{Arrival}
 use Rattle.code_rules.specs.WellFormed.{WellFormed}
-use Rattle.sloth_source.specs.Texts.{Accepted}
+use Rattle.sloth_source.specs.Texts.{AreAccepted}
 use Rattle.trace_check.specs.Answer.{IsVerdict}
 use Rattle.trace_check.specs.declared.verdict.Verdict.{Verdict}
 use Rattle.trace_command.specs.Inputs.{AreRead, IsRefusal, counter_names, names_of}
@@ -15,7 +15,7 @@ use Rattle.trace_command.specs.declared.answer.TraceAnswer.TheVariants as answer
 pub record IsJudged (oil src arr trace : List ℕ) (n : ℕ) (verdict : Verdict) : Type 0 where
   pub config : Config
   pub app : App
-  pub accepted : Accepted oil src config app
+  pub accepted : AreAccepted oil src config app
   pub well_formed : WellFormed config app
   pub arrivals : List Arrival
   pub read : AreRead (names_of config) (counter_names config) arr arrivals

@@ -8,7 +8,7 @@ use Rattle.sloth_base.specs.declared.refusal.BuildError.{BuildError}
 use Rattle.sloth_base.specs.declared.refusal.BuildError.TheVariants as error
 use Rattle.sloth_base.specs.declared.refusal.Refusal.{Refusal}
 use Rattle.least_fault.specs.Order.{IsLeast, NoFault}
-use Rattle.sloth_source.specs.Texts.{Accepted, FirstRefusal}
+use Rattle.sloth_source.specs.Texts.{AreAccepted, FirstRefusal}
 use Rattle.trace_text.specs.ArrivalsText.{ArrivalsFault, arrivals_in}
 pub use Rattle.trace_check.specs.Verdicts.{counter_names}
 
@@ -25,7 +25,7 @@ pub record AreRead (names counters : List (List ℕ)) (arr : List ℕ) (arrivals
 pub record IsArrivalsRefusal (oil src arr : List ℕ) (refusal : Refusal) : Type 0 where
   pub config : Config
   pub app : App
-  pub accepted : Accepted oil src config app
+  pub accepted : AreAccepted oil src config app
   pub least : IsLeast (ArrivalsFault (names_of config) (counter_names config) arr) refusal
 
 -- The texts are refused so: the configuration or the task code, or else the arrivals.

@@ -3,7 +3,7 @@ ghost use Rattle.std.specs.Prelude.{◌<◌, IfOk, IfErr, length};
 ghost use Rattle.sloth_base.specs.Arrivals.{AreArrivals};
 ghost use Rattle.sloth_base.specs.Owners.{owners_in};
 ghost use Rattle.code_rules.specs.WellFormed.{WellFormed};
-ghost use Rattle.sloth_source.specs.Texts.{Accepted};
+ghost use Rattle.sloth_source.specs.Texts.{AreAccepted};
 ghost use Rattle.trace_command.specs.Inputs.{AreRead, InputsErrorIs, counter_names, names_of};
 
 use sloth_base::app::App;
@@ -28,7 +28,7 @@ pub fn read_inputs(alloc: Global, oil: &[u8], src: &[u8], arr: &[u8]) -> Result<
     requires oil { length oil.now < 4294967295 }
     requires src { length src.now < 4294967295 }
     requires arr { length arr.now < 4294967295 }
-    ensures accepted { IfOk result (λ inputs. Accepted oil.now src.now inputs.config inputs.app) }
+    ensures accepted { IfOk result (λ inputs. AreAccepted oil.now src.now inputs.config inputs.app) }
     ensures well_formed { IfOk result (λ inputs. WellFormed inputs.config inputs.app) }
     ensures read { IfOk result (λ inputs. AreRead (names_of inputs.config) (counter_names inputs.config) arr.now inputs.arrivals.items) }
     ensures in_range { IfOk result (λ inputs. AreArrivals (owners_in inputs.config) inputs.arrivals.items) }

@@ -16,8 +16,8 @@ use Rattle.sloth_base.specs.declared.service.Service.TheVariants as service
 use Rattle.text_pieces.specs.Bytes.{is_byte_of}
 use Rattle.text_pieces.proofs.Places.{further, position-cons, position_at}
 use Rattle.asm_lines.proofs.Cuts.{lacks, has_in, before_is, behind_is}
-use Rattle.trace_text.specs.EventLines.{IsPlace, IsNumberOrNone, HasNumbers, IsLineOf, Has32Bits, counted_line}
-use Rattle.trace_text.specs.EventsRead.{◌>>=◌, first_word, other_words, number, place, place_or_none, service_named, run_in, call_in, left_in, more_in, is_single, single_in, of_task, admitted, admit_in, tick_in, named_in, event_in, stamped_in, word_of}
+use Rattle.trace_text.specs.EventLines.{IsNameNumber, IsNumberOrNone, HasNumbers, IsLineOf, Has32Bits, counted_line}
+use Rattle.trace_text.specs.EventsRead.{◌>>=◌, first_word, other_words, number, place, place_or_none, service_named, run_in, call_in, left_in, more_in, is_single, single_in, of_task, admission_of, admit_in, tick_in, named_in, event_in, stamped_in, word_of}
 use Rattle.trace_text.specs.Lines.{name_of, event_text}
 use Rattle.trace_text.proofs.Digits.{decimal_lacks, number_back}
 
@@ -74,13 +74,13 @@ module _ (names : List (List ℕ)) (named : AreNames names) where
   is_name : (i : ℕ) → i < length names → IsName (name_of names i)
   is_name i h = subst IsName (sym (inside i h)) (named.each i [] h)
 
-  place_back : (i : ℕ) → IsPlace (length names) i → place names (name_of names i) ≡ Some i
+  place_back : (i : ℕ) → IsNameNumber (length names) i → place names (name_of names i) ≡ Some i
   unfolding place
   place_back i h =
       ap (λ w. position (bytes_eq w) names >>= word_of) (inside i h.inside)
       ∙ (ap (λ o. o >>= word_of) (position_at names named.distinct i [] h.inside) ∙ word_is i h.word)
 
-  place_lacks : (i : ℕ) → IsPlace (length names) i → is_byte_of 32 (name_of names i) ≡ false
+  place_lacks : (i : ℕ) → IsNameNumber (length names) i → is_byte_of 32 (name_of names i) ≡ false
   place_lacks i h = name_lacks (name_of names i) (is_name i h.inside)
 
   dash_back : (t : ℕ) → length names ≤ t → IsNumberOrNone (length names) t → place_or_none names (name_of names t) ≡ Some t
@@ -152,7 +152,7 @@ module _ (tasks functions counters : List (List ℕ)) (named : AreNames tasks) (
       (ap (place_or_none tasks) (first_is (name_of tasks t) rest lacks) ∙ number_or_none_back tasks named t h)
       ∙ ap (more_in kind t functions) (others_are (name_of tasks t) rest lacks))
 
-  run_back : (t f i r : ℕ) → IsPlace (length functions) f → i < 0x1_0000_0000 → r < 0x1_0000_0000
+  run_back : (t f i r : ℕ) → IsNameNumber (length functions) f → i < 0x1_0000_0000 → r < 0x1_0000_0000
       → run_in t functions (name_of functions f ++ 32 ∷ (decimal i ++ 32 ∷ decimal r)) ≡ Some (event.Run t f i r)
   unfolding run_in
   run_back t f i r h p q =
@@ -184,7 +184,7 @@ module _ (tasks functions counters : List (List ℕ)) (named : AreNames tasks) (
   left_back t s = one_after (service_named (service_name s)) (λ s. Some (event.Left t s)) s (of_name s)
 
   -- a name that no task has is not read as a task's number
-  no_task : (c : ℕ) → IsPlace (length counters) c → place_or_none tasks (name_of counters c) ≡ None
+  no_task : (c : ℕ) → IsNameNumber (length counters) c → place_or_none tasks (name_of counters c) ≡ None
   unfolding place_or_none place
   no_task c h =
       let w = name_of counters c in
@@ -194,15 +194,15 @@ module _ (tasks functions counters : List (List ℕ)) (named : AreNames tasks) (
       ap (λ b. cond b (Some 4294967295) (place tasks w)) (is_not_dash w (is_name counters counted c h.inside))
       ∙ ap (λ o. o >>= word_of) (not_among tasks w other)
 
-  due_back : (c : ℕ) → IsPlace (length counters) c → admit_in tasks counters (name_of counters c) ≡ Some (event.Due c)
+  due_back : (c : ℕ) → IsNameNumber (length counters) c → admit_in tasks counters (name_of counters c) ≡ Some (event.Due c)
   unfolding admit_in
   due_back c h =
-      ap (λ o. admitted o (place counters (name_of counters c))) (no_task c h)
+      ap (λ o. admission_of o (place counters (name_of counters c))) (no_task c h)
       ∙ one_after (place counters (name_of counters c)) (λ k. Some (event.Due k)) c (place_back counters counted c h)
 
   admit_back : (t : ℕ) → IsNumberOrNone (length tasks) t → admit_in tasks counters (name_of tasks t) ≡ Some (event.Admit t)
   unfolding admit_in
-  admit_back t h = ap (λ o. admitted o (place counters (name_of tasks t))) (number_or_none_back tasks named t h)
+  admit_back t h = ap (λ o. admission_of o (place counters (name_of tasks t))) (number_or_none_back tasks named t h)
 
   tick_back : (c : ℕ) → IsNumberOrNone (length counters) c → tick_in counters (name_of counters c) ≡ Some (event.Tick c)
   unfolding tick_in

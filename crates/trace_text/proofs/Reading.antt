@@ -6,7 +6,7 @@ use Rattle.std.proofs.lemmas.List.Elements.{filter-append}
 use Rattle.std.proofs.Math.Seq.{take-suc}
 use Rattle.std.proofs.Common.{length-append}
 use Rattle.std.specs.Borrow.{Bor}
-use Rattle.text_pieces.specs.Names.{now}
+use Rattle.text_pieces.specs.Names.{referent}
 use Rattle.sloth_base.specs.declared.event.Arrival.{Arrival}
 use Rattle.sloth_base.specs.declared.refusal.Refusal.{Refusal}
 use Rattle.sloth_base.specs.declared.refusal.BuildError.{BuildError}
@@ -63,11 +63,11 @@ pub record IsNext (tasks counters ls : List (List ℕ)) (i : ℕ) (before : List
   pub sound : Loop (FaultAt tasks counters) ls i None
 
 pub next-of : (tasks counters : List (List ℕ)) (parts : List (Bor (List ℕ))) (i : ℕ) (before : List Arrival) (d : Bor (List ℕ)) → i < length parts
-    → before ≡ arrivals_of tasks counters (take i (map now parts)) → Loop (FaultAt tasks counters) (map now parts) i None
-    → IsNext tasks counters (map now parts) i before (get_or parts i d).now
+    → before ≡ arrivals_of tasks counters (take i (map referent parts)) → Loop (FaultAt tasks counters) (map referent parts) i None
+    → IsNext tasks counters (map referent parts) i before (get_or parts i d).now
 next-of tasks counters parts i before d h behind sound = record {
-  inside = omega (arith, h, length-map parts now);
-  line_is = sym (get_or-map now parts i d (get_or parts i d).now h);
+  inside = omega (arith, h, length-map parts referent);
+  line_is = sym (get_or-map referent parts i d (get_or parts i d).now h);
   behind = behind;
   sound = sound;
 }

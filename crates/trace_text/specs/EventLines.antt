@@ -12,7 +12,7 @@ abbrev pub Has32Bits : ℕ → Type 0
 Has32Bits n = n < 0x1_0000_0000
 
 -- the number of one of so many names
-pub record IsPlace (count n : ℕ) : Type 0 where
+pub record IsNameNumber (count n : ℕ) : Type 0 where
   pub word : Has32Bits n
   pub inside : n < count
 
@@ -24,9 +24,9 @@ pub record IsNumberOrNone (count n : ℕ) : Type 0 where
 -- the numbers in an event, with so many tasks, functions and counters
 abbrev pub HasNumbers : (tasks functions counters : ℕ) → Event → Type 0
 HasNumbers tasks functions counters (event.Run t function item result) =
-    IsNumberOrNone tasks t × IsPlace functions function × Has32Bits item × Has32Bits result
+    IsNumberOrNone tasks t × IsNameNumber functions function × Has32Bits item × Has32Bits result
 HasNumbers tasks functions counters (event.Call t called status) = IsNumberOrNone tasks t × Has32Bits status
-HasNumbers tasks functions counters (event.Due c) = IsPlace counters c
+HasNumbers tasks functions counters (event.Due c) = IsNameNumber counters c
 HasNumbers tasks functions counters (event.Tick c) = IsNumberOrNone counters c
 HasNumbers tasks functions counters e = IfSome (named_task e) (λ t. IsNumberOrNone tasks t)
 

@@ -1,6 +1,6 @@
 -- How the one event is found that a counted line may show: word after word, read loosely. The line of that event is compared with the text.
-use Rattle.std.specs.Prelude.{ℕ, nat_lt, Bool, ◌||◌, if◌then◌else◌, List, []}
-use Rattle.std.specs.Prelude.{◌∷◌, codes, bytes_eq, position, Option, Some, None, option_and_then}
+use Rattle.std.specs.Prelude.{ℕ, nat_lt, Bool, ◌||◌, if◌then◌else◌, List}
+use Rattle.std.specs.Prelude.{codes, bytes_eq, position, Option, Some, None, option_and_then}
 pub use Rattle.sloth_base.specs.ServiceCodes.{service_named}
 use Rattle.sloth_base.specs.declared.event.Event.{Event}
 use Rattle.sloth_base.specs.declared.event.Event.TheVariants as event
@@ -86,13 +86,13 @@ of_task tasks functions kind text =
     else place_or_none tasks (first_word text) >>= (λ task. more_in kind task functions (other_words text))
 
 -- the admission of a task, if there is one, or else of a counter
-abbrev pub admitted : Option ℕ → Option ℕ → Option Event
-admitted (Some task) counter = Some (event.Admit task)
-admitted None counter = counter >>= (λ c. Some (event.Due c))
+abbrev pub admission_of : Option ℕ → Option ℕ → Option Event
+admission_of (Some task) counter = Some (event.Admit task)
+admission_of None counter = counter >>= (λ c. Some (event.Due c))
 
 -- the admission of the task or counter of a name
 unfoldable pub admit_in : (tasks counters : List (List ℕ)) → List ℕ → Option Event
-admit_in tasks counters text = admitted (place_or_none tasks text) (place counters text)
+admit_in tasks counters text = admission_of (place_or_none tasks text) (place counters text)
 
 -- a tick of a counter
 unfoldable pub tick_in : List (List ℕ) → List ℕ → Option Event

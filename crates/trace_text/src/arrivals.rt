@@ -1,8 +1,8 @@
 //! Reads arrivals files.
-ghost use Rattle.std.specs.Prelude.{◌≡◌, ◌<◌, ◌+◌, ◌^◌, ◌∷◌, [], ◌++◌, length, map, IfOk, IfErr, OnOk};
+ghost use Rattle.std.specs.Prelude.{◌≡◌, ◌<◌, ◌^◌, ◌∷◌, [], ◌++◌, length, map, IfOk, IfErr, OnOk};
 ghost use Rattle.sloth_base.specs.Arrivals.{AreArrivals};
 ghost use Rattle.least_fault.specs.Order.{ErrorIs, NoFault};
-ghost use Rattle.text_pieces.specs.Names.{now};
+ghost use Rattle.text_pieces.specs.Names.{referent};
 ghost use Rattle.asm_lines.specs.Lines.{lines, without_returns};
 ghost use Rattle.trace_text.specs.ArrivalsText.{arrivals_of, arrivals_in, owners_read, LineFault, LinesFault, ArrivalsFault};
 
@@ -17,7 +17,7 @@ use text_pieces::growth::push;
 
 // The lines of the parts between LF bytes.
 fn lines_of<'a>(alloc: Global, parts: &[&'a [u8]]) -> Result<Vec<&'a [u8]>, NoMemory>
-    ensures { IfOk result (λ read. map now read.items ≡ without_returns (map now parts.now)) }
+    ensures { IfOk result (λ read. map referent read.items ≡ without_returns (map referent parts.now)) }
 {
     let mut read = Vec::new(alloc);
     for (n, part) in parts.iter().enumerate() {
@@ -29,7 +29,7 @@ fn lines_of<'a>(alloc: Global, parts: &[&'a [u8]]) -> Result<Vec<&'a [u8]>, NoMe
 // The lines of a text.
 #[tactic(auto, unfolding(asm_lines::specs::Lines::lines))]
 fn lines<'a>(alloc: Global, text: &'a [u8]) -> Result<Vec<&'a [u8]>, NoMemory>
-    ensures { IfOk result (λ read. map now read.items ≡ lines text.now) }
+    ensures { IfOk result (λ read. map referent read.items ≡ lines text.now) }
 {
     let parts = split(alloc, text, b'\n')?;
     let read = lines_of(alloc, parts.as_slice())?;
@@ -67,10 +67,10 @@ fn read_lines(
     counters: &[Name],
 ) -> Result<Vec<Arrival>, BuildError>
     requires { length lines.now < 2 ^ 32 }
-    ensures arrivals { IfOk result (λ read. read.items ≡ arrivals_of tasks.now counters.now (map now lines.now)) }
+    ensures arrivals { IfOk result (λ read. read.items ≡ arrivals_of tasks.now counters.now (map referent lines.now)) }
     ensures in_range { IfOk result (λ read. AreArrivals (owners_read tasks.now counters.now) read.items) }
-    ensures none { OnOk result (NoFault (LinesFault tasks.now counters.now (map now lines.now))) }
-    ensures refused { IfErr result (λ error. ErrorIs (LinesFault tasks.now counters.now (map now lines.now)) error) }
+    ensures none { OnOk result (NoFault (LinesFault tasks.now counters.now (map referent lines.now))) }
+    ensures refused { IfErr result (λ error. ErrorIs (LinesFault tasks.now counters.now (map referent lines.now)) error) }
 {
     let mut read = Vec::new(alloc);
     for (n, line) in lines.iter().enumerate() {

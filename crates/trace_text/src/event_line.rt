@@ -2,7 +2,7 @@
 ghost use Rattle.std.specs.Prelude.{◌≡◌, ℕ, ◌↔◌, Some, IfSome, length};
 ghost use Rattle.sloth_base.specs.ImageRange.{AreNames, AreApart};
 ghost use Rattle.sloth_base.specs.declared.event.Stamped.{Stamped as AnyEvent};
-ghost use Rattle.trace_text.specs.EventLines.{HasNumbers, IsLineOf, IsPlace, IsNumberOrNone, Has32Bits, counted_line};
+ghost use Rattle.trace_text.specs.EventLines.{HasNumbers, IsLineOf, IsNameNumber, IsNumberOrNone, Has32Bits, counted_line};
 ghost use Rattle.trace_text.specs.EventsRead.{admit_in, call_in, event_in, is_single, left_in, more_in, named_in, number, of_task, place};
 ghost use Rattle.trace_text.specs.EventsRead.{place_or_none, run_in, single_in, stamped_in, tick_in};
 
@@ -38,7 +38,7 @@ fn number(word: &[u8]) -> Option<u32>
 #[tactic(auto, unfolding(crate::specs::EventsRead::place))]
 fn place(names: &[Name], word: &[u8]) -> Option<u32>
     ensures place { result ≡ place names.now word.now }
-    ensures inside { IfSome result (λ n. IsPlace (length names.now) n) }
+    ensures inside { IfSome result (λ n. IsNameNumber (length names.now) n) }
 {
     let n = position(names, word)? as u64;
     if n > GREATEST {

@@ -7,18 +7,17 @@ use Rattle.std.specs.List.Sorted.{IsPermutation, IsSorted}
 use Rattle.std.proofs.lemmas.Bool.{false≢true, true≢false, ltb-false}
 use Rattle.std.proofs.lemmas.List.{take-append-drop}
 use Rattle.std.proofs.lemmas.List.Sorted.{IsNonDecreasingBy-from_sort}
-use Rattle.std.proofs.lemmas.Option.{same_Some}
 use Rattle.sloth_base.specs.Arrivals.{NeverFalls}
 use Rattle.sloth_base.specs.declared.config.Config.{Config}
 use Rattle.sloth_base.specs.declared.event.Arrival.{Arrival}
 use Rattle.sloth_base.specs.declared.event.Stamped.{Stamped}
 use Rattle.sloth_base.specs.Events.{admitted_line}
-use Rattle.osek_scheduler.specs.InTime.{InTime, AdmitsAll, LeavesOut, others, longest_cut_off}
-use Rattle.trace_time.specs.Scan.{Scan, scan_start, scanned, MayFollow, FollowsScan}
+use Rattle.osek_scheduler.specs.InTime.{InTime, AdmitsAll, LeavesOut, others, longest_cut_off_stretch}
+use Rattle.trace_time.specs.Scan.{Scan, scan_start, scan_after_events, MayFollow, FollowsScan}
 use Rattle.trace_time.specs.Counts.{AreSmall, Ending, SameCounts, admit_numbers, arrival_number, may_leave, last_moment, times}
-use Rattle.trace_time.specs.Timed.{Kept, is_late, NeverInTime, TimedBy}
+use Rattle.trace_time.specs.Timed.{KeptPass, is_late, NeverInTime, TimedBy}
 use Rattle.trace_time.proofs.Counts.{counts_permuted, same_rising, rises}
-use Rattle.trace_time.proofs.Scan.{Facts, scan_sound, scan_complete, scan_ends}
+use Rattle.trace_time.proofs.Scan.{scan_sound, scan_complete, scan_ends}
 use Rattle.trace_time.proofs.Order.{keeps_from_order, order_from_keeps}
 use Rattle.trace_time.proofs.Tail.{ends_well, ending_all, ending_left}
 
@@ -41,7 +40,7 @@ starting arrivals events k d lt = by (admitted_line (get_or events k d).event)
     by (Some t) = omega arith
     by None = (omega arith, omega arith)
 
-scan_is : (config : Config) (n : ℕ) (arrivals : List Arrival) (events : List Stamped) → InTime config n arrivals events → (end : Scan) × (scanned n (Some (scan_start arrivals)) events ≡ Some end)
+scan_is : (config : Config) (n : ℕ) (arrivals : List Arrival) (events : List Stamped) → InTime config n arrivals events → (end : Scan) × (scan_after_events n (Some (scan_start arrivals)) events ≡ Some end)
 scan_is config n arrivals events h =
     scan_complete n events (scan_start arrivals) (omega arith) (record {
       stamped = h.stamped;
@@ -54,7 +53,7 @@ module _ (config : Config) (n : ℕ) (arrivals : List Arrival) (events : List St
   abbrev count : ℕ
   count = length (admit_numbers events)
 
-  in_time_of : (end : Scan) → scanned n (Some (scan_start arrivals)) events ≡ Some end → Ending config n arrivals events end.ends → InTime config n arrivals events
+  in_time_of : (end : Scan) → scan_after_events n (Some (scan_start arrivals)) events ≡ Some end → Ending config n arrivals events end.ends → InTime config n arrivals events
   in_time_of end h ending =
       let facts = scan_sound n events (scan_start arrivals) end (omega arith) h in
       record {
@@ -66,7 +65,7 @@ module _ (config : Config) (n : ℕ) (arrivals : List Arrival) (events : List St
             (take count arrivals) (drop count arrivals) (sym (take-append-drop count arrivals)) ending.same ending.leaves;
       }
 
-  ending_is : (end : Scan) → scanned n (Some (scan_start arrivals)) events ≡ Some end → InTime config n arrivals events → Ending config n arrivals events end.ends
+  ending_is : (end : Scan) → scan_after_events n (Some (scan_start arrivals)) events ≡ Some end → InTime config n arrivals events → Ending config n arrivals events end.ends
   ending_is end scans h = by h.admitted
     where
       by : AdmitsAll n arrivals events ⊎ ((k : ℕ) × LeavesOut config n arrivals events k) → Ending config n arrivals events end.ends
@@ -87,7 +86,7 @@ module _ (config : Config) (n : ℕ) (arrivals : List Arrival) (events : List St
 
 -- ---- the three answers
 
-module _ (kept : Kept) (rising : NeverFalls 1 kept.arrivals) (lines : All (λ a. a.line < 4294967296) kept.arrivals) (events : List Stamped) (small : AreSmall events) (timed : TimedBy events kept) where
+module _ (kept : KeptPass) (rising : NeverFalls 1 kept.arrivals) (lines : All (λ a. a.line < 4294967296) kept.arrivals) (events : List Stamped) (small : AreSmall events) (timed : TimedBy events kept) where
   abbrev IsInTime : Type 0
   IsInTime = InTime kept.config kept.n kept.arrivals events
 
@@ -143,4 +142,4 @@ module _ (kept : Kept) (rising : NeverFalls 1 kept.arrivals) (lines : All (λ a.
         no h =
             let ending = ending_is kept.config kept.n kept.arrivals events small lines rising kept.scan (timed.timely early).scans h in
             let Q : List ℕ → ℕ → Type 0 = λ l most. may_leave kept.n most kept.scan.ends (last_moment (front l)) (back l) ≡ true in
-            is ∙ subst (λ (most : ℕ). Q kept.admits most) (sym (timed.timely early).most) (subst (λ (l : List ℕ). Q l (longest_cut_off kept.config events)) (sym (timed.timely early).admits) ending.leaves)
+            is ∙ subst (λ (most : ℕ). Q kept.admits most) (sym (timed.timely early).most) (subst (λ (l : List ℕ). Q l (longest_cut_off_stretch kept.config events)) (sym (timed.timely early).admits) ending.leaves)

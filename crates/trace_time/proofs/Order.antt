@@ -1,6 +1,6 @@
 -- What is kept in front of and behind each event is the order of all admits with no event between them.
-use Rattle.std.proofs.Common.{◌≡◌, ◌∙◌, ℕ, List, [], ◌∷◌, ◌++◌, Bool, true, false, cond, map, length, refl, sym, ap, subst, arith}
-use Rattle.std.specs.Prelude.{All, IsTrue, is_some, Option}
+use Rattle.std.proofs.Common.{◌≡◌, ◌∙◌, ℕ, List, [], ◌∷◌, ◌++◌, Bool, true, false, cond, map, refl, ap, subst, arith}
+use Rattle.std.specs.Prelude.{All, IsTrue, Option}
 use Rattle.std.proofs.lemmas.List.{map-append}
 use Rattle.std.proofs.lemmas.List.Elements.{All-cons, All-head, All-tail}
 use Rattle.sloth_base.specs.declared.event.Arrival.{Arrival}

@@ -1,23 +1,20 @@
 -- One pass decides stamps, places and order.
-use Rattle.std.proofs.Common.{◌≡◌, ◌∙◌, ℕ, suc, ◌+◌, ◌<◌, ◌≤◌, ◌⊎◌, inl, inr, List, [], ◌∷◌, ◌++◌, drop-cons, Bool, true, false, cond, max, map, length, get_or, drop, Option, Some, None, refl, sym, ap, subst, arith}
-use Rattle.std.specs.Prelude.{◌==◌, ◌&&◌, leb, ltb, ◌↔◌, All, AllPairs, IsTrue, is_some, not, option_map}
-use Rattle.std.specs.List.{filter}
-use Rattle.std.proofs.lemmas.Bool.{and_parts, and_from, eqb-true, eq-eqb, leb-true, le-leb, true≢false}
+use Rattle.std.proofs.Common.{◌≡◌, ◌∙◌, ℕ, suc, ◌+◌, ◌<◌, ◌≤◌, List, [], ◌∷◌, Bool, true, false, cond, max, map, get_or, Option, Some, None, refl, sym, ap, subst, arith}
+use Rattle.std.specs.Prelude.{◌==◌, ◌&&◌, leb, ltb, ◌↔◌, All, AllPairs, is_some, not}
+use Rattle.std.proofs.lemmas.Bool.{and_parts, and_from, eqb-true, eq-eqb, leb-true, le-leb}
 use Rattle.std.proofs.lemmas.Bool.Decides.{Decides-ltb}
-use Rattle.std.proofs.lemmas.Option.{same_Some, none-some}
+use Rattle.std.proofs.lemmas.Option.{same_Some}
 use Rattle.std.proofs.lemmas.List.Elements.{All-cons, All-head, All-tail}
 use Rattle.std.proofs.lemmas.List.Kept.{AllPairs-cons}
 use Rattle.sloth_base.specs.declared.event.Arrival.{Arrival}
-use Rattle.sloth_base.specs.declared.event.Event.{Event}
 use Rattle.sloth_base.specs.declared.event.Event.TheVariants as event
-use Rattle.sloth_base.specs.declared.event.Stamp.{Stamp}
 use Rattle.sloth_base.specs.declared.event.Stamped.{Stamped}
-use Rattle.osek_scheduler.specs.Meaning.{on_some, if_true}
+use Rattle.osek_scheduler.specs.Meaning.{on_some}
 use Rattle.osek_scheduler.proofs.Tests.{if_true_some, if_true_is, on_some_from}
 use Rattle.sloth_base.specs.Events.{admitted_line, is_single}
-use Rattle.osek_scheduler.specs.InTime.{is_admit, Spans, IsStamped, StandsBefore, IsOrdered, IsSubsequence, KeepsOrder, others}
-use Rattle.trace_time.specs.Scan.{Scan, scan_start, behind_first, from_moment, is_stamped, after_admit, after_other, after_event, looked, scanned, key_of, arrival_key, front_admits, KeepsBehind, Keeps, FollowsScan, MayFollow}
-use Rattle.trace_time.proofs.Subsequences.{sub_tail, sub_front, found_right, found_left, Found, AreFrom, trim_right, trim_left}
+use Rattle.osek_scheduler.specs.InTime.{is_admit, Spans, IsStamped, StandsBefore, IsOrdered, IsSubsequence, others}
+use Rattle.trace_time.specs.Scan.{Scan, behind_first, from_moment, is_stamped, scan_after_admit, scan_after_other, scan_after_line, scan_after_event, scan_after_events, key_of, arrival_key, front_admits, KeepsBehind, Keeps, FollowsScan, MayFollow}
+use Rattle.trace_time.proofs.Subsequences.{found_right, found_left, AreFrom, trim_right, trim_left}
 
 -- ---- stamps
 
@@ -50,7 +47,7 @@ record AdmitStep (s : Scan) (t k : ℕ) (s1 : Scan) : Type 0 where
   found : behind_first k t s.rest ≡ Some rest
   is : s1 ≡ record s { latest = max s.latest k; rest = rest }
 
-admit_step : (s : Scan) (t k : ℕ) (s1 : Scan) → after_admit s t k ≡ Some s1 → AdmitStep s t k s1
+admit_step : (s : Scan) (t k : ℕ) (s1 : Scan) → scan_after_admit s t k ≡ Some s1 → AdmitStep s t k s1
 admit_step s t k s1 h =
     let test = if_true_some (leb s.begins k) (on_some (behind_first k t s.rest) (λ rest. Some (record s { latest = max s.latest k; rest = rest }))) s1 h in
     let found = on_some_from (behind_first k t s.rest) (λ rest. Some (record s { latest = max s.latest k; rest = rest })) s1 test.1 in
@@ -71,7 +68,7 @@ record OtherStep (s : Scan) (from at : ℕ) (s1 : Scan) : Type 0 where
   latest : s.latest ≤ at
   is : s1 ≡ other_scan s from at
 
-other_step : (s : Scan) (from at : ℕ) (s1 : Scan) → after_other s from at ≡ Some s1 → OtherStep s from at s1
+other_step : (s : Scan) (from at : ℕ) (s1 : Scan) → scan_after_other s from at ≡ Some s1 → OtherStep s from at s1
 other_step s from at s1 h =
     let test = if_true_some (leb s.ends from && leb s.latest at) (Some (other_scan s from at)) s1 h in
     let both = and_parts (leb s.ends from) (leb s.latest at) test.0 in
@@ -85,7 +82,7 @@ other_step s from at s1 h =
 abbrev IsFine : Scan → Type 0
 IsFine s = s.begins ≤ s.ends
 
-fine_next : (s : Scan) (o : Option ℕ) (from at : ℕ) (s1 : Scan) → from ≤ at → IsFine s → after_event s o from at ≡ Some s1 → IsFine s1
+fine_next : (s : Scan) (o : Option ℕ) (from at : ℕ) (s1 : Scan) → from ≤ at → IsFine s → scan_after_line s o from at ≡ Some s1 → IsFine s1
 fine_next s (Some t) from at s1 le fine h = let p = admit_step s t at s1 h in subst IsFine (sym p.is) fine
 fine_next s None from at s1 le fine h = let p = other_step s from at s1 h in subst IsFine (sym p.is) (omega (arith, le))
 
@@ -111,7 +108,7 @@ module _ (s : Scan) (from at : ℕ) (le : from ≤ at) (fine : IsFine s) where
     λ h. let q = h.1 in (omega (arith, q), h.0.1),
   )
 
-  next_follow : (o : Option ℕ) (s1 : Scan) → after_event s o from at ≡ Some s1 → (p : Option ℕ) (f a : ℕ) → FollowsScan s1 p f a ↔ Both o p f a
+  next_follow : (o : Option ℕ) (s1 : Scan) → scan_after_line s o from at ≡ Some s1 → (p : Option ℕ) (f a : ℕ) → FollowsScan s1 p f a ↔ Both o p f a
   next_follow (Some t) s1 h p f a =
       let step = admit_step s t at s1 h in
       let P : Scan → Type 0 = λ x. FollowsScan x p f a ↔ Both (Some t) p f a in
@@ -177,7 +174,7 @@ pub record Facts (n : ℕ) (s : Scan) (events : List Stamped) : Type 0 where
   pub keeps : Keeps s.base s.rest events
 
 module _ (n : ℕ) where
-  scanned_none : (events : List Stamped) (s : Scan) → scanned n None events ≡ Some s → ⊥
+  scanned_none : (events : List Stamped) (s : Scan) → scan_after_events n None events ≡ Some s → ⊥
   scanned_none [] s h = absurd cc
   scanned_none (e ∷ events) s h = scanned_none events s h
 
@@ -193,7 +190,7 @@ module _ (n : ℕ) where
 
   module _ (s s1 : Scan) (e : Stamped) (fine : IsFine s) (events : List Stamped) where
     abbrev Step : Type 0
-    Step = after_event s (admitted_line e.event) e.stamp.from e.stamp.at ≡ Some s1
+    Step = scan_after_line s (admitted_line e.event) e.stamp.from e.stamp.at ≡ Some s1
 
     ordered_pairs : IsStamped n e → Step → All (MayFollow s1) events → All (λ x. IsOrdered e x) events × All (MayFollow s) events
     ordered_pairs st h f = (
@@ -237,14 +234,14 @@ module _ (n : ℕ) where
         let G : Bool → Type 0 = λ c. cond c (Unit {0}) (IsSubsequence (map key_of (front_admits events)) (map arrival_key s.base)) in
         record { front = subst F (sym admit) tt; behind = (subst G (sym admit) kept.front, kept.behind) }
 
-    keeps_before : (s s1 : Scan) (o : Option ℕ) → admitted_line e.event ≡ o → after_event s o e.stamp.from e.stamp.at ≡ Some s1 → Keeps s1.base s1.rest events → Keeps s.base s.rest (e ∷ events)
+    keeps_before : (s s1 : Scan) (o : Option ℕ) → admitted_line e.event ≡ o → scan_after_line s o e.stamp.from e.stamp.at ≡ Some s1 → Keeps s1.base s1.rest events → Keeps s.base s.rest (e ∷ events)
     keeps_before s s1 (Some t) is h k = keeps_admit s t s1 is (admit_step s t e.stamp.at s1 h) k
     keeps_before s s1 None is h k = keeps_other s s1 is (other_step s e.stamp.from e.stamp.at s1 h) k
 
     -- where the pass goes on
     record Goes (s : Scan) : Type 0 where
       next : Scan
-      steps : after_event s (admitted_line e.event) e.stamp.from e.stamp.at ≡ Some next
+      steps : scan_after_line s (admitted_line e.event) e.stamp.from e.stamp.at ≡ Some next
       keeps : (All (MayFollow next) events) → Keeps next.base next.rest events
 
     goes : (s : Scan) → MayFollow s e → Keeps s.base s.rest (e ∷ events) → Goes s
@@ -259,7 +256,7 @@ module _ (n : ℕ) where
             record {
               next = next;
               steps =
-                  ap (λ o. after_event s o e.stamp.from e.stamp.at) is
+                  ap (λ o. scan_after_line s o e.stamp.from e.stamp.at) is
                   ∙ if_true_is (leb s.begins e.stamp.at) (on_some (behind_first e.stamp.at t s.rest) (λ rest. Some (record s { latest = max s.latest e.stamp.at; rest = rest }))) next
                   (le-leb s.begins e.stamp.at begins)
                   (ap (λ o. on_some o (λ rest. Some (record s { latest = max s.latest e.stamp.at; rest = rest }))) found.found);
@@ -273,7 +270,7 @@ module _ (n : ℕ) where
             record {
               next = next;
               steps =
-                  ap (λ o. after_event s o e.stamp.from e.stamp.at) is
+                  ap (λ o. scan_after_line s o e.stamp.from e.stamp.at) is
                   ∙ if_true_is (leb s.ends e.stamp.from && leb s.latest e.stamp.at) (Some next) next
                   (and_from (leb s.ends e.stamp.from) (leb s.latest e.stamp.at) (le-leb s.ends e.stamp.from f.0) (le-leb s.latest e.stamp.at f.1)) refl;
               keeps = λ after.
@@ -287,21 +284,21 @@ module _ (n : ℕ) where
 
   -- ---- both directions
 
-  first_step : (s s1 : Scan) (e : Stamped) → looked n s e ≡ Some s1 → IsStamped n e × (after_event s (admitted_line e.event) e.stamp.from e.stamp.at ≡ Some s1)
+  first_step : (s s1 : Scan) (e : Stamped) → scan_after_event n s e ≡ Some s1 → IsStamped n e × (scan_after_line s (admitted_line e.event) e.stamp.from e.stamp.at ≡ Some s1)
   first_step s s1 e h =
-      let test = if_true_some (is_stamped n e) (after_event s (admitted_line e.event) e.stamp.from e.stamp.at) s1 h in
+      let test = if_true_some (is_stamped n e) (scan_after_line s (admitted_line e.event) e.stamp.from e.stamp.at) s1 h in
       (stamped_of n e test.0, test.1)
 
-  follows_first : (s s1 : Scan) (o : Option ℕ) (from at : ℕ) → after_event s o from at ≡ Some s1 → FollowsScan s o from at
+  follows_first : (s s1 : Scan) (o : Option ℕ) (from at : ℕ) → scan_after_line s o from at ≡ Some s1 → FollowsScan s o from at
   follows_first s s1 (Some t) from at h = (admit_step s t at s1 h).begins
   follows_first s s1 None from at h = let p = other_step s from at s1 h in (p.ends, p.latest)
 
-  pub scan_sound : (events : List Stamped) (s end : Scan) → IsFine s → scanned n (Some s) events ≡ Some end → Facts n s events
+  pub scan_sound : (events : List Stamped) (s end : Scan) → IsFine s → scan_after_events n (Some s) events ≡ Some end → Facts n s events
   scan_sound [] s end fine h = no_facts s
-  scan_sound (e ∷ events) s end fine h = by (λ s1. scan_sound events s1 end) (looked n s e) refl h
+  scan_sound (e ∷ events) s end fine h = by (λ s1. scan_sound events s1 end) (scan_after_event n s e) refl h
     where
-      by : ((s1 : Scan) → IsFine s1 → scanned n (Some s1) events ≡ Some end → Facts n s1 events) → (o : Option Scan) → looked n s e ≡ o
-          → scanned n o events ≡ Some end → Facts n s (e ∷ events)
+      by : ((s1 : Scan) → IsFine s1 → scan_after_events n (Some s1) events ≡ Some end → Facts n s1 events) → (o : Option Scan) → scan_after_event n s e ≡ o
+          → scan_after_events n o events ≡ Some end → Facts n s (e ∷ events)
       by more None l h = absurd (scanned_none events end h)
       by more (Some s1) l h =
           let first = first_step s s1 e l in
@@ -320,7 +317,7 @@ module _ (n : ℕ) where
   pairs_tail : (e : Stamped) (events : List Stamped) → AllPairs IsOrdered (e ∷ events) → AllPairs IsOrdered events
   pairs_tail e events h i j d lt l = h (suc i) (suc j) d (omega (arith, lt)) (omega (arith, l))
 
-  pub scan_complete : (events : List Stamped) (s : Scan) → IsFine s → Facts n s events → (end : Scan) × (scanned n (Some s) events ≡ Some end)
+  pub scan_complete : (events : List Stamped) (s : Scan) → IsFine s → Facts n s events → (end : Scan) × (scan_after_events n (Some s) events ≡ Some end)
   scan_complete [] s fine f = (s, refl)
   scan_complete (e ∷ events) s fine f =
       let stamp = All-head (IsStamped n) e events f.stamped in
@@ -334,8 +331,8 @@ module _ (n : ℕ) where
         follows = after;
         keeps = go.keeps after;
       }) in
-      let step = if_true_is (is_stamped n e) (after_event s (admitted_line e.event) e.stamp.from e.stamp.at) go.next (stamped_is n e stamp) go.steps in
-      (rest.0, ap (λ o. scanned n o events) step ∙ rest.1)
+      let step = if_true_is (is_stamped n e) (scan_after_line s (admitted_line e.event) e.stamp.from e.stamp.at) go.next (stamped_is n e stamp) go.steps in
+      (rest.0, ap (λ o. scan_after_events n o events) step ∙ rest.1)
 
   -- ---- where the last event that is no admit ends
 
@@ -343,7 +340,7 @@ module _ (n : ℕ) where
     abbrev AreBelow : List Stamped → Type 0
     AreBelow events = All (λ e. e.stamp.at < k) events
 
-    ends_step : (s s1 : Scan) (e : Stamped) (rest : List Stamped) → e.stamp.from ≤ e.stamp.at → (o : Option ℕ) → after_event s o e.stamp.from e.stamp.at ≡ Some s1
+    ends_step : (s s1 : Scan) (e : Stamped) (rest : List Stamped) → e.stamp.from ≤ e.stamp.at → (o : Option ℕ) → scan_after_line s o e.stamp.from e.stamp.at ≡ Some s1
         → ((s1.ends ≤ k) × AreBelow rest) ↔ ((s.ends ≤ k) × AreBelow (cond (not (is_some o)) (e ∷ rest) rest))
     ends_step s s1 e rest le (Some t) h =
         let p = admit_step s t e.stamp.at s1 h in
@@ -357,15 +354,15 @@ module _ (n : ℕ) where
           λ q. let l = All-head (λ (x : Stamped). x.stamp.at < k) e rest q.1 in (omega (arith, l, same), All-tail (λ (x : Stamped). x.stamp.at < k) e rest q.1),
         )
 
-    pub scan_ends : (events : List Stamped) (s end : Scan) → scanned n (Some s) events ≡ Some end → (end.ends ≤ k) ↔ ((s.ends ≤ k) × AreBelow (others events))
+    pub scan_ends : (events : List Stamped) (s end : Scan) → scan_after_events n (Some s) events ≡ Some end → (end.ends ≤ k) ↔ ((s.ends ≤ k) × AreBelow (others events))
     scan_ends [] s end h =
         let same : s ≡ end = same_Some s end h in
         let ends = ap (λ (x : Scan). x.ends) same in
         (λ l. (omega (arith, l, ends), λ i d lt. absurd (omega (arith, lt))), λ q. let l = q.0 in omega (arith, l, ends))
-    scan_ends (e ∷ events) s end h = by (λ s1. scan_ends events s1 end) (looked n s e) refl h
+    scan_ends (e ∷ events) s end h = by (λ s1. scan_ends events s1 end) (scan_after_event n s e) refl h
       where
-        by : ((s1 : Scan) → scanned n (Some s1) events ≡ Some end → (end.ends ≤ k) ↔ ((s1.ends ≤ k) × AreBelow (others events))) → (o : Option Scan) → looked n s e ≡ o
-            → scanned n o events ≡ Some end → (end.ends ≤ k) ↔ ((s.ends ≤ k) × AreBelow (others (e ∷ events)))
+        by : ((s1 : Scan) → scan_after_events n (Some s1) events ≡ Some end → (end.ends ≤ k) ↔ ((s1.ends ≤ k) × AreBelow (others events))) → (o : Option Scan) → scan_after_event n s e ≡ o
+            → scan_after_events n o events ≡ Some end → (end.ends ≤ k) ↔ ((s.ends ≤ k) × AreBelow (others (e ∷ events)))
         by more None l h = absurd (scanned_none events end h)
         by more (Some s1) l h =
             let first = first_step s s1 e l in

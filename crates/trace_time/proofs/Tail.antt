@@ -1,9 +1,8 @@
 -- The admits are the first arrivals, moment for moment, and the end of the run leaves the others out.
-use Rattle.std.proofs.Common.{◌≡◌, ◌∙◌, ℕ, zero, suc, ◌+◌, ◌*◌, ◌/◌, ◌%◌, ◌-◌, ◌<◌, ◌≤◌, ◌⊎◌, inl, inr, List, [], ◌∷◌, ◌++◌, Bool, true, false, cond, map, take, drop, length, get_or, Option, Some, None, refl, sym, ap, subst, arith, length-append}
-use Rattle.std.specs.Prelude.{◌==◌, ◌&&◌, leb, ltb, count_by, All, not}
-use Rattle.std.specs.List.{sum_by, filter}
-use Rattle.std.proofs.lemmas.Bool.{and_parts, and_from, eqb-true, eq-eqb, ne_eqb, cases_lt, cases_eq, leb-true, leb-false, le-leb, lt-leb, ltb-true, lt-ltb}
-use Rattle.std.proofs.lemmas.List.{length-map, take-append-drop, append-nil}
+use Rattle.std.proofs.Common.{◌≡◌, ◌∙◌, ℕ, zero, suc, ◌+◌, ◌/◌, ◌%◌, ◌-◌, ◌<◌, ◌≤◌, ◌⊎◌, inl, inr, List, [], ◌∷◌, ◌++◌, Bool, true, false, cond, map, take, drop, length, get_or, Option, Some, None, refl, sym, ap, subst, arith, length-append}
+use Rattle.std.specs.Prelude.{◌==◌, ◌&&◌, leb, ltb, All}
+use Rattle.std.proofs.lemmas.Bool.{and_parts, and_from, eq-eqb, ne_eqb, cases_lt, cases_eq, leb-true, leb-false, le-leb, lt-leb, ltb-true, lt-ltb}
+use Rattle.std.proofs.lemmas.List.{length-map}
 use Rattle.std.proofs.Math.Seq.{take-append_seam, drop-append_seam}
 use Rattle.std.proofs.lemmas.List.Elements.{All-cons, All-head, All-tail}
 use Rattle.std.proofs.lemmas.List.Sums.{sum_by-cons, sum_by-append}
@@ -11,12 +10,11 @@ use Rattle.sloth_base.specs.Arrivals.{NeverFalls}
 use Rattle.sloth_base.specs.Options.{is_number}
 use Rattle.sloth_base.specs.declared.config.Config.{Config}
 use Rattle.sloth_base.specs.declared.event.Arrival.{Arrival}
-use Rattle.sloth_base.specs.declared.event.Event.{Event}
 use Rattle.sloth_base.specs.declared.event.Stamped.{Stamped}
 use Rattle.sloth_base.specs.Events.{admitted_line}
-use Rattle.osek_scheduler.specs.InTime.{is_admit, admits_at, arrivals_at, AdmitsAll, LeavesOut, IsStamped, longest_cut_off, others}
+use Rattle.osek_scheduler.specs.InTime.{admits_at, arrivals_at, AdmitsAll, LeavesOut, IsStamped, longest_cut_off_stretch, others}
 use Rattle.trace_time.specs.Counts.{number_at, arrival_number, with_admit, admit_numbers, times, SameCounts, last_moment, may_leave, Ending, IsSmall, AreSmall}
-use Rattle.trace_time.proofs.Counts.{same_length, times-append}
+use Rattle.trace_time.proofs.Counts.{same_length}
 
 -- ---- counts of numbers are counts of admits and of arrivals
 
@@ -228,7 +226,7 @@ module _ (config : Config) (arrivals : List Arrival) (events : List Stamped) (sm
 
     module _ (ends : ℕ) (behind : (k : ℕ) → ends ≤ k → All (λ e. e.stamp.at < k) (others events)) where
       left_out : (front : List Arrival) (a : Arrival) (rest : List Arrival) → arrivals ≡ front ++ a ∷ rest → SameAt front → a.at < n → last_moment front < a.at → ends ≤ a.at
-          → n - a.at < longest_cut_off config events → LeavesOut config n arrivals events a.at
+          → n - a.at < longest_cut_off_stretch config events → LeavesOut config n arrivals events a.at
       left_out front a rest is same inside last after short =
           let P : List Arrival → Type 0 = λ l. NeverFalls 1 l in
           let falls = subst P is rising in
@@ -248,14 +246,14 @@ module _ (config : Config) (arrivals : List Arrival) (events : List Stamped) (sm
           }
 
       pub ends_well : (front back : List Arrival) → arrivals ≡ front ++ back → SameCounts (admit_numbers events) (map arrival_number front)
-          → may_leave n (longest_cut_off config events) ends (last_moment front) back ≡ true → AdmitsAll n arrivals events ⊎ ((k : ℕ) × LeavesOut config n arrivals events k)
+          → may_leave n (longest_cut_off_stretch config events) ends (last_moment front) back ≡ true → AdmitsAll n arrivals events ⊎ ((k : ℕ) × LeavesOut config n arrivals events k)
       ends_well front [] is same h = inl (admits_all n front [] is (λ i d l. absurd (omega (arith, l))) (same_counted front [] is same))
       ends_well front (a ∷ rest) is same h = by (leb n a.at) refl h
         where
           falls : NeverFalls 1 (a ∷ rest)
           falls = let P : List Arrival → Type 0 = λ l. NeverFalls 1 l in falls_back 1 front (a ∷ rest) (subst P is rising)
 
-          by : (b : Bool) → leb n a.at ≡ b → cond b true (ltb (last_moment front) a.at && (leb ends a.at && ltb (n - a.at) (longest_cut_off config events))) ≡ true
+          by : (b : Bool) → leb n a.at ≡ b → cond b true (ltb (last_moment front) a.at && (leb ends a.at && ltb (n - a.at) (longest_cut_off_stretch config events))) ≡ true
               → AdmitsAll n arrivals events ⊎ ((k : ℕ) × LeavesOut config n arrivals events k)
           by true e h =
               let le = leb-true n a.at e in
@@ -263,12 +261,12 @@ module _ (config : Config) (arrivals : List Arrival) (events : List Stamped) (sm
               (All-cons (λ (x : Arrival). n ≤ x.at) a rest le (λ i d l. let r = all_from a.at rest falls.1 i d l in omega (arith, r, le)))
               (same_counted front (a ∷ rest) is same))
           by false e h =
-              let first = and_parts (ltb (last_moment front) a.at) (leb ends a.at && ltb (n - a.at) (longest_cut_off config events)) h in
-              let second = and_parts (leb ends a.at) (ltb (n - a.at) (longest_cut_off config events)) first.1 in
+              let first = and_parts (ltb (last_moment front) a.at) (leb ends a.at && ltb (n - a.at) (longest_cut_off_stretch config events)) h in
+              let second = and_parts (leb ends a.at) (ltb (n - a.at) (longest_cut_off_stretch config events)) first.1 in
               inr (
                 a.at,
                 left_out front a rest is (same_counted front (a ∷ rest) is same) (leb-false n a.at e) (ltb-true (last_moment front) a.at first.0)
-                    (leb-true ends a.at second.0) (ltb-true (n - a.at) (longest_cut_off config events) second.1),
+                    (leb-true ends a.at second.0) (ltb-true (n - a.at) (longest_cut_off_stretch config events) second.1),
               )
 
     -- ---- and the counts from what is left out
@@ -288,13 +286,13 @@ module _ (config : Config) (arrivals : List Arrival) (events : List Stamped) (sm
     none_past moment t le = none_admitted moment t events (λ i d l e. let r = (stamped i d l).below in omega (arith, r, e, le))
 
     module _ (ends : ℕ) where
-      ending_of : (front back : List Arrival) → arrivals ≡ front ++ back → SameAt front → may_leave n (longest_cut_off config events) ends (last_moment front) back ≡ true → Ending config n arrivals events ends
+      ending_of : (front back : List Arrival) → arrivals ≡ front ++ back → SameAt front → may_leave n (longest_cut_off_stretch config events) ends (last_moment front) back ≡ true → Ending config n arrivals events ends
       ending_of front back is same leaves = record {
         enough = let l = ap length is in let a = length-append front back in omega (arith, l, a, count);
         same = subst (λ (l : List Arrival). SameCounts (admit_numbers events) (map arrival_number l)) (sym taken) counts;
         leaves =
-            subst (λ (l : List Arrival). may_leave n (longest_cut_off config events) ends (last_moment l) (drop (length (admit_numbers events)) arrivals) ≡ true) (sym taken)
-            (subst (λ (l : List Arrival). may_leave n (longest_cut_off config events) ends (last_moment front) l ≡ true) (sym dropped) leaves);
+            subst (λ (l : List Arrival). may_leave n (longest_cut_off_stretch config events) ends (last_moment l) (drop (length (admit_numbers events)) arrivals) ≡ true) (sym taken)
+            (subst (λ (l : List Arrival). may_leave n (longest_cut_off_stretch config events) ends (last_moment front) l ≡ true) (sym dropped) leaves);
       }
         where
           counts : SameCounts (admit_numbers events) (map arrival_number front)
@@ -323,7 +321,7 @@ module _ (config : Config) (arrivals : List Arrival) (events : List Stamped) (sm
           by (a ∷ rest) is high =
               let le = All-head (λ (x : Arrival). n ≤ x.at) a rest high in
               ending_of p.front (a ∷ rest) is same
-              (ap (λ b. cond b true (ltb (last_moment p.front) a.at && (leb ends a.at && ltb (n - a.at) (longest_cut_off config events)))) (le-leb n a.at le))
+              (ap (λ b. cond b true (ltb (last_moment p.front) a.at && (leb ends a.at && ltb (n - a.at) (longest_cut_off_stretch config events)))) (le-leb n a.at le))
 
       pub ending_left : (k : ℕ) → ends ≤ k → LeavesOut config n arrivals events k → Ending config n arrivals events ends
       ending_left k after h = by p.back p.is p.high
@@ -365,6 +363,6 @@ module _ (config : Config) (arrivals : List Arrival) (events : List Stamped) (sm
                   let short = h.short in
                   let last = last_below k p.front (omega (arith, positive, le)) p.low in
                   ending_of p.front (a ∷ rest) is same
-                  (ap (λ b. cond b true (ltb (last_moment p.front) a.at && (leb ends a.at && ltb (n - a.at) (longest_cut_off config events)))) (lt-leb n a.at (omega (arith, le, inside)))
-                  ∙ and_from (ltb (last_moment p.front) a.at) (leb ends a.at && ltb (n - a.at) (longest_cut_off config events)) (lt-ltb (last_moment p.front) a.at (omega (arith, last, low)))
-                  (and_from (leb ends a.at) (ltb (n - a.at) (longest_cut_off config events)) (le-leb ends a.at (omega (arith, after, low))) (lt-ltb (n - a.at) (longest_cut_off config events) (omega (arith, low, le, short)))))
+                  (ap (λ b. cond b true (ltb (last_moment p.front) a.at && (leb ends a.at && ltb (n - a.at) (longest_cut_off_stretch config events)))) (lt-leb n a.at (omega (arith, le, inside)))
+                  ∙ and_from (ltb (last_moment p.front) a.at) (leb ends a.at && ltb (n - a.at) (longest_cut_off_stretch config events)) (lt-ltb (last_moment p.front) a.at (omega (arith, last, low)))
+                  (and_from (leb ends a.at) (ltb (n - a.at) (longest_cut_off_stretch config events)) (le-leb ends a.at (omega (arith, after, low))) (lt-ltb (n - a.at) (longest_cut_off_stretch config events) (omega (arith, low, le, short)))))

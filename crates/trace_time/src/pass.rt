@@ -1,7 +1,7 @@
 //! One pass over events with the arrivals: their stamps, where admits stand, and the order of admits with no other event between them.
 ghost use Rattle.std.specs.Prelude.{◌≡◌, ◌<◌, cond, option_copied, true, Some, None, IfSome};
 ghost use Rattle.sloth_base.specs.Events.{admitted_line, is_single};
-ghost use Rattle.trace_time.specs.Scan.{after_admit, after_other, behind_first, from_moment, is_stamped, looked, scan_start};
+ghost use Rattle.trace_time.specs.Scan.{scan_after_admit, scan_after_other, behind_first, from_moment, is_stamped, scan_after_event, scan_start};
 
 use sloth_base::event::{Arrival, Event, Stamped};
 use std::marker::Model;
@@ -128,7 +128,7 @@ impl<'a> Pass<'a> {
 
     // Takes an admission.
     fn admit(&mut self, line: u64, moment: u32) -> bool
-        ensures { cond result (Some self.new) None ≡ after_admit self.old line moment }
+        ensures { cond result (Some self.new) None ≡ scan_after_admit self.old line moment }
     {
         if self.begins > moment {
             return false;
@@ -145,7 +145,7 @@ impl<'a> Pass<'a> {
     fn pass(&mut self, from: u32, at: u32) -> bool
         requires from { from < 4294967295 }
         requires at { at < 4294967295 }
-        ensures { cond result (Some self.new) None ≡ after_other self.old from at }
+        ensures { cond result (Some self.new) None ≡ scan_after_other self.old from at }
     {
         if self.ends > from || self.latest > at {
             return false;
@@ -159,7 +159,7 @@ impl<'a> Pass<'a> {
 
     /// Takes an event, if it may stand there in a run of n instructions.
     pub fn look(&mut self, n: u32, event: &Stamped) -> bool
-        ensures looked { cond result (Some self.new) None ≡ looked n self.old event.now }
+        ensures looked { cond result (Some self.new) None ≡ scan_after_event n self.old event.now }
         ensures inside { result ≡ true → event.now.stamp.at < 4294967295 }
     {
         if !is_stamped(n, event) {

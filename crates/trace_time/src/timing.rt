@@ -34,9 +34,9 @@ pub struct Timing<'a> {
 }
 
 impl<'a> Model for Timing<'a> {
-    ghost use Rattle.trace_time.specs.Timed.{HasFewAlarms, Kept};
+    ghost use Rattle.trace_time.specs.Timed.{HasFewAlarms, KeptPass};
 
-    ghost Value = { Kept };
+    ghost Value = { KeptPass };
 
     ghost view = { λ t. record {
       config = t.config.now;

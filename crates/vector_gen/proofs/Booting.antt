@@ -11,7 +11,7 @@ use Rattle.rv32_instr.specs.declared.InstrKind.{InstrKind}
 use Rattle.rv32_instr.specs.declared.InstrKind.TheVariants.{Sb}
 use Rattle.sloth_base.specs.Arithmetic.{hi}
 use Rattle.sloth_base.specs.MemoryMap.{memory_base}
-use Rattle.masked_code.specs.Place.{at}
+use Rattle.masked_code.specs.Place.{offset_state}
 use Rattle.masked_code.specs.Masked.{Masked, WithArrivals}
 use Rattle.masked_code.specs.Owes.{◌▸◌, writes, raises, sets_enabled, sets_level, accesses, Owes}
 use Rattle.masked_code.proofs.Parts.{hi_lo}
@@ -19,7 +19,7 @@ use Rattle.masked_code.proofs.Spread.{spread, spread_is, spread_from, others}
 use Rattle.masked_code.proofs.Routines.{handles}
 use Rattle.code_lengths.specs.CodeLengths.{lines_length}
 use Rattle.code_lengths.proofs.Short.{short_lines}
-use Rattle.vector_gen.specs.Boot.{register_code, line_code, starts_one, lines_code, counters_code, finishing_code, IsUnused, MayBoot, Booted, Boots}
+use Rattle.vector_gen.specs.Boot.{register_code, line_code, line_start_code, lines_code, counters_code, finishing_code, IsUnused, MayBoot, Booted, Boots}
 
 -- the lines' bytes after the tasks from this line on
 abbrev levels_with : ℕ → List TaskDecl → List ℕ → List ℕ → List ℕ
@@ -114,8 +114,8 @@ length-counters : (count line v : ℕ) → length (counters_code count line v) �
 length-counters zero line v = refl
 length-counters (suc count) line v =
     let ih = length-counters count (suc line) v in
-    let e = length-append (starts_one line v false) (counters_code count (suc line) v) in
-    let three : length (starts_one line v false) ≡ 3 = refl in
+    let e = length-append (line_start_code line v false) (counters_code count (suc line) v) in
+    let three : length (line_start_code line v false) ≡ 3 = refl in
     omega (arith, ih, e, three)
 
 -- ---- line by line
@@ -221,13 +221,14 @@ length-starts [] line levels = refl
 length-starts (task ∷ tasks) line levels =
     let one = length-one task.autostart line in
     let ih = length-starts tasks (suc line) levels in
-    let e = length-append (starts_one line (get_or levels line 0) task.autostart) (lines_code (suc line) tasks levels) in
+    let e = length-append (line_start_code line (get_or levels line 0) task.autostart) (lines_code (suc line) tasks levels) in
     omega (arith, one, ih, e)
   where
     length-one : (auto : Bool) (line : ℕ) → length (line_code line auto) ≡ cond auto 1 0
     length-one true line = refl
     length-one false line = refl
 
+-- the code of boot
 abbrev pub boot_code : List TaskDecl → (counters : ℕ) → List ℕ → (top idle : ℕ) → List InstrKind
 boot_code tasks counters levels top idle = register_code ++ (lines_code 0 tasks levels ++ (counters_code counters 30 (top + 1) ++ finishing_code idle))
 
@@ -238,7 +239,7 @@ idle_end = memory_base + (idle_context + context_bytes)
 module _ (tasks : List TaskDecl) (counters : ℕ) (levels : List ℕ) (top idle : ℕ) (few : length tasks ≤ 30) (few_counters : counters ≤ 2) (byte : top + 1 < 256) (small : (k : ℕ) → get_or levels k 0 < 256) (fits : idle < 2 ^ 32)
     (aligned : idle % 4 ≡ 0) (offset : ℕ) (c : Core) (h : MayBoot offset (boot_code tasks counters levels top idle) c) where
   end_owes : (from to o x2 x1 : ℕ)
-      → Owes from to o (finishing_code idle) 0 (Booted tasks counters levels top idle) (at offset (spread c))
+      → Owes from to o (finishing_code idle) 0 (Booted tasks counters levels top idle) (offset_state offset (spread c))
       (record (spread c) { registers = 0 ∷ x1 ∷ x2 ∷ controller_base ∷ 1 ∷ spread_from 27 5 c.registers; levels = filled counters 30 (top + 1) (levels_with 0 tasks levels c.levels); enabled = filled counters 30 1 (enabled_with 0 tasks c.enabled); pending = pending_with 0 tasks c.pending })
   end_owes from to o x2 x1 =
       let n = length tasks in
@@ -287,17 +288,18 @@ module _ (tasks : List TaskDecl) (counters : ℕ) (levels : List ℕ) (top idle 
         kept = λ i past. others idle idle_end controller_base memory_base (get_or c.registers 1 0) (get_or c.registers 2 0) (get_or c.registers 3 0) (get_or c.registers 4 0) (spread_from 27 5 c.registers) i past;
       }
 
-  owes : (from to : ℕ) → Owes from to offset (boot_code tasks counters levels top idle) 0 (Booted tasks counters levels top idle) (at offset (spread c)) (spread c)
+  owes : (from to : ℕ) → Owes from to offset (boot_code tasks counters levels top idle) 0 (Booted tasks counters levels top idle) (offset_state offset (spread c)) (spread c)
   owes from to =
       writes controller_base refl
       ▸ writes 1 refl
-      ▸ starts_owe from to (Booted tasks counters levels top idle) (at offset (spread c)) (get_or c.registers 2 0) (spread_from 27 5 c.registers) levels small tasks 0 (offset + 4 + 4) (get_or c.registers 1 0) (counters_code counters 30 (top + 1) ++ finishing_code idle) (spread c) (omega arith)
-      (λ o x1. counters_owe from to (Booted tasks counters levels top idle) (at offset (spread c)) (get_or c.registers 2 0) (spread_from 27 5 c.registers) levels small counters 30 (top + 1) o x1
+      ▸ starts_owe from to (Booted tasks counters levels top idle) (offset_state offset (spread c)) (get_or c.registers 2 0) (spread_from 27 5 c.registers) levels small tasks 0 (offset + 4 + 4) (get_or c.registers 1 0) (counters_code counters 30 (top + 1) ++ finishing_code idle) (spread c) (omega arith)
+      (λ o x1. counters_owe from to (Booted tasks counters levels top idle) (offset_state offset (spread c)) (get_or c.registers 2 0) (spread_from 27 5 c.registers) levels small counters 30 (top + 1) o x1
       (finishing_code idle) (record (spread c) { levels = levels_with 0 tasks levels c.levels; enabled = enabled_with 0 tasks c.enabled; pending = pending_with 0 tasks c.pending })
       (omega arith) byte
       (λ o2 y1. end_owes from to o2 (get_or c.registers 2 0) y1))
 
-  pub runs_it : Masked 136 (at offset c) (WithArrivals (Booted tasks counters levels top idle) (at offset c))
+  -- from the first instruction to the idle loop
+  pub runs_it : Masked 136 (offset_state offset c) (WithArrivals (Booted tasks counters levels top idle) (offset_state offset c))
   runs_it =
       let can = h.can_run in
       let to = offset + 4 * length (boot_code tasks counters levels top idle) in
@@ -306,11 +308,12 @@ module _ (tasks : List TaskDecl) (counters : ℕ) (levels : List ℕ) (top idle 
       let all = length-append (lines_code 0 tasks levels) (counters_code counters 30 (top + 1) ++ finishing_code idle) in
       let more = length-append (counters_code counters 30 (top + 1)) (finishing_code idle) in
       let lasts = length-counters counters 30 (top + 1) in
-      handles offset 136 (boot_code tasks counters levels top idle) c (Booted tasks counters levels top idle) (at offset c)
+      handles offset 136 (boot_code tasks counters levels top idle) c (Booted tasks counters levels top idle) (offset_state offset c)
       (record { masked = h.masked; there = can.controller; lines = can.lines; aligned = can.aligned; fits = can.inside; placed = can.placed })
       (omega arith)
-      (subst (λ x. Owes offset to offset (boot_code tasks counters levels top idle) 0 (Booted tasks counters levels top idle) (at offset x) x) (spread_is c can.registers can.zero) (owes offset to))
+      (subst (λ x. Owes offset to offset (boot_code tasks counters levels top idle) 0 (Booted tasks counters levels top idle) (offset_state offset x) x) (spread_is c can.registers can.zero) (owes offset to))
 
+-- for each list of tasks and number of counters that it is generated for
 pub boots : (tasks : List TaskDecl) (counters : ℕ) (levels : List ℕ) (top idle : ℕ) → length tasks ≤ 30 → counters ≤ 2 → top + 1 < 256
     → ((k : ℕ) → get_or levels k 0 < 256) → idle < 2 ^ 32 → Boots tasks counters levels top idle (boot_code tasks counters levels top idle)
 boots tasks counters levels top idle few few_counters byte small fits =

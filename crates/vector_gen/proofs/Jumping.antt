@@ -6,6 +6,7 @@ use Rattle.sloth_base.specs.MemoryMap.{vectors_base}
 use Rattle.rv32_instr.specs.declared.InstrKind.{InstrKind}
 use Rattle.vector_gen.specs.Vectors.{IsJump, AreJumps}
 
+-- a jump to the next line's handler behind those of all lines before it
 pub jumps_more : (n : ℕ) (handlers : List ℕ) (code new : List InstrKind) (kind : InstrKind) → AreJumps n handlers code → new ≡ code ++ kind ∷ []
     → IsJump (vectors_base + 4 * n) (get_or handlers n 0) kind → AreJumps (n + 1) handlers new
 jumps_more n handlers code new kind before e is_jump =

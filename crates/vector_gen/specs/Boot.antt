@@ -10,7 +10,7 @@ use Rattle.rv32_instr.specs.declared.InstrKind.{InstrKind}
 use Rattle.rv32_instr.specs.declared.InstrKind.TheVariants.{Lui, Addi, Sb, Csrrw, Mret}
 use Rattle.sloth_base.specs.Arithmetic.{hi, lo}
 use Rattle.sloth_base.specs.MemoryMap.{memory_base}
-use Rattle.masked_code.specs.Place.{at}
+use Rattle.masked_code.specs.Place.{offset_state}
 use Rattle.masked_code.specs.Masked.{Masked, WithArrivals}
 use Rattle.masked_code.specs.Kernel.{CanRun, LeftAs}
 
@@ -26,18 +26,18 @@ line_code line true = Sb 3 4 (pos (pending_byte line)) ∷ []
 line_code line false = []
 
 -- a task's line has its level and is enabled, and is pending where the task is autostarted
-abbrev pub starts_one : ℕ → ℕ → Bool → List InstrKind
-starts_one line level autostart = Addi 1 0 (pos level) ∷ Sb 3 1 (pos (level_byte line)) ∷ Sb 3 4 (pos (enabled_byte line)) ∷ line_code line autostart
+abbrev pub line_start_code : ℕ → ℕ → Bool → List InstrKind
+line_start_code line level autostart = Addi 1 0 (pos level) ∷ Sb 3 1 (pos (level_byte line)) ∷ Sb 3 4 (pos (enabled_byte line)) ∷ line_code line autostart
 
 -- those of the tasks from this line on
 abbrev pub lines_code : ℕ → List TaskDecl → List ℕ → List InstrKind
 lines_code line [] levels = []
-lines_code line (task ∷ tasks) levels = starts_one line (slice_index levels line) task.autostart ++ lines_code (suc line) tasks levels
+lines_code line (task ∷ tasks) levels = line_start_code line (slice_index levels line) task.autostart ++ lines_code (suc line) tasks levels
 
 -- those of so many counters, from this line on, at one level
 abbrev pub counters_code : (count line level : ℕ) → List InstrKind
 counters_code zero line level = []
-counters_code (suc count) line level = starts_one line level false ++ counters_code count (suc line) level
+counters_code (suc count) line level = line_start_code line level false ++ counters_code count (suc line) level
 
 -- the stack and the state of the idle loop, and the way there
 abbrev pub finishing_code : ℕ → List InstrKind
@@ -89,4 +89,4 @@ pub record Boots (tasks : List TaskDecl) (counters : ℕ) (levels : List ℕ) (t
   pub size : length code ≡ boot_length tasks counters
   pub runs :
       (offset : ℕ) (core : Core) → idle % 4 ≡ 0 → MayBoot offset code core
-      → Masked 136 (at offset core) (WithArrivals (Booted tasks counters levels top idle) (at offset core))
+      → Masked 136 (offset_state offset core) (WithArrivals (Booted tasks counters levels top idle) (offset_state offset core))

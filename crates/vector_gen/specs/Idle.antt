@@ -5,7 +5,7 @@ use Rattle.sloth_base.specs.declared.image.MarkKind.TheVariants as mark
 use Rattle.sloth_base.specs.Machine.{Core}
 use Rattle.rv32_instr.specs.declared.InstrKind.{InstrKind}
 use Rattle.rv32_instr.specs.Execute.{Going, step, touched}
-use Rattle.masked_code.specs.Place.{at, InPlace}
+use Rattle.masked_code.specs.Place.{offset_state, InPlace}
 
 -- the mark on the idle loop
 abbrev pub idle_mark : ℕ → Mark
@@ -16,5 +16,5 @@ pub record Idles (code : List InstrKind) : Type 0 where
   pub word : length code ≡ 1
   pub stays :
       (offset : ℕ) (core : Core) → offset % 4 ≡ 0 → offset + 4 ≤ 0x20_0000 → InPlace core.ram offset code
-      → step (at offset core) ≡ Going (at offset core)
-  pub untouched : (offset : ℕ) (core : Core) → InPlace core.ram offset code → touched (at offset core) ≡ None
+      → step (offset_state offset core) ≡ Going (offset_state offset core)
+  pub untouched : (offset : ℕ) (core : Core) → InPlace core.ram offset code → touched (offset_state offset core) ≡ None

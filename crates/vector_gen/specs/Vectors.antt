@@ -6,7 +6,7 @@ use Rattle.rv32_instr.specs.declared.InstrKind.TheVariants.{Jal}
 use Rattle.sloth_base.specs.Arithmetic.{plus}
 use Rattle.sloth_base.specs.MemoryMap.{vectors_base, boot_base}
 use Rattle.rv32_instr.specs.Execute.{Going, step, touched}
-use Rattle.masked_code.specs.Place.{at, InPlace}
+use Rattle.masked_code.specs.Place.{offset_state, InPlace}
 
 -- each handler stands behind the vector words, within reach of a jump, at a multiple of 4
 pub record AreInReach (handlers : List ℕ) : Type 0 where
@@ -28,5 +28,5 @@ pub record AreJumps (words : ℕ) (handlers : List ℕ) (code : List InstrKind) 
 pub record StepToHandlers (handlers : List ℕ) (code : List InstrKind) : Type 0 where
   pub steps :
       (line : ℕ) (core : Core) → line < 32 → InPlace core.ram 0x400 code
-      → step (at (0x400 + 4 * line) core) ≡ Going (record { pc = slice_index handlers line; core = core })
-  pub untouched : (line : ℕ) (core : Core) → line < 32 → InPlace core.ram 0x400 code → touched (at (0x400 + 4 * line) core) ≡ None
+      → step (offset_state (0x400 + 4 * line) core) ≡ Going (record { pc = slice_index handlers line; core = core })
+  pub untouched : (line : ℕ) (core : Core) → line < 32 → InPlace core.ram 0x400 code → touched (offset_state (0x400 + 4 * line) core) ≡ None

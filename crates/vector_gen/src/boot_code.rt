@@ -3,7 +3,7 @@ ghost use Rattle.std.specs.Prelude.{ℕ, ◌^◌, slice_index, ◌≡◌, ◌++�
 ghost use Rattle.sloth_base.specs.MemoryMap.{boot_base};
 ghost use Rattle.sloth_base.specs.ConfigRange.{InRange};
 ghost use Rattle.code_lengths.specs.CodeLengths.{boot_length};
-ghost use Rattle.vector_gen.specs.Boot.{register_code, starts_one, lines_code, counters_code, finishing_code, Boots};
+ghost use Rattle.vector_gen.specs.Boot.{register_code, line_start_code, lines_code, counters_code, finishing_code, Boots};
 ghost use Rattle.sloth_base.specs.Owners.{first_counter_line};
 
 use masked_code::emit::emit;
@@ -56,7 +56,7 @@ fn begin(code: &mut Vec<Instr>) -> Result<(), AllocError>
 /// A line gets its level and is enabled, and is raised where its task is autostarted.
 fn start(code: &mut Vec<Instr>, line: u8, level: u8, autostart: bool) -> Result<(), AllocError>
     requires { line < 32 }
-    ensures { OnOk result (code.new.items ≡ code.old.items ++ starts_one line level autostart) }
+    ensures { OnOk result (code.new.items ≡ code.old.items ++ line_start_code line level autostart) }
 {
     let enabled = [
         addi(X1, ZERO, level as i32),

@@ -1,5 +1,5 @@
 -- The declarations of a scope, one signal after the other.
-use Rattle.std.proofs.Common.{◌≡◌, ◌+◌, ◌∙◌, ℕ, List, [], ◌++◌, get_or, refl, ap}
+use Rattle.std.proofs.Common.{◌≡◌, ◌+◌, ℕ, List, [], ◌++◌, get_or, refl, ap}
 use Rattle.std.proofs.Math.Numerals.{add-one}
 use Rattle.wave_text.specs.declared.signals.Scope.{Scope}
 use Rattle.wave_text.specs.Header.{variable_line, variable_lines}

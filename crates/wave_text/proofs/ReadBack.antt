@@ -1,5 +1,5 @@
 -- A dump gives each signal at each count the value that it has in the sample of the count.
-use Rattle.std.proofs.Common.{◌≡◌, ◌≤◌, ◌<◌, ◌+◌, ◌∙◌, ℕ, zero, suc, List, [], ◌∷◌, ◌++◌, Option, Some, None, length, refl, sym, ap, subst, arith, append_assoc, ⊎_elim, ◌⊎◌, inl, inr}
+use Rattle.std.proofs.Common.{◌≡◌, ◌≤◌, ◌<◌, ◌+◌, ◌∙◌, ℕ, zero, suc, List, [], ◌∷◌, ◌++◌, Option, Some, None, length, refl, sym, ap, subst, arith, append_assoc, ⊎_elim}
 use Rattle.std.specs.Prelude.{Bool, true, false, ◌==◌, nat_le, if◌then◌else◌, slice_get}
 use Rattle.std.proofs.lemmas.Bool.{cases_lt, false≢true}
 use Rattle.std.proofs.lemmas.Bool.Decides.{eqb_tells, leb_tells}
@@ -9,9 +9,9 @@ use Rattle.wave_text.specs.declared.signals.Scope.{Scope}
 use Rattle.wave_text.specs.declared.signals.Scope.TheVariants as scope
 use Rattle.wave_text.specs.declared.signals.Width.{Width}
 use Rattle.wave_text.specs.declared.signals.Width.TheVariants as width
-use Rattle.wave_text.specs.Changes.{Entry, same_value, changed, changes, scope_changes, with_moment, entries, entries_from}
+use Rattle.wave_text.specs.Changes.{Entry, same_value, change_entries, changes, scope_changes, with_moment, entries, entries_from}
 use Rattle.wave_text.specs.Reading.{value_behind, value_at, ReadsBack}
-use Rattle.wave_text.specs.Signals.{first_code, level_code, masked_code, signal_count, width_of, value_of, level_value, masked_value}
+use Rattle.wave_text.specs.Signals.{first_code, level_signal, masked_code, signal_count, width_of, value_of, level_value, masked_value}
 
 -- ---- tests
 
@@ -40,7 +40,7 @@ module _ (code at : ℕ) where
   -- ---- one signal
 
   -- another signal's change says nothing
-  other-change : (c : ℕ) (w : Width) (x y v : Option ℕ) (rest : List Entry) → (c ≡ code → ⊥) → V v (changed c w x y ++ rest) ≡ V v rest
+  other-change : (c : ℕ) (w : Width) (x y v : Option ℕ) (rest : List Entry) → (c ≡ code → ⊥) → V v (change_entries c w x y ++ rest) ≡ V v rest
   other-change c w x y v rest apart = by (same_value x y)
     where
       by : (b : Bool) → V v ((if b then [] else Entry.change c w y ∷ []) ++ rest) ≡ V v rest
@@ -48,7 +48,7 @@ module _ (code at : ℕ) where
       by false = ap (λ d. V (if d then y else v) rest) (is-other c code apart)
 
   -- its own gives it its value
-  own-change : (w : Width) (x y : Option ℕ) (rest : List Entry) → V x (changed code w x y ++ rest) ≡ V y rest
+  own-change : (w : Width) (x y : Option ℕ) (rest : List Entry) → V x (change_entries code w x y ++ rest) ≡ V y rest
   own-change w x y rest = by (same_value x y) refl
     where
       by : (b : Bool) → same_value x y ≡ b → V x ((if b then [] else Entry.change code w y ∷ []) ++ rest) ≡ V y rest
@@ -58,9 +58,9 @@ module _ (code at : ℕ) where
   -- ---- a scope
 
   task-more : (s : Scope) (old new : Option Sample) (n : ℕ) (rest : List Entry) → scope_changes s old new (suc n) ++ rest
-      ≡ scope_changes s old new n ++ (changed (first_code s + n) (width_of s) (value_of s old n) (value_of s new n) ++ rest)
+      ≡ scope_changes s old new n ++ (change_entries (first_code s + n) (width_of s) (value_of s old n) (value_of s new n) ++ rest)
   unfolding scope_changes
-  task-more s old new n rest = append_assoc (scope_changes s old new n) (changed (first_code s + n) (width_of s) (value_of s old n) (value_of s new n)) rest
+  task-more s old new n rest = append_assoc (scope_changes s old new n) (change_entries (first_code s + n) (width_of s) (value_of s old n) (value_of s new n)) rest
 
   no-task : (s : Scope) (old new : Option Sample) (rest : List Entry) → scope_changes s old new 0 ++ rest ≡ rest
   unfolding scope_changes
@@ -70,7 +70,7 @@ module _ (code at : ℕ) where
       → V v (scope_changes s old new n ++ rest) ≡ V v rest
   other-scope s old new zero v rest apart = ap (V v) (no-task s old new rest)
   other-scope s old new (suc n) v rest apart =
-      let own : List Entry = changed (first_code s + n) (width_of s) (value_of s old n) (value_of s new n) in
+      let own : List Entry = change_entries (first_code s + n) (width_of s) (value_of s old n) (value_of s new n) in
       ap (V v) (task-more s old new n rest) ∙ other-scope s old new n v (own ++ rest) (λ t l. apart t (omega arith))
       ∙ other-change (first_code s + n) (width_of s) (value_of s old n) (value_of s new n) v rest (apart n (omega arith))
 
@@ -80,7 +80,7 @@ own-scope : (s : Scope) (old new : Option Sample) (n task at : ℕ) (rest : List
 own-scope s old new zero task at rest below = absurd (omega arith)
 own-scope s old new (suc n) task at rest below =
     let code : ℕ = first_code s + task in
-    let last : List Entry = changed (first_code s + n) (width_of s) (value_of s old n) (value_of s new n) in
+    let last : List Entry = change_entries (first_code s + n) (width_of s) (value_of s old n) (value_of s new n) in
     let V : Option ℕ → List Entry → Option ℕ = value_behind code at in
     ap (V (value_of s old task)) (task-more code at s old new n rest)
     ∙ ⊎_elim
@@ -89,7 +89,7 @@ own-scope s old new (suc n) task at rest below =
     ∙ other-change code at (first_code s + n) (width_of s) (value_of s old n) (value_of s new n) (value_of s new task) rest (λ (e : first_code s + n ≡ first_code s + task). omega arith))
     (λ (l : n ≤ task).
     let same : n ≡ task = omega arith in
-    let P : ℕ → Type 0 = λ m. V (value_of s old task) (changed (first_code s + m) (width_of s) (value_of s old m) (value_of s new m) ++ rest) ≡ V (value_of s new task) rest in
+    let P : ℕ → Type 0 = λ m. V (value_of s old task) (change_entries (first_code s + m) (width_of s) (value_of s old m) (value_of s new m) ++ rest) ≡ V (value_of s new task) rest in
     other-scope code at s old new n (value_of s old task) (last ++ rest) (λ t below_n (e : first_code s + t ≡ first_code s + task). omega arith)
     ∙ subst P (sym same) (own-change code at (width_of s) (value_of s old task) (value_of s new task) rest))
     (cases_lt task n)
@@ -118,16 +118,16 @@ module _ (owners : Owners) (few : owners.tasks ≤ 30) (at : ℕ) (old new : Opt
   F = scope_changes scope.Counters old new owners.counters
 
   abbrev D : List Entry
-  D = changed level_code width.Eight (level_value old) (level_value new)
+  D = change_entries level_signal width.Eight (level_value old) (level_value new)
 
   abbrev E : List Entry
-  E = changed masked_code width.One (masked_value old) (masked_value new)
+  E = change_entries masked_code width.One (masked_value old) (masked_value new)
 
   -- the last ones, for a task's signal
   behind-tasks : (code : ℕ) (v : Option ℕ) → code < 123 → value_behind code at v (F ++ (D ++ (E ++ rest))) ≡ value_behind code at v rest
   behind-tasks code v below =
       other-scope code at scope.Counters old new owners.counters v (D ++ (E ++ rest)) (λ t b (e : 125 + t ≡ code). omega arith)
-      ∙ other-change code at level_code width.Eight (level_value old) (level_value new) v (E ++ rest) (λ (e : 123 ≡ code). omega arith)
+      ∙ other-change code at level_signal width.Eight (level_value old) (level_value new) v (E ++ rest) (λ (e : 123 ≡ code). omega arith)
       ∙ other-change code at masked_code width.One (masked_value old) (masked_value new) v rest (λ (e : 124 ≡ code). omega arith)
 
   of-state : (task : ℕ) → task < owners.tasks
@@ -174,7 +174,7 @@ module _ (owners : Owners) (few : owners.tasks ≤ 30) (at : ℕ) (old new : Opt
       ap (value_behind (125 + counter) at (value_of scope.Counters old counter)) (parts A B C F D E rest)
       ∙ behind-scopes (125 + counter) (value_of scope.Counters old counter) (F ++ (D ++ (E ++ rest))) (omega arith)
       ∙ own-scope scope.Counters old new owners.counters counter at (D ++ (E ++ rest)) l
-      ∙ other-change (125 + counter) at level_code width.Eight (level_value old) (level_value new) v (E ++ rest) (λ (e : 123 ≡ 125 + counter). omega arith)
+      ∙ other-change (125 + counter) at level_signal width.Eight (level_value old) (level_value new) v (E ++ rest) (λ (e : 123 ≡ 125 + counter). omega arith)
       ∙ other-change (125 + counter) at masked_code width.One (masked_value old) (masked_value new) v rest (λ (e : 124 ≡ 125 + counter). omega arith)
 
   -- the counters' lines, for a signal of the kernel
@@ -182,16 +182,16 @@ module _ (owners : Owners) (few : owners.tasks ≤ 30) (at : ℕ) (old new : Opt
   behind-counters code v more above below =
       behind-scopes code v (F ++ more) above ∙ other-scope code at scope.Counters old new owners.counters v more (λ t b (e : 125 + t ≡ code). omega arith)
 
-  of-level : value_behind level_code at (level_value old) (changes owners old new ++ rest) ≡ value_behind level_code at (level_value new) rest
+  of-level : value_behind level_signal at (level_value old) (changes owners old new ++ rest) ≡ value_behind level_signal at (level_value new) rest
   of-level =
-      ap (value_behind level_code at (level_value old)) (parts A B C F D E rest) ∙ behind-counters level_code (level_value old) (D ++ (E ++ rest)) (omega arith) (omega arith)
-      ∙ own-change level_code at width.Eight (level_value old) (level_value new) (E ++ rest)
-      ∙ other-change level_code at masked_code width.One (masked_value old) (masked_value new) (level_value new) rest (λ (e : 124 ≡ 123). omega arith)
+      ap (value_behind level_signal at (level_value old)) (parts A B C F D E rest) ∙ behind-counters level_signal (level_value old) (D ++ (E ++ rest)) (omega arith) (omega arith)
+      ∙ own-change level_signal at width.Eight (level_value old) (level_value new) (E ++ rest)
+      ∙ other-change level_signal at masked_code width.One (masked_value old) (masked_value new) (level_value new) rest (λ (e : 124 ≡ 123). omega arith)
 
   of-masked : value_behind masked_code at (masked_value old) (changes owners old new ++ rest) ≡ value_behind masked_code at (masked_value new) rest
   of-masked =
       ap (value_behind masked_code at (masked_value old)) (parts A B C F D E rest) ∙ behind-counters masked_code (masked_value old) (D ++ (E ++ rest)) (omega arith) (omega arith)
-      ∙ other-change masked_code at level_code width.Eight (level_value old) (level_value new) (masked_value old) (E ++ rest) (λ (e : 123 ≡ 124). omega arith)
+      ∙ other-change masked_code at level_signal width.Eight (level_value old) (level_value new) (masked_value old) (E ++ rest) (λ (e : 123 ≡ 124). omega arith)
       ∙ own-change masked_code at width.One (masked_value old) (masked_value new) rest
 
 scope-followed : (owners : Owners) → owners.tasks ≤ 30 → (s : Scope) (place : ℕ) → place < signal_count owners s
@@ -260,6 +260,6 @@ signal-reads owners code val follow xs k below =
 pub reads-back : (owners : Owners) (samples : List Sample) (k : ℕ) → owners.tasks ≤ 30 → owners.counters ≤ 2 → k < length samples → ReadsBack owners samples k
 reads-back owners samples k few counters below = record {
   of_scope = λ s place l. signal-reads owners (first_code s + place) (λ sample. value_of s sample place) (scope-followed owners few s place l) samples k below;
-  of_level = signal-reads owners level_code level_value (record { follows = λ at old new rest. of-level owners few at old new rest; unknown = refl }) samples k below;
+  of_level = signal-reads owners level_signal level_value (record { follows = λ at old new rest. of-level owners few at old new rest; unknown = refl }) samples k below;
   of_masked = signal-reads owners masked_code masked_value (record { follows = λ at old new rest. of-masked owners few at old new rest; unknown = refl }) samples k below;
 }

@@ -1,5 +1,5 @@
 -- The waves of a run, sample after sample.
-use Rattle.std.proofs.Common.{◌≡◌, ◌+◌, ◌<◌, ◌∙◌, ℕ, suc, List, [], ◌∷◌, ◌++◌, Option, Some, None, length, refl, sym, ap, subst, arith, append_assoc, append-nil}
+use Rattle.std.proofs.Common.{◌≡◌, ◌+◌, ◌∙◌, ℕ, suc, List, [], ◌∷◌, ◌++◌, Option, Some, None, length, refl, sym, ap, subst, arith, append_assoc, append-nil}
 use Rattle.std.specs.Prelude.{false}
 use Rattle.std.proofs.lemmas.List.{length-append}
 use Rattle.sloth_base.specs.declared.event.Arrival.{Arrival}
@@ -15,10 +15,10 @@ use Rattle.run_samples.specs.declared.sampling.Sampler.{Sampler}
 use Rattle.run_samples.specs.Samples.{AreSamples, IsSample, IsSampling, sampled_image, sampled_arrivals, sampled_count}
 use Rattle.run_samples.proofs.OneSample.{samples-more}
 use Rattle.wave_text.specs.declared.dump.Dump.{Dump}
-use Rattle.wave_text.specs.Changes.{Entry, changes, entries, entries_from, with_moment}
+use Rattle.wave_text.specs.Changes.{Entry, changes, entries_from, with_moment}
 use Rattle.wave_text.specs.Header.{header}
 use Rattle.wave_text.specs.Text.{entry_line, entry_lines}
-use Rattle.wave_text.specs.Waves.{AreWavesOf, waves_text}
+use Rattle.wave_text.specs.Waves.{AreWavesOf}
 use Rattle.wave_text.proofs.Dumping.{lines-append}
 
 -- the last of samples behind another, if there is one

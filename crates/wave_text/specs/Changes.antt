@@ -6,7 +6,7 @@ use Rattle.wave_text.specs.declared.signals.Scope.{Scope}
 use Rattle.wave_text.specs.declared.signals.Scope.TheVariants as scope
 use Rattle.wave_text.specs.declared.signals.Width.{Width}
 use Rattle.wave_text.specs.declared.signals.Width.TheVariants as width
-use Rattle.wave_text.specs.Signals.{first_code, level_code, masked_code, width_of, value_of, level_value, masked_value}
+use Rattle.wave_text.specs.Signals.{first_code, level_signal, masked_code, width_of, value_of, level_value, masked_value}
 
 -- what a dump says: it is this moment from here on, or a signal has this value from here on
 pub data Entry : Type 0 where
@@ -21,30 +21,30 @@ same_value (Some m) None = false
 same_value (Some m) (Some n) = m == n
 
 -- the entry of a signal, where it changes
-abbrev pub changed : (code : ℕ) → Width → (old new : Option ℕ) → List Entry
-changed code width old new = if same_value old new then [] else Entry.change code width new ∷ []
+abbrev pub change_entries : (code : ℕ) → Width → (old new : Option ℕ) → List Entry
+change_entries code width old new = if same_value old new then [] else Entry.change code width new ∷ []
 
 -- those of a scope, for its first signals, so many of them
 unfoldable pub scope_changes : Scope → (old new : Option Sample) → ℕ → List Entry
 scope_changes s old new zero = []
 scope_changes s old new (suc task) =
-    scope_changes s old new task ++ changed (first_code s + task) (width_of s) (value_of s old task) (value_of s new task)
+    scope_changes s old new task ++ change_entries (first_code s + task) (width_of s) (value_of s old task) (value_of s new task)
 
 -- those of all signals, from one sample to the next
 abbrev pub changes : Owners → (old new : Option Sample) → List Entry
 changes owners old new =
     scope_changes scope.State old new owners.tasks ++ scope_changes scope.Runs old new owners.tasks
     ++ scope_changes scope.Pending old new owners.tasks ++ scope_changes scope.Counters old new owners.counters
-    ++ changed level_code width.Eight (level_value old) (level_value new) ++ changed masked_code width.One (masked_value old) (masked_value new)
+    ++ change_entries level_signal width.Eight (level_value old) (level_value new) ++ change_entries masked_code width.One (masked_value old) (masked_value new)
 
 -- the entry of a moment, unless it stands already
-abbrev pub due : (count : ℕ) (stands : Bool) → List Entry
-due count stands = cond stands [] (Entry.moment count ∷ [])
+abbrev pub moment_entries : (count : ℕ) (stands : Bool) → List Entry
+moment_entries count stands = cond stands [] (Entry.moment count ∷ [])
 
 -- entries behind that of their moment; where there is none, the moment has no entry
 abbrev pub with_moment : (count : ℕ) (stands : Bool) → List Entry → List Entry
 with_moment count stands [] = []
-with_moment count stands (e ∷ entries) = due count stands ++ e ∷ entries
+with_moment count stands (e ∷ entries) = moment_entries count stands ++ e ∷ entries
 
 -- the moment's entry stands behind these
 abbrev pub stands_behind : Bool → List Entry → Bool

@@ -4,7 +4,7 @@ use Rattle.sloth_base.specs.declared.lines.Owners.{Owners}
 use Rattle.run_samples.specs.declared.sampling.Sample.{Sample}
 use Rattle.wave_text.specs.declared.signals.Scope.{Scope}
 use Rattle.wave_text.specs.Changes.{Entry, entries}
-use Rattle.wave_text.specs.Signals.{first_code, level_code, masked_code, signal_count, value_of, level_value, masked_value}
+use Rattle.wave_text.specs.Signals.{first_code, level_signal, masked_code, signal_count, value_of, level_value, masked_value}
 
 -- the value of a signal at a moment, where this is its value in front of these entries: that of its last change up to the first later moment
 abbrev pub value_behind : (code at : ℕ) → Option ℕ → List Entry → Option ℕ
@@ -20,5 +20,5 @@ value_at code at entries = value_behind code at None entries
 pub record ReadsBack (owners : Owners) (samples : List Sample) (k : ℕ) : Type 0 where
   pub of_scope : (s : Scope) (place : ℕ) → place < signal_count owners s
       → value_at (first_code s + place) k (entries owners samples) ≡ value_of s (slice_get samples k) place
-  pub of_level : value_at level_code k (entries owners samples) ≡ level_value (slice_get samples k)
+  pub of_level : value_at level_signal k (entries owners samples) ≡ level_value (slice_get samples k)
   pub of_masked : value_at masked_code k (entries owners samples) ≡ masked_value (slice_get samples k)

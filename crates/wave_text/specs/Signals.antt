@@ -19,8 +19,8 @@ first_code scope.Pending = 93
 first_code scope.Counters = 125
 
 -- the code of the signal `level`
-abbrev pub level_code : ℕ
-level_code = 123
+abbrev pub level_signal : ℕ
+level_signal = 123
 
 -- the code of the signal `masked`
 abbrev pub masked_code : ℕ
@@ -63,14 +63,14 @@ abbrev pub seen_state : Option Seen → ℕ → Option ℕ
 seen_state seen task = option_map (λ (s : Seen). state_number (get_or s.tasks task mode.Suspended)) seen
 
 -- whether a task is the running one, where the tasks were seen
-abbrev pub seen_running : Option Seen → ℕ → Option ℕ
-seen_running seen task = option_map (λ (s : Seen). bit (s.running == task + 1)) seen
+abbrev pub running_value : Option Seen → ℕ → Option ℕ
+running_value seen task = option_map (λ (s : Seen). bit (s.running == task + 1)) seen
 
 -- The value of a signal in a sample: the number of a task's state, whether it is the running task, whether its line or that of a counter is
 -- pending. The first two are unknown where no count has found interrupts open.
 abbrev pub value_in : Scope → Sample → ℕ → Option ℕ
 value_in scope.State sample task = seen_state sample.seen task
-value_in scope.Runs sample task = seen_running sample.seen task
+value_in scope.Runs sample task = running_value sample.seen task
 value_in scope.Pending sample task = Some (bit (get_or sample.interrupts.pending task false))
 value_in scope.Counters sample counter = Some (bit (get_or sample.interrupts.counters_pending counter false))
 

@@ -1,6 +1,6 @@
 //! The changes of signals, written as they come.
-ghost use Rattle.std.specs.Prelude.{◌≡◌, ◌<◌, ◌≤◌, ◌+◌, ◌++◌, ◌∷◌, [], true, false, Some, None, OnOk, length};
-ghost use Rattle.wave_text.specs.Changes.{Entry, same_value, changed, changes, scope_changes, due, with_moment};
+ghost use Rattle.std.specs.Prelude.{◌≡◌, ◌≤◌, ◌++◌, true, false, Some, None, OnOk};
+ghost use Rattle.wave_text.specs.Changes.{Entry, same_value, change_entries, changes, scope_changes, moment_entries, with_moment};
 ghost use Rattle.wave_text.specs.Text.{digit, entry_line, entry_lines};
 ghost use Rattle.wave_text.specs.Signals.{most_signals};
 ghost use Rattle.wave_text.specs.Waves.{Gets};
@@ -124,7 +124,7 @@ impl Dump {
 
     // Appends it unless it stands.
     fn stand(&mut self) -> Result<(), NoMemory>
-        ensures text { OnOk result (self.new.text.items ≡ self.old.text.items ++ entry_lines (due self.old.count self.old.stamped)) }
+        ensures text { OnOk result (self.new.text.items ≡ self.old.text.items ++ entry_lines (moment_entries self.old.count self.old.stamped)) }
         ensures count { OnOk result (self.new.count ≡ self.old.count) }
         ensures stamped { OnOk result (self.new.stamped ≡ true) }
     {
@@ -142,7 +142,7 @@ impl Dump {
         before: Option<u8>,
         after: Option<u8>,
     ) -> Result<(), NoMemory>
-        ensures { OnOk result (Gets self.old self.new (changed code width before after)) }
+        ensures { OnOk result (Gets self.old self.new (change_entries code width before after)) }
     {
         if same_value(before, after) {
             return Ok(());

@@ -1,5 +1,5 @@
 //! The declarations of signals.
-ghost use Rattle.std.specs.Prelude.{◌≡◌, ◌<◌, ◌≤◌, ◌+◌, ◌++◌, IfOk, OnOk, All, length};
+ghost use Rattle.std.specs.Prelude.{◌≡◌, ◌≤◌, ◌++◌, IfOk, OnOk, All, length};
 ghost use Rattle.sloth_base.specs.ImageRange.{InFormat, IsName};
 ghost use Rattle.wave_text.specs.Header.{scope_name, width_digit, variable_line, variable_lines, scope_line, scope_text, header};
 

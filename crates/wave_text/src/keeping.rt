@@ -1,7 +1,7 @@
 //! Whether signals keep their values: told by one look at the parts of two samples, since most counts change nothing.
 ghost use Rattle.std.specs.Prelude.{ℕ, ◌≡◌, ◌<◌, ◌≤◌, IsTrue, false, get_or};
 ghost use Rattle.osek_scheduler.specs.declared.state.TaskState.TheVariants as mode;
-ghost use Rattle.wave_text.specs.Signals.{KeepValues, most_signals, state_number, seen_state, seen_running, value_in};
+ghost use Rattle.wave_text.specs.Signals.{KeepValues, most_signals, state_number, seen_state, running_value, value_in};
 
 use crate::signals::{Scope, state_number};
 use osek_scheduler::state::TaskState;
@@ -64,7 +64,7 @@ fn keeps_states(tasks: usize, before: &Option<Seen>, after: &Option<Seen>) -> bo
 
 // Whether the tasks were seen before and the same one is seen to run.
 fn keeps_running(before: &Option<Seen>, after: &Option<Seen>) -> bool
-    ensures { IsTrue result → (t : ℕ) → seen_running before.now t ≡ seen_running after.now t }
+    ensures { IsTrue result → (t : ℕ) → running_value before.now t ≡ running_value after.now t }
 {
     match before {
         Some(before) => match after {

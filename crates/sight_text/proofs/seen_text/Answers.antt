@@ -1,4 +1,4 @@
-use Rattle.std.proofs.Common.{◌≡◌, ◌∙◌, ◌++◌, List, ap, sym, append_assoc, append-nil}
+use Rattle.std.proofs.Common.{◌∙◌, ◌++◌, ap, sym, append_assoc, append-nil}
 use Rattle.sight_text.specs.SightText.{count_line, task_line, task_lines}
 use Rattle.sight_text.proofs.Tasks.{no-lines, one-line-more}
 use Rattle.sight_text.proofs.seen_text.Goals as goal

@@ -9,5 +9,5 @@ pub copied-requires : goal.copied-requires
 copied-requires c = record {
   in_range = c.requires.in_range;
   no_cycle = no_cycle c.args.app.now c.args.ranks.now c.requires.belong;
-  no_fault = subst (λ (o : Option Refusal). Finds (RuleFault c.args.config.now c.args.app.now) o) c.in-Ok-None.field-0-is c.in-Ok-None.ensures;
+  no_fault = subst (λ (o : Option Refusal). Finds (RuleFault c.args.config.now c.args.app.now) o) c.in-None.is c.in_ok-refusal.ensures;
 }

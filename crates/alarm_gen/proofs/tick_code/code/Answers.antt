@@ -1,6 +1,6 @@
 use Rattle.std.proofs.Common.{◌≡◌, List, ◌++◌, sym, ◌∙◌, subst, append_assoc}
 use Rattle.rv32_instr.specs.declared.InstrKind.{InstrKind}
-use Rattle.alarm_gen.specs.Pieces.{counting_code, clearing_code, looks_code, basing_code, alarms_code, returning_code, tick_code}
+use Rattle.alarm_gen.specs.Pieces.{counting_code, look_clearing_code, looks_code, basing_code, alarms_code, returning_code, tick_code}
 use Rattle.alarm_gen.specs.Tick.{Ticks}
 use Rattle.alarm_gen.proofs.Ticking.{ticks}
 use Rattle.alarm_gen.proofs.tick_code.code.Goals.{In_ok-finish}
@@ -14,7 +14,7 @@ made : (c : In_ok-finish) → c.finish.new.code.items ≡ tick_code c.args.count
 made c =
     let alarms = c.args.alarms.now in
     rw (c.in_ok-finish.ensures, c.in_ok-run_all.ensures, c.in_ok-base.ensures, c.in_ok-look_at_all.ensures, c.in_ok-clear.ensures, c.in_ok-count.ensures.added, c.new-code.ensures.items)
-    (six (counting_code c.args.counter c.args.max) clearing_code (looks_code alarms) basing_code (alarms_code alarms) returning_code)
+    (six (counting_code c.args.counter c.args.max) look_clearing_code (looks_code alarms) basing_code (alarms_code alarms) returning_code)
 
 pub returns-clause-is : goal.returns-clause-is
 returns-clause-is c = made (goal.at.returns-clause-is c).In_ok-finish

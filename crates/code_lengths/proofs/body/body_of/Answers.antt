@@ -1,14 +1,14 @@
 use Rattle.std.proofs.Common.{◌≡◌, ◌<◌, ap, ◌∙◌, subst, arith, Some, ⊎_elim}
 use Rattle.std.proofs.lemmas.Bool.{cases_eq}
 use Rattle.sloth_base.specs.declared.app.Func.{Func}
-use Rattle.code_lengths.specs.Bodies.{IsBody}
+use Rattle.code_lengths.specs.Bodies.{IsBodyPlace}
 use Rattle.code_lengths.proofs.body.body_of.Goals as goal
 
 pub loop-i-preserved : goal.loop-i-preserved
 loop-i-preserved c = λ k below is.
     ⊎_elim
     (λ e.
-    let here = subst (IsBody c.args.funcs.now c.args.task) e is in
+    let here = subst (IsBodyPlace c.args.funcs.now c.args.task) e is in
     let owned : c.index-funcs-i.result.task ≡ Some c.args.task = ap (λ (f : Func). f.task) c.index-funcs-i.is ∙ here.1 c.index-funcs-i.result in
     let yes = c.if-belongs_to.ensures.1 owned in
     grind (arith, yes))

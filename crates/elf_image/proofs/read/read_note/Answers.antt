@@ -1,4 +1,4 @@
-use Rattle.std.proofs.Common.{◌≡◌, ◌∙◌, ◌+◌, ◌-◌, ℕ, sym, ap, arith, length, take, drop}
+use Rattle.std.proofs.Common.{◌≡◌, ◌∙◌, ◌+◌, ◌-◌, sym, ap, arith, length, take, drop}
 use Rattle.std.proofs.lemmas.Bool.{true≢false}
 use Rattle.elf_image.specs.ElfText.{note_bytes, padding}
 use Rattle.elf_image.proofs.Notes.{description-is, length-note, size-is}

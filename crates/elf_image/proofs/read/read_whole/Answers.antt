@@ -1,4 +1,4 @@
-use Rattle.std.proofs.Common.{◌≡◌, ◌∙◌, ◌+◌, ℕ, List, ap, subst, take, drop, length}
+use Rattle.std.proofs.Common.{◌≡◌, ◌∙◌, ◌+◌, ap, subst, take, drop, length}
 use Rattle.std.proofs.lemmas.Result.{err_from_is_err_and, IfErr-weaker}
 use Rattle.elf_image.specs.Reading.{AreRead, ContentsFail, DescriptionFails, IsDescription, IsNote}
 use Rattle.elf_image.proofs.Steps.{both-ok, contents-fail, description-fails, elf-read}

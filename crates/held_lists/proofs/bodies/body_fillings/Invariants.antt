@@ -1,10 +1,10 @@
 use Rattle.std.proofs.Common.{◌≡◌, ℕ, ◌<◌, length, get_or}
-use Rattle.sloth_base.specs.Named.{missing}
+use Rattle.sloth_base.specs.Named.{no_function}
 use Rattle.held_lists.specs.BodyFilling.{IsBodyFilling}
 use Rattle.held_lists.proofs.bodies.body_fillings.Given as goal
 
 abbrev pub invariant-loop-func : goal.invariant-loop-func
 invariant-loop-func l = record {
   count : length l.made.items ≡ l.func-index;
-  each : (b : ℕ) → b < l.func-index → IsBodyFilling (get_or l.funcs b missing) (get_or l.made.items b missing);
+  each : (b : ℕ) → b < l.func-index → IsBodyFilling (get_or l.funcs b no_function) (get_or l.made.items b no_function);
 }

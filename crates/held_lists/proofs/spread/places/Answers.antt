@@ -1,6 +1,6 @@
 use Rattle.std.proofs.Common.{◌≡◌, [], length, drop, arith, sym, subst, ap, ◌∙◌}
 use Rattle.std.proofs.lemmas.List.{take_at}
-use Rattle.held_lists.specs.Spread.{Lists, Placed, Spreading}
+use Rattle.held_lists.specs.Spread.{Lists, Placed, AreSpreading}
 use Rattle.held_lists.proofs.Spreading.{spread_begun}
 use Rattle.held_lists.proofs.spread.places.Goals as goal
 
@@ -13,6 +13,6 @@ spread-requires-clause-spreading c =
     let two = ap (λ (xs : Lists). length xs) c.deref_mut.ensures.value in
     let three = c.in_ok-lists.lists.ok.0 in
     let whole : c.deref_mut-2.result.now ≡ new = c.deref_mut-2.ensures.value ∙ take_at new (drop (length new) old) c.in_ok-lists.lists.len (omega (arith, one, two, three)) in
-    subst (λ (ls : Lists). Spreading c.args.func.now ls c.visit.new.pending.items) (sym whole)
+    subst (λ (ls : Lists). AreSpreading c.args.func.now ls c.visit.new.pending.items) (sym whole)
     (spread_begun c.args.func.now old new c.new-pending.result.items c.visit.new.pending.items (c.in_ok-lists.ensures.count ∙ ap (λ xs. length xs) c.items.ensures)
     c.requires.some c.in_ok-lists.ensures.clear c.new-pending.ensures.items at)

@@ -1,6 +1,6 @@
 use Rattle.std.proofs.Common.{ℕ, List, map, ap, sym, subst, inl, ◌∙◌}
 use Rattle.std.specs.List.{join_with_byte}
-use Rattle.text_pieces.specs.Names.{now}
+use Rattle.text_pieces.specs.Names.{referent}
 use Rattle.asm_lines.specs.Lines.{lines, without_returns}
 use Rattle.asm_lines.specs.SourceLines.{source_line}
 use Rattle.sloth_source.specs.SourceText.{HasApp, SourceText}
@@ -16,14 +16,14 @@ pub filled_parts-requires : goal.filled_parts-requires
 unfolding lines
 filled_parts-requires c =
     c.items.ensures ∙ c.in_ok-lines.ensures
-    ∙ ap (λ ps. map source_line (without_returns ps)) (sym c.in_ok-parts.ensures ∙ sym (ap (λ xs. map now xs) c.as_slice-2.ensures.value))
+    ∙ ap (λ ps. map source_line (without_returns ps)) (sym c.in_ok-parts.ensures ∙ sym (ap (λ xs. map referent xs) c.as_slice-2.ensures.value))
 
 pub returns-clause-text : goal.returns-clause-text
 unfolding filled_text
 returns-clause-text c =
     c.in_ok-out.ensures
-    ∙ ap (λ hs. join_with_byte 10 (filled_parts c.args.config.now hs (map now c.as_slice-2.result.now))) (ap (λ xs. map now xs) c.as_slice.ensures.value ∙ c.in_ok-lists.ensures)
-    ∙ ap (λ ps. join_with_byte 10 (filled_parts c.args.config.now (all_holds c.args.app.now) ps)) (ap (λ xs. map now xs) c.as_slice-2.ensures.value ∙ c.in_ok-parts.ensures)
+    ∙ ap (λ hs. join_with_byte 10 (filled_parts c.args.config.now hs (map referent c.as_slice-2.result.now))) (ap (λ xs. map referent xs) c.as_slice.ensures.value ∙ c.in_ok-lists.ensures)
+    ∙ ap (λ ps. join_with_byte 10 (filled_parts c.args.config.now (all_holds c.args.app.now) ps)) (ap (λ xs. map referent xs) c.as_slice-2.ensures.value ∙ c.in_ok-parts.ensures)
 
 pub returns-clause-says : goal.returns-clause-says
 returns-clause-says c =

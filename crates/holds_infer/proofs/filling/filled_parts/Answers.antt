@@ -3,7 +3,7 @@ use Rattle.std.proofs.lemmas.List.{length-map, get_or-map}
 use Rattle.std.specs.Prelude.{◌==◌}
 use Rattle.std.specs.Borrow.{Bor}
 use Rattle.std.specs.List.{join_with_byte}
-use Rattle.text_pieces.specs.Names.{now}
+use Rattle.text_pieces.specs.Names.{referent}
 use Rattle.asm_lines.specs.declared.source_line.SourceLine.{SourceLine}
 use Rattle.asm_lines.specs.Lines.{line_of}
 use Rattle.asm_lines.specs.SourceLines.{source_line}
@@ -15,8 +15,8 @@ use Rattle.holds_infer.proofs.filling.filled_parts.Goals as goal
 pub bounds-lines-n : goal.bounds-lines-n
 bounds-lines-n c =
     let e = ap (λ (ls : List SourceLine). length ls) c.requires in
-    let n = count_lines (map now c.args.parts.now) in
-    let m = length-map c.args.parts.now now in
+    let n = count_lines (map referent c.args.parts.now) in
+    let m = length-map c.args.parts.now referent in
     let l = c.loop-n-test.true in
     omega (arith, e, n, m, l)
 
@@ -24,18 +24,18 @@ pub loop-n-preserved : goal.loop-n-preserved
 loop-n-preserved c =
     let config = c.args.config.now in
     let parts = c.args.parts.now in
-    let hs = map now c.args.lists.now in
-    let ps = map now parts in
+    let hs = map referent c.args.lists.now in
+    let ps = map referent parts in
     let n = c.loop-n.n in
     let k = c.loop-n.number in
     let line = c.index-lines-n.result in
     let last : Bool = n + 1 == length parts in
     let d : Bor (List ℕ) = record { ref_ptr = (0, 0); now = [] } in
     let p = (get_or parts n d).now in
-    let count = length-map parts now in
+    let count = length-map parts referent in
     let test = c.loop-n-test.true in
     let inside : n < length ps = omega (arith, count, test) in
-    let part : p ≡ get_or ps n [] = sym (get_or-map now parts n d [] test) in
+    let part : p ≡ get_or ps n [] = sym (get_or-map referent parts n d [] test) in
     let is_last : last ≡ (length (drop (n + 1) ps) == 0) = ap (λ (m : ℕ). n + 1 == m) (sym count) ∙ last_at ps n inside in
     let number = c.labels_behind-number.ensures in
     let whole = join_with_byte 10 (filled_parts config hs ps) in

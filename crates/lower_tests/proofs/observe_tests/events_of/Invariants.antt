@@ -1,6 +1,6 @@
 use Rattle.std.proofs.Common.{◌≡◌, []}
-use Rattle.observe.specs.Progress.{expected_of, remaining}
+use Rattle.observe.specs.Progress.{expected_count, remaining}
 use Rattle.lower_tests.proofs.observe_tests.events_of.Given as goal
 
 abbrev pub invariant-loop-count : goal.invariant-loop-count
-invariant-loop-count l = record { expected : expected_of l.observer ≡ l.count; drained : remaining l.observer ≡ [] }
+invariant-loop-count l = record { expected : expected_count l.observer ≡ l.count; drained : remaining l.observer ≡ [] }

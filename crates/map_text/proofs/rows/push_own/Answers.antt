@@ -1,6 +1,6 @@
 use Rattle.std.proofs.Common.{rules, ◌≡◌, ◌∙◌, ◌++◌, ◌∷◌, [], List, get_or, sym, ap}
 use Rattle.std.proofs.lemmas.List.{get_or_default}
-use Rattle.sloth_base.specs.Named.{undeclared}
+use Rattle.sloth_base.specs.Named.{undeclared_task}
 use Rattle.sloth_base.specs.declared.config.TaskDecl.{TaskDecl}
 use Rattle.mem_map.specs.Stacks.{is_extended}
 use Rattle.mem_map.specs.Zones.{stack_of}
@@ -20,7 +20,7 @@ loop-task-preserved c =
     let t = c.loop-task.task in
     let old = c.args.rows.now.items in
     let is : (get_or tasks t c.index-tasks-task.result).extended ≡ is_extended config.tasks t =
-    ap (λ (d : TaskDecl). d.extended) (get_or_default tasks t c.index-tasks-task.result undeclared c.loop-task-test.true)
+    ap (λ (d : TaskDecl). d.extended) (get_or_default tasks t c.index-tasks-task.result undeclared_task c.loop-task-test.true)
     ∙ ap (λ (l : List TaskDecl). is_extended l t) c.items-tasks.ensures
     in
     elim c.if-tasks-task.branch [

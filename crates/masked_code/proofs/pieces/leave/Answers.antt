@@ -1,7 +1,7 @@
 use Rattle.std.proofs.Common.{◌≡◌, List, [], ◌∷◌, ◌++◌, ap, ◌∙◌, append_assoc}
 use Rattle.rv32_instr.specs.declared.InstrKind.{InstrKind}
 use Rattle.rv32_instr.specs.declared.InstrKind.TheVariants.{Mret}
-use Rattle.masked_code.specs.Kernel.{asks_idle, takes_up}
+use Rattle.masked_code.specs.Kernel.{idle_loop_test, taking_up_code}
 use Rattle.masked_code.specs.Pieces.{restoring_code}
 use Rattle.masked_code.proofs.pieces.leave.Goals as goal
 
@@ -11,7 +11,7 @@ four all old first second third last e =
 
 pub returns : goal.returns
 returns c =
-    four c.emit.new.code.items c.args.code.now.items takes_up asks_idle (restoring_code 27 5 1) (Mret ∷ [])
+    four c.emit.new.code.items c.args.code.now.items taking_up_code idle_loop_test (restoring_code 27 5 1) (Mret ∷ [])
     (c.in_ok-emit.ensures ∙ ap (λ kind. c.restore.new.code.items ++ kind ∷ []) c.mret.ensures
     ∙ ap (λ (x : List InstrKind). x ++ Mret ∷ []) (c.in_ok-restore.ensures
-    ∙ ap (λ (x : List InstrKind). x ++ restoring_code 27 5 1) (c.in_ok-ask_idle.ensures ∙ ap (λ (x : List InstrKind). x ++ asks_idle) c.in_ok-take_up.ensures)))
+    ∙ ap (λ (x : List InstrKind). x ++ restoring_code 27 5 1) (c.in_ok-ask_idle.ensures ∙ ap (λ (x : List InstrKind). x ++ idle_loop_test) c.in_ok-take_up.ensures)))

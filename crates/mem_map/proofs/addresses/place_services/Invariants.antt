@@ -1,11 +1,11 @@
 use Rattle.std.proofs.Common.{◌≡◌, ◌++◌, drop, take, length}
 use Rattle.std.specs.Prelude.{map}
 use Rattle.sloth_base.specs.Blocks.{block_count}
-use Rattle.mem_map.specs.Plan.{code_bytes}
+use Rattle.mem_map.specs.Plan.{code_byte_count}
 use Rattle.mem_map.specs.Run.{starts, end_of}
 use Rattle.mem_map.proofs.addresses.place_services.Given as goal
 
 abbrev pub invariant-loop-number : goal.invariant-loop-number
 invariant-loop-number l =
-    (take l.number l.starts ++ starts l.end (map code_bytes (drop l.number l.sizes)) ≡ starts l.from (map code_bytes l.sizes))
-    × (end_of l.end (map code_bytes (drop l.number l.sizes)) ≡ end_of l.from (map code_bytes l.sizes)) × (length l.starts ≡ block_count)
+    (take l.number l.starts ++ starts l.end (map code_byte_count (drop l.number l.sizes)) ≡ starts l.from (map code_byte_count l.sizes))
+    × (end_of l.end (map code_byte_count (drop l.number l.sizes)) ≡ end_of l.from (map code_byte_count l.sizes)) × (length l.starts ≡ block_count)

@@ -7,7 +7,7 @@ use Rattle.mem_map.specs.Plan.{symbol_bytes}
 use Rattle.mem_map.proofs.Planned.{AreEnds, few_starts, few_ticks, starts_small, ticks_small, sizes_small, code_short, ticks_above, services_above, items_above, counts_few, symbols_few, symbols_short, ends_are}
 use Rattle.mem_map.proofs.Mapped.{addressed, zoned}
 use Rattle.mem_map.specs.Run.{room_for, run}
-use Rattle.mem_map.specs.Zones.{nowhere}
+use Rattle.mem_map.specs.Zones.{no_extent}
 use Rattle.mem_map.specs.Stacks.{first_own}
 use Rattle.mem_map.proofs.StackNumbers.{few_stacks}
 use Rattle.mem_map.proofs.StackParts.{ArePlaced, part, shared_some, fit, placed}
@@ -166,4 +166,4 @@ returns-clause-stacks c =
     placed _ _ _ _ c.requires.needs _ c.in_ok-stack_lens.stack_lens.items c.in_ok-zones.zones.extents c.in_ok-zones.zones.stacks
     (are_placed (goal.at.returns-clause-stacks c).In_ok-zones)
     _ c.items.ensures _ c.in_ok-parts.ensures (ap (λ (l : List Extent). drop 3 l) c.in_ok-zones.ensures.extents)
-    (ap (λ (l : List Extent). slice_index_or l 2 nowhere) c.in_ok-zones.ensures.extents)
+    (ap (λ (l : List Extent). slice_index_or l 2 no_extent) c.in_ok-zones.ensures.extents)

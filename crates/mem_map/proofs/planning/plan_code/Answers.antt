@@ -3,24 +3,24 @@ use Rattle.std.specs.Prelude.{map}
 use Rattle.std.proofs.lemmas.List.{length-map}
 use Rattle.sloth_base.specs.Owners.{counter_line}
 use Rattle.mem_map.specs.Run.{starts, end_of}
-use Rattle.mem_map.specs.Plan.{code_bytes, prologues_at, ticks_at}
+use Rattle.mem_map.specs.Plan.{code_byte_count, prologues_at, ticks_at}
 use Rattle.mem_map.proofs.Starts.{length_starts}
 use Rattle.mem_map.proofs.planning.plan_code.Goals as goal
 
 -- pieces, as the calls told of them
-placed : (from : ℕ) (found made sizes wanted : List ℕ) → found ≡ made → made ≡ starts from (map code_bytes sizes) → sizes ≡ wanted
-    → found ≡ starts from (map code_bytes wanted)
-placed from found made sizes wanted e f g = e ∙ f ∙ ap (λ (l : List ℕ). starts from (map code_bytes l)) g
+placed : (from : ℕ) (found made sizes wanted : List ℕ) → found ≡ made → made ≡ starts from (map code_byte_count sizes) → sizes ≡ wanted
+    → found ≡ starts from (map code_byte_count wanted)
+placed from found made sizes wanted e f g = e ∙ f ∙ ap (λ (l : List ℕ). starts from (map code_byte_count l)) g
 
 -- the same behind other pieces
-behind : (from start : ℕ) (found made sizes wanted before told : List ℕ) → from ≡ end_of start (map code_bytes before) → before ≡ told → found ≡ made
-    → made ≡ starts from (map code_bytes sizes) → sizes ≡ wanted → found ≡ starts (end_of start (map code_bytes told)) (map code_bytes wanted)
+behind : (from start : ℕ) (found made sizes wanted before told : List ℕ) → from ≡ end_of start (map code_byte_count before) → before ≡ told → found ≡ made
+    → made ≡ starts from (map code_byte_count sizes) → sizes ≡ wanted → found ≡ starts (end_of start (map code_byte_count told)) (map code_byte_count wanted)
 behind from start found made sizes wanted before told at same e f g =
     placed from found made sizes wanted e f g
-    ∙ ap (λ (k : ℕ). starts k (map code_bytes wanted)) (at ∙ ap (λ (l : List ℕ). end_of start (map code_bytes l)) same)
+    ∙ ap (λ (k : ℕ). starts k (map code_byte_count wanted)) (at ∙ ap (λ (l : List ℕ). end_of start (map code_byte_count l)) same)
 
-long : (from : ℕ) (found wanted : List ℕ) → found ≡ starts from (map code_bytes wanted) → length found ≡ length wanted
-long from found wanted e = ap length e ∙ length_starts from (map code_bytes wanted) ∙ length-map wanted code_bytes
+long : (from : ℕ) (found wanted : List ℕ) → found ≡ starts from (map code_byte_count wanted) → length found ≡ length wanted
+long from found wanted e = ap length e ∙ length_starts from (map code_byte_count wanted) ∙ length-map wanted code_byte_count
 
 pub handlers-requires : goal.handlers-requires
 handlers-requires c =

@@ -10,7 +10,6 @@ use Rattle.oil_parse.specs.declared.tree.OilObject.{OilObject}
 use Rattle.oil_parse.specs.Words.{IsObjectOfWords}
 use Rattle.oil_parse.proofs.Words.{tree_words}
 use Rattle.oil_rules.specs.Objects.{names_of}
-use Rattle.oil_rules.specs.Events.{events_of}
 use Rattle.oil_model.specs.Configs.{resource_names, config_of}
 use Rattle.oil_alarms.specs.ModelFaults.{ModelFault}
 use Rattle.oil_model.proofs.NoFaults.{few_tasks, few_counters, few_names, number_of_names}

@@ -5,7 +5,7 @@ use Rattle.least_fault.specs.Search.{Finds}
 use Rattle.least_fault.proofs.Kept.{loop_more, loop_end}
 use Rattle.oil_parse.specs.declared.tree.OilAttr.{OilAttr}
 use Rattle.oil_rules.specs.Objects.{is_use, is_used}
-use Rattle.oil_rules.specs.References.{Referring}
+use Rattle.oil_rules.specs.References.{ReferenceContext}
 use Rattle.oil_rules.specs.TaskFaults.{TaskFault}
 use Rattle.oil_rules.proofs.task_faults.task_faults.Goals as goal
 
@@ -19,12 +19,12 @@ loop-number-preserved c =
     let k = c.loop-number.invariant in
     record {
       finds = loop_more (TaskFault events front) attrs i x c.loop-number.least c.task_fault.result c.merge-least.result c.loop-number-test.true c.index-attrs-number.is
-          (subst (λ (r : Referring). Finds (TaskFault r.events front r.attrs x) c.task_fault.result) k.behind c.task_fault.ensures)
+          (subst (λ (r : ReferenceContext). Finds (TaskFault r.events front r.attrs x) c.task_fault.result) k.behind c.task_fault.ensures)
           c.merge-least.ensures k.finds;
       is_given = c.is_given_with-given.ensures ∙ ap (λ b. b || is_use (codes "PRIORITY") x) k.is_given
           ∙ ap (λ (y : OilAttr). is_used (take i attrs) (codes "PRIORITY") || is_use (codes "PRIORITY") y) c.index-attrs-number.is
           ∙ sym (list_any_more (is_use (codes "PRIORITY")) attrs i x c.loop-number-test.true);
-      behind = c.in_ok-before.ensures ∙ ap (λ (r : Referring). let s : Referring = record { events = r.events; attrs = take (i + 1) attrs } in s) k.behind;
+      behind = c.in_ok-before.ensures ∙ ap (λ (r : ReferenceContext). let s : ReferenceContext = record { events = r.events; attrs = take (i + 1) attrs } in s) k.behind;
     }
 
 pub returns : goal.returns

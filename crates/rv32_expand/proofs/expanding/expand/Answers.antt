@@ -1,5 +1,5 @@
 use Rattle.std.proofs.Common.{◌∙◌, ap, sym, subst, arith}
-use Rattle.sloth_base.specs.Named.{missing}
+use Rattle.sloth_base.specs.Named.{no_function}
 use Rattle.sloth_base.specs.declared.app.Item.{Item}
 use Rattle.rv32_instr.specs.Range.{AreInRange}
 use Rattle.rv32_expand.proofs.Encodable.{are_in_range}
@@ -9,7 +9,7 @@ use Rattle.rv32_expand.proofs.expanding.expand.Goals as goal
 
 pub is_long-long-requires-clause-few : goal.is_long-long-requires-clause-few
 is_long-long-requires-clause-few c =
-    let few = small c.args.app.now (c.requires.verified.0, c.requires.verified.1.in_range) c.args.func missing c.requires.is_item.declared in
+    let few = small c.args.app.now (c.requires.verified.0, c.requires.verified.1.in_range) c.args.func no_function c.requires.is_item.declared in
     let inside = c.requires.is_item.inside in
     omega (arith, few.items, inside)
 

@@ -1,7 +1,7 @@
 use Rattle.std.proofs.Common.{◌≡◌, ℕ, ◌+◌, Bool, List, [], ◌∷◌, ◌++◌, length, subst, arith}
 use Rattle.std.specs.Prelude.{◌||◌}
 use Rattle.std.proofs.lemmas.Grind.{common_steps}
-use Rattle.rv32_expand.specs.Passes.{in_list, IsPassTo}
+use Rattle.rv32_expand.specs.Passes.{set_in_list, IsPassTo}
 use Rattle.rv32_expand.proofs.Passing.{goes_on, ends}
 use Rattle.rv32_expand.proofs.long_branches.pass.Goals as goal
 
@@ -12,7 +12,7 @@ loop-index-preserved c =
     let long = c.args.long.now in
     let i = c.loop-index.index in
     let far = c.is_far-far.result in
-    let e : c.loop-index.lengthened.items ++ (in_list long i || far) ∷ [] ≡ c.push.new.self.items = grind (arith, common_steps) in
+    let e : c.loop-index.lengthened.items ++ (set_in_list long i || far) ∷ [] ≡ c.push.new.self.items = grind (arith, common_steps) in
     subst (λ (xs : List Bool). IsPassTo app body long (i + 1) xs (c.loop-index.changed || far)) e
     (goes_on app body long i c.loop-index.lengthened.items c.loop-index.changed far (omega arith) c.requires.same c.loop-index.invariant c.is_far-far.ensures)
 

@@ -1,7 +1,7 @@
 use Rattle.std.proofs.Common.{Bool, List, subst, sym}
 use Rattle.std.proofs.lemmas.Result.{IfOk-weaker}
-use Rattle.rv32_expand.specs.Long.{IsWithin}
-use Rattle.rv32_expand.specs.Passes.{in_list}
+use Rattle.rv32_expand.specs.Long.{IsInSet}
+use Rattle.rv32_expand.specs.Passes.{set_in_list}
 use Rattle.rv32_expand.proofs.Passing.{shortest_of}
 use Rattle.rv32_expand.proofs.long_branches.shortest.Goals as goal
 
@@ -15,5 +15,5 @@ pub loop-long-preserved : goal.loop-long-preserved
 loop-long-preserved c = record {
   count = c.in_ok-next.ensures.count;
   least = λ other s. c.in_ok-next.ensures.forced other s
-      (subst (λ (x : List Bool). IsWithin c.args.body.now (in_list x) other) (sym c.deref.ensures.value) (c.loop-long.invariant.least other s));
+      (subst (λ (x : List Bool). IsInSet c.args.body.now (set_in_list x) other) (sym c.deref.ensures.value) (c.loop-long.invariant.least other s));
 }

@@ -1,12 +1,12 @@
 use Rattle.std.proofs.Common.{◌≡◌, length}
-use Rattle.rv32_expand.specs.Long.{Set, Suffices, IsWithin}
-use Rattle.rv32_expand.specs.Passes.{in_list, short_count}
+use Rattle.rv32_expand.specs.Long.{Set, Suffices, IsInSet}
+use Rattle.rv32_expand.specs.Passes.{set_in_list, short_count}
 use Rattle.rv32_expand.proofs.long_branches.shortest.Given as goal
 
 abbrev pub invariant-loop-long : goal.invariant-loop-long
 invariant-loop-long l = record {
   count : length l.long.items ≡ length l.body.items;
-  least : (other : Set) → Suffices l.app l.body other → IsWithin l.body (in_list l.long.items) other;
+  least : (other : Set) → Suffices l.app l.body other → IsInSet l.body (set_in_list l.long.items) other;
 }
 
 abbrev pub decreases-loop-long : goal.decreases-loop-long

@@ -1,5 +1,5 @@
 use Rattle.std.proofs.Common.{subst, sym}
-use Rattle.section_sizes.specs.Graph.{Has}
+use Rattle.section_sizes.specs.Graph.{HasMark}
 use Rattle.section_sizes.proofs.Diving.{known, pushed_as, pushed_known, finished_as, looped, known_done, keeps_more, fewer_as}
 use Rattle.section_sizes.proofs.graph.dive.Goals as goal
 
@@ -28,7 +28,7 @@ loop-from-preserved-in-Continue-branch-2 c = record {
       c.keep.new.marks c.push.new.list.items c.keep.new.list.items
       c.in_ok-keep-in-Some-unseen_of.ensures.marks c.in_ok-push-in-Some-unseen_of.ensures c.in_ok-keep-in-Some-unseen_of.ensures.list;
   keeps = λ i m.
-      subst (λ b. Has b i) (sym c.in_ok-keep-in-Some-unseen_of.ensures.marks)
+      subst (λ b. HasMark b i) (sym c.in_ok-keep-in-Some-unseen_of.ensures.marks)
       (keeps_more c.loop-from.seen c.in-Some-unseen_of.node i (c.loop-from.invariant.keeps i m));
 }
 

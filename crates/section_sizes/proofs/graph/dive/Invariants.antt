@@ -1,9 +1,9 @@
 use Rattle.std.proofs.Common.{◌+◌, ◌*◌, length}
-use Rattle.section_sizes.specs.Graph.{Searching, Keeps, unseen}
+use Rattle.section_sizes.specs.Graph.{IsSearching, KeepsSeen, unseen_count}
 use Rattle.section_sizes.proofs.graph.dive.Given as goal
 
 abbrev pub invariant-loop-from : goal.invariant-loop-from
-invariant-loop-from l = record { searching : Searching l.ways l.seen l.done l.stack.items l.order.items; keeps : Keeps l.fn.seen l.seen }
+invariant-loop-from l = record { searching : IsSearching l.ways l.seen l.done l.stack.items l.order.items; keeps : KeepsSeen l.fn.seen l.seen }
 
 abbrev pub decreases-loop-from : goal.decreases-loop-from
-decreases-loop-from l = 2 * unseen l.seen + length l.stack.items
+decreases-loop-from l = 2 * unseen_count l.seen + length l.stack.items

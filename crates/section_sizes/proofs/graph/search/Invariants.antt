@@ -1,10 +1,10 @@
 use Rattle.std.proofs.Common.{◌≡◌, ℕ, ◌<◌, []}
-use Rattle.section_sizes.specs.Graph.{Has, Searching}
+use Rattle.section_sizes.specs.Graph.{HasMark, IsSearching}
 use Rattle.section_sizes.proofs.graph.search.Given as goal
 
 abbrev pub invariant-loop-node : goal.invariant-loop-node
 invariant-loop-node l = record {
-  searching : Searching l.ways l.seen l.done l.stack.items l.order.items;
+  searching : IsSearching l.ways l.seen l.done l.stack.items l.order.items;
   none : l.stack.items ≡ [];
-  seen : (i : ℕ) → i < l.node → Has l.seen i;
+  seen : (i : ℕ) → i < l.node → HasMark l.seen i;
 }

@@ -1,7 +1,7 @@
 use Rattle.std.proofs.Common.{◌≡◌}
 use Rattle.stack_bounds.specs.Tables.{max_below}
-use Rattle.section_sizes.specs.Computed.{known, out_at}
+use Rattle.section_sizes.specs.Computed.{known_body_of, out_at}
 use Rattle.section_sizes.proofs.summary.out_of.Given as goal
 
 abbrev pub invariant-loop-number : goal.invariant-loop-number
-invariant-loop-number l = l.out ≡ max_below l.number (out_at (known l.func l.body l.level l.whole l.own) l.back)
+invariant-loop-number l = l.out ≡ max_below l.number (out_at (known_body_of l.func l.body l.level l.whole l.own) l.back)

@@ -1,7 +1,7 @@
 use Rattle.std.proofs.Common.{◌≤◌, ◌++◌, ap, length, ◌∙◌}
 use Rattle.std.specs.Prelude.{map}
 use Rattle.rv32_instr.specs.declared.block.Block.{Block}
-use Rattle.sloth_link.specs.Linked.{block_section, datum_section, linked}
+use Rattle.sloth_link.specs.Linked.{block_section, datum_section, linked_memory}
 use Rattle.sloth_link.proofs.Joined.{front, back, front_inside, back_inside, written_in_turn}
 use Rattle.sloth_link.proofs.Written.{length-linked}
 use Rattle.sloth_link.proofs.WrittenMemory.{symbols_inside}
@@ -30,6 +30,6 @@ write_data-requires-clause-inside c =
 pub returns : goal.returns
 returns c =
     c.write_data.ensures
-    ∙ ap (λ m. linked m (map datum_section c.args.symbols.now))
-    (c.write_blocks-2.ensures ∙ ap (λ m. linked m (map block_section c.args.items.now)) c.write_blocks.ensures)
+    ∙ ap (λ m. linked_memory m (map datum_section c.args.symbols.now))
+    (c.write_blocks-2.ensures ∙ ap (λ m. linked_memory m (map block_section c.args.items.now)) c.write_blocks.ensures)
     ∙ written_in_turn c.args.blocks.now c.args.items.now c.args.symbols.now _

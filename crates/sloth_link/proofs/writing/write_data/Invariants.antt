@@ -1,9 +1,9 @@
 use Rattle.std.proofs.Common.{◌≡◌, drop, length}
 use Rattle.std.specs.Prelude.{map}
-use Rattle.sloth_link.specs.Linked.{linked, datum_section}
+use Rattle.sloth_link.specs.Linked.{linked_memory, datum_section}
 use Rattle.sloth_link.proofs.writing.write_data.Given as goal
 
 abbrev pub invariant-loop-datum : goal.invariant-loop-datum
 invariant-loop-datum l =
-    (linked l.memory (map datum_section (drop l.datum-index l.symbols)) ≡ linked l.initial.memory (map datum_section l.symbols))
+    (linked_memory l.memory (map datum_section (drop l.datum-index l.symbols)) ≡ linked_memory l.initial.memory (map datum_section l.symbols))
     × (length l.memory ≡ length l.initial.memory)

@@ -6,7 +6,7 @@ use Rattle.sloth_base.specs.declared.app.Item.{Item}
 use Rattle.sloth_base.specs.declared.refusal.Code.TheVariants as code
 use Rattle.least_fault.specs.Search.{Finds}
 use Rattle.least_fault.proofs.Kept.{both_are, finds_same}
-use Rattle.sloth_base.specs.Named.{missing, nowhere}
+use Rattle.sloth_base.specs.Named.{no_function, no_label}
 use Rattle.code_rules.specs.WellFormed.{BodyFault}
 use Rattle.task_verify.proofs.Tested.{tested}
 use Rattle.task_verify.specs.Cases.{EmptyFault, LabelFaults, ItemFaults, PlacesFault}
@@ -29,5 +29,5 @@ returns c =
     c.merge-2.ensures)
     c.merge-3.ensures in
     finds_same (Parts config app b) (BodyFault config app b) found (from_parts config app b)
-    (to_parts config app b (λ k l. ((c.requires.in_range.bodies b missing c.requires.known).labels k nowhere l).place))
+    (to_parts config app b (λ k l. ((c.requires.in_range.bodies b no_function c.requires.known).labels k no_label l).place))
     (subst (λ (x : Func). Finds (λ r. EmptyFault x r ⊎ (LabelFaults x r ⊎ (ItemFaults config app b x r ⊎ PlacesFault app x r))) found) c.requires.is parts)

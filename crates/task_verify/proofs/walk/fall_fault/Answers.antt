@@ -1,7 +1,7 @@
 use Rattle.std.proofs.Common.{◌≡◌, ℕ, Some, length, subst, sym, ◌∙◌}
 use Rattle.least_fault.proofs.Kept.{finds_same}
 use Rattle.task_verify.specs.Cases.{FallsOther, FallFault}
-use Rattle.task_verify.specs.Labels.{first_below}
+use Rattle.task_verify.specs.Labels.{first_label_below}
 use Rattle.task_verify.proofs.Labelled.{first_is}
 use Rattle.task_verify.proofs.walk.fall_fault.Goals as goal
 
@@ -14,7 +14,7 @@ returns-in-Some c =
     let f = c.args.func.now in
     let place = c.args.place in
     let k = c.in-Some.label in
-    let e : first_below f.labels place (length f.labels) ≡ Some k = sym c.requires.first ∙ c.in-Some.is in
+    let e : first_label_below f.labels place (length f.labels) ≡ Some k = sym c.requires.first ∙ c.in-Some.is in
     finds_same (FallsOther f place k) (FallFault f place) c.labelled_fault.result
     (λ r x. (k, e, x))
     (λ r x.

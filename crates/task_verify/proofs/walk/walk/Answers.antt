@@ -3,9 +3,9 @@ use Rattle.sloth_base.specs.declared.app.Item.{Item}
 use Rattle.least_fault.specs.Search.{Finds}
 use Rattle.least_fault.proofs.Kept.{both_are}
 use Rattle.sloth_base.specs.Named.{item_of}
-use Rattle.code_rules.specs.Code.{held_fallen_into, held_after}
+use Rattle.code_rules.specs.Code.{held_list_fallen_into, held_after}
 use Rattle.code_rules.proofs.Judged.{Below, judged_more, judged_end}
-use Rattle.task_verify.specs.Labels.{last_below, list_of}
+use Rattle.task_verify.specs.Labels.{last_label_below, list_of}
 use Rattle.task_verify.specs.Cases.{FallFault, HeldFault, HeldFaultAt, PlaceFault}
 use Rattle.task_verify.proofs.Labelled.{last_inside, held_is}
 use Rattle.task_verify.proofs.Lists.{item_is}
@@ -24,7 +24,7 @@ loop-number-preserved c =
     let f = c.args.func.now in
     let i = c.loop-number.number in
     let inside = subst (λ (x : List Item). i < length x) c.items-number-end.ensures c.loop-number-test.true in
-    let last = last_below f.labels i (length f.labels) in
+    let last = last_label_below f.labels i (length f.labels) in
     let held = c.loop-number.held.items in
     let entered = c.in_ok-entered.entered.items in
     let held_now = c.in_ok-entered.ensures ∙ ap (λ o. list_of f.labels o held) (c.requires.tables.lasts i (omega (arith, inside)))
@@ -38,7 +38,7 @@ loop-number-preserved c =
       finds = judged_more (PlaceFault app f) (length f.items) i c.loop-number.least c.merge.result c.merge-least.result inside
           (both_are (FallFault f i) (HeldFaultAt app f i) c.fall_fault-falling.result found c.merge.result c.fall_fault-falling.ensures here c.merge.ensures)
           c.merge-least.ensures c.loop-number.invariant.finds;
-      held = c.in_ok-held.ensures ∙ ap (λ (y : Item). held_after y.op entered) same ∙ ap (λ h. held_after o h) held_now ∙ ap (held_fallen_into f) (sym (add-one i));
+      held = c.in_ok-held.ensures ∙ ap (λ (y : Item). held_after y.op entered) same ∙ ap (λ h. held_after o h) held_now ∙ ap (held_list_fallen_into f) (sym (add-one i));
     }
 
 pub returns : goal.returns

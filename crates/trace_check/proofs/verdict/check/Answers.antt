@@ -1,4 +1,3 @@
-use Rattle.std.proofs.Common.{◌≡◌}
 use Rattle.trace_check.proofs.Exact.{if_exact}
 use Rattle.trace_check.proofs.verdict.check.Goals as goal
 

@@ -1,8 +1,5 @@
-use Rattle.std.proofs.Common.{◌≡◌, ◌∙◌, ℕ, ◌+◌, ◌++◌, ◌∷◌, [], List, length, true, false, refl, sym, ap, subst, arith, length-append}
-use Rattle.std.specs.Bool.{Decides}
+use Rattle.std.proofs.Common.{◌∙◌, ℕ, ◌+◌, ◌++◌, ◌∷◌, [], List, true, false, sym, ap, subst, arith, length-append}
 use Rattle.std.proofs.lemmas.Bool.{false≢true}
-use Rattle.sloth_base.specs.declared.event.Stamped.{Stamped}
-use Rattle.osek_scheduler.specs.InTime.{InTime}
 use Rattle.trace_check.specs.TraceText.{Begins, HasRead}
 use Rattle.trace_check.specs.Verdicts.{counter_names, func_names}
 use Rattle.trace_check.proofs.TraceText.{reads_more}

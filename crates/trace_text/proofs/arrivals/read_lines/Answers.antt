@@ -2,7 +2,7 @@ use Rattle.std.proofs.Common.{◌∙◌, ℕ, ◌++◌, ◌∷◌, [], List, ap,
 use Rattle.std.specs.Borrow.{Bor}
 use Rattle.std.proofs.lemmas.Result.{err_from_is_err_and}
 use Rattle.sloth_base.specs.declared.event.Arrival.{Arrival}
-use Rattle.text_pieces.specs.Names.{now}
+use Rattle.text_pieces.specs.Names.{referent}
 use Rattle.trace_text.specs.ArrivalsText.{arrivals_of}
 use Rattle.trace_text.proofs.Reading.{next-of, arrivals-more, one-sound, first-error}
 use Rattle.trace_text.proofs.arrivals.read_lines.Goals as goal
@@ -17,7 +17,7 @@ returns-in_err-read_line-clause-refused c =
     let read = c.loop-n.read.items in
     let none : Bor (List ℕ) = record { ref_ptr = (0, 0); now = [] } in
     let next = next-of tasks counters parts i read none c.loop-n-test.true c.loop-n.invariant.read c.loop-n.invariant.none in
-    rw (failed.1, failed.2) (first-error tasks counters (map now parts) i read (get_or parts i none).now c.in_err-read_line.field-0.0 next c.in_err-read_line.ensures.refused)
+    rw (failed.1, failed.2) (first-error tasks counters (map referent parts) i read (get_or parts i none).now c.in_err-read_line.field-0.0 next c.in_err-read_line.ensures.refused)
 
 pub loop-n-preserved : goal.loop-n-preserved
 loop-n-preserved c =
@@ -31,7 +31,7 @@ loop-n-preserved c =
     let next = next-of tasks counters parts i read none c.loop-n-test.true c.loop-n.invariant.read c.loop-n.invariant.none in
     let of = c.in_ok-read_line.ensures in
     record {
-      read = of.read ∙ (ap (λ (xs : List Arrival). xs ++ arrivals_of tasks counters (line ∷ [])) next.behind ∙ arrivals-more tasks counters (map now parts) i line next.inside next.line_is);
+      read = of.read ∙ (ap (λ (xs : List Arrival). xs ++ arrivals_of tasks counters (line ∷ [])) next.behind ∙ arrivals-more tasks counters (map referent parts) i line next.inside next.line_is);
       in_range = of.in_range;
-      none = one-sound tasks counters (map now parts) i read line next of.none;
+      none = one-sound tasks counters (map referent parts) i read line next of.none;
     }

@@ -1,13 +1,13 @@
 use Rattle.std.proofs.Common.{◌≡◌, map, take, None}
 use Rattle.sloth_base.specs.Arrivals.{AreArrivals}
 use Rattle.least_fault.proofs.Kept.{Loop}
-use Rattle.text_pieces.specs.Names.{now}
+use Rattle.text_pieces.specs.Names.{referent}
 use Rattle.trace_text.specs.ArrivalsText.{arrivals_of, FaultAt, owners_read}
 use Rattle.trace_text.proofs.arrivals.read_lines.Given as goal
 
 abbrev pub invariant-loop-n : goal.invariant-loop-n
 invariant-loop-n l = record {
-  read : l.read.items ≡ arrivals_of l.tasks l.counters (take l.n (map now l.lines));
+  read : l.read.items ≡ arrivals_of l.tasks l.counters (take l.n (map referent l.lines));
   in_range : AreArrivals (owners_read l.tasks l.counters) l.read.items;
-  none : Loop (FaultAt l.tasks l.counters) (map now l.lines) l.n None;
+  none : Loop (FaultAt l.tasks l.counters) (map referent l.lines) l.n None;
 }

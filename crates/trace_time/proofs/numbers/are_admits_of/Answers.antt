@@ -1,4 +1,4 @@
-use Rattle.std.proofs.Common.{◌≡◌, ◌∙◌, List, ℕ, sym, subst}
+use Rattle.std.proofs.Common.{◌≡◌, List, ℕ, subst}
 use Rattle.std.specs.Bool.{Decides}
 use Rattle.std.specs.List.Sorted.{IsPermutation}
 use Rattle.trace_time.proofs.Decided.{decides_counts}

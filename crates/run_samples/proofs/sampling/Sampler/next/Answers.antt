@@ -1,4 +1,4 @@
-use Rattle.std.proofs.Common.{◌≡◌, ◌∙◌, sym, ap, subst}
+use Rattle.std.proofs.Common.{◌∙◌, ap}
 use Rattle.sloth_runner.specs.Runner.{image_of, sloth_state}
 use Rattle.sloth_runner.specs.Sight.{interrupts_in}
 use Rattle.sloth_runner.specs.declared.runner.Runner.{Runner}

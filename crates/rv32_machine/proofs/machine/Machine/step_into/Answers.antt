@@ -1,5 +1,5 @@
 use Rattle.std.proofs.Common.{refl}
-use Rattle.sloth_base.specs.Take.{enter}
+use Rattle.sloth_base.specs.Take.{entry_state}
 use Rattle.rv32_machine.specs.State.{state}
 use Rattle.rv32_machine.proofs.Stepping.{advanced, halted}
 use Rattle.rv32_machine.proofs.machine.Machine.step_into.Goals as goal
@@ -10,7 +10,7 @@ returns-in-Ok-clause-ok g c =
     c.args.self.now.count
     (state g.B.Bus.memory c.args.self.now)
     (state g.B.Bus.memory c.cur-cur_before.new.self)
-    (enter c.line_to_take-entered.result (state g.B.Bus.memory c.cur-cur_before.new.self))
+    (entry_state c.line_to_take-entered.result (state g.B.Bus.memory c.cur-cur_before.new.self))
     (state g.B.Bus.memory c.execute_after.new.self)
     (state g.B.Bus.memory c.cur-cur_after.new.self)
     c.line_to_take-entered.result

@@ -2,7 +2,7 @@ use Rattle.std.proofs.Common.{◌≡◌, List, take, set, [], ◌∷◌, ◌++�
 use Rattle.std.proofs.lemmas.List.{take_more_set}
 use Rattle.std.proofs.lemmas.Grind.{common_steps}
 use Rattle.sloth_region.specs.declared.extent.Extent.{Extent}
-use Rattle.sloth_region.specs.Region.{first_free, FollowWithin}
+use Rattle.sloth_region.specs.Region.{first_free_address, FollowWithin}
 use Rattle.sloth_region.proofs.Placed.{first_free-append, follow-append}
 use Rattle.sloth_region.proofs.region.Region.place.Goals as goal
 
@@ -18,7 +18,7 @@ invariant_of-self c =
       omega arith,
       c.self.invariant.1,
       omega arith,
-      sym (ap (first_free i.base) more ∙ first_free-append i.base taken e),
+      sym (ap (first_free_address i.base) more ∙ first_free-append i.base taken e),
       (let P : List Extent → Type 0 = λ l. FollowWithin i.base (i.base + i.len) l in
           subst P (sym more) (follow-append i.base (i.base + i.len) taken e follows (omega arith) (omega arith) (omega arith))),
     )

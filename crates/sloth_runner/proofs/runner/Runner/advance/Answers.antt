@@ -1,9 +1,9 @@
 use Rattle.std.proofs.Common.{◌≡◌, ◌∙◌, ◌+◌, List, [], ◌∷◌, ◌++◌, ap, subst}
 use Rattle.sloth_base.specs.Machine.{State}
-use Rattle.sloth_base.specs.Take.{entered}
+use Rattle.sloth_base.specs.Take.{execution_state}
 use Rattle.sloth_base.specs.declared.event.Stamped.{Stamped}
 use Rattle.sloth_base.specs.declared.step.Step.{Step}
-use Rattle.observe.specs.Progress.{Fed, view_of, arrivals_of, expected_of}
+use Rattle.observe.specs.Progress.{Fed, view_of, arrivals_of, expected_count}
 use Rattle.observe.specs.declared.observing.Observer.{Observer}
 use Rattle.rv32_machine.specs.Advance.{Goes, Halts}
 use Rattle.sloth_runner.specs.declared.runner.Runner.{Runner}
@@ -28,7 +28,7 @@ returns-in-Ok-clause-went c =
       goes = moment-is r a (Goes step (sloth_state q.machine)) c.requires.running.ran.executed c.arrive_now.ensures.arrived ok.goes;
       fed = subst F observer c.feed.ensures.fed;
       view = c.feed.ensures.view ∙ ap view_of observer;
-      expected = c.feed.ensures.expected ∙ ap (λ (o : Observer). expected_of o + 1) observer;
+      expected = c.feed.ensures.expected ∙ ap (λ (o : Observer). expected_count o + 1) observer;
       ran = machine-more r a behind (image_of r) step c.requires.running.ran c.arrive_now.ensures.arrived executed
           (c.feed.ensures.arrivals ∙ ap arrivals_of observer) c.record.ensures.coming;
     }
@@ -40,5 +40,5 @@ returns-in-Err-clause-halted c =
     let halt = c.in-Err.ensures.err in (
       c.in-Err.halt.stop,
       moment-is r a (Halts c.in-Err.halt.stop) c.requires.running.ran.executed c.arrive_now.ensures.arrived halt.halts,
-      ap (λ pc. ends.Stopped pc c.in-Err.halt.stop) (halt.pc ∙ ap (λ (m : State). (entered m).pc) c.arrive_now.ensures.arrived.state),
+      ap (λ pc. ends.Stopped pc c.in-Err.halt.stop) (halt.pc ∙ ap (λ (m : State). (execution_state m).pc) c.arrive_now.ensures.arrived.state),
     )

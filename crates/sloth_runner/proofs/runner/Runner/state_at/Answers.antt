@@ -1,15 +1,15 @@
 use Rattle.std.proofs.Common.{◌≡◌, ◌∙◌, ◌+◌, ℕ, Option, Some, refl, sym, ap, subst, arith}
 use Rattle.rv32_machine.specs.Advance.{Halts}
 use Rattle.rv32_machine.specs.Start.{start}
-use Rattle.rv32_machine.specs.Run.{moment, arrived, state_after}
+use Rattle.rv32_machine.specs.Run.{moment, state_with_arrivals, state_after}
 use Rattle.observe.specs.Progress.{arrivals_of}
 use Rattle.sloth_base.specs.Machine.{State}
-use Rattle.sloth_base.specs.Take.{entered}
+use Rattle.sloth_base.specs.Take.{execution_state}
 use Rattle.sloth_base.specs.declared.image.Image.{Image}
 use Rattle.sloth_runner.specs.declared.runner.Runner.{Runner}
 use Rattle.sloth_runner.specs.declared.sight.Seen.{Seen}
 use Rattle.sloth_runner.specs.Runner.{HasRun, HasArrived, HasExecuted, image_of, given_arrivals, count_of, sloth_state}
-use Rattle.sloth_runner.specs.Sight.{IsLast, IsSight, seen_at, sight_of}
+use Rattle.sloth_runner.specs.Sight.{IsLast, IsSight, sight_at, sight_of}
 use Rattle.sloth_runner.proofs.Turning.{moment-is, machine-more}
 use Rattle.sloth_runner.proofs.Sighted.{last-behind, sight-stopped, sight-behind}
 use Rattle.sloth_runner.proofs.runner.Runner.state_at.Goals as goal
@@ -36,7 +36,7 @@ returns-in-Err c =
     sight-stopped (image_of c.args.self.now) (given_arrivals c.args.self.now) k c.args.k c.in-Err.halt.pc m c.in-Err.halt.stop (omega arith)
     (ap (λ A. state_after k A (start (image_of c.args.self.now))) (sym h.arrivals) ∙ h.ran.after)
     (ap (λ A. moment A k m) (sym h.arrivals) ∙ moment-is r c.look.new.self (Halts c.in-Err.halt.stop) h.ran.executed looked halt.halts)
-    (halt.pc ∙ ap (λ (x : State). (entered x).pc) looked.state ∙ ap (λ A. (entered (arrived A k m)).pc) h.arrivals)
+    (halt.pc ∙ ap (λ (x : State). (execution_state x).pc) looked.state ∙ ap (λ A. (execution_state (state_with_arrivals A k m)).pc) h.arrivals)
 
 pub loop-self-preserved : goal.loop-self-preserved
 loop-self-preserved c =
@@ -53,9 +53,9 @@ loop-self-preserved c =
     let observer = c.execute.ensures.observer ∙ ap (λ (x : Runner). x.observer) c.look.ensures.same ∙ c.arrive_now.ensures.observer in
     let shown : image_of c.arrive_now.new.self ≡ image = c.arrive_now.ensures.image ∙ h.image in
     let after : state_after k A (start image) ≡ Some m = ap (λ B. state_after k B (start image)) (sym h.arrivals) ∙ h.ran.after in
-    let there : sloth_state c.arrive_now.new.self.machine ≡ arrived A k m =
-    c.arrive_now.ensures.arrived.state ∙ ap (λ B. arrived B k m) h.arrivals in
-    let seen = c.look.ensures.seen ∙ ap (λ n. seen_at (image_of c.arrive_now.new.self) n (sloth_state c.arrive_now.new.self.machine)) c.arrive_now.ensures.arrived.count in
+    let there : sloth_state c.arrive_now.new.self.machine ≡ state_with_arrivals A k m =
+    c.arrive_now.ensures.arrived.state ∙ ap (λ B. state_with_arrivals B k m) h.arrivals in
+    let seen = c.look.ensures.seen ∙ ap (λ n. sight_at (image_of c.arrive_now.new.self) n (sloth_state c.arrive_now.new.self.machine)) c.arrive_now.ensures.arrived.count in
     let last = last-behind image A k m (sloth_state c.arrive_now.new.self.machine) (image_of c.arrive_now.new.self) c.look.result c.loop-self.last after h.last shown there seen in
     let more : count_of q ≡ k + 1 = executed.count ∙ ap (λ n. n + 1) looked.count in
     let P : ℕ → Type 0 = λ n. HasRun q image n in

@@ -1,4 +1,4 @@
-use Rattle.std.proofs.Common.{◌≡◌, ℕ, refl, replicate}
+use Rattle.std.proofs.Common.{refl, replicate}
 use Rattle.trace_check.specs.Walk.{Walk}
 use Rattle.trace_check.proofs.Walking.{walked_none, zeros_at}
 use Rattle.trace_check.proofs.walk.Walk.new.Goals as goal

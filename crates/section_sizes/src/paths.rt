@@ -1,0 +1,121 @@
+//! What is made of a body before its summary: the ways between its items, and the longest trails along them.
+ghost use Rattle.std.specs.Prelude.{◌≡◌, ◌<◌, ℕ, length, get_or, IfOk};
+ghost use Rattle.sloth_base.specs.Named.{item_of};
+ghost use Rattle.section_sizes.specs.Graph.{IsOrder};
+ghost use Rattle.task_verify.specs.Ways.{LeadsToLabels};
+ghost use Rattle.section_sizes.specs.Trails.{IsSmall};
+ghost use Rattle.section_sizes.specs.Computed.{going_size};
+ghost use Rattle.section_sizes.specs.Known.{AreCountedUp};
+ghost use Rattle.section_sizes.specs.Lists.{AreEndingTrails, AreLeavingTrails, ArePaths, AreTrailSizes};
+
+use crate::bodies::Body;
+use crate::graph::Ways;
+use crate::items::{
+    alive_items, ending_sizes, going_items, going_sizes, leaving_sizes, passed_functions,
+};
+use crate::links::body_ways;
+use crate::longest::longest;
+use crate::sizes::Summary;
+use sloth_base::app::Func;
+use sloth_base::list::List;
+use sloth_base::memory::NoMemory;
+use std::alloc::Global;
+
+/// The items of a body before which the task is raised, and the ways between those that go on.
+#[derive(Drop)]
+pub struct Paths {
+    pub alive: List<bool>,
+    pub ways: List<Ways>,
+}
+
+/// For each item the size of the longest trail from it, and of the longest that ends with the body's `ret`.
+#[derive(Drop)]
+pub struct TrailSizes {
+    pub on: List<u32>,
+    pub back: List<u32>,
+}
+
+/// The ways of a body.
+pub fn paths_of(
+    alloc: Global,
+    func: &Func,
+    body: &Body,
+    level: Option<u32>,
+    whole: &[Summary],
+) -> Result<Paths, NoMemory>
+    requires { (i : ℕ) → i < length func.now.items → LeadsToLabels func.now (item_of func.now i).op }
+    ensures { IfOk result (ArePaths func.now body.now level whole.now) }
+{
+    let alive = alive_items(alloc, func, body, level)?;
+    let going = going_items(alloc, func, &alive)?;
+    let passed = passed_functions(alloc, whole)?;
+    let ways = body_ways(alloc, func, &passed, &going, &alive)?;
+    Ok(Paths {
+        alive: List::from_vec(alive),
+        ways: List::from_vec(ways),
+    })
+}
+
+/// For each item the size of the longest trail from it.
+fn ending_trails(
+    alloc: Global,
+    func: &Func,
+    whole: &[Summary],
+    paths: &Paths,
+    order: &[usize],
+    steps: &[u32],
+) -> Result<Vec<u32>, NoMemory>
+    requires order { IsOrder paths.now.ways order.now }
+    requires count { length paths.now.ways ≡ length func.now.items }
+    requires steps_count { length steps.now ≡ length func.now.items }
+    requires steps { (i : ℕ) → i < length func.now.items → get_or steps.now i 0 ≡ going_size whole.now (item_of func.now i).op }
+    requires whole { AreCountedUp whole.now }
+    ensures trails { IfOk result (λ on. AreEndingTrails func.now whole.now paths.now steps.now on.items) }
+    ensures small { IfOk result (λ on. IsSmall on.items) }
+{
+    let ends = ending_sizes(alloc, func, paths.alive.items(), whole)?;
+    longest(alloc, paths.ways.items(), order, steps, &ends)
+}
+
+/// For each item the size of the longest trail from it that ends with the body's `ret`.
+fn leaving_trails(
+    alloc: Global,
+    func: &Func,
+    whole: &[Summary],
+    paths: &Paths,
+    order: &[usize],
+    steps: &[u32],
+) -> Result<Vec<u32>, NoMemory>
+    requires order { IsOrder paths.now.ways order.now }
+    requires count { length paths.now.ways ≡ length func.now.items }
+    requires steps_count { length steps.now ≡ length func.now.items }
+    requires steps { (i : ℕ) → i < length func.now.items → get_or steps.now i 0 ≡ going_size whole.now (item_of func.now i).op }
+    ensures trails { IfOk result (λ back. AreLeavingTrails func.now paths.now steps.now back.items) }
+    ensures small { IfOk result (λ back. IsSmall back.items) }
+{
+    let leaves = leaving_sizes(alloc, func, paths.alive.items())?;
+    longest(alloc, paths.ways.items(), order, steps, &leaves)
+}
+
+/// The longest trails along the ways of a body, by an order of its items in which each stands behind those that it leads to.
+pub fn trail_sizes(
+    alloc: Global,
+    func: &Func,
+    whole: &[Summary],
+    paths: &Paths,
+    order: &[usize],
+) -> Result<TrailSizes, NoMemory>
+    requires order { IsOrder paths.now.ways order.now }
+    requires count { length paths.now.ways ≡ length func.now.items }
+    requires whole { AreCountedUp whole.now }
+    ensures trails { IfOk result (AreTrailSizes func.now whole.now paths.now order.now) }
+    ensures small { IfOk result (λ sizes. IsSmall sizes.on × IsSmall sizes.back) }
+{
+    let steps = going_sizes(alloc, func, whole)?;
+    let on = ending_trails(alloc, func, whole, paths, order, &steps)?;
+    let back = leaving_trails(alloc, func, whole, paths, order, &steps)?;
+    Ok(TrailSizes {
+        on: List::from_vec(on),
+        back: List::from_vec(back),
+    })
+}
