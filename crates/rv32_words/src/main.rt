@@ -213,19 +213,41 @@ fn list_entries(rt: &(impl Print + AllocGlobal), levels: &Levels, map: &Map) -> 
     list_prologue(rt, true, true, 32, levels, map)
 }
 
+// The code that stands in each kernel.
+fn list_common(rt: &(impl Print + AllocGlobal), levels: &Levels, map: &Map) -> anyhow::Result<()>
+    requires reach { AreInReach map.now.handlers }
+    requires levels { (levels.now.top < 32) × ((t : ℕ) → slice_index levels.now.task t < 32) }
+    requires tops { (length map.now.tops ≡ 1) × All IsStackTop map.now.tops }
+    requires items { (length map.now.places.first ≡ 1) × All (λ i. i < length map.now.places.items) map.now.places.first }
+{
+    list_vectors(rt, map)?;
+    list_idle(rt, map)?;
+    list_entries(rt, levels, map)
+}
+
+// The services of a kernel without counters.
+fn list_blocks(rt: &(impl Print + AllocGlobal), levels: &Levels, map: &Map) -> anyhow::Result<()> {
+    let config = config(rt.alloc(), false, false, false)?;
+    list_services(rt, &config, levels, map)?;
+    list_event_services(rt, &config, levels, map)
+}
+
+// The tick of a counter, and the services on its alarms.
+fn list_counted(rt: &(impl Print + AllocGlobal), levels: &Levels, map: &Map) -> anyhow::Result<()>
+    requires { levels.now.top < 32 }
+{
+    let config = clock(rt.alloc())?;
+    list_clock(rt, &config, levels, map)?;
+    list_alarm_services(rt, &config, levels, map)
+}
+
 // The kernel's code.
 fn list_kernel(rt: &(impl Print + AllocGlobal)) -> anyhow::Result<()> {
     let levels = levels();
     let map = map(rt.alloc())?;
-    list_vectors(rt, &map)?;
-    list_idle(rt, &map)?;
-    list_entries(rt, &levels, &map)?;
-    let config = config(rt.alloc(), false, false, false)?;
-    list_services(rt, &config, &levels, &map)?;
-    list_event_services(rt, &config, &levels, &map)?;
-    let counted = clock(rt.alloc())?;
-    list_clock(rt, &counted, &levels, &map)?;
-    list_alarm_services(rt, &counted, &levels, &map)
+    list_common(rt, &levels, &map)?;
+    list_blocks(rt, &levels, &map)?;
+    list_counted(rt, &levels, &map)
 }
 
 fn main(rt: HostRuntime) -> anyhow::Result<()> {
