@@ -1,7 +1,8 @@
 -- The alarms of a counter of a configuration that is in range are in range, and their numbers are those of their places.
-use Rattle.std.proofs.Common.{◌≡◌, ℕ, ◌+◌, ◌^◌, ◌<◌, ◌≤◌, List, [], ◌∷◌, ◌++◌, length, refl, subst, sym, arith}
+use Rattle.std.proofs.Common.{◌≡◌, ◌∙◌, ℕ, ◌+◌, ◌^◌, ◌<◌, ◌≤◌, List, [], ◌∷◌, ◌++◌, length, get_or, drop, refl, ap, append_assoc, subst, sym, arith}
 use Rattle.std.specs.Prelude.{Bool, true, false, cond, ◌==◌}
 use Rattle.std.specs.List.{AllByRecursion}
+use Rattle.std.proofs.lemmas.List.{drop_more}
 use Rattle.std.proofs.lemmas.List.Elements.{recursion_from_All}
 use Rattle.sloth_base.specs.declared.config.Action.{Action}
 use Rattle.sloth_base.specs.declared.config.Action.TheVariants.{Activate, Set}
@@ -9,6 +10,7 @@ use Rattle.sloth_base.specs.declared.config.AlarmDecl.{AlarmDecl}
 use Rattle.sloth_base.specs.declared.config.Config.{Config}
 use Rattle.sloth_base.specs.ConfigRange.{InRange, IsAlarm, no_event}
 use Rattle.sloth_base.specs.ConfigRange as range
+use Rattle.alarm_gen.specs.declared.alarms.NumberedAlarm.{NumberedAlarm}
 use Rattle.alarm_gen.specs.Alarms.{IsAction, AreNumbered, alarms_from, counter_alarms}
 
 module _ (config : Config) (fits : InRange config) where
@@ -46,3 +48,16 @@ one_more counter first alarm later = by (alarm.counter == counter)
         ≡ cond b (record { number = first; action = alarm.action } ∷ []) [] ++ alarms_from counter (first + 1) later
     by true = refl
     by false = refl
+
+-- what was found behind one more alarm, before those behind it
+pub found_more : (counter i : ℕ) (alarms : List AlarmDecl) (d : AlarmDecl) (found more all : List NumberedAlarm) → i < length alarms
+    → more ≡ found ++ alarms_from counter i (get_or alarms i d ∷ []) → found ++ alarms_from counter i (drop i alarms) ≡ all
+    → more ++ alarms_from counter (i + 1) (drop (i + 1) alarms) ≡ all
+found_more counter i alarms d found more all inside is before =
+    let x = get_or alarms i d in
+    let later = drop (i + 1) alarms in
+    ap (λ l. l ++ alarms_from counter (i + 1) later) is
+    ∙ append_assoc found (alarms_from counter i (x ∷ [])) (alarms_from counter (i + 1) later)
+    ∙ ap (λ l. found ++ l) (sym (one_more counter i x later))
+    ∙ ap (λ l. found ++ alarms_from counter i l) (sym (drop_more alarms i d inside))
+    ∙ before

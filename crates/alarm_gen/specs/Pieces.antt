@@ -1,17 +1,14 @@
 -- Pieces of the code of a tick. x4 holds the base of memory but where it says otherwise, and bit T of x3 says whether task T is not Suspended.
-use Rattle.std.specs.Prelude.{ℕ, ◌+◌, ◌*◌, ℤ, pos, negsuc, cond, List, [], ◌∷◌, ◌++◌}
+use Rattle.std.specs.Prelude.{ℕ, ◌+◌, pos, negsuc, cond, List, [], ◌∷◌, ◌++◌}
 use Rattle.sloth_base.specs.declared.config.Action.{Action}
 use Rattle.sloth_base.specs.declared.config.Action.TheVariants.{Activate, Set}
-use Rattle.sloth_region.specs.Layout.{active, events, wait, counter_value, alarm_left, alarm_cycle, words_high, controller_high, pending_byte, enabled_byte}
+use Rattle.sloth_region.specs.Layout.{events, counter_value, alarm_left, alarm_cycle, words_high, controller_high, pending_byte, enabled_byte}
 use Rattle.rv32_instr.specs.declared.InstrKind.{InstrKind}
-use Rattle.rv32_instr.specs.declared.InstrKind.TheVariants.{Beq, Bne, Lui, Lw, Lbu, Sw, Sb, Addi, Andi, Xori, Or, And, Slli, Srli, Mret}
+use Rattle.rv32_instr.specs.declared.InstrKind.TheVariants.{Beq, Bne, Lui, Lw, Sw, Sb, Addi, Or, Slli, Mret}
 use Rattle.sloth_base.specs.Arithmetic.{hi, lo}
+use Rattle.routine_pieces.specs.Ticks.{passing_distance, look_code, suspension_test, awaited_events_test}
 use Rattle.alarm_gen.specs.declared.alarms.NumberedAlarm.{NumberedAlarm}
 use Rattle.alarm_gen.specs.Alarms.{is_target}
-
--- how far a branch goes that passes so many instructions
-abbrev pub passing_distance : ℕ → ℤ
-passing_distance passed = pos (4 + 4 * passed)
 
 -- the counter's value grows by one, or goes from the greatest to 0
 abbrev pub counting_code : (counter max : ℕ) → List InstrKind
@@ -24,13 +21,6 @@ abbrev pub look_clearing_code : List InstrKind
 look_clearing_code = Addi 3 0 (pos 0) ∷ []
 
 -- ---- the looks at tasks
-
--- The task's bit becomes 1 where the task is not Suspended. The load of its pending byte is the fourth; x4 may hold anything before, and
--- what it holds behind is not said.
-abbrev pub look_code : ℕ → List InstrKind
-look_code task =
-    Lui 4 controller_high ∷ Lbu 1 4 (pos (enabled_byte task)) ∷ Xori 1 1 (pos 1) ∷ Lbu 4 4 (pos (pending_byte task)) ∷ Or 1 1 4
-    ∷ Lui 4 words_high ∷ Lw 4 4 (pos (active task)) ∷ Or 1 1 4 ∷ Slli 1 1 task ∷ Or 3 3 1 ∷ []
 
 -- the look at the task whose events an action sets, unless a later alarm looks at it
 abbrev pub look_of : Action → (later : List NumberedAlarm) → List InstrKind
@@ -53,18 +43,10 @@ abbrev pub activating_code : ℕ → List InstrKind
 activating_code task =
     Lui 4 controller_high ∷ Addi 1 0 (pos 1) ∷ Sb 4 1 (pos (pending_byte task)) ∷ Lui 4 words_high ∷ Slli 1 1 task ∷ Or 3 3 1 ∷ []
 
--- on behind the alarm where the task is Suspended
-abbrev pub suspension_test : ℕ → List InstrKind
-suspension_test task = Srli 1 3 task ∷ Andi 1 1 (pos 1) ∷ Beq 1 0 (passing_distance 14) ∷ []
-
 -- the task's events, with those of the mask, stay in x1
 abbrev pub event_adding_code : (task mask : ℕ) → List InstrKind
 event_adding_code task mask =
     Lw 1 4 (pos (events task)) ∷ Lui 4 (hi mask) ∷ Addi 4 4 (lo mask) ∷ Or 1 1 4 ∷ Lui 4 words_high ∷ Sw 4 1 (pos (events task)) ∷ []
-
--- on behind what wakes the task where it waits for none of the events in x1; x4 is changed
-abbrev pub awaited_events_test : ℕ → List InstrKind
-awaited_events_test task = Lw 4 4 (pos (wait task)) ∷ And 1 1 4 ∷ Beq 1 0 (passing_distance 4) ∷ []
 
 -- the task's line is raised and enabled; x4 is changed
 abbrev pub waking_code : ℕ → List InstrKind

@@ -1,12 +1,12 @@
 -- Pieces of code of the services on alarms. x4 holds the base of memory, x10 and x11 the operands, a0 and a1.
-use Rattle.std.specs.Prelude.{ℕ, ◌+◌, pos, negsuc, List, [], ◌∷◌, ◌++◌}
+use Rattle.std.specs.Prelude.{ℕ, ◌+◌, pos, List, [], ◌∷◌, ◌++◌}
 use Rattle.sloth_base.specs.Arithmetic.{hi, lo}
 use Rattle.sloth_base.specs.Status.{E_OK, E_OS_NOFUNC, E_OS_STATE, E_OS_VALUE}
-use Rattle.sloth_region.specs.Layout.{counter_value, alarm_left, alarm_cycle, controller_high}
+use Rattle.sloth_region.specs.Layout.{alarm_left, alarm_cycle}
 use Rattle.rv32_instr.specs.declared.InstrKind.{InstrKind}
-use Rattle.rv32_instr.specs.declared.InstrKind.TheVariants.{Lui, Lw, Sw, Addi, Sub, Beq, Bne, Bltu}
+use Rattle.rv32_instr.specs.declared.InstrKind.TheVariants.{Lui, Lw, Sw, Addi, Beq, Bne, Bltu}
 use Rattle.block_parts.specs.Pieces.{back_code}
-use Rattle.alarm_gen.specs.Pieces.{passing_distance}
+use Rattle.routine_pieces.specs.Ticks.{passing_distance}
 
 -- the status of an alarm that is not in use, and on to the way back, behind two more, where this one is not
 abbrev pub used_alarm_test : ℕ → List InstrKind
@@ -43,11 +43,6 @@ alarm_value_test passed = Bltu 1 10 (passing_distance passed) ∷ []
 -- on behind so many instructions where the ticks from now on are 0 or above the greatest value
 abbrev pub ticks_test : ℕ → List InstrKind
 ticks_test passed = Beq 10 0 (passing_distance (1 + passed)) ∷ alarm_value_test passed
-
--- a0 := the ticks to the value in a0
-abbrev pub finding_code : ℕ → List InstrKind
-finding_code counter =
-    Lw 3 4 (pos (counter_value counter)) ∷ Bltu 3 10 (passing_distance 2) ∷ Sub 3 3 1 ∷ Addi 3 3 (negsuc 0) ∷ Sub 10 10 3 ∷ Lui 3 controller_high ∷ []
 
 -- the alarm gets the ticks in a0 and the cycle in a1
 abbrev pub setting_code : ℕ → List InstrKind

@@ -1,29 +1,20 @@
 //! What a tick does with each alarm: it loses a tick, and where it expires it acts.
 ghost use Rattle.std.specs.Prelude.{◌≡◌, ◌<◌, ◌≤◌, ◌++◌, OnOk};
 ghost use Rattle.alarm_gen.specs.Alarms.{IsAction, IsNumbered, AreNumbered};
-ghost use Rattle.alarm_gen.specs.Pieces.{basing_code, activating_code, suspension_test, event_adding_code, awaited_events_test, waking_code, action_code, action_size, losing_code, alarm_code, alarms_code};
+ghost use Rattle.alarm_gen.specs.Pieces.{basing_code, activating_code, event_adding_code, waking_code, action_code, action_size, losing_code, alarm_code, alarms_code};
+ghost use Rattle.routine_pieces.specs.Ticks.{suspension_test, awaited_events_test};
 
 use crate::alarms::NumberedAlarm;
 use masked_code::emit::{emit, past};
+use routine_pieces::ticks::{ask_awaited, ask_busy, start_again};
 use rv32_instr::Instr;
-use rv32_instr::asm::{
-    X1, X3, X4, ZERO, addi, and, andi, beq, bne, lui, lw, or, sb, slli, srli, sw,
-};
+use rv32_instr::asm::{X1, X3, X4, ZERO, addi, beq, bne, lui, lw, or, sb, slli, sw};
 use rv32_instr::constant::{hi, lo};
 use sloth_base::config::Action;
 use sloth_region::layout::{
-    CONTROLLER_HIGH, WORDS_HIGH, alarm_cycle, alarm_left, enabled_byte, events, pending_byte, wait,
+    CONTROLLER_HIGH, WORDS_HIGH, alarm_left, enabled_byte, events, pending_byte,
 };
 use std::alloc::AllocError;
-
-/// How many instructions `add_events` adds.
-const ADD: u32 = 6;
-
-/// How many instructions `ask_awaited` adds.
-const ASK: u32 = 3;
-
-/// How many instructions `wake` adds.
-const WAKE: u32 = 4;
 
 /// The alarms in order.
 pub fn run_all(code: &mut Vec<Instr>, alarms: &[NumberedAlarm]) -> Result<(), AllocError>
@@ -56,10 +47,9 @@ fn lose(code: &mut Vec<Instr>, alarm: u8, size: u32) -> Result<(), AllocError>
         addi(X1, X1, -1),
         sw(X1, X4, alarm_left(alarm)),
         bne(X1, ZERO, past(2 + size)),
-        lw(X1, X4, alarm_cycle(alarm)),
-        sw(X1, X4, alarm_left(alarm)),
     ];
-    emit(code, &lost)
+    emit(code, &lost)?;
+    start_again(code, alarm)
 }
 
 /// How many instructions `act` adds.
@@ -112,19 +102,6 @@ fn set(code: &mut Vec<Instr>, task: u8, mask: u32) -> Result<(), AllocError>
     base(code)
 }
 
-/// On behind the alarm where the task is Suspended.
-fn ask_busy(code: &mut Vec<Instr>, task: u8) -> Result<(), AllocError>
-    requires { task < 30 }
-    ensures { OnOk result (code.new.items ≡ code.old.items ++ suspension_test task) }
-{
-    let asked = [
-        srli(X1, X3, task),
-        andi(X1, X1, 1),
-        beq(X1, ZERO, past(ADD + ASK + WAKE + 1)),
-    ];
-    emit(code, &asked)
-}
-
 /// The task's events, with those of the mask, stay in x1.
 fn add_events(code: &mut Vec<Instr>, task: u8, mask: u32) -> Result<(), AllocError>
     requires { task < 30 }
@@ -139,19 +116,6 @@ fn add_events(code: &mut Vec<Instr>, task: u8, mask: u32) -> Result<(), AllocErr
         sw(X1, X4, events(task)),
     ];
     emit(code, &added)
-}
-
-/// On behind what wakes the task where it waits for none of the events in x1.
-fn ask_awaited(code: &mut Vec<Instr>, task: u8) -> Result<(), AllocError>
-    requires { task < 30 }
-    ensures { OnOk result (code.new.items ≡ code.old.items ++ awaited_events_test task) }
-{
-    let asked = [
-        lw(X4, X4, wait(task)),
-        and(X1, X1, X4),
-        beq(X1, ZERO, past(WAKE)),
-    ];
-    emit(code, &asked)
 }
 
 /// The task's line is raised and enabled.

@@ -8,10 +8,10 @@ ghost use Rattle.alarm_gen.specs.Pieces.{counting_code, look_clearing_code, retu
 use crate::actions::{base, run_all};
 use crate::alarms::NumberedAlarm;
 use crate::looks::look_at_all;
-use masked_code::emit::{emit, past};
+use masked_code::emit::emit;
+use routine_pieces::ticks::ask_greatest;
 use rv32_instr::Instr;
-use rv32_instr::asm::{X1, X3, X4, ZERO, addi, bne, lui, lw, mret, sw};
-use rv32_instr::constant::{hi, lo};
+use rv32_instr::asm::{X1, X3, X4, ZERO, addi, lui, lw, mret, sw};
 use sloth_region::layout::{CONTROLLER_HIGH, counter_value};
 use std::alloc::{AllocError, Global};
 
@@ -42,11 +42,9 @@ fn count(code: &mut Vec<Instr>, counter: u8, max: u32) -> Result<(), AllocError>
     ensures added { OnOk result (code.new.items ≡ code.old.items ++ counting_code counter max) }
     ensures fits { max < 2 ^ 32 }
 {
+    emit(code, &[lw(X1, X4, counter_value(counter))])?;
+    ask_greatest(code, max)?;
     let counted = [
-        lw(X1, X4, counter_value(counter)),
-        lui(X3, hi(max)),
-        addi(X3, X3, lo(max)),
-        bne(X1, X3, past(1)),
         addi(X1, ZERO, -1),
         addi(X1, X1, 1),
         sw(X1, X4, counter_value(counter)),

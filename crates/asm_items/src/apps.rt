@@ -1,5 +1,5 @@
 //! The task code of lines.
-ghost use Rattle.std.specs.Prelude.{◌≡◌, ◌+◌, ◌<◌, ◌^◌, length, map, filter, All, IfOk};
+ghost use Rattle.std.specs.Prelude.{◌≡◌, ◌+◌, [], ◌∷◌, ◌++◌, ◌<◌, ◌^◌, length, map, filter, All, IfOk, OnOk};
 ghost use Rattle.asm_scopes.specs.Said.{is_data};
 ghost use Rattle.asm_items.specs.Numbered.{IsNumbered};
 ghost use Rattle.asm_scopes.specs.Bodies.{bodies_of};
@@ -59,15 +59,23 @@ fn symbol_of(alloc: Global, line: &SourceLine) -> Result<Symbol, NoMemory>
     })
 }
 
+// One symbol more, if the line declares one.
+fn add_symbol(alloc: Global, symbols: &mut Vec<Symbol>, line: &SourceLine) -> Result<(), NoMemory>
+    ensures { OnOk result (symbols.new.items ≡ symbols.old.items ++ map symbol_of (filter is_data (line.now ∷ []))) }
+{
+    if !is_data(line) {
+        return Ok(());
+    }
+    let symbol = symbol_of(alloc, line)?;
+    push(symbols, symbol)
+}
+
 fn symbols_of(alloc: Global, lines: &[SourceLine]) -> Result<Vec<Symbol>, NoMemory>
     ensures { IfOk result (λ symbols. symbols.items ≡ map symbol_of (filter is_data lines.now)) }
 {
     let mut symbols = Vec::new(alloc);
     for line in lines {
-        if is_data(line) {
-            let symbol = symbol_of(alloc, line)?;
-            push(&mut symbols, symbol)?;
-        }
+        add_symbol(alloc, &mut symbols, line)?;
     }
     Ok(symbols)
 }

@@ -16,4 +16,4 @@ pub use laws::{lines_are_parts, one_number, one_place, one_remains, one_shape, r
 pub use operands::Operand;
 pub use reader::read;
 pub use source_line::SourceLine;
-pub use table::{Mnemonic, closes, opens};
+pub use statement_forms::{Mnemonic, closes, opens};

@@ -6,12 +6,12 @@ ghost use Rattle.hex.specs.Hex.{decode_of};
 use crate::bytes::trim;
 use crate::numerals::{is_within, number};
 use crate::registers::register;
-use crate::table::Form;
 use hex::{FromHexError, decode};
 use sloth_base::list::List;
 use sloth_base::memory::NoMemory;
 use sloth_base::name::Name;
 use sloth_base::numbers::Reg;
+use statement_forms::Form;
 use std::alloc::Global;
 use text_pieces::bytes::{before, behind, front, has, is_name, same};
 

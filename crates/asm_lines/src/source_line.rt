@@ -6,9 +6,10 @@ ghost use Rattle.asm_lines.specs.SourceLines.{stands_apart, begins_statement, ha
 use crate::bytes::{are_shown, begins_with_letter, is_blank, trim, word_of};
 use crate::cutting::operands_of;
 use crate::operands::{Operand, read_operand};
-use crate::table::{Mnemonic, form_of, mnemonic_of};
+use crate::table::mnemonic_of;
 use sloth_base::list::List;
 use sloth_base::memory::NoMemory;
+use statement_forms::{Mnemonic, form_of};
 use std::alloc::Global;
 use text_pieces::bytes::{after, before};
 use text_pieces::growth::push;

@@ -10,12 +10,12 @@ use Rattle.asm_lines.specs.declared.operands.Operand.{Operand}
 use Rattle.asm_lines.specs.declared.operands.Operand.TheVariants.{Number, Name, Bytes}
 use Rattle.asm_lines.specs.declared.source_line.SourceLine.{SourceLine}
 use Rattle.asm_lines.specs.declared.source_line.SourceLine.TheVariants.{Empty, Shapeless, Unknown, Statement}
-use Rattle.asm_lines.specs.declared.table.Form.TheVariants as form
-use Rattle.asm_lines.specs.declared.table.Mnemonic.{Mnemonic}
-use Rattle.asm_lines.specs.declared.table.Mnemonic.TheVariants as m
+use Rattle.statement_forms.specs.declared.forms.Form.TheVariants as form
+use Rattle.statement_forms.specs.declared.forms.Mnemonic.{Mnemonic}
+use Rattle.statement_forms.specs.declared.forms.Mnemonic.TheVariants as m
 use Rattle.asm_lines.specs.Faults.{is_long}
 use Rattle.asm_lines.specs.Numbers.{is_within}
-use Rattle.asm_lines.specs.Table.{is_operand_count, form_of, is_body_start}
+use Rattle.statement_forms.specs.Forms.{is_operand_count, form_of, is_body_start}
 use Rattle.asm_scopes.specs.Said.{is_data, opens_body, name_of, first_name, second_number, written_name}
 use Rattle.asm_names.specs.NameFaults.{writes_long, has_long}
 use Rattle.asm_items.specs.Apps.{third_bytes, bytes_with}

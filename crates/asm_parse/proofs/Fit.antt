@@ -3,11 +3,11 @@ use Rattle.std.specs.Prelude.{◌≡◌, ◌≤◌, ℕ, ◌+◌, true, List, []
 use Rattle.sloth_base.specs.ImageRange.{IsWord}
 use Rattle.asm_lines.specs.declared.operands.Operand.{Operand}
 use Rattle.asm_lines.specs.declared.operands.Operand.TheVariants.{Register, Number, Name, Frame, Direct, Indexed, Bytes}
-use Rattle.asm_lines.specs.declared.table.Form.{Form}
-use Rattle.asm_lines.specs.declared.table.Form.TheVariants as form
-use Rattle.asm_lines.specs.declared.table.Mnemonic.{Mnemonic}
+use Rattle.statement_forms.specs.declared.forms.Form.{Form}
+use Rattle.statement_forms.specs.declared.forms.Form.TheVariants as form
+use Rattle.statement_forms.specs.declared.forms.Mnemonic.{Mnemonic}
 use Rattle.asm_lines.specs.Numbers.{is_within}
-use Rattle.asm_lines.specs.Table.{form_of}
+use Rattle.statement_forms.specs.Forms.{form_of}
 use Rattle.code_rules.specs.AppRange.{IsRegister}
 
 -- a place in a symbol

@@ -18,10 +18,10 @@ use Rattle.sloth_base.specs.declared.service.Service.{Service}
 use Rattle.sloth_base.specs.declared.service.Service.TheVariants as service
 use Rattle.asm_lines.specs.declared.operands.Operand.{Operand}
 use Rattle.asm_lines.specs.declared.operands.Operand.TheVariants.{Register, Frame, Direct, Indexed}
-use Rattle.asm_lines.specs.declared.table.Mnemonic.{Mnemonic}
-use Rattle.asm_lines.specs.declared.table.Mnemonic.TheVariants as m
+use Rattle.statement_forms.specs.declared.forms.Mnemonic.{Mnemonic}
+use Rattle.statement_forms.specs.declared.forms.Mnemonic.TheVariants as m
 use Rattle.asm_lines.specs.Numbers.{is_within}
-use Rattle.asm_lines.specs.Table.{is_operand_count}
+use Rattle.statement_forms.specs.Forms.{is_operand_count}
 use Rattle.asm_scopes.specs.declared.scope.Kind.TheVariants as kind
 use Rattle.asm_scopes.specs.declared.scope.Scope.{Scope}
 use Rattle.asm_scopes.specs.Said.{is_action}

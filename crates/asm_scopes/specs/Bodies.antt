@@ -1,5 +1,5 @@
 -- The bodies of task source: a header, and the lines up to the next `end`.
-use Rattle.std.specs.Prelude.{ℕ, ◌+◌, Bool, not, if◌then◌else◌, List, [], ◌∷◌, map, filter}
+use Rattle.std.specs.Prelude.{ℕ, ◌+◌, Bool, true, false, not, if◌then◌else◌, List, [], ◌∷◌, map, filter}
 use Rattle.std.specs.List.{take_while}
 use Rattle.asm_lines.specs.declared.source_line.SourceLine.{SourceLine}
 use Rattle.asm_scopes.specs.Said.{opens_body, closes_body, is_task, name_of}
@@ -32,6 +32,11 @@ is_task_body body = is_task body.header
 -- the body of a function that may be called
 abbrev pub is_called_body : BodyText → Bool
 is_called_body body = not (is_task body.header)
+
+-- the body of a task, or of a function that may be called
+abbrev pub is_body_of : (of_task : Bool) → BodyText → Bool
+is_body_of true body = is_task_body body
+is_body_of false body = is_called_body body
 
 -- Tasks and functions share one name space.
 abbrev pub function_names : List BodyText → List (List ℕ)

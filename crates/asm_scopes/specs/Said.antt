@@ -4,9 +4,11 @@ use Rattle.asm_lines.specs.declared.operands.Operand.{Operand}
 use Rattle.asm_lines.specs.declared.operands.Operand.TheVariants as o
 use Rattle.asm_lines.specs.declared.source_line.SourceLine.{SourceLine}
 use Rattle.asm_lines.specs.declared.source_line.SourceLine.TheVariants.{Statement}
-use Rattle.asm_lines.specs.declared.table.Mnemonic.{Mnemonic}
-use Rattle.asm_lines.specs.declared.table.Mnemonic.TheVariants as m
-use Rattle.asm_lines.specs.Table.{is_body_start, is_body_end}
+use Rattle.statement_forms.specs.declared.forms.Mnemonic.{Mnemonic}
+use Rattle.statement_forms.specs.declared.forms.Mnemonic.TheVariants as m
+use Rattle.statement_forms.specs.Forms.{is_body_start, is_body_end}
+use Rattle.asm_scopes.specs.declared.said.Declared.{Declared}
+use Rattle.asm_scopes.specs.declared.said.Declared.TheVariants as declared
 
 -- a line that declares a symbol
 abbrev pub is_data : SourceLine → Bool
@@ -78,6 +80,11 @@ written_name (o.Name name) = Some name
 written_name (o.Direct name offset) = Some name
 written_name (o.Indexed name index mask) = Some name
 written_name _ = None
+
+-- a line that declares this
+abbrev pub declares : Declared → SourceLine → Bool
+declares declared.Symbol l = is_data l
+declares declared.Label l = is_label l
 
 -- the names of the symbols that these lines declare, in order
 abbrev pub symbol_names : List SourceLine → List (List ℕ)

@@ -1,6 +1,6 @@
 //! What a line of task source says: what it declares, and the names that it writes.
-ghost use Rattle.std.specs.Prelude.{◌≡◌, ◌≤◌, IfOk, option_copied};
-ghost use Rattle.asm_scopes.specs.Said.{is_data, opens_body, closes_body, is_task, is_label, is_action, is_item, first_name, name_of, small_value, second_number, number_of, written_name, symbol_names, label_names};
+ghost use Rattle.std.specs.Prelude.{◌≡◌, ◌≤◌, map, filter, IfOk, option_copied};
+ghost use Rattle.asm_scopes.specs.Said.{is_data, opens_body, closes_body, is_task, is_label, is_action, is_item, first_name, name_of, small_value, second_number, number_of, written_name, declares, symbol_names, label_names};
 
 use asm_lines::{Mnemonic, Operand, SourceLine, closes, opens};
 use sloth_base::memory::NoMemory;
@@ -151,28 +151,49 @@ pub fn written(operand: &Operand) -> Option<&[u8]>
     }
 }
 
-/// The names of the symbols that these lines declare.
-pub fn symbol_names<'t>(alloc: Global, lines: &'t [SourceLine]) -> Result<Names<'t>, NoMemory>
-    ensures { IfOk result (λ names. names ≡ symbol_names lines.now) }
+/// What lines declare.
+#[derive(Clone, Copy)]
+pub enum Declared {
+    Symbol,
+    Label,
+}
+
+fn declares(declared: Declared, line: &SourceLine) -> bool
+    ensures { result ≡ declares declared line.now }
+{
+    match declared {
+        Declared::Symbol => is_data(line),
+        Declared::Label => is_label(line),
+    }
+}
+
+/// The names that those of these lines declare which declare this.
+fn names_declared<'t>(
+    alloc: Global,
+    declared: Declared,
+    lines: &'t [SourceLine],
+) -> Result<Names<'t>, NoMemory>
+    ensures { IfOk result (λ names. names ≡ map name_of (filter (declares declared) lines.now)) }
 {
     let mut names = Names::new(alloc);
     for line in lines {
-        if is_data(line) {
+        if declares(declared, line) {
             names = names.with(name_of(line))?;
         }
     }
     Ok(names)
 }
 
+/// The names of the symbols that these lines declare.
+pub fn symbol_names<'t>(alloc: Global, lines: &'t [SourceLine]) -> Result<Names<'t>, NoMemory>
+    ensures { IfOk result (λ names. names ≡ symbol_names lines.now) }
+{
+    names_declared(alloc, Declared::Symbol, lines)
+}
+
 /// The names of the labels among these lines.
 pub fn label_names<'t>(alloc: Global, lines: &'t [SourceLine]) -> Result<Names<'t>, NoMemory>
     ensures { IfOk result (λ names. names ≡ label_names lines.now) }
 {
-    let mut names = Names::new(alloc);
-    for line in lines {
-        if is_label(line) {
-            names = names.with(name_of(line))?;
-        }
-    }
-    Ok(names)
+    names_declared(alloc, Declared::Label, lines)
 }

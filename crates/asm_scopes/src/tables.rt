@@ -1,8 +1,8 @@
 //! The names of a configuration and of bodies.
-ghost use Rattle.std.specs.Prelude.{◌≡◌, IfOk};
+ghost use Rattle.std.specs.Prelude.{◌≡◌, map, filter, IfOk};
 ghost use Rattle.asm_scopes.specs.Said.{symbol_names};
 ghost use Rattle.asm_scopes.specs.Scopes.{task_names, event_names, alarm_names, scope_of};
-ghost use Rattle.asm_scopes.specs.Bodies.{function_names, called_names, task_body_names};
+ghost use Rattle.asm_scopes.specs.Bodies.{body_name, is_body_of, function_names, called_names, task_body_names};
 
 use crate::body::Body;
 use crate::said::symbol_names;
@@ -63,29 +63,44 @@ fn function_names<'t>(alloc: Global, bodies: &[Body<'t>]) -> Result<Names<'t>, N
     Ok(names)
 }
 
-fn called_names<'t>(alloc: Global, bodies: &[Body<'t>]) -> Result<Names<'t>, NoMemory>
-    ensures { IfOk result (λ names. names ≡ called_names bodies.now) }
+/// The names of the bodies of tasks, or of the others.
+fn names_of_bodies<'t>(
+    alloc: Global,
+    of_tasks: bool,
+    bodies: &[Body<'t>],
+) -> Result<Names<'t>, NoMemory>
+    ensures { IfOk result (λ names. names ≡ map body_name (filter (is_body_of of_tasks) bodies.now)) }
 {
     let mut names = Names::new(alloc);
     for body in bodies {
-        if !body.is_task() {
+        if is_body_of(of_tasks, body) {
             names = names.with(body.name())?;
         }
     }
     Ok(names)
 }
 
+fn is_body_of(of_task: bool, body: &Body) -> bool
+    ensures { result ≡ is_body_of of_task body.now }
+{
+    if of_task {
+        body.is_task()
+    } else {
+        !body.is_task()
+    }
+}
+
+fn called_names<'t>(alloc: Global, bodies: &[Body<'t>]) -> Result<Names<'t>, NoMemory>
+    ensures { IfOk result (λ names. names ≡ called_names bodies.now) }
+{
+    names_of_bodies(alloc, false, bodies)
+}
+
 /// The names of the tasks that have a body.
 pub fn task_body_names<'t>(alloc: Global, bodies: &[Body<'t>]) -> Result<Names<'t>, NoMemory>
     ensures { IfOk result (λ names. names ≡ task_body_names bodies.now) }
 {
-    let mut names = Names::new(alloc);
-    for body in bodies {
-        if body.is_task() {
-            names = names.with(body.name())?;
-        }
-    }
-    Ok(names)
+    names_of_bodies(alloc, true, bodies)
 }
 
 /// The names of a configuration.

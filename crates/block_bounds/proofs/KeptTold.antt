@@ -5,8 +5,8 @@ use Rattle.sloth_base.specs.declared.app.App.{App}
 use Rattle.code_rules.specs.WellFormed.{WellFormed}
 use Rattle.raised_sections.specs.Sections.{IsBound}
 use Rattle.raised_sections.proofs.KeptBounds.{keeps_bounds}
-use Rattle.block_bounds.specs.declared.bound.Bound.{Bound}
-use Rattle.block_bounds.specs.declared.bound.Bound.TheVariants as bound
+use Rattle.bound_rules.specs.declared.bound.Bound.{Bound}
+use Rattle.bound_rules.specs.declared.bound.Bound.TheVariants as bound
 use Rattle.block_bounds.specs.Bounds.{IsTold, AreBounds}
 use Rattle.block_bounds.specs.Kept.{RunsKeepTold}
 

@@ -13,18 +13,19 @@ use Rattle.osek_valid.specs.Apart.{static_priority}
 use Rattle.osek_valid.proofs.Facts.{Facts, facts}
 use Rattle.osek_valid.proofs.Stacks.{has_body}
 use Rattle.call_graph.specs.Reached.{any_below}
-use Rattle.stack_bounds.specs.Tables.{max_below}
+use Rattle.code_tables.specs.Tables.{max_below}
 use Rattle.stack_bounds.proofs.Below.{max_below-at, max_below-some, last_or_before}
 use Rattle.raised_sections.specs.Walks.{Position}
 use Rattle.raised_sections.specs.Sections.{size_of_section, IsLower, IsSectionFor, NoneIsLarger, IsGreatestSize, IsBound, lowest, above, HasNoBound, ExceedsBound, greatest_told_bound}
-use Rattle.block_bounds.specs.declared.bound.Bound.{Bound}
-use Rattle.block_bounds.specs.declared.bound.Bound.TheVariants as bound
-use Rattle.section_sizes.specs.declared.sizes.Summary.{Summary}
+use Rattle.bound_rules.specs.declared.bound.Bound.{Bound}
+use Rattle.bound_rules.specs.declared.bound.Bound.TheVariants as bound
+use Rattle.bound_rules.specs.declared.sizes.Summary.{Summary}
 use Rattle.section_sizes.specs.Trails.{MOST}
 use Rattle.section_sizes.specs.Parts.{called_level, CountsWithin}
-use Rattle.section_sizes.specs.Computed.{summary_of}
+use Rattle.bound_rules.specs.Summaries.{summary_of}
 use Rattle.section_sizes.specs.Known.{IsExact, IsEndless, IsSummary, AreSummaries}
-use Rattle.block_bounds.specs.Bounds.{IsTold, is_below, task_summary, some_endless, greatest_section, greatest_sections, told}
+use Rattle.block_bounds.specs.Bounds.{IsTold, is_below, some_endless, greatest_section, greatest_sections}
+use Rattle.bound_rules.specs.Tasks.{task_summary, told}
 use Rattle.section_sizes.proofs.Counting.{any_is, none_is}
 use Rattle.section_sizes.proofs.Decomposed.{L, section_part}
 use Rattle.section_sizes.proofs.Built.{section_within}

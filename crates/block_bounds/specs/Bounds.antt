@@ -1,17 +1,16 @@
 -- What is told of the bounds of all tasks.
-use Rattle.std.specs.Prelude.{ℕ, ◌+◌, ◌<◌, ◌≤◌, ◌≡◌, ◌&&◌, ltb, cond, Bool, List, length, get_or}
+use Rattle.std.specs.Prelude.{ℕ, ◌<◌, ◌≤◌, ◌≡◌, ◌&&◌, ltb, cond, Bool, List, length, get_or}
 use Rattle.sloth_base.specs.declared.config.Config.{Config}
 use Rattle.sloth_base.specs.declared.config.TaskDecl.{TaskDecl}
 use Rattle.sloth_base.specs.declared.app.App.{App}
 use Rattle.sloth_base.specs.declared.app.Func.{Func}
-use Rattle.sloth_base.specs.Named.{undeclared_task, body_of}
 use Rattle.call_graph.specs.Reached.{any_below}
-use Rattle.stack_bounds.specs.Tables.{max_below}
+use Rattle.code_tables.specs.Tables.{max_below}
 use Rattle.raised_sections.specs.Sections.{IsBound, HasNoBound, ExceedsBound, greatest_told_bound}
-use Rattle.block_bounds.specs.declared.bound.Bound.{Bound}
-use Rattle.block_bounds.specs.declared.bound.Bound.TheVariants as bound
-use Rattle.section_sizes.specs.declared.sizes.Summary.{Summary}
-use Rattle.section_sizes.specs.Computed.{summary_of}
+use Rattle.bound_rules.specs.declared.bound.Bound.{Bound}
+use Rattle.bound_rules.specs.declared.bound.Bound.TheVariants as bound
+use Rattle.bound_rules.specs.declared.sizes.Summary.{Summary}
+use Rattle.bound_rules.specs.Tasks.{task_at, task_summary}
 
 -- what is told of task h is so: its bound, up to 1,000,000; or that it is above that; or that sections have no greatest size
 abbrev pub IsTold : Config → App → (h : ℕ) → Bound → Type 0
@@ -26,18 +25,9 @@ pub record AreBounds (config : Config) (app : App) (bounds : List Bound) : Type 
 
 -- ---- how it is found
 
--- a task by its number
-abbrev pub task_at : List TaskDecl → ℕ → TaskDecl
-task_at tasks t = get_or tasks t undeclared_task
-
 -- task t is lower than this priority
 abbrev pub is_below : List TaskDecl → (priority t : ℕ) → Bool
 is_below tasks priority t = ltb (task_at tasks t).priority priority
-
--- the summary of a task's body: a task that is not preemptable counts as always raised
-abbrev pub task_summary : List TaskDecl → List Func → (whole own : List Summary) → ℕ → Summary
-task_summary tasks funcs whole own t =
-    cond (task_at tasks t).non (summary_of whole (body_of funcs t)) (summary_of own (body_of funcs t))
 
 -- sections of some lower task have no limit
 abbrev pub some_endless : List TaskDecl → List Func → (whole own : List Summary) → (priority : ℕ) → Bool
@@ -51,7 +41,3 @@ greatest_section tasks funcs whole own priority t = cond (is_below tasks priorit
 -- that of all lower tasks
 abbrev pub greatest_sections : List TaskDecl → List Func → (whole own : List Summary) → (priority : ℕ) → ℕ
 greatest_sections tasks funcs whole own priority = max_below (length tasks) (greatest_section tasks funcs whole own priority)
-
--- what is told of a greatest size, counted up to a little more than is told
-abbrev pub told : ℕ → Bound
-told most = cond (ltb most 1000000) (bound.Items (most + 1)) bound.Huge

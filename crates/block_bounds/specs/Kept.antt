@@ -7,8 +7,8 @@ use Rattle.osek_scheduler.specs.State.{System, opening}
 use Rattle.osek_scheduler.specs.Runs.{Leads, OsekRun}
 use Rattle.osek_blocking.specs.Blocking.{events_up_to_entry, MakesReady}
 use Rattle.raised_sections.specs.Kept.{lower_events}
-use Rattle.block_bounds.specs.declared.bound.Bound.{Bound}
-use Rattle.block_bounds.specs.declared.bound.Bound.TheVariants as bound
+use Rattle.bound_rules.specs.declared.bound.Bound.{Bound}
+use Rattle.bound_rules.specs.declared.bound.Bound.TheVariants as bound
 
 -- from each event that makes task h Ready up to its `enter` there are at most b `run` and `call` events of tasks of lower static priority
 abbrev pub WaitsForItems : Config → App → (h b : ℕ) → List Stamped → Type 0

@@ -1,22 +1,23 @@
 //! The blocking bound of each task.
 ghost use Rattle.std.specs.Prelude.{◌≡◌, ◌<◌, ℕ, true, length, Some, None, IfOk};
-ghost use Rattle.sloth_base.specs.Options.{is_number};
-ghost use Rattle.sloth_base.specs.Named.{body_of};
 ghost use Rattle.code_rules.specs.WellFormed.{WellFormed};
 ghost use Rattle.osek_valid.specs.Apart.{static_priority};
 ghost use Rattle.call_graph.specs.Ranks.{RanksOf};
 ghost use Rattle.call_graph.specs.Reached.{any_below};
-ghost use Rattle.stack_bounds.specs.Tables.{HasBody};
+ghost use Rattle.code_tables.specs.Tables.{HasBody};
 ghost use Rattle.section_sizes.specs.CallOrder.{IsCallOrder};
 ghost use Rattle.section_sizes.specs.Known.{AreKnownBodies, AreSummaries};
 ghost use Rattle.block_bounds.specs.Kept.{RunsKeepTold};
-ghost use Rattle.block_bounds.specs.Bounds.{IsTold, AreBounds, is_below, task_summary, some_endless, greatest_section, greatest_sections, told};
+ghost use Rattle.block_bounds.specs.Bounds.{IsTold, AreBounds, is_below, some_endless, greatest_section, greatest_sections};
 
+use bound_rules::bodies::Body;
+pub use bound_rules::bound::Bound;
+use bound_rules::bound::{task_summary, told};
+use bound_rules::sizes::Summary;
 use call_graph::ranking::Ranks;
-use section_sizes::bodies::{Body, bodies};
+use section_sizes::bodies::bodies;
 use section_sizes::levels::{own_summaries, whole_summaries};
 use section_sizes::order::callees_first;
-use section_sizes::sizes::Summary;
 use sloth_base::app::{App, Func};
 use sloth_base::config::{Config, TaskDecl};
 use sloth_base::list::List;
@@ -24,65 +25,6 @@ use sloth_base::memory::NoMemory;
 use std::alloc::Global;
 use task_verify::verified::Verified;
 use text_pieces::growth::push;
-
-/// How much work of lower tasks may stand between a task's becoming Ready and its entry.
-#[derive(Clone, Copy)]
-pub enum Bound {
-    /// At most so many items, 0 to 1,000,000: 0 where no task is lower.
-    Items(u32),
-    /// More than 1,000,000 items, but not without limit.
-    Huge,
-    /// Without limit.
-    Endless,
-}
-
-/// The least size of sections that is told as huge, with the one item of a service that was running.
-const HUGE: u32 = 1_000_000;
-
-fn belongs_to(func: &Func, task: usize) -> bool
-    ensures { result ≡ is_number task func.now.task }
-{
-    match func.task {
-        Some(owner) => owner.0 as usize == task,
-        None => false,
-    }
-}
-
-/// The number of the task's body. There is one.
-fn body_of(funcs: &[Func], task: usize) -> usize
-    requires { HasBody funcs.now task }
-    ensures is { result ≡ body_of funcs.now task }
-    ensures known { result < length funcs.now }
-{
-    for (number, func) in funcs.iter().enumerate() {
-        if belongs_to(func, task) {
-            return number;
-        }
-    }
-    funcs.len()
-}
-
-/// The summary of a task's body: a task that is not preemptable counts as always raised.
-fn task_summary(
-    tasks: &[TaskDecl],
-    funcs: &[Func],
-    whole: &[Summary],
-    own: &[Summary],
-    task: usize,
-) -> Summary
-    requires inside { task < length tasks.now }
-    requires body { HasBody funcs.now task }
-    requires whole_count { length whole.now ≡ length funcs.now }
-    requires own_count { length own.now ≡ length funcs.now }
-    ensures { result ≡ task_summary tasks.now funcs.now whole.now own.now task }
-{
-    let body = body_of(funcs, task);
-    if tasks[task].non {
-        whole[body]
-    } else {
-        own[body]
-    }
-}
 
 /// Whether the task is lower than this priority.
 fn is_below(tasks: &[TaskDecl], priority: u32, task: usize) -> bool
@@ -166,16 +108,6 @@ fn greatest_sections(
     most
 }
 
-fn told(most: u32) -> Bound
-    ensures { result ≡ told most }
-{
-    if most < HUGE {
-        Bound::Items(most + 1)
-    } else {
-        Bound::Huge
-    }
-}
-
 fn priority_of(config: &Config, task: usize) -> u32
     requires { task < length config.now.tasks }
     ensures { result ≡ static_priority config.now task }
@@ -234,6 +166,29 @@ fn bound_of(
     }
 }
 
+/// The bounds of all tasks, from what is known of all bodies.
+fn bounds_by(
+    alloc: Global,
+    config: &Config,
+    app: &App,
+    bodies: &[Body],
+    order: &[usize],
+    whole: &[Summary],
+) -> Result<Vec<Bound>, NoMemory>
+    requires well_formed { WellFormed config.now app.now }
+    requires bodies { AreKnownBodies config.now app.now bodies.now }
+    requires order { IsCallOrder app.now order.now }
+    requires whole { AreSummaries config.now app.now None whole.now }
+    ensures { IfOk result (λ bounds. AreBounds config.now app.now bounds.items) }
+{
+    let mut bounds = Vec::new(alloc);
+    for task in 0..config.tasks.items().len() {
+        let bound = bound_of(alloc, config, app, bodies, order, whole, task)?;
+        push(&mut bounds, bound)?;
+    }
+    Ok(bounds)
+}
+
 /// The bounds of all tasks of well-formed task code.
 fn bounds_of(
     alloc: Global,
@@ -248,12 +203,7 @@ fn bounds_of(
     let order = callees_first(alloc, app, ranks)?;
     let bodies = bodies(alloc, config, app, &order)?;
     let whole = whole_summaries(alloc, config, app, &bodies, &order)?;
-    let mut bounds = Vec::new(alloc);
-    for task in 0..config.tasks.items().len() {
-        let bound = bound_of(alloc, config, app, &bodies, &order, &whole, task)?;
-        push(&mut bounds, bound)?;
-    }
-    Ok(bounds)
+    bounds_by(alloc, config, app, &bodies, &order, &whole)
 }
 
 /// The blocking bound of each task, 0 to 1,000,000 items, or that it is above that, or that there is none.

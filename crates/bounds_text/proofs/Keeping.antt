@@ -11,15 +11,15 @@ use Rattle.sloth_base.specs.Named.{undeclared_task}
 use Rattle.sloth_base.specs.Stretches.{longest_stretch}
 use Rattle.code_rules.specs.WellFormed.{WellFormed}
 use Rattle.osek_valid.specs.Apart.{static_priority}
-use Rattle.trace_time.specs.Timed.{HasFewAlarms}
 use Rattle.run_bounds.specs.Latency.{any_stretch, running_limit, latency, EntersBefore}
 use Rattle.run_bounds.proofs.Runs.{keeps_blocking_bounds}
-use Rattle.block_bounds.specs.declared.bound.Bound.{Bound}
+use Rattle.bound_rules.specs.declared.bound.Bound.{Bound}
 use Rattle.block_bounds.specs.Bounds.{AreBounds}
 use Rattle.block_bounds.proofs.KeptTold.{told-bound}
 use Rattle.bounds_text.specs.BoundsText.{HasLines, bound_lines}
 use Rattle.bounds_text.specs.KeptRuns.{RunsKeepAll, IsBehindBoot, with_ticks, RunsKeepLatency}
-use Rattle.bounds_text.specs.Latency.{IsHighestAmong, IsHighestTask, HasLatency, last_line}
+use Rattle.task_latency.specs.Highest.{IsHighestAmong}
+use Rattle.bounds_text.specs.Latency.{IsHighestTask, HasLatency, last_line}
 
 pub runs-keep-all : (config : Config) (app : App) (bounds : List Bound) → WellFormed config app → AreBounds config app bounds → RunsKeepAll config app bounds
 runs-keep-all config app bounds code are image arrivals n sound h b is =
@@ -58,10 +58,6 @@ runs-keep-latency config app bounds (Some h) code are is =
     → EntersBefore h (made.stamp.at + with_ticks config h (latency config limit b) behind) behind in
     subst E same
     (kept.latency before behind made h b found s events-are leads makes admits is.1 (told-bound config app bounds h b are makes.declared told)) many
-
--- a configuration in range has few alarms
-pub few_alarms : (config : Config) → InRange config → HasFewAlarms config
-few_alarms config range = record { counters = range.few_counters; alarms = range.few_alarms }
 
 -- ---- the task of highest priority
 

@@ -4,8 +4,8 @@ use Rattle.sloth_base.specs.declared.config.Config.{Config}
 use Rattle.sloth_base.specs.declared.app.App.{App}
 use Rattle.sloth_base.specs.Named.{declaration}
 use Rattle.sloth_source.proofs.Unique.{one_meaning}
-use Rattle.block_bounds.specs.declared.bound.Bound.{Bound}
-use Rattle.block_bounds.specs.declared.bound.Bound.TheVariants as bound
+use Rattle.bound_rules.specs.declared.bound.Bound.{Bound}
+use Rattle.bound_rules.specs.declared.bound.Bound.TheVariants as bound
 use Rattle.block_bounds.specs.Bounds.{AreBounds}
 use Rattle.block_bounds.proofs.OneTold.{one_told}
 use Rattle.bounds_text.specs.BoundsText.{bound_lines}

@@ -17,8 +17,8 @@ use Rattle.raised_sections.specs.Spent.{spent_counts}
 use Rattle.sim_induction.specs.Sound.{IsSoundRun, events_of}
 use Rattle.run_bounds.specs.Latency.{latency, tick_counts, EntersBefore}
 use Rattle.block_bounds.specs.Kept.{WaitsForItems}
-use Rattle.block_bounds.specs.declared.bound.Bound.{Bound}
-use Rattle.block_bounds.specs.declared.bound.Bound.TheVariants as bound
+use Rattle.bound_rules.specs.declared.bound.Bound.{Bound}
+use Rattle.bound_rules.specs.declared.bound.Bound.TheVariants as bound
 
 -- ---- bounds
 

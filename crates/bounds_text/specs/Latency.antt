@@ -1,25 +1,16 @@
 -- The last line of the command `bounds OIL SRC latency`.
-use Rattle.std.specs.Prelude.{ℕ, ◌<◌, ◌≤◌, ◌≡◌, List, [], ◌++◌, codes, decimal, length, get_or, Option, Some, None}
+use Rattle.std.specs.Prelude.{ℕ, ◌<◌, ◌≡◌, List, [], ◌++◌, codes, decimal, length, get_or, Option, Some, None}
 use Rattle.sloth_base.specs.declared.config.Config.{Config}
 use Rattle.sloth_base.specs.declared.app.App.{App}
-use Rattle.sloth_base.specs.declared.config.TaskDecl.{TaskDecl}
-use Rattle.sloth_base.specs.Named.{undeclared_task, declaration}
+use Rattle.sloth_base.specs.Named.{declaration}
 use Rattle.sloth_base.specs.Stretches.{longest_stretch}
 use Rattle.sloth_source.specs.Texts.{AreAccepted}
 use Rattle.run_bounds.specs.Latency.{IsHighest, latency}
-use Rattle.block_bounds.specs.declared.bound.Bound.{Bound}
-use Rattle.block_bounds.specs.declared.bound.Bound.TheVariants as bound
+use Rattle.bound_rules.specs.declared.bound.Bound.{Bound}
+use Rattle.bound_rules.specs.declared.bound.Bound.TheVariants as bound
 use Rattle.block_bounds.specs.Bounds.{AreBounds}
 use Rattle.bounds_text.specs.BoundsText.{bound_lines}
 use Rattle.bounds_text.specs.KeptRuns.{RunsKeepAll, RunsKeepLatency}
-
--- none of the first k tasks has a higher priority than task h
-abbrev pub AreAtMost : List TaskDecl → (h k : ℕ) → Type 0
-AreAtMost tasks h k = (t : ℕ) → t < k → (get_or tasks t undeclared_task).priority ≤ (get_or tasks h undeclared_task).priority
-
--- no task has a higher priority than task h
-abbrev pub IsHighestAmong : List TaskDecl → (h : ℕ) → Type 0
-IsHighestAmong tasks h = (h < length tasks) × AreAtMost tasks h (length tasks)
 
 -- this is the task of highest priority, if there is a task
 abbrev pub IsHighestTask : Config → Option ℕ → Type 0
@@ -40,6 +31,12 @@ latency_line config bounds task = (((declaration config task).name ++ codes " la
 abbrev pub last_line : Config → List Bound → Option ℕ → List ℕ
 last_line config bounds None = []
 last_line config bounds (Some h) = latency_line config bounds h
+
+-- these are the lines of these bounds, and then that of the latency of the task of highest priority
+pub record AreAllLines (config : Config) (bounds : List Bound) (text : List ℕ) : Type 0 where
+  pub highest : Option ℕ
+  pub is_highest : IsHighestTask config highest
+  pub lines : text ≡ bound_lines config.tasks bounds (length config.tasks) ++ last_line config bounds highest
 
 -- these are the lines of the bounds of all tasks, and then that of the latency of the task of highest priority, and runs keep both
 pub record HasLatency (config : Config) (app : App) (text : List ℕ) : Type 0 where

@@ -1,41 +1,21 @@
 //! The lines of the command `bounds OIL SRC latency`.
-ghost use Rattle.std.specs.Prelude.{◌≡◌, ◌<◌, length, IfOk, IfErr, IfSome, IfNone};
+ghost use Rattle.std.specs.Prelude.{◌≡◌, ◌<◌, length, IfOk, IfErr};
 ghost use Rattle.sloth_base.specs.ConfigRange.{InRange};
 ghost use Rattle.call_graph.specs.Ranks.{RanksOf};
 ghost use Rattle.sloth_source.specs.Texts.{ErrorIs};
 ghost use Rattle.bounds_text.specs.BoundsText.{IsTellable, AreTellable};
-ghost use Rattle.bounds_text.specs.Latency.{IsHighestAmong, IsHighestTask, HasLatency, IsLatencyText, latency_text, latency_line, last_line};
+ghost use Rattle.bounds_text.specs.Latency.{IsHighestTask, HasLatency, IsLatencyText, latency_text, latency_line, last_line, AreAllLines};
 
-use crate::{ITEM_COUNTS, bound_lines, read_checked};
+use crate::{bound_lines, read_checked};
 use block_bounds::bound::{Bound, bounds};
 use call_graph::ranking::Ranks;
 use itoa::Buffer;
-use sloth_base::config::{Config, TaskDecl};
+use sloth_base::config::Config;
 use sloth_base::memory::NoMemory;
 use sloth_base::refusal::BuildError;
 use std::alloc::Global;
+use task_latency::latency::{highest_among, latency_of};
 use task_verify::verified::Verified;
-use trace_time::stretches::longest_stretch;
-
-/// The most counts of an item that show no event.
-const UNSEEN_COUNTS: u64 = 40;
-
-// A task of highest priority, if there is a task.
-fn highest_among(tasks: &[TaskDecl]) -> Option<usize>
-    ensures some { IfSome result (IsHighestAmong tasks.now) }
-    ensures none { IfNone result (length tasks.now ≡ 0) }
-{
-    if tasks.is_empty() {
-        return None;
-    }
-    let mut highest = 0;
-    for task in 0..tasks.len() {
-        if tasks[highest].priority < tasks[task].priority {
-            highest = task;
-        }
-    }
-    Some(highest)
-}
 
 // The task of highest priority, if there is a task.
 fn highest_task(config: &Config) -> Option<usize>
@@ -46,7 +26,6 @@ fn highest_task(config: &Config) -> Option<usize>
 }
 
 // The latency with this bound, for an arrival behind boot, ticks left out.
-#[tactic(auto, using(crate::proofs::Keeping::few_alarms))]
 fn latency_text(alloc: Global, config: &Config, bound: Bound) -> Result<Vec<u8>, NoMemory>
     requires in_range { InRange config.now }
     requires tellable { IsTellable bound }
@@ -55,9 +34,7 @@ fn latency_text(alloc: Global, config: &Config, bound: Bound) -> Result<Vec<u8>,
     match bound {
         Bound::Items(items) => {
             let mut buffer = Buffer::new();
-            let longest = u64::from(longest_stretch(config));
-            let of_items = u64::from(ITEM_COUNTS) * u64::from(items);
-            let counts = longest + of_items + (UNSEEN_COUNTS + longest);
+            let counts = latency_of(config, items);
             let mut text = Vec::from_slice(alloc, b" ")?;
             text.extend_from_slice(buffer.format(counts).as_bytes())?;
             Ok(text)
@@ -107,18 +84,35 @@ fn last_line(
     }
 }
 
+// The lines of these bounds, and the last one.
+fn all_lines(alloc: Global, config: &Config, bounds: &[Bound]) -> Result<Vec<u8>, NoMemory>
+    requires same { length bounds.now ≡ length config.now.tasks }
+    requires in_range { InRange config.now }
+    requires tellable { AreTellable bounds.now }
+    ensures { IfOk result (λ text. AreAllLines config.now bounds.now text.items) }
+{
+    let highest = highest_task(config);
+    let mut text = bound_lines(alloc, config.tasks.items(), bounds)?;
+    text.extend_from_slice(last_line(alloc, config, bounds, highest)?.as_slice())?;
+    Ok(text)
+}
+
 // The lines of task code.
-#[tactic(auto, using(crate::proofs::Keeping::has_latency))]
 fn checked_latency(alloc: Global, verified: &Verified, ranks: &Ranks) -> Result<Vec<u8>, NoMemory>
     requires { RanksOf verified.now.app ranks.now }
     ensures { IfOk result (λ text. HasLatency verified.now.config verified.now.app text.items) }
 {
-    let config = verified.config();
     let bounds = bounds(alloc, verified, ranks)?;
-    let highest = highest_task(config);
-    let mut text = bound_lines(alloc, config.tasks.items(), bounds.items())?;
-    text.extend_from_slice(last_line(alloc, config, bounds.items(), highest)?.as_slice())?;
-    Ok(text)
+    all_lines(alloc, verified.config(), bounds.items())
+}
+
+// The same, where the error is that of texts.
+fn latency_of_code(alloc: Global, verified: &Verified, ranks: &Ranks) -> Result<Vec<u8>, BuildError>
+    requires { RanksOf verified.now.app ranks.now }
+    ensures text { IfOk result (λ text. HasLatency verified.now.config verified.now.app text.items) }
+    ensures memory { IfErr result (λ error. error ≡ BuildError.Memory) }
+{
+    Ok(checked_latency(alloc, verified, ranks)?)
 }
 
 /// The lines of the bounds of all tasks, and that of the latency of the task of highest priority, of texts of at most 4,294,967,294 bytes;
@@ -131,6 +125,5 @@ pub fn latency_lines(alloc: Global, oil: &[u8], src: &[u8]) -> Result<Vec<u8>, B
     ensures refused { IfErr result (ErrorIs oil.now src.now) }
 {
     let checked = read_checked(alloc, oil, src)?;
-    let text = checked_latency(alloc, &checked.verified, &checked.ranks)?;
-    Ok(text)
+    latency_of_code(alloc, &checked.verified, &checked.ranks)
 }

@@ -2,9 +2,10 @@
 #![tactic(auto)]
 
 ghost use Rattle.std.specs.Prelude.{◌≡◌, ◌<◌, length, IfOk, IfErr};
+ghost use Rattle.code_rules.specs.AppRange.{AppInRange};
 ghost use Rattle.call_graph.specs.Ranks.{RanksOf};
 ghost use Rattle.sloth_source.specs.Texts.{AreAccepted, ErrorIs};
-ghost use Rattle.bounds_text.specs.BoundsText.{IsTellable, AreTellable, HasLines, bound_text, bound_line, bound_lines, IsBoundsText};
+ghost use Rattle.bounds_text.specs.BoundsText.{IsTellable, AreTellable, IsChecked, RulesErrorIs, HasLines, bound_text, bound_line, bound_lines, IsBoundsText};
 
 pub mod latency;
 pub mod laws;
@@ -12,7 +13,8 @@ pub mod laws;
 use block_bounds::bound::{Bound, bounds};
 use call_graph::ranking::Ranks;
 use itoa::Buffer;
-use sloth_base::config::TaskDecl;
+use sloth_base::app::App;
+use sloth_base::config::{Config, TaskDecl};
 use sloth_base::memory::NoMemory;
 use sloth_base::refusal::BuildError;
 use sloth_source::{Ranked, read_ranked};
@@ -82,6 +84,22 @@ struct Checked {
     ranks: Ranks,
 }
 
+// Task code that is verified, with the ranks of its functions.
+fn checked_code(
+    alloc: Global,
+    config: &Config,
+    app: &App,
+    ranks: Ranks,
+) -> Result<Checked, BuildError>
+    requires in_range { AppInRange config.now app.now }
+    requires belong { RanksOf app.now ranks }
+    ensures checked { IfOk result (λ checked. IsChecked config.now app.now checked.verified checked.ranks) }
+    ensures refused { IfErr result (RulesErrorIs config.now app.now) }
+{
+    let verified = verify(alloc, config, app, &ranks)?;
+    Ok(Checked { verified, ranks })
+}
+
 // What both texts mean, where they are accepted.
 fn read_checked(alloc: Global, oil: &[u8], src: &[u8]) -> Result<Checked, BuildError>
     requires oil { length oil.now < 4294967295 }
@@ -91,15 +109,15 @@ fn read_checked(alloc: Global, oil: &[u8], src: &[u8]) -> Result<Checked, BuildE
     ensures refused { IfErr result (ErrorIs oil.now src.now) }
 {
     let Ranked { config, app, ranks } = read_ranked(alloc, oil, src)?;
-    let verified = verify(alloc, &config, &app, &ranks)?;
-    Ok(Checked { verified, ranks })
+    checked_code(alloc, &config, &app, ranks)
 }
 
 // The lines of task code.
 #[tactic(auto, using(crate::proofs::Keeping::has_lines))]
-fn checked_text(alloc: Global, verified: &Verified, ranks: &Ranks) -> Result<Vec<u8>, NoMemory>
+fn checked_text(alloc: Global, verified: &Verified, ranks: &Ranks) -> Result<Vec<u8>, BuildError>
     requires { RanksOf verified.now.app ranks.now }
-    ensures { IfOk result (λ text. HasLines verified.now.config verified.now.app text.items) }
+    ensures text { IfOk result (λ text. HasLines verified.now.config verified.now.app text.items) }
+    ensures memory { IfErr result (λ error. error ≡ BuildError.Memory) }
 {
     let bounds = bounds(alloc, verified, ranks)?;
     let text = bound_lines(alloc, verified.config().tasks.items(), bounds.items())?;
@@ -114,6 +132,5 @@ pub fn bounds_text(alloc: Global, oil: &[u8], src: &[u8]) -> Result<Vec<u8>, Bui
     ensures refused { IfErr result (ErrorIs oil.now src.now) }
 {
     let checked = read_checked(alloc, oil, src)?;
-    let text = checked_text(alloc, &checked.verified, &checked.ranks)?;
-    Ok(text)
+    checked_text(alloc, &checked.verified, &checked.ranks)
 }

@@ -1,5 +1,3 @@
-pub mod Sets
-pub mod Closure
 pub mod Counted
 pub mod Itself
 pub mod Belongs

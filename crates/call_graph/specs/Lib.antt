@@ -1,5 +1,3 @@
-pub mod Bits
-pub mod Rows
 pub mod Cycles
 pub mod Reached
 pub mod Gathered

@@ -13,12 +13,11 @@ pub mod cycles;
 pub mod lists;
 pub mod ranking;
 pub mod reached;
-pub mod rows;
 
 use crate::cycles::cycle;
 use crate::lists::{direct_calls, gathered};
 use crate::ranking::Ranks;
-use crate::rows::closed;
+use code_tables::rows::closed;
 use sloth_base::app::App;
 use sloth_base::refusal::BuildError;
 use std::alloc::Global;

@@ -1,7 +1,7 @@
 //! Lists with an entry for each function.
 ghost use Rattle.std.specs.Prelude.{◌≡◌, ℕ, ◌<◌, ◌≤◌, false, length, map, get_or, count_ones, IfOk};
-ghost use Rattle.call_graph.specs.Bits.{is_member};
-ghost use Rattle.call_graph.specs.Rows.{row_has};
+ghost use Rattle.code_tables.specs.Bits.{is_member};
+ghost use Rattle.code_tables.specs.Rows.{row_has};
 ghost use Rattle.call_graph.specs.Reached.{AreFew, func_of, calls_itself, takes_by, pauses_by, used_by};
 ghost use Rattle.call_graph.specs.Gathered.{AreGathered};
 
@@ -12,6 +12,7 @@ use sloth_base::app::Func;
 use sloth_base::list::List;
 use sloth_base::memory::NoMemory;
 use std::alloc::Global;
+use text_pieces::growth::push;
 
 /// The rows of direct calls.
 pub fn direct_calls(alloc: Global, funcs: &[Func]) -> Result<Vec<u64>, NoMemory>
@@ -21,7 +22,7 @@ pub fn direct_calls(alloc: Global, funcs: &[Func]) -> Result<Vec<u64>, NoMemory>
 {
     let mut rows = Vec::new(alloc);
     for func in funcs {
-        rows.push(called(func.items.items())).map_err(|_| NoMemory)?;
+        push(&mut rows, called(func.items.items()))?;
     }
     Ok(rows)
 }
@@ -77,8 +78,7 @@ fn user_sets(alloc: Global, funcs: &[Func], rows: &[u64]) -> Result<List<u32>, N
 {
     let mut list = Vec::new(alloc);
     for number in 0..funcs.len() {
-        list.push(users_of(funcs, rows, number))
-            .map_err(|_| NoMemory)?;
+        push(&mut list, users_of(funcs, rows, number))?;
     }
     Ok(List::from_vec(list))
 }

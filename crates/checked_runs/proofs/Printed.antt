@@ -21,7 +21,7 @@ use Rattle.sim_induction.specs.Sound.{events_of}
 use Rattle.trace_text.specs.EventLines.{Has32Bits, HasNumbers, IsNumberOrNone, IsNameNumber}
 use Rattle.trace_text.specs.Texts.{lines_with}
 use Rattle.trace_text.specs.declared.printing.Form.TheVariants as form
-use Rattle.trace_check.specs.TraceText.{HasLine}
+use Rattle.walked_events.specs.TraceText.{HasLine}
 use Rattle.trace_check.specs.Verdicts.{counter_names, func_names, task_names}
 use Rattle.checked_runs.specs.CheckedRuns.{SoundRunsAreChecked}
 use Rattle.code_rules.specs.AppRange.{AppInRange}

@@ -7,9 +7,6 @@ use Rattle.sloth_base.specs.declared.refusal.Code.TheVariants as code
 use Rattle.sloth_base.specs.declared.refusal.Refusal.{Refusal}
 use Rattle.image_file.specs.declared.fault.ImageFault.{ImageFault}
 use Rattle.image_file.specs.declared.fault.ImageFault.TheVariants as fault
-use Rattle.rv32_instr.specs.declared.stop.Stop.{Stop}
-use Rattle.rv32_instr.specs.declared.stop.Stop.TheVariants as stop
-use Rattle.trace_text.specs.Listing.{word_text}
 
 -- the name of a text in a refusal
 abbrev pub part_text : Part → List ℕ
@@ -77,15 +74,3 @@ fault_text fault.I5 = codes "I5"
 -- `not an image`, and the file's first fault
 abbrev pub no_image_line : ImageFault → List ℕ
 no_image_line fault = codes "not an image " ++ fault_text fault ++ codes "\n"
-
--- why the machine stopped
-abbrev pub cause_text : Stop → List ℕ
-cause_text (stop.Fetch pc) = codes "fetch"
-cause_text (stop.Illegal word) = codes "illegal " ++ word_text word
-cause_text (stop.Access address) = codes "access " ++ word_text address
-cause_text (stop.Misaligned address) = codes "misaligned " ++ word_text address
-cause_text stop.Environment = codes "environment"
-
--- `stopped`, the address of the instruction and the cause
-abbrev pub stopped_line : ℕ → Stop → List ℕ
-stopped_line pc stop = codes "stopped " ++ word_text pc ++ codes " " ++ cause_text stop ++ codes "\n"

@@ -4,6 +4,5 @@
 pub mod command;
 pub mod counts;
 pub mod last_line;
-mod number;
 pub mod tool;
 mod tool_words;

@@ -118,40 +118,78 @@ pub struct ToolWords<'a> {
     pub output: Option<&'a str>,
 }
 
+// The tool of three words that a word asks for.
+fn tool_of_three(word: &str) -> Option<Tool>
+    ensures some { IfSome result (λ tool. (word.now ≡ tool_word tool) × (3 ≡ word_count tool)) }
+    ensures none { IfNone result ((tool : AnyTool) → word.now ≡ tool_word tool → 3 ≡ word_count tool → ⊥) }
+{
+    if word == "elf" {
+        return Some(Tool::Elf);
+    }
+    if word == "unelf" {
+        return Some(Tool::Unelf);
+    }
+    if word == "bounds" {
+        return Some(Tool::Bounds);
+    }
+    if word == "map" {
+        return Some(Tool::Map);
+    }
+    None
+}
+
+// The tool of four words.
+fn tool_of_four(word: &str) -> Option<Tool>
+    ensures some { IfSome result (λ tool. (word.now ≡ tool_word tool) × (4 ≡ word_count tool)) }
+    ensures none { IfNone result ((tool : AnyTool) → word.now ≡ tool_word tool → 4 ≡ word_count tool → ⊥) }
+{
+    if word == "infer" {
+        return Some(Tool::Infer);
+    }
+    if word == "at" {
+        return Some(Tool::At);
+    }
+    if word == "bounds" {
+        return Some(Tool::Latency);
+    }
+    None
+}
+
+// The tool of five words.
+fn tool_of_five(word: &str) -> Option<Tool>
+    ensures some { IfSome result (λ tool. (word.now ≡ tool_word tool) × (5 ≡ word_count tool)) }
+    ensures none { IfNone result ((tool : AnyTool) → word.now ≡ tool_word tool → 5 ≡ word_count tool → ⊥) }
+{
+    if word == "wave" {
+        return Some(Tool::Wave);
+    }
+    None
+}
+
+// The tool of six words.
+fn tool_of_six(word: &str) -> Option<Tool>
+    ensures some { IfSome result (λ tool. (word.now ≡ tool_word tool) × (6 ≡ word_count tool)) }
+    ensures none { IfNone result ((tool : AnyTool) → word.now ≡ tool_word tool → 6 ≡ word_count tool → ⊥) }
+{
+    if word == "picture" {
+        return Some(Tool::Picture);
+    }
+    if word == "check" {
+        return Some(Tool::Check);
+    }
+    None
+}
+
 /// The tool that a word asks for, where there are so many words.
 pub fn tool_named(word: &str, count: usize) -> Option<Tool>
     ensures some { IfSome result (λ tool. (word.now ≡ tool_word tool) × (count ≡ word_count tool)) }
     ensures none { IfNone result ((tool : AnyTool) → word.now ≡ tool_word tool → count ≡ word_count tool → ⊥) }
 {
-    if word == "elf" && count == 3 {
-        return Some(Tool::Elf);
+    match count {
+        3 => tool_of_three(word),
+        4 => tool_of_four(word),
+        5 => tool_of_five(word),
+        6 => tool_of_six(word),
+        _ => None,
     }
-    if word == "unelf" && count == 3 {
-        return Some(Tool::Unelf);
-    }
-    if word == "infer" && count == 4 {
-        return Some(Tool::Infer);
-    }
-    if word == "at" && count == 4 {
-        return Some(Tool::At);
-    }
-    if word == "wave" && count == 5 {
-        return Some(Tool::Wave);
-    }
-    if word == "picture" && count == 6 {
-        return Some(Tool::Picture);
-    }
-    if word == "check" && count == 6 {
-        return Some(Tool::Check);
-    }
-    if word == "bounds" && count == 3 {
-        return Some(Tool::Bounds);
-    }
-    if word == "bounds" && count == 4 {
-        return Some(Tool::Latency);
-    }
-    if word == "map" && count == 3 {
-        return Some(Tool::Map);
-    }
-    None
 }

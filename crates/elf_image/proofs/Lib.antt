@@ -1,5 +1,4 @@
 pub mod Faulted
-pub mod Frames
 pub mod Descriptions
 pub mod Notes
 pub mod Steps

@@ -1,13 +1,14 @@
 -- What the steps of reading tell of the whole file.
-use Rattle.std.proofs.Common.{◌≡◌, ◌<◌, ◌+◌, ◌^◌, ℕ, List, [], length, take, drop, sym, ◌∙◌, ap, subst, arith}
+use Rattle.std.proofs.Common.{◌≡◌, ◌<◌, ◌+◌, ◌*◌, ◌^◌, ℕ, List, [], length, take, drop, sym, ◌∙◌, ap, subst, arith}
 use Rattle.std.specs.Prelude.{Result, Ok, Err, IfOk}
+use Rattle.sloth_base.specs.ImageRange.{service_limit}
 use Rattle.sloth_base.specs.declared.image.Image.{Image}
-use Rattle.image_file.specs.declared.header.Sizes.{Sizes}
-use Rattle.elf_image.specs.ElfText.{ElfText, note_bytes}
-use Rattle.elf_image.specs.Faults.{Description, Fails, HasNote, IsFramed, described_bytes}
-use Rattle.elf_image.specs.Reading.{AreRead, BeginsWith, ContentsFail, DescriptionFails, IsDescription, IsNote, NoteFails, PartsMiss, description_at}
-use Rattle.elf_image.specs.declared.fault.ElfFault.TheVariants as fault
-use Rattle.elf_image.specs.declared.fault.ElfFault.{ElfFault}
+use Rattle.image_fields.specs.declared.sizes.Sizes.{Sizes}
+use Rattle.elf_fields.specs.ElfText.{ElfText, note_bytes}
+use Rattle.elf_fields.specs.Faults.{Description, Fails, HasNote, IsFramed, described_bytes}
+use Rattle.elf_image.specs.Reading.{AreRead, BeginsWith, ContentsFail, DescriptionFails, IsDescription, IsNote, MarksMiss, NoteFails, PartsMiss, description_at}
+use Rattle.elf_fields.specs.declared.fault.ElfFault.TheVariants as fault
+use Rattle.elf_fields.specs.declared.fault.ElfFault.{ElfFault}
 use Rattle.image_file.specs.declared.fault.FileError.{FileError}
 use Rattle.image_file.specs.declared.fault.FileError.TheVariants as failure
 use Rattle.elf_image.proofs.Faulted.{short-note}
@@ -31,6 +32,20 @@ parts-miss (failure.Fault fault.E5) description s has h = absurd h
 parts-miss (failure.Fault fault.E6) description s has h = absurd h
 parts-miss (failure.Fault fault.E8) description s has h = absurd h
 parts-miss failure.Memory description s has h = h
+
+-- marks that are missing are a fault of the contents
+pub marks-miss : (f : FileError ElfFault) (file : List ℕ) (tasks funcs counters : List (List ℕ)) (at count size : ℕ)
+    → MarksMiss f file at count (service_limit (length counters)) (length funcs) size → ContentsFail f file tasks funcs counters at count size
+marks-miss (failure.Fault fault.E8) file tasks funcs counters at count size h =
+    λ image read. h image.marks (drop (at + length image.marks * 12) file) read.counted read.marks.right read.marks.are
+marks-miss (failure.Fault fault.E1) file tasks funcs counters at count size h = absurd h
+marks-miss (failure.Fault fault.E2) file tasks funcs counters at count size h = absurd h
+marks-miss (failure.Fault fault.E3) file tasks funcs counters at count size h = absurd h
+marks-miss (failure.Fault fault.E4) file tasks funcs counters at count size h = absurd h
+marks-miss (failure.Fault fault.E5) file tasks funcs counters at count size h = absurd h
+marks-miss (failure.Fault fault.E6) file tasks funcs counters at count size h = absurd h
+marks-miss (failure.Fault fault.E7) file tasks funcs counters at count size h = absurd h
+marks-miss failure.Memory file tasks funcs counters at count size h = h
 
 module _ (file : List ℕ) (size note : ℕ) (frame : IsFramed file size note) where
   -- a note that is none's is a fault

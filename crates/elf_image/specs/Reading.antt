@@ -3,14 +3,16 @@ use Rattle.std.specs.Prelude.{◌≡◌, ◌≢◌, ◌≤◌, ◌<◌, ◌+◌,
 use Rattle.std.specs.List.{flat_map}
 use Rattle.sloth_base.specs.ImageRange.{AreAscending, service_limit}
 use Rattle.sloth_base.specs.declared.image.Image.{Image}
-use Rattle.image_file.specs.ImageText.{four_bytes}
-use Rattle.image_file.specs.Parts.{AreRightNames, Parts, PartsStand, SizesFit}
+use Rattle.sloth_base.specs.declared.image.Mark.{Mark}
+use Rattle.image_fields.specs.Fields.{four_bytes}
+use Rattle.image_fields.specs.Limits.{SizesFit}
+use Rattle.image_file.specs.Parts.{AreRightNames, Parts, PartsStand}
 use Rattle.image_file.specs.Reading.{MarksStand, NoMarks}
-use Rattle.image_file.specs.declared.header.Sizes.{Sizes}
-use Rattle.elf_image.specs.ElfText.{note_bytes}
-use Rattle.elf_image.specs.Faults.{Description, IsFramed, IsWithin, described_bytes}
-use Rattle.elf_image.specs.declared.fault.ElfFault.TheVariants as fault
-use Rattle.elf_image.specs.declared.fault.ElfFault.{ElfFault}
+use Rattle.image_fields.specs.declared.sizes.Sizes.{Sizes}
+use Rattle.elf_fields.specs.ElfText.{note_bytes}
+use Rattle.elf_fields.specs.Faults.{Description, IsFramed, IsWithin, described_bytes}
+use Rattle.elf_fields.specs.declared.fault.ElfFault.TheVariants as fault
+use Rattle.elf_fields.specs.declared.fault.ElfFault.{ElfFault}
 use Rattle.image_file.specs.declared.fault.FileError.{FileError}
 use Rattle.image_file.specs.declared.fault.FileError.TheVariants as failure
 
@@ -73,6 +75,13 @@ abbrev pub DescriptionFails : FileError ElfFault → List ℕ → Type 0
 DescriptionFails (failure.Fault fault.E7) description = (d : Description) → IsWithin d → description ≢ described_bytes d
 DescriptionFails (failure.Fault _) description = ⊥
 DescriptionFails failure.Memory description = ⊤
+
+-- these names are right, and so are these marks, which stand there, for so many bytes of memory
+pub record AreRightMarks (file : List ℕ) (tasks funcs counters : List (List ℕ)) (at count size : ℕ) (marks : List Mark) : Type 0 where
+  pub names : AreRightNames tasks funcs counters
+  pub marks_stand : MarksStand file at (service_limit (length counters)) (length funcs) size marks
+  pub counted : length marks ≡ count
+  pub ascending : AreAscending marks
 
 -- the names and marks that were read there are right for an image with so many bytes of memory
 pub record AreRead (file : List ℕ) (tasks funcs counters : List (List ℕ)) (at count : ℕ) (size : ℕ) (image : Image) : Type 0 where

@@ -1,20 +1,13 @@
 //! The note of an ELF file.
 ghost use Rattle.std.specs.Prelude.{◌≡◌, ◌≤◌, ◌<◌, ◌++◌, OnOk, length};
-ghost use Rattle.elf_image.specs.ElfText.{note_bytes, padding};
+ghost use Rattle.elf_fields.specs.ElfText.{note_bytes};
 
-use crate::headers::put_words;
+use elf_fields::headers::put_words;
+pub use elf_fields::padding::padding_size;
 use sloth_base::memory::NoMemory;
 
 /// The length of a note before its description.
 pub const NOTE_HEAD: usize = 20;
-
-/// How many zeros follow a description of so many bytes.
-pub fn padding_size(description: usize) -> usize
-    ensures short { result ≤ 3 }
-    ensures is { length (padding description) ≡ result }
-{
-    (4 - description % 4) % 4
-}
 
 /// How many bytes the note of a description has.
 pub fn note_size(description: &[u8]) -> u32

@@ -1,24 +1,24 @@
 //! Reading an ELF file.
-ghost use Rattle.std.specs.Prelude.{◌⊎◌, ◌≡◌, ◌<◌, ◌≤◌, ◌+◌, IfOk, IfErr, IfSome, IfNone, OnOk, Decides, drop, length, take};
+ghost use Rattle.std.specs.Prelude.{◌⊎◌, ◌≡◌, ◌<◌, ◌≤◌, ◌+◌, IfOk, IfErr, IfSome, IfNone, Decides, drop, length, take};
 ghost use Rattle.image_file.specs.Reading.{MarksStand, NamedPartsStand};
-ghost use Rattle.image_file.specs.declared.header.Sizes.{Sizes as AnySizes};
+ghost use Rattle.image_fields.specs.declared.sizes.Sizes.{Sizes as AnySizes};
 ghost use Rattle.sloth_base.specs.ImageRange.{service_limit};
 ghost use Rattle.sloth_base.specs.declared.image.Image.{Image as ImageOf};
-ghost use Rattle.elf_image.specs.ElfText.{ElfText, load_header, note_header, note_bytes};
-ghost use Rattle.elf_image.specs.Faults.{Fails, IsFirstElfFault, HasElfHeader, HasElfMagic, HasLoadHeader, HasNoteHeader, IsMemorySize, IsNoteSize};
-ghost use Rattle.elf_image.specs.Reading.{IsFramedAt, PartsMiss, MarksMiss, IsNote, NoteFails, BeginsWith, IsDescription, DescriptionFails, AreRead, ContentsFail};
-ghost use Rattle.elf_image.specs.declared.fault.ElfFault.{ElfFault as FaultOf};
+ghost use Rattle.elf_fields.specs.ElfText.{ElfText, note_bytes};
+ghost use Rattle.elf_fields.specs.Faults.{Fails, IsFirstElfFault};
+ghost use Rattle.elf_image.specs.Reading.{IsFramedAt, PartsMiss, MarksMiss, IsNote, NoteFails, BeginsWith, IsDescription, DescriptionFails, AreRead, AreRightMarks, ContentsFail};
+ghost use Rattle.elf_fields.specs.declared.fault.ElfFault.{ElfFault as FaultOf};
 ghost use Rattle.image_file.specs.declared.fault.FileError.TheVariants as failed_by;
 
-use crate::fault::{ElfError, ElfFault};
-use crate::headers::{
-    ELF_HEADER, HEADERS, PROGRAM_HEADER, elf_header, put_load_header, put_note_header,
-};
 use crate::note::{NOTE_HEAD, padding_size, put_note};
+use elf_fields::fault::{ElfError, ElfFault};
+use elf_fields::headers::HEADERS;
+use elf_fields::names::has_right_names;
+use elf_fields::reading::{judge_header, read_load_header, read_note_header};
+use image_fields::services::service_limit;
+use image_fields::sizes::Sizes;
 use image_file::fault::ImageError;
-use image_file::header::Sizes;
-use image_file::marks::{are_ascending, read_marks, service_limit};
-use image_file::names::are_right_names;
+use image_file::marks::{are_ascending, read_marks};
 use image_file::numbers::u32_at;
 use image_file::read::{Outline, read_parts};
 use sloth_base::image::{Image, Mark};
@@ -72,63 +72,6 @@ fn part(bytes: &[u8], at: usize, size: usize) -> &[u8]
     &bytes[at..at + size]
 }
 
-// Whether the file begins as each ELF file does.
-fn has_elf_magic(bytes: &[u8]) -> bool
-    ensures { Decides result (HasElfMagic bytes.now) }
-{
-    bytes.starts_with(b"\x7fELF")
-}
-
-// The ELF header is that of an image.
-fn judge_header(bytes: &[u8]) -> Result<(), ElfError>
-    ensures right { OnOk result (HasElfHeader bytes.now) }
-    ensures failed { IfErr result (λ failure. Fails failure bytes.now) }
-{
-    if !has_elf_magic(bytes) {
-        return Err(ElfFault::E1.into());
-    }
-    if bytes.len() < HEADERS {
-        return Err(ElfFault::E2.into());
-    }
-    if !bytes.starts_with(&elf_header()) {
-        return Err(ElfFault::E3.into());
-    }
-    Ok(())
-}
-
-// So many bytes of memory are whole words within the limit.
-fn is_memory_size(size: u32) -> bool
-    ensures { Decides result (IsMemorySize size) }
-{
-    size <= 2_097_152 && size % 4 == 0
-}
-
-// A note of so many bytes is whole words, and long enough.
-fn is_note_size(size: u32) -> bool
-    ensures { Decides result (IsNoteSize size) }
-{
-    size >= 36 && size % 4 == 0
-}
-
-// Whether these bytes are the program header of so many bytes of memory.
-fn is_load_header(alloc: Global, bytes: &[u8], size: u32) -> Result<bool, NoMemory>
-    ensures { IfOk result (λ is. Decides is (bytes.now ≡ load_header size)) }
-{
-    let mut header = Vec::new(alloc);
-    put_load_header(&mut header, size)?;
-    Ok(*bytes == *header.as_slice())
-}
-
-// Whether they are that of a note of so many bytes.
-fn is_note_header(alloc: Global, bytes: &[u8], size: u32, note: u32) -> Result<bool, NoMemory>
-    requires { size ≤ 2097152 }
-    ensures { IfOk result (λ is. Decides is (bytes.now ≡ note_header size note)) }
-{
-    let mut header = Vec::new(alloc);
-    put_note_header(&mut header, size, note)?;
-    Ok(*bytes == *header.as_slice())
-}
-
 // Whether they are the note of a description.
 fn is_note(alloc: Global, bytes: &[u8], description: &[u8]) -> Result<bool, NoMemory>
     requires { length description.now < 4294967296 }
@@ -137,42 +80,6 @@ fn is_note(alloc: Global, bytes: &[u8], description: &[u8]) -> Result<bool, NoMe
     let mut note = Vec::new(alloc);
     put_note(&mut note, description)?;
     Ok(*bytes == *note.as_slice())
-}
-
-// How many bytes of memory the first program header says.
-fn read_load_header(alloc: Global, bytes: &[u8]) -> Result<u32, ElfError>
-    requires { HasElfHeader bytes.now }
-    ensures read { IfOk result (λ size. HasLoadHeader bytes.now size) }
-    ensures failed { IfErr result (λ failure. Fails failure bytes.now) }
-{
-    let size = u32_at(bytes, ELF_HEADER + 16);
-    let header = &bytes[ELF_HEADER..ELF_HEADER + PROGRAM_HEADER];
-    let is_header = is_load_header(alloc, header, size)?;
-    if !is_header {
-        return Err(ElfFault::E4.into());
-    }
-    if !is_memory_size(size) {
-        return Err(ElfFault::E4.into());
-    }
-    Ok(size)
-}
-
-// How many bytes of a note the second program header says.
-fn read_note_header(alloc: Global, bytes: &[u8], size: u32) -> Result<u32, ElfError>
-    requires { HasLoadHeader bytes.now size }
-    ensures read { IfOk result (λ note. HasNoteHeader bytes.now size note) }
-    ensures failed { IfErr result (λ failure. Fails failure bytes.now) }
-{
-    let note = u32_at(bytes, ELF_HEADER + PROGRAM_HEADER + 16);
-    let header = &bytes[ELF_HEADER + PROGRAM_HEADER..HEADERS];
-    let is_header = is_note_header(alloc, header, size, note)?;
-    if !is_header {
-        return Err(ElfFault::E5.into());
-    }
-    if !is_note_size(note) {
-        return Err(ElfFault::E5.into());
-    }
-    Ok(note)
 }
 
 // How many bytes of memory the file has, where its headers are those of an image and it ends with the note.
@@ -274,6 +181,32 @@ fn marks_at(
     }
 }
 
+// The marks of these parts, where names and marks are right.
+fn right_marks(
+    alloc: Global,
+    file: &[u8],
+    outline: &Outline,
+    size: usize,
+) -> Result<Vec<Mark>, ElfError>
+    requires parts { IsDescription file.now outline.now.tasks.items outline.now.funcs.items outline.now.counters.items outline.now.memory outline.now.count }
+    requires fits { size ≤ 2097152 }
+    ensures read { IfOk result (λ marks.
+        AreRightMarks file.now outline.now.tasks.items outline.now.funcs.items outline.now.counters.items outline.now.memory outline.now.count size
+        marks.items) }
+    ensures failed { IfErr result (λ failure.
+        ContentsFail failure file.now outline.now.tasks.items outline.now.funcs.items outline.now.counters.items outline.now.memory
+        outline.now.count size) }
+{
+    if !has_right_names(outline) {
+        return Err(ElfFault::E8.into());
+    }
+    let marks = marks_at(alloc, file, outline, size)?;
+    if !are_ascending(&marks) {
+        return Err(ElfFault::E8.into());
+    }
+    Ok(marks)
+}
+
 // The names of a description, and where its marks stand, with which it ends.
 fn read_description(alloc: Global, description: &[u8]) -> Result<Outline, ElfError>
     ensures read { IfOk result (λ outline.
@@ -306,13 +239,7 @@ fn read_contents(
         ContentsFail failure file.now outline.tasks.items outline.funcs.items outline.counters.items outline.memory outline.count
         (length memory.now)) }
 {
-    if !are_right_names(&outline.tasks, &outline.funcs, &outline.counters) {
-        return Err(ElfFault::E8.into());
-    }
-    let marks = marks_at(alloc, file, &outline, memory.len())?;
-    if !are_ascending(&marks) {
-        return Err(ElfFault::E8.into());
-    }
+    let marks = right_marks(alloc, file, &outline, memory.len())?;
     let memory = Vec::from_slice(alloc, memory)?;
     Ok(Image {
         tasks: List::from_vec(outline.tasks),

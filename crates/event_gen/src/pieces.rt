@@ -1,12 +1,11 @@
-//! Pieces of code that several services have.
+//! A piece of code that several services have.
 ghost use Rattle.std.specs.Prelude.{◌≡◌, ◌<◌, ◌++◌, OnOk};
-ghost use Rattle.event_gen.specs.Pieces.{own_finding_code, refusal_code};
+ghost use Rattle.event_gen.specs.Pieces.{own_finding_code};
 
-use masked_code::emit::{emit, past};
+use masked_code::emit::emit;
 use rv32_instr::Instr;
-use rv32_instr::asm::{A0, X1, X4, ZERO, add, addi, bne, lw, slli};
+use rv32_instr::asm::{X1, X4, add, lw, slli};
 use sloth_base::numbers::Reg;
-use sloth_base::service::E_OS_STATE;
 use sloth_region::layout::CUR;
 use std::alloc::AllocError;
 
@@ -23,16 +22,4 @@ pub fn find_own(code: &mut Vec<Instr>, other: Reg) -> Result<(), AllocError>
         add(X1, X1, X4),
     ];
     emit(code, &found)
-}
-
-/// The status E_OS_STATE, and on behind so many instructions where x1 is 1: the task is Suspended.
-pub fn refuse(code: &mut Vec<Instr>, passed: u32) -> Result<(), AllocError>
-    requires { passed < 500 }
-    ensures { OnOk result (code.new.items ≡ code.old.items ++ refusal_code passed) }
-{
-    let refused = [
-        addi(A0, ZERO, E_OS_STATE as i32),
-        bne(X1, ZERO, past(passed)),
-    ];
-    emit(code, &refused)
 }

@@ -1,25 +1,21 @@
 //! WaitEvent: the running task goes on where one of the events is set; else it waits, and what runs below it goes on.
 ghost use Rattle.std.specs.Prelude.{◌≡◌, ◌++◌, IfOk, OnOk};
-ghost use Rattle.event_gen.specs.Pieces.{set_events_test, controller_address_code, set_answer_code, resting_code, own_saving_code, keeping_code, disabling_code};
+ghost use Rattle.event_gen.specs.Pieces.{set_events_test, controller_address_code, set_answer_code, resting_code, own_saving_code, disabling_code};
 ghost use Rattle.event_gen.specs.WaitEvent.{Waits};
 
 use crate::pieces::find_own;
 use block_parts::pieces::{BACK, OWN_ACTIVE, OWN_EVENTS, go_back, open};
 use masked_code::emit::{X5, emit, past, save};
-use masked_code::pieces::leave;
+use routine_pieces::events::keep;
+use routine_pieces::leaving::leave;
 use rv32_instr::Instr;
-use rv32_instr::asm::{
-    A0, X1, X2, X3, X4, X30, X31, ZERO, add, addi, and, beq, lui, lw, sb, slli, sw,
-};
+use rv32_instr::asm::{A0, X1, X2, X3, X30, ZERO, add, addi, and, beq, lui, lw, sb, sw};
 use sloth_base::service::E_OK;
-use sloth_region::layout::{CONTEXT_BYTES, CONTEXT_PC, CONTROLLER_HIGH, CUR, RESUME_WORDS};
+use sloth_region::layout::{CONTEXT_BYTES, CONTROLLER_HIGH};
 use std::alloc::{AllocError, Global};
 
 /// The events that the running task waits for, from 12 * `cur` behind the service words.
 const OWN_WAIT: i32 = 0;
-
-/// The address of its own context, from 4 * `cur` behind the service words, as `cur` is its number and 1 more.
-const OWN_RESUME: i32 = RESUME_WORDS - 4;
 
 /// The enable byte of its line, from `cur` behind the controller's address.
 const OWN_ENABLED: i32 = 31;
@@ -84,20 +80,6 @@ fn save_own(code: &mut Vec<Instr>) -> Result<(), AllocError>
 {
     emit(code, &[addi(X1, X2, -CONTEXT_BYTES)])?;
     save(code, 5, 32, X1)
-}
-
-/// The context at x1 is the running task's own, with the address in x31 to go on at. Leaves `cur` in x5.
-fn keep(code: &mut Vec<Instr>) -> Result<(), AllocError>
-    ensures { OnOk result (code.new.items ≡ code.old.items ++ keeping_code) }
-{
-    let kept = [
-        sw(X31, X1, CONTEXT_PC),
-        lw(X5, X4, CUR),
-        slli(X30, X5, 2),
-        add(X30, X30, X4),
-        sw(X1, X30, OWN_RESUME),
-    ];
-    emit(code, &kept)
 }
 
 /// The running task's line is not enabled. x5 holds `cur`.

@@ -15,14 +15,15 @@ use Rattle.code_rules.specs.AppRange.{IsResource, AppInRange}
 use Rattle.code_rules.specs.WellFormed.{RuleFault}
 use Rattle.call_graph.specs.declared.ranking.Ranks.{Ranks}
 use Rattle.call_graph.specs.Ranks.{RanksOf}
-use Rattle.task_verify.specs.Cases.{AreOps}
+use Rattle.body_faults.specs.Cases.{AreOps}
 use Rattle.task_verify.proofs.Acyclic.{no_cycle}
-use Rattle.task_verify.proofs.Tests.{leads}
+use Rattle.body_faults.proofs.Tests.{leads}
 use Rattle.code_rules.specs.Code.{held_list_at}
-use Rattle.task_verify.proofs.Paths.{reached_of}
+use Rattle.body_faults.proofs.Paths.{reached_of}
 use Rattle.held_lists.specs.Filling.{bare_label, bare_func, SameButLists, IsClear, AreClear, IsFilling}
 use Rattle.held_lists.specs.RightLists.{HasRightLists}
-use Rattle.held_lists.specs.Spread.{Lists, list_or, list_at, AreLists, relisted_label, relisted_func}
+use Rattle.label_lists.specs.Places.{Lists, list_or, list_at}
+use Rattle.held_lists.specs.Spread.{AreLists, relisted_label, relisted_func}
 use Rattle.held_lists.specs.BodyFilling.{HaveTheirLabels, HasResourceLists, IsBodyFilling, AreBodyFillings}
 use Rattle.held_lists.proofs.Held.{held_of_label}
 use Rattle.held_lists.proofs.Bare.{functions_same, count_functions, items_same, place_same, count_same, path_same, body_same, app_same}

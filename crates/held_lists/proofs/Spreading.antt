@@ -18,12 +18,13 @@ use Rattle.sloth_base.specs.declared.service.Service.TheVariants as service
 use Rattle.sloth_base.specs.Named.{item_of}
 use Rattle.code_rules.specs.AppRange.{IsResource, IsOp, AreOperands}
 use Rattle.code_rules.specs.Code.{way, is_in, without_last, held_behind, held_after, held_list_at, GoesOn}
-use Rattle.task_verify.specs.Ways.{next_of, jump_of, Visited, unmarked_count}
-use Rattle.task_verify.proofs.Paths.{next_goes, jump_goes, goes_from_inside}
-use Rattle.task_verify.proofs.Searches.{taken, gone_on, begun, ended, next_inside, jump_inside}
+use Rattle.body_faults.specs.Ways.{next_of, jump_of, Visited, unmarked_count}
+use Rattle.body_faults.proofs.Paths.{next_goes, jump_goes, goes_from_inside}
+use Rattle.body_faults.proofs.Searches.{taken, gone_on, begun, ended, next_inside, jump_inside}
 use Rattle.held_lists.specs.Filling.{bare_func}
 use Rattle.held_lists.specs.RightLists.{HasRightLists}
-use Rattle.held_lists.specs.Spread.{Lists, list_behind, list_after, list_or, list_at, marks, Placed, AreTrueLists, AreSpreading, AreLists}
+use Rattle.label_lists.specs.Places.{Lists, list_or, list_at}
+use Rattle.held_lists.specs.Spread.{list_behind, list_after, marks, Placed, AreTrueLists, AreSpreading, AreLists}
 use Rattle.held_lists.proofs.Held.{held_first, held_falls, held_turns}
 use Rattle.held_lists.proofs.Bare.{item_same, goes_same}
 

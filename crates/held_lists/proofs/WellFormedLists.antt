@@ -13,7 +13,7 @@ use Rattle.sloth_base.specs.declared.refusal.Code.TheVariants as code
 use Rattle.sloth_base.specs.Named.{no_function, function, label_of, item_of, no_item}
 use Rattle.code_rules.specs.Code.{is_in, held_list_at}
 use Rattle.code_rules.specs.WellFormed.{WellFormed, at_header, at_label, at_item, Differs, falling_in, Breaks, holds_other, takes_held, is_unreached, TakesHeld, fault_at_line}
-use Rattle.task_verify.proofs.Tests.{leads}
+use Rattle.body_faults.proofs.Tests.{leads}
 use Rattle.held_lists.specs.Filling.{AreClear, IsFilling}
 use Rattle.held_lists.specs.RightLists.{HasRightLists}
 use Rattle.held_lists.proofs.OneBody.{stable, one_body}

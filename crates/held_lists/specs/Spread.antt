@@ -1,5 +1,5 @@
 -- The lists that are spread from the first item of a body along its ways.
-use Rattle.std.specs.Prelude.{ℕ, ◌≡◌, ◌<◌, ◌++◌, Bool, cond, List, [], ◌∷◌, length, map, set, get_or, Option, Some, None, is_some, All, MatchBool}
+use Rattle.std.specs.Prelude.{ℕ, ◌≡◌, ◌<◌, ◌++◌, Bool, cond, List, [], ◌∷◌, length, map, set, get_or, Some, None, is_some, All, MatchBool}
 use Rattle.sloth_base.specs.declared.config.Config.{Config}
 use Rattle.sloth_base.specs.declared.app.App.{App}
 use Rattle.sloth_base.specs.declared.app.Func.{Func}
@@ -8,10 +8,11 @@ use Rattle.sloth_base.specs.declared.app.Op.{Op}
 use Rattle.sloth_base.specs.declared.app.Op.TheVariants as op
 use Rattle.sloth_base.specs.declared.service.Service.{Service}
 use Rattle.sloth_base.specs.declared.service.Service.TheVariants as service
+use Rattle.label_lists.specs.Places.{Lists, list_at}
 use Rattle.code_rules.specs.AppRange.{IsResource}
 use Rattle.code_rules.specs.Code.{is_in, without_last, held_list_at}
-use Rattle.task_verify.specs.Ways.{IsReachedItem, IsMarked, IsMarking}
-use Rattle.task_verify.specs.Cases.{AreOps}
+use Rattle.body_faults.specs.Ways.{IsReachedItem, IsMarked, IsMarking}
+use Rattle.body_faults.specs.Cases.{AreOps}
 use Rattle.held_lists.specs.Filling.{bare_func}
 use Rattle.held_lists.specs.RightLists.{HasRightLists}
 
@@ -25,19 +26,6 @@ list_behind _ r held = held
 abbrev pub list_after : Op → List ℕ → List ℕ
 list_after (op.Serve call) held = list_behind call.service call.object held
 list_after _ held = held
-
--- the list of each place of a body, where it has one
-abbrev pub Lists : Type 0
-Lists = List (Option (List ℕ))
-
--- a list, or the empty one
-abbrev pub list_or : Option (List ℕ) → List ℕ
-list_or None = []
-list_or (Some held) = held
-
--- the list of a place, empty where it has none
-abbrev pub list_at : Lists → ℕ → List ℕ
-list_at lists i = list_or (get_or lists i None)
 
 -- the places that have a list
 abbrev pub marks : Lists → List Bool

@@ -4,7 +4,8 @@ ghost use Rattle.held_lists.specs.RightLists.{HasItsLabels};
 ghost use Rattle.held_lists.specs.Spread.{AreLists, relisted_label, relisted_func};
 ghost use Rattle.held_lists.specs.BodyFilling.{HaveTheirLabels, IsBodyFilling, AreBodyFillings};
 
-use crate::spread::{list_at, places};
+use crate::spread::places;
+use label_lists::held_list;
 use sloth_base::app::{Func, Label};
 use sloth_base::copy::TryCopy;
 use sloth_base::list::List;
@@ -20,7 +21,7 @@ fn relisted_label(
 ) -> Result<Label, NoMemory>
     ensures { IfOk result (λ made. made ≡ relisted_label lists.now label.now) }
 {
-    let holds = list_at(lists, label.item as usize).to_vec(alloc)?;
+    let holds = held_list(alloc, lists, label)?;
     Ok(Label {
         name: label.name.try_copy(alloc)?,
         holds: List::from_vec(holds),

@@ -4,15 +4,16 @@ ghost use Rattle.std.specs.List.{list_any};
 ghost use Rattle.sloth_base.specs.Named.{item_of};
 ghost use Rattle.code_rules.specs.Code.{is_in};
 ghost use Rattle.held_lists.specs.RightLists.{HasItsLabels};
-ghost use Rattle.held_lists.specs.Spread.{list_behind, list_after, list_at, Placed, AreLists, AreSpreading};
+ghost use Rattle.held_lists.specs.Spread.{list_behind, list_after, Placed, AreLists, AreSpreading};
 
+use body_faults::ways::{jump_of, next_of};
+use label_lists::list_at;
 use sloth_base::app::{Call, Func, Op};
 use sloth_base::list::List;
 use sloth_base::memory::NoMemory;
 use sloth_base::numbers::ResId;
 use sloth_base::service::Service;
 use std::alloc::Global;
-use task_verify::ways::{jump_of, next_of};
 use text_pieces::growth::push;
 
 fn is_one_of(held: &[ResId], resource: u32) -> bool
@@ -56,16 +57,6 @@ fn list_after(alloc: Global, held: &[ResId], op: Op) -> Result<Vec<ResId>, NoMem
     match op {
         Op::Serve(call) => list_behind(held, call),
         _ => Ok(held),
-    }
-}
-
-/// The list at a place, empty where it has none.
-pub fn list_at(lists: &[Option<List<ResId>>], place: usize) -> &[ResId]
-    ensures { result.now ≡ list_at lists.now place }
-{
-    match lists.get(place) {
-        Some(Some(held)) => held.items(),
-        _ => &[],
     }
 }
 

@@ -30,7 +30,7 @@ use Rattle.asm_lines.specs.declared.operands.Operand.{Operand}
 use Rattle.asm_lines.specs.declared.operands.Operand.TheVariants.{Name}
 use Rattle.asm_lines.specs.declared.source_line.SourceLine.{SourceLine}
 use Rattle.asm_lines.specs.declared.source_line.SourceLine.TheVariants.{Statement}
-use Rattle.asm_lines.specs.declared.table.Mnemonic.TheVariants as m
+use Rattle.statement_forms.specs.declared.forms.Mnemonic.TheVariants as m
 use Rattle.asm_lines.specs.Faults.{is_a1, after_line, ends_inside, FaultAt, SourceFault, TextFault, source_lines}
 use Rattle.asm_scopes.specs.declared.scope.Scope.{Scope}
 use Rattle.asm_scopes.specs.declared.scope.Kind.TheVariants as kind
@@ -45,7 +45,8 @@ use Rattle.asm_parse.proofs.Read.{IsRead}
 use Rattle.asm_parse.proofs.LinesRead.{all_read}
 use Rattle.sloth_source.specs.SourceText.{HasApp, SourceText}
 use Rattle.held_lists.specs.Filling.{bare_app, SameButLists}
-use Rattle.holds_infer.specs.Relabel.{func_holds, all_holds, resource_name, resource_names, relabeled_lines, AreInPlace}
+use Rattle.label_lines.specs.LabelLines.{resource_name, resource_names}
+use Rattle.holds_infer.specs.Relabel.{func_holds, all_holds, relabeled_lines, AreInPlace}
 use Rattle.holds_infer.specs.FilledText.{filled_text}
 use Rattle.held_lists.proofs.Spreading.{all_none}
 use Rattle.holds_infer.proofs.Written.{AreWritten}

@@ -17,7 +17,7 @@ use Rattle.code_rules.specs.AppRange.{IsResource}
 use Rattle.asm_lines.specs.declared.operands.Operand.TheVariants.{Name}
 use Rattle.asm_lines.specs.declared.source_line.SourceLine.{SourceLine}
 use Rattle.asm_lines.specs.declared.source_line.SourceLine.TheVariants.{Statement}
-use Rattle.asm_lines.specs.declared.table.Mnemonic.TheVariants as m
+use Rattle.statement_forms.specs.declared.forms.Mnemonic.TheVariants as m
 use Rattle.asm_lines.specs.Faults.{is_a1, after_line}
 use Rattle.asm_scopes.specs.declared.scope.Scope.{Scope}
 use Rattle.asm_scopes.specs.Said.{is_label, name_of}
@@ -26,7 +26,8 @@ use Rattle.asm_scopes.specs.Scopes.{scope_of, is_scheduler}
 use Rattle.asm_items.specs.Operations.{number_of, resource_number}
 use Rattle.asm_items.specs.Apps.{holds_of, label_holds, app_of}
 use Rattle.held_lists.specs.Filling.{bare_func, bare_app}
-use Rattle.holds_infer.specs.Relabel.{func_holds, all_holds, resource_name, resource_names, label_statement, first_list, other_lists, relabeled_lines, AreInPlace}
+use Rattle.label_lines.specs.LabelLines.{resource_name, resource_names}
+use Rattle.holds_infer.specs.Relabel.{func_holds, all_holds, label_statement, first_list, other_lists, relabeled_lines, AreInPlace}
 use Rattle.held_lists.proofs.Bare.{body_same, count_same}
 use Rattle.holds_infer.proofs.Relabels.{relabel_fills, holds_are}
 

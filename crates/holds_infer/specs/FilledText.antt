@@ -1,21 +1,14 @@
 -- The text of task source with other lists at its labels.
-use Rattle.std.specs.Prelude.{ℕ, ◌==◌, ◌++◌, Bool, if◌then◌else◌, List, [], ◌∷◌, length, drop, codes}
-use Rattle.std.specs.List.{flat_map, slice_split, join_with_byte}
+use Rattle.std.specs.Prelude.{ℕ, ◌==◌, ◌++◌, Bool, if◌then◌else◌, List, [], ◌∷◌, length}
+use Rattle.std.specs.List.{slice_split, join_with_byte}
 use Rattle.sloth_base.specs.declared.config.Config.{Config}
 use Rattle.sloth_base.specs.declared.app.App.{App}
 use Rattle.asm_lines.specs.declared.source_line.SourceLine.{SourceLine}
 use Rattle.asm_lines.specs.Lines.{line_of}
 use Rattle.asm_lines.specs.SourceLines.{source_line}
 use Rattle.asm_scopes.specs.Said.{is_label, name_of}
-use Rattle.holds_infer.specs.Relabel.{all_holds, resource_names, first_list, other_lists}
-
--- `label NAME`, and `, R` for each resource
-abbrev pub label_text : List ℕ → List (List ℕ) → List ℕ
-label_text name resources = codes "label " ++ (name ++ flat_map (λ resource. codes ", " ++ resource) resources)
-
--- the CR before the LF of a line that has one
-abbrev pub line_end : Bool → List ℕ → List ℕ
-line_end is_last part = drop (length (line_of is_last part)) part
+use Rattle.label_lines.specs.LabelLines.{label_text, line_end, resource_names}
+use Rattle.holds_infer.specs.Relabel.{all_holds, first_list, other_lists}
 
 -- the part between two LFs of a line, with this list where the line is a label
 abbrev pub filled_part : Config → SourceLine → Bool → List ℕ → List ℕ → List ℕ

@@ -1,16 +1,16 @@
 -- Lines of task source with other lists at their labels.
-use Rattle.std.specs.Prelude.{ℕ, ◌≡◌, ◌==◌, Bool, false, if◌then◌else◌, List, [], ◌∷◌, map, get_or}
+use Rattle.std.specs.Prelude.{ℕ, ◌≡◌, Bool, false, if◌then◌else◌, List, [], ◌∷◌, map}
 use Rattle.std.specs.List.{flat_map}
-use Rattle.sloth_base.specs.ConfigRange.{res_scheduler_name}
 use Rattle.sloth_base.specs.declared.config.Config.{Config}
 use Rattle.sloth_base.specs.declared.app.App.{App}
 use Rattle.sloth_base.specs.declared.app.Func.{Func}
 use Rattle.asm_lines.specs.declared.operands.Operand.TheVariants.{Name}
 use Rattle.asm_lines.specs.declared.source_line.SourceLine.{SourceLine}
 use Rattle.asm_lines.specs.declared.source_line.SourceLine.TheVariants.{Statement}
-use Rattle.asm_lines.specs.declared.table.Mnemonic.TheVariants as mnemonic
+use Rattle.statement_forms.specs.declared.forms.Mnemonic.TheVariants as mnemonic
 use Rattle.asm_lines.specs.Faults.{is_a1, after_line}
 use Rattle.asm_scopes.specs.Said.{is_label, name_of}
+use Rattle.label_lines.specs.LabelLines.{resource_names}
 
 -- ---- the lists of task code
 
@@ -21,14 +21,6 @@ func_holds f = map (λ l. l.holds) f.labels
 -- the lists of all labels, in the order of the text
 abbrev pub all_holds : App → List (List ℕ)
 all_holds app = flat_map func_holds app.funcs
-
--- the name of a resource
-abbrev pub resource_name : Config → ℕ → List ℕ
-resource_name config r = if r == 32 then res_scheduler_name else get_or config.resources r []
-
--- the names of these resources
-abbrev pub resource_names : Config → List ℕ → List (List ℕ)
-resource_names config held = map (resource_name config) held
 
 -- ---- lines
 

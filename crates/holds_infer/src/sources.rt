@@ -1,5 +1,9 @@
 //! Task source with the list of each label filled in.
-ghost use Rattle.std.specs.Prelude.{◌≡◌, ◌<◌, IfOk, IfErr, length};
+ghost use Rattle.std.specs.Prelude.{◌≡◌, ◌<◌, ℕ, List, IfOk, IfErr, length};
+ghost use Rattle.code_rules.specs.AppRange.{AppInRange};
+ghost use Rattle.call_graph.specs.Ranks.{RanksOf};
+ghost use Rattle.sloth_source.specs.Ranked.{HasRanks};
+ghost use Rattle.sloth_source.specs.SourceText.{HasApp};
 ghost use Rattle.holds_infer.specs.FilledSource.{IsFilledSource, FillErrorIs, fill_error, no_lists_error};
 ghost use Rattle.holds_infer.specs.declared.sources.FillError.TheVariants.{Memory as OutOfMemory};
 
@@ -58,8 +62,22 @@ pub fn fill_source(alloc: Global, oil: &[u8], src: &[u8]) -> Result<Vec<u8>, Fil
     ensures filled { IfOk result (λ out. IsFilledSource oil.now src.now out.items) }
     ensures failed { IfErr result (FillErrorIs oil.now src.now) }
 {
-    let Ranked { config, app, ranks } = read_ranked(alloc, oil, src)?;
-    let filled = infer(alloc, &config, &app, &ranks)?;
-    let out = fill(alloc, src, &config, &app, &filled)?;
+    let ranked = read_ranked(alloc, oil, src)?;
+    fill_ranked(alloc, src, &ranked)
+}
+
+// The source with the lists that are found for its task code, or that no lists keep every rule.
+fn fill_ranked(alloc: Global, src: &[u8], ranked: &Ranked) -> Result<Vec<u8>, FillError>
+    requires src { length src.now < 4294967295 }
+    requires says { HasApp src.now ranked.now.config ranked.now.app }
+    requires in_range { AppInRange ranked.now.config ranked.now.app }
+    requires belong { RanksOf ranked.now.app ranked.now.ranks }
+    ensures filled { IfOk result (λ out. (oil : List ℕ) → HasRanks oil src.now ranked.now.config ranked.now.app
+        → IsFilledSource oil src.now out.items) }
+    ensures failed { IfErr result (λ error. (oil : List ℕ) → HasRanks oil src.now ranked.now.config ranked.now.app
+        → FillErrorIs oil src.now error) }
+{
+    let filled = infer(alloc, &ranked.config, &ranked.app, &ranked.ranks)?;
+    let out = fill(alloc, src, &ranked.config, &ranked.app, &filled)?;
     Ok(out)
 }

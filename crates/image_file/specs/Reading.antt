@@ -1,11 +1,12 @@
 -- What the steps of reading tell.
-use Rattle.std.specs.Prelude.{◌≡◌, ◌≢◌, ◌≤◌, ◌+◌, ◌*◌, ℕ, List, ◌++◌, take, drop, slice_range, length, ⊤}
+use Rattle.std.specs.Prelude.{◌≡◌, ◌≢◌, ◌≤◌, ◌+◌, ◌*◌, ℕ, List, [], ◌++◌, take, drop, slice_range, length, ⊤}
 use Rattle.std.specs.List.{flat_map, All}
 use Rattle.sloth_base.specs.declared.image.Mark.{Mark}
-use Rattle.sloth_base.specs.ImageRange.{IsMark}
+use Rattle.sloth_base.specs.ImageRange.{IsMark, AreAscending}
 use Rattle.image_file.specs.ImageText.{mark_bytes, name_bytes}
-use Rattle.image_file.specs.Parts.{Parts, HasParts, PartsStand, SizesFit, header_before, header_size}
-use Rattle.image_file.specs.declared.header.Sizes.{Sizes}
+use Rattle.image_fields.specs.Limits.{SizesFit, header_size}
+use Rattle.image_file.specs.Parts.{Parts, HasParts, PartsStand, AreRight, header_before}
+use Rattle.image_fields.specs.declared.sizes.Sizes.{Sizes}
 use Rattle.image_file.specs.declared.fault.ImageFault.TheVariants as fault
 use Rattle.image_file.specs.declared.fault.ImageFault.{ImageFault}
 use Rattle.image_file.specs.declared.fault.FileError.{FileError}
@@ -65,6 +66,12 @@ PartsFail failure.Memory file at sizes = ⊤
 pub record HasOutline (file : List ℕ) (tasks funcs counters : List (List ℕ)) (at size count : ℕ) : Type 0 where
   pub parts : HasParts file (parts_at file tasks funcs counters at size count) (drop (at + size + count * 12) file)
   pub long : at + size + count * 12 ≤ length file
+
+-- these marks are right for these parts and rise, and nothing follows them
+pub record AreLastMarks (file : List ℕ) (tasks funcs counters : List (List ℕ)) (at size count : ℕ) (marks : List Mark) : Type 0 where
+  pub right : AreRight (parts_at file tasks funcs counters at size count) marks
+  pub ascending : AreAscending marks
+  pub ends : drop (at + size + count * 12) file ≡ []
 
 -- a mark in range stands at `at`
 pub record MarkStands (file : List ℕ) (at services funcs size : ℕ) (mark : Mark) : Type 0 where

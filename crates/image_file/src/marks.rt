@@ -2,11 +2,12 @@
 ghost use Rattle.std.specs.Prelude.{◌≡◌, ◌≢◌, ◌≤◌, ◌+◌, ◌*◌, IfOk, IfErr, IfSome, IfNone, Decides, length};
 ghost use Rattle.image_file.specs.ImageText.{kind_number};
 ghost use Rattle.image_file.specs.Reading.{MarkStands, NoMark, MarksStand, MarksFail};
-ghost use Rattle.sloth_base.specs.ImageRange.{AreFields, IsMark, AreAscending, service_limit};
+ghost use Rattle.sloth_base.specs.ImageRange.{AreFields, IsMark, AreAscending};
 ghost use Rattle.sloth_base.specs.declared.image.MarkKind.{MarkKind as KindOfMark};
 
 use crate::fault::{ImageError, ImageFault};
 use crate::numbers::{u16_at, u32_at};
+pub use image_fields::services::service_limit;
 use sloth_base::image::{Mark, MarkKind};
 use sloth_base::memory_map::MEMORY_BASE;
 use std::alloc::Global;
@@ -90,13 +91,6 @@ fn are_fields(mark: &Mark, services: u8, funcs: usize) -> bool
         MarkKind::Opening => mark.a < services && mark.b == 0 && mark.c == 0,
         MarkKind::Idle | MarkKind::Back => mark.a == 0 && mark.b == 0 && mark.c == 0,
     }
-}
-
-/// How many services the marks of an image with so many counters may name: those on alarms need a counter.
-pub fn service_limit(counters: usize) -> u8
-    ensures { result ≡ service_limit counters }
-{
-    if counters == 0 { 12 } else { 16 }
 }
 
 /// Whether their addresses rise strictly.

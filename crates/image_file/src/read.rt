@@ -2,8 +2,8 @@
 ghost use Rattle.std.specs.Prelude.{◌⊎◌, ◌≡◌, ◌≤◌, IfOk, IfErr, length};
 ghost use Rattle.image_file.specs.ImageText.{ImageText};
 ghost use Rattle.image_file.specs.Faults.{Fails, IsFirstImageFault, HasMagic};
-ghost use Rattle.image_file.specs.Parts.{SizesFit};
-ghost use Rattle.image_file.specs.Reading.{HasOutline, HasSizes, NamedPartsStand, PartsFail};
+ghost use Rattle.image_fields.specs.Limits.{SizesFit};
+ghost use Rattle.image_file.specs.Reading.{AreLastMarks, HasOutline, HasSizes, NamedPartsStand, PartsFail};
 ghost use Rattle.sloth_base.specs.declared.image.Image.{Image as ImageOf};
 ghost use Rattle.image_file.specs.declared.fault.ImageFault.{ImageFault as FaultOf};
 ghost use Rattle.image_file.specs.declared.fault.FileError.TheVariants as failed_by;
@@ -12,7 +12,8 @@ use crate::fault::{ImageError, ImageFault};
 use crate::header::{Sizes, has_magic, read_sizes};
 use crate::marks::{are_ascending, read_marks, service_limit};
 use crate::names::{are_right_names, read_names};
-use sloth_base::image::Image;
+use image_fields::ends::is_followed;
+use sloth_base::image::{Image, Mark};
 use sloth_base::list::List;
 use sloth_base::name::Name;
 use std::alloc::Global;
@@ -105,10 +106,13 @@ pub fn read_parts(
     })
 }
 
-// The image of these parts, or what is wrong with them.
-fn read_contents(alloc: Global, bytes: &[u8], outline: Outline) -> Result<Image, ImageError>
-    requires { HasOutline bytes.now outline.tasks.items outline.funcs.items outline.counters.items outline.memory outline.size outline.count }
-    ensures read { IfOk result (λ image. ImageText bytes.now image) }
+// The marks of these parts, with which the file ends, or what is wrong with names and marks.
+fn last_marks(alloc: Global, bytes: &[u8], outline: &Outline) -> Result<Vec<Mark>, ImageError>
+    requires { HasOutline bytes.now outline.now.tasks.items outline.now.funcs.items outline.now.counters.items
+        outline.now.memory outline.now.size outline.now.count }
+    ensures read { IfOk result (λ marks.
+        AreLastMarks bytes.now outline.now.tasks.items outline.now.funcs.items outline.now.counters.items
+        outline.now.memory outline.now.size outline.now.count marks.items) }
     ensures failed { IfErr result (λ failure. Fails failure bytes.now) }
 {
     if !are_right_names(&outline.tasks, &outline.funcs, &outline.counters) {
@@ -127,9 +131,20 @@ fn read_contents(alloc: Global, bytes: &[u8], outline: Outline) -> Result<Image,
     if !are_ascending(&marks) {
         return Err(ImageFault::I4.into());
     }
-    if bytes.len() > place + outline.count * 12 {
+    if is_followed(bytes, place + outline.count * 12) {
         return Err(ImageFault::I5.into());
     }
+    Ok(marks)
+}
+
+// The image of these parts, or what is wrong with them.
+fn read_contents(alloc: Global, bytes: &[u8], outline: Outline) -> Result<Image, ImageError>
+    requires { HasOutline bytes.now outline.tasks.items outline.funcs.items outline.counters.items outline.memory outline.size outline.count }
+    ensures read { IfOk result (λ image. ImageText bytes.now image) }
+    ensures failed { IfErr result (λ failure. Fails failure bytes.now) }
+{
+    let marks = last_marks(alloc, bytes, &outline)?;
+    let place = outline.memory + outline.size;
     let memory = Vec::from_slice(alloc, &bytes[outline.memory..place])?;
     Ok(Image {
         tasks: List::from_vec(outline.tasks),

@@ -25,7 +25,7 @@ use Rattle.sloth_region.specs.declared.map.Map.{Map}
 use Rattle.code_rules.specs.AppRange.{IsOp, IsRegister}
 use Rattle.rv32_instr.specs.declared.InstrKind.{InstrKind}
 use Rattle.rv32_instr.specs.declared.block.Block.{Block}
-use Rattle.rv32_expand.specs.Expansion.{block_address}
+use Rattle.expansion_parts.specs.Expansion.{block_address}
 use Rattle.rv32_expand.specs.InPlace.{IsItem, item_mark, mark_kind, mark_number}
 use Rattle.rv32_expand.specs.Sizes.{items_before}
 use Rattle.service_gen.specs.Block.{further_marks}

@@ -25,10 +25,10 @@ use Rattle.prologue_gen.specs.Places.{EntersTask, start_level, first_item, frame
 use Rattle.prologue_gen.proofs.BothKinds.{length_is}
 use Rattle.rv32_instr.specs.declared.InstrKind.{InstrKind}
 use Rattle.rv32_instr.specs.declared.block.Block.{Block}
-use Rattle.rv32_expand.specs.Expansion.{is_long, item_address}
+use Rattle.expansion_parts.specs.Expansion.{is_long, item_address}
 use Rattle.rv32_expand.specs.InPlace.{IsItem, item_mark}
 use Rattle.rv32_expand.specs.Sizes.{items_before}
-use Rattle.rv32_expand.proofs.Counts.{expanded_some}
+use Rattle.expansion_parts.proofs.Counts.{expanded_some}
 use Rattle.service_gen.specs.Block.{further_marks}
 use Rattle.block_parts.specs.Marks.{opening, back_mark}
 use Rattle.service_blocks.specs.Calls.{ServesCall}

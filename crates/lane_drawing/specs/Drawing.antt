@@ -2,11 +2,12 @@
 use Rattle.std.specs.Prelude.{ℕ, ◌+◌, ◌-◌, ◌*◌, ◌/◌, ◌==◌, ltb, leb, Bool, ◌||◌, ◌&&◌, List, [], ◌∷◌, ◌++◌, codes, decimal, slice_index, filter}
 use Rattle.std.specs.List.{flat_map, range_with_len}
 use Rattle.sloth_base.specs.declared.event.Arrival.{Arrival}
-use Rattle.lane_drawing.specs.declared.bars.Bar.{Bar}
-use Rattle.lane_drawing.specs.declared.bars.Look.{Look}
-use Rattle.lane_drawing.specs.declared.bars.Look.TheVariants as look
-use Rattle.lane_drawing.specs.declared.scale.Scale.{Scale}
-use Rattle.lane_drawing.specs.Scale.{place, pixels, axis_step, first_multiple, last_multiple}
+use Rattle.lane_strips.specs.declared.bars.Bar.{Bar}
+use Rattle.lane_strips.specs.declared.bars.Look.{Look}
+use Rattle.lane_strips.specs.declared.bars.Look.TheVariants as look
+use Rattle.lane_strips.specs.declared.scale.Scale.{Scale}
+use Rattle.lane_strips.specs.Arrivals.{arrival_line}
+use Rattle.lane_strips.specs.Scale.{place, pixels, axis_step, first_multiple, last_multiple}
 
 -- ---- bars
 
@@ -44,12 +45,6 @@ bar_line scale name middle bar =
     ++ codes "\" height=\"" ++ decimal (look_height bar.look)
     ++ codes "\"><title>" ++ name ++ codes " " ++ look_word bar.look ++ codes ", " ++ decimal bar.from ++ codes " to " ++ decimal (bar.to - 1)
     ++ codes "</title></rect>\n"
-
--- an arrival in the lane of a name, at its moment
-unfoldable pub arrival_line : Scale → (name : List ℕ) (middle : ℕ) → Arrival → List ℕ
-arrival_line scale name middle arrival =
-    codes "<path class=\"a\" d=\"M" ++ pixels (place scale arrival.at) ++ codes " " ++ decimal (middle - 12)
-    ++ codes "l-5 -8h10z\"><title>" ++ name ++ codes " arrives at " ++ decimal arrival.at ++ codes "</title></path>\n"
 
 -- ---- lanes
 

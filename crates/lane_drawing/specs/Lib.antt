@@ -1,4 +1,1 @@
-pub mod Bars
 pub mod Drawing
-pub mod Scale
-pub mod Strips

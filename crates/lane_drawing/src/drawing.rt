@@ -1,12 +1,14 @@
 //! The lanes of a picture, a line for each bar and mark.
 ghost use Rattle.std.specs.Prelude.{◌≡◌, ◌≤◌, ◌++◌, OnOk, All, length};
 ghost use Rattle.std.specs.List.{flat_map};
-ghost use Rattle.lane_drawing.specs.Bars.{IsInside};
-ghost use Rattle.lane_drawing.specs.Scale.{IsScale};
-ghost use Rattle.lane_drawing.specs.Drawing.{look_class, look_word, look_height, bar_line, arrival_line, lane_line, shown_arrivals, is_shown};
+ghost use Rattle.lane_strips.specs.Bars.{IsInside};
+ghost use Rattle.lane_strips.specs.Scale.{IsScale};
+ghost use Rattle.lane_drawing.specs.Drawing.{look_class, look_word, look_height, bar_line, lane_line, shown_arrivals, is_shown};
+ghost use Rattle.lane_strips.specs.Arrivals.{arrival_line};
 
-use crate::bars::{Bar, Look};
-use crate::scale::{Scale, push_pixels};
+use lane_strips::arrivals::arrival_line;
+use lane_strips::bars::{Bar, Look};
+use lane_strips::scale::{Scale, push_pixels};
 use sloth_base::event::Arrival;
 use sloth_base::memory::NoMemory;
 use trace_text::line_text::LineText;
@@ -57,17 +59,22 @@ fn bar_line(scale: Scale, name: &[u8], middle: u32, bar: Bar) -> LineText
     requires inside { IsInside scale.from scale.to bar }
     ensures { result ≡ bar_line scale name.now middle bar }
 {
+    let left = scale.place(bar.from);
+    let width = scale.place(bar.to) - left;
+    let height = look_height(bar.look);
+    let top = middle - height / 2;
+    let last = bar.to - 1;
     let mut line = LineText::new();
     line.push(b"<rect class=\"");
     line.push(look_class(bar.look));
     line.push(b"\" x=\"");
-    push_pixels(&mut line, scale.place(bar.from));
+    push_pixels(&mut line, left);
     line.push(b"\" y=\"");
-    line.push_number(middle - look_height(bar.look) / 2);
+    line.push_number(top);
     line.push(b"\" width=\"");
-    push_pixels(&mut line, scale.place(bar.to) - scale.place(bar.from));
+    push_pixels(&mut line, width);
     line.push(b"\" height=\"");
-    line.push_number(look_height(bar.look));
+    line.push_number(height);
     line.push(b"\"><title>");
     line.push(name);
     line.push(b" ");
@@ -75,31 +82,8 @@ fn bar_line(scale: Scale, name: &[u8], middle: u32, bar: Bar) -> LineText
     line.push(b", ");
     line.push_number(bar.from);
     line.push(b" to ");
-    line.push_number(bar.to - 1);
+    line.push_number(last);
     line.push(b"</title></rect>\n");
-    line
-}
-
-// An arrival in the lane of a name, at its moment.
-#[tactic(auto, unfolding(crate::specs::Drawing::arrival_line))]
-fn arrival_line(scale: Scale, name: &[u8], middle: u32, arrival: Arrival) -> LineText
-    requires scale { IsScale scale }
-    requires name { length name.now ≤ 64 }
-    requires low { 12 ≤ middle }
-    requires behind { scale.from ≤ arrival.at }
-    requires within { arrival.at ≤ scale.to }
-    ensures { result ≡ arrival_line scale name.now middle arrival }
-{
-    let mut line = LineText::new();
-    line.push(b"<path class=\"a\" d=\"M");
-    push_pixels(&mut line, scale.place(arrival.at));
-    line.push(b" ");
-    line.push_number(middle - 12);
-    line.push(b"l-5 -8h10z\"><title>");
-    line.push(name);
-    line.push(b" arrives at ");
-    line.push_number(arrival.at);
-    line.push(b"</title></path>\n");
     line
 }
 
@@ -111,17 +95,18 @@ fn lane_line(scale: Scale, name: &[u8], middle: u32) -> LineText
     requires low { middle ≤ 2000 }
     ensures { result ≡ lane_line scale name.now middle }
 {
+    let (end, base, rule) = (scale.left - 12, middle + 5, middle + 17);
     let mut line = LineText::new();
     line.push(b"<text x=\"");
-    line.push_number(scale.left - 12);
+    line.push_number(end);
     line.push(b"\" y=\"");
-    line.push_number(middle + 5);
+    line.push_number(base);
     line.push(b"\" text-anchor=\"end\">");
     line.push(name);
     line.push(b"</text><path class=\"g\" d=\"M");
     line.push_number(scale.left);
     line.push(b" ");
-    line.push_number(middle + 17);
+    line.push_number(rule);
     line.push(b"h1020\"/>\n");
     line
 }

@@ -15,10 +15,11 @@ use Rattle.mem_map.specs.Stacks.{address_behind_data, is_extended}
 use Rattle.mem_map.specs.Zones.{stack_of}
 use Rattle.mem_map.proofs.OnePlan.{AreAlike, one_plan}
 use Rattle.map_text.specs.MapText.{OneText, lines_of, map_text}
-use Rattle.map_text.specs.Rows.{map_rows, own_rows, row_of, rows_between, shared_rows, starts_of}
-use Rattle.map_text.specs.declared.rows.Kind.TheVariants as kind
-use Rattle.map_text.specs.declared.rows.Row.{Row}
-use Rattle.map_text.specs.declared.rows.Start.{Start}
+use Rattle.map_text.specs.Rows.{map_rows, own_rows, row_of, shared_rows, starts_of}
+use Rattle.piece_rows.specs.Rows.{rows_between}
+use Rattle.piece_rows.specs.declared.rows.Kind.TheVariants as kind
+use Rattle.piece_rows.specs.declared.rows.Row.{Row}
+use Rattle.piece_rows.specs.declared.rows.Start.{Start}
 
 -- ---- rows
 

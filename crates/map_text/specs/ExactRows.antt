@@ -13,9 +13,9 @@ use Rattle.mem_map.specs.Plan.{code_byte_count, code_end, idle_at, idle_bytes, i
 use Rattle.mem_map.specs.Planned.{IsPlanned}
 use Rattle.mem_map.specs.Run.{end_of}
 use Rattle.map_text.specs.Rows.{map_rows, own_rows, shared_rows}
-use Rattle.map_text.specs.declared.rows.Kind.{Kind}
-use Rattle.map_text.specs.declared.rows.Kind.TheVariants as kind
-use Rattle.map_text.specs.declared.rows.Row.{Row}
+use Rattle.piece_rows.specs.declared.rows.Kind.{Kind}
+use Rattle.piece_rows.specs.declared.rows.Kind.TheVariants as kind
+use Rattle.piece_rows.specs.declared.rows.Row.{Row}
 
 -- the rows of pieces of a kind, each right behind the one before it and of so many bytes: the first at an address and with a number. One
 -- without bytes has no row

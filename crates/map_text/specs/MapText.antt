@@ -18,9 +18,9 @@ use Rattle.stack_bounds.specs.Bounds.{AreBounds, bytes_of}
 use Rattle.mem_map.specs.Planned.{IsPlanned}
 use Rattle.sloth_source.specs.Texts.{AreAccepted}
 use Rattle.map_text.specs.Rows.{map_rows, sum_of}
-use Rattle.map_text.specs.declared.rows.Kind.{Kind}
-use Rattle.map_text.specs.declared.rows.Kind.TheVariants as kind
-use Rattle.map_text.specs.declared.rows.Row.{Row}
+use Rattle.piece_rows.specs.declared.rows.Kind.{Kind}
+use Rattle.piece_rows.specs.declared.rows.Kind.TheVariants as kind
+use Rattle.piece_rows.specs.declared.rows.Row.{Row}
 
 -- ---- what stands in a row
 

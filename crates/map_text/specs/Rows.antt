@@ -1,5 +1,5 @@
 -- What an image takes of memory: a row for each extent.
-use Rattle.std.specs.Prelude.{ℕ, zero, suc, ◌+◌, ◌-◌, ltb, Bool, not, cond, List, [], ◌∷◌, ◌++◌, length, get_or, take, drop}
+use Rattle.std.specs.Prelude.{ℕ, zero, suc, ◌+◌, ◌-◌, Bool, not, cond, List, [], ◌∷◌, ◌++◌, length, get_or, take, drop}
 use Rattle.std.specs.Prelude as prelude
 use Rattle.std.specs.List.{list_any}
 use Rattle.sloth_base.specs.declared.config.Config.{Config}
@@ -10,10 +10,11 @@ use Rattle.sloth_region.specs.declared.extent.Extent.{Extent}
 use Rattle.sloth_region.specs.declared.map.Map.{Map}
 use Rattle.mem_map.specs.Stacks.{address_behind_data, is_extended}
 use Rattle.mem_map.specs.Zones.{code_zone, stack_of, no_extent}
-use Rattle.map_text.specs.declared.rows.Kind.{Kind}
-use Rattle.map_text.specs.declared.rows.Kind.TheVariants as kind
-use Rattle.map_text.specs.declared.rows.Row.{Row}
-use Rattle.map_text.specs.declared.rows.Start.{Start}
+use Rattle.piece_rows.specs.declared.rows.Kind.{Kind}
+use Rattle.piece_rows.specs.declared.rows.Kind.TheVariants as kind
+use Rattle.piece_rows.specs.declared.rows.Row.{Row}
+use Rattle.piece_rows.specs.declared.rows.Start.{Start}
+use Rattle.piece_rows.specs.Rows.{rows_between}
 
 -- ---- code and data: each piece goes to where the next one begins
 
@@ -49,20 +50,6 @@ starts_of config m =
     ∷ (numbered_starts kind.Prologue 0 (prologues_of config m) ++ numbered_starts kind.Tick 0 (ticks_of config m)
     ++ numbered_starts kind.Service 0 m.places.blocks ++ numbered_starts kind.Code 0 (code_places m) ++ numbered_starts kind.Data 0 m.places.symbols
     ++ single_start kind.End (address_behind_data m - 4) ∷ [])
-
--- the row of a piece that goes to an address, if it has any bytes
-abbrev pub row_to : Start → ℕ → List Row
-row_to s to = cond (ltb s.at to) (record { kind = s.kind; number = s.number; base = s.at; len = to - s.at } ∷ []) []
-
--- where the first of these pieces begins, or an address where there is none
-abbrev pub first_at : List Start → ℕ → ℕ
-first_at [] end = end
-first_at (s ∷ rest) end = s.at
-
--- the rows of pieces, each of which goes to the next, and the last one to an address
-abbrev pub rows_between : List Start → ℕ → List Row
-rows_between [] end = []
-rows_between (s ∷ rest) end = row_to s (first_at rest end) ++ rows_between rest end
 
 -- ---- stacks
 

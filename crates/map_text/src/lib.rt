@@ -7,5 +7,5 @@ mod rows;
 mod starts;
 mod text;
 
-pub use rows::{Kind, Row};
+pub use piece_rows::rows::{Kind, Row};
 pub use text::map_text;

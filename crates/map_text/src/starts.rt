@@ -5,14 +5,13 @@ ghost use Rattle.mem_map.specs.Zones.{no_extent};
 ghost use Rattle.map_text.specs.Listable.{IsListable};
 ghost use Rattle.map_text.specs.Rows.{address_behind_code, code_places, numbered_starts, single_start, starts_of};
 
-use crate::rows::{Kind, Start};
+use piece_rows::rows::{Kind, Start, tick_count};
 use sloth_base::config::Config;
 use sloth_base::lines::COUNTER_LINE;
-use sloth_base::memory::NoMemory;
 use sloth_base::memory_map::{BOOT_BASE, MEMORY_BASE, VECTORS_BASE};
 use sloth_region::extent::Extent;
 use sloth_region::map::Map;
-use std::alloc::Global;
+use std::alloc::{AllocError, Global};
 
 /// The bytes behind the last symbol.
 const WORD: u32 = 4;
@@ -55,7 +54,7 @@ fn number_or(numbers: &[u32], place: usize, other: u32) -> u32
 }
 
 // Where the code of each function begins.
-fn code_places(alloc: Global, map: &Map) -> Result<Vec<u32>, NoMemory>
+fn code_places(alloc: Global, map: &Map) -> Result<Vec<u32>, AllocError>
     requires { address_behind_code map.now < 4294967296 }
     ensures { IfOk result (λ places. places.items ≡ code_places map.now) }
 {
@@ -64,27 +63,25 @@ fn code_places(alloc: Global, map: &Map) -> Result<Vec<u32>, NoMemory>
     let mut places = Vec::new(alloc);
     for first in map.places.first.items() {
         let place = number_or(items, *first as usize, end);
-        places.push(place).map_err(|_| NoMemory)?;
+        places.push(place)?;
     }
     Ok(places)
 }
 
 // Appends where a piece begins of which there is one.
-fn push_single(starts: &mut Vec<Start>, kind: Kind, at: u32) -> Result<(), NoMemory>
+fn push_single(starts: &mut Vec<Start>, kind: Kind, at: u32) -> Result<(), AllocError>
     ensures { OnOk result (starts.new.items ≡ starts.old.items ++ single_start kind at ∷ []) }
 {
-    starts
-        .push(Start {
-            kind,
-            number: 0,
-            at,
-        })
-        .map_err(|_| NoMemory)
+    starts.push(Start {
+        kind,
+        number: 0,
+        at,
+    })?;
+    Ok(())
 }
 
 // Appends where the pieces of a kind begin that have these addresses.
-#[tactic(auto, using(crate::proofs::OneRow::numbered_more))]
-fn push_numbered(starts: &mut Vec<Start>, kind: Kind, addresses: &[u32]) -> Result<(), NoMemory>
+fn push_numbered(starts: &mut Vec<Start>, kind: Kind, addresses: &[u32]) -> Result<(), AllocError>
     ensures { OnOk result (starts.new.items ≡ starts.old.items ++ numbered_starts kind 0 addresses.now) }
 {
     for number in 0..addresses.len() {
@@ -93,7 +90,7 @@ fn push_numbered(starts: &mut Vec<Start>, kind: Kind, addresses: &[u32]) -> Resu
             number,
             at: addresses[number],
         };
-        starts.push(start).map_err(|_| NoMemory)?;
+        starts.push(start)?;
     }
     Ok(())
 }
@@ -117,13 +114,13 @@ fn ticks(map: &Map, counters: usize) -> &[u32]
 
 /// Where each piece begins, in the order of the addresses.
 #[tactic(auto, unfolding(crate::specs::Rows::starts_of))]
-pub fn starts(alloc: Global, config: &Config, map: &Map) -> Result<Vec<Start>, NoMemory>
+pub fn starts(alloc: Global, config: &Config, map: &Map) -> Result<Vec<Start>, AllocError>
     requires { IsListable config.now map.now }
     ensures { IfOk result (λ starts. starts.items ≡ starts_of config.now map.now) }
 {
     let code = code_places(alloc, map)?;
     let tasks = config.tasks.items().len();
-    let counters = config.counters.items().len();
+    let counters = tick_count(config);
     let end = behind(extent_at(map.extents.items(), DATA)).saturating_sub(WORD);
     let mut starts = Vec::new(alloc);
     push_single(&mut starts, Kind::Words, MEMORY_BASE)?;

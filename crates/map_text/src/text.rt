@@ -8,8 +8,9 @@ ghost use Rattle.map_text.specs.Listable.{IsListable};
 ghost use Rattle.map_text.specs.MapText.{HasMap, IsMapText, map_text, need_lines, row_line};
 
 use crate::lines::{need_line, row_line, sum_line};
-use crate::rows::{Row, map_rows, sum_of};
+use crate::rows::{map_rows, sum_of};
 use mem_map::plan;
+use piece_rows::rows::Row;
 use sloth_base::app::App;
 use sloth_base::config::Config;
 use sloth_base::memory::NoMemory;
@@ -86,8 +87,7 @@ fn planned_text(
     ensures { IfOk result (λ text. HasMap config.now app.now bounds.now text.items) }
 {
     let map = plan(alloc, app, config, bounds)?;
-    let text = text_of(alloc, config, app, bounds, &map)?;
-    Ok(text)
+    text_of(alloc, config, app, bounds, &map)
 }
 
 /// The lines of what the image of these texts, of at most 4,294,967,294 bytes, takes of memory; or the first refusal (O1 to O15, A1 to A7,

@@ -3,4 +3,3 @@
 #![tactic(auto)]
 
 pub mod emit;
-pub mod pieces;

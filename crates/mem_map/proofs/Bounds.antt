@@ -17,7 +17,7 @@ use Rattle.sloth_base.specs.ServiceCodes.{object_kind, IsObjectNumber}
 use Rattle.code_rules.specs.AppRange.{AppInRange}
 use Rattle.rv32_expand.specs.InPlace.{IsItem}
 use Rattle.rv32_expand.specs.Sizes.{AreItemSizes, items_before}
-use Rattle.rv32_expand.proofs.Counts.{size_few}
+use Rattle.expansion_parts.proofs.Counts.{size_few}
 use Rattle.rv32_expand.proofs.InRangeOf.{frame_of}
 use Rattle.mem_map.specs.Run.{end_of}
 use Rattle.mem_map.specs.Wanted.{IsServicePlace}

@@ -19,10 +19,10 @@ use Rattle.sloth_base.specs.declared.service.Service.TheVariants as service
 use Rattle.sloth_base.specs.Blocks.{block_count, block_number}
 use Rattle.code_rules.specs.AppRange.{AppInRange, AreOperands, IsOp}
 use Rattle.code_rules.proofs.Objects.{object_number}
-use Rattle.rv32_expand.specs.Expansion.{item_address, block_address, is_long}
+use Rattle.expansion_parts.specs.Expansion.{item_address, block_address, is_long}
 use Rattle.rv32_expand.specs.InPlace.{IsItem}
 use Rattle.rv32_expand.specs.Sizes.{AreItemSizes, AgreeWithSizes, Covers, IsWordAddress, items_before}
-use Rattle.rv32_expand.proofs.Counts.{size_few, size_is}
+use Rattle.expansion_parts.proofs.Counts.{size_few, size_is}
 use Rattle.rv32_expand.proofs.InRangeOf.{frame_of}
 use Rattle.mem_map.specs.Run.{starts, end_of}
 use Rattle.mem_map.specs.Plan.{code_byte_count, symbol_bytes}

@@ -12,3 +12,4 @@ pub mod Callers
 pub mod Wanting
 pub mod OnePlan
 pub mod SmallLengths
+pub mod Growing

@@ -5,13 +5,9 @@ use Rattle.std.proofs.lemmas.List.{drop_more}
 use Rattle.std.proofs.lemmas.List.Elements.{All-cons}
 use Rattle.sloth_region.specs.declared.extent.Extent.{Extent}
 use Rattle.sloth_region.specs.Region.{FollowWithin}
+pub use Rattle.image_pieces.proofs.Ends.{end_above}
 use Rattle.mem_map.specs.Run.{starts, end_of, extents_of, AreClose}
 use Rattle.mem_map.specs.Plan.{code_byte_count, some_extents}
-
--- the end is not below the start
-pub end_above : (from : ℕ) (lengths : List ℕ) → from ≤ end_of from lengths
-end_above from [] = omega arith
-end_above from (len ∷ lengths) = let r = end_above (from + len) lengths in omega (arith, r)
 
 -- each piece has a start
 pub length_starts : (from : ℕ) (lengths : List ℕ) → length (starts from lengths) ≡ length lengths
@@ -47,14 +43,6 @@ pub next_fits : (free bound : ℕ) (lengths : List ℕ) (i : ℕ) → i < length
 next_fits free bound lengths i h e fits =
     let cut = ap (end_of free) (drop_more lengths i 0 h) in
     let a = end_above (free + get_or lengths i 0) (drop (i + 1) lengths) in
-    omega (arith, cut, e, a, fits)
-
--- the next piece of code ends by the end
-pub next_code_fits : (free bound : ℕ) (sizes : List ℕ) (i : ℕ) → i < length sizes → end_of free (map code_byte_count (drop i sizes)) ≡ bound → bound < 4294967296
-    → free + 4 * get_or sizes i 0 < 4294967296
-next_code_fits free bound sizes i h e fits =
-    let cut = ap (λ rest. end_of free (map code_byte_count rest)) (drop_more sizes i 0 h) in
-    let a = end_above (free + 4 * get_or sizes i 0) (map code_byte_count (drop (i + 1) sizes)) in
     omega (arith, cut, e, a, fits)
 
 -- ---- multiples of 4

@@ -1,5 +1,5 @@
 -- Where the code and the data of an image stand: one piece right behind the other, each with the room of its own length.
-use Rattle.std.specs.Prelude.{ℕ, zero, suc, ◌+◌, ◌*◌, ◌%◌, ◌<◌, ◌≤◌, ◌≡◌, ◌≢◌, ◌⊎◌, List, [], ◌∷◌, ◌++◌, length, All, get_or, slice_index, take}
+use Rattle.std.specs.Prelude.{ℕ, zero, suc, ◌+◌, ◌%◌, ◌<◌, ◌≤◌, ◌≡◌, ◌≢◌, ◌⊎◌, List, [], ◌∷◌, ◌++◌, length, All, get_or, slice_index, take}
 use Rattle.std.specs.Prelude as prelude
 use Rattle.sloth_base.specs.declared.app.App.{App}
 use Rattle.sloth_base.specs.declared.app.Symbol.{Symbol}
@@ -13,6 +13,7 @@ use Rattle.sloth_region.specs.declared.extent.Extent.{Extent}
 use Rattle.sloth_region.specs.declared.map.Map.{Map}
 use Rattle.sloth_region.specs.Region.{aligned}
 use Rattle.code_rules.specs.AppRange.{AppInRange}
+pub use Rattle.image_pieces.specs.Starts.{code_byte_count}
 use Rattle.rv32_expand.specs.Sizes.{AreItemSizes}
 use Rattle.stack_bounds.specs.Bounds.{AreBounds, AreParts}
 use Rattle.mem_map.specs.declared.all_lengths.CodeLengths.{CodeLengths}
@@ -20,10 +21,6 @@ use Rattle.mem_map.specs.Run.{starts, end_of, extents_of}
 use Rattle.mem_map.specs.Zones.{code_zone, data_zone}
 
 -- ---- bytes of each piece
-
--- code of so many instructions
-abbrev pub code_byte_count : ℕ → ℕ
-code_byte_count instructions = 4 * instructions
 
 -- the idle loop: one instruction
 abbrev pub idle_bytes : ℕ

@@ -2,18 +2,9 @@
 use Rattle.std.specs.Prelude.{ℕ, ◌+◌, ◌-◌, ◌%◌, ◌≡◌, List, [], ◌∷◌, map, All}
 use Rattle.sloth_region.specs.declared.extent.Extent.{Extent}
 use Rattle.sloth_region.specs.Region.{aligned, AreApartWithin}
+pub use Rattle.image_pieces.specs.Starts.{starts, end_of}
 
 -- ---- each right behind the one before it
-
--- the addresses of pieces of these lengths, the first at an address
-abbrev pub starts : ℕ → List ℕ → List ℕ
-starts from [] = []
-starts from (len ∷ lengths) = from ∷ starts (from + len) lengths
-
--- the address behind the last of them
-abbrev pub end_of : ℕ → List ℕ → ℕ
-end_of from [] = from
-end_of from (len ∷ lengths) = end_of (from + len) lengths
 
 -- the extents of pieces at these addresses, of these lengths
 abbrev pub extents_of : List ℕ → List ℕ → List Extent

@@ -1,6 +1,6 @@
 -- The stacks of an image: one for all basic tasks, one for each extended task, and each task's part of its stack.
-use Rattle.std.specs.Prelude.{ℕ, zero, suc, ◌+◌, ◌*◌, ◌%◌, ◌<◌, ◌≤◌, ◌≡◌, ◌≢◌, ◌⊎◌, ◌==◌, Bool, true, List, [], ◌∷◌, ◌++◌, cond, length, get_or, All}
-use Rattle.sloth_base.specs.Named.{undeclared_task, declaration}
+use Rattle.std.specs.Prelude.{ℕ, zero, suc, ◌+◌, ◌*◌, ◌%◌, ◌<◌, ◌≤◌, ◌≡◌, ◌≢◌, ◌⊎◌, ◌==◌, true, List, [], ◌∷◌, ◌++◌, cond, length, get_or, All}
+use Rattle.sloth_base.specs.Named.{declaration}
 use Rattle.sloth_base.specs.declared.app.App.{App}
 use Rattle.sloth_base.specs.declared.config.Config.{Config}
 use Rattle.sloth_base.specs.declared.config.TaskDecl.{TaskDecl}
@@ -9,27 +9,11 @@ use Rattle.sloth_region.specs.declared.extent.Extent.{Extent}
 use Rattle.sloth_region.specs.declared.map.Map.{Map}
 use Rattle.sloth_region.specs.Region.{aligned, IsBelow}
 use Rattle.stack_bounds.specs.Bounds.{IsBasic, MayBePreempted, MayMeet, bytes_of}
+pub use Rattle.image_pieces.specs.StackParts.{is_extended, own_before, first_own, stack_number, HasStack}
 use Rattle.mem_map.specs.Zones.{data_zone, stack_of, no_extent, all_stacks}
 use Rattle.mem_map.specs.Run.{room_for, run}
 
--- ---- which stack each task has
-
--- whether a task has events
-abbrev pub is_extended : List TaskDecl → ℕ → Bool
-is_extended tasks t = (get_or tasks t undeclared_task).extended
-
--- how many of the tasks before this one are extended
-abbrev pub own_before : List TaskDecl → ℕ → ℕ
-own_before tasks zero = 0
-own_before tasks (suc t) = own_before tasks t + cond (is_extended tasks t) 1 0
-
--- the place of the first extended task's stack among the stacks: behind the shared one, if some task is basic
-abbrev pub first_own : List TaskDecl → ℕ
-first_own tasks = cond (own_before tasks (length tasks) == length tasks) 0 1
-
--- the place of a task's stack among the stacks
-abbrev pub stack_number : List TaskDecl → ℕ → ℕ
-stack_number tasks t = cond (is_extended tasks t) (first_own tasks + own_before tasks t) 0
+-- ---- how many there are
 
 -- how many stacks there are
 abbrev pub stack_count : List TaskDecl → ℕ
@@ -56,12 +40,6 @@ pub record AreStackLengths (tasks : List TaskDecl) (bounds : Bounds) (end : ℕ)
   pub room : room_for 16 lengths ≤ 269854 + 8587 * end
 
 -- ---- parts
-
--- a task's part has room in the stack that it has among these
-pub record HasStack (tasks : List TaskDecl) (all : List Extent) (offsets : List ℕ) (t : ℕ) : Type 0 where
-  pub there : stack_number tasks t < length all
-  pub below : get_or offsets t 0 ≤ (get_or all (stack_number tasks t) no_extent).len
-  pub short : (get_or all (stack_number tasks t) no_extent).base + (get_or all (stack_number tasks t) no_extent).len < 4294967296
 
 -- the stacks and the tops of the tasks before this one
 pub record AreStacksBefore (tasks : List TaskDecl) (all : List Extent) (offsets : List ℕ) (end : ℕ) (stacks : List Extent) (tops : List ℕ) : Type 0 where

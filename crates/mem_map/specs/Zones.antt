@@ -5,10 +5,7 @@ use Rattle.sloth_base.specs.MemoryMap.{memory_end}
 use Rattle.sloth_region.specs.declared.extent.Extent.{Extent}
 use Rattle.sloth_region.specs.declared.map.Map.{Map}
 use Rattle.sloth_region.specs.Region.{AreApartWithin}
-
--- what stands in the place of an extent that is not there
-abbrev pub no_extent : Extent
-no_extent = record { base = 0; len = 0 }
+pub use Rattle.image_pieces.specs.StackParts.{no_extent}
 
 -- the zone of code, which is the second extent
 abbrev pub code_zone : Map → Extent

@@ -1,9 +1,9 @@
 //! Every address of an image: its zones, and where each piece of code and data stands in them.
 #![tactic(auto)]
 
-mod addresses;
 pub mod all_lengths;
 mod lengths;
+mod pieces;
 mod placing;
 mod planning;
 mod stacks;

@@ -9,11 +9,12 @@ ghost use Rattle.mem_map.specs.Plan.{MayPlan, HasAddresses, idle_at, prologues_a
 ghost use Rattle.sloth_base.specs.Owners.{first_counter_line, counter_line};
 ghost use Rattle.mem_map.specs.Planned.{IsPlanned};
 
-use crate::addresses::{Pieces, handlers, place_pieces, place_services};
 use crate::all_lengths::{CodeLengths, all_lengths};
 use crate::lengths::{code_in_bytes, item_counts, symbol_lengths};
+use crate::pieces::{Pieces, place_pieces};
 use crate::stacks::{stack_lengths, task_parts};
 use crate::zones::plan_zones;
+use image_pieces::{handlers, place_services};
 use sloth_base::app::App;
 use sloth_base::config::Config;
 use sloth_base::list::List;

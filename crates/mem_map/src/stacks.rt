@@ -1,8 +1,9 @@
 //! The stacks of the tasks: how long each is, which of them a task has, and where its part of it ends.
 ghost use Rattle.std.specs.Prelude.{ℕ, ◌≡◌, ◌<◌, ◌≤◌, IfOk, length};
 ghost use Rattle.stack_bounds.specs.Bounds.{bytes_of};
-ghost use Rattle.mem_map.specs.Stacks.{own_before, first_own, stack_number, AreStackLengths, HasStack, AreStacksBefore};
+ghost use Rattle.mem_map.specs.Stacks.{first_own, AreStackLengths, HasStack, AreStacksBefore};
 
+use image_pieces::{first_own, part_of};
 use sloth_base::config::TaskDecl;
 use sloth_base::list::List;
 use sloth_base::places::Bounds;
@@ -11,46 +12,6 @@ use std::alloc::{AllocError, Global};
 
 /// The length of the shared stack is a multiple of this.
 const WHOLE: u32 = 16;
-
-/// How many of the tasks before this one are extended.
-fn own_before(tasks: &[TaskDecl], end: usize) -> usize
-    requires { end ≤ length tasks.now }
-    ensures is { result ≡ own_before tasks.now end }
-    ensures few { result ≤ end }
-{
-    let mut count = 0;
-    for number in 0..end {
-        if tasks[number].extended {
-            count += 1;
-        }
-    }
-    count
-}
-
-/// The place of the first extended task's stack among the stacks: behind the shared one, if some task is basic.
-fn first_own(tasks: &[TaskDecl]) -> usize
-    ensures is { result ≡ first_own tasks.now }
-    ensures small { result ≤ 1 }
-{
-    if own_before(tasks, tasks.len()) == tasks.len() {
-        0
-    } else {
-        1
-    }
-}
-
-/// The place of a task's stack among the stacks.
-fn stack_number(tasks: &[TaskDecl], task: usize) -> usize
-    requires few { length tasks.now ≤ 30 }
-    requires known { task < length tasks.now }
-    ensures { result ≡ stack_number tasks.now task }
-{
-    if tasks[task].extended {
-        first_own(tasks) + own_before(tasks, task)
-    } else {
-        0
-    }
-}
 
 /// The length of the shared stack, if there is one.
 fn shared_lengths(
@@ -113,9 +74,9 @@ pub fn task_parts(
     let mut stacks = Vec::new(alloc);
     let mut tops = Vec::new(alloc);
     for task in 0..tasks.len() {
-        let stack = all[stack_number(tasks, task)];
-        stacks.push(stack)?;
-        tops.push(stack.base + (stack.len - offsets[task]))?;
+        let part = part_of(tasks, all, offsets, task);
+        stacks.push(part.stack)?;
+        tops.push(part.top)?;
     }
     Ok(Parts {
         stacks: List::from_vec(stacks),

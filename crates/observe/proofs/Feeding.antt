@@ -39,6 +39,11 @@ told-exact (Some event) events before after whole told pops none = (
       absurd (omega arith)),
 )
 
+-- where nothing is handed out, nothing was left
+pub told-empty : (next : Option Stamped) (before after : List Stamped) → before ≡ one_or_none next ++ after → IfNone next (after ≡ []) → IfNone next (before ≡ [])
+told-empty None before after pops none = pops ∙ none
+told-empty (Some event) before after pops none = tt
+
 -- where nothing is kept to be handed out, no event is left
 pub nothing_left : (view : View) (p : Progress) → p.found ≡ [] → p.before ≡ [] → p.event ≡ None → p.after ≡ [] → left_over_events view p ≡ []
 nothing_left view p found before event after = rw (found, before, event, after) refl

@@ -1,21 +1,21 @@
 -- The faults in the blocks of an alarm: what its action and its start lack, and what their attributes say wrongly.
-use Rattle.std.specs.Prelude.{◌≡◌, ℕ, Bool, true, false, ◌⊎◌, not, ◌||◌, ◌&&◌, ◌==◌, nat_lt, List, find, codes, Option, Some, None}
+use Rattle.std.specs.Prelude.{◌≡◌, ℕ, Bool, true, false, ◌⊎◌, not, ◌||◌, ◌&&◌, ◌==◌, List, find, codes, Option, Some, None}
 use Rattle.std.specs.List.{list_any}
 use Rattle.sloth_base.specs.declared.refusal.Code.TheVariants.{O9, O10, O11, O12}
 use Rattle.sloth_base.specs.declared.refusal.Refusal.{Refusal}
 use Rattle.least_fault.specs.Search.{Somewhere}
 use Rattle.oil_parse.specs.declared.tree.OilValue.{OilValue}
-use Rattle.oil_parse.specs.declared.tree.OilValue.TheVariants.{Word, Number}
+use Rattle.oil_parse.specs.declared.tree.OilValue.TheVariants.{Word}
 use Rattle.oil_parse.specs.declared.tree.OilAttr.{OilAttr}
 use Rattle.oil_parse.specs.declared.tree.OilObject.{OilObject}
 use Rattle.oil_rules.specs.declared.table.Place.{Place}
 use Rattle.oil_rules.specs.declared.table.Place.TheVariants as place
 use Rattle.oil_rules.specs.declared.table.Attribute.{Attribute}
-use Rattle.oil_rules.specs.declared.table.Attribute.TheVariants as attribute
 use Rattle.oil_rules.specs.Cases.{Case}
 use Rattle.oil_rules.specs.Table.{attribute_of, is_single, is_word, block_place}
 use Rattle.oil_rules.specs.Objects.{is_of_kind, is_use}
-use Rattle.oil_alarms.specs.declared.limits.Limits.{Limits}
+use Rattle.alarm_limits.specs.declared.limits.Limits.{Limits}
+use Rattle.alarm_limits.specs.Beyond.{is_beyond}
 use Rattle.oil_alarms.specs.Limits.{object_named, limits_of}
 use Rattle.oil_alarms.specs.Blocks.{BlockText, blocks_of, first_block, is_inner_use, is_used_in, first_in}
 
@@ -70,22 +70,6 @@ sets_event _ = false
 -- an event of an action that its task does not list
 abbrev pub is_unlisted : List OilObject → Place → List OilAttr → OilAttr → Bool
 is_unlisted objects place inner attr = sets_event place && (is_inner_use (codes "EVENT") attr && is_left_out objects inner attr.value)
-
--- a number outside the limits of the alarm's counter
-abbrev pub is_number_beyond : Limits → Attribute → ℕ → Bool
-is_number_beyond limits attribute.Time number = nat_lt limits.greatest number
-is_number_beyond limits attribute.Cycle number = not (number == 0) && (nat_lt number limits.least || nat_lt limits.greatest number)
-is_number_beyond limits _ number = false
-
--- the same of a value
-abbrev pub is_value_beyond : Limits → Attribute → OilValue → Bool
-is_value_beyond limits row (Number number) = is_number_beyond limits row number
-is_value_beyond limits row _ = false
-
--- the same of the value of an attribute with this row of the table
-abbrev pub is_beyond : Limits → Option Attribute → OilAttr → Bool
-is_beyond limits None attr = false
-is_beyond limits (Some row) attr = (attr.depth == 1) && is_value_beyond limits row attr.value
 
 -- O9, O10 and O12 of an attribute with this row of the table, in a block that is this place, behind these of the block
 abbrev pub InnerFault : List OilObject → Limits → Place → List OilAttr → Option Attribute → List OilAttr → OilAttr → Refusal → Type 0

@@ -6,7 +6,7 @@ use Rattle.oil_parse.specs.declared.tree.OilAttr.{OilAttr}
 use Rattle.oil_parse.specs.declared.tree.OilObject.{OilObject}
 use Rattle.oil_rules.specs.Table.{greatest_value}
 use Rattle.oil_rules.specs.Objects.{is_use, is_declaration, first_number}
-use Rattle.oil_alarms.specs.declared.limits.Limits.{Limits}
+use Rattle.alarm_limits.specs.declared.limits.Limits.{Limits}
 
 -- the first object of this kind that a value names
 abbrev pub object_of_value : List OilObject → List ℕ → OilValue → Option OilObject

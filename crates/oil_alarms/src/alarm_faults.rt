@@ -1,12 +1,12 @@
-//! What the action and the start of an alarm lack, and what an attribute in their blocks says wrongly.
+//! What the action and the start of an alarm lack, and which event its task does not list.
 ghost use Rattle.std.specs.Prelude.{◌≡◌, option_copied};
 ghost use Rattle.std.specs.List.{list_any};
-ghost use Rattle.oil_alarms.specs.AlarmFaults.{lacks_inner, place_behind, lacks_behind, lacks_part, lists_event, leaves_out, is_left_out, sets_event, is_unlisted, is_number_beyond, is_value_beyond, is_beyond};
+ghost use Rattle.oil_alarms.specs.AlarmFaults.{lacks_inner, place_behind, lacks_behind, lacks_part, lists_event, leaves_out, is_left_out, sets_event, is_unlisted};
 
 use crate::blocks::{first_block, first_in, is_inner_use, is_used_in};
-use crate::limits::{Limits, object_named};
+use crate::limits::object_named;
 use oil_parse::tree::{OilAttr, OilObject, OilValue};
-use oil_rules::{Attribute, Place, block_place, first_use, is_use, is_word};
+use oil_rules::{Place, block_place, first_use, is_use, is_word};
 
 fn lacks_inner(place: Place, inner: &[OilAttr]) -> bool
     ensures { result ≡ lacks_inner place inner.now }
@@ -88,33 +88,4 @@ pub fn is_unlisted(objects: &[OilObject], place: Place, inner: &[OilAttr], attr:
     ensures { result ≡ is_unlisted objects.now place inner.now attr.now }
 {
     sets_event(place) && is_inner_use(attr, b"EVENT") && is_left_out(objects, inner, &attr.value)
-}
-
-fn is_number_beyond(limits: Limits, attribute: Attribute, number: u32) -> bool
-    ensures { result ≡ is_number_beyond limits attribute number }
-{
-    match attribute {
-        Attribute::Time => limits.greatest < number,
-        Attribute::Cycle => number != 0 && (number < limits.least || limits.greatest < number),
-        _ => false,
-    }
-}
-
-fn is_value_beyond(limits: Limits, attribute: Attribute, value: &OilValue) -> bool
-    ensures { result ≡ is_value_beyond limits attribute value.now }
-{
-    match value {
-        OilValue::Number(number) => is_number_beyond(limits, attribute, *number),
-        _ => false,
-    }
-}
-
-/// Whether the attribute is a number outside the limits of the alarm's counter.
-pub fn is_beyond(limits: Limits, row: Option<Attribute>, attr: &OilAttr) -> bool
-    ensures { result ≡ is_beyond limits row attr.now }
-{
-    match row {
-        Some(attribute) => attr.depth == 1 && is_value_beyond(limits, attribute, &attr.value),
-        None => false,
-    }
 }

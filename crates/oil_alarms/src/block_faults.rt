@@ -5,9 +5,9 @@ ghost use Rattle.least_fault.specs.Search.{Finds, Somewhere};
 ghost use Rattle.oil_alarms.specs.Blocks.{is_inner_use, is_used_in};
 ghost use Rattle.oil_alarms.specs.AlarmFaults.{is_second_in, InsideFault, BlockFault};
 
-use crate::alarm_faults::{is_beyond, is_unlisted};
+use crate::alarm_faults::is_unlisted;
 use crate::blocks::Block;
-use crate::limits::Limits;
+use alarm_limits::{Limits, is_beyond};
 use indexmap::IndexSet;
 use least_fault::{merge, when};
 use oil_parse::tree::{OilAttr, OilObject};

@@ -115,7 +115,10 @@ pub fn is_inner_use(attr: &OilAttr, name: &[u8]) -> bool
 pub fn is_used_in(inner: &[OilAttr], name: &[u8]) -> bool
     ensures { result ≡ is_used_in inner.now name.now }
 {
-    inner.iter().any(|attr| is_inner_use(attr, name))
+    match first_in(inner, name) {
+        Some(_) => true,
+        None => false,
+    }
 }
 
 /// The first use in a block.

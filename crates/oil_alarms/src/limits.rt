@@ -3,15 +3,9 @@ ghost use Rattle.std.specs.Prelude.{◌≡◌, find, option_copied};
 ghost use Rattle.oil_rules.specs.Objects.{is_declaration};
 ghost use Rattle.oil_alarms.specs.Limits.{object_of_value, object_named, limit_by, limits_given, limits_of};
 
+use alarm_limits::Limits;
 use oil_parse::tree::{OilAttr, OilObject, OilValue};
 use oil_rules::{GREATEST_VALUE, declares, first_number, first_use};
-
-/// The least cycle and the greatest value of a counter.
-#[derive(Clone, Copy)]
-pub struct Limits {
-    pub least: u32,
-    pub greatest: u32,
-}
 
 fn first_declared<'t>(objects: &'t [OilObject], kind: &[u8], word: &[u8]) -> Option<&'t OilObject>
     ensures { option_copied result ≡ find (is_declaration kind.now word.now) objects.now }

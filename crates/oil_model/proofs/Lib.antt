@@ -1,5 +1,6 @@
 pub mod NoFaults
 pub mod Lists
+pub mod Made
 pub mod Attributes
 pub mod RangeNames
 pub mod RangeEvents

@@ -29,13 +29,15 @@ use Rattle.oil_rules.specs.Objects.{is_of_kind, is_use, is_used, is_given, first
 use Rattle.oil_rules.specs.Events.{events_of, mask_named, mask_given, number_masks}
 use Rattle.oil_rules.specs.AttributeFaults.{misses_value}
 use Rattle.oil_rules.specs.ObjectFaults.{lacks_task_attribute, is_endless}
-use Rattle.oil_alarms.specs.declared.limits.Limits.{Limits}
+use Rattle.alarm_limits.specs.declared.limits.Limits.{Limits}
 use Rattle.oil_alarms.specs.Limits.{object_named, limit_by, limits_given}
 use Rattle.oil_alarms.specs.Blocks.{first_block, is_inner_use, is_used_in, first_in, number_in}
-use Rattle.oil_alarms.specs.AlarmFaults.{lacks_inner, place_behind, lacks_behind, lists_event, leaves_out, is_left_out, is_unlisted, is_value_beyond, is_beyond}
+use Rattle.alarm_limits.specs.Beyond.{is_value_beyond, is_beyond}
+use Rattle.oil_alarms.specs.AlarmFaults.{lacks_inner, place_behind, lacks_behind, lists_event, leaves_out, is_left_out, is_unlisted}
 use Rattle.oil_alarms.specs.ModelFaults.{ModelFault}
-use Rattle.oil_model.specs.Clocks.{declared_counter, number_named, mask_of_value, mask_named_by, action_of, started, declared_alarm}
-use Rattle.oil_model.specs.Configs.{resource_names, listed_mask, event_mask, declared_task, config_of}
+use Rattle.event_masks.specs.Masks.{mask_of_value, listed_mask, event_mask}
+use Rattle.oil_model.specs.Clocks.{declared_counter, number_named, mask_named_by, action_of, started, declared_alarm}
+use Rattle.oil_model.specs.Configs.{resource_names, declared_task, config_of}
 use Rattle.text_pieces.proofs.Tests.{All-kept}
 use Rattle.oil_model.proofs.Lists.{IsFirst, first_of}
 use Rattle.oil_model.proofs.Attributes.{allowed, refers}

@@ -16,8 +16,7 @@ use Rattle.oil_rules.specs.Objects.{is_of_kind, is_use, is_used, is_declared, ha
 use Rattle.oil_rules.specs.Events.{is_event, number_masks, mask_by, event_decls, events_of, mask_named, mask_given}
 use Rattle.oil_rules.specs.AttributeFaults.{misses_value}
 use Rattle.oil_alarms.specs.ModelFaults.{ModelFault}
-use Rattle.oil_model.specs.Configs.{listed_mask, event_mask}
-use Rattle.oil_model.specs.Clocks.{mask_of_value}
+use Rattle.event_masks.specs.Masks.{mask_of_value, listed_mask, event_mask}
 use Rattle.text_pieces.proofs.Tests.{none_pass}
 use Rattle.oil_model.proofs.Lists.{found_has, IsFirst, first_of}
 use Rattle.oil_model.proofs.Attributes.{allowed, refers}

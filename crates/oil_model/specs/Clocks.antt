@@ -12,7 +12,7 @@ use Rattle.oil_parse.specs.declared.tree.OilAttr.{OilAttr}
 use Rattle.oil_parse.specs.declared.tree.OilObject.{OilObject}
 use Rattle.oil_rules.specs.Table.{greatest_value}
 use Rattle.oil_rules.specs.Objects.{is_of_kind, is_use, first_is, first_number}
-use Rattle.oil_rules.specs.Events.{mask_named}
+use Rattle.event_masks.specs.Masks.{mask_of_value}
 use Rattle.oil_alarms.specs.Blocks.{first_block, first_in, number_in}
 
 -- the counter that an object declares
@@ -36,11 +36,6 @@ number_of_value names _ = 0
 abbrev pub number_named : List (List ℕ) → Option OilAttr → ℕ
 number_named names None = 0
 number_named names (Some attr) = number_of_value names attr.value
-
--- the mask of the event that a value names, or 0
-abbrev pub mask_of_value : List EventDecl → OilValue → ℕ
-mask_of_value events (Word word) = mask_named events word
-mask_of_value events _ = 0
 
 -- the mask of the event that an attribute names, or 0
 abbrev pub mask_named_by : List EventDecl → Option OilAttr → ℕ

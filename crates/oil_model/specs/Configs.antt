@@ -1,6 +1,6 @@
 -- The configuration that a tree means, where it has no fault. Objects of a kind are numbered, each kind in
 -- the order of the text.
-use Rattle.std.specs.Prelude.{◌≡◌, ℕ, if◌then◌else◌, ◌==◌, bit_or, List, [], ◌∷◌, ◌++◌, map, filter, fold, position, codes, Option, Some, None, unwrap_or}
+use Rattle.std.specs.Prelude.{◌≡◌, ℕ, if◌then◌else◌, ◌==◌, List, [], ◌∷◌, ◌++◌, map, filter, fold, position, codes, Option, Some, None, unwrap_or}
 use Rattle.std.specs.List.{list_any}
 use Rattle.std.specs.Str.{bytes_eq}
 use Rattle.sloth_base.specs.declared.config.TaskDecl.{TaskDecl}
@@ -13,7 +13,8 @@ use Rattle.oil_parse.specs.declared.tree.OilObject.{OilObject}
 use Rattle.oil_parse.specs.declared.tree.OilTree.{OilTree}
 use Rattle.oil_rules.specs.Objects.{names_of, is_of_kind, is_use, is_used, first_is, first_number, has_scheduler}
 use Rattle.oil_rules.specs.Events.{events_of}
-use Rattle.oil_model.specs.Clocks.{mask_of_value, counters_of, alarms_of}
+use Rattle.event_masks.specs.Masks.{event_mask}
+use Rattle.oil_model.specs.Clocks.{counters_of, alarms_of}
 
 -- the names of the resources, in the order of their numbers
 abbrev pub resource_names : List OilObject → List (List ℕ)
@@ -40,14 +41,6 @@ with_resource listed (Some number) = with_number listed number
 -- the resources that a task lists, each once, in the order of the text
 abbrev pub resources_of : List (List ℕ) → List OilAttr → List ℕ
 resources_of names attrs = fold (λ listed attr. with_resource listed (listed_resource names attr)) [] attrs
-
--- the mask of the event that an attribute lists
-abbrev pub listed_mask : List EventDecl → OilAttr → ℕ
-listed_mask events attr = if is_use (codes "EVENT") attr then mask_of_value events attr.value else 0
-
--- the union of the masks of the events that a task lists
-abbrev pub event_mask : List EventDecl → List OilAttr → ℕ
-event_mask events attrs = fold (λ mask attr. bit_or mask (listed_mask events attr)) 0 attrs
 
 -- the task that an object declares
 abbrev pub declared_task : List (List ℕ) → List EventDecl → OilObject → TaskDecl

@@ -1,9 +1,9 @@
 //! The counters and alarms of a tree that has no fault.
-ghost use Rattle.std.specs.Prelude.{◌≡◌, ◌≤◌, IfOk, codes, length, option_copied};
+ghost use Rattle.std.specs.Prelude.{◌≡◌, ◌≤◌, [], ◌∷◌, ◌++◌, IfOk, OnOk, codes, length, option_copied};
 ghost use Rattle.oil_rules.specs.Objects.{names_of};
 ghost use Rattle.oil_model.specs.Clocks.{declared_counter, counters_of, number_of_value, number_named, mask_named_by, action_of, started, declared_alarm, alarms_of};
 
-use crate::config::mask_of_value;
+use event_masks::mask_of_value;
 use oil_alarms::{first_block, first_in, number_in};
 use oil_parse::tree::{OilAttr, OilObject, OilValue};
 use oil_rules::{
@@ -35,15 +35,27 @@ fn declared_counter(alloc: Global, object: &OilObject) -> Result<CounterDecl, No
     })
 }
 
+/// One counter more, if the object is one.
+fn add_counter(
+    alloc: Global,
+    counters: &mut Vec<CounterDecl>,
+    object: &OilObject,
+) -> Result<(), NoMemory>
+    ensures { OnOk result (counters.new.items ≡ counters.old.items ++ counters_of (object.now ∷ [])) }
+{
+    if !is_of_kind(object, b"COUNTER") {
+        return Ok(());
+    }
+    let counter = declared_counter(alloc, object)?;
+    push(counters, counter)
+}
+
 fn counters_of(alloc: Global, objects: &[OilObject]) -> Result<Vec<CounterDecl>, NoMemory>
     ensures { IfOk result (λ counters. counters.items ≡ counters_of objects.now) }
 {
     let mut counters = Vec::new(alloc);
     for object in objects {
-        if !is_of_kind(object, b"COUNTER") {
-            continue;
-        }
-        push(&mut counters, declared_counter(alloc, object)?)?;
+        add_counter(alloc, &mut counters, object)?;
     }
     Ok(counters)
 }
@@ -127,6 +139,26 @@ fn declared_alarm(
     })
 }
 
+/// One alarm more, if the object is one.
+fn add_alarm(
+    alloc: Global,
+    alarms: &mut Vec<AlarmDecl>,
+    tasks: &Names,
+    counters: &Names,
+    events: &EventTable,
+    object: &OilObject,
+) -> Result<(), NoMemory>
+    requires few_tasks { length tasks.now ≤ 32 }
+    requires few_counters { length counters.now ≤ 32 }
+    ensures { OnOk result (alarms.new.items ≡ alarms.old.items ++ alarms_of tasks.now counters.now events.now (object.now ∷ [])) }
+{
+    if !is_of_kind(object, b"ALARM") {
+        return Ok(());
+    }
+    let alarm = declared_alarm(alloc, tasks, counters, events, object)?;
+    push(alarms, alarm)
+}
+
 fn alarms_of(
     alloc: Global,
     tasks: &Names,
@@ -140,13 +172,7 @@ fn alarms_of(
 {
     let mut alarms = Vec::new(alloc);
     for object in objects {
-        if !is_of_kind(object, b"ALARM") {
-            continue;
-        }
-        push(
-            &mut alarms,
-            declared_alarm(alloc, tasks, counters, events, object)?,
-        )?;
+        add_alarm(alloc, &mut alarms, tasks, counters, events, object)?;
     }
     Ok(alarms)
 }

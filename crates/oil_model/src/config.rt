@@ -1,9 +1,9 @@
 //! The configuration of a tree that has no fault.
-ghost use Rattle.std.specs.Prelude.{◌≡◌, ◌≤◌, ◌==◌, IfOk, OnOk, position, bytes_eq, length};
+ghost use Rattle.std.specs.Prelude.{◌≡◌, ◌≤◌, ◌==◌, [], ◌∷◌, ◌++◌, IfOk, OnOk, position, bytes_eq, length};
 ghost use Rattle.std.specs.List.{list_any};
-ghost use Rattle.oil_model.specs.Clocks.{mask_of_value};
-ghost use Rattle.oil_model.specs.Configs.{resource_names, resource_number, listed_resource, with_number, with_resource, resources_of, listed_mask, event_mask, declared_task, tasks_of};
+ghost use Rattle.oil_model.specs.Configs.{resource_names, resource_number, listed_resource, with_number, with_resource, resources_of, declared_task, tasks_of};
 
+use event_masks::event_mask;
 use oil_parse::tree::{OilAttr, OilObject, OilValue};
 use oil_rules::{EventTable, first_is, first_number, is_of_kind, is_use, is_used};
 use sloth_base::config::TaskDecl;
@@ -15,16 +15,28 @@ use std::alloc::Global;
 use text_pieces::growth::push;
 use text_pieces::names::Names;
 
+/// One name more, if the object is a resource.
+fn add_resource_name(
+    alloc: Global,
+    names: &mut Vec<Name>,
+    object: &OilObject,
+) -> Result<(), NoMemory>
+    ensures { OnOk result (names.new.items ≡ names.old.items ++ resource_names (object.now ∷ [])) }
+{
+    if !is_of_kind(object, b"RESOURCE") {
+        return Ok(());
+    }
+    let name = Name::new(alloc, object.name.bytes())?;
+    push(names, name)
+}
+
 /// The names of the resources, in the order of their numbers.
 pub fn resource_names(alloc: Global, objects: &[OilObject]) -> Result<Vec<Name>, NoMemory>
     ensures { IfOk result (λ names. names.items ≡ resource_names objects.now) }
 {
     let mut names = Vec::new(alloc);
     for object in objects {
-        if !is_of_kind(object, b"RESOURCE") {
-            continue;
-        }
-        push(&mut names, Name::new(alloc, object.name.bytes())?)?;
+        add_resource_name(alloc, &mut names, object)?;
     }
     Ok(names)
 }
@@ -97,37 +109,6 @@ fn resources_of(alloc: Global, names: &Names, attrs: &[OilAttr]) -> Result<Vec<R
     Ok(listed)
 }
 
-/// The mask of the event that a value names, or 0.
-pub fn mask_of_value(events: &EventTable, value: &OilValue) -> u32
-    ensures { result ≡ mask_of_value events.now value.now }
-{
-    match value {
-        OilValue::Word(word) => events.mask_named(word.bytes()),
-        _ => 0,
-    }
-}
-
-fn listed_mask(events: &EventTable, attr: &OilAttr) -> u32
-    ensures { result ≡ listed_mask events.now attr.now }
-{
-    if is_use(attr, b"EVENT") {
-        mask_of_value(events, &attr.value)
-    } else {
-        0
-    }
-}
-
-/// The union of the masks of the events that a task lists.
-fn event_mask(events: &EventTable, attrs: &[OilAttr]) -> u32
-    ensures { result ≡ event_mask events.now attrs.now }
-{
-    let mut mask = 0;
-    for attr in attrs {
-        mask |= listed_mask(events, attr);
-    }
-    mask
-}
-
 fn task_of(
     alloc: Global,
     names: &Names,
@@ -149,6 +130,24 @@ fn task_of(
     })
 }
 
+/// One task more, if the object is one.
+fn add_task(
+    alloc: Global,
+    tasks: &mut Vec<TaskDecl>,
+    names: &Names,
+    events: &EventTable,
+    object: &OilObject,
+) -> Result<(), NoMemory>
+    requires { length names.now ≤ 32 }
+    ensures { OnOk result (tasks.new.items ≡ tasks.old.items ++ tasks_of names.now events.now (object.now ∷ [])) }
+{
+    if !is_of_kind(object, b"TASK") {
+        return Ok(());
+    }
+    let task = task_of(alloc, names, events, object)?;
+    push(tasks, task)
+}
+
 /// The tasks, in the order of their numbers.
 pub fn tasks_of(
     alloc: Global,
@@ -161,10 +160,7 @@ pub fn tasks_of(
 {
     let mut tasks = Vec::new(alloc);
     for object in objects {
-        if !is_of_kind(object, b"TASK") {
-            continue;
-        }
-        push(&mut tasks, task_of(alloc, names, events, object)?)?;
+        add_task(alloc, &mut tasks, names, events, object)?;
     }
     Ok(tasks)
 }

@@ -1,4 +1,3 @@
-pub mod Shapes
 pub mod Grammar
 pub mod Faults
 pub mod Text

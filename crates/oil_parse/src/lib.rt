@@ -2,7 +2,6 @@
 #![tactic(auto)]
 
 mod draft;
-mod machine;
 mod parser;
 pub mod tree;
 

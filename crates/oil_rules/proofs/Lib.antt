@@ -1,4 +1,5 @@
 pub mod Names
+pub mod Found
 mod Doubles
 mod Fronts
 mod KeptReferences

@@ -1,8 +1,7 @@
 //! The least fault of a tree.
-ghost use Rattle.std.specs.Prelude.{◌≡◌, IfOk, codes, true};
-ghost use Rattle.std.specs.List.{list_any};
+ghost use Rattle.std.specs.Prelude.{◌≡◌, IfOk, true};
 ghost use Rattle.least_fault.specs.Search.{Finds, Somewhere};
-ghost use Rattle.oil_rules.specs.Objects.{has_scheduler, is_of_kind};
+ghost use Rattle.oil_rules.specs.Objects.{has_scheduler};
 ghost use Rattle.oil_rules.specs.Events.{events_of};
 ghost use Rattle.oil_rules.specs.ObjectFaults.{is_known};
 ghost use Rattle.oil_rules.specs.TreeFaults.{TaskFaults, InnerFault, ObjectFault, TreeFault};
@@ -89,12 +88,6 @@ fn object_faults(
     Ok(least)
 }
 
-fn has_os(objects: &[OilObject]) -> bool
-    ensures { result ≡ list_any (is_of_kind (codes "OS")) objects.now }
-{
-    objects.iter().any(|object| is_of_kind(object, b"OS"))
-}
-
 /// The least fault of a tree with these objects and events.
 pub fn judge(
     alloc: Global,
@@ -110,6 +103,6 @@ pub fn judge(
 {
     let objects = tree.objects.items();
     let of_objects = object_faults(alloc, objects, table, scheduler, events)?;
-    let without_os = when(!has_os(objects), Part::Oil, tree.cpu_line, Code::O11);
+    let without_os = when(!table.has_os(), Part::Oil, tree.cpu_line, Code::O11);
     Ok(merge(of_objects, merge(events_without_bit(objects), without_os)))
 }

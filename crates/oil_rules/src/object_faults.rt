@@ -1,5 +1,5 @@
 //! The faults of an object as a whole.
-ghost use Rattle.std.specs.Prelude.{◌≡◌, ◌&&◌, ◌==◌, codes};
+ghost use Rattle.std.specs.Prelude.{◌≡◌, ◌&&◌, codes};
 ghost use Rattle.least_fault.specs.Search.{Finds};
 ghost use Rattle.std.specs.List.{list_any};
 ghost use Rattle.oil_rules.specs.Objects.{is_of_kind, is_declaration, is_declared};
@@ -9,6 +9,7 @@ use crate::front::Front;
 use crate::objects::{declares, is_of_kind, is_used};
 use crate::table::{is_nowhere, place_of};
 use least_fault::{merge, when};
+use object_limits::{comes_behind, is_clock_more};
 use oil_parse::tree::OilObject;
 use sloth_base::refusal::{Code, Part, Refusal};
 use text_pieces::bytes::same;
@@ -87,18 +88,10 @@ fn is_strange_mode(object: &OilObject) -> bool
     is_of_kind(object, b"APPMODE") && !same(object.name.bytes(), b"OSDEFAULTAPPMODE")
 }
 
-/// Whether the object is of this kind, and comes behind so many.
-fn comes_behind(kind: &[u8], limit: usize, count: usize, object: &OilObject) -> bool
-    ensures { result ≡ (is_of_kind kind.now object.now && (count == limit)) }
-{
-    is_of_kind(object, kind) && count == limit
-}
-
 fn is_clock_above(front: &Front, object: &OilObject) -> bool
     ensures { result ≡ is_clock_above front.now object.now }
 {
-    comes_behind(b"COUNTER", 2, front.counters(), object)
-        || comes_behind(b"ALARM", 32, front.alarms(), object)
+    is_clock_more(front.counters(), front.alarms(), object)
 }
 
 fn is_above(front: &Front, object: &OilObject) -> bool

@@ -17,7 +17,10 @@ pub fn is_use(attr: &OilAttr, name: &[u8]) -> bool
 pub fn is_used(attrs: &[OilAttr], name: &[u8]) -> bool
     ensures { result ≡ is_used attrs.now name.now }
 {
-    attrs.iter().any(|attr| is_use(attr, name))
+    match first_use(attrs, name) {
+        Some(_) => true,
+        None => false,
+    }
 }
 
 /// The first use of the attribute.

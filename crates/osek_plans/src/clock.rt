@@ -5,7 +5,7 @@ ghost use Rattle.osek_scheduler.specs.State.{no_alarm, no_counter, opening_clock
 use osek_scheduler::state::{Alarm, Counter};
 use sloth_base::config::Config;
 use sloth_base::memory::NoMemory;
-use std::alloc::Global;
+use std::alloc::{AllocError, Global};
 use std::marker::Model;
 
 /// The counters and the alarms as they stand, each by its number.
@@ -24,7 +24,7 @@ impl Model for ClockRoom {
 }
 
 // A counter for each declaration.
-fn resting_counters(alloc: Global, config: &Config) -> Result<Vec<Counter>, NoMemory>
+fn resting_counters(alloc: Global, config: &Config) -> Result<Vec<Counter>, AllocError>
     ensures { IfOk result (λ counters. counters.items ≡ map (λ _. no_counter) config.now.counters) }
 {
     let mut counters = Vec::new(alloc);
@@ -33,13 +33,13 @@ fn resting_counters(alloc: Global, config: &Config) -> Result<Vec<Counter>, NoMe
             value: 0,
             due: false,
         };
-        counters.push(resting).map_err(|_| NoMemory)?;
+        counters.push(resting)?;
     }
     Ok(counters)
 }
 
 // The alarms as they are declared.
-fn declared_alarms(alloc: Global, config: &Config) -> Result<Vec<Alarm>, NoMemory>
+fn declared_alarms(alloc: Global, config: &Config) -> Result<Vec<Alarm>, AllocError>
     ensures { IfOk result (λ alarms. alarms.items ≡ map (λ d. record { left = d.time; cycle = d.cycle }) config.now.alarms) }
 {
     let mut alarms = Vec::new(alloc);
@@ -48,7 +48,7 @@ fn declared_alarms(alloc: Global, config: &Config) -> Result<Vec<Alarm>, NoMemor
             left: alarm.time,
             cycle: alarm.cycle,
         };
-        alarms.push(declared).map_err(|_| NoMemory)?;
+        alarms.push(declared)?;
     }
     Ok(alarms)
 }

@@ -1,16 +1,13 @@
 -- The pieces of a prologue.
-use Rattle.std.specs.Prelude.{ℕ, Bool, false, true, ◌+◌, pos, neg_ℤ, List, [], ◌∷◌, ◌++◌}
-use Rattle.sloth_region.specs.Layout.{cur, active, resume, below_word, context_bytes, context_pc, context_level, context_cur, context_below}
+use Rattle.std.specs.Prelude.{ℕ, Bool, false, true, ◌+◌, pos, List, [], ◌∷◌, ◌++◌}
+use Rattle.sloth_region.specs.Layout.{cur, active, resume, below_word, context_pc, context_level, context_cur, context_below}
 use Rattle.rv32_instr.specs.declared.csr.TheConstants.{MEPC, PLEVEL}
 use Rattle.rv32_instr.specs.declared.InstrKind.{InstrKind}
 use Rattle.rv32_instr.specs.declared.InstrKind.TheVariants.{Lui, Addi, Lw, Sw, Beq, Csrrs, Csrrw, Csrrwi, Mret}
 use Rattle.sloth_base.specs.Arithmetic.{hi, lo}
 use Rattle.sloth_base.specs.Status.{E_OK}
 use Rattle.masked_code.specs.Pieces.{past, saving_code, restoring_code, clearing_code, words_clearing_code}
-
--- x1 := the place of the context, directly below x2; leaves `cur` in x2, and passes what saves the registers where that is 0
-abbrev pub preempted_test : List InstrKind
-preempted_test = Addi 1 2 (neg_ℤ (pos context_bytes)) ∷ Lw 2 4 (pos cur) ∷ Beq 2 0 (past (saving_code 27 5 1)) ∷ []
+use Rattle.routine_pieces.specs.Prologues.{preempted_test, own_taking_code}
 
 -- what the CSRs say goes into the context at x1, by x5; the level is now that of the entry
 abbrev pub csr_saving_code : ℕ → List InstrKind
@@ -35,10 +32,6 @@ beginning_code frame first = Lui 2 (hi frame) ∷ Addi 2 2 (lo frame) ∷ Lui 1 
 -- a start with a frame of zero words and zero registers
 abbrev pub fresh_start_code : ℕ → ℕ → ℕ → List InstrKind
 fresh_start_code frame words first = beginning_code frame first ++ (words_clearing_code words 0 2 ++ (clearing_code 25 5 ++ Mret ∷ []))
-
--- no context is kept for the task any more; its pc and x2 are those of its context at x1
-abbrev pub own_taking_code : ℕ → List InstrKind
-own_taking_code task = Sw 4 0 (pos (resume task)) ∷ Lw 2 1 (pos context_pc) ∷ Csrrw 0 2 MEPC ∷ Addi 2 1 (pos context_bytes) ∷ []
 
 -- the service that waited has done so
 abbrev pub wait_answer_code : List InstrKind

@@ -1,19 +1,17 @@
 //! The parts of a prologue: what was preempted is saved, and the task starts anew.
 ghost use Rattle.std.specs.Prelude.{◌≡◌, ◌<◌, ◌≤◌, ◌++◌, OnOk};
-ghost use Rattle.prologue_gen.specs.Pieces.{preempted_test, context_saving_code, csr_saving_code, words_saving_code, active_marking_code, beginning_code, fresh_start_code};
+ghost use Rattle.prologue_gen.specs.Pieces.{context_saving_code, csr_saving_code, words_saving_code, active_marking_code, beginning_code, fresh_start_code};
 
-use masked_code::emit::{X5, clear, clear_words, emit, past, save};
+use masked_code::emit::{X5, clear, clear_words, emit, save};
+use routine_pieces::prologues::ask_preempted;
 use rv32_instr::Instr;
-use rv32_instr::asm::{X1, X2, X4, ZERO, addi, beq, csrrs, csrrw, csrrwi, lui, lw, mret, sw};
+use rv32_instr::asm::{X1, X2, X4, ZERO, addi, csrrs, csrrw, csrrwi, lui, lw, mret, sw};
 use rv32_instr::constant::{hi, lo};
 use rv32_instr::csr::{MEPC, PLEVEL};
 use sloth_region::layout::{
-    BELOW_WORD, CONTEXT_BELOW, CONTEXT_BYTES, CONTEXT_CUR, CONTEXT_LEVEL, CONTEXT_PC, CUR, active,
+    BELOW_WORD, CONTEXT_BELOW, CONTEXT_CUR, CONTEXT_LEVEL, CONTEXT_PC, CUR, active,
 };
 use std::alloc::AllocError;
-
-/// The registers of a context: x5 to x31.
-const REGISTERS: u32 = 27;
 
 /// Saves the registers where a task was running, and then what the CSRs and the service words say, in the context directly below x2.
 /// The level is then this one.
@@ -26,18 +24,6 @@ pub fn save_context(code: &mut Vec<Instr>, level: u8) -> Result<(), AllocError>
     save_csrs(code, level)?;
     save_words(code)?;
     Ok(())
-}
-
-/// x1 := the place of the context; passes what saves the registers, where no task was running. Leaves `cur` in x2.
-fn ask_preempted(code: &mut Vec<Instr>) -> Result<(), AllocError>
-    ensures { OnOk result (code.new.items ≡ code.old.items ++ preempted_test) }
-{
-    let asked = [
-        addi(X1, X2, -CONTEXT_BYTES),
-        lw(X2, X4, CUR),
-        beq(X2, ZERO, past(REGISTERS)),
-    ];
-    emit(code, &asked)
 }
 
 /// What the CSRs say, by x5; the level is then this one.

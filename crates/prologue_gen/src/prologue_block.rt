@@ -8,6 +8,7 @@ ghost use Rattle.prologue_gen.specs.Places.{IsStackTop, EntersTask, DoesEnter, f
 use crate::fresh::{mark_active, save_context, start_anew};
 use crate::resumed::take_up;
 use code_lengths::body_of;
+use routine_pieces::prologues::start_level;
 use rv32_instr::{Block, Instr};
 use sloth_base::app::App;
 use sloth_base::config::Config;
@@ -70,11 +71,7 @@ fn entry(
     let top = map.tops.items()[task.0 as usize];
     let first = map.places.items.items()[map.places.first.items()[body] as usize];
     let decl = &config.tasks.items()[task.0 as usize];
-    let level = if decl.non {
-        levels.top
-    } else {
-        levels.task[task.0 as usize]
-    };
+    let level = start_level(decl, task, levels);
     code_of(
         alloc,
         decl.extended,

@@ -1,13 +1,13 @@
 //! The parts of an extended task's prologue: where a context is kept for the task, it goes on behind its wait.
 ghost use Rattle.std.specs.Prelude.{◌≡◌, ◌<◌, ◌++◌, OnOk};
-ghost use Rattle.prologue_gen.specs.Pieces.{own_taking_code, wait_answer_code, going_on_code, kept_context_test, context_taking_code};
+ghost use Rattle.prologue_gen.specs.Pieces.{wait_answer_code, going_on_code, kept_context_test, context_taking_code};
 
 use masked_code::emit::{emit, past, restore};
+use routine_pieces::prologues::take_own;
 use rv32_instr::Instr;
-use rv32_instr::asm::{A0, X1, X2, X4, ZERO, addi, beq, csrrw, lw, mret, sw};
-use rv32_instr::csr::MEPC;
+use rv32_instr::asm::{A0, X1, X4, ZERO, addi, beq, lw, mret};
 use sloth_base::service::E_OK;
-use sloth_region::layout::{CONTEXT_BYTES, CONTEXT_PC, resume};
+use sloth_region::layout::resume;
 use std::alloc::AllocError;
 
 /// How many instructions take up a task's own context.
@@ -43,20 +43,6 @@ fn go_on(code: &mut Vec<Instr>, task: u32) -> Result<(), AllocError>
     restore(code, 5, 32, X1)?;
     answer_wait(code)?;
     Ok(())
-}
-
-/// No context is kept for the task any more; mepc and x2 are those of its context at x1.
-fn take_own(code: &mut Vec<Instr>, task: u32) -> Result<(), AllocError>
-    requires { task < 30 }
-    ensures { OnOk result (code.new.items ≡ code.old.items ++ own_taking_code task) }
-{
-    let taken = [
-        sw(ZERO, X4, resume(task)),
-        lw(X2, X1, CONTEXT_PC),
-        csrrw(ZERO, MEPC, X2),
-        addi(X2, X1, CONTEXT_BYTES),
-    ];
-    emit(code, &taken)
 }
 
 /// The service that waited has done so.

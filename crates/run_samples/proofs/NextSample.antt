@@ -17,7 +17,7 @@ use Rattle.sloth_runner.specs.declared.runner.Halt.{Halt}
 use Rattle.sloth_runner.specs.declared.runner.Runner.{Runner}
 use Rattle.sloth_runner.specs.declared.runner.RunEnd.TheVariants as ends
 use Rattle.sloth_runner.specs.declared.sight.Interrupts.{Interrupts}
-use Rattle.sloth_runner.specs.declared.sight.Seen.{Seen}
+use Rattle.sloth_runner.specs.Sight.{Seen}
 use Rattle.sloth_runner.proofs.Sighted.{last-behind}
 use Rattle.sloth_runner.proofs.Turning.{machine-more, moment-is}
 use Rattle.run_samples.specs.declared.sampling.Sampler.{Sampler}

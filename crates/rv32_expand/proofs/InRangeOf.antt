@@ -9,7 +9,7 @@ use Rattle.sloth_base.specs.declared.app.Func.{Func}
 use Rattle.sloth_base.specs.declared.app.Label.{Label}
 use Rattle.sloth_base.specs.Named.{label_of, no_label}
 use Rattle.code_rules.specs.AppRange.{IsTaskCode}
-use Rattle.rv32_expand.specs.Passes.{IsSmall}
+use Rattle.expansion_parts.specs.Passes.{IsSmall}
 
 -- a frame has at most 32 words
 pub frame_of : (app : App) → IsTaskCode app → (func : ℕ) → (function app func).frame_words ≤ 32

@@ -1,7 +1,4 @@
-pub mod Counts
-pub mod Growth
 pub mod InRangeOf
-pub mod Passing
 pub mod AllBodies
 pub mod Filling
 pub mod Encodable

@@ -18,15 +18,15 @@ use Rattle.code_rules.specs.Code.{is_followed, way}
 use Rattle.sloth_base.specs.Named.{item_of, label_of, no_item}
 use Rattle.code_rules.specs.WellFormed.{AccessesPast, MasksPast, WellFormed, Breaks, BodyFault, fault_at_line}
 use Rattle.rv32_instr.specs.Range.{IsEven}
-use Rattle.rv32_expand.specs.Expansion.{item_address, symbol_address, block_address, label_address, distance, mask_of, is_long, operation_code, expansion}
+use Rattle.expansion_parts.specs.Expansion.{item_address, symbol_address, block_address, label_address, distance, mask_of, is_long, operation_code, expansion}
 use Rattle.sloth_base.specs.Named.{operation}
 use Rattle.rv32_expand.specs.Fits.{HasBranchRoom, Fits}
 use Rattle.rv32_expand.specs.InPlace.{IsItem}
-use Rattle.rv32_expand.specs.Long.{target_of, IsBranchTo, AreLongBranches, BranchReaches}
+use Rattle.expansion_parts.specs.Long.{target_of, IsBranchTo, AreLongBranches, BranchReaches}
 use Rattle.rv32_expand.specs.ItemLengths.{ShortBranchesReach}
 use Rattle.rv32_expand.specs.Sizes.{AgreeWithSizes, Covers, IsVerified, IsWordAddress}
 use Rattle.rv32_expand.proofs.Agreeing.{told, reaches, least_same}
-use Rattle.rv32_expand.proofs.Counts.{calls_length, served_length, expanded_some}
+use Rattle.expansion_parts.proofs.Counts.{calls_length, served_length, expanded_some}
 use Rattle.rv32_expand.proofs.InRangeOf.{frame_of, small}
 
 -- ---- branches

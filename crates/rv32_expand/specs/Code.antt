@@ -1,13 +1,9 @@
 -- The instructions of an item in their 36 places.
-use Rattle.std.specs.Prelude.{◌-◌, ◌≡◌, pos, List, ◌++◌, length}
+use Rattle.std.specs.Prelude.{◌-◌, ◌≡◌, List, ◌++◌, length}
 use Rattle.std.proofs.Math.ListN.{replicate}
 use Rattle.rv32_instr.specs.declared.InstrKind.{InstrKind}
-use Rattle.rv32_instr.specs.declared.InstrKind.TheVariants.{Addi}
+pub use Rattle.expansion_parts.specs.Nothing.{nop}
 use Rattle.rv32_expand.specs.declared.draft.Expansion.{Expansion}
-
--- an instruction that does nothing: `addi x0, x0, 0`
-abbrev pub nop : InstrKind
-nop = Addi 0 0 (pos 0)
 
 -- these instructions, and behind them ones that do nothing
 pub record IsCode (kinds : List InstrKind) (expansion : Expansion) : Type 0 where

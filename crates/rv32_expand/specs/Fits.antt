@@ -7,7 +7,7 @@ use Rattle.sloth_base.specs.declared.app.Op.TheVariants as op
 use Rattle.sloth_base.specs.declared.places.Places.{Places}
 use Rattle.code_rules.specs.AppRange.{IsNumberOf}
 use Rattle.rv32_instr.specs.Range.{IsEven}
-use Rattle.rv32_expand.specs.Expansion.{distance, item_address, symbol_address, block_address, label_address, mask_of}
+use Rattle.expansion_parts.specs.Expansion.{distance, item_address, symbol_address, block_address, label_address, mask_of}
 
 -- a long branch always has room
 abbrev pub HasBranchRoom : (long : Bool) → (from to : ℕ) → Type 0

@@ -1,9 +1,9 @@
 //! Where items, symbols and blocks of services stand.
 ghost use Rattle.std.specs.Prelude.{◌≡◌};
-ghost use Rattle.rv32_instr.specs.Range.{IsSigned};
-ghost use Rattle.rv32_expand.specs.Expansion.{distance, item_address, symbol_address, block_address, label_address};
+ghost use Rattle.expansion_parts.specs.Expansion.{item_address, symbol_address, block_address, label_address};
 
-use crate::long_branches::item_behind;
+pub use expansion_parts::calls::distance;
+use expansion_parts::long_branches::item_behind;
 use sloth_base::app::App;
 use sloth_base::numbers::SymId;
 use sloth_base::places::{Places, block_number};
@@ -51,12 +51,4 @@ pub fn label_address(app: &App, places: &Places, func: u32, label: u32) -> u32
         Some(body) => item_address(places, func, item_behind(body, label)),
         None => item_address(places, func, 0),
     }
-}
-
-/// How far it is from one address to another.
-pub fn distance(from: u32, to: u32) -> i32
-    requires { IsSigned 21 (distance from to) }
-    ensures { result ≡ distance from to }
-{
-    (i64::from(to) - i64::from(from)) as i32
 }

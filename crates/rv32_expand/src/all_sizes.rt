@@ -3,7 +3,7 @@ ghost use Rattle.std.specs.Prelude.{IfOk};
 ghost use Rattle.code_rules.specs.AppRange.{IsTaskCode};
 ghost use Rattle.rv32_expand.specs.Sizes.{AreItemSizes};
 
-use crate::long_branches::shortest;
+use expansion_parts::long_branches::shortest;
 use sloth_base::app::App;
 use sloth_base::memory::NoMemory;
 use std::alloc::Global;
@@ -17,7 +17,7 @@ pub fn sizes(alloc: Global, app: &App) -> Result<Vec<u32>, NoMemory>
     let mut sizes = Vec::new(alloc);
     for body in app.funcs.items() {
         let own = shortest(alloc, app, body)?;
-        sizes.extend_from_slice(&own).map_err(|_| NoMemory)?;
+        sizes.extend_from_slice(&own)?;
     }
     Ok(sizes)
 }

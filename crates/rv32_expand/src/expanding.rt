@@ -3,7 +3,7 @@ ghost use Rattle.std.specs.Prelude.{◌≡◌, ◌+◌, ◌<◌, ◌^◌};
 ghost use Rattle.sloth_base.specs.Named.{function};
 ghost use Rattle.sloth_base.specs.Named.{item_of};
 ghost use Rattle.rv32_expand.specs.Code.{IsCode};
-ghost use Rattle.rv32_expand.specs.Expansion.{item_address, is_long, expansion};
+ghost use Rattle.expansion_parts.specs.Expansion.{item_address, is_long, expansion};
 ghost use Rattle.rv32_expand.specs.InPlace.{IsItem};
 ghost use Rattle.rv32_expand.specs.Sizes.{AgreeWithSizes, Covers, IsVerified};
 

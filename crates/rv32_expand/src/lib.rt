@@ -1,5 +1,5 @@
-//! The instructions of each item of task code and how long they are (`specs/Expansion`), and what it is for the items to stand in an
-//! image, each with its mark on its last instruction (`specs/InPlace`).
+//! The instructions of each item of task code and how long they are (as `expansion_parts` defines them), and what it is for the items to stand
+//! in an image, each with its mark on its last instruction (`specs/InPlace`).
 #![tactic(auto)]
 
 pub mod addresses;
@@ -8,7 +8,6 @@ mod draft;
 mod expanding;
 pub mod laws;
 mod lengths;
-mod long_branches;
 mod operations;
 mod rows;
 

@@ -4,36 +4,22 @@ ghost use Rattle.sloth_base.specs.Arithmetic.{hi};
 ghost use Rattle.data_far.specs.Wide.{wide, IsWide};
 ghost use Rattle.rv32_instr.specs.Range.{IsSigned};
 ghost use Rattle.rv32_instr.specs.declared.InstrKind.TheVariants.{Lui, Addi, Lw, Jalr};
-ghost use Rattle.rv32_expand.specs.Expansion.{distance, block_address, index_code, branches, calls, mask_of, service_jump, operation_code};
+ghost use Rattle.expansion_parts.specs.Expansion.{distance, block_address, index_code, branches, mask_of, service_jump, operation_code};
 ghost use Rattle.rv32_expand.specs.Fits.{HasBranchRoom, Fits};
 
-use crate::addresses::{block_address, distance, item_address, label_address, symbol_address};
-use crate::draft::Draft;
-use crate::lengths::{NEAR_MASK, frame_words, mask_length};
+use crate::addresses::{block_address, item_address, label_address, symbol_address};
 use crate::operations::{number_operation, opposite, register_operation, test};
+use expansion_parts::calls::{call, distance, frame_offset, one};
+use expansion_parts::draft::Draft;
+use expansion_parts::lengths::{NEAR_MASK, frame_words, mask_length};
 use rv32_instr::InstrKind;
 use rv32_instr::access::{load, store};
-use rv32_instr::asm::{X2, X30, X31, ZERO, add, addi, andi, auipc, jal, jalr, lui, lw, sw};
+use rv32_instr::asm::{X2, X30, X31, ZERO, add, addi, andi, jal, jalr, lui, lw, sw};
 use rv32_instr::constant::{hi, lo};
 use sloth_base::app::{App, BranchKind, Call, Item, Op};
 use sloth_base::numbers::{FuncId, Reg};
 use sloth_base::places::Places;
 use sloth_base::service::Service;
-
-/// One instruction.
-fn one(kind: InstrKind) -> Draft
-    ensures { result ≡ kind ∷ [] }
-{
-    Draft::of(&[kind])
-}
-
-/// Where a word of the frame stands behind x2.
-fn frame_offset(word: u32) -> i32
-    requires { word ≤ 36 }
-    ensures { result ≡ pos (4 * word) }
-{
-    4 * word as i32
-}
 
 /// An access to an address of data, whose low part is in the access.
 fn direct(address: u32, access: InstrKind) -> Draft
@@ -84,23 +70,6 @@ fn branch(long: bool, kind: BranchKind, a: Reg, b: Reg, at: u32, target: u32) ->
         addi(X31, X31, lo(target)),
         jalr(ZERO, X31, 0),
     ])
-}
-
-/// The call, at `at`, of a function with so many words of frame.
-fn call(at: u32, words: u32, target: u32) -> Draft
-    requires few { words ≤ 32 }
-    requires at_in { at < 2 ^ 31 + 2 ^ 22 }
-    requires near { IsSigned 21 (distance (at + 4 * (words + 3)) target) }
-    ensures { result ≡ calls at words target }
-{
-    let mut draft = one(addi(X2, X2, -4 - frame_offset(words)));
-    for word in 0..words {
-        draft.push(sw(ZERO, X2, frame_offset(word)));
-    }
-    draft.push(auipc(X31, 0));
-    draft.push(sw(X31, X2, frame_offset(words)));
-    draft.push(jal(ZERO, distance(at + 4 * (words + 3), target)));
-    draft
 }
 
 /// The way back from a function with so many words of frame.

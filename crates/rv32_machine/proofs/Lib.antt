@@ -1,6 +1,6 @@
-pub mod Places
 pub mod Fetching
 pub mod Taking
 pub mod Stepping
 pub mod Runs
 pub mod Coherence
+pub mod Fitting

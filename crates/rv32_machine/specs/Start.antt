@@ -1,21 +1,15 @@
 -- The machine as it starts: the image's bytes and then zeros in RAM, and zero in all else.
-use Rattle.std.specs.Prelude.{ℕ, ◌-◌, List, ◌++◌, length, replicate, false, true}
+use Rattle.std.specs.Prelude.{replicate, false}
 use Rattle.sloth_base.specs.declared.image.Image.{Image}
 use Rattle.sloth_base.specs.Machine.{State}
 use Rattle.irq_ctrl.specs.Fresh.{fresh_lines}
 use Rattle.rv32_instr.specs.Memory.{Memory}
-
--- 2,097,152 bytes that begin with these
-unfoldable pub ram_of : List ℕ → List ℕ
-ram_of bytes = bytes ++ replicate (2097152 - length bytes) 0
+unfoldable pub use Rattle.machine_memory.specs.Fresh.{ram_of}
+pub use Rattle.machine_memory.specs.Fresh.{sloth_start}
 
 -- what a bus without a controller starts with
 abbrev pub flat_start : Image → Memory
 flat_start image = record { ram = ram_of image.memory; lines = fresh_lines; controller = false }
-
--- what a bus with a controller starts with
-abbrev pub sloth_start : Image → Memory
-sloth_start image = record { ram = ram_of image.memory; lines = fresh_lines; controller = true }
 
 -- the hart over a memory
 abbrev pub start_over : Memory → State

@@ -4,7 +4,7 @@ ghost use Rattle.sloth_base.specs.Arrive.{state_arrive};
 ghost use Rattle.sloth_base.specs.ImageRange.{InFormat};
 
 use crate::machine::{Hart, Machine};
-use crate::sloth::SlothBus;
+use machine_memory::SlothBus;
 use sloth_base::image::Image;
 use sloth_base::memory::NoMemory;
 use sloth_base::numbers::Line;

@@ -17,6 +17,14 @@ pub fn effect(kind: InstrKind, pc: u32, x: &[u32; 32]) -> Effect
     ensures is { result ≡ effect kind pc x.now }
     ensures fits { Fits result }
 {
+    asked(kind, pc, x)
+}
+
+#[inline(always)]
+fn asked(kind: InstrKind, pc: u32, x: &[u32; 32]) -> Effect
+    requires { InRange kind }
+    ensures { result ≡ effect kind pc x.now }
+{
     match kind {
         InstrKind::Lui { rd, imm } => Effect::Write {
             rd,

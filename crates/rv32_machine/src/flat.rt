@@ -3,9 +3,9 @@ ghost use Rattle.std.specs.Prelude.{◌≡◌, IfOk};
 ghost use Rattle.sloth_base.specs.ImageRange.{InFormat};
 ghost use Rattle.rv32_machine.specs.Start.{flat_start};
 
-use crate::bus::Bus;
-use crate::place::{Place, extended, locate};
-use crate::ram::Ram;
+use machine_memory::Bus;
+use machine_memory::place::{Place, extended, locate};
+use machine_memory::ram::Ram;
 use rv32_instr::Bad;
 use sloth_base::app::Width;
 use sloth_base::image::Image;
@@ -37,7 +37,7 @@ impl Bus for FlatBus {
 
     ghost memory = { flat_memory };
 
-    #[tactic(auto, using(crate::proofs::Places::refusal_bare, crate::proofs::Places::loaded_ram))]
+    #[tactic(auto, using(machine_memory::proofs::Places::refusal_bare, machine_memory::proofs::Places::loaded_ram))]
     fn load(&mut self, address: u32, width: Width) -> Result<u32, Bad> {
         match locate(address, width, false) {
             Ok(Place::Ram(offset)) => Ok(extended(width, self.ram.load(offset, width))),
@@ -46,7 +46,7 @@ impl Bus for FlatBus {
         }
     }
 
-    #[tactic(auto, using(crate::proofs::Places::refusal_bare, crate::proofs::Places::stored_ram))]
+    #[tactic(auto, using(machine_memory::proofs::Places::refusal_bare, machine_memory::proofs::Places::stored_ram))]
     fn store(&mut self, address: u32, width: Width, value: u32) -> Result<(), Bad> {
         match locate(address, width, false) {
             Ok(Place::Ram(offset)) => self.ram.store(offset, width, value),

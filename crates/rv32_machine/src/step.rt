@@ -8,9 +8,9 @@ ghost use Rattle.rv32_instr.specs.Execute.{Going, Stopped, step, touched, touche
 ghost use Rattle.rv32_instr.specs.declared.stop.Stop.TheVariants as stop;
 ghost use Rattle.rv32_machine.specs.Advance.{advance, blank_step, Goes, Halts};
 
-use crate::bus::Bus;
 use crate::effect::effect;
 use crate::machine::{Hart, Machine};
+use machine_memory::{Bus, vector};
 use rv32_instr::{Effect, Stop, decode};
 use sloth_base::app::Width;
 use sloth_base::numbers::Line;
@@ -23,9 +23,6 @@ const CUR: u32 = 0x8000_0000;
 const PENDING: u32 = 0x1000_0000;
 
 const LEVELS: u32 = 0x1000_0040;
-
-/// The first interrupt vector; each has four bytes.
-const VECTORS: u32 = 0x8000_0400;
 
 /// The record of a step before one is written into it.
 pub fn blank_step() -> Step
@@ -154,7 +151,7 @@ impl<B: Bus> Machine<B> {
         ensures { result ≡ (entry_state line.now (state B.memory self.now)).pc }
     {
         match line {
-            Some(line) => VECTORS + 4 * u32::from(line.0),
+            Some(line) => vector(*line),
             None => self.hart.pc,
         }
     }
@@ -242,7 +239,7 @@ impl<B: Bus> Machine<B> {
         self.hart.ilevel = level;
         self.hart.mpie = self.hart.mie;
         self.hart.mie = false;
-        self.hart.pc = VECTORS + 4 * u32::from(line.0);
+        self.hart.pc = vector(line);
     }
 
     fn level_of(&mut self, line: Line) -> u8

@@ -1,6 +1,6 @@
 -- The configuration of the task, its event, the counter and its alarms is in range.
-use Rattle.std.proofs.Common.{◌≡◌, ◌∙◌, ◌<◌, ℕ, List, [], ◌∷◌, get_or, refl, sym, ap, inl, arith, rules}
-use Rattle.std.specs.Prelude.{All, AllPairs, Bool, true, false, map, ◌≢◌}
+use Rattle.std.proofs.Common.{◌≡◌, ◌<◌, ℕ, List, [], ◌∷◌, get_or, refl, ap, inl, arith, rules}
+use Rattle.std.specs.Prelude.{All, AllPairs, true, false, map, ◌≢◌}
 use Rattle.std.proofs.lemmas.List.Elements.{All-nil, All-cons}
 use Rattle.std.proofs.lemmas.List.Kept.{AllPairs-cons}
 use Rattle.sloth_base.specs.ConfigRange.{InRange, IsTask, IsCounter, IsAlarm, IsAction}
@@ -11,7 +11,6 @@ use Rattle.sloth_base.specs.declared.config.AlarmDecl.{AlarmDecl}
 use Rattle.sloth_base.specs.declared.config.Config.{Config}
 use Rattle.sloth_base.specs.declared.config.EventDecl.{EventDecl}
 use Rattle.sloth_base.specs.declared.config.TaskDecl.{TaskDecl}
-use Rattle.prologue_gen.specs.Places.{IsBasic}
 use Rattle.rv32_words.specs.Alone.{main_task, go_event, clock_counter, sleeping_alarm, clock_alarms}
 
 abbrev pub clock_config : Config
@@ -82,10 +81,3 @@ clock_fits = record {
       (All-cons (IsAlarm clock_config) (sleeping_alarm (66 ∷ []) (Set 0 1)) (sleeping_alarm (67 ∷ []) (Set 0 1) ∷ []) (alarm_fits (66 ∷ []) (Set 0 1) sets)
       (one (IsAlarm clock_config) (sleeping_alarm (67 ∷ []) (Set 0 1)) (alarm_fits (67 ∷ []) (Set 0 1) sets)));
 }
-
--- whether the task is basic
-pub basic_is : (tasks : List TaskDecl) (extended non autostart : Bool) → tasks ≡ main_task extended non autostart ∷ []
-    → (IsBasic tasks 0 → extended ≡ false) × (extended ≡ false → IsBasic tasks 0)
-basic_is tasks extended non autostart is =
-    let d = main_task extended non autostart in
-    (λ b. sym (ap (λ (l : List TaskDecl). (get_or l 0 d).extended) is) ∙ b d, λ e x. ap (λ (l : List TaskDecl). (get_or l 0 x).extended) is ∙ e)

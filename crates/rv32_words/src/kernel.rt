@@ -1,8 +1,8 @@
 //! Configurations of one task, its levels and its task code, and the map of its kernel.
-ghost use Rattle.std.specs.Prelude.{◌≡◌, ◌↔◌, ◌<◌, ◌≤◌, ℕ, All, IfOk, false, length, slice_index, ◌∷◌, []};
+ghost use Rattle.std.specs.Prelude.{◌≡◌, ◌<◌, ◌≤◌, ◌++◌, ℕ, All, IfOk, OnOk, length, slice_index, ◌∷◌, []};
 ghost use Rattle.sloth_base.specs.ConfigRange.{InRange};
 ghost use Rattle.code_lengths.specs.Bodies.{IsBodyPlace};
-ghost use Rattle.prologue_gen.specs.Places.{IsBasic, IsStackTop};
+ghost use Rattle.prologue_gen.specs.Places.{IsStackTop};
 ghost use Rattle.rv32_words.specs.Alone.{alone, main_task, go_event, clock_counter, sleeping_alarm, clock_alarms};
 ghost use Rattle.vector_gen.specs.Vectors.{AreInReach};
 
@@ -19,19 +19,40 @@ use std::alloc::Global;
 
 const IDLE: u32 = 0x8000_0548;
 
+const WORDS: Extent = Extent {
+    base: 0x8000_0004,
+    len: 1020,
+};
+
+// A list of one thing.
+fn only<T: Drop>(alloc: Global, thing: T) -> Result<Vec<T>, NoMemory>
+    ensures { IfOk result (λ list. list.items ≡ thing ∷ []) }
+{
+    let mut list = Vec::new(alloc);
+    list.push(thing).map_err(|_| NoMemory)?;
+    Ok(list)
+}
+
 /// A configuration of an event and of one task, which is extended or basic, preemptable or not, and autostarted or not.
 pub fn config(alloc: Global, extended: bool, non: bool, autostart: bool) -> Result<Config, NoMemory>
     ensures range { IfOk result InRange }
-    ensures basic { IfOk result (λ config. IsBasic config.tasks 0 ↔ (extended ≡ false)) }
     ensures one { IfOk result (λ config. length config.tasks ≡ 1) }
 {
-    let mut tasks = Vec::new(alloc);
-    tasks
-        .push(main_task(alloc, extended, non, autostart)?)
-        .map_err(|_| NoMemory)?;
-    let mut events = Vec::new(alloc);
-    events.push(event(alloc)?).map_err(|_| NoMemory)?;
+    let tasks = tasks(alloc, extended, non, autostart)?;
+    let events = events(alloc)?;
     Ok(alone(alloc, tasks, events))
+}
+
+fn tasks(
+    alloc: Global,
+    extended: bool,
+    non: bool,
+    autostart: bool,
+) -> Result<Vec<TaskDecl>, NoMemory>
+    ensures { IfOk result (λ tasks. tasks.items ≡ main_task extended non autostart ∷ []) }
+{
+    let task = main_task(alloc, extended, non, autostart)?;
+    only(alloc, task)
 }
 
 // The task.
@@ -64,6 +85,13 @@ fn event(alloc: Global) -> Result<EventDecl, NoMemory>
     })
 }
 
+fn events(alloc: Global) -> Result<Vec<EventDecl>, NoMemory>
+    ensures { IfOk result (λ events. events.items ≡ go_event ∷ []) }
+{
+    let event = event(alloc)?;
+    only(alloc, event)
+}
+
 /// A configuration of an extended task with its event, and of a counter with three alarms: the first activates the task, the others set its
 /// event.
 pub fn clock(alloc: Global) -> Result<Config, NoMemory>
@@ -71,22 +99,33 @@ pub fn clock(alloc: Global) -> Result<Config, NoMemory>
     ensures one { IfOk result (λ config. length config.counters ≡ 1) }
     ensures three { IfOk result (λ config. length config.alarms ≡ 3) }
 {
-    let mut tasks = Vec::new(alloc);
-    tasks
-        .push(main_task(alloc, true, false, false)?)
-        .map_err(|_| NoMemory)?;
-    let mut events = Vec::new(alloc);
-    events.push(event(alloc)?).map_err(|_| NoMemory)?;
-    let counters = counters(alloc)?;
-    let alarms = alarms(alloc)?;
+    let tasks = tasks(alloc, true, false, false)?;
+    let events = events(alloc)?;
+    let clocked = clocked(alloc)?;
     Ok(Config {
         tasks: List::from_vec(tasks),
         resources: List::from_vec(Vec::new(alloc)),
         events: List::from_vec(events),
         res_scheduler: false,
-        counters: List::from_vec(counters),
-        alarms: List::from_vec(alarms),
+        counters: List::from_vec(clocked.counters),
+        alarms: List::from_vec(clocked.alarms),
     })
+}
+
+// A counter with its alarms.
+#[derive(Drop)]
+struct ClockLists {
+    counters: Vec<CounterDecl>,
+    alarms: Vec<AlarmDecl>,
+}
+
+fn clocked(alloc: Global) -> Result<ClockLists, NoMemory>
+    ensures counters { IfOk result (λ clocked. clocked.counters.items ≡ clock_counter ∷ []) }
+    ensures alarms { IfOk result (λ clocked. clocked.alarms.items ≡ clock_alarms) }
+{
+    let counters = counters(alloc)?;
+    let alarms = alarms(alloc)?;
+    Ok(ClockLists { counters, alarms })
 }
 
 // A counter.
@@ -98,9 +137,7 @@ fn counters(alloc: Global) -> Result<Vec<CounterDecl>, NoMemory>
         max: 1_000_000,
         min_cycle: 6144,
     };
-    let mut counters = Vec::new(alloc);
-    counters.push(counter).map_err(|_| NoMemory)?;
-    Ok(counters)
+    only(alloc, counter)
 }
 
 // Its alarms.
@@ -108,16 +145,25 @@ fn alarms(alloc: Global) -> Result<Vec<AlarmDecl>, NoMemory>
     ensures { IfOk result (λ alarms. alarms.items ≡ clock_alarms) }
 {
     let mut alarms = Vec::new(alloc);
-    alarms
-        .push(alarm(alloc, b"A", Action::Activate(TaskId(0)))?)
-        .map_err(|_| NoMemory)?;
-    alarms
-        .push(alarm(alloc, b"B", Action::Set(TaskId(0), 1))?)
-        .map_err(|_| NoMemory)?;
-    alarms
-        .push(alarm(alloc, b"C", Action::Set(TaskId(0), 1))?)
-        .map_err(|_| NoMemory)?;
+    add_alarm(alloc, &mut alarms, b"A", Action::Activate(TaskId(0)))?;
+    add_alarm(alloc, &mut alarms, b"B", Action::Set(TaskId(0), 1))?;
+    add_alarm(alloc, &mut alarms, b"C", Action::Set(TaskId(0), 1))?;
     Ok(alarms)
+}
+
+// One alarm more.
+fn add_alarm(
+    alloc: Global,
+    alarms: &mut Vec<AlarmDecl>,
+    name: &[u8],
+    action: Action,
+) -> Result<(), NoMemory>
+    requires { (1 ≤ length name.now) × (length name.now ≤ 64) }
+    ensures { OnOk result (alarms.new.items ≡ alarms.old.items ++ sleeping_alarm name.now action ∷ []) }
+{
+    let alarm = alarm(alloc, name, action)?;
+    alarms.push(alarm).map_err(|_| NoMemory)?;
+    Ok(())
 }
 
 // An alarm of the counter, which doesn't start by itself.
@@ -163,8 +209,7 @@ pub fn app(alloc: Global, frame_words: u32) -> Result<App, NoMemory>
         items: List::from_vec(Vec::new(alloc)),
         labels: List::from_vec(Vec::new(alloc)),
     };
-    let mut funcs = Vec::new(alloc);
-    funcs.push(main).map_err(|_| NoMemory)?;
+    let funcs = only(alloc, main)?;
     Ok(App {
         funcs: List::from_vec(funcs),
         symbols: List::from_vec(Vec::new(alloc)),
@@ -187,34 +232,61 @@ pub fn levels() -> Levels
     }
 }
 
+// The first item of the body.
+fn places(alloc: Global) -> Result<Places, NoMemory>
+    ensures { IfOk result (λ places. (length places.first ≡ 1) × All (λ i. i < length places.items) places.first) }
+{
+    let items = Vec::from_slice(alloc, &[0x8000_1b74])?;
+    let first = Vec::from_slice(alloc, &[0])?;
+    Ok(Places {
+        items: List::from_vec(items),
+        first: List::from_vec(first),
+        symbols: List::from_vec(Vec::new(alloc)),
+        blocks: [0x8000_1000; BLOCK_COUNT],
+    })
+}
+
+// The extents of the words and of the stack, and where the stack ends.
+#[derive(Drop)]
+struct StackAreas {
+    extents: Vec<Extent>,
+    stacks: Vec<Extent>,
+    tops: Vec<u32>,
+}
+
+fn areas(alloc: Global) -> Result<StackAreas, NoMemory>
+    ensures { IfOk result (λ areas. (length areas.tops.items ≡ 1) × All IsStackTop areas.tops.items) }
+{
+    let stack = Extent {
+        base: 0x8000_2200,
+        len: 3072,
+    };
+    let tops = Vec::from_slice(alloc, &[stack.base + stack.len])?;
+    let extents = Vec::from_slice(alloc, &[WORDS])?;
+    let stacks = Vec::from_slice(alloc, &[stack])?;
+    Ok(StackAreas {
+        extents,
+        stacks,
+        tops,
+    })
+}
+
 /// Where all stands: the task's prologue and stack, and the first item of its body.
 pub fn map(alloc: Global) -> Result<Map, NoMemory>
     ensures reach { IfOk result (λ map. AreInReach map.handlers) }
     ensures tops { IfOk result (λ map. (length map.tops ≡ 1) × All IsStackTop map.tops) }
     ensures items { IfOk result (λ map. (length map.places.first ≡ 1) × All (λ i. i < length map.places.items) map.places.first) }
 {
-    let words = Extent {
-        base: 0x8000_0004,
-        len: 1020,
-    };
-    let stack = Extent {
-        base: 0x8000_2200,
-        len: 3072,
-    };
-    let top = stack.base + stack.len;
+    let places = places(alloc)?;
+    let areas = areas(alloc)?;
     let mut handlers = [IDLE; 32];
     handlers[0] = 0x800f_fffc;
     Ok(Map {
-        extents: List::from_vec(Vec::from_slice(alloc, &[words])?),
-        places: Places {
-            items: List::from_vec(Vec::from_slice(alloc, &[0x8000_1b74])?),
-            first: List::from_vec(Vec::from_slice(alloc, &[0])?),
-            symbols: List::from_vec(Vec::new(alloc)),
-            blocks: [0x8000_1000; BLOCK_COUNT],
-        },
-        stacks: List::from_vec(Vec::from_slice(alloc, &[stack])?),
-        tops: List::from_vec(Vec::from_slice(alloc, &[top])?),
-        words,
+        extents: List::from_vec(areas.extents),
+        places,
+        stacks: List::from_vec(areas.stacks),
+        tops: List::from_vec(areas.tops),
+        words: WORDS,
         idle: IDLE,
         handlers,
     })

@@ -18,12 +18,15 @@ use crate::instructions::list_instructions;
 use crate::kernel::{app, clock, config, levels, map};
 use crate::listing::list;
 use prologue_gen::prologue;
+use rv32_instr::Block;
 use service_gen::block;
 use sloth_base::config::Config;
+use sloth_base::memory::NoMemory;
 use sloth_base::numbers::TaskId;
 use sloth_base::places::Levels;
 use sloth_base::service::Service;
 use sloth_region::map::Map;
+use std::alloc::Global;
 use vector_gen::{boot, idle, vectors};
 
 // The vector words.
@@ -31,13 +34,27 @@ fn list_vectors(rt: &(impl Print + AllocGlobal), map: &Map) -> anyhow::Result<()
     requires { AreInReach map.now.handlers }
 {
     let words = vectors(rt.alloc(), map)?;
-    list(rt, "vectors", &words)
+    list(rt, "vectors", words)
 }
 
 // The idle loop.
 fn list_idle(rt: &(impl Print + AllocGlobal), map: &Map) -> anyhow::Result<()> {
     let word = idle(rt.alloc(), map)?;
-    list(rt, "idle", &word)
+    list(rt, "idle", word)
+}
+
+// Boot.
+fn list_start(
+    rt: &(impl Print + AllocGlobal),
+    config: &Config,
+    levels: &Levels,
+    map: &Map,
+) -> anyhow::Result<()>
+    requires range { InRange config.now }
+    requires levels { levels.now.top < 32 }
+{
+    let code = boot(rt.alloc(), config, levels, map)?;
+    list(rt, "boot", code)
 }
 
 // Boot, where the task is autostarted and where it isn't.
@@ -49,14 +66,12 @@ fn list_boot(
 ) -> anyhow::Result<()>
     requires { levels.now.top < 32 }
 {
-    let alloc = rt.alloc();
-    let config = config(alloc, false, false, autostart)?;
-    let code = boot(alloc, &config, levels, map)?;
-    list(rt, "boot", &code)
+    let config = config(rt.alloc(), false, false, autostart)?;
+    list_start(rt, &config, levels, map)
 }
 
-// Boot with a counter, and the tick of that counter with its alarms.
-fn list_clock(
+// The tick of a counter with its alarms.
+fn list_tick(
     rt: &(impl Print + AllocGlobal),
     config: &Config,
     levels: &Levels,
@@ -64,12 +79,9 @@ fn list_clock(
 ) -> anyhow::Result<()>
     requires range { InRange config.now }
     requires one { length config.now.counters ≡ 1 }
-    requires levels { levels.now.top < 32 }
 {
-    let start = boot(rt.alloc(), config, levels, map)?;
-    list(rt, "boot", &start)?;
     let code = alarm_gen::tick(rt.alloc(), 0, config, levels, map)?;
-    list(rt, "tick", &code)
+    list(rt, "tick", code)
 }
 
 // The block of a service on alarms.
@@ -84,7 +96,7 @@ fn list_alarm_service(
     requires { HasAlarmBlock config.now service object × InRange config.now }
 {
     let code = alarm_gen::block(rt.alloc(), service, object, config, levels, map)?;
-    list(rt, "service", &code)
+    list(rt, "service", code)
 }
 
 // The blocks of the services on alarms: those that set one for the alarms 0 and 2, the others for the alarm 2.
@@ -119,11 +131,43 @@ fn list_prologue(
     requires tops { (length map.now.tops ≡ 1) × All IsStackTop map.now.tops }
     requires items { (length map.now.places.first ≡ 1) × All (λ i. i < length map.now.places.items) map.now.places.first }
 {
-    let alloc = rt.alloc();
-    let config = config(alloc, extended, non, false)?;
+    let config = config(rt.alloc(), extended, non, false)?;
+    list_prologue_of(rt, &config, frame_words, levels, map)
+}
+
+// The prologue of the task of a configuration, with a frame of so many words.
+fn prologue_code(
+    alloc: Global,
+    config: &Config,
+    frame_words: u32,
+    levels: &Levels,
+    map: &Map,
+) -> Result<Block, NoMemory>
+    requires one { length config.now.tasks ≡ 1 }
+    requires frame { frame_words ≤ 32 }
+    requires levels { (levels.now.top < 32) × ((t : ℕ) → slice_index levels.now.task t < 32) }
+    requires tops { (length map.now.tops ≡ 1) × All IsStackTop map.now.tops }
+    requires items { (length map.now.places.first ≡ 1) × All (λ i. i < length map.now.places.items) map.now.places.first }
+{
     let app = app(alloc, frame_words)?;
-    let code = prologue(alloc, TaskId(0), &config, &app, levels, map)?;
-    list(rt, "prologue", &code)
+    prologue(alloc, TaskId(0), config, &app, levels, map)
+}
+
+fn list_prologue_of(
+    rt: &(impl Print + AllocGlobal),
+    config: &Config,
+    frame_words: u32,
+    levels: &Levels,
+    map: &Map,
+) -> anyhow::Result<()>
+    requires one { length config.now.tasks ≡ 1 }
+    requires frame { frame_words ≤ 32 }
+    requires levels { (levels.now.top < 32) × ((t : ℕ) → slice_index levels.now.task t < 32) }
+    requires tops { (length map.now.tops ≡ 1) × All IsStackTop map.now.tops }
+    requires items { (length map.now.places.first ≡ 1) × All (λ i. i < length map.now.places.items) map.now.places.first }
+{
+    let code = prologue_code(rt.alloc(), config, frame_words, levels, map)?;
+    list(rt, "prologue", code)
 }
 
 // A service's block.
@@ -138,7 +182,7 @@ fn list_service(
     requires { HasBlock service object }
 {
     let code = block(rt.alloc(), service, object, config, levels, map)?;
-    list(rt, "service", &code)
+    list(rt, "service", code)
 }
 
 // The blocks of the services on tasks and resources: those on a task for the tasks 0 and 29, GetResource's for the resources 1 and 32,
@@ -176,7 +220,7 @@ fn list_event_service(
     requires { HasEventBlock service object }
 {
     let code = event_gen::block(rt.alloc(), service, object, config, levels, map)?;
-    list(rt, "service", &code)
+    list(rt, "service", code)
 }
 
 // The blocks of the services on events: those on a task for the tasks 0 and 29, the others once.
@@ -226,28 +270,62 @@ fn list_common(rt: &(impl Print + AllocGlobal), levels: &Levels, map: &Map) -> a
 }
 
 // The services of a kernel without counters.
-fn list_blocks(rt: &(impl Print + AllocGlobal), levels: &Levels, map: &Map) -> anyhow::Result<()> {
-    let config = config(rt.alloc(), false, false, false)?;
-    list_services(rt, &config, levels, map)?;
-    list_event_services(rt, &config, levels, map)
+fn list_blocks_of(
+    rt: &(impl Print + AllocGlobal),
+    config: &Config,
+    levels: &Levels,
+    map: &Map,
+) -> anyhow::Result<()> {
+    list_services(rt, config, levels, map)?;
+    list_event_services(rt, config, levels, map)
 }
 
-// The tick of a counter, and the services on its alarms.
+fn list_blocks(rt: &(impl Print + AllocGlobal), levels: &Levels, map: &Map) -> anyhow::Result<()> {
+    let config = config(rt.alloc(), false, false, false)?;
+    list_blocks_of(rt, &config, levels, map)
+}
+
+// Boot with a counter, the tick of that counter, and the services on its alarms.
+fn list_counted_of(
+    rt: &(impl Print + AllocGlobal),
+    config: &Config,
+    levels: &Levels,
+    map: &Map,
+) -> anyhow::Result<()>
+    requires range { InRange config.now }
+    requires one { length config.now.counters ≡ 1 }
+    requires three { length config.now.alarms ≡ 3 }
+    requires levels { levels.now.top < 32 }
+{
+    list_start(rt, config, levels, map)?;
+    list_tick(rt, config, levels, map)?;
+    list_alarm_services(rt, config, levels, map)
+}
+
 fn list_counted(rt: &(impl Print + AllocGlobal), levels: &Levels, map: &Map) -> anyhow::Result<()>
     requires { levels.now.top < 32 }
 {
     let config = clock(rt.alloc())?;
-    list_clock(rt, &config, levels, map)?;
-    list_alarm_services(rt, &config, levels, map)
+    list_counted_of(rt, &config, levels, map)
+}
+
+// All code of the kernel.
+fn list_all(rt: &(impl Print + AllocGlobal), levels: &Levels, map: &Map) -> anyhow::Result<()>
+    requires reach { AreInReach map.now.handlers }
+    requires levels { (levels.now.top < 32) × ((t : ℕ) → slice_index levels.now.task t < 32) }
+    requires tops { (length map.now.tops ≡ 1) × All IsStackTop map.now.tops }
+    requires items { (length map.now.places.first ≡ 1) × All (λ i. i < length map.now.places.items) map.now.places.first }
+{
+    list_common(rt, levels, map)?;
+    list_blocks(rt, levels, map)?;
+    list_counted(rt, levels, map)
 }
 
 // The kernel's code.
 fn list_kernel(rt: &(impl Print + AllocGlobal)) -> anyhow::Result<()> {
     let levels = levels();
     let map = map(rt.alloc())?;
-    list_common(rt, &levels, &map)?;
-    list_blocks(rt, &levels, &map)?;
-    list_counted(rt, &levels, &map)
+    list_all(rt, &levels, &map)
 }
 
 fn main(rt: HostRuntime) -> anyhow::Result<()> {

@@ -14,10 +14,11 @@ use Rattle.oil_lex.proofs.Fronts.{front_stands}
 use Rattle.oil_lex.proofs.Cuts.{tokens_one}
 use Rattle.oil_parse.specs.declared.tree.OilObject.{OilObject}
 use Rattle.oil_parse.specs.declared.tree.OilTree.{OilTree}
-use Rattle.oil_parse.specs.declared.machine.Expect.TheVariants.{Start}
+use Rattle.grammar_machine.specs.declared.machine.Expect.TheVariants.{Start}
 use Rattle.oil_parse.specs.Grammar.{IsFile}
-use Rattle.oil_parse.specs.Machine.{nothing_built, next, partial_tree_after, PartialTree}
-use Rattle.oil_parse.specs.Shapes.{key_of, sign_of, shape_by}
+use Rattle.grammar_machine.specs.Steps.{next}
+use Rattle.oil_parse.specs.Machine.{nothing_built, partial_tree_after, PartialTree}
+use Rattle.grammar_machine.specs.Shapes.{key_of, sign_of, shape_by}
 use Rattle.oil_parse.proofs.Steps.{build}
 use Rattle.oil_parse.proofs.Complete.{file_takes}
 use Rattle.oil_rules.specs.Objects.{is_of_kind}

@@ -16,12 +16,12 @@ use Rattle.run_samples.specs.declared.sampling.Sample.{Sample}
 use Rattle.run_samples.specs.declared.sampling.Sampler.{Sampler}
 use Rattle.run_samples.specs.Samples.{AreSampledLevels, IsSample, IsSampling, StopsAt, sampled_image, sampled_arrivals, sampled_count}
 use Rattle.run_samples.proofs.OneSample.{samples-more}
-use Rattle.lane_drawing.specs.declared.bars.Bar.{Bar}
-use Rattle.lane_drawing.specs.declared.bars.Look.{Look}
-use Rattle.lane_drawing.specs.declared.scale.Scale.{Scale}
-use Rattle.lane_drawing.specs.Bars.{AreBars, IsInside}
-use Rattle.lane_drawing.specs.Strips.{Lane, IsStrip, IsFresh, ShowsMore, empty_lane, last_bar}
-use Rattle.lane_drawing.proofs.Growing.{same_strip}
+use Rattle.lane_strips.specs.declared.bars.Bar.{Bar}
+use Rattle.lane_strips.specs.declared.bars.Look.{Look}
+use Rattle.lane_strips.specs.declared.scale.Scale.{Scale}
+use Rattle.lane_strips.specs.Bars.{AreBars, IsInside}
+use Rattle.lane_strips.specs.Strips.{Lane, IsStrip, IsFresh, ShowsMore, empty_lane, last_bar}
+use Rattle.lane_strips.proofs.Growing.{same_strip}
 use Rattle.schedule_picture.specs.Lanes.{HaveChanged}
 use Rattle.schedule_picture.specs.Looks.{lane_look, look_at, no_sample}
 use Rattle.schedule_picture.specs.Picture.{IsPictureOf, picture_text, scale_of}

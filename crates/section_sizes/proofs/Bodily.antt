@@ -11,9 +11,9 @@ use Rattle.sloth_base.specs.Named.{function, operation, item_of}
 use Rattle.code_rules.specs.Code.{Calls, is_in}
 use Rattle.code_rules.specs.WellFormed.{WellFormed}
 use Rattle.osek_valid.proofs.Facts.{Facts, facts}
-use Rattle.task_verify.specs.Ways.{LeadsToLabels}
-use Rattle.task_verify.specs.Labels.{ArePlaced}
-use Rattle.task_verify.proofs.Tests.{leads}
+use Rattle.body_faults.specs.Ways.{LeadsToLabels}
+use Rattle.body_faults.specs.Labels.{ArePlaced}
+use Rattle.body_faults.proofs.Tests.{leads}
 use Rattle.section_sizes.specs.Graph.{HasMark, ways_of, AreInside}
 use Rattle.section_sizes.specs.CallOrder.{IsCallOrder}
 use Rattle.section_sizes.specs.Parts.{ReachesItem, Returns}

@@ -18,7 +18,8 @@ use Rattle.osek_valid.proofs.Stacks.{has_body}
 use Rattle.section_sizes.proofs.Reaching.{called_known, reached_inside}
 use Rattle.raised_sections.specs.Walks.{Place, Position, place, GoesBack, GoesOnInside, LeadsTo, WalksOn, AreConsecutive, IsWalk, chains_itself}
 use Rattle.raised_sections.specs.Sections.{held_list_along, priority_at, operation_at, is_schedule, is_counted, OnlyLastSchedules, IsSection, size_of_section}
-use Rattle.section_sizes.specs.Parts.{ceiling_before, reaches_level, is_raised, called_level, is_plain, count_of, StepsInside, ReachesItem, reaches_first, reaches_inside, reaches_behind, Passes, EntersRaised, CountsBack, CountsOn, back_returns, back_inside, back_passes, on_ends, on_inside, on_enters, on_passes, ReachesCall, level_behind, CountsOut, CountsWithin, out_here, out_behind, within_here, within_called, within_behind}
+use Rattle.section_sizes.specs.Parts.{ceiling_before, is_raised, called_level, is_plain, count_of, StepsInside, ReachesItem, reaches_first, reaches_inside, reaches_behind, Passes, EntersRaised, CountsBack, CountsOn, back_returns, back_inside, back_passes, on_ends, on_inside, on_enters, on_passes, ReachesCall, level_behind, CountsOut, CountsWithin, out_here, out_behind, within_here, within_called, within_behind}
+use Rattle.bound_rules.specs.Items.{reaches_level}
 
 -- ---- priorities
 

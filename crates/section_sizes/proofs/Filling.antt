@@ -6,13 +6,14 @@ use Rattle.sloth_base.specs.declared.app.Func.{Func}
 use Rattle.sloth_base.specs.Named.{function, item_of}
 use Rattle.code_rules.specs.WellFormed.{WellFormed}
 use Rattle.section_sizes.specs.declared.graph.Ways.{Ways}
-use Rattle.section_sizes.specs.declared.bodies.Body.{Body}
-use Rattle.section_sizes.specs.declared.sizes.Summary.{Summary}
-use Rattle.section_sizes.specs.Graph.{ways_of, AreInside, IsLoop, IsOrder}
+use Rattle.bound_rules.specs.declared.bodies.Body.{Body}
+use Rattle.bound_rules.specs.declared.sizes.Summary.{Summary}
+use Rattle.section_sizes.specs.Graph.{AreInside, IsLoop, IsOrder}
 use Rattle.section_sizes.specs.Trails.{IsLongest}
-use Rattle.section_sizes.specs.Computed.{summary_of, is_passed, item_ways, going_size, ending_size, leaving_size, is_alive, is_going, known_body_of, calls_endless, most_of, out_of, summary_by}
-use Rattle.section_sizes.specs.Known.{IsKnownBody, IsExact, IsEndless, IsCountedUp}
-use Rattle.section_sizes.specs.Lists.{Wayed, ArePaths, AreTrailSizes}
+use Rattle.section_sizes.specs.Computed.{going_size, ending_size, leaving_size, known_body_of, calls_endless, most_of, out_of, summary_by}
+use Rattle.bound_rules.specs.Summaries.{IsCountedUp}
+use Rattle.section_sizes.specs.Known.{IsKnownBody, IsExact, IsEndless}
+use Rattle.section_sizes.specs.Lists.{AreBodyWays, ArePaths, AreTrailSizes}
 use Rattle.section_sizes.specs.declared.paths.Paths.{Paths}
 use Rattle.section_sizes.specs.declared.paths.TrailSizes.{TrailSizes}
 use Rattle.section_sizes.proofs.Bodily.{facts_of}
@@ -36,7 +37,7 @@ pub record Sized (func : Func) (whole : List Summary) (alive : List Bool) (ways 
 
 -- the ways lead to items that are there
 pub to_items : (func : Func) (body : Body) (level : Option ℕ) (whole : List Summary) (alive going passed : List Bool) (ways : List Ways)
-    → Wayed func body level whole alive going passed ways → AreInside ways
+    → AreBodyWays func body level whole alive going passed ways → AreInside ways
 to_items func body level whole alive going passed ways w = inside func passed going alive ways w.ways_count w.ways_are w.alive_count
 
 module _ (config : Config) (app : App) (well : WellFormed config app) (f : ℕ) (there : f < length app.funcs) (body : Body) (is_body : IsKnownBody config app f body)
@@ -47,11 +48,11 @@ module _ (config : Config) (app : App) (well : WellFormed config app) (f : ℕ) 
       endless_callee config app level f there body is_body whole own calls (sym (ap (λ g. calls_endless (known_body_of g body level whole own)) is_func) ∙ e)
 
   module _ (bounded : calls_endless (known_body_of func body level whole own) ≡ false) (alive going passed : List Bool) (ways : List Ways)
-      (wayed : Wayed func body level whole alive going passed ways) where
+      (are_ways : AreBodyWays func body level whole alive going passed ways) where
     bounded_here : calls_endless (known_body_of (function app f) body level whole own) ≡ false
     bounded_here = sym (ap (λ g. calls_endless (known_body_of g body level whole own)) is_func) ∙ bounded
 
-    measures : Wayed (function app f) body level whole alive going passed ways → Measures config app level f
+    measures : AreBodyWays (function app f) body level whole alive going passed ways → Measures config app level f
     measures w = record {
       facts = facts_of config app well;
       known = there;
@@ -72,19 +73,19 @@ module _ (config : Config) (app : App) (well : WellFormed config app) (f : ℕ) 
       called_back = called_back config app level f there body is_body whole own calls bounded_here;
     }
 
-    wayed_here : Wayed (function app f) body level whole alive going passed ways
-    wayed_here = subst (λ g. Wayed g body level whole alive going passed ways) is_func wayed
+    are_ways_here : AreBodyWays (function app f) body level whole alive going passed ways
+    are_ways_here = subst (λ g. AreBodyWays g body level whole alive going passed ways) is_func are_ways
 
     -- a loop
     pub endless_by_loop : (nodes : List ℕ) → IsLoop ways nodes → IsEndless config app level f
     unfolding measures
-    endless_by_loop nodes loop n = endless_loop config app level f (measures wayed_here) nodes loop n
+    endless_by_loop nodes loop n = endless_loop config app level f (measures are_ways_here) nodes loop n
 
     module _ (order steps ends leaves on back : List ℕ) (sized : Sized func whole alive ways order steps ends leaves on back) where
       sized_here : Sized (function app f) whole alive ways order steps ends leaves on back
       sized_here = subst (λ g. Sized g whole alive ways order steps ends leaves on back) is_func sized
 
-      sizes : Sizes config app level f (measures wayed_here)
+      sizes : Sizes config app level f (measures are_ways_here)
       unfolding measures
       sizes =
           let s = sized_here in
@@ -125,14 +126,14 @@ module _ (config : Config) (app : App) (well : WellFormed config app) (f : ℕ) 
             out = out_of (known_body_of g body level whole own) back;
           }) in
           subst (IsExact config app level f) (sym e)
-          (subst P (sym is_func) (summed config app level f there body is_body whole own calls bounded_here (measures wayed_here) sizes))
+          (subst P (sym is_func) (summed config app level f there body is_body whole own calls bounded_here (measures are_ways_here) sizes))
 
   -- the greatest sizes by the longest trails along the ways
   pub exact_by : calls_endless (known_body_of func body level whole own) ≡ false → (paths : Paths) (order : List ℕ) (sizes : TrailSizes)
       → ArePaths func body level whole paths → AreTrailSizes func whole paths order sizes
       → IsExact config app level f (summary_by (known_body_of func body level whole own) sizes.on sizes.back)
   exact_by bounded paths order sizes are t =
-      summary_exact bounded paths.alive are.going are.passed paths.ways are.wayed order t.steps t.ending.ends t.leaving.leaves sizes.on sizes.back (record {
+      summary_exact bounded paths.alive are.going are.passed paths.ways are.body_ways order t.steps t.ending.ends t.leaving.leaves sizes.on sizes.back (record {
         is_order = t.is_order;
         steps_are = t.steps_are;
         ends_count = t.ending.ends_count;

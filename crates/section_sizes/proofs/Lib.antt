@@ -15,5 +15,4 @@ mod Limited
 pub mod Bodily
 pub mod Counting
 mod Small
-pub mod Growing
 mod Filling

@@ -12,12 +12,14 @@ use Rattle.osek_valid.proofs.Facts.{Facts}
 use Rattle.raised_sections.specs.Walks.{chains_itself}
 use Rattle.raised_sections.specs.Sections.{is_schedule, is_counted}
 use Rattle.section_sizes.specs.declared.graph.Ways.{Ways}
-use Rattle.section_sizes.specs.declared.bodies.Body.{Body}
-use Rattle.section_sizes.specs.declared.sizes.Summary.{Summary}
+use Rattle.bound_rules.specs.declared.bodies.Body.{Body}
+use Rattle.bound_rules.specs.declared.sizes.Summary.{Summary}
 use Rattle.section_sizes.specs.Graph.{ways_of, Goes, AreInside, IsLoop, IsOrder}
 use Rattle.section_sizes.specs.Trails.{MOST, size_of_trail, IsEnded, IsLongest}
-use Rattle.section_sizes.specs.Parts.{reaches_level, is_raised, is_plain, count_of, ReachesItem, Returns, reaches_first, reaches_inside, reaches_behind, Passes, EntersRaised, CountsBack, CountsOn, CountsWithin, back_returns, back_inside, back_passes, on_ends, on_inside, on_enters, on_passes, within_here, ReachesCall, level_behind, CountsOut, out_here, out_behind}
-use Rattle.section_sizes.specs.Computed.{goes_past, item_ways, summary_of, is_passed, joined, count, going_size, ending_size, leaving_size, is_alive, is_going}
+use Rattle.section_sizes.specs.Parts.{is_raised, is_plain, count_of, ReachesItem, Returns, reaches_first, reaches_inside, reaches_behind, Passes, EntersRaised, CountsBack, CountsOn, CountsWithin, back_returns, back_inside, back_passes, on_ends, on_inside, on_enters, on_passes, within_here, ReachesCall, level_behind, CountsOut, out_here, out_behind}
+use Rattle.bound_rules.specs.Items.{reaches_level, is_going}
+use Rattle.section_sizes.specs.Computed.{goes_past, item_ways, is_passed, joined, count, going_size, ending_size, leaving_size, is_alive}
+use Rattle.bound_rules.specs.Summaries.{summary_of}
 use Rattle.section_sizes.specs.Known.{IsKnownBody, IsGreatestPart}
 use Rattle.section_sizes.proofs.Leading.{past_cases, plain_past, way_plain, LeadsOn, Led, led, leads, inside}
 use Rattle.section_sizes.proofs.Reaching.{step_of, not_true}

@@ -8,7 +8,7 @@ use Rattle.sloth_base.specs.declared.app.Op.TheVariants as op
 use Rattle.sloth_base.specs.Named.{item_of}
 use Rattle.raised_sections.specs.Sections.{is_counted}
 use Rattle.section_sizes.specs.declared.graph.Ways.{Ways}
-use Rattle.section_sizes.specs.declared.sizes.Summary.{Summary}
+use Rattle.bound_rules.specs.declared.sizes.Summary.{Summary}
 use Rattle.section_sizes.specs.Trails.{AreSizes, IsSmall, IsLongest}
 use Rattle.section_sizes.specs.Computed.{count, going_size, ending_size, leaving_size, is_return}
 use Rattle.section_sizes.specs.Known.{IsGreatestPart}

@@ -5,10 +5,10 @@ use Rattle.std.proofs.lemmas.List.{get_or-set_same, get_or-set_other, length-set
 use Rattle.sloth_base.specs.declared.config.Config.{Config}
 use Rattle.sloth_base.specs.declared.app.App.{App}
 use Rattle.code_rules.specs.Code.{Calls, is_in}
-use Rattle.section_sizes.specs.declared.sizes.Summary.{Summary}
+use Rattle.bound_rules.specs.declared.sizes.Summary.{Summary}
 use Rattle.section_sizes.specs.CallOrder.{IsCallOrder}
-use Rattle.section_sizes.specs.Computed.{summary_of, unknown}
-use Rattle.section_sizes.specs.Known.{IsSummary, IsCountedUp, AreSummaries, AreSummariesOf}
+use Rattle.bound_rules.specs.Summaries.{summary_of, unknown, IsCountedUp}
+use Rattle.section_sizes.specs.Known.{IsSummary, AreSummaries, AreSummariesOf}
 use Rattle.section_sizes.proofs.Ordering.{member, one_more}
 
 unknown_small : IsCountedUp unknown

@@ -8,13 +8,15 @@ use Rattle.sloth_base.specs.declared.app.Op.{Op}
 use Rattle.sloth_base.specs.declared.app.Op.TheVariants as op
 use Rattle.sloth_base.specs.Named.{function, operation}
 use Rattle.code_rules.specs.Code.{IsItem, Calls}
-use Rattle.stack_bounds.specs.Tables.{max_below}
+use Rattle.code_tables.specs.Tables.{max_below}
 use Rattle.stack_bounds.proofs.Below.{max_below-at, max_below-some, last_or_before}
-use Rattle.section_sizes.specs.declared.bodies.Body.{Body}
-use Rattle.section_sizes.specs.declared.sizes.Summary.{Summary}
+use Rattle.bound_rules.specs.declared.bodies.Body.{Body}
+use Rattle.bound_rules.specs.declared.sizes.Summary.{Summary}
 use Rattle.section_sizes.specs.Trails.{MOST}
-use Rattle.section_sizes.specs.Parts.{reaches_level, is_raised, called_level, level_behind, ReachesItem, reaches_first, ReachesCall, EntersRaised, CountsBack, CountsOn, CountsOut, CountsWithin, out_here, out_behind, within_here, within_called, within_behind}
-use Rattle.section_sizes.specs.Computed.{summary_of, joined, KnownBody, known_body_of, known_raised, callee, endless_call, calls_endless, called_most, most_at, most_of, joined_both, called_out, out_at, out_of}
+use Rattle.section_sizes.specs.Parts.{is_raised, called_level, level_behind, ReachesItem, reaches_first, ReachesCall, EntersRaised, CountsBack, CountsOn, CountsOut, CountsWithin, out_here, out_behind, within_here, within_called, within_behind}
+use Rattle.bound_rules.specs.Items.{reaches_level}
+use Rattle.section_sizes.specs.Computed.{joined, KnownBody, known_body_of, known_raised, callee, endless_call, calls_endless, called_most, most_at, most_of, joined_both, called_out, out_at, out_of}
+use Rattle.bound_rules.specs.Summaries.{summary_of}
 use Rattle.section_sizes.specs.Known.{IsKnownBody, IsGreatestPart, HasLimit, IsExact, IsEndless, IsSummary}
 use Rattle.section_sizes.proofs.Counting.{any_is, none_is}
 use Rattle.section_sizes.proofs.Limited.{CalledLimit, has_limit}

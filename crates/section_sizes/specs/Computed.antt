@@ -1,20 +1,20 @@
 -- What is computed of one body: its ways, and what its items add to parts.
-use Rattle.std.specs.Prelude.{ℕ, ◌+◌, ltb, min, max, cond, List, length, get_or, Bool, true, false, not, ◌&&◌, Option, Some, None}
+use Rattle.std.specs.Prelude.{ℕ, ◌+◌, ltb, min, max, cond, List, length, get_or, Bool, true, false, ◌&&◌, Option, Some, None}
 use Rattle.sloth_base.specs.declared.app.Func.{Func}
 use Rattle.sloth_base.specs.declared.app.Op.{Op}
 use Rattle.sloth_base.specs.declared.app.Op.TheVariants as op
 use Rattle.sloth_base.specs.Named.{item_of, label_of}
 use Rattle.code_rules.specs.Code.{is_followed, way}
 use Rattle.call_graph.specs.Reached.{any_below}
-use Rattle.stack_bounds.specs.Tables.{max_below}
-use Rattle.raised_sections.specs.Walks.{chains_itself}
-use Rattle.raised_sections.specs.Sections.{is_schedule, is_counted}
+use Rattle.code_tables.specs.Tables.{max_below}
+use Rattle.raised_sections.specs.Sections.{is_counted}
 use Rattle.section_sizes.specs.declared.graph.Ways.{Ways}
-use Rattle.section_sizes.specs.declared.bodies.Body.{Body}
-use Rattle.section_sizes.specs.declared.sizes.Summary.{Summary}
+use Rattle.bound_rules.specs.declared.bodies.Body.{Body}
+use Rattle.bound_rules.specs.declared.sizes.Summary.{Summary}
 use Rattle.section_sizes.specs.Graph.{no_ways}
 use Rattle.section_sizes.specs.Trails.{MOST}
-use Rattle.section_sizes.specs.Parts.{reaches_level}
+use Rattle.bound_rules.specs.Items.{reaches_level, callee_of}
+use Rattle.bound_rules.specs.Summaries.{summary_of}
 
 -- ---- ways
 
@@ -42,14 +42,6 @@ item_ways f passed going open_items i =
     cond (get_or going i false) (record { next = next_way f passed open_items i; jump = label_way f open_items (way (item_of f i).op) }) no_ways
 
 -- ---- sizes
-
--- a function of which nothing is known
-abbrev pub unknown : Summary
-unknown = record { is_endless = false; on = 0; back = 0; most = 0; out = 0 }
-
--- the summary of a function
-abbrev pub summary_of : List Summary → ℕ → Summary
-summary_of table g = get_or table g unknown
 
 -- the functions through which a part may go
 abbrev pub is_passed : Summary → Bool
@@ -101,19 +93,11 @@ known_body_of func body level whole own = record { func = func; body = body; lev
 abbrev pub is_alive : Body → Option ℕ → ℕ → Bool
 is_alive body level i = get_or body.reached i false && reaches_level level (get_or body.ceilings i 0)
 
--- the same, and it is neither a Schedule nor a ChainTask of the task itself
-abbrev pub is_going : Func → List Bool → ℕ → Bool
-is_going f alive i = get_or alive i false && (not (is_schedule (item_of f i).op) && not (chains_itself f (item_of f i).op))
-
 -- the task is raised before item i
 abbrev pub known_raised : KnownBody → ℕ → Bool
 known_raised k i = reaches_level k.level (get_or k.body.ceilings i 0)
 
 -- the summary of a function that is called at item i
-abbrev pub callee_of : Body → Option ℕ → (whole own : List Summary) → (i g : ℕ) → Summary
-callee_of body level whole own i g = cond (reaches_level level (get_or body.ceilings i 0)) (summary_of whole g) (summary_of own g)
-
--- the same, by what is known of the body
 abbrev pub callee : KnownBody → (i g : ℕ) → Summary
 callee k i g = callee_of k.body k.level k.whole k.own i g
 

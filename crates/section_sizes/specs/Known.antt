@@ -4,12 +4,12 @@ use Rattle.sloth_base.specs.declared.config.Config.{Config}
 use Rattle.sloth_base.specs.declared.app.App.{App}
 use Rattle.sloth_base.specs.Named.{function}
 use Rattle.code_rules.specs.Code.{Calls, is_in}
-use Rattle.section_sizes.specs.declared.bodies.Body.{Body}
-use Rattle.section_sizes.specs.declared.sizes.Summary.{Summary}
+use Rattle.bound_rules.specs.declared.bodies.Body.{Body}
+use Rattle.bound_rules.specs.declared.sizes.Summary.{Summary}
 use Rattle.section_sizes.specs.Graph.{HasMark}
 use Rattle.section_sizes.specs.Trails.{MOST}
 use Rattle.section_sizes.specs.Parts.{ceiling_before, ReachesItem, Returns, CountsBack, CountsOn, CountsOut, CountsWithin}
-use Rattle.section_sizes.specs.Computed.{summary_of}
+use Rattle.bound_rules.specs.Summaries.{summary_of, AreCountedUp}
 
 -- ---- bodies
 
@@ -63,17 +63,6 @@ IsEndless config app level f = (n : ℕ) → (k : ℕ) × CountsWithin config ap
 -- the summary of function f at a level
 abbrev pub IsSummary : Config → App → (level : Option ℕ) → (f : ℕ) → Summary → Type 0
 IsSummary config app level f s = MatchBool s.is_endless (IsEndless config app level f) (IsExact config app level f s)
-
--- no size is above the greatest that is counted
-pub record IsCountedUp (s : Summary) : Type 0 where
-  pub on : s.on ≤ 1000001
-  pub back : s.back ≤ 1000001
-  pub most : s.most ≤ 1000001
-  pub out : s.out ≤ 1000001
-
--- the same of each summary of a table
-abbrev pub AreCountedUp : List Summary → Type 0
-AreCountedUp table = (g : ℕ) → IsCountedUp (summary_of table g)
 
 -- the summaries of all functions at a level
 pub record AreSummaries (config : Config) (app : App) (level : Option ℕ) (table : List Summary) : Type 0 where

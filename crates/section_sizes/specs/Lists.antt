@@ -2,17 +2,19 @@
 use Rattle.std.specs.Prelude.{◌≡◌, ℕ, ◌<◌, Bool, false, List, length, get_or, Option, cond}
 use Rattle.sloth_base.specs.declared.app.Func.{Func}
 use Rattle.sloth_base.specs.Named.{item_of}
-use Rattle.section_sizes.specs.declared.bodies.Body.{Body}
+use Rattle.bound_rules.specs.declared.bodies.Body.{Body}
 use Rattle.section_sizes.specs.declared.graph.Ways.{Ways}
 use Rattle.section_sizes.specs.declared.paths.Paths.{Paths}
 use Rattle.section_sizes.specs.declared.paths.TrailSizes.{TrailSizes}
-use Rattle.section_sizes.specs.declared.sizes.Summary.{Summary}
+use Rattle.bound_rules.specs.declared.sizes.Summary.{Summary}
 use Rattle.section_sizes.specs.Graph.{ways_of, IsOrder}
 use Rattle.section_sizes.specs.Trails.{IsLongest}
-use Rattle.section_sizes.specs.Computed.{summary_of, is_passed, item_ways, going_size, ending_size, leaving_size, is_alive, is_going}
+use Rattle.section_sizes.specs.Computed.{is_passed, item_ways, going_size, ending_size, leaving_size, is_alive}
+use Rattle.bound_rules.specs.Items.{is_going}
+use Rattle.bound_rules.specs.Summaries.{summary_of}
 
 -- the lists of a body's ways
-pub record Wayed (func : Func) (body : Body) (level : Option ℕ) (whole : List Summary) (alive going passed : List Bool) (ways : List Ways) : Type 0 where
+pub record AreBodyWays (func : Func) (body : Body) (level : Option ℕ) (whole : List Summary) (alive going passed : List Bool) (ways : List Ways) : Type 0 where
   pub alive_count : length alive ≡ length func.items
   pub alive_is : (i : ℕ) → i < length func.items → get_or alive i false ≡ is_alive body level i
   pub going_is : (i : ℕ) → i < length func.items → get_or going i false ≡ is_going func alive i
@@ -24,7 +26,7 @@ pub record Wayed (func : Func) (body : Body) (level : Option ℕ) (whole : List 
 pub record ArePaths (func : Func) (body : Body) (level : Option ℕ) (whole : List Summary) (paths : Paths) : Type 0 where
   pub going : List Bool
   pub passed : List Bool
-  pub wayed : Wayed func body level whole paths.alive going passed paths.ways
+  pub body_ways : AreBodyWays func body level whole paths.alive going passed paths.ways
 
 -- for each item the size of the longest trail from it
 pub record AreEndingTrails (func : Func) (whole : List Summary) (paths : Paths) (steps on : List ℕ) : Type 0 where

@@ -1,5 +1,5 @@
 -- Parts of sections inside a function's activation, built item by item, and their sizes.
-use Rattle.std.specs.Prelude.{ℕ, ◌+◌, ◌≡◌, leb, cond, map, Bool, true, false, Option, Some, None}
+use Rattle.std.specs.Prelude.{ℕ, ◌+◌, ◌≡◌, cond, map, Bool, true, false, Option, None}
 use Rattle.sloth_base.specs.declared.config.Config.{Config}
 use Rattle.sloth_base.specs.declared.app.App.{App}
 use Rattle.sloth_base.specs.declared.app.Op.{Op}
@@ -10,18 +10,13 @@ use Rattle.code_rules.specs.WellFormed.{held_list_before}
 use Rattle.osek_scheduler.specs.Priority.{greatest, ceiling}
 use Rattle.raised_sections.specs.Walks.{chains_itself}
 use Rattle.raised_sections.specs.Sections.{is_schedule, is_counted}
+use Rattle.bound_rules.specs.Items.{reaches_level}
 
 -- ---- where the task is raised
 
 -- the greatest ceiling of what function f itself holds before item i, 0 where it holds nothing
 abbrev pub ceiling_before : Config → App → (f i : ℕ) → ℕ
 ceiling_before config app f i = greatest (map (ceiling config) (held_list_before app f i))
-
--- A level is the priority that a function has to reach by what it holds itself; there is none where its callers have raised the task already.
--- What is held reaches the level.
-abbrev pub reaches_level : (level : Option ℕ) → (ceiling : ℕ) → Bool
-reaches_level None ceiling = true
-reaches_level (Some priority) ceiling = leb priority ceiling
 
 -- the task is raised before item i of function f
 abbrev pub is_raised : Config → App → (level : Option ℕ) → (f i : ℕ) → Bool

@@ -11,23 +11,17 @@ ghost use Rattle.section_sizes.specs.Ceilings.{AreCeilings};
 ghost use Rattle.section_sizes.specs.Known.{IsKnownBody, AreKnownBodies, KnowsReturns};
 
 use crate::ceilings::{ceilings, ceilings_before};
-use crate::items::chains_itself;
 use crate::links::body_ways;
-use crate::marks::is_marked;
 use crate::reach::reachable;
+use bound_rules::bodies::Body;
+use bound_rules::items::chains_itself;
+use bound_rules::marks::is_marked;
 use sloth_base::app::{App, Func, Op};
 use sloth_base::config::Config;
 use sloth_base::list::List;
 use sloth_base::memory::NoMemory;
 use std::alloc::Global;
 use text_pieces::growth::push;
-
-/// The items of a body that walks reach, and the greatest ceiling of what the function itself holds before each, 0 where it holds nothing.
-#[derive(Drop)]
-pub struct Body {
-    pub reached: List<bool>,
-    pub ceilings: List<u32>,
-}
 
 /// A function by its number.
 pub fn function_at(app: &App, number: usize) -> &Func
@@ -44,7 +38,7 @@ fn all_items(alloc: Global, func: &Func) -> Result<Vec<bool>, NoMemory>
 {
     let mut marks = Vec::new(alloc);
     for _number in 0..func.items.items().len() {
-        marks.push(true).map_err(|_| NoMemory)?;
+        push(&mut marks, true)?;
     }
     Ok(marks)
 }

@@ -2,17 +2,17 @@
 ghost use Rattle.std.specs.Prelude.{◌≡◌, ◌≤◌, ◌<◌, ◌+◌, ℕ, length, map, get_or, None, Some, IfOk};
 ghost use Rattle.code_rules.specs.Code.{held_list_at};
 ghost use Rattle.osek_scheduler.specs.Priority.{greatest, ceiling};
-ghost use Rattle.task_verify.specs.Labels.{last_label_below, list_of, ArePlaced};
+ghost use Rattle.body_faults.specs.Labels.{last_label_below, list_of, ArePlaced};
 ghost use Rattle.section_sizes.specs.Ceilings.{AreCeilings};
 
+use body_faults::held::{held_after, held_by};
+use body_faults::labels::last_labels;
 use osek_scheduler::ceilings::ceiling;
 use sloth_base::app::Func;
 use sloth_base::config::Config;
 use sloth_base::memory::NoMemory;
 use sloth_base::numbers::RES_SCHEDULER;
 use std::alloc::Global;
-use task_verify::held::{held_after, held_by};
-use task_verify::labels::last_labels;
 use text_pieces::growth::push;
 
 /// The ceilings of the resources 0 to 32.
@@ -20,7 +20,7 @@ pub fn ceilings(alloc: Global, config: &Config) -> Result<Vec<u32>, NoMemory>
     ensures { IfOk result (λ table. AreCeilings config.now table.items) }
 {
     let mut table = Vec::new(alloc);
-    for resource in 0..=RES_SCHEDULER {
+    for resource in 0..RES_SCHEDULER + 1 {
         push(&mut table, ceiling(config, resource))?;
     }
     Ok(table)

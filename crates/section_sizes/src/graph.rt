@@ -5,6 +5,7 @@ ghost use Rattle.section_sizes.specs.Graph.{unseen_way, unseen_of, is_open, lead
 use sloth_base::list::List;
 use sloth_base::memory::NoMemory;
 use std::alloc::Global;
+use text_pieces::growth::push;
 
 /// Where a node leads.
 #[derive(Clone, Copy)]
@@ -72,16 +73,9 @@ pub fn keep(marks: &mut [bool], list: &mut Vec<usize>, node: usize) -> Result<()
     ensures marks { OnOk result (marks.new ≡ set marks.old node true) }
     ensures list { OnOk result (list.new.items ≡ list.old.items ++ node ∷ []) }
 {
-    list.push(node).map_err(|_| NoMemory)?;
+    push(list, node)?;
     marks[node] = true;
     Ok(())
-}
-
-/// Puts a node at the end of the list.
-pub fn push(list: &mut Vec<usize>, node: usize) -> Result<(), NoMemory>
-    ensures { OnOk result (list.new.items ≡ list.old.items ++ node ∷ []) }
-{
-    list.push(node).map_err(|_| NoMemory)
 }
 
 /// Goes on from the nodes of the stack until each that they lead to is done, or a loop is found.
@@ -121,7 +115,7 @@ pub fn no_marks(alloc: Global, count: usize) -> Result<Vec<bool>, NoMemory>
 {
     let mut marks = Vec::new(alloc);
     for node in 0..count {
-        marks.push(false).map_err(|_| NoMemory)?;
+        push(&mut marks, false)?;
     }
     Ok(marks)
 }

@@ -1,35 +1,24 @@
 //! What the items of one body add to parts of sections.
 ghost use Rattle.std.specs.Prelude.{◌≡◌, ◌≤◌, ◌<◌, ℕ, not, cond, false, length, get_or, IfOk};
 ghost use Rattle.sloth_base.specs.Named.{item_of};
-ghost use Rattle.sloth_base.specs.Options.{is_number};
-ghost use Rattle.raised_sections.specs.Walks.{chains_itself};
-ghost use Rattle.raised_sections.specs.Sections.{is_schedule, is_counted};
-ghost use Rattle.section_sizes.specs.Parts.{reaches_level};
-ghost use Rattle.section_sizes.specs.Computed.{is_alive, is_going, summary_of, is_passed, joined, count, going_size, ending_size, leaving_size};
-ghost use Rattle.section_sizes.specs.Known.{AreCountedUp};
+ghost use Rattle.raised_sections.specs.Sections.{is_counted};
+ghost use Rattle.bound_rules.specs.Items.{is_going};
+ghost use Rattle.section_sizes.specs.Computed.{is_alive, is_passed, joined, count, going_size, ending_size, leaving_size};
+ghost use Rattle.bound_rules.specs.Summaries.{summary_of, AreCountedUp};
 
-use crate::bodies::Body;
-use crate::marks::{is_marked, number_at};
-use crate::sizes::{Summary, UNKNOWN};
+use bound_rules::bodies::Body;
+use bound_rules::callees::summary_of;
+use bound_rules::items::{is_going, reaches_level};
+use bound_rules::marks::{is_marked, number_at};
+use bound_rules::sizes::Summary;
 use sloth_base::app::{Call, Func, Op};
 use sloth_base::memory::NoMemory;
-use sloth_base::numbers::FuncId;
 use sloth_base::service::Service;
 use std::alloc::Global;
 use text_pieces::growth::push;
 
 /// Sizes are counted up to this one.
 const MOST: u32 = 1_000_001;
-
-/// Whether what is held reaches a level.
-pub fn reaches_level(level: Option<u32>, ceiling: u32) -> bool
-    ensures { result ≡ reaches_level level ceiling }
-{
-    match level {
-        Some(priority) => priority <= ceiling,
-        None => true,
-    }
-}
 
 fn is_alive(body: &Body, level: Option<u32>, number: usize) -> bool
     ensures { result ≡ is_alive body.now level number }
@@ -50,51 +39,9 @@ pub fn alive_items(
 {
     let mut alive = Vec::new(alloc);
     for number in 0..func.items.items().len() {
-        alive
-            .push(is_alive(body, level, number))
-            .map_err(|_| NoMemory)?;
+        push(&mut alive, is_alive(body, level, number))?;
     }
     Ok(alive)
-}
-
-fn is_schedule(op: Op) -> bool
-    ensures { result ≡ is_schedule op }
-{
-    match op {
-        Op::Serve(call) => call.service.code() == Service::Schedule.code(),
-        _ => false,
-    }
-}
-
-fn is_of_task(func: &Func, task: u32) -> bool
-    ensures { result ≡ is_number task func.now.task }
-{
-    match func.task {
-        Some(owner) => owner.0 == task,
-        None => false,
-    }
-}
-
-/// Whether the operation is a ChainTask of the task whose body the function is.
-pub fn chains_itself(func: &Func, op: Op) -> bool
-    ensures { result ≡ chains_itself func.now op }
-{
-    match op {
-        Op::Serve(call) => {
-            call.service.code() == Service::ChainTask.code() && is_of_task(func, call.object)
-        }
-        _ => false,
-    }
-}
-
-/// Whether parts go on behind the item.
-fn is_going(func: &Func, alive: &[bool], number: usize) -> bool
-    requires { number < length func.now.items }
-    ensures { result ≡ is_going func.now alive.now number }
-{
-    let items = func.items.items();
-    is_marked(alive, number)
-        && (!is_schedule(items[number].op) && !chains_itself(func, items[number].op))
 }
 
 /// Those of them from which parts go on.
@@ -107,16 +54,6 @@ pub fn going_items(alloc: Global, func: &Func, alive: &[bool]) -> Result<Vec<boo
         push(&mut going, is_going(func, alive, number))?;
     }
     Ok(going)
-}
-
-/// The summary of a function.
-pub fn summary_of(table: &[Summary], func: FuncId) -> Summary
-    ensures { result ≡ summary_of table.now func }
-{
-    match table.get(func.0 as usize) {
-        Some(summary) => *summary,
-        None => UNKNOWN,
-    }
 }
 
 /// The functions through which a part may go.

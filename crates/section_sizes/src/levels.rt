@@ -2,16 +2,18 @@
 ghost use Rattle.std.specs.Prelude.{◌≡◌, ℕ, ◌<◌, None, Some, length, get_or, IfOk};
 ghost use Rattle.code_rules.specs.WellFormed.{WellFormed};
 ghost use Rattle.section_sizes.specs.CallOrder.{IsCallOrder};
-ghost use Rattle.section_sizes.specs.Computed.{summary_of, unknown};
+ghost use Rattle.bound_rules.specs.Summaries.{summary_of, unknown};
 ghost use Rattle.section_sizes.specs.Known.{no_body, AreKnownBodies, AreSummaries};
 
-use crate::bodies::{Body, function_at};
-use crate::sizes::{Summary, UNKNOWN};
+use crate::bodies::function_at;
 use crate::summary::summary;
+use bound_rules::bodies::Body;
+use bound_rules::sizes::{Summary, UNKNOWN};
 use sloth_base::app::App;
 use sloth_base::config::Config;
 use sloth_base::memory::NoMemory;
 use std::alloc::Global;
+use text_pieces::growth::push;
 
 fn unknown(alloc: Global, count: usize) -> Result<Vec<Summary>, NoMemory>
     ensures count { IfOk result (λ table. length table.items ≡ count) }
@@ -19,7 +21,7 @@ fn unknown(alloc: Global, count: usize) -> Result<Vec<Summary>, NoMemory>
 {
     let mut table = Vec::new(alloc);
     for _number in 0..count {
-        table.push(UNKNOWN).map_err(|_| NoMemory)?;
+        push(&mut table, UNKNOWN)?;
     }
     Ok(table)
 }

@@ -6,6 +6,7 @@ ghost use Rattle.section_sizes.specs.Trails.{MOST, along, longest_from, AreSizes
 use crate::graph::Ways;
 use sloth_base::memory::NoMemory;
 use std::alloc::Global;
+use text_pieces::growth::push;
 
 /// Sizes are counted up to this one.
 const MOST: u32 = 1_000_001;
@@ -65,7 +66,7 @@ fn zeros(alloc: Global, count: usize) -> Result<Vec<u32>, NoMemory>
 {
     let mut table = Vec::new(alloc);
     for _number in 0..count {
-        table.push(0).map_err(|_| NoMemory)?;
+        push(&mut table, 0)?;
     }
     Ok(table)
 }

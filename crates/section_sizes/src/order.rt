@@ -5,7 +5,7 @@ ghost use Rattle.call_graph.specs.Ranks.{RanksOf};
 ghost use Rattle.section_sizes.specs.CallOrder.{IsCallOrder, IsLeastRank, lesser_of, lesser};
 
 use crate::graph::{keep, no_marks};
-use crate::marks::{is_marked, number_at};
+use bound_rules::marks::{is_marked, number_at};
 use call_graph::ranking::Ranks;
 use sloth_base::app::App;
 use sloth_base::memory::NoMemory;

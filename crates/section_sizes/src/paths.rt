@@ -2,20 +2,20 @@
 ghost use Rattle.std.specs.Prelude.{◌≡◌, ◌<◌, ℕ, length, get_or, IfOk};
 ghost use Rattle.sloth_base.specs.Named.{item_of};
 ghost use Rattle.section_sizes.specs.Graph.{IsOrder};
-ghost use Rattle.task_verify.specs.Ways.{LeadsToLabels};
+ghost use Rattle.body_faults.specs.Ways.{LeadsToLabels};
 ghost use Rattle.section_sizes.specs.Trails.{IsSmall};
 ghost use Rattle.section_sizes.specs.Computed.{going_size};
-ghost use Rattle.section_sizes.specs.Known.{AreCountedUp};
+ghost use Rattle.bound_rules.specs.Summaries.{AreCountedUp};
 ghost use Rattle.section_sizes.specs.Lists.{AreEndingTrails, AreLeavingTrails, ArePaths, AreTrailSizes};
 
-use crate::bodies::Body;
 use crate::graph::Ways;
 use crate::items::{
     alive_items, ending_sizes, going_items, going_sizes, leaving_sizes, passed_functions,
 };
 use crate::links::body_ways;
 use crate::longest::longest;
-use crate::sizes::Summary;
+use bound_rules::bodies::Body;
+use bound_rules::sizes::Summary;
 use sloth_base::app::Func;
 use sloth_base::list::List;
 use sloth_base::memory::NoMemory;

@@ -3,9 +3,10 @@ ghost use Rattle.std.specs.Prelude.{◌≡◌, ℕ, ◌<◌, ◌↔◌, [], fals
 ghost use Rattle.section_sizes.specs.Graph.{AreInside, HasMark};
 ghost use Rattle.section_sizes.specs.Search.{IsReachable, IsSpreading};
 
-use crate::graph::{Ways, keep, no_marks, push, unseen_of};
+use crate::graph::{Ways, keep, no_marks, unseen_of};
 use sloth_base::memory::NoMemory;
 use std::alloc::Global;
+use text_pieces::growth::push;
 
 /// Goes on from the nodes of the stack until all that they lead to are marked.
 fn spread(ways: &[Ways], marks: &mut [bool], stack: &mut Vec<usize>) -> Result<(), NoMemory>

@@ -4,41 +4,21 @@ ghost use Rattle.sloth_base.specs.Named.{item_of, function};
 ghost use Rattle.code_rules.specs.WellFormed.{WellFormed};
 ghost use Rattle.code_rules.specs.Code.{Calls};
 ghost use Rattle.section_sizes.specs.Trails.{IsSmall};
-ghost use Rattle.section_sizes.specs.Computed.{known_body_of, summary_of, callee_of, endless_call, calls_endless, called_most, most_of, joined_both, called_out, out_of, summary_by};
-ghost use Rattle.section_sizes.specs.Known.{IsKnownBody, IsSummary, IsCountedUp, AreCountedUp};
+ghost use Rattle.section_sizes.specs.Computed.{known_body_of, endless_call, calls_endless, called_most, most_of, joined_both, called_out, out_of, summary_by};
+ghost use Rattle.bound_rules.specs.Summaries.{summary_of, IsCountedUp, AreCountedUp};
+ghost use Rattle.section_sizes.specs.Known.{IsKnownBody, IsSummary};
 
-use crate::bodies::Body;
 use crate::graph::{Found, finish_order};
-use crate::items::{joined, reaches_level, summary_of};
-use crate::marks::{is_marked, number_at};
+use crate::items::joined;
 use crate::paths::{TrailSizes, paths_of, trail_sizes};
-use crate::sizes::{ENDLESS, Summary};
+use bound_rules::bodies::Body;
+use bound_rules::callees::callee;
+use bound_rules::marks::{is_marked, number_at};
+use bound_rules::sizes::{ENDLESS, Summary};
 use sloth_base::app::{App, Func, Op};
 use sloth_base::config::Config;
 use sloth_base::memory::NoMemory;
-use sloth_base::numbers::FuncId;
 use std::alloc::Global;
-
-/// The summary of the function that item `number` calls.
-fn callee(
-    body: &Body,
-    level: Option<u32>,
-    whole: &[Summary],
-    own: &[Summary],
-    number: usize,
-    func: FuncId,
-) -> Summary
-    requires whole_small { AreCountedUp whole.now }
-    requires own_small { AreCountedUp own.now }
-    ensures is { result ≡ callee_of body.now level whole.now own.now number func }
-    ensures small { IsCountedUp result }
-{
-    if reaches_level(level, number_at(body.ceilings.items(), number)) {
-        summary_of(whole, func)
-    } else {
-        summary_of(own, func)
-    }
-}
 
 /// Whether the item is a call, which walks reach, of a function in which parts have no limit.
 fn endless_call(

@@ -1,20 +1,17 @@
 //! ChainTask: the running task ends, and another, or itself, is activated; but where that task isn't Suspended nothing
 //! happens.
 ghost use Rattle.std.specs.Prelude.{◌≡◌, ◌<◌, ◌++◌, IfOk, OnOk};
-ghost use Rattle.service_gen.specs.Pieces.{own_task_code, refusing_code};
+ghost use Rattle.routine_pieces.specs.Services.{refusing_code};
 ghost use Rattle.service_gen.specs.ChainTask.{Chains};
 
-use block_parts::pieces::{BACK, LOOK, end, go_back, look_at, open, raise};
+use block_parts::pieces::{BACK, end, go_back, look_at, open, raise};
 use masked_code::emit::{emit, past};
-use masked_code::pieces::leave;
+use routine_pieces::leaving::leave;
+use routine_pieces::services::ask;
 use rv32_instr::Instr;
-use rv32_instr::asm::{A0, X1, X4, ZERO, addi, beq, bne, lw};
+use rv32_instr::asm::{A0, X1, ZERO, addi, bne};
 use sloth_base::service::E_OS_LIMIT;
-use sloth_region::layout::CUR;
 use std::alloc::{AllocError, Global};
-
-/// How many instructions `refuse` adds.
-const REFUSE: u32 = 2;
 
 /// The look at the task with the refusal, and then the caller's end, the raised line and the way to what runs below.
 pub fn code(alloc: Global, task: u8) -> Result<Vec<Instr>, AllocError>
@@ -31,19 +28,6 @@ pub fn code(alloc: Global, task: u8) -> Result<Vec<Instr>, AllocError>
     raise(&mut code, task)?;
     leave(&mut code)?;
     Ok(code)
-}
-
-/// Goes on behind the refusal where the task is the caller.
-fn ask(code: &mut Vec<Instr>, task: u8) -> Result<(), AllocError>
-    requires { task < 30 }
-    ensures { OnOk result (code.new.items ≡ code.old.items ++ own_task_code task) }
-{
-    let asked = [
-        lw(X1, X4, CUR),
-        addi(A0, ZERO, task as i32 + 1),
-        beq(X1, A0, past(LOOK + REFUSE + BACK)),
-    ];
-    emit(code, &asked)
 }
 
 /// Goes on behind the refusal where x1 is 1: the task is Suspended. Else the status is E_OS_LIMIT.

@@ -1,15 +1,14 @@
 //! GetResource: the level that runs is saved, and at least the resource's ceiling runs.
 ghost use Rattle.std.specs.Prelude.{◌≡◌, ◌≤◌, ◌++◌, IfOk, OnOk};
-ghost use Rattle.service_gen.specs.Pieces.{taking_code, ok_back_code};
+ghost use Rattle.service_gen.specs.Pieces.{ok_back_code};
 ghost use Rattle.service_gen.specs.GetResource.{Takes};
 
 use block_parts::pieces::{go_back, open};
-use masked_code::emit::{emit, past};
+use masked_code::emit::emit;
+use routine_pieces::services::take;
 use rv32_instr::Instr;
-use rv32_instr::asm::{A0, X1, X4, ZERO, addi, bgeu, csrrw, sw};
-use rv32_instr::csr::PLEVEL;
+use rv32_instr::asm::{A0, ZERO, addi};
 use sloth_base::service::E_OK;
-use sloth_region::layout::saved;
 use std::alloc::{AllocError, Global};
 
 /// The saved level, the greater level, and the way back.
@@ -22,21 +21,6 @@ pub fn code(alloc: Global, resource: u8, ceiling: u8) -> Result<Vec<Instr>, Allo
     take(&mut code, resource, ceiling)?;
     go_on(&mut code)?;
     Ok(code)
-}
-
-/// The ceiling is the level for `mret`, and the one that runs, which plevel held, is saved; where that is greater, it stays.
-fn take(code: &mut Vec<Instr>, resource: u8, ceiling: u8) -> Result<(), AllocError>
-    requires { resource ≤ 32 }
-    ensures { OnOk result (code.new.items ≡ code.old.items ++ taking_code resource ceiling) }
-{
-    let taken = [
-        addi(X1, ZERO, ceiling as i32),
-        csrrw(A0, PLEVEL, X1),
-        sw(A0, X4, saved(resource)),
-        bgeu(X1, A0, past(1)),
-        csrrw(ZERO, PLEVEL, A0),
-    ];
-    emit(code, &taken)
 }
 
 /// Back to the caller, with the status E_OK.

@@ -1,21 +1,19 @@
 //! GetTaskState: the number of a task's state, 0 where it runs, 1 Waiting, 2 Ready or preempted, 3 Suspended.
 ghost use Rattle.std.specs.Prelude.{◌≡◌, ◌<◌, ◌++◌, IfOk, OnOk};
-ghost use Rattle.service_gen.specs.Pieces.{active_task_test, active_telling_code, waiting_task_test, resting_telling_code};
+ghost use Rattle.service_gen.specs.Pieces.{active_task_test, active_telling_code, waiting_task_test};
 ghost use Rattle.service_gen.specs.GetTaskState.{TellsState};
 
 use block_parts::pieces::{BACK, go_back, open};
 use masked_code::emit::{emit, past};
+use routine_pieces::services::tell_resting;
 use rv32_instr::Instr;
-use rv32_instr::asm::{A0, A1, X1, X3, X4, ZERO, addi, beq, lbu, lw, slli, sltu, xori};
+use rv32_instr::asm::{A0, A1, X1, X3, X4, ZERO, addi, beq, lbu, lw, slli, sltu};
 use sloth_base::service::E_OK;
-use sloth_region::layout::{CUR, active, enabled_byte, pending_byte};
+use sloth_region::layout::{CUR, active, enabled_byte};
 use std::alloc::{AllocError, Global};
 
 /// The state's number where the task waits.
 const WAITING: i32 = 1;
-
-/// The state's number where the task is Suspended; 1 more than where it is Ready.
-const SUSPENDED: i32 = 3;
 
 /// How many instructions `tell_active` adds.
 const TELL_ACTIVE: u32 = 4;
@@ -77,13 +75,4 @@ fn ask_waiting(code: &mut Vec<Instr>, task: u8) -> Result<(), AllocError>
         beq(X1, ZERO, past(TELL_RESTING)),
     ];
     emit(code, &asked)
-}
-
-/// a1 := 3 where the task is Suspended, and 2 where it is Ready, whose pending byte is 1.
-fn tell_resting(code: &mut Vec<Instr>, task: u8) -> Result<(), AllocError>
-    requires { task < 30 }
-    ensures { OnOk result (code.new.items ≡ code.old.items ++ resting_telling_code task) }
-{
-    let told = [lbu(X1, X3, pending_byte(task)), xori(A1, X1, SUSPENDED)];
-    emit(code, &told)
 }

@@ -1,13 +1,10 @@
 //! ReleaseResource: back to the level at which the resource was taken.
-ghost use Rattle.std.specs.Prelude.{◌≡◌, ◌≤◌, ◌++◌, IfOk, OnOk};
-ghost use Rattle.service_gen.specs.Pieces.{releasing_code};
+ghost use Rattle.std.specs.Prelude.{◌≤◌, IfOk};
 ghost use Rattle.service_gen.specs.ReleaseResource.{Releases};
 
-use block_parts::pieces::{go_on, open};
-use masked_code::emit::emit;
+use block_parts::pieces::open;
+use routine_pieces::services::release;
 use rv32_instr::Instr;
-use rv32_instr::asm::{X1, X4, lw};
-use sloth_region::layout::saved;
 use std::alloc::{AllocError, Global};
 
 /// The saved level, and the way back.
@@ -19,13 +16,4 @@ pub fn code(alloc: Global, resource: u8) -> Result<Vec<Instr>, AllocError>
     open(&mut code)?;
     release(&mut code, resource)?;
     Ok(code)
-}
-
-/// To the level that was saved for the resource, with the status E_OK.
-fn release(code: &mut Vec<Instr>, resource: u8) -> Result<(), AllocError>
-    requires { resource ≤ 32 }
-    ensures { OnOk result (code.new.items ≡ code.old.items ++ releasing_code resource) }
-{
-    emit(code, &[lw(X1, X4, saved(resource))])?;
-    go_on(code)
 }

@@ -1,21 +1,16 @@
 //! Schedule: the running task gives way to those above its own level, and then comes back.
 ghost use Rattle.std.specs.Prelude.{◌≡◌, ◌++◌, IfOk, OnOk};
-ghost use Rattle.service_gen.specs.Pieces.{level_code, way_back_address_code, way_back_code, way_back_stop_code};
+ghost use Rattle.service_gen.specs.Pieces.{way_back_address_code, way_back_code, way_back_stop_code};
 ghost use Rattle.service_gen.specs.Schedule.{Yields};
 
 use block_parts::pieces::open;
 use masked_code::emit::{emit, past};
+use routine_pieces::services::lower;
 use rv32_instr::Instr;
-use rv32_instr::asm::{
-    A0, X1, X3, X4, X30, X31, ZERO, add, addi, csrrci, csrrw, jal, lbu, lw, mret,
-};
+use rv32_instr::asm::{A0, X1, X30, X31, ZERO, addi, csrrci, csrrw, jal, mret};
 use rv32_instr::csr::{MEPC, MIE, MSTATUS, PLEVEL};
 use sloth_base::service::E_OK;
-use sloth_region::layout::CUR;
 use std::alloc::{AllocError, Global};
-
-/// The level byte of the running task's line, from `cur` behind the controller's address.
-const OWN_LEVEL: i32 = 63;
 
 /// Where the way back stands, in bytes from the first instruction.
 pub const WAY_BACK: u32 = 24;
@@ -34,19 +29,6 @@ pub fn code(alloc: Global) -> Result<Vec<Instr>, AllocError>
     come_back(&mut code)?;
     stop_at_back(&mut code)?;
     Ok(code)
-}
-
-/// Leaves the level that runs, which plevel held, in x30, and that of the running task's line for `mret`.
-fn lower(code: &mut Vec<Instr>) -> Result<(), AllocError>
-    ensures { OnOk result (code.new.items ≡ code.old.items ++ level_code) }
-{
-    let lowered = [
-        lw(X1, X4, CUR),
-        add(X1, X1, X3),
-        lbu(X1, X1, OWN_LEVEL),
-        csrrw(X30, PLEVEL, X1),
-    ];
-    emit(code, &lowered)
 }
 
 /// x1 := the address of the way back, which stands behind it and is passed.

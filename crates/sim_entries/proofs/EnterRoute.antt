@@ -19,7 +19,7 @@ use Rattle.masked_code.specs.Kernel.{CanRun}
 use Rattle.masked_code.specs.Place.{offset_state}
 use Rattle.masked_code.specs.Masked.{Masked, WithArrivals}
 use Rattle.masked_code.specs.Trace.{Trace, lines_of, touched_lines, early_arrivals, late_arrivals}
-use Rattle.rv32_expand.specs.Expansion.{item_address}
+use Rattle.expansion_parts.specs.Expansion.{item_address}
 use Rattle.observe.specs.Observe.{View}
 use Rattle.osek_scheduler.specs.State.{Frame, System, task, declaration, body_of}
 use Rattle.osek_scheduler.specs.Priority.{is_active}

@@ -3,7 +3,7 @@ use Rattle.std.specs.Prelude.{ℕ, ◌-◌, ◌*◌, ◌<◌, ◌≢◌, List, [
 use Rattle.sloth_base.specs.Machine.{State}
 use Rattle.sloth_base.specs.Take.{take}
 use Rattle.rv32_instr.specs.declared.InstrKind.{InstrKind}
-use Rattle.rv32_expand.specs.Expansion.{item_address}
+use Rattle.expansion_parts.specs.Expansion.{item_address}
 use Rattle.osek_scheduler.specs.State.{System, task, declaration, body_of}
 use Rattle.sloth_base.specs.Named.{function}
 use Rattle.prologue_gen.specs.Fresh.{Entered}

@@ -9,7 +9,7 @@ use Rattle.sloth_base.specs.Status.{E_OK}
 use Rattle.sloth_base.specs.declared.service.Service.TheVariants as service
 use Rattle.sloth_region.specs.Layout.{events}
 use Rattle.rv32_instr.specs.Ram.{word_at}
-use Rattle.rv32_expand.specs.Expansion.{mask_of}
+use Rattle.expansion_parts.specs.Expansion.{mask_of}
 use Rattle.masked_code.proofs.Words.{word_below}
 use Rattle.event_gen.specs.ClearEvent.{EventsCleared, mask_register}
 use Rattle.osek_scheduler.specs.State.{Task, System, task, with_task}

@@ -10,7 +10,7 @@ use Rattle.sloth_base.specs.Status.{E_OK, E_OS_STATE}
 use Rattle.sloth_base.specs.declared.service.Service.TheVariants as service
 use Rattle.sloth_region.specs.Layout.{events, wait}
 use Rattle.rv32_instr.specs.Ram.{word_at, with_word}
-use Rattle.rv32_expand.specs.Expansion.{mask_of}
+use Rattle.expansion_parts.specs.Expansion.{mask_of}
 use Rattle.masked_code.proofs.Words.{word_below}
 use Rattle.block_parts.specs.Looks.{LooksSuspended}
 use Rattle.block_parts.specs.Back.{WentBack, a0}

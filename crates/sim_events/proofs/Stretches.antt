@@ -8,7 +8,7 @@ use Rattle.sloth_base.specs.declared.service.Service.TheVariants as service
 use Rattle.sloth_base.specs.Arrive.{state_arrive}
 use Rattle.sloth_base.specs.Machine.{State}
 use Rattle.sim_services.proofs.Touching.{touches_none, touches_one}
-use Rattle.rv32_expand.specs.Expansion.{mask_of}
+use Rattle.expansion_parts.specs.Expansion.{mask_of}
 use Rattle.rv32_machine.specs.Run.{state_with_arrivals}
 use Rattle.observe.specs.Observe.{View}
 use Rattle.event_gen.specs.ClearEvent.{ClearsEvents, EventsCleared, mask_register}

@@ -9,7 +9,7 @@ use Rattle.sloth_base.specs.Status.{E_OK}
 use Rattle.sloth_base.specs.declared.service.Service.TheVariants as service
 use Rattle.sloth_region.specs.Layout.{cur, events, context_bytes}
 use Rattle.rv32_instr.specs.Ram.{word_at}
-use Rattle.rv32_expand.specs.Expansion.{mask_of}
+use Rattle.expansion_parts.specs.Expansion.{mask_of}
 use Rattle.masked_code.specs.Pieces.{registers_from}
 use Rattle.masked_code.proofs.Words.{word_below}
 use Rattle.event_gen.specs.ClearEvent.{mask_register}

@@ -24,7 +24,7 @@ use Rattle.sloth_base.specs.declared.places.Levels.{Levels}
 use Rattle.sloth_region.specs.declared.map.Map.{Map}
 use Rattle.rv32_instr.specs.declared.block.Block.{Block}
 use Rattle.rv32_instr.specs.Range.{InRange}
-use Rattle.rv32_expand.specs.Expansion.{expansion, item_address, block_address}
+use Rattle.expansion_parts.specs.Expansion.{expansion, item_address, block_address}
 use Rattle.rv32_expand.specs.InPlace.{IsItem, ItemsInPlace, item_mark, mark_kind}
 use Rattle.rv32_expand.proofs.InRangeOf.{frame_of}
 use Rattle.rv32_expand.proofs.Verified.{has_first}

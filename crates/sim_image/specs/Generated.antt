@@ -20,7 +20,7 @@ use Rattle.code_rules.specs.WellFormed.{WellFormed}
 use Rattle.sloth_base.specs.declared.places.Bounds.{Bounds}
 use Rattle.rv32_instr.specs.declared.InstrKind.{InstrKind}
 use Rattle.rv32_instr.specs.declared.block.Block.{Block}
-use Rattle.rv32_expand.specs.Expansion.{block_address}
+use Rattle.expansion_parts.specs.Expansion.{block_address}
 use Rattle.rv32_expand.specs.InPlace.{IsItem, ItemsInPlace}
 use Rattle.rv32_expand.specs.Sizes.{AgreeWithSizes}
 use Rattle.prio_levels.specs.Levels.{AreLevels}

@@ -19,7 +19,7 @@ use Rattle.rv32_instr.specs.Effect.{effect}
 use Rattle.rv32_instr.specs.Execute.{perform, touched_line_by, goes_on, with_register}
 use Rattle.rv32_instr.specs.Ram.{with_word}
 use Rattle.masked_code.proofs.Parts.{hi_lo}
-use Rattle.rv32_expand.specs.Expansion.{item_address, symbol_address, register_operation, number_operation, index_code, operation_code}
+use Rattle.expansion_parts.specs.Expansion.{item_address, symbol_address, register_operation, number_operation, index_code, operation_code}
 use Rattle.data_far.specs.Wide.{far_indexed}
 use Rattle.rv32_expand.specs.InPlace.{result_register}
 use Rattle.osek_scheduler.specs.State.{Frame, Task, System, task}

@@ -7,7 +7,7 @@ use Rattle.sloth_base.specs.Named.{operation}
 use Rattle.sloth_base.specs.declared.app.Op.{Op}
 use Rattle.sloth_base.specs.declared.event.Arrival.{Arrival}
 use Rattle.rv32_instr.specs.Encode.{Encode}
-use Rattle.rv32_expand.specs.Expansion.{item_address, is_long, expansion}
+use Rattle.expansion_parts.specs.Expansion.{item_address, is_long, expansion}
 use Rattle.observe.specs.Observe.{View}
 use Rattle.osek_scheduler.specs.State.{Frame, System, task}
 use Rattle.osek_scheduler.specs.Meaning.{register}

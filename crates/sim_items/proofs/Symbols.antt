@@ -6,7 +6,7 @@ use Rattle.std.proofs.lemmas.List.{get_or-set_same, get_or-set_other, get_or_pas
 use Rattle.sloth_base.specs.Arithmetic.{size_of, extended_number}
 use Rattle.sloth_base.specs.declared.app.Width.{Width}
 use Rattle.sloth_base.specs.declared.app.Width.TheVariants as width
-use Rattle.rv32_expand.specs.Expansion.{symbol_address}
+use Rattle.expansion_parts.specs.Expansion.{symbol_address}
 use Rattle.osek_scheduler.specs.Meaning.{loaded_word, bytes_after_store, accessed_bytes}
 use Rattle.sim_relation.specs.Build.{Build, Fits}
 use Rattle.sim_relation.specs.DataStands.{DataStands, ByteStands}

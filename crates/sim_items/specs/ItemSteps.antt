@@ -4,7 +4,7 @@ use Rattle.sloth_base.specs.declared.event.Event.TheVariants as event
 use Rattle.sloth_base.specs.Machine.{State}
 use Rattle.rv32_instr.specs.Execute.{Going, step, touched}
 use Rattle.sloth_base.specs.Named.{operation, function}
-use Rattle.rv32_expand.specs.Expansion.{expansion}
+use Rattle.expansion_parts.specs.Expansion.{expansion}
 use Rattle.rv32_expand.specs.InPlace.{result_register}
 use Rattle.observe.specs.Observe.{View}
 use Rattle.osek_scheduler.specs.State.{System}

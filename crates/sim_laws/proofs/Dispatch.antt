@@ -11,7 +11,7 @@ use Rattle.sloth_base.specs.Owners.{counter_line, owners_in}
 use Rattle.sloth_base.proofs.Owners.{IsCounterLine}
 use Rattle.rv32_machine.specs.Run.{state_with_arrivals}
 use Rattle.masked_code.specs.Trace.{Trace, late_arrivals}
-use Rattle.rv32_expand.specs.Expansion.{expansion}
+use Rattle.expansion_parts.specs.Expansion.{expansion}
 use Rattle.sloth_base.specs.Named.{operation, function}
 use Rattle.observe.specs.Observe.{View, view_of_image}
 use Rattle.osek_scheduler.specs.declared.state.TaskState.TheVariants as mode

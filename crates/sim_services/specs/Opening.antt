@@ -9,7 +9,7 @@ use Rattle.sloth_region.specs.Layout.{cur}
 use Rattle.rv32_instr.specs.declared.InstrKind.{InstrKind}
 use Rattle.rv32_instr.specs.Ram.{word_at}
 use Rattle.masked_code.specs.Kernel.{IsBelow}
-use Rattle.rv32_expand.specs.Expansion.{item_address, block_address, expansion}
+use Rattle.expansion_parts.specs.Expansion.{item_address, block_address, expansion}
 use Rattle.block_parts.specs.Back.{CanGoBack}
 use Rattle.observe.specs.Observe.{View, mark_at}
 use Rattle.sloth_base.specs.ServiceCodes.{service_of}

@@ -1,14 +1,9 @@
-//! The commands of the program.
+//! The program's top call.
 #![tactic(auto)]
 
-pub mod failure;
-pub mod image_commands;
-pub mod inputs;
-pub mod laws;
-pub mod listing;
-pub mod sample_command;
-pub mod tool_command;
 pub mod top;
 
+pub use sloth_commands::laws;
 pub use sloth_runner::{RunEnd, Runner, Tally};
-pub use top::{Status, sloth_top};
+pub use tool_answers::Status;
+pub use top::sloth_top;

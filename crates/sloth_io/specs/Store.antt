@@ -1,6 +1,7 @@
 -- What a store shows, and what its calls do.
-use Rattle.std.specs.Prelude.{◌≡◌, ◌≢◌, ◌≤◌, ◌<◌, ◌⊎◌, ℕ, List, ◌++◌, length, Option, Some, None, Bool, false, IsTrue, nat_le}
+use Rattle.std.specs.Prelude.{◌≡◌, ◌≢◌, ◌≤◌, ◌<◌, ◌⊎◌, ℕ, List, ◌++◌, length, Option, Some, None, Bool, false, IsTrue}
 use Rattle.sloth_io.specs.Counts.{Rose}
+pub use Rattle.io_buffers.specs.Slots.{is_space_for}
 
 -- What each named file holds, where the store tells that, and three counts. A sure store has no call that is to fail: what its
 -- files hold, their space and want of memory are the only causes.
@@ -47,11 +48,6 @@ abbrev pub IsTooLong : Files → Files → List ℕ → ℕ → Type 0
 IsTooLong old new name limit =
     Rose old.overlong_reads new.overlong_reads
     × (IsTrue old.tells → (bytes : List ℕ) × (old.holds name ≡ Some bytes) × (limit < length bytes))
-
--- there is space for so many bytes
-abbrev pub is_space_for : Option ℕ → ℕ → Bool
-is_space_for None size = false
-is_space_for (Some space) size = nat_le size space
 
 -- a failed write of so many bytes is counted; a sure store has no space for them in the file
 abbrev pub IsUnwritten : Files → Files → List ℕ → ℕ → Type 0

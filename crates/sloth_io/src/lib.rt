@@ -1,8 +1,6 @@
 //! The outside: traits for files and for what is printed, in memory and at the system.
 #![tactic(auto)]
 
-mod backlog;
-mod buffer;
 pub mod buffered;
 pub mod file_store;
 pub mod mem_sink;

@@ -1,33 +1,18 @@
 //! A store in memory.
-ghost use Rattle.std.specs.Prelude.{◌≡◌, ◌≢◌, ◌≤◌, ◌<◌, None, Some, length, map, All};
+ghost use Rattle.std.specs.Prelude.{◌≡◌, ◌≢◌, ◌≤◌, ◌<◌, None, Some, length, All};
 ghost use Rattle.std.specs.Prelude.{OnErr, OnOk, IfOk, IfSome, IfNone, IsOkUnless, MatchOption, is_ok, is_err, if◌then◌else◌};
 ghost use Rattle.std.specs.List.{AllPairs};
 ghost use Rattle.sloth_io.specs.Counts.{count_after_call, next_call};
-ghost use Rattle.sloth_io.specs.MemStore.{IsFresh, bytes_named, fails_next, file_named, file_of, files_of, has_space, IsCalled};
-ghost use Rattle.sloth_io.specs.MemStore.{IsFilePlace, is_too_long, read_fault, shown_files, writes_next, files_with};
+ghost use Rattle.io_buffers.specs.Slots.{bytes_named, files_with};
+ghost use Rattle.sloth_io.specs.MemStore.{IsFresh, fails_next, files_of, IsCalled};
+ghost use Rattle.sloth_io.specs.MemStore.{is_too_long, read_fault, shown_files, writes_next};
 ghost use Rattle.sloth_io.specs.Store.{Appends, IsMissing, IsTooLong, IsUnwritten, Holds, KeepsOthers, KeepsFiles, KeepsReads};
 
-use crate::buffer::Buffer;
 use crate::store::{Store, StoreFault};
-use sloth_base::list::List;
+pub use io_buffers::slots::MemFile;
+use io_buffers::slots::{Slot, bytes_of, replace, slots_of};
 use sloth_base::memory::NoMemory;
-use sloth_base::name::Name;
 use std::alloc::Global;
-
-/// A file that a store is made with: its name, its bytes, and the greatest number of bytes that it may hold.
-#[derive(Drop)]
-pub struct MemFile {
-    pub name: Name,
-    pub bytes: List<u8>,
-    pub space: u32,
-}
-
-// A file, with its space reserved.
-#[derive(Drop)]
-struct Slot {
-    name: Name,
-    buffer: Buffer,
-}
 
 /// Files in memory, and the numbers of the calls that are to fail, counted from 1 over reads and writes.
 /// It tells what its files hold.
@@ -41,20 +26,6 @@ pub struct MemStore {
     failed_writes: u64,
 }
 
-impl Slot {
-    // A slot that holds this file.
-    fn new(alloc: Global, file: &MemFile) -> Result<Slot, NoMemory>
-        requires { length file.now.bytes ≤ file.now.space }
-        ensures { IfOk result (λ slot. file_of slot ≡ file.now) }
-    {
-        let name = Name::new(alloc, file.name.bytes())?;
-        let mut buffer = Buffer::new(alloc, file.space)?;
-        let whole = buffer.append(file.bytes.items());
-        prove!(whole);
-        Ok(Slot { name, buffer })
-    }
-}
-
 impl MemStore {
     /// A store of these files.
     pub fn new(alloc: Global, files: &[MemFile], fails: &[u32]) -> Result<MemStore, NoMemory>
@@ -62,12 +33,8 @@ impl MemStore {
         requires within { All (λ file. length file.bytes ≤ file.space) files.now }
         ensures { IfOk result (IsFresh files.now fails.now) }
     {
-        let mut slots = Vec::new(alloc);
-        for file in files {
-            let slot = Slot::new(alloc, file)?;
-            slots.push(slot).map_err(|_| NoMemory)?;
-        }
         let fails = Vec::from_slice(alloc, fails)?;
+        let slots = slots_of(alloc, files)?;
         Ok(MemStore {
             slots,
             fails,
@@ -94,45 +61,6 @@ impl MemStore {
         self.calls = self.calls.saturating_add(1);
         self.fails.contains(&self.calls)
     }
-}
-
-// The bytes of the file of a name.
-fn bytes_of<'a>(slots: &'a [Slot], name: &[u8]) -> Option<&'a [u8]>
-    ensures found { IfSome result (λ bytes. bytes_named name.now (map file_of slots.now) ≡ Some bytes.now) }
-    ensures none { IfNone result (bytes_named name.now (map file_of slots.now) ≡ None) }
-{
-    for slot in slots {
-        if slot.name.bytes() == name {
-            return Some(slot.buffer.bytes());
-        }
-    }
-    None
-}
-
-// The place of the file of a name.
-fn place_of(slots: &[Slot], name: &[u8]) -> Option<usize>
-    ensures found { IfSome result (IsFilePlace name.now (map file_of slots.now)) }
-    ensures within { IfSome result (λ place. place < length slots.now) }
-    ensures none { IfNone result (file_named name.now (map file_of slots.now) ≡ None) }
-{
-    for (place, slot) in slots.iter().enumerate() {
-        if slot.name.bytes() == name {
-            return Some(place);
-        }
-    }
-    None
-}
-
-// Makes the file of a name hold these bytes, where there is space for them.
-fn replace(slots: &mut Vec<Slot>, name: &[u8], bytes: &[u8]) -> bool
-    ensures done { result ≡ has_space name.now (length bytes.now) (map file_of slots.old.items) }
-    ensures files { map file_of slots.new.items ≡
-        (if result then files_with name.now bytes.now (map file_of slots.old.items) else map file_of slots.old.items) }
-{
-    let Some(place) = place_of(slots.as_slice(), name) else {
-        return false;
-    };
-    slots[place].buffer.replace(bytes)
 }
 
 impl Store for MemStore {

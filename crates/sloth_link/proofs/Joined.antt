@@ -2,11 +2,9 @@
 use Rattle.std.proofs.Common.{◌≡◌, ℕ, List, [], ◌∷◌, ◌++◌, refl, sym, ap, ◌∙◌, arith}
 use Rattle.std.specs.Prelude.{All, map}
 use Rattle.std.proofs.lemmas.List.Elements.{All-cons, All-head, All-tail}
-use Rattle.std.proofs.lemmas.Grind.{flat_map-append}
-use Rattle.sloth_base.specs.declared.image.Mark.{Mark}
 use Rattle.rv32_instr.specs.declared.block.Block.{Block}
 use Rattle.sloth_link.specs.declared.datum.Datum.{Datum}
-use Rattle.sloth_link.specs.Linked.{Section, HaveRoom, IsInside, block_section, datum_section, linked_memory, marks_of, sections_of}
+use Rattle.sloth_link.specs.Linked.{Section, HaveRoom, IsInside, block_section, datum_section, linked_memory, sections_of}
 use Rattle.sloth_link.proofs.Written.{linked_append}
 use Rattle.sloth_link.proofs.WrittenMemory.{blocks_inside}
 
@@ -31,11 +29,6 @@ written_in_turn xs ys symbols memory =
     ap (λ m. linked_memory m (map datum_section symbols)) (sym (linked_append (map block_section xs) (map block_section ys) memory))
     ∙ ap (λ (s : List Section). linked_memory (linked_memory memory s) (map datum_section symbols)) (sym (sections_join xs ys))
     ∙ sym (linked_append (map block_section (xs ++ ys)) (map datum_section symbols) memory)
-
--- the marks of both
-pub marks_join : (xs ys : List Block) (marks own : List Mark) → marks ≡ marks_of xs → own ≡ marks_of ys → marks ++ own ≡ marks_of (xs ++ ys)
-marks_join xs ys marks own e f =
-    ap (λ (l : List Mark). l ++ own) e ∙ ap (λ (l : List Mark). marks_of xs ++ l) f ∙ sym (flat_map-append (λ (b : Block). b.marks) xs ys)
 
 -- the blocks of each list lie inside the memory
 pub front_inside : (size : ℕ) (xs ys : List Block) (symbols : List Datum) → HaveRoom size (xs ++ ys) symbols → All (λ b. IsInside size (block_section b)) xs

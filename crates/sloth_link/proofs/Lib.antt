@@ -1,6 +1,5 @@
 pub mod Written
 pub mod Stand
-pub mod Marked
 pub mod WrittenMemory
 pub mod Joined
 pub mod AlarmRoom

@@ -1,21 +1,10 @@
 -- Sections that are written one after the other.
-use Rattle.std.proofs.Common.{◌≡◌, ◌≤◌, ◌<◌, ◌+◌, ◌*◌, ◌⊎◌, ℕ, zero, suc, List, [], ◌∷◌, ◌++◌, length, refl, ap, ◌∙◌, inl, inr, ⊎_elim, arith}
+use Rattle.std.proofs.Common.{◌≡◌, ◌≤◌, ◌<◌, ◌+◌, ◌⊎◌, ℕ, zero, suc, List, [], ◌∷◌, ◌++◌, length, refl, ap, ◌∙◌, inl, inr, ⊎_elim, arith}
 use Rattle.std.specs.Prelude.{All, AllPairs, set, map, replicate, slice_index}
-use Rattle.std.proofs.lemmas.List.{length-append, length-set, length-replicate, get_or-set_same, get_or-set_other}
+use Rattle.std.proofs.lemmas.List.{length-set, length-replicate, get_or-set_same, get_or-set_other}
 use Rattle.std.proofs.lemmas.List.Elements.{All-cons, All-head, All-tail}
-use Rattle.std.specs.Int.{to_le_bytes, w32}
-use Rattle.rv32_instr.specs.Encode.{Encode}
-use Rattle.rv32_instr.specs.declared.InstrKind.{InstrKind}
-use Rattle.sloth_link.specs.Linked.{Section, code_bytes, with_bytes, linked_memory, Holds, Misses, IsInside, AreApart, AreLinked}
-
--- four bytes for each instruction
-pub code_bytes_length : (code : List InstrKind) → length (code_bytes code) ≡ 4 * length code
-code_bytes_length [] = refl
-code_bytes_length (kind ∷ code) =
-    let n = length-append {A = ℕ} (to_le_bytes w32 (Encode kind)) (code_bytes code) in
-    let four : length (to_le_bytes w32 (Encode kind)) ≡ 4 = refl in
-    let rest = code_bytes_length code in
-    omega (arith, n, four, rest)
+pub use Rattle.image_pieces.proofs.CodeBytes.{code_bytes_length}
+use Rattle.sloth_link.specs.Linked.{Section, with_bytes, linked_memory, Holds, Misses, IsInside, AreApart, AreLinked}
 
 -- ---- bytes
 

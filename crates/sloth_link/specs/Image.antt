@@ -1,18 +1,22 @@
 -- What is linked into an image: the blocks of routines, the items of the task code, the words of alarms, and the bytes of the symbols.
-use Rattle.std.specs.Prelude.{ℕ, ◌+◌, ◌-◌, ◌<◌, ◌≤◌, ◌≡◌, List, ◌++◌, length, All}
+use Rattle.std.specs.Prelude.{ℕ, ◌+◌, ◌-◌, ◌<◌, ◌≤◌, ◌≡◌, List, ◌++◌, length, All, slice_index}
+use Rattle.std.specs.List.Sorted.{IsPermutation, IsStrictlyIncreasing}
 use Rattle.sloth_base.specs.Named.{declaration}
 use Rattle.sloth_base.specs.declared.app.App.{App}
 use Rattle.sloth_base.specs.declared.config.Config.{Config}
+use Rattle.sloth_base.specs.declared.image.Mark.{Mark}
 use Rattle.sloth_base.specs.MemoryMap.{memory_base, vectors_base}
 use Rattle.sloth_region.specs.declared.map.Map.{Map}
 use Rattle.code_rules.specs.WellFormed.{WellFormed}
 use Rattle.rv32_instr.specs.declared.block.Block.{Block}
+use Rattle.rv32_instr.specs.Range.{InRange}
 use Rattle.rv32_expand.specs.InPlace.{IsBodyName}
 use Rattle.rv32_expand.specs.Sizes.{AgreeWithSizes, Covers}
 use Rattle.mem_map.specs.Zones.{data_zone}
 use Rattle.sloth_link.specs.declared.datum.Datum.{Datum}
 use Rattle.sloth_link.specs.Items.{MarksAreOfItems, item_blocks}
-use Rattle.sloth_link.specs.Linked.{HaveOwnAddresses, HaveRoom, marks_of}
+use Rattle.sloth_link.specs.Linked.{AreLinked, BlockStands, HaveOwnAddresses, HaveRoom, Holds, addresses, datum_section, marks_of, sections_of}
+use Rattle.sloth_link.specs.Standing.{ItemsStand}
 use Rattle.sloth_link.specs.Symbols.{alarm_data, data_of}
 
 -- the blocks of routines, and behind them the items, each as a block of its own at its address in the map
@@ -50,3 +54,14 @@ pub record MayLink (config : Config) (app : App) (map : Map) (blocks : List Bloc
   -- no mark of a routine is one of an item, and no two marks have one address
   pub routines : All (MarksAreOfItems app map.places) blocks
   pub own_addresses : HaveOwnAddresses (marks_of (all_blocks app map blocks))
+
+-- What is linked of them: a memory in which all blocks and data stand, with zeros elsewhere, and the marks of all blocks by rising addresses.
+pub record HasMemory (config : Config) (app : App) (map : Map) (blocks : List Block) (memory : List ℕ) (marks : List Mark) : Type 0 where
+  pub stand : ItemsStand app map.places memory marks
+  pub range : All (λ b. All InRange b.code) (all_blocks app map blocks)
+  pub code : All (BlockStands memory) (all_blocks app map blocks)
+  pub data_stands : All (λ d. Holds memory (datum_section d)) (all_data config app map)
+  pub linked : AreLinked (memory_size map) (sections_of (all_blocks app map blocks) (all_data config app map)) memory
+  pub bytes : (i : ℕ) → slice_index memory i < 256
+  pub moved : IsPermutation (marks_of (all_blocks app map blocks)) marks
+  pub ascending : IsStrictlyIncreasing (addresses marks)

@@ -1,15 +1,15 @@
 //! The items of task code, each as a block of its own.
 ghost use Rattle.std.specs.Prelude.{◌≡◌, ◌<◌, ◌++◌, ◌∷◌, [], IfOk, OnOk, length};
 ghost use Rattle.sloth_base.specs.Named.{function, item_of};
-ghost use Rattle.rv32_expand.specs.InPlace.{IsItem, mark_of, result_register};
+ghost use Rattle.rv32_expand.specs.InPlace.{IsItem};
 ghost use Rattle.rv32_expand.specs.Sizes.{AgreeWithSizes, Covers, IsVerified};
 ghost use Rattle.sloth_link.specs.Items.{item_block, items_of, item_blocks};
 
+use image_pieces::mark;
 use rv32_expand::addresses::item_address;
 use rv32_expand::expand;
 use rv32_instr::Block;
-use sloth_base::app::{App, Item, Op};
-use sloth_base::image::{Mark, MarkKind};
+use sloth_base::app::{App, Item};
 use sloth_base::list::List;
 use sloth_base::memory::NoMemory;
 use sloth_base::places::Places;
@@ -25,36 +25,6 @@ fn push(blocks: &mut Vec<Block>, block: Block) -> Result<(), NoMemory>
     match blocks.push(block) {
         Ok(()) => Ok(()),
         Err(failed) => Err(AllocError::from(failed).into()),
-    }
-}
-
-// The register of an item's result, or 0.
-fn result_register(op: Op) -> u8
-    ensures { result ≡ result_register op }
-{
-    match op {
-        Op::Alu { rd, .. } | Op::AluImm { rd, .. } | Op::Lui { rd, .. } | Op::Li { rd, .. } => rd.0,
-        Op::FrameLoad { rd, .. } | Op::Load { rd, .. } | Op::LoadAt { rd, .. } => rd.0,
-        Op::FrameStore { rs, .. } | Op::Store { rs, .. } | Op::StoreAt { rs, .. } => rs.0,
-        Op::Branch { .. } | Op::Jump { .. } | Op::Invoke { .. } | Op::Return | Op::Serve(_) => 0,
-    }
-}
-
-// The mark of an item at an address.
-fn mark(op: Op, address: u32, func: u32, index: u32) -> Mark
-    requires { func < 64 }
-    ensures { result ≡ mark_of op address func index }
-{
-    let (kind, a) = match op {
-        Op::Serve(call) => (MarkKind::Jump, call.service.code()),
-        _ => (MarkKind::Item, result_register(op)),
-    };
-    Mark {
-        address,
-        kind,
-        a,
-        b: func as u16,
-        c: index,
     }
 }
 

@@ -6,7 +6,7 @@ ghost use Rattle.sloth_base.specs.MemoryMap.{vectors_base};
 ghost use Rattle.rv32_instr.specs.Range.{InRange};
 ghost use Rattle.rv32_expand.specs.InPlace.{ItemsInPlace};
 ghost use Rattle.mem_map.specs.Zones.{data_zone};
-ghost use Rattle.sloth_link.specs.Image.{MayLink, all_blocks, all_data, memory_size};
+ghost use Rattle.sloth_link.specs.Image.{MayLink, HasMemory, all_blocks, all_data, memory_size};
 ghost use Rattle.sloth_link.specs.Linked.{marks_of, HaveOwnAddresses, addresses, HaveRoom, AreLinked, sections_of, BlockStands, datum_section, Holds, linked_memory};
 ghost use Rattle.sloth_link.specs.Names.{task_names, counter_names, function_names};
 ghost use Rattle.sloth_link.specs.Standing.{ItemsStand};
@@ -14,10 +14,10 @@ ghost use Rattle.sloth_link.specs.Standing.{ItemsStand};
 use crate::alarms::alarms;
 use crate::datum::Datum;
 use crate::items::items;
-use crate::marking::marks;
-use crate::names::{counter_names, function_names, task_names};
+use crate::names::image_names;
 use crate::symbols::symbols;
-use crate::writing::{write_blocks, write_data};
+use crate::writing::write_data;
+use image_pieces::{marks, write_blocks};
 use mem_map::data_zone;
 use rv32_instr::{Block, Instr};
 use sloth_base::app::App;
@@ -148,6 +148,23 @@ fn all_data(alloc: Global, config: &Config, app: &App, map: &Map) -> Result<Vec<
     Ok(all)
 }
 
+// The memory and the marks of well-formed task code by its map.
+fn link_memory(
+    alloc: Global,
+    blocks: &[Block],
+    app: &App,
+    config: &Config,
+    map: &Map,
+) -> Result<Linked, NoMemory>
+    requires { MayLink config.now app.now map.now blocks.now }
+    ensures { IfOk result (λ linked. HasMemory config.now app.now map.now blocks.now linked.memory linked.marks) }
+{
+    let items = items(alloc, app, &map.places)?;
+    let data = all_data(alloc, config, app, map)?;
+    let linked = link_all(alloc, blocks, &items, &data, memory_size(map))?;
+    Ok(linked)
+}
+
 /// The image of well-formed task code by its map: the blocks of routines at their addresses, each item at its address with its mark, each
 /// symbol's bytes at its address, the time and the cycle of each alarm in its words, and zeros elsewhere; the marks of the blocks and items by
 /// rising addresses; and the names.
@@ -173,13 +190,12 @@ pub fn link(
     ensures functions { IfOk result (λ image. image.funcs ≡ function_names app.now) }
     ensures counters { IfOk result (λ image. image.counters ≡ counter_names config.now) }
 {
-    let items = items(alloc, app, &map.places)?;
-    let data = all_data(alloc, config, app, map)?;
-    let linked = link_all(alloc, blocks, &items, &data, memory_size(map))?;
+    let linked = link_memory(alloc, blocks, app, config, map)?;
+    let names = image_names(alloc, config, app)?;
     Ok(Image {
-        tasks: task_names(alloc, config)?,
-        funcs: function_names(alloc, app)?,
-        counters: counter_names(alloc, config)?,
+        tasks: names.tasks,
+        funcs: names.functions,
+        counters: names.counters,
         memory: linked.memory,
         marks: linked.marks,
     })

@@ -51,3 +51,27 @@ pub fn function_names(alloc: Global, app: &App) -> Result<List<Name>, NoMemory>
     }
     Ok(List::from_vec(names))
 }
+
+/// All names of an image.
+#[derive(Drop)]
+pub struct ImageNames {
+    pub tasks: List<Name>,
+    pub functions: List<Name>,
+    pub counters: List<Name>,
+}
+
+/// The names of the tasks, of the functions and of the counters.
+pub fn image_names(alloc: Global, config: &Config, app: &App) -> Result<ImageNames, NoMemory>
+    ensures tasks { IfOk result (λ names. names.tasks ≡ task_names config.now) }
+    ensures functions { IfOk result (λ names. names.functions ≡ function_names app.now) }
+    ensures counters { IfOk result (λ names. names.counters ≡ counter_names config.now) }
+{
+    let tasks = task_names(alloc, config)?;
+    let functions = function_names(alloc, app)?;
+    let counters = counter_names(alloc, config)?;
+    Ok(ImageNames {
+        tasks,
+        functions,
+        counters,
+    })
+}

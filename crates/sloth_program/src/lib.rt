@@ -26,14 +26,18 @@ fn words(rt: &(impl Env + AllocGlobal)) -> Result<Vec<String>, Status> {
     Ok(words)
 }
 
-/// Runs the command of the program's words, and answers with the number of its status.
-pub fn run_program(rt: &(impl Env + Files + Print + AllocGlobal)) -> ExitCode {
-    let words = match words(rt) {
-        Ok(words) => words,
-        Err(status) => return ExitCode::from(status.code()),
-    };
+/// Runs the command of these words.
+pub fn run_words(rt: &(impl Files + Print + AllocGlobal), words: &[String]) -> Status {
     let mut files = FileStore::new(rt);
     let mut out = OutSink::new(rt);
-    let status = sloth_top(rt.alloc(), words.as_slice(), &mut files, &mut out);
+    sloth_top(rt.alloc(), words, &mut files, &mut out)
+}
+
+/// Runs the command of the program's words, and answers with the number of its status.
+pub fn run_program(rt: &(impl Env + Files + Print + AllocGlobal)) -> ExitCode {
+    let status = match words(rt) {
+        Ok(words) => run_words(rt, words.as_slice()),
+        Err(status) => status,
+    };
     ExitCode::from(status.code())
 }

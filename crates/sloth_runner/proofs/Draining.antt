@@ -11,29 +11,8 @@ use Rattle.trace_text.specs.declared.printing.Form.TheVariants as form
 use Rattle.trace_text.proofs.Appends.{text_after-append}
 use Rattle.observe.specs.declared.observing.Observer.{Observer}
 use Rattle.observe.specs.Progress.{Fed, remaining, view_of, arrivals_of, expected_count}
-use Rattle.sloth_runner.specs.Runner.{HandsOut, HandingOut, Draining}
-
-pub handing-init : (o : Observer) → HandingOut o o
-handing-init o = record { view = refl; arrivals = refl; expected = refl; fed = λ steps events f. (events, f, refl) }
-
--- one event more was handed out
-pub handing-more : (o0 o p : Observer) (e : Stamped) → HandingOut o0 o → remaining o ≡ e ∷ remaining p → view_of p ≡ view_of o → arrivals_of p ≡ arrivals_of o
-    → expected_count p ≡ expected_count o → ((steps : List Step) (events : List Stamped) → Fed o steps events → Fed p steps (events ++ e ∷ [])) → HandingOut o0 p
-handing-more o0 o p e h head view arrivals expected fed = record {
-  view = view ∙ h.view;
-  arrivals = arrivals ∙ h.arrivals;
-  expected = expected ∙ h.expected;
-  fed = λ steps events f. let q = h.fed steps events f in
-      (q.0 ++ e ∷ [], fed steps q.0 q.1, append_assoc q.0 (e ∷ []) (remaining p) ∙ ap (λ es. q.0 ++ es) (sym head) ∙ q.2);
-}
-
--- all were handed out
-pub handed-out : (o0 o : Observer) → HandingOut o0 o → remaining o ≡ [] → HandsOut o0 o
-handed-out o0 o h none steps events f =
-    let q = h.fed steps events f in
-    let same : q.0 ≡ events ++ remaining o0 = sym (append-nil q.0) ∙ ap (λ es. q.0 ++ es) (sym none) ∙ q.2 in
-    let P : List Stamped → Type 0 = λ es. Fed o steps es in
-    subst P same q.1
+use Rattle.run_moments.proofs.Handing.{handing-init, handing-more}
+use Rattle.sloth_runner.specs.Runner.{Draining}
 
 pub draining-init : (image : Image) (form : Form) (idle : Bool) (o : Observer) (t : Output) → Draining image form idle o idle o t t
 draining-init image form idle o t = record {

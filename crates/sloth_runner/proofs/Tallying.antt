@@ -1,5 +1,5 @@
 -- The numbers of events of each kind.
-use Rattle.std.proofs.Common.{◌≡◌, ◌∙◌, ⊎_elim, ℕ, suc, ◌+◌, ◌<◌, ◌≤◌, ◌^◌, List, [], ◌∷◌, ◌++◌, length, get_or, set, length-append, append_assoc, append-nil, arith, sym, ap, subst}
+use Rattle.std.proofs.Common.{◌≡◌, ◌∙◌, ⊎_elim, ℕ, ◌+◌, ◌<◌, ◌≤◌, ◌^◌, List, [], ◌∷◌, ◌++◌, length, get_or, set, length-append, append_assoc, append-nil, arith, sym, ap}
 use Rattle.std.specs.Prelude.{◌==◌, cond, slice_index}
 use Rattle.std.specs.List.{All}
 use Rattle.std.proofs.lemmas.List.{ext_get_or, get_or-set_same, get_or-set_other, length-set}
@@ -12,7 +12,7 @@ use Rattle.sloth_base.specs.declared.event.Stamped.{Stamped}
 use Rattle.trace_text.specs.Summary.{kind_of, count_of_kind, counts_of}
 use Rattle.observe.specs.Progress.{remaining}
 use Rattle.sim_induction.specs.Sound.{events_of}
-use Rattle.sloth_runner.specs.Tally.{counts_with_one, counts_with}
+use Rattle.run_moments.specs.Moments.{counts_with_one, counts_with}
 use Rattle.sloth_runner.specs.Runner.{Advanced, Adds, Ran, image_of, given_arrivals, count_of}
 use Rattle.sloth_runner.specs.declared.runner.Runner.{Runner}
 use Rattle.sloth_runner.proofs.Running.{adds-at}
@@ -60,25 +60,6 @@ counts-small : (events : List Stamped) (more most : ℕ) → length events + mor
 counts-small events more most h k d l =
     let is = at events k d l in
     let few = count_by-le-length (λ (e : Stamped). kind_of e.event == k) events in omega (arith, is, few, h)
-
--- one number grows by one, and one event less is left
-room-more : (counts : List ℕ) (k more most : ℕ) → k < length counts → All (λ number. number + suc more < most) counts
-    → All (λ number. number + more < most) (set counts k (slice_index counts k + 1))
-room-more counts k more most below h i d l =
-    let v = slice_index counts k + 1 in
-    let size = length-set counts k v in
-    let P : ℕ → Type 0 = λ number. number + more < most in
-    let here = h k 0 below in
-    ⊎_elim
-    (λ yes. subst P (sym (ap (λ j. get_or (set counts k v) j d) (sym yes.1) ∙ get_or-set_same counts k v d below)) (omega (arith, here)))
-    (λ no. let there = h i d (omega (arith, l, size)) in subst P (sym (get_or-set_other counts k i v d (λ q. no.1 (sym q)))) (omega (arith, there)))
-    (eqb_tells k i)
-
-pub next-room : (counts : List ℕ) (k : ℕ) (before after : List Stamped) (e : Stamped) → k < length counts → before ≡ e ∷ after
-    → All (λ number. number + length before < 2 ^ 32) counts → All (λ number. number + length after < 2 ^ 32) (set counts k (slice_index counts k + 1))
-next-room counts k before after e below head h =
-    let P : List Stamped → Type 0 = λ es. All (λ number. number + length es < 2 ^ 32) counts in
-    room-more counts k (length after) (2 ^ 32) below (subst P head h)
 
 -- the events of an instruction that was done, in terms of what the run began with
 pub adds-of : (r0 r p : Runner) (k : ℕ) → Ran r0 r k → Advanced r p → given_arrivals p ≡ given_arrivals r → Adds (image_of r0) (given_arrivals r0) k (remaining p.observer)

@@ -19,7 +19,7 @@ use Rattle.observe.proofs.Growing.{observe-nothing}
 use Rattle.rv32_machine.specs.Start.{start}
 use Rattle.rv32_machine.specs.Advance.{Outcome, Goes, advance}
 use Rattle.rv32_machine.specs.declared.machine.Machine.{Machine}
-use Rattle.rv32_machine.specs.declared.sloth.SlothBus.{SlothBus}
+use Rattle.machine_memory.specs.declared.sloth.SlothBus.{SlothBus}
 use Rattle.rv32_machine.specs.Run.{Moment, moment, moment_of, state_with_arrivals, run, run_from, steps_of, state_after}
 use Rattle.sim_induction.specs.Sound.{events_of}
 use Rattle.sloth_runner.specs.Runner.{AreLines, HasRun, HasDone, HasArrived, HasExecuted, HandsOut, Advanced, Adds, IsRunning, image_of, given_arrivals, count_of, sloth_state, run_steps}

@@ -1,6 +1,5 @@
 -- A runner, between two instructions of its run.
-use Rattle.std.specs.Prelude.{ℕ, ◌≡◌, ◌+◌, ◌<◌, List, All, [], ◌∷◌, ◌++◌, Option, Some, None, Bool, false}
-use Rattle.sloth_base.specs.Machine.{State}
+use Rattle.std.specs.Prelude.{ℕ, ◌≡◌, ◌+◌, List, [], ◌∷◌, ◌++◌, Option, Some, None, Bool, false}
 use Rattle.sloth_base.specs.ImageRange.{InFormat}
 use Rattle.sloth_base.specs.Arrivals.{AreArrivals}
 use Rattle.sloth_base.specs.declared.image.Image.{Image}
@@ -16,13 +15,12 @@ use Rattle.observe.specs.declared.observing.Observer.{Observer}
 use Rattle.sim_induction.specs.Sound.{events_of}
 use Rattle.rv32_machine.specs.Start.{start}
 use Rattle.rv32_machine.specs.Advance.{Goes, Halts, advance}
-use Rattle.rv32_machine.specs.State.{state}
-use Rattle.rv32_machine.specs.declared.machine.Machine.{Machine}
-use Rattle.rv32_machine.specs.declared.sloth.SlothBus.{SlothBus}
+use Rattle.machine_memory.specs.declared.sloth.SlothBus.{SlothBus}
 use Rattle.sloth_base.specs.Take.{execution_state}
 use Rattle.sloth_base.specs.Owners.{owners_named}
 use Rattle.rv32_instr.specs.declared.stop.Stop.{Stop}
 use Rattle.rv32_machine.specs.Run.{Stopping, moment, state_with_arrivals, run, steps_of, state_after, stop_of}
+pub use Rattle.run_moments.specs.Moments.{AreLines, HandingOut, HandsOut, sloth_state}
 use Rattle.sloth_runner.specs.declared.runner.Halt.{Halt}
 use Rattle.sloth_runner.specs.declared.runner.Printer.{Printer}
 use Rattle.sloth_runner.specs.declared.runner.Runner.{Runner}
@@ -54,18 +52,6 @@ run_end image arrivals n = end_of (stop_of n arrivals (start image))
 abbrev pub lines_of : Printer → List Stamped → List ℕ
 lines_of printer events = text_after printer.image.now printer.form printer.after_idle events
 
--- all finished events were handed out
-abbrev pub HandsOut : Observer → Observer → Type 0
-HandsOut old new = (steps : List Step) (events : List Stamped) → Fed old steps events → Fed new steps (events ++ remaining old)
-
--- on the way from one observer to another some of them were handed out
-pub record HandingOut (o0 o : Observer) : Type 0 where
-  pub view : view_of o ≡ view_of o0
-  pub arrivals : arrivals_of o ≡ arrivals_of o0
-  pub expected : expected_count o ≡ expected_count o0
-  pub fed : (steps : List Step) (events : List Stamped) → Fed o0 steps events
-      → (front : List Stamped) × Fed o steps front × (front ++ remaining o ≡ events ++ remaining o0)
-
 -- and their lines were put
 pub record Draining (image : Image) (form : Form) (idle : Bool) (o0 : Observer) (last : Bool) (o : Observer) (t0 t : Output) : Type 0 where
   pub done : List ℕ
@@ -75,10 +61,6 @@ pub record Draining (image : Image) (form : Form) (idle : Bool) (o0 : Observer) 
   pub hands : HandingOut o0 o
 
 -- ---- a runner
-
--- the state of its machine
-abbrev pub sloth_state : Machine SlothBus → State
-sloth_state machine = state (λ bus. bus) machine
 
 -- the image that it runs
 abbrev pub image_of : Runner → Image
@@ -91,10 +73,6 @@ given_arrivals runner = arrivals_of runner.observer
 -- how many instructions are done
 abbrev pub count_of : Runner → ℕ
 count_of runner = runner.count
-
--- each line is one of the controller's 32
-abbrev pub AreLines : List Arrival → Type 0
-AreLines arrivals = All (λ arrival. arrival.line < 32) arrivals
 
 -- k instructions are done on its machine
 pub record HasRun (runner : Runner) (image : Image) (k : ℕ) : Type 0 where

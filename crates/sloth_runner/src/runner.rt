@@ -1,15 +1,15 @@
 //! Runs an image, and prints what is observed.
-ghost use Rattle.std.specs.Prelude.{◌≡◌, ◌<◌, ◌≤◌, ◌∷◌, [], OnOk, OnErr, map, IfOk, IfErr, IfSome, IfNone, OnSome, length};
+ghost use Rattle.std.specs.Prelude.{◌≡◌, ◌<◌, ◌≤◌, ◌∷◌, [], OnOk, OnErr, IfOk, IfErr, IfSome, IfNone, OnSome, length};
 ghost use Rattle.sloth_base.specs.ImageRange.{InFormat};
 ghost use Rattle.sloth_base.specs.Arrivals.{AreArrivals};
 ghost use Rattle.sloth_base.specs.Owners.{owners_named};
-ghost use Rattle.sloth_base.specs.Arrive.{state_arrive};
 ghost use Rattle.sloth_io.specs.Sink.{output_with, GainsPart};
 ghost use Rattle.trace_text.specs.Texts.{ends_idle, is_idle};
 ghost use Rattle.observe.specs.Progress.{remaining, view_of, arrivals_of, expected_count, arrivals_due};
-ghost use Rattle.sloth_runner.specs.Runner.{AreLines, sloth_state, lines_of, HandsOut};
+ghost use Rattle.sloth_runner.specs.Runner.{lines_of, HandsOut};
 
 use observe::{Observer, passing};
+use run_moments::arrivals::arrive_front;
 use rv32_machine::{Machine, SlothBus, Step, Stop, blank_step};
 use sloth_base::event::{Arrival, Event, Stamped};
 use sloth_base::image::Image;
@@ -20,7 +20,7 @@ use trace_text::print;
 use trace_text::printing::Form;
 
 /// How a run ended: after all its instructions, or before an instruction at `pc` that the machine stops at.
-#[derive(Clone, Copy, Debug, PartialEq, Eq)]
+#[derive(Clone, Copy)]
 pub enum RunEnd {
     Whole,
     Stopped { pc: u32, stop: Stop },
@@ -89,17 +89,6 @@ impl<'a> Printer<'a> {
     }
 }
 
-// The lines of these arrivals become pending.
-fn arrive(machine: &mut Machine<SlothBus>, arrivals: &[Arrival])
-    requires { AreLines arrivals.now }
-    ensures state { sloth_state machine.new ≡ state_arrive (map (λ arrival. arrival.line) arrivals.now) (sloth_state machine.old) }
-    ensures count { machine.new.count ≡ machine.old.count }
-{
-    for arrival in arrivals {
-        machine.arrive(arrival.line);
-    }
-}
-
 /// An image in its run. It keeps the image and the arrivals, lent.
 #[derive(Drop)]
 pub struct Runner<'a> {
@@ -163,9 +152,7 @@ impl<'a> Runner<'a> {
         ensures image { image_of self.new ≡ image_of self.old }
         ensures observer { self.new.observer ≡ self.old.observer }
     {
-        let (here, behind) = self.coming.split_at(due);
-        self.coming = behind;
-        arrive(&mut self.machine, here);
+        self.coming = arrive_front(&mut self.machine, self.coming, due);
     }
 
     // One instruction, unless the machine stops at it. Its record is kept.

@@ -1,27 +1,18 @@
 //! The states of the tasks at a count of a run.
 ghost use Rattle.std.specs.Prelude.{◌≡◌, ◌<◌, ◌≤◌, length};
-ghost use Rattle.sloth_inspect.specs.States.{states_in, running_number_in};
 ghost use Rattle.sloth_runner.specs.Runner.{sloth_state};
 ghost use Rattle.sloth_runner.specs.Sight.{sight_at, pending_counters_in, interrupts_in, task_levels};
 
 use crate::runner::Runner;
-use osek_scheduler::state::TaskState;
+pub use run_moments::looks::Seen;
+use run_moments::looks::{instructions_through, look};
 use rv32_machine::{SlothBus, Stop};
 use sloth_base::lines::COUNTER_LINE;
 use sloth_base::numbers::Line;
-use sloth_inspect::{TASKS, levels, pending, running, states};
-
-/// The states of the tasks at a count, in 30 places.
-#[derive(Clone, Copy, Debug, PartialEq, Eq)]
-pub struct Seen {
-    pub count: u32,
-    pub tasks: [TaskState; TASKS],
-    /// The number of the running task and 1 more, or 0 where none runs.
-    pub running: u32,
-}
+use sloth_inspect::{TASKS, levels, pending};
 
 /// What the machine shows of interrupts at a count.
-#[derive(Clone, Copy, Debug, PartialEq, Eq)]
+#[derive(Clone, Copy)]
 pub struct Interrupts {
     /// Whether each task's line is pending, in 30 places.
     pub pending: [bool; TASKS],
@@ -37,7 +28,7 @@ pub struct Interrupts {
 pub const COUNTERS: usize = 2;
 
 /// What a run shows of its tasks.
-#[derive(Clone, Copy, Debug, PartialEq, Eq)]
+#[derive(Clone, Copy)]
 pub enum Sight {
     /// At the last count that finds interrupts open.
     At(Seen),
@@ -45,19 +36,6 @@ pub enum Sight {
     Booting,
     /// The machine stops before the last instruction.
     Stopped { pc: u32, stop: Stop },
-}
-
-// What memory and the controller show of so many tasks, at a count.
-fn seen_of(bus: &mut SlothBus, count: u32, tasks: u32) -> Seen
-    requires { tasks ≤ 30 }
-    ensures is { result ≡ record { count = count; tasks = states_in bus.old tasks; running = running_number_in bus.old } }
-    ensures same { bus.new ≡ bus.old }
-{
-    Seen {
-        count,
-        tasks: states(bus, tasks),
-        running: running(bus),
-    }
 }
 
 // Whether the line of each counter is pending.
@@ -80,11 +58,8 @@ impl<'a> Runner<'a> {
         ensures seen { result ≡ sight_at (image_of self.old) (count_of self.old) (sloth_state self.old.machine) }
         ensures same { self.new ≡ self.old }
     {
-        if !self.machine.enabled() {
-            return None;
-        }
         let tasks = self.image.tasks.items().len() as u32;
-        Some(seen_of(self.machine.bus_mut(), self.count, tasks))
+        look(&mut self.machine, self.count, tasks)
     }
 
     /// What the machine shows of interrupts.
@@ -118,8 +93,9 @@ impl<'a> Runner<'a> {
         requires few { k < 1000000 }
         ensures { IsSight (image_of self.old) (given_arrivals self.old) k result }
     {
+        let n = instructions_through(k);
         let mut last = None;
-        while self.count <= k {
+        while self.count < n {
             self.arrive_now();
             last = self.look().or(last);
             if let Err(halt) = self.execute() {

@@ -1,35 +1,17 @@
 //! Counts what is observed of a run.
-ghost use Rattle.std.specs.Prelude.{◌≡◌, ◌<◌, ◌≤◌, ◌+◌, ◌^◌, [], All, length};
+ghost use Rattle.std.specs.Prelude.{◌≡◌, ◌≤◌};
 ghost use Rattle.sim_induction.specs.Sound.{events_of};
-ghost use Rattle.observe.specs.Progress.{remaining, view_of, arrivals_of, expected_count};
 ghost use Rattle.trace_text.specs.Summary.{counts_of};
-ghost use Rattle.sloth_runner.specs.Runner.{HandsOut};
-ghost use Rattle.sloth_runner.specs.Tally.{counts_with};
 
 use crate::runner::{RunEnd, Runner};
-use observe::Observer;
-use trace_text::summary::{KINDS, kind_of};
+use run_moments::counting::count_events;
+use trace_text::summary::KINDS;
 
 /// The numbers of the events of each kind, in the order of the summary, and how the run ended.
-#[derive(Clone, Copy, Debug, PartialEq, Eq)]
+#[derive(Clone, Copy)]
 pub struct Tally {
     pub counts: [u32; KINDS],
     pub end: RunEnd,
-}
-
-// Counts all finished events.
-fn count_events(observer: &mut Observer, counts: &mut [u32; KINDS])
-    requires room { All (λ number. number + length (remaining observer.old) < 2 ^ 32) counts.old }
-    ensures counts { counts.new ≡ counts_with counts.old (remaining observer.old) }
-    ensures drained { remaining observer.new ≡ [] }
-    ensures fed { HandsOut observer.old observer.new }
-    ensures view { view_of observer.new ≡ view_of observer.old }
-    ensures arrivals { arrivals_of observer.new ≡ arrivals_of observer.old }
-    ensures expected { expected_count observer.new ≡ expected_count observer.old }
-{
-    while let Some(event) = observer.next() {
-        counts[kind_of(&event.event)] += 1;
-    }
 }
 
 impl<'a> Runner<'a> {

@@ -23,7 +23,7 @@ use Rattle.oil_rules.specs.TreeFaults.{InnerFault, ObjectFault, TreeFault}
 use Rattle.oil_rules.specs.declared.table.Place.{Place}
 use Rattle.oil_rules.specs.declared.table.Place.TheVariants.{Alarm}
 use Rattle.oil_rules.specs.Table.{place_of, block_place}
-use Rattle.oil_alarms.specs.declared.limits.Limits.{Limits}
+use Rattle.alarm_limits.specs.declared.limits.Limits.{Limits}
 use Rattle.oil_alarms.specs.Limits.{limits_of}
 use Rattle.oil_alarms.specs.Blocks.{BlockText, blocks_of}
 use Rattle.oil_alarms.specs.AlarmFaults.{InsideFault, BlockFault, PartFault, AlarmFault}

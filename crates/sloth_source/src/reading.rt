@@ -10,9 +10,8 @@ use sloth_base::app::App;
 use sloth_base::config::Config;
 use sloth_base::places::Bounds;
 use sloth_base::refusal::BuildError;
-use stack_bounds::bound;
 use std::alloc::Global;
-use task_verify::verify;
+use verified_bounds::bounds_of;
 
 /// A configuration and its task code, and the bytes of stack that its tasks may need.
 #[derive(Drop)]
@@ -34,8 +33,7 @@ pub fn read(alloc: Global, oil: &[u8], src: &[u8]) -> Result<Source, BuildError>
     ensures refused { IfErr result (ErrorIs oil.now src.now) }
 {
     let Ranked { config, app, ranks } = read_ranked(alloc, oil, src)?;
-    let verified = verify(alloc, &config, &app, &ranks)?;
-    let bounds = bound(alloc, &verified, &ranks)?;
+    let bounds = bounds_of(alloc, &config, &app, &ranks)?;
     Ok(Source {
         config,
         app,

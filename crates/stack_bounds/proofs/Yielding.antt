@@ -17,7 +17,7 @@ use Rattle.code_rules.specs.WellFormed.{WellFormed, HasEvents, UsesUndeclared, a
 use Rattle.call_graph.specs.declared.ranking.Ranks.{Ranks}
 use Rattle.call_graph.specs.Ranks.{RanksOf}
 use Rattle.stack_bounds.specs.Bounds.{IsBasic, ReachesSchedule, MayBePreempted}
-use Rattle.stack_bounds.specs.Tables.{gives_way}
+use Rattle.code_tables.specs.Tables.{gives_way}
 use Rattle.stack_bounds.proofs.Bodies.{has_body}
 
 module _ (config : Config) (app : App) (w : WellFormed config app) where

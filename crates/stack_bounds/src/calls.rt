@@ -1,36 +1,19 @@
 //! The most bytes that each function's calls need.
 ghost use Rattle.std.specs.Prelude.{◌≡◌, ℕ, ◌<◌, max, length, get_or, IfOk};
 ghost use Rattle.sloth_base.specs.Named.{no_item};
-ghost use Rattle.stack_bounds.specs.Tables.{bytes_called, most_called, table_entry, func_of, IsTable, IsKnown, IsSmall, AreCallable};
+ghost use Rattle.code_tables.specs.Tables.{most_called, table_entry, func_of, IsTable, IsKnown, IsSmall, AreCallable};
 
-use sloth_base::app::{Func, Item, Op};
+use code_tables::calls::bytes_called;
+use sloth_base::app::{Func, Item};
 use sloth_base::memory::NoMemory;
 use std::alloc::Global;
-
-/// The bytes of a word, and of a return address.
-const WORD: u32 = 4;
+use text_pieces::growth::push;
 
 /// The larger of two numbers.
 pub fn larger(one: u32, other: u32) -> u32
     ensures { result ≡ max one other }
 {
     if one < other { other } else { one }
-}
-
-/// The bytes of the call that an operation may be, with the calls that the function then makes by the table.
-fn bytes_called(funcs: &[Func], table: &[u32], op: Op) -> u32
-    requires known { IsKnown funcs.now op }
-    requires frames { AreCallable funcs.now }
-    requires small { IsSmall funcs.now table.now }
-    ensures { result ≡ bytes_called funcs.now (table_entry table.now) op }
-{
-    match op {
-        Op::Invoke { func } => {
-            let callee = func.0 as usize;
-            WORD + WORD * funcs[callee].frame_words + table[callee]
-        }
-        _ => 0,
-    }
 }
 
 /// The most bytes of calls by one of these items.
@@ -70,7 +53,7 @@ fn no_calls(alloc: Global, count: usize) -> Result<Vec<u32>, NoMemory>
 {
     let mut table = Vec::new(alloc);
     for _number in 0..count {
-        table.push(0).map_err(|_| NoMemory)?;
+        push(&mut table, 0)?;
     }
     Ok(table)
 }

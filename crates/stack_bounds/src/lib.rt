@@ -8,6 +8,7 @@ ghost use Rattle.stack_bounds.specs.Bounds.{AreBounds};
 mod calls;
 mod shared;
 mod stacking;
+pub mod task_bodies;
 mod tasks;
 
 use crate::calls::most_calls;

@@ -4,10 +4,10 @@ ghost use Rattle.code_rules.specs.WellFormed.{WellFormed};
 ghost use Rattle.call_graph.specs.Ranks.{RanksOf};
 ghost use Rattle.stack_bounds.specs.Bounds.{AreBounds, AreParts};
 
-use crate::shared::offsets_of_tasks;
 use crate::tasks::yielding_tasks;
 use call_graph::ranking::Ranks;
 use call_graph::ranks;
+use code_tables::shared::offsets_of_tasks;
 use sloth_base::app::App;
 use sloth_base::config::Config;
 use sloth_base::memory::NoMemory;
@@ -27,6 +27,25 @@ fn reached(alloc: Global, config: &Config, app: &App) -> Result<Ranks, NoMemory>
     }
 }
 
+// The parts, by the ranks of the functions.
+fn offsets_by(
+    alloc: Global,
+    config: &Config,
+    app: &App,
+    ranks: &Ranks,
+    bounds: &Bounds,
+) -> Result<Vec<u32>, NoMemory>
+    requires well_formed { WellFormed config.now app.now }
+    requires belong { RanksOf app.now ranks.now }
+    requires bounds { AreBounds config.now app.now bounds.now }
+    ensures { IfOk result (λ offsets. AreParts config.now app.now bounds.now offsets.items) }
+{
+    let tasks = config.tasks.items();
+    let funcs = app.funcs.items();
+    let yielding = yielding_tasks(alloc, tasks, funcs, ranks.pauses.items())?;
+    offsets_of_tasks(alloc, tasks, &yielding, bounds.bytes.items())
+}
+
 /// For each basic task the bytes from the end of its part to the end of the stack that all basic tasks share, and 0 for an extended one.
 pub fn offsets(
     alloc: Global,
@@ -39,8 +58,5 @@ pub fn offsets(
     ensures { IfOk result (λ offsets. AreParts config.now app.now bounds.now offsets.items) }
 {
     let ranks = reached(alloc, config, app)?;
-    let tasks = config.tasks.items();
-    let funcs = app.funcs.items();
-    let yielding = yielding_tasks(alloc, tasks, funcs, ranks.pauses.items())?;
-    offsets_of_tasks(alloc, tasks, &yielding, bounds.bytes.items())
+    offsets_by(alloc, config, app, &ranks, bounds)
 }

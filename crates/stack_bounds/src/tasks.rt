@@ -1,9 +1,9 @@
 //! What each task needs for itself, and which tasks may be preempted.
 ghost use Rattle.std.specs.Prelude.{◌≡◌, ℕ, ◌<◌, false, length, get_or, IfOk};
-ghost use Rattle.sloth_base.specs.Options.{is_number};
 ghost use Rattle.sloth_base.specs.Named.{body_of};
-ghost use Rattle.stack_bounds.specs.Tables.{AreCallable, HasBody, IsSmall, task_at, task_bytes, gives_way};
+ghost use Rattle.code_tables.specs.Tables.{AreCallable, HasBody, IsSmall, task_at, task_bytes, gives_way};
 
+use crate::task_bodies::body_of;
 use sloth_base::app::Func;
 use sloth_base::config::TaskDecl;
 use sloth_base::memory::NoMemory;
@@ -14,29 +14,6 @@ const WORD: u32 = 4;
 
 /// The bytes of a context, 32 words: where a task goes on, what was below it, and its registers.
 const CONTEXT: u32 = 128;
-
-fn belongs_to(func: &Func, task: usize) -> bool
-    ensures { result ≡ is_number task func.now.task }
-{
-    match func.task {
-        Some(owner) => owner.0 as usize == task,
-        None => false,
-    }
-}
-
-/// The number of the task's body. There is one.
-fn body_of(funcs: &[Func], task: usize) -> usize
-    requires { HasBody funcs.now task }
-    ensures is { result ≡ body_of funcs.now task }
-    ensures known { result < length funcs.now }
-{
-    for (number, func) in funcs.iter().enumerate() {
-        if belongs_to(func, task) {
-            return number;
-        }
-    }
-    funcs.len()
-}
 
 /// The bytes of each task: the frame of its body, the calls that need most, and a context.
 pub fn bytes_of_tasks(

@@ -1,8 +1,1 @@
-pub mod Lists
-pub mod Paths
-pub mod Searches
-pub mod Tests
-pub mod Labelled
-pub mod Parts
 pub mod Acyclic
-pub mod Tested

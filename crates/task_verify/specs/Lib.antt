@@ -1,5 +1,1 @@
-pub mod Tests
-pub mod Labels
-pub mod Ways
-pub mod Cases
 pub mod Accepted

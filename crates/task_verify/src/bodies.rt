@@ -1,48 +1,18 @@
 //! V2 to V12 of task code, body by body.
-ghost use Rattle.std.specs.Prelude.{◌≡◌, ◌<◌, length, IfOk};
+ghost use Rattle.std.specs.Prelude.{IfOk};
 ghost use Rattle.least_fault.specs.Search.{Finds};
 ghost use Rattle.code_rules.specs.AppRange.{AppInRange};
-ghost use Rattle.sloth_base.specs.Named.{function};
-ghost use Rattle.code_rules.specs.WellFormed.{BodyFault, RuleFault};
+ghost use Rattle.code_rules.specs.WellFormed.{RuleFault};
 ghost use Rattle.call_graph.specs.Ranks.{RanksOf};
 
-use crate::items::item_faults;
-use crate::labels::label_faults;
-use crate::walk::held_faults;
+use body_faults::faults::body_fault;
 use call_graph::ranking::Ranks;
-use least_fault::{merge, when};
-use sloth_base::app::{App, Func};
+use least_fault::merge;
+use sloth_base::app::App;
 use sloth_base::config::Config;
 use sloth_base::memory::NoMemory;
-use sloth_base::refusal::{Code, Part, Refusal};
+use sloth_base::refusal::Refusal;
 use std::alloc::Global;
-
-fn body_fault(
-    alloc: Global,
-    config: &Config,
-    app: &App,
-    ranks: &Ranks,
-    body: usize,
-    func: &Func,
-) -> Result<Option<Refusal>, NoMemory>
-    requires in_range { AppInRange config.now app.now }
-    requires belong { RanksOf app.now ranks.now }
-    requires known { body < length app.now.funcs }
-    requires is { func.now ≡ function app.now body }
-    ensures { IfOk result (Finds (BodyFault config.now app.now body)) }
-{
-    let users = u64::from(ranks.users.items()[body]);
-    let empty = when(
-        func.items.items().is_empty(),
-        Part::Src,
-        func.line,
-        Code::V5,
-    );
-    let labels = label_faults(alloc, func)?;
-    let items = item_faults(alloc, config, app, body, users, func)?;
-    let held = held_faults(alloc, config, app, ranks, func)?;
-    Ok(merge(empty, merge(labels, merge(items, held))))
-}
 
 /// The least of V2 to V12.
 pub fn judge(

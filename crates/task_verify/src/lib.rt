@@ -7,16 +7,8 @@ ghost use Rattle.code_rules.specs.AppRange.{AppInRange};
 ghost use Rattle.code_rules.specs.WellFormed.{RuleFault, WellFormed};
 ghost use Rattle.call_graph.specs.Ranks.{RanksOf};
 
-pub mod accesses;
 pub mod bodies;
-pub mod held;
-pub mod items;
-pub mod labels;
-pub mod reachable;
-pub mod tasks;
 pub mod verified;
-pub mod walk;
-pub mod ways;
 
 use crate::bodies::judge;
 use crate::verified::Verified;

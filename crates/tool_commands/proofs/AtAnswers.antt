@@ -17,8 +17,9 @@ use Rattle.sloth_runner.specs.declared.sight.Sight.{Sight}
 use Rattle.sloth_runner.specs.declared.sight.Sight.TheVariants as sight
 use Rattle.sloth_runner.proofs.Sighted.{one_sight}
 use Rattle.tool_commands.specs.AtAnswers.{IsShown, IsRefused, IsAtAnswer, sight_answer}
-use Rattle.tool_commands.specs.declared.answer.ToolAnswer.{ToolAnswer}
-use Rattle.tool_commands.specs.declared.answer.ToolAnswer.TheVariants as answer
+use Rattle.tool_commands.specs.RunAnswers.{AreRunInputs}
+use Rattle.tool_answers.specs.declared.answer.ToolAnswer.{ToolAnswer}
+use Rattle.tool_answers.specs.declared.answer.ToolAnswer.TheVariants as answer
 use Rattle.trace_command.proofs.Refused.{of-arrivals}
 
 -- what an answer of `at` is
@@ -82,12 +83,14 @@ at-image img arr k a h = by (at-view img arr k a h)
     by (AtView.refuses refusal e r) = inl (r.0, r.1)
 
 -- what a run shows of its tasks is the answer
-pub sight_is_answer : (img arr : List ℕ) (k : ℕ) (image : Image) (arrivals : List Arrival) (s : Sight) (a : ToolAnswer) → ImageText img image
-    → NoFault (ArrivalsFault image.tasks image.counters arr) → arrivals ≡ arrivals_in image.tasks image.counters arr → IsSight image arrivals k s → a ≡ sight_answer image s → IsAtAnswer img arr k a
-sight_is_answer img arr k image arrivals s a is none are seen at = subst (λ x. IsAtAnswer img arr k x) (sym at) (by s seen)
+pub sight_is_answer : (img arr : List ℕ) (k : ℕ) (image : Image) (arrivals : List Arrival) (s : Sight) (a : ToolAnswer) → AreRunInputs img arr image arrivals
+    → IsSight image arrivals k s → a ≡ sight_answer image s → IsAtAnswer img arr k a
+sight_is_answer img arr k image arrivals s a is seen at = subst (λ x. IsAtAnswer img arr k x) (sym at) (by s seen)
   where
     by : (x : Sight) → IsSight image arrivals k x → IsAtAnswer img arr k (sight_answer image x)
-    by (sight.At y) h = record { image = image; arrivals = arrivals; sight = sight.At y; is_image = is; no_fault = none; arrivals_are = are; seen = h; answer_is = refl }
-    by sight.Booting h = record { image = image; arrivals = arrivals; sight = sight.Booting; is_image = is; no_fault = none; arrivals_are = are; seen = h; answer_is = refl }
+    by (sight.At y) h =
+        record { image = image; arrivals = arrivals; sight = sight.At y; is_image = is.is_image; no_fault = is.no_fault; arrivals_are = is.arrivals_are; seen = h; answer_is = refl }
+    by sight.Booting h =
+        record { image = image; arrivals = arrivals; sight = sight.Booting; is_image = is.is_image; no_fault = is.no_fault; arrivals_are = is.arrivals_are; seen = h; answer_is = refl }
     by (sight.Stopped pc stop) h =
-        record { image = image; arrivals = arrivals; sight = sight.Stopped pc stop; is_image = is; no_fault = none; arrivals_are = are; seen = h; answer_is = refl }
+        record { image = image; arrivals = arrivals; sight = sight.Stopped pc stop; is_image = is.is_image; no_fault = is.no_fault; arrivals_are = is.arrivals_are; seen = h; answer_is = refl }

@@ -7,11 +7,11 @@ use Rattle.trace_command.specs.Answers.{IsJudged}
 use Rattle.trace_command.specs.Inputs.{IsRefusal}
 use Rattle.trace_command.proofs.One.{one_judged}
 use Rattle.trace_command.proofs.Refused.{not-refused, one-way}
-use Rattle.tool_commands.specs.CheckAnswers.{IsCheckAnswer, verdict_of}
-use Rattle.tool_commands.specs.declared.answer.ToolAnswer.{ToolAnswer}
-use Rattle.tool_commands.specs.declared.answer.ToolAnswer.TheVariants as answer
-use Rattle.tool_commands.specs.declared.answer.TraceFault.{TraceFault}
-use Rattle.tool_commands.specs.declared.answer.TraceFault.TheVariants as trace
+use Rattle.tool_answers.specs.CheckAnswers.{IsCheckAnswer, verdict_of}
+use Rattle.tool_answers.specs.declared.answer.ToolAnswer.{ToolAnswer}
+use Rattle.tool_answers.specs.declared.answer.ToolAnswer.TheVariants as answer
+use Rattle.tool_answers.specs.declared.answer.TraceFault.{TraceFault}
+use Rattle.tool_answers.specs.declared.answer.TraceFault.TheVariants as trace
 use Rattle.tool_commands.proofs.ElfAnswers.{same-outcome}
 
 no_fault : (f : TraceFault) → verdict.Yes ≡ verdict_of f → ⊥

@@ -16,9 +16,9 @@ use Rattle.sloth_runner.specs.declared.runner.RunEnd.TheVariants as ends
 use Rattle.tool_commands.specs.AtAnswers.{IsRefused}
 use Rattle.tool_commands.specs.Lines.{written_line}
 use Rattle.tool_commands.specs.RunAnswers.{AreRunInputs, IsDrawn, IsHalted, IsRunAnswer}
-use Rattle.tool_commands.specs.declared.answer.Outcome.{Outcome}
-use Rattle.tool_commands.specs.declared.answer.ToolAnswer.{ToolAnswer}
-use Rattle.tool_commands.specs.declared.answer.ToolAnswer.TheVariants as answer
+use Rattle.tool_answers.specs.declared.answer.Outcome.{Outcome}
+use Rattle.tool_answers.specs.declared.answer.ToolAnswer.{ToolAnswer}
+use Rattle.tool_answers.specs.declared.answer.ToolAnswer.TheVariants as answer
 use Rattle.tool_commands.proofs.AtAnswers.{one-refused}
 use Rattle.tool_commands.proofs.ElfAnswers.{same-outcome}
 

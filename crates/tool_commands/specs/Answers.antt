@@ -5,14 +5,14 @@ use Rattle.command_line.specs.declared.counts.Counts.{Counts}
 use Rattle.command_line.specs.declared.tool.Tool.{Tool}
 use Rattle.command_line.specs.declared.tool.Tool.TheVariants as tool
 use Rattle.tool_commands.specs.BoundsAnswers.{IsBoundsAnswer, IsLatencyAnswer}
-use Rattle.tool_commands.specs.CheckAnswers.{IsCheckAnswer}
+use Rattle.tool_answers.specs.CheckAnswers.{IsCheckAnswer}
 use Rattle.tool_commands.specs.ElfAnswers.{IsElfAnswer, IsUnelfAnswer}
 use Rattle.tool_commands.specs.InferAnswers.{IsInferAnswer}
 use Rattle.tool_commands.specs.AtAnswers.{IsAtAnswer}
 use Rattle.tool_commands.specs.MapAnswers.{IsMapAnswer}
 use Rattle.tool_commands.specs.PictureAnswers.{IsPictureAnswer}
 use Rattle.tool_commands.specs.WaveAnswers.{IsWaveAnswer}
-use Rattle.tool_commands.specs.declared.answer.ToolAnswer.{ToolAnswer}
+use Rattle.tool_answers.specs.declared.answer.ToolAnswer.{ToolAnswer}
 
 -- the bytes of a file, by its place in the order of the words
 abbrev pub input : List (List ℕ) → ℕ → List ℕ

@@ -11,8 +11,8 @@ use Rattle.sloth_runner.specs.Sight.{IsSight}
 use Rattle.sloth_runner.specs.declared.sight.Sight.{Sight}
 use Rattle.sloth_runner.specs.declared.sight.Sight.TheVariants as sight
 use Rattle.sight_text.specs.SightText.{seen_text}
-use Rattle.tool_commands.specs.declared.answer.ToolAnswer.{ToolAnswer}
-use Rattle.tool_commands.specs.declared.answer.ToolAnswer.TheVariants as answer
+use Rattle.tool_answers.specs.declared.answer.ToolAnswer.{ToolAnswer}
+use Rattle.tool_answers.specs.declared.answer.ToolAnswer.TheVariants as answer
 
 -- the answer to what a run of an image shows of its tasks
 abbrev pub sight_answer : Image → Sight → ToolAnswer

@@ -1,7 +1,6 @@
 pub mod Answers
 pub mod AtAnswers
 pub mod BoundsAnswers
-pub mod CheckAnswers
 pub mod ElfAnswers
 pub mod InferAnswers
 pub mod Lines

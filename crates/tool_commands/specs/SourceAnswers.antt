@@ -1,8 +1,8 @@
 -- The answers of tools that print what two texts, a configuration and its task code, mean: `bounds`, with and without `latency`, and `map`.
 use Rattle.std.specs.Prelude.{ℕ, ◌≡◌, List, []}
 use Rattle.sloth_source.specs.Texts.{FirstRefusal}
-use Rattle.tool_commands.specs.declared.answer.ToolAnswer.{ToolAnswer}
-use Rattle.tool_commands.specs.declared.answer.ToolAnswer.TheVariants as answer
+use Rattle.tool_answers.specs.declared.answer.ToolAnswer.{ToolAnswer}
+use Rattle.tool_answers.specs.declared.answer.ToolAnswer.TheVariants as answer
 
 -- lines of which this is said, or the first refusal
 abbrev pub IsSourceAnswer : (Says : List ℕ → Type 0) (oil src : List ℕ) → ToolAnswer → Type 0

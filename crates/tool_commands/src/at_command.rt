@@ -1,24 +1,22 @@
 //! The command `at`.
-ghost use Rattle.std.specs.Prelude.{◌≡◌, ◌≤◌, IfOk, length};
+ghost use Rattle.std.specs.Prelude.{◌≡◌, ◌≤◌, ℕ, List as Sequence, IfOk, length};
 ghost use Rattle.sloth_base.specs.ImageRange.{InFormat};
 ghost use Rattle.sloth_base.specs.Arrivals.{AreArrivals};
 ghost use Rattle.sloth_base.specs.Owners.{owners_named};
 ghost use Rattle.sloth_runner.specs.Sight.{IsSight};
 ghost use Rattle.tool_commands.specs.AtAnswers.{IsAtAnswer, sight_answer};
+ghost use Rattle.tool_commands.specs.RunAnswers.{AreRunInputs};
 
-use crate::answer::{Outcome, ToolAnswer};
-use image_file::fault::ImageError;
-use image_file::read_image;
+use crate::run_inputs::{RunInputs, Unread, read_run};
 use sight_text::seen_text;
 use sloth_base::event::Arrival;
 use sloth_base::image::Image;
 use sloth_base::list::List;
 use sloth_base::memory::NoMemory;
-use sloth_base::refusal::BuildError;
 use sloth_runner::runner::Runner;
 use sloth_runner::sight::Sight;
 use std::alloc::Global;
-use trace_text::read_arrivals;
+use tool_answers::answer::{Outcome, ToolAnswer};
 
 // The answer to what a run of an image shows of its tasks.
 fn sight_answer(alloc: Global, image: &Image, sight: &Sight) -> Result<ToolAnswer, NoMemory>
@@ -52,24 +50,29 @@ fn sight_of(alloc: Global, image: &Image, arrivals: &[Arrival], k: u32) -> Resul
     Ok(runner.state_at(k))
 }
 
-/// The states of the tasks at the last count up to k, in the run of an image file with arrivals, that finds interrupts open.
+// The answer to an image and arrivals that were read.
 #[tactic(auto, using(crate::proofs::AtAnswers::sight_is_answer))]
+fn seen_of(alloc: Global, run: &RunInputs, k: u32) -> Result<ToolAnswer, NoMemory>
+    requires format { InFormat run.now.image }
+    requires arrivals { AreArrivals (owners_named run.now.image) run.now.arrivals.items }
+    requires k { k ≤ 999999 }
+    ensures { (img arr : Sequence ℕ) → AreRunInputs img arr run.now.image run.now.arrivals.items → IfOk result (λ answer. IsAtAnswer img arr k answer) }
+{
+    let sight = sight_of(alloc, &run.image, run.arrivals.as_slice(), k)?;
+    let answer = sight_answer(alloc, &run.image, &sight)?;
+    Ok(answer)
+}
+
+/// The states of the tasks at the last count up to k, in the run of an image file with arrivals, that finds interrupts open.
 pub fn at(alloc: Global, img: &[u8], arr: &[u8], k: u32) -> Result<ToolAnswer, NoMemory>
     requires arr { length arr.now ≤ 4194304 }
     requires k { k ≤ 999999 }
     ensures { IfOk result (λ answer. IsAtAnswer img.now arr.now k answer) }
 {
-    let image = match read_image(alloc, img) {
-        Ok(image) => image,
-        Err(ImageError::Fault(fault)) => return Ok(ToolAnswer::NotAnImage(fault)),
-        Err(ImageError::Memory) => return Err(NoMemory),
-    };
-    let arrivals = match read_arrivals(alloc, arr, image.tasks.items(), image.counters.items()) {
-        Ok(arrivals) => arrivals,
-        Err(BuildError::Refused(refusal)) => return Ok(ToolAnswer::Refused(refusal)),
-        Err(BuildError::Memory) => return Err(NoMemory),
-    };
-    let sight = sight_of(alloc, &image, arrivals.as_slice(), k)?;
-    let answer = sight_answer(alloc, &image, &sight)?;
-    Ok(answer)
+    match read_run(alloc, img, arr) {
+        Ok(run) => seen_of(alloc, &run, k),
+        Err(Unread::NotAnImage(fault)) => Ok(ToolAnswer::NotAnImage(fault)),
+        Err(Unread::Refused(refusal)) => Ok(ToolAnswer::Refused(refusal)),
+        Err(Unread::NoMemory) => Err(NoMemory),
+    }
 }

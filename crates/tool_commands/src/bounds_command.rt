@@ -2,13 +2,13 @@
 ghost use Rattle.std.specs.Prelude.{◌≤◌, IfOk, length};
 ghost use Rattle.tool_commands.specs.BoundsAnswers.{IsBoundsAnswer, IsLatencyAnswer};
 
-use crate::answer::ToolAnswer;
-use crate::told::told;
 use bounds_text::bounds_text;
 use bounds_text::latency::latency_lines;
 use sloth_base::memory::NoMemory;
 use sloth_base::refusal::BuildError;
 use std::alloc::Global;
+use tool_answers::answer::ToolAnswer;
+use tool_answers::told::told;
 
 /// How much work of lower tasks may stand between each task's becoming Ready and its entry; or the first refusal.
 pub fn bounds(alloc: Global, oil: &[u8], src: &[u8]) -> Result<ToolAnswer, NoMemory>

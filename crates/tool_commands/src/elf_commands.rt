@@ -1,17 +1,21 @@
 //! The commands `elf` and `unelf`.
-ghost use Rattle.std.specs.Prelude.{◌≡◌, IfOk, length};
+ghost use Rattle.std.specs.Prelude.{◌≡◌, ℕ, List as Sequence, IfOk, length};
+ghost use Rattle.sloth_base.specs.ImageRange.{InFormat};
+ghost use Rattle.elf_fields.specs.ElfText.{ElfText};
+ghost use Rattle.image_file.specs.ImageText.{ImageText};
 ghost use Rattle.tool_commands.specs.Lines.{written_line};
 ghost use Rattle.tool_commands.specs.ElfAnswers.{IsElfAnswer, IsUnelfAnswer};
 
-use crate::answer::{Outcome, ToolAnswer};
 use crate::lines::written_line;
-use elf_image::fault::ElfError;
+use elf_fields::fault::ElfError;
 use elf_image::{read_elf, write_elf};
 use image_file::fault::ImageError;
 use image_file::{read_image, write_image};
+use sloth_base::image::Image;
 use sloth_base::list::List;
 use sloth_base::memory::NoMemory;
 use std::alloc::Global;
+use tool_answers::answer::{Outcome, ToolAnswer};
 
 /// The outcome of a tool that writes a file.
 pub fn written(alloc: Global, file: Vec<u8>) -> Result<Outcome, NoMemory>
@@ -25,16 +29,32 @@ pub fn written(alloc: Global, file: Vec<u8>) -> Result<Outcome, NoMemory>
     })
 }
 
+// The answer to an image that was read.
+fn elf_of(alloc: Global, image: &Image) -> Result<ToolAnswer, NoMemory>
+    requires { InFormat image.now }
+    ensures { (img : Sequence ℕ) → ImageText img image.now → IfOk result (λ answer. IsElfAnswer img answer) }
+{
+    let file = write_elf(alloc, image)?;
+    Ok(ToolAnswer::Done(written(alloc, file)?))
+}
+
 /// The ELF file of an image file, or the image file's first fault.
 pub fn elf(alloc: Global, bytes: &[u8]) -> Result<ToolAnswer, NoMemory>
     ensures { IfOk result (λ answer. IsElfAnswer bytes.now answer) }
 {
-    let image = match read_image(alloc, bytes) {
-        Ok(image) => image,
-        Err(ImageError::Fault(fault)) => return Ok(ToolAnswer::NotAnImage(fault)),
-        Err(ImageError::Memory) => return Err(NoMemory),
-    };
-    let file = write_elf(alloc, &image)?;
+    match read_image(alloc, bytes) {
+        Ok(image) => elf_of(alloc, &image),
+        Err(ImageError::Fault(fault)) => Ok(ToolAnswer::NotAnImage(fault)),
+        Err(ImageError::Memory) => Err(NoMemory),
+    }
+}
+
+// The answer to an image that was read of an ELF file.
+fn unelf_of(alloc: Global, image: &Image) -> Result<ToolAnswer, NoMemory>
+    requires { InFormat image.now }
+    ensures { (elf : Sequence ℕ) → ElfText elf image.now → IfOk result (λ answer. IsUnelfAnswer elf answer) }
+{
+    let file = write_image(alloc, image)?;
     Ok(ToolAnswer::Done(written(alloc, file)?))
 }
 
@@ -42,11 +62,9 @@ pub fn elf(alloc: Global, bytes: &[u8]) -> Result<ToolAnswer, NoMemory>
 pub fn unelf(alloc: Global, bytes: &[u8]) -> Result<ToolAnswer, NoMemory>
     ensures { IfOk result (λ answer. IsUnelfAnswer bytes.now answer) }
 {
-    let image = match read_elf(alloc, bytes) {
-        Ok(image) => image,
-        Err(ElfError::Fault(fault)) => return Ok(ToolAnswer::NotAnElf(fault)),
-        Err(ElfError::Memory) => return Err(NoMemory),
-    };
-    let file = write_image(alloc, &image)?;
-    Ok(ToolAnswer::Done(written(alloc, file)?))
+    match read_elf(alloc, bytes) {
+        Ok(image) => unelf_of(alloc, &image),
+        Err(ElfError::Fault(fault)) => Ok(ToolAnswer::NotAnElf(fault)),
+        Err(ElfError::Memory) => Err(NoMemory),
+    }
 }

@@ -2,11 +2,11 @@
 ghost use Rattle.std.specs.Prelude.{◌≤◌, IfOk, length};
 ghost use Rattle.tool_commands.specs.InferAnswers.{IsInferAnswer};
 
-use crate::answer::ToolAnswer;
 use crate::elf_commands::written;
 use holds_infer::{FillError, fill_source};
 use sloth_base::memory::NoMemory;
 use std::alloc::Global;
+use tool_answers::answer::ToolAnswer;
 
 /// The source with the list of each label filled in; or that no lists keep every rule; or the first refusal before the rules V2 to V12.
 pub fn infer(alloc: Global, oil: &[u8], src: &[u8]) -> Result<ToolAnswer, NoMemory>

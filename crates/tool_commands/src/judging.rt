@@ -3,10 +3,8 @@ ghost use Rattle.std.specs.Prelude.{◌≡◌, ◌≤◌, IfOk, All, length};
 ghost use Rattle.command_line.specs.Tools.{input_count, counts_limit, AreCounts};
 ghost use Rattle.tool_commands.specs.Answers.{IsAnswer};
 
-use crate::answer::ToolAnswer;
 use crate::at_command::at;
 use crate::bounds_command::{bounds, latency};
-use crate::check_command::check;
 use crate::elf_commands::{elf, unelf};
 use crate::infer_command::infer;
 use crate::map_command::map;
@@ -17,6 +15,8 @@ use command_line::tool::Tool;
 use sloth_base::list::List;
 use sloth_base::memory::NoMemory;
 use std::alloc::Global;
+use tool_answers::answer::ToolAnswer;
+use tool_answers::check_command::check;
 
 /// The answer of a tool with these counts, if it takes any, to files of these bytes.
 pub fn judge(

@@ -1,10 +1,8 @@
 //! The commands that read files, judge what they hold, and end with one answer: which answer each of them has.
 #![tactic(auto)]
 
-pub mod answer;
 mod at_command;
 mod bounds_command;
-mod check_command;
 mod elf_commands;
 mod infer_command;
 pub mod judging;
@@ -12,8 +10,8 @@ pub mod laws;
 pub mod lines;
 mod map_command;
 mod picture_command;
-mod told;
+pub mod run_inputs;
 mod wave_command;
 
-pub use answer::{Outcome, ToolAnswer, TraceFault};
 pub use judging::judge;
+pub use tool_answers::{Outcome, ToolAnswer, TraceFault};

@@ -2,12 +2,12 @@
 ghost use Rattle.std.specs.Prelude.{◌≤◌, IfOk, length};
 ghost use Rattle.tool_commands.specs.MapAnswers.{IsMapAnswer};
 
-use crate::answer::ToolAnswer;
-use crate::told::told;
 use map_text::map_text;
 use sloth_base::memory::NoMemory;
 use sloth_base::refusal::BuildError;
 use std::alloc::Global;
+use tool_answers::answer::ToolAnswer;
+use tool_answers::told::told;
 
 /// What the image of these texts takes of memory, and what its tasks need of the stacks; or the first refusal.
 pub fn map(alloc: Global, oil: &[u8], src: &[u8]) -> Result<ToolAnswer, NoMemory>

@@ -1,18 +1,42 @@
 //! The command `picture`.
-ghost use Rattle.std.specs.Prelude.{◌≤◌, IfOk, length};
+ghost use Rattle.std.specs.Prelude.{◌≤◌, ℕ, List, IfOk, length};
+ghost use Rattle.sloth_base.specs.Arrivals.{AreArrivals};
+ghost use Rattle.sloth_base.specs.ImageRange.{InFormat};
+ghost use Rattle.sloth_base.specs.Owners.{owners_named};
 ghost use Rattle.command_line.specs.Tools.{IsWindow};
 ghost use Rattle.tool_commands.specs.PictureAnswers.{IsPictureAnswer};
+ghost use Rattle.tool_commands.specs.RunAnswers.{AreRunInputs};
 
-use crate::answer::ToolAnswer;
 use crate::elf_commands::written;
+use crate::run_inputs::{RunInputs, Unread, read_run};
 use command_line::counts::Window;
-use image_file::fault::ImageError;
-use image_file::read_image;
 use schedule_picture::{Picture, draw};
 use sloth_base::memory::NoMemory;
-use sloth_base::refusal::BuildError;
 use std::alloc::Global;
-use trace_text::read_arrivals;
+use tool_answers::answer::ToolAnswer;
+
+// The answer to an image and arrivals that were read.
+fn picture_of(alloc: Global, run: &RunInputs, window: Window) -> Result<ToolAnswer, NoMemory>
+    requires format { InFormat run.now.image }
+    requires arrivals { AreArrivals (owners_named run.now.image) run.now.arrivals.items }
+    requires window { IsWindow 1000000 100000 window }
+    ensures { (img arr : List ℕ) → AreRunInputs img arr run.now.image run.now.arrivals.items
+        → IfOk result (λ answer. IsPictureAnswer img arr window answer) }
+{
+    match draw(
+        alloc,
+        &run.image,
+        run.arrivals.as_slice(),
+        window.from,
+        window.to,
+    )? {
+        Picture::Text(text) => Ok(ToolAnswer::Done(written(alloc, text)?)),
+        Picture::Stopped(halt) => Ok(ToolAnswer::Stopped {
+            pc: halt.pc,
+            stop: halt.stop,
+        }),
+    }
+}
 
 /// The picture of a part of the run of an image file with arrivals.
 pub fn picture(
@@ -25,21 +49,10 @@ pub fn picture(
     requires window { IsWindow 1000000 100000 window }
     ensures { IfOk result (λ answer. IsPictureAnswer img.now arr.now window answer) }
 {
-    let image = match read_image(alloc, img) {
-        Ok(image) => image,
-        Err(ImageError::Fault(fault)) => return Ok(ToolAnswer::NotAnImage(fault)),
-        Err(ImageError::Memory) => return Err(NoMemory),
-    };
-    let arrivals = match read_arrivals(alloc, arr, image.tasks.items(), image.counters.items()) {
-        Ok(arrivals) => arrivals,
-        Err(BuildError::Refused(refusal)) => return Ok(ToolAnswer::Refused(refusal)),
-        Err(BuildError::Memory) => return Err(NoMemory),
-    };
-    match draw(alloc, &image, arrivals.as_slice(), window.from, window.to)? {
-        Picture::Text(text) => Ok(ToolAnswer::Done(written(alloc, text)?)),
-        Picture::Stopped(halt) => Ok(ToolAnswer::Stopped {
-            pc: halt.pc,
-            stop: halt.stop,
-        }),
+    match read_run(alloc, img, arr) {
+        Ok(run) => picture_of(alloc, &run, window),
+        Err(Unread::NotAnImage(fault)) => Ok(ToolAnswer::NotAnImage(fault)),
+        Err(Unread::Refused(refusal)) => Ok(ToolAnswer::Refused(refusal)),
+        Err(Unread::NoMemory) => Err(NoMemory),
     }
 }

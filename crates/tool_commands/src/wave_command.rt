@@ -1,16 +1,33 @@
 //! The command `wave`.
-ghost use Rattle.std.specs.Prelude.{◌≤◌, IfOk, length};
+ghost use Rattle.std.specs.Prelude.{◌≤◌, ℕ, List, IfOk, length};
+ghost use Rattle.sloth_base.specs.Arrivals.{AreArrivals};
+ghost use Rattle.sloth_base.specs.ImageRange.{InFormat};
+ghost use Rattle.sloth_base.specs.Owners.{owners_named};
+ghost use Rattle.tool_commands.specs.RunAnswers.{AreRunInputs};
 ghost use Rattle.tool_commands.specs.WaveAnswers.{IsWaveAnswer};
 
-use crate::answer::ToolAnswer;
 use crate::elf_commands::written;
-use image_file::fault::ImageError;
-use image_file::read_image;
+use crate::run_inputs::{RunInputs, Unread, read_run};
 use sloth_base::memory::NoMemory;
-use sloth_base::refusal::BuildError;
 use std::alloc::Global;
-use trace_text::read_arrivals;
+use tool_answers::answer::ToolAnswer;
 use wave_text::{Recorded, waves};
+
+// The answer to an image and arrivals that were read.
+fn waves_of(alloc: Global, run: &RunInputs, n: u32) -> Result<ToolAnswer, NoMemory>
+    requires format { InFormat run.now.image }
+    requires arrivals { AreArrivals (owners_named run.now.image) run.now.arrivals.items }
+    requires n { n ≤ 1000000 }
+    ensures { (img arr : List ℕ) → AreRunInputs img arr run.now.image run.now.arrivals.items → IfOk result (λ answer. IsWaveAnswer img arr n answer) }
+{
+    match waves(alloc, &run.image, run.arrivals.as_slice(), n)? {
+        Recorded::Text(text) => Ok(ToolAnswer::Done(written(alloc, text)?)),
+        Recorded::Stopped(halt) => Ok(ToolAnswer::Stopped {
+            pc: halt.pc,
+            stop: halt.stop,
+        }),
+    }
+}
 
 /// The waves of n instructions of the run of an image file with arrivals.
 pub fn wave(alloc: Global, img: &[u8], arr: &[u8], n: u32) -> Result<ToolAnswer, NoMemory>
@@ -18,21 +35,10 @@ pub fn wave(alloc: Global, img: &[u8], arr: &[u8], n: u32) -> Result<ToolAnswer,
     requires n { n ≤ 1000000 }
     ensures { IfOk result (λ answer. IsWaveAnswer img.now arr.now n answer) }
 {
-    let image = match read_image(alloc, img) {
-        Ok(image) => image,
-        Err(ImageError::Fault(fault)) => return Ok(ToolAnswer::NotAnImage(fault)),
-        Err(ImageError::Memory) => return Err(NoMemory),
-    };
-    let arrivals = match read_arrivals(alloc, arr, image.tasks.items(), image.counters.items()) {
-        Ok(arrivals) => arrivals,
-        Err(BuildError::Refused(refusal)) => return Ok(ToolAnswer::Refused(refusal)),
-        Err(BuildError::Memory) => return Err(NoMemory),
-    };
-    match waves(alloc, &image, arrivals.as_slice(), n)? {
-        Recorded::Text(text) => Ok(ToolAnswer::Done(written(alloc, text)?)),
-        Recorded::Stopped(halt) => Ok(ToolAnswer::Stopped {
-            pc: halt.pc,
-            stop: halt.stop,
-        }),
+    match read_run(alloc, img, arr) {
+        Ok(run) => waves_of(alloc, &run, n),
+        Err(Unread::NotAnImage(fault)) => Ok(ToolAnswer::NotAnImage(fault)),
+        Err(Unread::Refused(refusal)) => Ok(ToolAnswer::Refused(refusal)),
+        Err(Unread::NoMemory) => Err(NoMemory),
     }
 }

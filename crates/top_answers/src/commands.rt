@@ -2,11 +2,12 @@
 ghost use Rattle.std.specs.Prelude.{◌≡◌, ◌≤◌, IfOk, length};
 
 use crate::faults::Faults;
-use crate::texts::Texts;
+use crate::repeats::number_before;
+use crate::texts::{LONGEST, Texts, refill};
 use sloth_base::list::List;
 use sloth_base::memory::NoMemory;
 use sloth_base::name::Name;
-use sloth_cli::sloth_top;
+use sloth_cli::{Status, sloth_top};
 use sloth_io::mem_sink::MemSink;
 use sloth_io::mem_store::{MemFile, MemStore};
 use std::alloc::Global;
@@ -17,12 +18,14 @@ const SPACE: u32 = 2_200_000;
 /// The same where a command is run many times, and prints little.
 const LITTLE: u32 = 200_000;
 
-// A file with this space, or with that for its own bytes where they are more.
+// A file with this space, or with that for its own bytes where they are more; none of more than 16,000,000 bytes.
 fn file(alloc: Global, name: &[u8], bytes: &[u8], space: u32) -> Result<MemFile, NoMemory>
-    requires { length bytes.now ≤ 16000000 }
     ensures name { IfOk result (λ file. file.name ≡ name.now) }
     ensures within { IfOk result (λ file. length file.bytes ≤ file.space) }
 {
+    if bytes.len() > LONGEST {
+        return Err(NoMemory);
+    }
     let size = bytes.len() as u32;
     Ok(MemFile {
         name: Name::new(alloc, name)?,
@@ -38,12 +41,7 @@ fn store(
     img: &[u8],
     space: u32,
     fails: &[u32],
-) -> Result<MemStore, NoMemory>
-    requires oil { length texts.now.oil.items ≤ 16000000 }
-    requires src { length texts.now.src.items ≤ 16000000 }
-    requires arr { length texts.now.arr.items ≤ 16000000 }
-    requires img { length img.now ≤ 16000000 }
-{
+) -> Result<MemStore, NoMemory> {
     let oil = file(alloc, b"oil", &texts.oil, 0)?;
     let src = file(alloc, b"src", &texts.src, 0)?;
     let arr = file(alloc, b"arr", &texts.arr, 0)?;
@@ -51,8 +49,8 @@ fn store(
     MemStore::new(alloc, &[arr, img, oil, src], fails)
 }
 
-// The words of a line; an empty line has none.
-fn words(alloc: Global, line: &str) -> anyhow::Result<Vec<String>> {
+/// The words of a line; an empty line has none.
+pub fn words(alloc: Global, line: &str) -> anyhow::Result<Vec<String>> {
     let mut words = Vec::new(alloc);
     if line.is_empty() {
         return Ok(words);
@@ -63,48 +61,117 @@ fn words(alloc: Global, line: &str) -> anyhow::Result<Vec<String>> {
     Ok(words)
 }
 
-/// What a command prints, the same with how it ends, and the image file behind it.
+/// What a command prints with how it ends, how many bytes it prints, and the image file behind it.
 #[derive(Drop)]
 pub struct Outcome {
-    pub printed: Vec<u8>,
     pub text: String,
+    pub printed: usize,
     pub img: Vec<u8>,
 }
 
-/// Runs the command of a line on these files, of at most 16,000,000 bytes each, with these failing calls.
-pub fn answer(
+// Does what the words say.
+fn top(alloc: Global, words: &[String], files: &mut MemStore, out: &mut MemSink) -> Status {
+    sloth_top(alloc, words, files, out)
+}
+
+// What was printed, with how the command ended behind it.
+fn ended(alloc: Global, printed: &[u8], status: Status) -> anyhow::Result<String> {
+    let printed = std::str::from_utf8(printed)?;
+    Ok(format!(in alloc; "{printed}=== {status:?}\n")?)
+}
+
+// What a command printed, how it ended, and the image file that it left.
+fn outcome_of(
+    alloc: Global,
+    printed: &[u8],
+    status: Status,
+    files: &MemStore,
+) -> anyhow::Result<Outcome> {
+    let text = ended(alloc, printed, status)?;
+    let img = Vec::from_slice(alloc, files.file("img").unwrap_or(b""))?;
+    Ok(Outcome {
+        text,
+        printed: printed.len(),
+        img,
+    })
+}
+
+// Runs the command of these words on these files.
+fn answer_on(
+    alloc: Global,
+    words: &[String],
+    files: &mut MemStore,
+    space: u32,
+    faults: &Faults,
+) -> anyhow::Result<Outcome> {
+    let mut out = MemSink::new(alloc, space, &faults.sink)?;
+    let status = top(alloc, words, files, &mut out);
+    outcome_of(alloc, out.taken(), status, &*files)
+}
+
+// Runs the command of these words on files that hold these bytes.
+fn answer_words(
+    alloc: Global,
+    words: &[String],
+    texts: &Texts,
+    img: &[u8],
+    space: u32,
+    faults: &Faults,
+) -> anyhow::Result<Outcome> {
+    let mut files = store(alloc, texts, img, space, &faults.store)?;
+    answer_on(alloc, words, &mut files, space, faults)
+}
+
+// Runs the command of a line on these files, of at most 16,000,000 bytes each, with these failing calls.
+fn answer(
     alloc: Global,
     line: &str,
     texts: &Texts,
     img: &[u8],
     space: u32,
     faults: &Faults,
-) -> anyhow::Result<Outcome>
-    requires oil { length texts.now.oil.items ≤ 16000000 }
-    requires src { length texts.now.src.items ≤ 16000000 }
-    requires arr { length texts.now.arr.items ≤ 16000000 }
-    requires img { length img.now ≤ 16000000 }
-{
+) -> anyhow::Result<Outcome> {
     let words = words(alloc, line)?;
-    let mut files = store(alloc, texts, img, space, &faults.store)?;
-    let mut out = MemSink::new(alloc, space, &faults.sink)?;
-    let status = sloth_top(alloc, words.as_slice(), &mut files, &mut out);
-    let printed = std::str::from_utf8(out.taken())?;
-    let text = format!(in alloc; "{printed}=== {status:?}\n")?;
-    let printed = Vec::from_slice(alloc, out.taken())?;
-    let img = Vec::from_slice(alloc, files.file("img").unwrap_or(b""))?;
-    Ok(Outcome { printed, text, img })
+    answer_words(alloc, words.as_slice(), texts, img, space, faults)
+}
+
+// The same where no call fails.
+fn answer_whole(
+    alloc: Global,
+    line: &str,
+    texts: &Texts,
+    img: &[u8],
+    space: u32,
+) -> anyhow::Result<Outcome> {
+    let none = Faults::none(alloc);
+    answer(alloc, line, texts, img, space, &none)
+}
+
+/// What the command of a line prints with how it ends, on these files, where no call fails.
+pub fn printed(alloc: Global, line: &str, texts: &Texts, img: &[u8]) -> anyhow::Result<String> {
+    let answer = answer_whole(alloc, line, texts, img, LITTLE)?;
+    Ok(answer.text)
+}
+
+// Runs the command of a line, and keeps the image file that it leaves. Gives what it prints with how it ends.
+fn done(alloc: Global, line: &str, texts: &mut Texts) -> anyhow::Result<String> {
+    let answer = answer_whole(alloc, line, texts, &texts.img, SPACE)?;
+    texts.img = answer.img;
+    Ok(answer.text)
 }
 
 /// Runs the command of a line, and prints what it prints and its status. The image file that it leaves is kept.
 pub fn run(rt: &(impl Print + AllocGlobal), line: &str, texts: &mut Texts) -> anyhow::Result<()> {
-    if !texts.are_short() {
-        return Ok(());
-    }
-    let none = Faults::none(rt.alloc());
-    let answer = answer(rt.alloc(), line, texts, &texts.img, SPACE, &none)?;
-    print!(rt; "{}", answer.text)?;
-    texts.img = answer.img;
+    let text = done(rt.alloc(), line, texts)?;
+    print!(rt; "{text}")?;
+    Ok(())
+}
+
+// Prints how many lines a text has, their CRC-32 (IEEE 802.3), and the last of them.
+fn list_sum(rt: &impl Print, text: &str) -> anyhow::Result<()> {
+    let lines = text.lines().count();
+    let status = text.lines().last().unwrap_or("");
+    println!(rt; "{lines} lines {:08x} {status}", checksum(text.as_bytes()))?;
     Ok(())
 }
 
@@ -115,19 +182,8 @@ pub fn run_summed(
     line: &str,
     texts: &mut Texts,
 ) -> anyhow::Result<()> {
-    if !texts.are_short() {
-        return Ok(());
-    }
-    let none = Faults::none(rt.alloc());
-    let answer = answer(rt.alloc(), line, texts, &texts.img, SPACE, &none)?;
-    let lines = answer.text.lines().count();
-    let status = answer.text.lines().last().unwrap_or("");
-    println!(rt;
-        "{lines} lines {:08x} {status}",
-        checksum(answer.text.as_bytes())
-    )?;
-    texts.img = answer.img;
-    Ok(())
+    let text = done(rt.alloc(), line, texts)?;
+    list_sum(rt, &text)
 }
 
 /// Prints the image file as a text.
@@ -138,13 +194,30 @@ pub fn show(rt: &(impl Print + AllocGlobal), texts: &Texts) -> anyhow::Result<()
 
 /// Runs the command of a line, and puts what it prints in the place of the image file.
 pub fn run_kept(rt: &impl AllocGlobal, line: &str, texts: &mut Texts) -> anyhow::Result<()> {
-    if !texts.are_short() {
-        return Ok(());
+    let answer = answer_whole(rt.alloc(), line, texts, &texts.img, SPACE)?;
+    let printed = answer.text.as_bytes().get(..answer.printed).unwrap_or(b"");
+    refill(&mut texts.img, printed)
+}
+
+// Prints how many bytes two texts have that are the same, or that they are not.
+fn compare(rt: &impl Print, one: &str, other: &str) -> anyhow::Result<()> {
+    if one == other {
+        println!(rt; "both {} bytes", one.len())?;
+    } else {
+        println!(rt; "they differ")?;
     }
-    let none = Faults::none(rt.alloc());
-    let answer = answer(rt.alloc(), line, texts, &texts.img, SPACE, &none)?;
-    texts.img = answer.printed;
     Ok(())
+}
+
+// Runs the command of a line, and compares what it prints with another text.
+fn run_other(
+    rt: &(impl Print + AllocGlobal),
+    line: &str,
+    texts: &Texts,
+    other: &str,
+) -> anyhow::Result<()> {
+    let answer = answer_whole(rt.alloc(), line, texts, &texts.img, SPACE)?;
+    compare(rt, other, &answer.text)
 }
 
 /// Runs two commands, which ` / ` divides, one after the other, and prints how many bytes both answer, or that their answers differ.
@@ -156,20 +229,21 @@ pub fn run_both(
     let Some((one, other)) = lines.split_once(" / ") else {
         return Ok(());
     };
-    if !texts.are_short() {
-        return Ok(());
-    }
-    let none = Faults::none(rt.alloc());
-    let first = answer(rt.alloc(), one, texts, &texts.img, SPACE, &none)?;
-    texts.img = first.img;
-    if !texts.are_short() {
-        return Ok(());
-    }
-    let second = answer(rt.alloc(), other, texts, &texts.img, SPACE, &none)?;
-    if first.text == second.text {
-        println!(rt; "both {} bytes", first.text.len())?;
-    } else {
-        println!(rt; "they differ")?;
+    let first = done(rt.alloc(), one, texts)?;
+    run_other(rt, other, texts, &first)
+}
+
+// Prints a text behind a number of these things, and keeps it as the last one, unless it is that.
+fn show_new(
+    rt: &impl Print,
+    number: usize,
+    things: &str,
+    text: String,
+    last: &mut String,
+) -> anyhow::Result<()> {
+    if text != *last {
+        print!(rt; "{number} {things}\n{text}")?;
+        *last = text;
     }
     Ok(())
 }
@@ -177,18 +251,26 @@ pub fn run_both(
 /// Runs the command of a line with the image file cut to each length, from 0 to its whole. Where the answer is another one than with a
 /// byte less, prints the length and the answer.
 pub fn run_cut(rt: &(impl Print + AllocGlobal), line: &str, texts: &Texts) -> anyhow::Result<()> {
-    if !texts.are_short() {
-        return Ok(());
-    }
-    let none = Faults::none(rt.alloc());
     let mut last = String::new(rt.alloc());
     for size in 0..=texts.img.len() {
-        let img = &texts.img[..size];
-        let answer = answer(rt.alloc(), line, texts, img, LITTLE, &none)?;
-        if answer.text != last {
-            print!(rt; "{size} bytes\n{}", answer.text)?;
-            last = answer.text;
-        }
+        let text = printed(rt.alloc(), line, texts, &texts.img[..size])?;
+        show_new(rt, size, "bytes", text, &mut last)?;
+    }
+    Ok(())
+}
+
+// Runs the command of a line with 0, 1, 2, .. line feeds behind each text, up to a number.
+fn lengthen_to(
+    rt: &(impl Print + AllocGlobal),
+    number: u32,
+    line: &str,
+    texts: &mut Texts,
+) -> anyhow::Result<()> {
+    let mut last = String::new(rt.alloc());
+    for more in 0..=number {
+        let text = printed(rt.alloc(), line, texts, &texts.img)?;
+        show_new(rt, more as usize, "more", text, &mut last)?;
+        texts.lengthen()?;
     }
     Ok(())
 }
@@ -200,23 +282,10 @@ pub fn run_lengthened(
     asked: &str,
     texts: &mut Texts,
 ) -> anyhow::Result<()> {
-    let Some((number, line)) = asked.split_once(' ') else {
-        return Ok(());
-    };
-    let none = Faults::none(rt.alloc());
-    let mut last = String::new(rt.alloc());
-    for more in 0..=number.parse::<u32>().unwrap_or(0) {
-        if !texts.are_short() {
-            return Ok(());
-        }
-        let answer = answer(rt.alloc(), line, texts, &texts.img, LITTLE, &none)?;
-        if answer.text != last {
-            print!(rt; "{more} more\n{}", answer.text)?;
-            last = answer.text;
-        }
-        texts.lengthen()?;
+    match number_before(asked) {
+        Some((number, line)) => lengthen_to(rt, number, line, texts),
+        None => Ok(()),
     }
-    Ok(())
 }
 
 // The CRC-32 of IEEE 802.3.
@@ -246,6 +315,32 @@ fn state(img: &[u8], before: &[u8], image: &[u8]) -> &'static str {
     }
 }
 
+// Runs the command of a line with failing calls, and prints the answer, and what the image file is beside the one that the command leaves where
+// no call fails.
+fn run_beside(
+    rt: &(impl Print + AllocGlobal),
+    line: &str,
+    texts: &Texts,
+    faults: &Faults,
+    image: &[u8],
+) -> anyhow::Result<()> {
+    let answer = answer(rt.alloc(), line, texts, &texts.img, LITTLE, faults)?;
+    let state = state(&answer.img, &texts.img, image);
+    print!(rt; "{}IMG {state}\n", answer.text)?;
+    Ok(())
+}
+
+// The same, behind a run where no call fails.
+fn run_faulty(
+    rt: &(impl Print + AllocGlobal),
+    line: &str,
+    texts: &Texts,
+    faults: &Faults,
+) -> anyhow::Result<()> {
+    let whole = answer_whole(rt.alloc(), line, texts, &texts.img, LITTLE)?;
+    run_beside(rt, line, texts, faults, &whole.img)
+}
+
 /// Runs a command with failing calls: of the store, ` / `, of the sink, ` / `, the command. Prints the answer, and what the image file is.
 pub fn run_failing(
     rt: &(impl Print + AllocGlobal),
@@ -258,14 +353,6 @@ pub fn run_failing(
     let Some((sink, line)) = rest.split_once("/ ") else {
         return Ok(());
     };
-    if !texts.are_short() {
-        return Ok(());
-    }
-    let none = Faults::none(rt.alloc());
-    let whole = answer(rt.alloc(), line, texts, &texts.img, LITTLE, &none)?;
     let faults = Faults::read(rt.alloc(), store, sink)?;
-    let answer = answer(rt.alloc(), line, texts, &texts.img, LITTLE, &faults)?;
-    let state = state(&answer.img, &texts.img, &whole.img);
-    print!(rt; "{}IMG {state}\n", answer.text)?;
-    Ok(())
+    run_faulty(rt, line, texts, &faults)
 }

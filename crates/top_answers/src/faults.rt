@@ -1,5 +1,4 @@
 //! Calls that are to fail.
-use sloth_base::memory::NoMemory;
 use std::alloc::Global;
 
 /// The calls of the store that are to fail, by their numbers from 1, and those of the sink, each with the bytes that it takes before.
@@ -7,6 +6,34 @@ use std::alloc::Global;
 pub struct Faults {
     pub store: Vec<u32>,
     pub sink: Vec<(u32, u32)>,
+}
+
+// The numbers among words.
+fn numbers(alloc: Global, words: &str) -> anyhow::Result<Vec<u32>> {
+    let mut numbers = Vec::new(alloc);
+    for word in words.split(' ') {
+        if let Ok(number) = word.parse::<u32>() {
+            numbers.push(number)?;
+        }
+    }
+    Ok(numbers)
+}
+
+// The pairs among words such as `2:1`.
+fn pairs(alloc: Global, words: &str) -> anyhow::Result<Vec<(u32, u32)>> {
+    let mut pairs = Vec::new(alloc);
+    for word in words.split(' ') {
+        if let Some(pair) = pair(word) {
+            pairs.push(pair)?;
+        }
+    }
+    Ok(pairs)
+}
+
+// The number of a call, and of the bytes that it takes before it fails.
+fn pair(word: &str) -> Option<(u32, u32)> {
+    let (call, bytes) = word.split_once(':')?;
+    Some((call.parse::<u32>().ok()?, bytes.parse::<u32>().ok()?))
 }
 
 impl Faults {
@@ -19,24 +46,9 @@ impl Faults {
     }
 
     /// The calls of the store by words such as `3`, and those of the sink by words such as `2:1`. Other words name none.
-    pub fn read(alloc: Global, store: &str, sink: &str) -> Result<Faults, NoMemory> {
-        let mut faults = Faults::none(alloc);
-        for word in store.split(' ') {
-            if let Ok(call) = word.parse::<u32>() {
-                faults.store.push(call).map_err(|_| NoMemory)?;
-            }
-        }
-        for word in sink.split(' ') {
-            if let Some(pair) = call_and_bytes(word) {
-                faults.sink.push(pair).map_err(|_| NoMemory)?;
-            }
-        }
-        Ok(faults)
+    pub fn read(alloc: Global, store: &str, sink: &str) -> anyhow::Result<Faults> {
+        let store = numbers(alloc, store)?;
+        let sink = pairs(alloc, sink)?;
+        Ok(Faults { store, sink })
     }
-}
-
-// The number of a call, and of the bytes that it takes before it fails.
-fn call_and_bytes(word: &str) -> Option<(u32, u32)> {
-    let (call, bytes) = word.split_once(':')?;
-    Some((call.parse::<u32>().ok()?, bytes.parse::<u32>().ok()?))
 }

@@ -22,127 +22,166 @@
 //! and `stacks` of task source beside the last OIL text. `generated 7 2` asks for the application that is generated from the seed 7 with 2 tasks.
 //! The texts of `counts` and the like have no line feed behind their last line.
 //!
-//! Behind all of that, the picture of a run that the README shows is drawn anew, and compared with the file `door.svg`.
+//! `calls texts` asks for what public calls give of the OIL text and the task source that no command shows, `calls image` of the image file;
+//! `calls stops`, `calls vectors`, `calls events` and `calls steps` of small image files (`images`).
+//!
+//! Behind all of that stand public calls that need no text, and commands on the files of the folder `data`: the picture of a run that the README shows
+//! is drawn anew and compared with the file `door.svg`. At last the program does as `sloth` does with its own words, and ends with the status 2 of
+//! a command whose texts are refused.
 #![tactic(auto)]
 
 mod commands;
 mod configuration;
+mod event_lines;
 mod faults;
+mod file_commands;
 mod generated;
-mod picture;
+mod generating;
+mod images;
+mod machine;
+mod observed;
 mod readers;
+mod regions;
 mod repeats;
+mod rows;
+mod rules;
+mod scheduler;
+mod sources;
+mod stops;
 mod sweeps;
 mod syntax;
+mod system_files;
 mod task_code;
 mod texts;
 
 use crate::commands::{
     run, run_both, run_cut, run_failing, run_kept, run_lengthened, run_summed, show,
 };
-use crate::picture::compare_picture;
-use crate::readers::{answer_read, is_of_readers};
+use crate::event_lines::list_summary;
+use crate::file_commands::{compare_picture, run_missing};
+use crate::images::list_image_file;
+use crate::machine::{list_controller, list_instruction};
+use crate::readers::answer_read;
+use crate::regions::list_regions;
 use crate::repeats::add_line;
+use crate::sources::list_sources;
 use crate::sweeps::run_sweep;
+use crate::system_files::list_outside;
 use crate::texts::{LONGEST, Texts};
-use sloth_base::memory::NoMemory;
+use sloth_program::run_program;
 use std::io::{Input, Read};
+use std::process::ExitCode;
+use std::rt::Files;
 
-// Changes the image file where a line behind `=== ` asks for it.
-fn change(rt: &impl AllocGlobal, asked: &str, texts: &mut Texts) -> Result<bool, NoMemory> {
-    if let Some(digits) = asked.strip_prefix("image ") {
-        texts.make(rt.alloc(), digits);
-    } else if let Some(words) = asked.strip_prefix("change ") {
-        texts.change(rt.alloc(), words)?;
-    } else if let Some(words) = asked.strip_prefix("exchange ") {
-        texts.exchange(words);
-    } else if let Some(number) = asked.strip_prefix("drop ") {
-        texts.drop_line(rt.alloc(), number)?;
-    } else if asked == "shorten" {
-        texts.img.pop();
-    } else {
-        return Ok(false);
-    }
-    Ok(true)
-}
-
-// Answers what the readers make of a text.
-fn read(
-    rt: &(impl Print + AllocGlobal),
-    asked: &str,
-    lines: &[u8],
-    texts: &Texts,
-) -> anyhow::Result<()> {
-    let text = lines.strip_suffix(b"\n").unwrap_or(b"");
-    if texts.are_short() && text.len() <= LONGEST {
+// Answers what the readers make of the lines before the question.
+fn read(rt: &(impl Print + AllocGlobal), asked: &str, texts: &Texts) -> anyhow::Result<()> {
+    let text = texts.lines.strip_suffix(b"\n").unwrap_or(b"");
+    if texts.oil.len() <= LONGEST && text.len() <= LONGEST {
         answer_read(rt, asked, &texts.oil, text)?;
     }
     Ok(())
 }
 
-// Does what a line behind `=== ` asks for, with the lines before it.
-fn obey(
-    rt: &(impl Print + AllocGlobal),
-    asked: &str,
-    lines: &[u8],
-    texts: &mut Texts,
-) -> anyhow::Result<()> {
-    if texts.replace(asked.as_bytes(), lines)? || change(rt, asked, texts)? {
-        return Ok(());
-    }
-    if asked == "text" {
-        return show(rt, texts);
-    }
-    if is_of_readers(asked) {
-        return read(rt, asked, lines, texts);
-    }
-    if let Some(commands) = asked.strip_prefix("both ") {
-        return run_both(rt, commands, texts);
-    }
-    if let Some(command) = asked.strip_prefix("keep ") {
-        return run_kept(rt, command, texts);
-    }
-    if let Some(words) = asked.strip_prefix("lengthened ") {
-        return run_lengthened(rt, words, texts);
-    }
-    if let Some(words) = asked.strip_prefix("failing ") {
-        return run_failing(rt, words, texts);
-    }
-    if let Some(words) = asked.strip_prefix("sweep ") {
-        return run_sweep(rt, words, texts);
-    }
-    if let Some(words) = asked.strip_prefix("summed ") {
-        return run_summed(rt, words, texts);
-    }
-    match asked.strip_prefix("cut ") {
-        Some(command) => run_cut(rt, command, texts),
-        None => run(rt, asked, texts),
+// Answers what public calls give of the texts, or of the image file.
+fn call(rt: &(impl Print + AllocGlobal), asked: &str, texts: &Texts) -> anyhow::Result<()> {
+    if asked == "texts" {
+        list_sources(rt, texts)
+    } else {
+        list_image_file(rt, asked, texts)
     }
 }
 
-// Answers all that is asked on standard input.
-fn answer_all(rt: &(impl Input + Print + AllocGlobal)) -> anyhow::Result<()> {
-    let mut input = Vec::new(rt.alloc());
-    rt.reader().read_to_end(&mut input)?;
-    let mut texts = Texts::new(rt.alloc());
-    let mut lines = Vec::new(rt.alloc());
-    for line in input.as_slice().split(|byte| *byte == b'\n') {
-        if let Some(asked) = line.strip_prefix(b"=== ") {
-            obey(
-                rt,
-                std::str::from_utf8(asked)?,
-                lines.as_slice(),
-                &mut texts,
-            )?;
-            lines.clear();
-        } else {
-            add_line(rt, &mut lines, line)?;
+// Answers a question, whose first word and further words these are.
+fn answer(
+    rt: &(impl Print + AllocGlobal),
+    asked: &str,
+    word: &str,
+    rest: &str,
+    texts: &mut Texts,
+) -> anyhow::Result<()> {
+    match word {
+        "text" => show(rt, texts),
+        "tokens" | "tree" | "config" | "counts" | "listing" | "sizes" | "stacks" | "generated" => {
+            read(rt, asked, texts)
         }
+        "both" => run_both(rt, rest, texts),
+        "keep" => run_kept(rt, rest, texts),
+        "lengthened" => run_lengthened(rt, rest, texts),
+        "failing" => run_failing(rt, rest, texts),
+        "sweep" => run_sweep(rt, rest, texts),
+        "summed" => run_summed(rt, rest, texts),
+        "cut" => run_cut(rt, rest, texts),
+        "calls" => call(rt, rest, texts),
+        _ => run(rt, asked, texts),
+    }
+}
+
+// Does what a line behind `=== ` asks for, with the lines before it.
+fn obey(rt: &(impl Print + AllocGlobal), asked: &str, texts: &mut Texts) -> anyhow::Result<()> {
+    let (word, rest) = asked.split_once(' ').unwrap_or((asked, ""));
+    if texts.replace(asked)? || texts.alter(rt.alloc(), word, rest)? {
+        return Ok(());
+    }
+    answer(rt, asked, word, rest, texts)
+}
+
+// Reads a line, and does what it asks for.
+fn answer_line(
+    rt: &(impl Print + AllocGlobal),
+    line: &[u8],
+    texts: &mut Texts,
+) -> anyhow::Result<()> {
+    let Some(asked) = line.strip_prefix(b"=== ") else {
+        return add_line(rt, &mut texts.lines, line);
+    };
+    obey(rt, std::str::from_utf8(asked)?, texts)?;
+    texts.lines.clear();
+    Ok(())
+}
+
+fn answer_lines(
+    rt: &(impl Print + AllocGlobal),
+    input: &[u8],
+    texts: &mut Texts,
+) -> anyhow::Result<()> {
+    for line in input.split(|byte| *byte == b'\n') {
+        answer_line(rt, line, texts)?;
     }
     Ok(())
 }
 
-fn main(rt: HostRuntime) -> anyhow::Result<()> {
+// What stands on standard input.
+fn input(rt: &(impl Input + AllocGlobal)) -> anyhow::Result<Vec<u8>> {
+    let mut input = Vec::new(rt.alloc());
+    rt.reader().read_to_end(&mut input)?;
+    Ok(input)
+}
+
+// Answers all that is asked on standard input.
+fn answer_all(rt: &(impl Input + Print + AllocGlobal)) -> anyhow::Result<()> {
+    let input = input(rt)?;
+    let mut texts = Texts::new(rt.alloc());
+    answer_lines(rt, &input, &mut texts)
+}
+
+// What public calls give that need no text.
+fn list_lower(rt: &impl Print) -> anyhow::Result<()> {
+    list_regions(rt)?;
+    list_instruction(rt)?;
+    list_controller(rt)?;
+    list_summary(rt)
+}
+
+// What is done on files of the system.
+fn list_files(rt: &(impl Files + Print + AllocGlobal)) -> anyhow::Result<()> {
+    list_outside(rt)?;
+    compare_picture(rt)?;
+    run_missing(rt)
+}
+
+fn main(rt: HostRuntime) -> anyhow::Result<ExitCode> {
     answer_all(&rt)?;
-    compare_picture(&rt)
+    list_lower(&rt)?;
+    list_files(&rt)?;
+    Ok(run_program(&rt))
 }

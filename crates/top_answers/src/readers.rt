@@ -2,6 +2,8 @@
 ghost use Rattle.std.specs.Prelude.{◌≤◌, IfOk, length};
 ghost use Rattle.sloth_base.specs.ConfigRange.{InRange};
 ghost use Rattle.code_rules.specs.AppRange.{IsTaskCode};
+ghost use Rattle.code_rules.specs.WellFormed.{WellFormed};
+ghost use Rattle.stack_bounds.specs.Bounds.{AreBounds};
 
 use crate::configuration::list_config;
 use crate::generated::list_sample;
@@ -14,6 +16,7 @@ use oil_parse::parse;
 use oil_parse::tree::OilTree;
 use sloth_base::app::App;
 use sloth_base::config::Config;
+use sloth_base::places::Bounds;
 use sloth_base::refusal::BuildError;
 use sloth_source::read;
 use stack_bounds::offsets;
@@ -44,7 +47,8 @@ fn app(alloc: Global, oil: &[u8], text: &[u8]) -> Result<App, BuildError>
     parse_app(alloc, text, &config)
 }
 
-fn list_error(rt: &impl Print, error: BuildError) -> anyhow::Result<()> {
+/// Prints why a text has no meaning.
+pub fn list_error(rt: &impl Print, error: BuildError) -> anyhow::Result<()> {
     match error {
         BuildError::Refused(refusal) => {
             println!(rt; "refused {} {:?}", refusal.line, refusal.code)?;
@@ -81,17 +85,40 @@ fn answer_config(rt: &(impl Print + AllocGlobal), text: &[u8]) -> anyhow::Result
     }
 }
 
+// Lists what the tasks of a configuration need of the stacks.
+fn list_offsets(
+    rt: &(impl Print + AllocGlobal),
+    config: &Config,
+    app: &App,
+    bounds: &Bounds,
+) -> anyhow::Result<()>
+    requires well_formed { WellFormed config.now app.now }
+    requires bounds { AreBounds config.now app.now bounds.now }
+{
+    let offsets = offsets(rt.alloc(), config, app, bounds)?;
+    list_stacks(rt, bounds, &offsets)
+}
+
 // Answers what the tasks of a text need of the stacks.
 fn answer_stacks(rt: &(impl Print + AllocGlobal), oil: &[u8], text: &[u8]) -> anyhow::Result<()>
     requires oil { length oil.now ≤ 16000000 }
     requires text { length text.now ≤ 16000000 }
 {
     match read(rt.alloc(), oil, text) {
-        Ok(source) => {
-            let offsets = offsets(rt.alloc(), &source.config, &source.app, &source.bounds)?;
-            list_stacks(rt, &source.bounds, &offsets)
-        }
+        Ok(source) => list_offsets(rt, &source.config, &source.app, &source.bounds),
         Err(error) => list_error(rt, error),
+    }
+}
+
+fn list_code(rt: &(impl Print + AllocGlobal), asked: &str, app: &App) -> anyhow::Result<()>
+    requires { IsTaskCode app.now }
+{
+    if asked == "listing" {
+        list_app(rt, app)
+    } else if asked == "sizes" {
+        list_sizes(rt, app)
+    } else {
+        list_counts(rt, app)
     }
 }
 
@@ -106,27 +133,31 @@ fn answer_code(
     requires text { length text.now ≤ 16000000 }
 {
     match app(rt.alloc(), oil, text) {
-        Ok(app) => {
-            if asked == "listing" {
-                list_app(rt, &app)
-            } else if asked == "sizes" {
-                list_sizes(rt, &app)
-            } else {
-                list_counts(rt, &app)
-            }
-        }
+        Ok(app) => list_code(rt, asked, &app),
         Err(error) => list_error(rt, error),
     }
 }
 
-/// Whether a line asks what a text means.
-pub fn is_of_readers(asked: &str) -> bool {
-    [
-        "tokens", "tree", "config", "counts", "listing", "sizes", "stacks",
-    ]
-    .iter()
-    .any(|word| *word == asked)
-        || asked.starts_with("generated ")
+fn answer_asked(
+    rt: &(impl Print + AllocGlobal),
+    asked: &str,
+    oil: &[u8],
+    text: &[u8],
+) -> anyhow::Result<()>
+    requires oil { length oil.now ≤ 16000000 }
+    requires text { length text.now ≤ 16000000 }
+{
+    if asked == "tokens" {
+        answer_tokens(rt, text)
+    } else if asked == "tree" {
+        answer_tree(rt, text)
+    } else if asked == "config" {
+        answer_config(rt, text)
+    } else if asked == "stacks" {
+        answer_stacks(rt, oil, text)
+    } else {
+        answer_code(rt, asked, oil, text)
+    }
 }
 
 /// Answers what is asked of a text, or of a text beside an OIL text.
@@ -139,19 +170,10 @@ pub fn answer_read(
     requires oil { length oil.now ≤ 16000000 }
     requires text { length text.now ≤ 16000000 }
 {
-    if let Some(numbers) = asked.strip_prefix("generated ") {
-        list_sample(rt, numbers.as_bytes())?;
-    } else if asked == "tokens" {
-        answer_tokens(rt, text)?;
-    } else if asked == "tree" {
-        answer_tree(rt, text)?;
-    } else if asked == "config" {
-        answer_config(rt, text)?;
-    } else if asked == "stacks" {
-        answer_stacks(rt, oil, text)?;
-    } else {
-        answer_code(rt, asked, oil, text)?;
+    match asked.strip_prefix("generated ") {
+        Some(numbers) => list_sample(rt, numbers.as_bytes())?,
+        None => answer_asked(rt, asked, oil, text)?,
     }
-    println!(rt; "===")?;
+    rt.println("===")?;
     Ok(())
 }

@@ -1,7 +1,7 @@
 //! The listings of tokens and trees.
-
+use crate::rows::{Piece, row};
 use oil_lex::Token;
-use oil_parse::tree::{OilAttr, OilTree, OilValue};
+use oil_parse::tree::{OilAttr, OilObject, OilTree, OilValue};
 
 /// Bytes as text, or `?` where they are none.
 pub fn shown(bytes: &[u8]) -> &str {
@@ -16,39 +16,51 @@ pub fn list_tokens(rt: &impl Print, tokens: &[Token]) -> anyhow::Result<()> {
     Ok(())
 }
 
+fn shown_value(value: &OilValue) -> Piece<'_> {
+    match value {
+        OilValue::Word(word) => Piece::Bytes(word.bytes()),
+        OilValue::Number(number) => Piece::Number(*number),
+        OilValue::Text(text) => Piece::Bytes(text.bytes()),
+    }
+}
+
 fn list_attr(rt: &impl Print, attr: &OilAttr) -> anyhow::Result<()> {
-    let name = shown(attr.name.bytes());
-    match &attr.value {
-        OilValue::Word(word) => println!(rt;
-            "{} {} {name} = {}",
-            attr.line,
-            attr.depth,
-            shown(word.bytes())
-        )?,
-        OilValue::Number(number) => println!(rt; "{} {} {name} = {number}", attr.line, attr.depth)?,
-        OilValue::Text(text) => println!(rt;
-            "{} {} {name} = {}",
-            attr.line,
-            attr.depth,
-            shown(text.bytes())
-        )?,
+    row(
+        rt,
+        Piece::Number(attr.line),
+        &[
+            Piece::Number(attr.depth),
+            Piece::Bytes(attr.name.bytes()),
+            Piece::Text("="),
+            shown_value(&attr.value),
+        ],
+    )
+}
+
+fn list_attrs(rt: &impl Print, attrs: &[OilAttr]) -> anyhow::Result<()> {
+    for attr in attrs {
+        list_attr(rt, attr)?;
     }
     Ok(())
 }
 
+fn list_object(rt: &impl Print, object: &OilObject) -> anyhow::Result<()> {
+    row(
+        rt,
+        Piece::Number(object.line),
+        &[
+            Piece::Bytes(object.kind.bytes()),
+            Piece::Bytes(object.name.bytes()),
+        ],
+    )?;
+    list_attrs(rt, object.attrs.items())
+}
+
 /// Prints the line, kind and name of each object, and the line, depth, name and value of each of its attributes.
 pub fn list_tree(rt: &impl Print, tree: &OilTree) -> anyhow::Result<()> {
-    println!(rt; "{} CPU", tree.cpu_line)?;
+    row(rt, Piece::Number(tree.cpu_line), &[Piece::Text("CPU")])?;
     for object in tree.objects.items() {
-        println!(rt;
-            "{} {} {}",
-            object.line,
-            shown(object.kind.bytes()),
-            shown(object.name.bytes())
-        )?;
-        for attr in object.attrs.items() {
-            list_attr(rt, attr)?;
-        }
+        list_object(rt, object)?;
     }
     Ok(())
 }

@@ -1,19 +1,24 @@
 //! The files that commands are run on, and changes of them.
-ghost use Rattle.std.specs.Prelude.{◌≡◌, ◌≤◌, length, true};
-
-use sloth_base::memory::NoMemory;
 use std::alloc::Global;
 
 /// The greatest length of a file.
 pub const LONGEST: usize = 16_000_000;
 
-/// The files.
+/// The files, and the lines before the next question.
 #[derive(Drop)]
 pub struct Texts {
     pub oil: Vec<u8>,
     pub src: Vec<u8>,
     pub arr: Vec<u8>,
     pub img: Vec<u8>,
+    pub lines: Vec<u8>,
+}
+
+/// Puts bytes in the place of those of a text.
+pub fn refill(text: &mut Vec<u8>, bytes: &[u8]) -> anyhow::Result<()> {
+    text.clear();
+    text.extend_from_slice(bytes)?;
+    Ok(())
 }
 
 impl Texts {
@@ -24,62 +29,36 @@ impl Texts {
             src: Vec::new(alloc),
             arr: Vec::new(alloc),
             img: Vec::new(alloc),
+            lines: Vec::new(alloc),
         }
     }
 
-    /// Whether each has at most 16,000,000 bytes.
-    pub fn are_short(&self) -> bool
-        ensures oil { result ≡ true → length self.now.oil.items ≤ 16000000 }
-        ensures src { result ≡ true → length self.now.src.items ≤ 16000000 }
-        ensures arr { result ≡ true → length self.now.arr.items ≤ 16000000 }
-        ensures img { result ≡ true → length self.now.img.items ≤ 16000000 }
-    {
-        self.oil.len() <= LONGEST
-            && self.src.len() <= LONGEST
-            && self.arr.len() <= LONGEST
-            && self.img.len() <= LONGEST
-    }
-
-    /// Puts lines in the place of the file of this name, if there is one.
-    pub fn replace(&mut self, name: &[u8], lines: &[u8]) -> Result<bool, NoMemory> {
-        let text = if name == b"oil".as_slice() {
-            &mut self.oil
-        } else if name == b"src".as_slice() {
-            &mut self.src
-        } else if name == b"arr".as_slice() {
-            &mut self.arr
-        } else if name == b"img".as_slice() {
-            &mut self.img
-        } else {
-            return Ok(false);
+    /// Puts the lines in the place of the file of this name, if there is one.
+    pub fn replace(&mut self, name: &str) -> anyhow::Result<bool> {
+        let put = match name {
+            "oil" => refill(&mut self.oil, &self.lines),
+            "src" => refill(&mut self.src, &self.lines),
+            "arr" => refill(&mut self.arr, &self.lines),
+            "img" => refill(&mut self.img, &self.lines),
+            _ => return Ok(false),
         };
-        text.clear();
-        text.extend_from_slice(lines).map_err(|_| NoMemory)?;
+        put?;
         Ok(true)
     }
 
     /// Puts a line feed behind each text.
-    pub fn lengthen(&mut self) -> Result<(), NoMemory> {
-        self.oil.push(b'\n').map_err(|_| NoMemory)?;
-        self.src.push(b'\n').map_err(|_| NoMemory)?;
-        self.arr.push(b'\n').map_err(|_| NoMemory)?;
+    pub fn lengthen(&mut self) -> anyhow::Result<()> {
+        self.oil.push(b'\n')?;
+        self.src.push(b'\n')?;
+        self.arr.push(b'\n')?;
         Ok(())
     }
 
-    /// Takes a line out of the image file, by its number from 1.
-    pub fn drop_line(&mut self, alloc: Global, number: &str) -> Result<(), NoMemory> {
-        let Ok(number) = number.parse::<usize>() else {
-            return Ok(());
-        };
-        let mut kept = Vec::new(alloc);
-        for (i, line) in self.img.as_slice().split(|byte| *byte == b'\n').enumerate() {
-            if Some(i) != number.checked_sub(1) {
-                kept.extend_from_slice(line).map_err(|_| NoMemory)?;
-                kept.push(b'\n').map_err(|_| NoMemory)?;
-            }
+    // Takes a line out of the image file, by its number from 1.
+    fn drop_line(&mut self, alloc: Global, number: &str) -> anyhow::Result<()> {
+        if let Ok(number) = number.parse::<usize>() {
+            self.img = without_line(alloc, &self.img, number)?;
         }
-        kept.pop();
-        self.img = kept;
         Ok(())
     }
 
@@ -91,6 +70,12 @@ impl Texts {
         }
     }
 
+    // The places that two words name.
+    fn places(&self, words: &str) -> Option<(usize, usize)> {
+        let (one, other) = words.split_once(' ')?;
+        Some((self.place(one)?, self.place(other)?))
+    }
+
     // Writes bytes over those of the image file from a place on.
     fn write(&mut self, at: usize, bytes: &[u8]) {
         for (i, byte) in bytes.iter().enumerate() {
@@ -100,40 +85,44 @@ impl Texts {
         }
     }
 
-    /// Puts the bytes of these hexadecimal digits in the place of the image file.
-    pub fn make(&mut self, alloc: Global, digits: &str) {
+    // Puts the bytes of these hexadecimal digits in the place of the image file.
+    fn make(&mut self, alloc: Global, digits: &str) {
         if let Ok(bytes) = hex::decode(alloc, digits) {
             self.img = bytes;
         }
     }
 
-    /// Changes the image file: `AT HEX` writes these bytes over those from a place on, and behind the last byte appends them.
-    pub fn change(&mut self, alloc: Global, words: &str) -> Result<(), NoMemory> {
-        let Some((place, digits)) = words.split_once(' ') else {
-            return Ok(());
-        };
-        let Some(at) = self.place(place) else {
-            return Ok(());
-        };
-        let Ok(bytes) = hex::decode(alloc, digits) else {
-            return Ok(());
-        };
+    // Writes bytes over those of the image file from a place on, and behind the last byte appends them.
+    fn put(&mut self, at: usize, bytes: &[u8]) -> anyhow::Result<()> {
         if at == self.img.len() {
-            self.img.extend_from_slice(&bytes).map_err(|_| NoMemory)?;
+            self.img.extend_from_slice(bytes)?;
         } else {
-            self.write(at, &bytes);
+            self.write(at, bytes);
         }
         Ok(())
     }
 
-    /// Exchanges two marks of 12 bytes at the end of the image file, whose places are counted back from there.
-    pub fn exchange(&mut self, words: &str) {
-        let Some((one, other)) = words.split_once(' ') else {
-            return;
+    // Writes the bytes of these hexadecimal digits.
+    fn put_digits(&mut self, alloc: Global, place: &str, digits: &str) -> anyhow::Result<()> {
+        let Some(at) = self.place(place) else {
+            return Ok(());
         };
-        let (Some(one), Some(other)) = (self.place(one), self.place(other)) else {
-            return;
-        };
+        match hex::decode(alloc, digits) {
+            Ok(bytes) => self.put(at, &bytes),
+            Err(_) => Ok(()),
+        }
+    }
+
+    // Changes the image file: `AT HEX` writes these bytes over those from a place on, and behind the last byte appends them.
+    fn change(&mut self, alloc: Global, words: &str) -> anyhow::Result<()> {
+        match words.split_once(' ') {
+            Some((place, digits)) => self.put_digits(alloc, place, digits),
+            None => Ok(()),
+        }
+    }
+
+    // Exchanges 12 bytes at these places of the image file.
+    fn swap(&mut self, one: usize, other: usize) {
         for i in 0..12 {
             if one < LONGEST
                 && other < LONGEST
@@ -144,4 +133,45 @@ impl Texts {
             }
         }
     }
+
+    // Exchanges two marks of 12 bytes at the end of the image file, whose places are counted back from there.
+    fn exchange(&mut self, words: &str) {
+        if let Some((one, other)) = self.places(words) {
+            self.swap(one, other);
+        }
+    }
+
+    /// Changes the image file, if that is what this word asks for.
+    pub fn alter(&mut self, alloc: Global, word: &str, rest: &str) -> anyhow::Result<bool> {
+        match word {
+            "image" => self.make(alloc, rest),
+            "change" => self.change(alloc, rest)?,
+            "exchange" => self.exchange(rest),
+            "drop" => self.drop_line(alloc, rest)?,
+            "shorten" => {
+                self.img.pop();
+            }
+            _ => return Ok(false),
+        }
+        Ok(true)
+    }
+}
+
+/// Appends a line with its line feed.
+pub fn push_line(text: &mut Vec<u8>, line: &[u8]) -> anyhow::Result<()> {
+    text.extend_from_slice(line)?;
+    text.push(b'\n')?;
+    Ok(())
+}
+
+// The lines without the one of this number, from 1.
+fn without_line(alloc: Global, text: &[u8], number: usize) -> anyhow::Result<Vec<u8>> {
+    let mut kept = Vec::new(alloc);
+    for (i, line) in text.split(|byte| *byte == b'\n').enumerate() {
+        if Some(i) != number.checked_sub(1) {
+            push_line(&mut kept, line)?;
+        }
+    }
+    kept.pop();
+    Ok(kept)
 }

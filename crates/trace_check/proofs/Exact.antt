@@ -10,14 +10,14 @@ use Rattle.sloth_base.specs.declared.event.Arrival.{Arrival}
 use Rattle.sloth_base.specs.declared.event.Stamped.{Stamped}
 use Rattle.osek_scheduler.specs.Runs.{OsekRun}
 use Rattle.osek_scheduler.specs.InTime.{InTime}
-use Rattle.trace_check.specs.TraceText.{Shows, IsFirstBad}
-use Rattle.trace_check.specs.Walk.{StraysAt}
+use Rattle.walked_events.specs.TraceText.{Shows, IsFirstBad}
+use Rattle.walked_events.specs.Walk.{StraysAt}
 use Rattle.trace_check.specs.Verdicts.{Checked, IsFirstStray, IsLate, task_names, func_names, counter_names}
 use Rattle.trace_check.specs.Answer.{IsVerdict}
 use Rattle.trace_check.specs.declared.verdict.Verdict.{Verdict}
 use Rattle.trace_check.specs.declared.verdict.Verdict.TheVariants as verdict
-use Rattle.trace_check.proofs.TraceText.{shows_one, bad_shows_none, one_bad}
-use Rattle.trace_check.proofs.Walking.{run_front}
+use Rattle.walked_events.proofs.TraceText.{shows_one, bad_shows_none, one_bad}
+use Rattle.walked_events.proofs.Walking.{run_front}
 
 take_front : (j m : ℕ) (events : List Stamped) → j ≤ m → take j (take m events) ≡ take j events
 take_front zero m events le = refl

@@ -1,7 +1,7 @@
 -- What the pass over a text has found: with one line more, and at its end.
-use Rattle.std.proofs.Common.{◌≡◌, ℕ, ◌<◌, ◌≤◌, ◌⊎◌, inl, inr, List, [], ◌∷◌, Bool, true, Option, Some, None, length, get_or, refl, subst, arith}
-use Rattle.std.specs.Prelude.{◌==◌, All}
-use Rattle.std.proofs.lemmas.Bool.{eqb-true}
+use Rattle.std.proofs.Common.{◌≡◌, ℕ, ◌+◌, ◌<◌, ◌≤◌, ◌⊎◌, inl, inr, List, [], ◌∷◌, Bool, true, false, Option, Some, None, length, get_or, refl, subst, arith}
+use Rattle.std.specs.Prelude.{◌==◌, ◌≢◌, All}
+use Rattle.std.proofs.lemmas.Bool.{eqb-true, true≢false}
 use Rattle.std.specs.Bool.{Decides}
 use Rattle.std.proofs.lemmas.List.{length-map}
 use Rattle.sloth_base.specs.Arrivals.{AreArrivals}
@@ -19,10 +19,12 @@ use Rattle.sloth_base.proofs.Owners.{IsCounterLine, owned_cases}
 use Rattle.osek_scheduler.specs.InTime.{InTime}
 use Rattle.trace_text.specs.EventLines.{HasNumbers}
 use Rattle.trace_time.specs.Counts.{AreSmall, IsSmall}
-use Rattle.trace_check.specs.TraceText.{HasLine, HasRead, Shows}
-use Rattle.trace_check.specs.Verdicts.{counter_names}
-use Rattle.trace_check.specs.Walk.{StraysAt, IsWalked, WalksOrStrays, Walk}
-use Rattle.trace_check.proofs.TraceText.{reads_all}
+use Rattle.walked_events.specs.TraceText.{BeginsWithNone, HasLine, HasRead, IsFirstBad, Shows}
+use Rattle.trace_check.specs.Begun.{AreNamesOf}
+use Rattle.trace_check.specs.Verdicts.{counter_names, func_names, task_names}
+use Rattle.trace_check.specs.declared.verdict.Names.{Names}
+use Rattle.walked_events.specs.Walk.{StraysAt, IsWalked, WalksOrStrays, Walk}
+use Rattle.walked_events.proofs.TraceText.{reads_all}
 
 -- the admissions of events that have lines are of numbers of 32 bits
 line_small : (tasks functions counters : ℕ) → counters ≤ 2 → (e : Event) → HasNumbers tasks functions counters e → IsSmall (admitted_line e)
@@ -38,6 +40,37 @@ lines_small tasks functions counters few events h k d l =
 -- the names of the counters are few
 pub few_names : (config : Config) → length config.counters ≤ 2 → length (counter_names config) ≤ 2
 few_names config few = let long = length-map config.counters (λ (c : CounterDecl). c.name) in omega (arith, long, few)
+
+-- ---- names that were made, in the place of those of the configuration and its task code
+
+-- text is left
+is_left : (rest : List ℕ) → (length rest == 0) ≡ false → rest ≢ []
+is_left [] h e = true≢false h
+is_left (x ∷ rest) h e = cc
+
+module _ (config : Config) (app : App) (names : Names) (named : AreNamesOf config app names) where
+  pub all_read : (text rest : List ℕ) (events : List Stamped) → HasRead names.tasks names.funcs names.counters text events rest
+      → HasRead (task_names config) (func_names app) (counter_names config) text events rest
+  all_read text rest events reads =
+      let P : List (List ℕ) → List (List ℕ) → List (List ℕ) → Type 0 = λ ts fs cs. HasRead ts fs cs text events rest in
+      subst (λ (ts : List (List ℕ)). P ts (func_names app) (counter_names config)) named.tasks
+      (subst (λ (fs : List (List ℕ)). P names.tasks fs (counter_names config)) named.funcs
+      (subst (λ (cs : List (List ℕ)). P names.tasks names.funcs cs) named.counters reads))
+
+  none_begins : (rest : List ℕ) → BeginsWithNone names.tasks names.funcs names.counters rest → BeginsWithNone (task_names config) (func_names app) (counter_names config) rest
+  none_begins rest none =
+      let P : List (List ℕ) → List (List ℕ) → List (List ℕ) → Type 0 = λ ts fs cs. BeginsWithNone ts fs cs rest in
+      subst (λ (ts : List (List ℕ)). P ts (func_names app) (counter_names config)) named.tasks
+      (subst (λ (fs : List (List ℕ)). P names.tasks fs (counter_names config)) named.funcs
+      (subst (λ (cs : List (List ℕ)). P names.tasks names.funcs cs) named.counters none))
+
+  -- the line behind those that were read is no event's
+  pub bad_line : (text rest : List ℕ) (events : List Stamped) → HasRead names.tasks names.funcs names.counters text events rest → (length rest == 0) ≡ false
+      → BeginsWithNone names.tasks names.funcs names.counters rest → (k : ℕ) → k ≡ length events + 1
+      → IsFirstBad (task_names config) (func_names app) (counter_names config) text k
+  bad_line text rest events reads left none k is =
+      let read = all_read text rest events reads in
+      record { front = events; rest = rest; lines = read.lines; is = read.is; line = is; more = is_left rest left; bad = none_begins rest none }
 
 -- the lines of arrivals are numbers of 32 bits
 line_word : (config : Config) → InRange config → (line : ℕ) → IsOwned (owners_in config) line → line < 4294967296

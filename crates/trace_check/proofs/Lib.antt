@@ -1,5 +1,2 @@
-pub mod Moments
-pub mod Walking
-pub mod TraceText
 pub mod Exact
 pub mod Judging

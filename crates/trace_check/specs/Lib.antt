@@ -1,5 +1,3 @@
-pub mod Moments
-pub mod Walk
-pub mod TraceText
 pub mod Verdicts
 pub mod Answer
+pub mod Begun

@@ -6,8 +6,8 @@ use Rattle.sloth_base.specs.declared.event.Arrival.{Arrival}
 use Rattle.sloth_base.specs.declared.event.Stamped.{Stamped}
 use Rattle.osek_scheduler.specs.Runs.{OsekRun}
 use Rattle.osek_scheduler.specs.InTime.{InTime}
-use Rattle.trace_check.specs.TraceText.{Shows}
-use Rattle.trace_check.specs.Walk.{StraysAt}
+use Rattle.walked_events.specs.TraceText.{Shows}
+use Rattle.walked_events.specs.Walk.{StraysAt}
 
 abbrev pub task_names : Config → List (List ℕ)
 task_names config = map (λ t. t.name) config.tasks

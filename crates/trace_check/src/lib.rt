@@ -2,8 +2,6 @@
 #![tactic(auto)]
 
 pub mod laws;
-pub mod lines;
 pub mod verdict;
-pub mod walk;
 
 pub use verdict::{Verdict, check};

@@ -1,22 +1,28 @@
 //! The verdict on a text.
-ghost use Rattle.std.specs.Prelude.{◌≡◌, ◌<◌, ◌↔◌, IfOk, length};
-ghost use Rattle.sloth_base.specs.Arrivals.{AreArrivals};
+ghost use Rattle.std.specs.Prelude.{◌≡◌, ◌<◌, ◌↔◌, ◌++◌, ◌∷◌, [], IfOk, OnOk, IfSome, IfNone, All, length};
+ghost use Rattle.sloth_base.specs.Arrivals.{AreArrivals, NeverFalls};
+ghost use Rattle.sloth_base.specs.ImageRange.{AreApart, AreNames};
 ghost use Rattle.sloth_base.specs.Owners.{owners_in};
+ghost use Rattle.sloth_base.specs.declared.app.App.{App as AnyApp};
+ghost use Rattle.sloth_base.specs.declared.config.Config.{Config as AnyConfig};
 ghost use Rattle.code_rules.specs.WellFormed.{WellFormed};
+ghost use Rattle.walked_events.specs.TraceText.{Begins, BeginsWithNone};
 ghost use Rattle.trace_check.specs.Verdicts.{Checked, counter_names, func_names, task_names};
 ghost use Rattle.trace_check.specs.Answer.{IsVerdict};
+ghost use Rattle.trace_check.specs.Begun.{AreNamesOf, IsBegun};
 
-use crate::lines::first_event;
-use crate::walk::Walk;
 use sloth_base::app::App;
 use sloth_base::config::Config;
-use sloth_base::event::Arrival;
+use sloth_base::event::{Arrival, Stamped};
+use sloth_base::list::List;
 use sloth_base::memory::NoMemory;
 use sloth_base::name::Name;
 use std::alloc::Global;
 use text_pieces::bytes::behind;
 use text_pieces::growth::push;
 use trace_time::Timing;
+use walked_events::lines::first_event;
+use walked_events::walk::Walk;
 
 /// What is said of a text of events.
 #[derive(Clone, Copy, Debug, PartialEq, Eq)]
@@ -31,13 +37,28 @@ pub enum Verdict {
     Time,
 }
 
+// The names that a line may have.
+#[derive(Drop)]
+struct Names {
+    tasks: List<Name>,
+    funcs: List<Name>,
+    counters: List<Name>,
+}
+
+// One more name.
+fn push_name(alloc: Global, names: &mut Vec<Name>, name: &Name) -> Result<(), NoMemory>
+    ensures { OnOk result (names.new.items ≡ names.old.items ++ name.now ∷ []) }
+{
+    push(names, Name::new(alloc, name.bytes())?)
+}
+
 /// The names of the tasks.
 pub fn task_names(alloc: Global, config: &Config) -> Result<Vec<Name>, NoMemory>
     ensures { IfOk result (λ names. names.items ≡ task_names config.now) }
 {
     let mut names = Vec::new(alloc);
     for task in config.tasks.items() {
-        push(&mut names, Name::new(alloc, task.name.bytes())?)?;
+        push_name(alloc, &mut names, &task.name)?;
     }
     Ok(names)
 }
@@ -48,7 +69,7 @@ pub fn counter_names(alloc: Global, config: &Config) -> Result<Vec<Name>, NoMemo
 {
     let mut names = Vec::new(alloc);
     for counter in config.counters.items() {
-        push(&mut names, Name::new(alloc, counter.name.bytes())?)?;
+        push_name(alloc, &mut names, &counter.name)?;
     }
     Ok(names)
 }
@@ -59,9 +80,79 @@ fn func_names(alloc: Global, app: &App) -> Result<Vec<Name>, NoMemory>
 {
     let mut names = Vec::new(alloc);
     for func in app.funcs.items() {
-        push(&mut names, Name::new(alloc, func.name.bytes())?)?;
+        push_name(alloc, &mut names, &func.name)?;
     }
     Ok(names)
+}
+
+// All names.
+fn names_of(alloc: Global, config: &Config, app: &App) -> Result<Names, NoMemory>
+    ensures { IfOk result (AreNamesOf config.now app.now) }
+{
+    let tasks = task_names(alloc, config)?;
+    let funcs = func_names(alloc, app)?;
+    let counters = counter_names(alloc, config)?;
+    Ok(Names {
+        tasks: List::from_vec(tasks),
+        funcs: List::from_vec(funcs),
+        counters: List::from_vec(counters),
+    })
+}
+
+// The event of the first line, if an LF ends it.
+fn next_event(names: &Names, text: &[u8]) -> Option<Stamped>
+    requires tasks { AreNames names.now.tasks }
+    requires funcs { AreNames names.now.funcs }
+    requires counters { AreNames names.now.counters }
+    requires apart { AreApart names.now.counters names.now.tasks }
+    ensures some { IfSome result (λ e. Begins names.now.tasks names.now.funcs names.now.counters text.now e) }
+    ensures none { IfNone result (BeginsWithNone names.now.tasks names.now.funcs names.now.counters text.now) }
+{
+    first_event(
+        text,
+        names.tasks.items(),
+        names.funcs.items(),
+        names.counters.items(),
+    )
+}
+
+// The verdict on a text, by a walk and a look at the arrivals before their first event.
+fn judge_lines(
+    alloc: Global,
+    names: &Names,
+    walk: &mut Walk,
+    timing: &mut Timing,
+    text: &[u8],
+) -> Result<Verdict, NoMemory>
+    requires tasks { AreNames names.now.tasks }
+    requires funcs { AreNames names.now.funcs }
+    requires counters { AreNames names.now.counters }
+    requires apart { AreApart names.now.counters names.now.tasks }
+    requires rising { NeverFalls 1 timing.old.arrivals }
+    requires lines { All (λ a. a.line < 4294967296) timing.old.arrivals }
+    requires short { length text.now < 4294967295 }
+    ensures { IfOk result (λ v. (config : AnyConfig) (app : AnyApp) → IsBegun config app names.now walk.old timing.old
+        → IsVerdict config app timing.old.arrivals text.now timing.old.n v) }
+{
+    let mut stray = None;
+    let mut line = 0;
+    let mut rest = text;
+    while !rest.is_empty() {
+        line += 1;
+        let Some(event) = next_event(names, rest) else {
+            return Ok(Verdict::Line(line));
+        };
+        stray = walk.follow(stray, &event, line);
+        timing.take(&event)?;
+        rest = behind(rest, b'\n');
+    }
+    if let Some(line) = stray {
+        return Ok(Verdict::Step(line));
+    }
+    if timing.in_time(alloc)? {
+        return Ok(Verdict::Yes);
+    }
+    Ok(Verdict::Time)
 }
 
 // The verdict.
@@ -78,35 +169,10 @@ fn judge(
     requires short { length text.now < 4294967295 }
     ensures { IfOk result (λ v. IsVerdict config.now app.now arrivals.now text.now n v) }
 {
-    let tasks = task_names(alloc, config)?;
-    let funcs = func_names(alloc, app)?;
-    let counters = counter_names(alloc, config)?;
+    let names = names_of(alloc, config, app)?;
     let mut walk = Walk::new(alloc, config, app)?;
     let mut timing = Timing::new(alloc, config, n, arrivals);
-    let mut stray = None;
-    let mut line = 0;
-    let mut rest = text;
-    while !rest.is_empty() {
-        line += 1;
-        let Some(event) = first_event(
-            rest,
-            tasks.as_slice(),
-            funcs.as_slice(),
-            counters.as_slice(),
-        ) else {
-            return Ok(Verdict::Line(line));
-        };
-        stray = walk.follow(stray, &event, line);
-        timing.take(&event)?;
-        rest = behind(rest, b'\n');
-    }
-    if let Some(line) = stray {
-        return Ok(Verdict::Step(line));
-    }
-    if timing.in_time(alloc)? {
-        return Ok(Verdict::Yes);
-    }
-    Ok(Verdict::Time)
+    judge_lines(alloc, &names, &mut walk, &mut timing, text)
 }
 
 /// Whether a text in the counted form is that of a run of n instructions with these arrivals, and if not, why not.

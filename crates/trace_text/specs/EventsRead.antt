@@ -1,12 +1,13 @@
 -- How the one event is found that a counted line may show: word after word, read loosely. The line of that event is compared with the text.
 use Rattle.std.specs.Prelude.{ℕ, nat_lt, Bool, ◌||◌, if◌then◌else◌, List}
 use Rattle.std.specs.Prelude.{codes, bytes_eq, position, Option, Some, None, option_and_then}
-pub use Rattle.sloth_base.specs.ServiceCodes.{service_named}
+unfoldable pub use Rattle.sloth_base.specs.ServiceCodes.{service_named}
 use Rattle.sloth_base.specs.declared.event.Event.{Event}
 use Rattle.sloth_base.specs.declared.event.Event.TheVariants as event
 use Rattle.sloth_base.specs.declared.event.Stamped.{Stamped}
 use Rattle.text_pieces.specs.Digits.{value_from, capped_value}
 use Rattle.asm_lines.specs.Operands.{before, behind}
+unfoldable pub use Rattle.line_words.specs.EventWords.{single_in}
 
 infixl 10 ◌>>=◌
 -- goes on with what there is
@@ -66,13 +67,6 @@ more_in kind task functions text =
     if bytes_eq kind (codes "run") then run_in task functions text
     else if bytes_eq kind (codes "call") then call_in task text
     else if bytes_eq kind (codes "left") then left_in task text
-    else None
-
--- an event of a task alone, by its first word
-unfoldable pub single_in : List ℕ → ℕ → Option Event
-single_in kind task =
-    if bytes_eq kind (codes "enter") then Some (event.Enter task)
-    else if bytes_eq kind (codes "back") then Some (event.Back task)
     else None
 
 -- the words tell of no more than a task

@@ -1,22 +1,14 @@
 -- The listing of an image: its numbers, and a line for each word of its memory.
 use Rattle.std.specs.Prelude.{ℕ, zero, suc, ◌+◌, ◌-◌, ◌*◌, ◌/◌, ◌==◌, List, [], ◌∷◌, ◌++◌, length, codes, decimal, slice_index}
 use Rattle.std.specs.Prelude.{find, Option, Some, None, if◌then◌else◌}
-use Rattle.std.specs.Int.{to_be_bytes, w32}
 use Rattle.hex.specs.Hex.{encode_lower}
-use Rattle.sloth_base.specs.ServiceCodes.{service_of, service_name}
 use Rattle.sloth_base.specs.declared.image.Image.{Image}
 use Rattle.sloth_base.specs.declared.image.Mark.{Mark}
-use Rattle.sloth_base.specs.declared.image.MarkKind.{MarkKind}
-use Rattle.sloth_base.specs.declared.image.MarkKind.TheVariants as kind
-use Rattle.sloth_base.specs.declared.service.Service.{Service}
 use Rattle.sloth_base.specs.MemoryMap.{memory_base}
-use Rattle.trace_text.specs.Lines.{name_of}
+unfoldable pub use Rattle.line_words.specs.MarkWords.{word_text}
+pub use Rattle.line_words.specs.MarkWords.{called_text, kind_text, mark_text}
 
 -- ---- words and marks
-
--- a number of 32 bits in eight hexadecimal digits, the high ones first
-unfoldable pub word_text : ℕ → List ℕ
-word_text number = encode_lower (to_be_bytes w32 number)
 
 -- the four bytes of a word of memory, the high one first
 abbrev pub word_bytes : List ℕ → ℕ → List ℕ
@@ -25,23 +17,6 @@ word_bytes memory at = slice_index memory (at + 3) ∷ slice_index memory (at + 
 -- the mark on the word of an address
 abbrev pub mark_on : List Mark → ℕ → Option Mark
 mark_on marks address = find (λ mark. mark.address == address) marks
-
--- the name of a service, or `-` of a number that is none's
-abbrev pub called_text : Option Service → List ℕ
-called_text None = codes "-"
-called_text (Some service) = service_name service
-
--- what a mark of a kind says, with the names of functions
-abbrev pub kind_text : MarkKind → List (List ℕ) → Mark → List ℕ
-kind_text kind.Item functions mark = codes " item " ++ name_of functions mark.b ++ codes " " ++ decimal mark.c
-kind_text kind.Jump functions mark = codes " service " ++ name_of functions mark.b ++ codes " " ++ decimal mark.c
-kind_text kind.Opening functions mark = codes " opening " ++ called_text (service_of mark.a)
-kind_text kind.Idle functions mark = codes " idle"
-kind_text kind.Back functions mark = codes " back"
-
--- what a mark says
-abbrev pub mark_text : List (List ℕ) → Mark → List ℕ
-mark_text functions mark = kind_text mark.kind functions mark
 
 -- what the mark on a word says, if there is one
 abbrev pub marked_text : List (List ℕ) → Option Mark → List ℕ

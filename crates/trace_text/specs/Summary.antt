@@ -1,22 +1,7 @@
 -- The summary of a run: how many events of each kind it shows.
 use Rattle.std.specs.Prelude.{ℕ, zero, suc, ◌==◌, if◌then◌else◌, List, [], ◌∷◌, ◌++◌, count_by, decimal, codes, slice_index, map}
-use Rattle.sloth_base.specs.declared.event.Event.{Event}
-use Rattle.sloth_base.specs.declared.event.Event.TheVariants as event
 use Rattle.sloth_base.specs.declared.event.Stamped.{Stamped}
-
--- the number of an event's kind, in the order of the summary; a counter that becomes due is admitted as a task is
-abbrev pub kind_of : Event → ℕ
-kind_of event.Boot = 0
-kind_of (event.Admit task) = 1
-kind_of (event.Due counter) = 1
-kind_of (event.Enter task) = 2
-kind_of (event.Run task function item result) = 3
-kind_of (event.Call task service status) = 4
-kind_of (event.Left task service) = 5
-kind_of (event.Back task) = 6
-kind_of event.Idle = 7
-kind_of event.Stray = 8
-kind_of (event.Tick counter) = 9
+pub use Rattle.line_words.specs.EventWords.{kind_of}
 
 -- how many of these events are of a kind
 abbrev pub count_of_kind : List Stamped → ℕ → ℕ

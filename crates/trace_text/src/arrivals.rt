@@ -8,6 +8,7 @@ ghost use Rattle.trace_text.specs.ArrivalsText.{arrivals_of, arrivals_in, owners
 
 use crate::arrival_line::{arrival_of, is_arrival, line_fault};
 use asm_lines::cutting::{line_of, split};
+use line_words::arrivals::push_arrival;
 use sloth_base::event::Arrival;
 use sloth_base::memory::NoMemory;
 use sloth_base::name::Name;
@@ -54,7 +55,7 @@ fn read_line(
         return Err(BuildError::Refused(fault));
     }
     if is_arrival(line) {
-        push(read, arrival_of(tasks, counters, line))?;
+        push_arrival(read, arrival_of(tasks, counters, line))?;
     }
     Ok(())
 }

@@ -4,11 +4,13 @@ ghost use Rattle.sloth_base.specs.ImageRange.{AreNames, AreApart};
 ghost use Rattle.sloth_base.specs.declared.event.Stamped.{Stamped as AnyEvent};
 ghost use Rattle.trace_text.specs.EventLines.{HasNumbers, IsLineOf, IsNameNumber, IsNumberOrNone, Has32Bits, counted_line};
 ghost use Rattle.trace_text.specs.EventsRead.{admit_in, call_in, event_in, is_single, left_in, more_in, named_in, number, of_task, place};
-ghost use Rattle.trace_text.specs.EventsRead.{place_or_none, run_in, single_in, stamped_in, tick_in};
+ghost use Rattle.trace_text.specs.EventsRead.{place_or_none, run_in, stamped_in, tick_in};
 
 use crate::arrival_line::position;
-use crate::line_text::LineText;
-use crate::printing::{push_counts, push_event};
+use crate::printing::push_counts;
+use line_words::events::push_event;
+use line_words::line_text::LineText;
+use line_words::reading::single_in;
 use sloth_base::event::{Event, Stamp, Stamped};
 use sloth_base::name::Name;
 use sloth_base::service::service_named;
@@ -116,21 +118,6 @@ fn more_in(kind: &[u8], task: u32, functions: &[Name], text: &[u8]) -> Option<Ev
     }
     if same(kind, b"left") {
         return left_in(task, text);
-    }
-    None
-}
-
-// An event of a task alone, by its first word.
-#[tactic(auto, unfolding(crate::specs::EventsRead::single_in))]
-fn single_in(kind: &[u8], task: u32) -> Option<Event>
-    ensures event { result ≡ single_in kind.now task }
-    ensures numbers { (tasks functions counters : ℕ) → IsNumberOrNone tasks task → IfSome result (λ event. HasNumbers tasks functions counters event) }
-{
-    if same(kind, b"enter") {
-        return Some(Event::Enter(task));
-    }
-    if same(kind, b"back") {
-        return Some(Event::Back(task));
     }
     None
 }

@@ -1,31 +1,12 @@
 //! The summary of a run.
 ghost use Rattle.std.specs.Prelude.{◌≡◌, ◌<◌, ◌≤◌, length};
-ghost use Rattle.trace_text.specs.Summary.{kind_of, kind_word, kind_line};
+ghost use Rattle.trace_text.specs.Summary.{kind_word, kind_line};
 
-use crate::line_text::LineText;
-use sloth_base::event::Event;
+pub use line_words::events::kind_of;
+use line_words::line_text::LineText;
 
 /// How many kinds of events there are.
 pub const KINDS: usize = 10;
-
-/// The number of an event's kind, in the order of the summary.
-pub fn kind_of(event: &Event) -> usize
-    ensures is { result ≡ kind_of event.now }
-    ensures below { result < 10 }
-{
-    match *event {
-        Event::Boot => 0,
-        Event::Admit(_) | Event::Due(_) => 1,
-        Event::Enter(_) => 2,
-        Event::Run { .. } => 3,
-        Event::Call { .. } => 4,
-        Event::Left { .. } => 5,
-        Event::Back(_) => 6,
-        Event::Idle => 7,
-        Event::Stray => 8,
-        Event::Tick(_) => 9,
-    }
-}
 
 // The word of a kind.
 #[tactic(auto, unfolding(crate::specs::Summary::kind_word))]

@@ -1,3 +1,2 @@
-pub mod Scan
 pub mod Counts
 pub mod Timed

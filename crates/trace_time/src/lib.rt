@@ -2,7 +2,6 @@
 #![tactic(auto)]
 
 pub mod numbers;
-pub mod pass;
 pub mod stretches;
 pub mod timing;
 

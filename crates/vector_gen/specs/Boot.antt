@@ -4,7 +4,7 @@ use Rattle.sloth_base.specs.declared.config.TaskDecl.{TaskDecl}
 use Rattle.sloth_base.specs.Machine.{Core, State}
 use Rattle.sloth_base.specs.Owners.{first_counter_line, counter_line}
 use Rattle.code_lengths.specs.CodeLengths.{boot_length}
-use Rattle.sloth_region.specs.Layout.{idle_context, context_bytes, words_high, controller_high, pending_byte, enabled_byte, level_byte}
+use Rattle.sloth_region.specs.Layout.{idle_context, context_bytes, words_high, controller_high, enabled_byte, level_byte}
 use Rattle.rv32_instr.specs.declared.csr.TheConstants.{MSTATUS, MEPC, MPIE}
 use Rattle.rv32_instr.specs.declared.InstrKind.{InstrKind}
 use Rattle.rv32_instr.specs.declared.InstrKind.TheVariants.{Lui, Addi, Sb, Csrrw, Mret}
@@ -13,17 +13,13 @@ use Rattle.sloth_base.specs.MemoryMap.{memory_base}
 use Rattle.masked_code.specs.Place.{offset_state}
 use Rattle.masked_code.specs.Masked.{Masked, WithArrivals}
 use Rattle.masked_code.specs.Kernel.{CanRun, LeftAs}
+use Rattle.routine_pieces.specs.Boot.{line_code}
 
 -- ---- the code
 
 -- x3 and x4 as the code of each line expects them
 abbrev pub register_code : List InstrKind
 register_code = Lui 3 controller_high ∷ Addi 4 0 (pos 1) ∷ []
-
--- x3 holds the controller's address, x4 holds 1
-abbrev pub line_code : ℕ → Bool → List InstrKind
-line_code line true = Sb 3 4 (pos (pending_byte line)) ∷ []
-line_code line false = []
 
 -- a task's line has its level and is enabled, and is pending where the task is autostarted
 abbrev pub line_start_code : ℕ → ℕ → Bool → List InstrKind

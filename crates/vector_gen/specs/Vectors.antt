@@ -1,12 +1,11 @@
 -- The vector words.
-use Rattle.std.specs.Prelude.{ℕ, ℤ, ◌+◌, ◌*◌, ◌%◌, ◌≡◌, ◌<◌, ◌≤◌, List, length, slice_index, slice_index_or, None}
+use Rattle.std.specs.Prelude.{ℕ, ◌+◌, ◌*◌, ◌%◌, ◌≡◌, ◌<◌, ◌≤◌, List, length, slice_index, slice_index_or, None}
 use Rattle.sloth_base.specs.Machine.{Core}
 use Rattle.rv32_instr.specs.declared.InstrKind.{InstrKind}
-use Rattle.rv32_instr.specs.declared.InstrKind.TheVariants.{Jal}
-use Rattle.sloth_base.specs.Arithmetic.{plus}
 use Rattle.sloth_base.specs.MemoryMap.{vectors_base, boot_base}
 use Rattle.rv32_instr.specs.Execute.{Going, step, touched}
 use Rattle.masked_code.specs.Place.{offset_state, InPlace}
+use Rattle.routine_pieces.specs.Boot.{IsJump}
 
 -- each handler stands behind the vector words, within reach of a jump, at a multiple of 4
 pub record AreInReach (handlers : List ℕ) : Type 0 where
@@ -14,10 +13,6 @@ pub record AreInReach (handlers : List ℕ) : Type 0 where
   pub aligned : (line : ℕ) → line < 32 → slice_index handlers line % 4 ≡ 0
   pub behind : (line : ℕ) → line < 32 → boot_base ≤ slice_index handlers line
   pub near : (line : ℕ) → line < 32 → slice_index handlers line < 0x8010_0400
-
--- an instruction at an address jumps to another, and writes no register
-abbrev pub IsJump : ℕ → ℕ → InstrKind → Type 0
-IsJump from target kind = (imm : ℤ) × (kind ≡ Jal 0 imm) × (plus from imm ≡ target)
 
 -- each word, at 4 times its line behind the base of the vectors, jumps to the line's handler; there are so many
 pub record AreJumps (words : ℕ) (handlers : List ℕ) (code : List InstrKind) : Type 0 where

@@ -7,6 +7,7 @@ ghost use Rattle.vector_gen.specs.Boot.{register_code, line_start_code, lines_co
 ghost use Rattle.sloth_base.specs.Owners.{first_counter_line};
 
 use masked_code::emit::emit;
+use routine_pieces::boot::{counter_level, raise_autostarted};
 use rv32_instr::asm::{X1, X2, X3, X4, ZERO, addi, csrrw, lui, mret, sb};
 use rv32_instr::constant::{hi, lo};
 use rv32_instr::csr::{MEPC, MPIE, MSTATUS};
@@ -19,7 +20,6 @@ use sloth_base::memory_map::BOOT_BASE;
 use sloth_base::places::Levels;
 use sloth_region::layout::{
     CONTEXT_BYTES, CONTROLLER_HIGH, IDLE_CONTEXT, WORDS_HIGH, enabled_byte, level_byte,
-    pending_byte,
 };
 use sloth_region::map::Map;
 use std::alloc::{AllocError, Global};
@@ -37,7 +37,7 @@ pub fn boot(alloc: Global, config: &Config, levels: &Levels, map: &Map) -> Resul
     let mut code = Vec::new(alloc);
     begin(&mut code)?;
     start_all(&mut code, config.tasks.items(), levels.task)?;
-    start_counters(&mut code, config.counters.items(), levels.top + 1)?;
+    start_counters(&mut code, config.counters.items(), counter_level(levels))?;
     finish(&mut code, map.idle)?;
     Ok(Block {
         at: BOOT_BASE,
@@ -64,10 +64,7 @@ fn start(code: &mut Vec<Instr>, line: u8, level: u8, autostart: bool) -> Result<
         sb(X4, X3, enabled_byte(line)),
     ];
     emit(code, &enabled)?;
-    if autostart {
-        emit(code, &[sb(X4, X3, pending_byte(line))])?;
-    }
-    Ok(())
+    raise_autostarted(code, line, autostart)
 }
 
 /// All tasks' lines.

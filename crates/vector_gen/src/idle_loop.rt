@@ -2,9 +2,8 @@
 ghost use Rattle.std.specs.Prelude.{◌≡◌, ◌≤◌, ◌∷◌, [], length, IfOk};
 ghost use Rattle.vector_gen.specs.Idle.{idle_mark, Idles};
 
-use masked_code::emit::emit;
+use routine_pieces::boot::stay;
 use rv32_instr::Block;
-use rv32_instr::asm::{ZERO, jal};
 use sloth_base::image::{Mark, MarkKind};
 use sloth_base::list::List;
 use sloth_base::memory::NoMemory;
@@ -19,7 +18,7 @@ pub fn idle(alloc: Global, map: &Map) -> Result<Block, NoMemory>
     ensures effect { IfOk result (λ block. Idles block.code) }
 {
     let mut code = Vec::new(alloc);
-    emit(&mut code, &[jal(ZERO, 0)])?;
+    stay(&mut code)?;
     let mark = Mark {
         address: map.idle,
         kind: MarkKind::Idle,

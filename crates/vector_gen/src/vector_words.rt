@@ -1,12 +1,11 @@
 //! The vector words: for each line a jump to its handler.
-ghost use Rattle.std.specs.Prelude.{◌≡◌, ◌<◌, ◌≤◌, ◌+◌, ◌%◌, ◌^◌, [], length, IfOk};
+ghost use Rattle.std.specs.Prelude.{◌≡◌, ◌≤◌, [], length, IfOk};
 ghost use Rattle.sloth_base.specs.MemoryMap.{vectors_base};
-ghost use Rattle.rv32_instr.specs.Range.{InRange};
-ghost use Rattle.vector_gen.specs.Vectors.{AreInReach, AreJumps, IsJump, StepToHandlers};
+ghost use Rattle.vector_gen.specs.Vectors.{AreInReach, AreJumps, StepToHandlers};
 
 use masked_code::emit::emit;
-use rv32_instr::asm::{ZERO, jal};
-use rv32_instr::{Block, InstrKind};
+use routine_pieces::boot::jump;
+use rv32_instr::Block;
 use sloth_base::list::List;
 use sloth_base::memory::NoMemory;
 use sloth_base::memory_map::VECTORS_BASE;
@@ -32,14 +31,4 @@ pub fn vectors(alloc: Global, map: &Map) -> Result<Block, NoMemory>
         code: List::from_vec(code),
         marks: List::from_vec(Vec::new(alloc)),
     })
-}
-
-/// The jump from an address to one behind it.
-fn jump(from: u32, target: u32) -> InstrKind
-    requires near { (from < target) × (target < from + 0x100000) }
-    requires aligned { (from % 4 ≡ 0) × (target % 4 ≡ 0) × (from + 0x100000 < 2 ^ 32) }
-    ensures fits { InRange result }
-    ensures jumps { IsJump from target result }
-{
-    jal(ZERO, (target - from) as i32)
 }

@@ -6,6 +6,5 @@ mod header;
 mod keeping;
 pub mod laws;
 mod recording;
-mod signals;
 
 pub use recording::{Recorded, waves};

@@ -1,17 +1,6 @@
-use Rattle.block_bounds.specs.declared.bound.Bound.{Bound}
-use Rattle.block_bounds.specs.declared.bound.Bound.TheVariants as bound
-use Rattle.block_bounds.specs.Bounds.{IsTold}
 use Rattle.section_sizes.proofs.Bodily.{facts_of}
 use Rattle.section_sizes.proofs.Reaching.{called_known}
-use Rattle.section_sizes.proofs.Growing.{held_more}
 use Rattle.block_bounds.proofs.bound.bounds_of.Goals as goal
 
 pub callees_first-requires-clause-known : goal.callees_first-requires-clause-known
 callees_first-requires-clause-known c = called_known c.args.config.now c.args.app.now (facts_of c.args.config.now c.args.app.now c.requires.well_formed)
-
-pub loop-task-preserved : goal.loop-task-preserved
-loop-task-preserved c =
-    let g =
-    held_more Bound (IsTold c.args.config.now c.args.app.now) c.loop-task.bounds.items c.push.new.list.items c.in_ok-bound.bound bound.Endless c.loop-task.task
-    c.loop-task.invariant.count c.loop-task.invariant.each c.in_ok-push.ensures c.in_ok-bound.ensures in
-    record { count = g.count; each = g.each }

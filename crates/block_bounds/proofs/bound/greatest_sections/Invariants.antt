@@ -1,5 +1,5 @@
 use Rattle.std.proofs.Common.{◌≡◌}
-use Rattle.stack_bounds.specs.Tables.{max_below}
+use Rattle.code_tables.specs.Tables.{max_below}
 use Rattle.block_bounds.specs.Bounds.{greatest_section}
 use Rattle.block_bounds.proofs.bound.greatest_sections.Given as goal
 

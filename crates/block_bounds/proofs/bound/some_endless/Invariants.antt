@@ -1,6 +1,7 @@
 use Rattle.std.proofs.Common.{◌≡◌, ◌&&◌}
 use Rattle.call_graph.specs.Reached.{any_below}
-use Rattle.block_bounds.specs.Bounds.{is_below, task_summary}
+use Rattle.block_bounds.specs.Bounds.{is_below}
+use Rattle.bound_rules.specs.Tasks.{task_summary}
 use Rattle.block_bounds.proofs.bound.some_endless.Given as goal
 
 abbrev pub invariant-loop-task : goal.invariant-loop-task

@@ -7,6 +7,6 @@ use Rattle.event_gen.proofs.get_event.code.Goals as goal
 pub returns : goal.returns
 returns c =
     let e : c.go_back.new.code.items ≡ masking ∷ body c.args.task =
-    rw (c.in_ok-go_back.ensures, c.in_ok-tell.ensures, c.in_ok-refuse.ensures, c.in_ok-look_at.ensures, c.in_ok-open.ensures, c.new-code.ensures.items)
+    rw (c.in_ok-go_back.ensures, c.in_ok-tell_events.ensures, c.in_ok-look_at.ensures, c.in_ok-open.ensures, c.new-code.ensures.items)
     in
     subst (TellsEvents c.args.task) (sym e) (tells c.args.task)

@@ -1,5 +1,5 @@
 use Rattle.std.proofs.Common.{◌∙◌}
-use Rattle.task_verify.proofs.Lists.{any_is_in}
+use Rattle.body_faults.proofs.Lists.{any_is_in}
 use Rattle.held_lists.proofs.spread.is_in.Goals as goal
 
 pub returns : goal.returns

@@ -1,5 +1,5 @@
 use Rattle.std.proofs.Common.{ap, sym, ◌∙◌}
-use Rattle.task_verify.proofs.Lists.{popped}
+use Rattle.body_faults.proofs.Lists.{popped}
 use Rattle.held_lists.specs.Spread.{list_behind}
 use Rattle.held_lists.proofs.spread.list_behind.Goals as goal
 

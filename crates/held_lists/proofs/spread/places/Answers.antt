@@ -1,6 +1,7 @@
 use Rattle.std.proofs.Common.{◌≡◌, [], length, drop, arith, sym, subst, ap, ◌∙◌}
 use Rattle.std.proofs.lemmas.List.{take_at}
-use Rattle.held_lists.specs.Spread.{Lists, Placed, AreSpreading}
+use Rattle.label_lists.specs.Places.{Lists}
+use Rattle.held_lists.specs.Spread.{Placed, AreSpreading}
 use Rattle.held_lists.proofs.Spreading.{spread_begun}
 use Rattle.held_lists.proofs.spread.places.Goals as goal
 

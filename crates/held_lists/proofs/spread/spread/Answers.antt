@@ -1,8 +1,9 @@
 use Rattle.std.proofs.Common.{◌≡◌, ℕ, List, length, subst, sym, ap, ◌∙◌, arith}
 use Rattle.std.proofs.lemmas.List.{length-map, length_push}
 use Rattle.std.specs.Prelude.{is_some}
-use Rattle.task_verify.proofs.Searches.{next_inside, jump_inside}
-use Rattle.held_lists.specs.Spread.{marks, list_after, list_at, Placed}
+use Rattle.label_lists.specs.Places.{list_at}
+use Rattle.held_lists.specs.Spread.{marks, list_after, Placed}
+use Rattle.body_faults.proofs.Searches.{next_inside, jump_inside}
 use Rattle.held_lists.proofs.Spreading.{taken_inside, turned, visits, visit_costs, spread_done}
 use Rattle.held_lists.proofs.spread.spread.Goals as goal
 

@@ -1,5 +1,5 @@
 use Rattle.std.proofs.Common.{◌+◌, ◌*◌, length}
-use Rattle.task_verify.specs.Ways.{unmarked_count}
+use Rattle.body_faults.specs.Ways.{unmarked_count}
 use Rattle.held_lists.specs.Spread.{marks, AreSpreading}
 use Rattle.held_lists.proofs.spread.spread.Given as goal
 

@@ -5,10 +5,10 @@ use Rattle.sloth_base.specs.declared.config.TaskDecl.{TaskDecl}
 use Rattle.mem_map.specs.Stacks.{is_extended}
 use Rattle.mem_map.specs.Zones.{stack_of}
 use Rattle.map_text.specs.Rows.{row_of}
-use Rattle.map_text.specs.declared.rows.Kind.TheVariants as kind
+use Rattle.piece_rows.specs.declared.rows.Kind.TheVariants as kind
 use Rattle.map_text.proofs.OneRow.{own_begin, own_more, own_passed}
 use Rattle.map_text.proofs.rows.push_own.Goals as goal
-use Rattle.map_text.proofs.rows.push_own.Goals.{then-tasks-task+in_ok-map_err, else-tasks-task}
+use Rattle.map_text.proofs.rows.push_own.Goals.{then-tasks-task+in_ok-push, else-tasks-task}
 
 pub loop-task-init : goal.loop-task-init
 loop-task-init c = own_begin c.args.config.now c.args.map.now c.args.rows.now.items
@@ -24,7 +24,7 @@ loop-task-preserved c =
     ∙ ap (λ (l : List TaskDecl). is_extended l t) c.items-tasks.ensures
     in
     elim c.if-tasks-task.branch [
-      | then-tasks-task+in_ok-map_err w ↦
+      | then-tasks-task+in_ok-push w ↦
           let more : c.if-tasks-task.rows.items ≡ c.loop-task.rows.items ++ row_of kind.Stack t (stack_of c.args.map.now t) ∷ [] = search rules in
           own_more config c.args.map.now t old c.loop-task.rows.items c.loop-task.invariant c.if-tasks-task.rows.items (sym is ∙ w.if-tasks-task.true) more
       | else-tasks-task w ↦

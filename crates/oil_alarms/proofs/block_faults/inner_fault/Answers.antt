@@ -6,7 +6,8 @@ use Rattle.least_fault.proofs.Cases.{case_found}
 use Rattle.oil_rules.specs.declared.table.Attribute.{Attribute}
 use Rattle.oil_rules.specs.Cases.{Case}
 use Rattle.oil_rules.specs.Table.{attribute_of}
-use Rattle.oil_alarms.specs.AlarmFaults.{is_second_in, is_unlisted, is_beyond}
+use Rattle.alarm_limits.specs.Beyond.{is_beyond}
+use Rattle.oil_alarms.specs.AlarmFaults.{is_second_in, is_unlisted}
 use Rattle.oil_alarms.proofs.block_faults.inner_fault.Goals as goal
 
 pub returns : goal.returns

@@ -1,6 +1,6 @@
-use Rattle.std.proofs.Common.{◌≡◌, ◌++◌, drop}
+use Rattle.std.proofs.Common.{◌≡◌, take}
 use Rattle.oil_model.specs.Configs.{tasks_of}
 use Rattle.oil_model.proofs.config.tasks_of.Given as goal
 
 abbrev pub invariant-loop-object : goal.invariant-loop-object
-invariant-loop-object l = l.tasks.items ++ tasks_of l.names l.events (drop l.object-index l.objects) ≡ tasks_of l.names l.events l.objects
+invariant-loop-object l = l.tasks.items ≡ tasks_of l.names l.events (take l.object-index l.objects)

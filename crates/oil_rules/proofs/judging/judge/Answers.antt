@@ -23,7 +23,7 @@ returns c =
     (subst (λ (x : List OilObject). Finds (Somewhere (ObjectFault x c.args.scheduler c.args.events.now) objects) found) c.requires.objects
     (subst (λ (x : List OilObject). Finds (Somewhere (ObjectFault c.args.table.now c.args.scheduler c.args.events.now) x) found) e c.in_ok-of_objects.ensures))) in
     let bits = subst (λ (x : List OilObject). Finds (Somewhere (BitFault x) x) c.events_without_bit.result) e c.events_without_bit.ensures in
-    let without = case_found Oil (lacks_os objects) (not c.has_os.result) tree.cpu_line O11 c.when-without_os.result c.when-without_os.ensures (ap not c.has_os.ensures ∙ ap lacks_os e) in
+    let without = case_found Oil (lacks_os objects) (not c.has_os.result) tree.cpu_line O11 c.when-without_os.result c.when-without_os.ensures (ap not c.has_os.ensures ∙ ap lacks_os c.requires.objects) in
     both_are (Somewhere (ObjectFault objects (has_scheduler objects) (events_of objects)) objects) (λ r. Somewhere (BitFault objects) objects r ⊎ Case (lacks_os objects) tree.cpu_line O11 r)
     found c.merge.result c.merge-2.result of_objects
     (both_are (Somewhere (BitFault objects) objects) (Case (lacks_os objects) tree.cpu_line O11) c.events_without_bit.result c.when-without_os.result c.merge.result bits without c.merge.ensures)

@@ -1,5 +1,5 @@
 use Rattle.std.proofs.Common.{◌≡◌, ℕ, ◌<◌, length, get_or, false}
-use Rattle.section_sizes.specs.Computed.{is_going}
+use Rattle.bound_rules.specs.Items.{is_going}
 use Rattle.section_sizes.proofs.items.going_items.Given as goal
 
 abbrev pub invariant-loop-number : goal.invariant-loop-number

@@ -1,5 +1,5 @@
 use Rattle.std.proofs.Common.{◌≡◌, ℕ, length}
-use Rattle.section_sizes.specs.Computed.{summary_of, unknown}
+use Rattle.bound_rules.specs.Summaries.{summary_of, unknown}
 use Rattle.section_sizes.proofs.levels.unknown.Given as goal
 
 abbrev pub invariant-loop-number : goal.invariant-loop-number

@@ -1,5 +1,5 @@
 use Rattle.std.proofs.Common.{get_or, None, sym, subst, arith}
-use Rattle.section_sizes.specs.declared.bodies.Body.{Body}
+use Rattle.bound_rules.specs.declared.bodies.Body.{Body}
 use Rattle.section_sizes.specs.Known.{IsKnownBody}
 use Rattle.section_sizes.proofs.Summaries.{next_known, next_inside, one_summed}
 use Rattle.section_sizes.proofs.levels.whole_summaries.Goals as goal

@@ -1,7 +1,8 @@
 use Rattle.std.proofs.Common.{◌≡◌, ℕ, ◌<◌, Bool, false, List, length, get_or, sym, subst}
 use Rattle.section_sizes.specs.declared.graph.Ways.{Ways}
 use Rattle.section_sizes.specs.Graph.{ways_of}
-use Rattle.section_sizes.specs.Computed.{is_going, item_ways}
+use Rattle.section_sizes.specs.Computed.{item_ways}
+use Rattle.bound_rules.specs.Items.{is_going}
 use Rattle.section_sizes.specs.Lists.{ArePaths}
 use Rattle.section_sizes.proofs.paths.paths_of.Goals as goal
 
@@ -17,7 +18,7 @@ returns c =
     let are : ArePaths func body c.args.level whole (record { alive = alive; ways = ways }) = record {
       going = going;
       passed = passed;
-      wayed = record {
+      body_ways = record {
         alive_count = c.in_ok-alive.ensures.count;
         alive_is = c.in_ok-alive.ensures.exact;
         going_is = subst (λ (l : List Bool). (i : ℕ) → i < length func.items → get_or going i false ≡ is_going func l i) c.deref.ensures.value c.in_ok-going.ensures.exact;

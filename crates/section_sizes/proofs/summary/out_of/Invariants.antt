@@ -1,5 +1,5 @@
 use Rattle.std.proofs.Common.{◌≡◌}
-use Rattle.stack_bounds.specs.Tables.{max_below}
+use Rattle.code_tables.specs.Tables.{max_below}
 use Rattle.section_sizes.specs.Computed.{known_body_of, out_at}
 use Rattle.section_sizes.proofs.summary.out_of.Given as goal
 

@@ -2,7 +2,8 @@ use Rattle.std.proofs.Common.{List, sym, subst}
 use Rattle.section_sizes.specs.declared.graph.Ways.{Ways}
 use Rattle.section_sizes.specs.declared.graph.Found.{Found}
 use Rattle.section_sizes.specs.Graph.{AreInside, IsFound}
-use Rattle.section_sizes.specs.Known.{IsSummary, IsCountedUp}
+use Rattle.section_sizes.specs.Known.{IsSummary}
+use Rattle.bound_rules.specs.Summaries.{IsCountedUp}
 use Rattle.section_sizes.proofs.Filling.{to_items, endless_by_call, endless_by_loop, exact_by, exact_small}
 use Rattle.section_sizes.proofs.summary.summary.Goals as goal
 
@@ -16,7 +17,7 @@ pub finish_order-requires : goal.finish_order-requires
 finish_order-requires c =
     let paths = c.in_ok-paths.paths in
     let are = c.in_ok-paths.ensures in
-    subst AreInside (sym c.items.ensures) (to_items c.args.func.now c.args.body.now c.args.level c.args.whole.now paths.alive are.going are.passed paths.ways are.wayed)
+    subst AreInside (sym c.items.ensures) (to_items c.args.func.now c.args.body.now c.args.level c.args.whole.now paths.alive are.going are.passed paths.ways are.body_ways)
 
 pub returns-in-Loop-clause-is : goal.returns-in-Loop-clause-is
 returns-in-Loop-clause-is c =
@@ -25,7 +26,7 @@ returns-in-Loop-clause-is c =
     let loop = subst (λ (f : Found). IsFound paths.ways f) c.in-Loop.is (subst (λ (l : List Ways). IsFound l c.in_ok-finish_order.field-0) c.items.ensures c.in_ok-finish_order.ensures) in
     endless_by_loop c.args.config.now c.args.app.now c.requires.well_formed c.args.number c.requires.known c.args.body.now c.requires.body
     c.args.level c.args.whole.now c.args.own.now (record { whole_is = c.requires.whole; own_is = c.requires.own }) c.args.func.now c.requires.func
-    (sym c.if-calls_endless.ensures) paths.alive are.going are.passed paths.ways are.wayed loop.0 loop.1
+    (sym c.if-calls_endless.ensures) paths.alive are.going are.passed paths.ways are.body_ways loop.0 loop.1
 
 pub returns-clause-is : goal.returns-clause-is
 returns-clause-is c =

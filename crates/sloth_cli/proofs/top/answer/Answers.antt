@@ -1,5 +1,5 @@
 use Rattle.command_line.specs.Words.{command_of}
-use Rattle.sloth_cli.proofs.Causes.{finished, answered}
+use Rattle.sloth_commands.proofs.Causes.{finished, answered}
 use Rattle.sloth_cli.proofs.top.answer.Goals as goal
 
 pub returns-in-Err : goal.returns-in-Err

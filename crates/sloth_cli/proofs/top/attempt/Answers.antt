@@ -1,7 +1,7 @@
 use Rattle.std.proofs.lemmas.Result.{err_from_is_err_and, IfErr-weaker}
 use Rattle.command_line.specs.Command.{Builds}
 use Rattle.command_line.specs.Words.{building_of}
-use Rattle.sloth_cli.proofs.Causes.{read-ends, judge-ends, perform-ends, built-of, done, both-ok}
+use Rattle.sloth_commands.proofs.Causes.{read-ends, judge-ends, perform-ends, built-of, done, both-ok}
 use Rattle.sloth_cli.proofs.top.attempt.Goals as goal
 
 pub returns-in_err-inputs-clause-err : goal.returns-in_err-inputs-clause-err
@@ -21,13 +21,13 @@ pub returns-clause-err : goal.returns-clause-err
 returns-clause-err g c =
     let of = c.in_ok-judged.ensures in
     let built =
-    built-of _ _ (building_of c.args.c.now) _ _ c.in_ok-judged.judged.image _ _ _ _ c.in_ok-inputs.ensures.ok of.accepted of.read of.in_range of.image c.requires c.read_inputs.ensures.keeps in
-    IfErr-weaker c.perform.result _ _ (λ failure h. perform-ends failure _ _ _ _ (building_of c.args.c.now) c.in_ok-judged.judged.image _ built h) (rw (c.as_slice.ensures.value) at c.perform.ensures.err)
+    built-of _ _ (building_of c.args.c.now) _ _ c.in_ok-judged.judged.built.image _ _ _ _ c.in_ok-inputs.ensures.ok of.accepted of.read of.in_range of.image c.requires c.read_inputs.ensures.keeps in
+    IfErr-weaker c.perform.result _ _ (λ failure h. perform-ends failure _ _ _ _ (building_of c.args.c.now) c.in_ok-judged.judged.built.image _ built h) c.perform.ensures.err
 
 pub returns-clause-done : goal.returns-clause-done
 returns-clause-done g c =
     let of = c.in_ok-judged.ensures in
     let built =
-    built-of _ _ (building_of c.args.c.now) _ _ c.in_ok-judged.judged.image _ _ _ _ c.in_ok-inputs.ensures.ok of.accepted of.read of.in_range of.image c.requires c.read_inputs.ensures.keeps in
-    both-ok c.perform.result _ _ _ (λ written text. (_, done _ _ _ (building_of c.args.c.now) c.in_ok-judged.judged.image _ built written, text))
-    c.perform.ensures.written (rw (c.as_slice.ensures.value) at c.perform.ensures.text)
+    built-of _ _ (building_of c.args.c.now) _ _ c.in_ok-judged.judged.built.image _ _ _ _ c.in_ok-inputs.ensures.ok of.accepted of.read of.in_range of.image c.requires c.read_inputs.ensures.keeps in
+    both-ok c.perform.result _ _ _ (λ written text. (_, done _ _ _ (building_of c.args.c.now) c.in_ok-judged.judged.built.image _ built written, text))
+    c.perform.ensures.written c.perform.ensures.text

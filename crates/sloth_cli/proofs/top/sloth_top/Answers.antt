@@ -1,7 +1,7 @@
-use Rattle.sloth_cli.proofs.Complete.{tells-usage, tells-refused, is-complete}
-use Rattle.sloth_cli.proofs.ImageComplete.{tells-fault, tells-no-image, tells-exec-refused, tells-executed, tells-listed}
-use Rattle.sloth_cli.proofs.SampleComplete.{tells-sample-refused, tells-sampled}
-use Rattle.sloth_cli.proofs.ToolComplete.{tells-tool, tells-tool-done}
+use Rattle.sloth_commands.proofs.Complete.{tells-usage, tells-refused, is-complete}
+use Rattle.sloth_commands.proofs.ImageComplete.{tells-fault, tells-no-image, tells-exec-refused, tells-executed, tells-listed}
+use Rattle.sloth_commands.proofs.SampleComplete.{tells-sample-refused, tells-sampled}
+use Rattle.sloth_commands.proofs.ToolComplete.{tells-tool, tells-tool-done}
 use Rattle.sloth_cli.proofs.top.sloth_top.Goals as goal
 
 pub returns-clause-usage : goal.returns-clause-usage

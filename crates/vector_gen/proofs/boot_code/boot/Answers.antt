@@ -1,4 +1,4 @@
-use Rattle.std.proofs.Common.{◌≡◌, ◌+◌, List, ◌++◌, length, sym, ap, subst, append_assoc}
+use Rattle.std.proofs.Common.{◌≡◌, ◌+◌, List, ◌++◌, length, sym, ap, subst, append_assoc, arith}
 use Rattle.rv32_instr.specs.declared.InstrKind.{InstrKind}
 use Rattle.vector_gen.specs.Boot.{register_code, lines_code, counters_code, finishing_code, Boots}
 use Rattle.vector_gen.proofs.Booting.{boot_code, boots}
@@ -12,10 +12,12 @@ returns-clause-effect c =
     let counters = length c.args.config.now.counters in
     let idle = c.args.map.now.idle in
     let e : c.from_vec.result ≡ boot_code tasks counters levels top idle =
-    rw (c.from_vec.ensures, c.in_ok-finish.ensures.added, c.in_ok-start_counters.ensures.added, c.in_ok-start_all.ensures.added, c.in_ok-begin.ensures, c.new-code.ensures.items, c.items-2.ensures, c.items.ensures)
+    rw (c.from_vec.ensures, c.in_ok-finish.ensures.added, c.in_ok-start_counters.ensures.added, c.counter_level.ensures, c.in_ok-start_all.ensures.added, c.in_ok-begin.ensures, c.new-code.ensures.items, c.items-2.ensures, c.items.ensures)
     (ap (λ (l : List InstrKind). register_code ++ l) (append_assoc (lines_code 0 tasks levels) (counters_code counters 30 (top + 1)) (finishing_code idle)))
     in
-    subst (Boots tasks counters levels top idle) (sym e) (boots tasks counters levels top idle c.requires.range.few_tasks c.requires.range.few_counters c.start_counters.ensures.byte c.start_all.ensures.bytes c.finish.ensures.fits)
+    let level = c.counter_level.ensures in
+    let byte = c.start_counters.ensures.byte in
+    subst (Boots tasks counters levels top idle) (sym e) (boots tasks counters levels top idle c.requires.range.few_tasks c.requires.range.few_counters (omega (arith, level, byte)) c.start_all.ensures.bytes c.finish.ensures.fits)
 
 pub returns-clause-size : goal.returns-clause-size
 returns-clause-size c = (returns-clause-effect c).size

@@ -9,10 +9,9 @@ returns-clause-arrived c =
     let r = c.args.self.now in
     let L : List Arrival → Type 0 = AreLines in
     record {
-      state = arrived-is r (image_of r) (count_of r) c.split_at.result.0.now _ c.requires.ran
-          (c.split_at.ensures.front ∙ ap (λ n. take n r.coming.now) c.requires.due) c.arrive.ensures.state;
-      coming = c.split_at.ensures.back ∙ ap (λ n. drop n r.coming.now) c.requires.due;
-      lines = subst L (sym c.split_at.ensures.back) (lines-drop _ r.coming.now c.requires.ran.lines);
+      state = arrived-is r (image_of r) (count_of r) (take c.args.due r.coming.now) _ c.requires.ran (ap (λ n. take n r.coming.now) c.requires.due) c.arrive_front-self.ensures.state;
+      coming = c.arrive_front-self.ensures.behind ∙ ap (λ n. drop n r.coming.now) c.requires.due;
+      lines = subst L (sym c.arrive_front-self.ensures.behind) (lines-drop _ r.coming.now c.requires.ran.lines);
       count = refl;
-      executed = c.arrive.ensures.count;
+      executed = c.arrive_front-self.ensures.count;
     }

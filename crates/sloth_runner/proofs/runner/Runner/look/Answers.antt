@@ -1,8 +1,9 @@
-use Rattle.std.proofs.Common.{◌∙◌, ap}
-use Rattle.rv32_instr.specs.Memory.{Memory}
+use Rattle.std.proofs.Common.{ap}
+use Rattle.rv32_machine.specs.declared.machine.Machine.{Machine}
+use Rattle.machine_memory.specs.declared.sloth.SlothBus.{SlothBus}
 use Rattle.sloth_runner.proofs.runner.Runner.look.Goals as goal
 
 pub returns-clause-same : goal.returns-clause-same
 returns-clause-same c =
     let runner = c.args.self.now in
-    ap (λ (bus : Memory). record runner { machine = record runner.machine { bus = bus } }) (c.seen_of.ensures.same ∙ c.bus_mut.ensures.value)
+    ap (λ (machine : Machine SlothBus). record runner { machine = machine }) c.look.ensures.same

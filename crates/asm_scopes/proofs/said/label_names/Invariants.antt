@@ -1,6 +1,0 @@
-use Rattle.std.proofs.Common.{◌≡◌, take}
-use Rattle.asm_scopes.specs.Said.{label_names}
-use Rattle.asm_scopes.proofs.said.label_names.Given as goal
-
-abbrev pub invariant-loop-line : goal.invariant-loop-line
-invariant-loop-line l = l.names ≡ label_names (take l.line-index l.lines)

@@ -1,0 +1,221 @@
+-- The tests decide the rules.
+use Rattle.std.proofs.Common.{◌≡◌, ℕ, suc, ◌+◌, ◌%◌, ◌<◌, ◌≤◌, ◌⊎◌, inl, inr, Bool, true, false, ◌||◌, ◌&&◌, not, List, [], ◌∷◌, length, get_or, Option, Some, None, refl, sym, ap, subst, arith}
+use Rattle.std.specs.Prelude.{◌==◌, ◌≢◌, nat_lt, nat_le, is_some, is_none, bit_and}
+use Rattle.std.specs.Bool.{Decides}
+use Rattle.std.proofs.lemmas.Bool.{true≢false, false≢true, leb-true, le-leb, ne_eqb, and_parts, and_from}
+use Rattle.std.proofs.lemmas.Bool.Decides.{Decides-and, Decides-or, Decides-not, Decides-ltb, Decides-like, Decides-eqb}
+use Rattle.sloth_base.specs.declared.config.Config.{Config}
+use Rattle.sloth_base.specs.declared.app.App.{App}
+use Rattle.sloth_base.specs.declared.app.Func.{Func}
+use Rattle.sloth_base.specs.declared.app.Op.{Op}
+use Rattle.sloth_base.specs.declared.app.Op.TheVariants as op
+use Rattle.sloth_base.specs.declared.service.Service.{Service}
+use Rattle.sloth_base.specs.declared.service.Service.TheVariants as service
+use Rattle.sloth_base.specs.Arithmetic.{size_of}
+use Rattle.sloth_base.specs.Named.{declaration, item_of, label_of, symbol_size}
+use Rattle.code_rules.specs.AppRange.{AppInRange, IsOp}
+use Rattle.code_rules.specs.Code.{is_followed, way, Ends, Pauses, TaskReaches, is_in, is_last}
+use Rattle.code_rules.specs.WellFormed.{AccessesPast, IsUneven, MasksPast, RunsOut, ReleasesOther, TakesHeld, LeavesHolding, LeavesWrongly, Lists, HasEvents, IsUnlisted, IsLacked, Misuses, UsesUndeclared}
+use Rattle.call_graph.specs.declared.ranking.Ranks.{Ranks}
+use Rattle.code_tables.specs.Bits.{is_member}
+use Rattle.call_graph.specs.Ranks.{RanksOf}
+use Rattle.call_graph.specs.Reached.{any_below}
+use Rattle.code_tables.specs.Rows.{is_get, is_pausing}
+use Rattle.call_graph.proofs.Itself.{number_found, number_counts, get_is, pausing_is, is_pausing_of}
+use Rattle.body_faults.specs.Tests.{accesses_past, is_uneven, masks_past, leads_out, runs_out, is_ending, is_release, holds_any, releases_other, takes_held, leaves_holding, leaves_wrongly, is_unlisted, lacks, is_lacked, is_misuse, uses_undeclared, OperandsOf}
+use Rattle.body_faults.specs.Ways.{LeadsToLabels}
+use Rattle.body_faults.proofs.Lists.{number_among, among_number}
+
+none : Decides false ⊥
+none = (λ e. absurd (false≢true e), λ x. absurd x)
+
+itself : (b : Bool) → Decides b (b ≡ true)
+itself b = (λ e. e, λ e. e)
+
+is_false : (b : Bool) → Decides (not b) (b ≡ false)
+is_false true = (λ e. absurd (false≢true e), λ e. absurd (true≢false e))
+is_false false = (λ e. refl, λ e. refl)
+
+leb_decides : (a b : ℕ) → Decides (nat_le a b) (a ≤ b)
+leb_decides a b = (leb-true a b, le-leb a b)
+
+differs_decides : (a b : ℕ) → Decides (not (a == b)) (a ≢ b)
+differs_decides a b = Decides-not (a == b) (Decides-eqb a b)
+
+-- ---- accesses
+
+pub Decides-accesses_past : (app : App) (f : Func) (o : Op) → Decides (accesses_past app f o) (AccessesPast app f o)
+Decides-accesses_past app f (op.FrameLoad rd word) = leb_decides f.frame_words word
+Decides-accesses_past app f (op.FrameStore rs word) = leb_decides f.frame_words word
+Decides-accesses_past app f (op.Load w rd y offset) = Decides-ltb (symbol_size app y) (offset + size_of w)
+Decides-accesses_past app f (op.Store w rs y offset) = Decides-ltb (symbol_size app y) (offset + size_of w)
+Decides-accesses_past app f _ = none
+
+pub Decides-is_uneven : (o : Op) → Decides (is_uneven o) (IsUneven o)
+Decides-is_uneven (op.Load w rd y offset) = differs_decides (offset % size_of w) 0
+Decides-is_uneven (op.Store w rs y offset) = differs_decides (offset % size_of w) 0
+Decides-is_uneven (op.LoadAt w rd y index mask) = differs_decides (mask % size_of w) 0
+Decides-is_uneven (op.StoreAt w rs y index mask) = differs_decides (mask % size_of w) 0
+Decides-is_uneven _ = none
+
+mask_decides : (app : App) (mask y w : ℕ) → Decides (nat_lt 32767 mask || nat_lt (symbol_size app y) (mask + w)) ((32767 < mask) ⊎ (symbol_size app y < mask + w))
+mask_decides app mask y w = Decides-or (nat_lt 32767 mask) (nat_lt (symbol_size app y) (mask + w)) (Decides-ltb 32767 mask) (Decides-ltb (symbol_size app y) (mask + w))
+
+pub Decides-masks_past : (app : App) (o : Op) → Decides (masks_past app o) (MasksPast app o)
+Decides-masks_past app (op.LoadAt w rd y index mask) = mask_decides app mask y (size_of w)
+Decides-masks_past app (op.StoreAt w rs y index mask) = mask_decides app mask y (size_of w)
+Decides-masks_past app _ = none
+
+-- ---- ways out
+
+abbrev LeadsOut : Func → Option ℕ → Type 0
+LeadsOut f o = (k : ℕ) × (o ≡ Some k) × (length f.items ≤ (label_of f k).item)
+
+Decides-leads_out : (f : Func) (o : Option ℕ) → Decides (leads_out f o) (LeadsOut f o)
+Decides-leads_out f None = (λ e. absurd (false≢true e), λ x. let e = x.1 in absurd cc)
+Decides-leads_out f (Some k) = (
+  λ e. (k, refl, leb-true (length f.items) (label_of f k).item e),
+  λ x. let e : k ≡ x.0 = cc in le-leb (length f.items) (label_of f k).item (subst (λ (n : ℕ). length f.items ≤ (label_of f n).item) (sym e) x.2),
+)
+
+pub Decides-runs_out : (f : Func) (i : ℕ) → Decides (runs_out f i) (RunsOut f i)
+Decides-runs_out f i =
+    let o = (item_of f i).op in
+    Decides-like (runs_out f i) to from
+    (Decides-or (is_followed o && nat_le (length f.items) (i + 1)) (leads_out f (way o))
+    (Decides-and (is_followed o) (nat_le (length f.items) (i + 1)) (itself (is_followed o)) (leb_decides (length f.items) (i + 1)))
+    (Decides-leads_out f (way o)))
+  where
+    to : ((is_followed (item_of f i).op ≡ true) × (length f.items ≤ i + 1)) ⊎ LeadsOut f (way (item_of f i).op) → RunsOut f i
+    to (inl a) = (i + 1, inl (a.0, refl), a.1)
+    to (inr b) = ((label_of f b.0).item, inr (b.0, b.1, refl), b.2)
+
+    from : RunsOut f i → ((is_followed (item_of f i).op ≡ true) × (length f.items ≤ i + 1)) ⊎ LeadsOut f (way (item_of f i).op)
+    from (j, inl a, l) = inl (a.0, subst (λ (x : ℕ). length f.items ≤ x) a.1 l)
+    from (j, inr b, l) = inr (b.0, b.1, subst (λ (x : ℕ). length f.items ≤ x) b.2 l)
+
+-- ---- services
+
+Decides-is_ending : (s : Service) → Decides (is_ending s) (Ends s)
+Decides-is_ending s = (of s, by)
+  where
+    of : (s : Service) → is_ending s ≡ true → Ends s
+    of service.TerminateTask e = inl refl
+    of service.ChainTask e = inr refl
+    of _ e = absurd (false≢true e)
+
+    by : Ends s → is_ending s ≡ true
+    by (inl e) = ap is_ending e
+    by (inr e) = ap is_ending e
+
+Decides-is_pausing : (s : Service) → Decides (is_pausing s) (Pauses s)
+Decides-is_pausing s = (pausing_is s, is_pausing_of s)
+
+Decides-is_get : (s : Service) → Decides (is_get s) (s ≡ service.GetResource)
+Decides-is_get s = (get_is s, λ e. ap is_get e)
+
+Decides-is_release : (s : Service) → Decides (is_release s) (s ≡ service.ReleaseResource)
+Decides-is_release s = (of s, λ e. ap is_release e)
+  where
+    of : (s : Service) → is_release s ≡ true → s ≡ service.ReleaseResource
+    of service.ReleaseResource e = refl
+    of _ e = absurd (false≢true e)
+
+Decides-holds_any : (held : List ℕ) → Decides (holds_any held) (held ≢ [])
+Decides-holds_any [] = (λ e. absurd (false≢true e), λ n. absurd (n refl))
+Decides-holds_any (x ∷ held) = (λ e f. cc, λ n. let l : suc (length held) ≢ 0 = omega arith in ap not (ne_eqb (suc (length held)) 0 l))
+
+-- ---- held resources
+
+pub Decides-releases_other : (held : List ℕ) (o : Op) → Decides (releases_other held o) (ReleasesOther held o)
+Decides-releases_other held (op.Serve call) =
+    Decides-and (is_release call.service) (not (is_last call.object held)) (Decides-is_release call.service) (is_false (is_last call.object held))
+Decides-releases_other held _ = none
+
+pub Decides-leaves_wrongly : (f : Func) (o : Op) → Decides (leaves_wrongly f o) (LeavesWrongly f o)
+Decides-leaves_wrongly f (op.Serve call) = Decides-and (is_ending call.service) (is_none f.task) (Decides-is_ending call.service) (missing f.task)
+  where
+    missing : (o : Option ℕ) → Decides (is_none o) (o ≡ None)
+    missing None = (λ e. refl, λ e. refl)
+    missing (Some t) = (λ e. absurd (false≢true e), λ e. absurd cc)
+Decides-leaves_wrongly f op.Return = given f.task
+  where
+    given : (o : Option ℕ) → Decides (is_some o) ((t : ℕ) × (o ≡ Some t))
+    given None = (λ e. absurd (false≢true e), λ x. let e = x.1 in absurd cc)
+    given (Some t) = (λ e. (t, refl), λ x. refl)
+Decides-leaves_wrongly f _ = none
+
+module _ (config : Config) (app : App) (ranks : Ranks) (in_range : AppInRange config app) (belong : RanksOf app ranks) where
+  pub Decides-takes_held : (f : Func) (held : List ℕ) (o : Op) → IsOp config app f o → Decides (takes_held ranks held o) (TakesHeld app held o)
+  Decides-takes_held f held (op.Serve call) is = Decides-and (is_get call.service) (is_in call.object held) (Decides-is_get call.service) (itself (is_in call.object held))
+  Decides-takes_held f held (op.Invoke g) is =
+      let test : ℕ → Bool = λ r. is_member (get_or ranks.resources g 0) r in (
+        λ e. let x = number_among test held e in (x.0, (belong.resources g x.0 is.0).0 x.1, x.2),
+        λ x. among_number test held x.0 ((belong.resources g x.0 is.0).1 x.1) x.2,
+      )
+  Decides-takes_held f held _ is = none
+
+  pub Decides-leaves_holding : (f : Func) (held : List ℕ) (o : Op) → IsOp config app f o → Decides (leaves_holding ranks held o) (LeavesHolding app held o)
+  Decides-leaves_holding f held (op.Serve call) is =
+      Decides-and (is_ending call.service || is_pausing call.service) (holds_any held)
+      (Decides-or (is_ending call.service) (is_pausing call.service) (Decides-is_ending call.service) (Decides-is_pausing call.service))
+      (Decides-holds_any held)
+  Decides-leaves_holding f held op.Return is = Decides-holds_any held
+  Decides-leaves_holding f held (op.Invoke g) is =
+      Decides-and (get_or ranks.pauses g false) (holds_any held) (belong.pauses g is.0) (Decides-holds_any held)
+  Decides-leaves_holding f held _ is = none
+
+-- ---- tasks
+
+module _ (config : Config) (app : App) (in_range : AppInRange config app) where
+  -- where some task that reaches the function fails a test
+  some_user : (f users : ℕ) (test : ℕ → Bool) (P : ℕ → Type 0) → ((t : ℕ) → Decides (is_member users t) (TaskReaches app t f)) → ((t : ℕ) → Decides (test t) (P t))
+      → Decides (any_below (length config.tasks) (λ t. is_member users t && test t)) ((t : ℕ) × TaskReaches app t f × P t)
+  some_user f users test P reach decides = (
+    λ e.
+        let x = number_found (λ t. is_member users t && test t) (length config.tasks) e in
+        let parts = and_parts (is_member users x.0) (test x.0) x.2 in
+        (x.0, (reach x.0).0 parts.0, (decides x.0).0 parts.1),
+    λ x.
+        number_counts (λ t. is_member users t && test t) (length config.tasks) x.0 (in_range.tasks.declared x.0 x.1.0 x.1.1)
+        (and_from (is_member users x.0) (test x.0) ((reach x.0).1 x.1) ((decides x.0).1 x.2)),
+  )
+
+  Decides-lacks : (t mask : ℕ) → Decides (lacks config t mask) (¬ (HasEvents (declaration config t) mask))
+  Decides-lacks t mask = differs_decides (bit_and mask (declaration config t).events) mask
+
+  Decides-is_unlisted : (f users r : ℕ) → ((t : ℕ) → Decides (is_member users t) (TaskReaches app t f)) → Decides (not (r == 32) && is_unlisted config users r) (IsUnlisted config app f r)
+  Decides-is_unlisted f users r reach =
+      Decides-and (not (r == 32)) (is_unlisted config users r) (differs_decides r 32)
+      (some_user f users (λ t. not (is_in r (declaration config t).resources)) (λ t. ¬ (Lists (declaration config t) r)) reach
+      (λ t. Decides-not (is_in r (declaration config t).resources) (itself (is_in r (declaration config t).resources))))
+
+  Decides-is_lacked : (f users mask : ℕ) → ((t : ℕ) → Decides (is_member users t) (TaskReaches app t f)) → Decides (is_lacked config users mask) (IsLacked config app f mask)
+  Decides-is_lacked f users mask reach =
+      some_user f users (λ t. lacks config t mask) (λ t. ¬ (HasEvents (declaration config t) mask)) reach (λ t. Decides-lacks t mask)
+
+  Decides-misuses : (f users : ℕ) (s : Service) (object mask : ℕ) → ((t : ℕ) → Decides (is_member users t) (TaskReaches app t f))
+      → Decides (is_misuse config users s object mask) (Misuses config app f s object mask)
+  Decides-misuses f users service.GetResource r mask reach = Decides-is_unlisted f users r reach
+  Decides-misuses f users service.ReleaseResource r mask reach = Decides-is_unlisted f users r reach
+  Decides-misuses f users service.ClearEvent object mask reach = Decides-is_lacked f users mask reach
+  Decides-misuses f users service.WaitEvent object mask reach = Decides-is_lacked f users mask reach
+  Decides-misuses f users service.SetEvent t mask reach = Decides-lacks t mask
+  Decides-misuses f users service.GetEvent t mask reach = is_false (declaration config t).extended
+  Decides-misuses f users _ object mask reach = none
+
+  pub Decides-uses_undeclared : (f users : ℕ) (o : Op) → ((t : ℕ) → Decides (is_member users t) (TaskReaches app t f))
+      → Decides (uses_undeclared config users o) (UsesUndeclared config app f o)
+  Decides-uses_undeclared f users (op.Serve call) reach = Decides-misuses f users call.service call.object call.mask reach
+  Decides-uses_undeclared f users _ reach = none
+
+-- ---- what is in range
+
+pub leads : (config : Config) (app : App) (f : Func) (o : Op) → IsOp config app f o → LeadsToLabels f o
+leads config app f (op.Branch kind a b l) is k e = let same : l ≡ k = cc in subst (λ (n : ℕ). n < length f.labels) same is.2
+leads config app f (op.Jump l) is k e = let same : l ≡ k = cc in subst (λ (n : ℕ). n < length f.labels) same is
+leads config app f _ is k e = absurd cc
+
+pub operands : (config : Config) (app : App) (f : Func) (o : Op) → IsOp config app f o → OperandsOf config o
+operands config app f (op.Serve call) is = is
+operands config app f _ is = tt

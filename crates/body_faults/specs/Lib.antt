@@ -1,0 +1,4 @@
+pub mod Tests
+pub mod Labels
+pub mod Ways
+pub mod Cases

@@ -1,0 +1,10 @@
+//! What is known of a body before any level.
+
+use sloth_base::list::List;
+
+/// The items of a body that walks reach, and the greatest ceiling of what the function itself holds before each, 0 where it holds nothing.
+#[derive(Drop)]
+pub struct Body {
+    pub reached: List<bool>,
+    pub ceilings: List<u32>,
+}

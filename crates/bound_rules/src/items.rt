@@ -1,0 +1,60 @@
+//! Where sections begin and go on: levels that are reached, and items behind which sections go on.
+ghost use Rattle.std.specs.Prelude.{◌≡◌, ◌<◌, length};
+ghost use Rattle.sloth_base.specs.Options.{is_number};
+ghost use Rattle.raised_sections.specs.Walks.{chains_itself};
+ghost use Rattle.raised_sections.specs.Sections.{is_schedule};
+ghost use Rattle.bound_rules.specs.Items.{reaches_level, is_going};
+
+use crate::marks::is_marked;
+use sloth_base::app::{Func, Op};
+use sloth_base::service::Service;
+
+/// Whether what is held reaches a level.
+pub fn reaches_level(level: Option<u32>, ceiling: u32) -> bool
+    ensures { result ≡ reaches_level level ceiling }
+{
+    match level {
+        Some(priority) => priority <= ceiling,
+        None => true,
+    }
+}
+
+fn is_schedule(op: Op) -> bool
+    ensures { result ≡ is_schedule op }
+{
+    match op {
+        Op::Serve(call) => call.service.code() == Service::Schedule.code(),
+        _ => false,
+    }
+}
+
+fn is_of_task(func: &Func, task: u32) -> bool
+    ensures { result ≡ is_number task func.now.task }
+{
+    match func.task {
+        Some(owner) => owner.0 == task,
+        None => false,
+    }
+}
+
+/// Whether the operation is a ChainTask of the task whose body the function is.
+pub fn chains_itself(func: &Func, op: Op) -> bool
+    ensures { result ≡ chains_itself func.now op }
+{
+    match op {
+        Op::Serve(call) => {
+            call.service.code() == Service::ChainTask.code() && is_of_task(func, call.object)
+        }
+        _ => false,
+    }
+}
+
+/// Whether parts go on behind the item.
+pub fn is_going(func: &Func, alive: &[bool], number: usize) -> bool
+    requires { number < length func.now.items }
+    ensures { result ≡ is_going func.now alive.now number }
+{
+    let items = func.items.items();
+    is_marked(alive, number)
+        && (!is_schedule(items[number].op) && !chains_itself(func, items[number].op))
+}

@@ -1,0 +1,10 @@
+//! The single steps of blocking bounds: behind which item sections go on, the summary of a function that is called and of a task's body, and what is
+//! told of a greatest size.
+#![tactic(auto)]
+
+pub mod bodies;
+pub mod bound;
+pub mod callees;
+pub mod items;
+pub mod marks;
+pub mod sizes;

@@ -1,0 +1,2 @@
+pub mod ElfText
+pub mod Faults

@@ -1,0 +1,4 @@
+pub mod Expansion
+pub mod Long
+pub mod Passes
+pub mod Nothing

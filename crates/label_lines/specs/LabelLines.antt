@@ -1,0 +1,22 @@
+-- The line of a label in task source.
+use Rattle.std.specs.Prelude.{ℕ, ◌==◌, ◌++◌, Bool, if◌then◌else◌, List, [], map, length, drop, get_or, codes}
+use Rattle.std.specs.List.{flat_map}
+use Rattle.sloth_base.specs.ConfigRange.{res_scheduler_name}
+use Rattle.sloth_base.specs.declared.config.Config.{Config}
+use Rattle.asm_lines.specs.Lines.{line_of}
+
+-- the name of a resource
+abbrev pub resource_name : Config → ℕ → List ℕ
+resource_name config r = if r == 32 then res_scheduler_name else get_or config.resources r []
+
+-- the names of these resources
+abbrev pub resource_names : Config → List ℕ → List (List ℕ)
+resource_names config held = map (resource_name config) held
+
+-- `label NAME`, and `, R` for each resource
+abbrev pub label_text : List ℕ → List (List ℕ) → List ℕ
+label_text name resources = codes "label " ++ (name ++ flat_map (λ resource. codes ", " ++ resource) resources)
+
+-- the CR before the LF of a line that has one
+abbrev pub line_end : Bool → List ℕ → List ℕ
+line_end is_last part = drop (length (line_of is_last part)) part

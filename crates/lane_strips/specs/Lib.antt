@@ -1,0 +1,4 @@
+pub mod Arrivals
+pub mod Bars
+pub mod Scale
+pub mod Strips

@@ -1,0 +1,3 @@
+pub mod EventNumbers
+pub mod EventWords
+pub mod MarkWords

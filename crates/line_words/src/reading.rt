@@ -1,0 +1,22 @@
+//! Words of events read.
+ghost use Rattle.std.specs.Prelude.{◌≡◌, ℕ, IfSome};
+ghost use Rattle.line_words.specs.EventNumbers.{HasNumbers, IsNumberOrNone};
+ghost use Rattle.line_words.specs.EventWords.{single_in};
+
+use sloth_base::event::Event;
+use text_pieces::bytes::same;
+
+/// An event of a task alone, by its first word.
+#[tactic(auto, unfolding(crate::specs::EventWords::single_in))]
+pub fn single_in(kind: &[u8], task: u32) -> Option<Event>
+    ensures event { result ≡ single_in kind.now task }
+    ensures numbers { (tasks functions counters : ℕ) → IsNumberOrNone tasks task → IfSome result (λ event. HasNumbers tasks functions counters event) }
+{
+    if same(kind, b"enter") {
+        return Some(Event::Enter(task));
+    }
+    if same(kind, b"back") {
+        return Some(Event::Back(task));
+    }
+    None
+}

@@ -1,0 +1,113 @@
+//! A bus of RAM and the interrupt controller.
+ghost use Rattle.std.specs.Prelude.{◌≡◌, ◌<◌, ◌==◌, IfOk, slice_set, slice_index};
+ghost use Rattle.sloth_base.specs.ImageRange.{InFormat};
+ghost use Rattle.machine_memory.specs.Fresh.{sloth_start};
+
+use crate::bus::Bus;
+use crate::place::{Place, extended, locate};
+use crate::ram::Ram;
+use irq_ctrl::Controller;
+use rv32_instr::Bad;
+use sloth_base::app::Width;
+use sloth_base::image::Image;
+use sloth_base::memory::NoMemory;
+use sloth_base::numbers::Line;
+use std::alloc::Global;
+use std::marker::Model;
+
+/// RAM and a controller. Contracts see it as memory.
+#[derive(Drop)]
+pub struct SlothBus {
+    ram: Ram,
+    controller: Controller,
+}
+
+impl Model for SlothBus {
+    ghost use Rattle.std.specs.Prelude.{true};
+    ghost use Rattle.rv32_instr.specs.Memory.{Memory};
+
+    ghost Value = { Memory };
+
+    ghost view = { λ bus. record { ram = bus.ram; lines = bus.controller; controller = true } };
+}
+
+impl SlothBus {
+    /// RAM that begins with the image's memory, and zero in all else.
+    pub fn new(alloc: Global, image: &Image) -> Result<SlothBus, NoMemory>
+        requires { InFormat image.now }
+        ensures { IfOk result (λ bus. bus ≡ sloth_start image.now) }
+    {
+        let ram = Ram::new(alloc, image.memory.items())?;
+        Ok(SlothBus {
+            ram,
+            controller: Controller::new(),
+        })
+    }
+
+    /// The line's pending byte becomes 1.
+    pub fn arrive(&mut self, line: Line)
+        requires { line < 32 }
+        ensures { self.new ≡ record self.old { lines = record self.old.lines { pending = slice_set self.old.lines.pending line 1 } } }
+    {
+        self.controller.arrive(line);
+    }
+
+    /// Whether the line is pending.
+    pub fn is_pending(&self, line: Line) -> bool
+        requires { line < 32 }
+        ensures { result ≡ (slice_index self.now.lines.pending line == 1) }
+    {
+        self.controller.is_pending(line)
+    }
+
+    /// Whether the line is enabled.
+    pub fn is_enabled(&self, line: Line) -> bool
+        requires { line < 32 }
+        ensures { result ≡ (slice_index self.now.lines.enabled line == 1) }
+    {
+        self.controller.is_enabled(line)
+    }
+
+    /// The line's level byte, 0 to 255.
+    #[tactic(auto, using(std::proofs::lemmas::Bool::Decides::nat_tests), unfolding(sloth_base::specs::Lines::controller_byte))]
+    pub fn level_of(&self, line: Line) -> u8
+        requires { line < 32 }
+        ensures { result ≡ slice_index self.now.lines.levels line }
+    {
+        self.controller.load(64 + u32::from(line.0))
+    }
+}
+
+impl Bus for SlothBus {
+    ghost memory = { λ bus. bus };
+
+    #[tactic(auto, using(crate::proofs::Places::refusal_bare, crate::proofs::Places::loaded_ram, crate::proofs::Places::loaded_controller))]
+    fn load(&mut self, address: u32, width: Width) -> Result<u32, Bad> {
+        match locate(address, width, true) {
+            Ok(Place::Ram(offset)) => Ok(extended(width, self.ram.load(offset, width))),
+            Ok(Place::Controller(offset)) => Ok(extended(
+                width,
+                u32::from(self.controller.load(offset)),
+            )),
+            Err(bad) => Err(bad),
+        }
+    }
+
+    #[tactic(auto, using(crate::proofs::Places::refusal_bare, crate::proofs::Places::stored_ram, crate::proofs::Places::stored_controller))]
+    fn store(&mut self, address: u32, width: Width, value: u32) -> Result<(), Bad> {
+        match locate(address, width, true) {
+            Ok(Place::Ram(offset)) => self.ram.store(offset, width, value),
+            Ok(Place::Controller(offset)) => self.controller.store(offset, (value % 256) as u8),
+            Err(bad) => return Err(bad),
+        }
+        Ok(())
+    }
+
+    fn choose(&self, level: u8) -> Option<Line> {
+        self.controller.choose(level)
+    }
+
+    fn take(&mut self, line: Line) {
+        self.controller.take(line);
+    }
+}

@@ -1,9 +1,0 @@
-use Rattle.std.proofs.Common.{◌≡◌, length, rules}
-use Rattle.image_gen.proofs.Planning.{may_generate}
-use Rattle.public_calls.proofs.generating.list_image.Goals as goal
-
-pub list_planned-requires : goal.list_planned-requires
-list_planned-requires g c =
-    let long : length c.assign-levels.result.task ≡ 30 = search rules in
-    may_generate c.args.config.now c.args.app.now c.args.bounds.now c.requires c.assign-levels.result c.in_ok-map.map c.assign-levels.ensures.levels long
-    c.assign-levels.ensures.within c.in_ok-map.ensures

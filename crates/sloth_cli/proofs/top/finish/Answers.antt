@@ -1,6 +1,0 @@
-use Rattle.std.proofs.Common.{◌∙◌}
-use Rattle.sloth_cli.proofs.top.finish.Goals as goal
-
-pub returns-in-NotAnImage : goal.returns-in-NotAnImage
-returns-in-NotAnImage g c =
-    rw c.in-NotAnImage.is (rw (c.bytes-in-NotAnImage.ensures ∙ c.no_image_line.ensures) at c.say-in-NotAnImage.ensures)

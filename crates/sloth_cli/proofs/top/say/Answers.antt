@@ -1,5 +1,0 @@
-use Rattle.sloth_cli.proofs.Causes.{closed}
-use Rattle.sloth_cli.proofs.top.say.Goals as goal
-
-pub returns-in-Ok : goal.returns-in-Ok
-returns-in-Ok g c = closed _ _ _ _ _ _ c.in-Ok.ensures.ok c.close.ensures

@@ -1,0 +1,207 @@
+-- Why a command was not done, from its first read to its last line.
+use Rattle.std.proofs.Common.{◌≡◌, ◌∙◌, inl, inr, ℕ, List, length, refl, sym, ap, subst}
+use Rattle.std.specs.Prelude.{codes, IsTrue, Result, Ok, Err, OnOk}
+use Rattle.sloth_base.specs.declared.config.Config.{Config}
+use Rattle.sloth_base.specs.declared.app.App.{App}
+use Rattle.sloth_base.specs.declared.event.Arrival.{Arrival}
+use Rattle.sloth_base.specs.Arrivals.{AreArrivals}
+use Rattle.sloth_base.specs.declared.image.Image.{Image}
+use Rattle.sloth_base.specs.Owners.{owners_in}
+use Rattle.sloth_io.specs.Counts.{Rose}
+use Rattle.sloth_io.specs.Sink.{Output}
+use Rattle.sloth_io.proofs.Gains.{part-whole}
+use Rattle.sloth_io.specs.Store.{Files, KeepsFiles, is_space_for}
+use Rattle.image_file.specs.ImageText.{image_bytes}
+use Rattle.sloth_source.specs.Texts.{AreAccepted}
+use Rattle.command_line.specs.Command.{Command, Building, Builds, Executes, Lists, Samples, Uses, IsCommand, IsInLimit}
+use Rattle.sloth_commands.specs.Inputs.{AreRead}
+use Rattle.command_line.specs.LastLine.{refusal_line, no_image_line}
+use Rattle.tool_answers.specs.declared.status.Status.{Status}
+use Rattle.tool_answers.specs.declared.status.Status.TheVariants as status
+use Rattle.sloth_commands.specs.declared.failure.Failure.{Failure}
+use Rattle.sloth_commands.specs.declared.failure.Failure.TheVariants as failure
+use Rattle.sloth_commands.specs.Top.{World, world, inputs_of, names_of, counter_names, AreInputs, FilesStay, IsAccepted, IsBuiltImage}
+use Rattle.sloth_commands.specs.Top.{IsWritten, IsDone, Requires, Took, Puts, Closes, BrokeOff, Answers, done_text}
+use Rattle.sloth_commands.specs.Failures.{ReadFailed, JudgeFailed, PerformFailed, Ends, EndsPlainly, CommandFailed, IsPerformed, Finished}
+use Rattle.sloth_commands.proofs.Ceilings.{shown-keep, shown-keep_bounds}
+use Rattle.sloth_commands.proofs.ToolCauses.{end-required}
+
+-- ---- a command
+
+pub read-ends : (f : Failure) (old new : Files) (sink : Output) (c : Command) → ReadFailed f old new (inputs_of c) → FilesStay old new
+    → CommandFailed f (world old sink) (world new sink) c
+read-ends failure.ReadFault old new sink c h stay = (h, stay, refl)
+read-ends failure.TooLong old new sink c h stay = (h, stay, refl)
+read-ends failure.NoMemory old new sink c h stay = (stay, refl)
+read-ends (failure.Refused r) old new sink c h stay = absurd h
+read-ends failure.WriteFile old new sink c h stay = absurd h
+read-ends failure.Put old new sink c h stay = absurd h
+read-ends (failure.NotAnImage fault) old new sink c h stay = absurd h
+
+pub judge-ends : (f : Failure) (old new : Files) (sink : Output) (c : Building) (oil src arr : List ℕ)
+    → AreInputs old c oil src arr → JudgeFailed f oil src arr → FilesStay old new → CommandFailed f (world old sink) (world new sink) (Builds c)
+judge-ends (failure.Refused r) old new sink c oil src arr inputs h stay =
+    (record { oil = oil; src = src; arr = arr; inputs = inputs; is = h }, stay, refl)
+judge-ends failure.NoMemory old new sink c oil src arr inputs h stay = (stay, refl)
+judge-ends failure.ReadFault old new sink c oil src arr inputs h stay = absurd h
+judge-ends failure.TooLong old new sink c oil src arr inputs h stay = absurd h
+judge-ends failure.WriteFile old new sink c oil src arr inputs h stay = absurd h
+judge-ends failure.Put old new sink c oil src arr inputs h stay = absurd h
+judge-ends (failure.NotAnImage fault) old new sink c oil src arr inputs h stay = absurd h
+
+-- an image was built of the inputs, the arrivals are read, and nothing is written yet
+pub record IsBuilt (old mid : Files) (c : Building) (image : Image) (arrivals : List Arrival) : Type 0 where
+  pub config : Config
+  pub app : App
+  pub accepted : IsAccepted old c config app arrivals
+  pub is_image : IsBuiltImage config app image
+  pub in_limit : IsInLimit c.run
+  pub kept : KeepsFiles old mid
+
+pub built-of : (old mid : Files) (c : Building) (config : Config) (app : App) (image : Image) (arrivals : List Arrival) (oil src arr : List ℕ)
+    → AreInputs old c oil src arr → AreAccepted oil src config app → AreRead (names_of config) (counter_names config) arr arrivals → AreArrivals (owners_in config) arrivals
+    → IsBuiltImage config app image → IsInLimit c.run → KeepsFiles old mid → IsBuilt old mid c image arrivals
+built-of old mid c config app image arrivals oil src arr inputs accepted read in_range is_image in_limit kept = record {
+  config = config;
+  app = app;
+  accepted = record { oil = oil; src = src; arr = arr; inputs = inputs; accepted = accepted; read = read; in_range = in_range };
+  is_image = is_image;
+  in_limit = in_limit;
+  kept = kept;
+}
+
+pub done : (old mid new : Files) (c : Building) (image : Image) (arrivals : List Arrival) → IsBuilt old mid c image arrivals
+    → IsWritten mid new c.img (image_bytes image) → IsDone old new c (done_text image arrivals c.run)
+done old mid new c image arrivals b w = record {
+  config = b.config;
+  app = b.app;
+  arrivals = arrivals;
+  image = image;
+  accepted = b.accepted;
+  is_image = b.is_image;
+  written = (w.0, λ name other. w.1 name other ∙ b.kept.holds name);
+  text_is = refl;
+  protocol = shown-keep b.config b.app image arrivals c.run b.is_image.protocol b.accepted.in_range b.in_limit;
+  bounds = shown-keep_bounds b.config b.app image arrivals c.run b.is_image.bounds b.accepted.in_range b.in_limit;
+}
+
+pub perform-ends : (f : Failure) (old mid : Files) (sink : Output) (new : World) (c : Building) (image : Image) (arrivals : List Arrival)
+    → IsBuilt old mid c image arrivals → PerformFailed f (world mid sink) new c.img (image_bytes image) (done_text image arrivals c.run)
+    → CommandFailed f (world old sink) new (Builds c)
+perform-ends failure.NoMemory old mid sink new c image arrivals is h = (λ name. h.0 name ∙ is.kept.holds name, h.1)
+perform-ends failure.WriteFile old mid sink new c image arrivals is h = (
+  record {
+    config = is.config;
+    app = is.app;
+    arrivals = arrivals;
+    image = image;
+    accepted = is.accepted;
+    is_image = is.is_image;
+    failed = (
+      subst (λ n. Rose n new.files.failed_writes) is.kept.failed_writes h.0.0,
+      λ sure. (ap (λ s. is_space_for s (length (image_bytes image))) (sym (is.kept.space c.img)) ∙ h.0.1 (subst (λ t. IsTrue t) (sym is.kept.sure) sure)),
+    );
+    others = λ name other. h.1 name other ∙ is.kept.holds name;
+  },
+  h.2,
+)
+perform-ends failure.Put old mid sink new c image arrivals is h = (status.Done, done_text image arrivals c.run, done old mid new.files c image arrivals is h.0, h.1)
+perform-ends (failure.Refused r) old mid sink new c image arrivals is h = absurd h
+perform-ends failure.ReadFault old mid sink new c image arrivals is h = absurd h
+perform-ends failure.TooLong old mid sink new c image arrivals is h = absurd h
+perform-ends (failure.NotAnImage fault) old mid sink new c image arrivals is h = absurd h
+
+-- two facts of a call that succeeds
+pub both-ok : {T E : Type 0} (r : Result T E) (P Q R : Type 0) → (P → Q → R) → OnOk r P → OnOk r Q → OnOk r R
+both-ok (Ok x) P Q R f p q = f p q
+both-ok (Err e) P Q R f p q = tt
+
+-- ---- the last line
+
+-- a line that is put behind a command that put nothing
+puts-behind : (wanted answer : Status) (old mid new : Output) (line : List ℕ) → mid ≡ old → Puts wanted answer mid new line → Puts wanted answer old new line
+puts-behind wanted answer old mid new line same p = subst (λ (x : Output). Puts wanted answer x new line) same p
+
+-- how a command ended is what its status requires
+required-plain : (s : Status) (words : List (List ℕ)) (c : Command) (old new : Files) (text : List ℕ) → IsCommand words c → EndsPlainly s old new c text
+    → Requires s words old new text
+required-plain status.Done words c old new text is h = (c, is, h)
+required-plain status.Stopped words c old new text is h = (c, is, h)
+required-plain status.Usage words c old new text is h = absurd h
+required-plain status.Refused words c old new text is h = absurd h
+required-plain status.ReadFault words c old new text is h = absurd h
+required-plain status.WriteFault words c old new text is h = absurd h
+required-plain status.NoMemory words c old new text is h = absurd h
+required-plain status.TooLong words c old new text is h = absurd h
+required-plain status.NotAnImage words c old new text is h = absurd h
+required-plain status.NotAnElf words c old new text is h = absurd h
+required-plain status.BadTrace words c old new text is h = absurd h
+required-plain status.NoHolds words c old new text is h = absurd h
+
+required : (s : Status) (words : List (List ℕ)) (c : Command) (old new : Files) (text : List ℕ) → IsCommand words c → Ends s old new c text
+    → Requires s words old new text
+required s words (Builds b) old new text is h = required-plain s words (Builds b) old new text is h
+required s words (Executes e) old new text is h = required-plain s words (Executes e) old new text is h
+required s words (Lists img) old new text is h = required-plain s words (Lists img) old new text is h
+required s words (Samples seed img) old new text is h = required-plain s words (Samples seed img) old new text is h
+required s words (Uses u) old new text is h = end-required s words u old new text is h
+
+pub finished : (f : Failure) (words : List (List ℕ)) (c : Command) (old : World) (files : Files) (mid new : Output) (answer : Status)
+    → IsCommand words c → CommandFailed f old (world files mid) c → Finished f answer mid new → Answers words old (world files new) answer
+finished (failure.Refused r) words c old files mid new answer is h d = record {
+  wanted = status.Refused;
+  text = refusal_line r;
+  required = (c, is, r, h.0, refl, h.1);
+  puts = puts-behind status.Refused answer old.sink mid new (refusal_line r) h.2 d;
+}
+finished failure.ReadFault words c old files mid new answer is h d = record {
+  wanted = status.ReadFault;
+  text = codes "read fault\n";
+  required = (c, is, h.0, refl, h.1);
+  puts = puts-behind status.ReadFault answer old.sink mid new (codes "read fault\n") h.2 d;
+}
+finished failure.TooLong words c old files mid new answer is h d = record {
+  wanted = status.TooLong;
+  text = codes "too long\n";
+  required = (c, is, h.0, refl, h.1);
+  puts = puts-behind status.TooLong answer old.sink mid new (codes "too long\n") h.2 d;
+}
+finished (failure.NotAnImage fault) words c old files mid new answer is h d = record {
+  wanted = status.NotAnImage;
+  text = no_image_line fault;
+  required = (c, is, fault, h.0, refl, h.1);
+  puts = puts-behind status.NotAnImage answer old.sink mid new (no_image_line fault) h.2 d;
+}
+finished failure.NoMemory words c old files mid new answer is h d = record {
+  wanted = status.NoMemory;
+  text = codes "no memory\n";
+  required = (c, is, refl, h.0);
+  puts = puts-behind status.NoMemory answer old.sink mid new (codes "no memory\n") h.1 d;
+}
+finished failure.WriteFile words c old files mid new answer is h d = record {
+  wanted = status.WriteFault;
+  text = codes "write fault\n";
+  required = (c, is, h.0, refl);
+  puts = puts-behind status.WriteFault answer old.sink mid new (codes "write fault\n") h.1 d;
+}
+finished failure.Put words c old files mid new answer is h d = record {
+  wanted = h.0;
+  text = h.1;
+  required = required h.0 words c old.files files h.1 is h.2;
+  puts = inr (d.0, subst (λ (x : Output). BrokeOff old.sink x h.1) (sym d.1) h.3);
+}
+
+-- a text that was taken, and then what the sink holds back
+pub closed : (wanted answer : Status) (old mid new : Output) (text : List ℕ) → Took old mid text → Closes wanted answer mid new
+    → Puts wanted answer old new text
+closed wanted answer old mid new text took (inl done) = inl (done.0, done.1 ∙ took)
+closed wanted answer old mid new text took (inr failed) = inr (failed.0, part-whole old mid new text took failed.1)
+
+pub answered : (words : List (List ℕ)) (c : Command) (old : World) (files : Files) (mid new : Output) (s answer : Status) → IsCommand words c
+    → IsPerformed s old (world files mid) c → Closes s answer mid new → Answers words old (world files new) answer
+answered words c old files mid new s answer is h d = record {
+  wanted = s;
+  text = h.0;
+  required = required s words c old.files files h.0 is h.1;
+  puts = closed s answer old.sink mid new h.0 h.2 d;
+}

@@ -1,0 +1,14 @@
+mod Ceilings
+mod OnlyRuns
+mod Listed
+pub mod Causes
+pub mod Complete
+mod ImageCauses
+pub mod ImageComplete
+mod SampleCauses
+pub mod SampleComplete
+mod InMemoryCalls
+mod ToolCauses
+pub mod ToolComplete
+mod ToolReads
+mod LinePuts

@@ -1,0 +1,123 @@
+-- What a tool did, and why it did not.
+use Rattle.std.proofs.Common.{◌≡◌, ◌∙◌, ℕ, List, [], ◌∷◌, refl, sym, ap, subst, arith, length}
+use Rattle.std.specs.Prelude.{IsTrue, Option, Some, None, Result, Ok, Err, IfOk, OnOk}
+use Rattle.image_file.specs.declared.fault.ImageFault.{ImageFault}
+use Rattle.sloth_io.specs.Counts.{Rose}
+use Rattle.sloth_io.specs.Sink.{Output}
+use Rattle.sloth_io.specs.Store.{Files, KeepsFiles, is_space_for}
+use Rattle.command_line.specs.Command.{Uses, IsCommand}
+use Rattle.command_line.specs.Tools.{ToolUse, IsToolUse}
+use Rattle.tool_commands.specs.Answers.{IsAnswer, input, reads_image}
+use Rattle.tool_commands.specs.Lines.{tool_text}
+use Rattle.tool_answers.specs.declared.answer.ToolAnswer.{ToolAnswer}
+use Rattle.tool_answers.specs.declared.answer.ToolAnswer.TheVariants as tool_answer
+use Rattle.tool_commands.proofs.OneAnswer.{no-image, reads-one}
+use Rattle.sloth_commands.specs.ImageFiles.{IsNoImage}
+use Rattle.tool_answers.specs.Statuses.{tool_status}
+use Rattle.sloth_commands.specs.ToolFiles.{AreToolInputs, IsToolAnswer, ReadsImageFirst}
+use Rattle.sloth_commands.specs.Top.{World, world, FilesAfter, IsOutput, IsToolEnd, IsUnwrittenOutput, Requires, Took}
+use Rattle.sloth_commands.specs.Failures.{TellFailed, CommandFailed, IsPerformed}
+use Rattle.tool_answers.specs.declared.status.Status.{Status}
+use Rattle.sloth_commands.specs.declared.failure.Failure.{Failure}
+use Rattle.sloth_commands.specs.declared.failure.Failure.TheVariants as failure
+use Rattle.sloth_commands.proofs.ToolReads.{as-many}
+
+-- ---- no image
+
+first-of : (files : Files) (u : ToolUse) (inputs : List (List ℕ)) → IsTrue (reads_image u.tool) → IsToolUse u → AreToolInputs files u.inputs inputs
+    → ReadsImageFirst files u (input inputs 0)
+first-of files u [] reads is read =
+    let same = as-many files u.inputs [] read in
+    let counted = is.counted in
+    let one = reads-one u.tool reads in
+    absurd (omega (arith, same, counted, one))
+first-of files u (b ∷ rest) reads is read = record { rest = rest; first = reads; read = read }
+
+no-image-file : (files : Files) (u : ToolUse) (fault : ImageFault) → IsToolUse u → IsToolAnswer files u (tool_answer.NotAnImage fault)
+    → IsNoImage files (Uses u) fault
+no-image-file files u fault is h =
+    let no = no-image u.tool u.counts h.inputs fault h.is in
+    record { file = input h.inputs 0; inputs = first-of files u h.inputs no.0 is h.read; faulty = no.1 }
+
+-- ---- what the answer requires
+
+tool-required : (a : ToolAnswer) (words : List (List ℕ)) (u : ToolUse) (old new : Files) → IsCommand words (Uses u) → IsToolAnswer old u a
+    → FilesAfter a old new u.output → Requires (tool_status a) words old new (tool_text a)
+tool-required (tool_answer.Done outcome) words u old new is h after =
+    (Uses u, is, record { answer = tool_answer.Done outcome; is = h; status_is = refl; text_is = refl; files = after })
+tool-required (tool_answer.Stopped pc stop) words u old new is h after =
+    (Uses u, is, record { answer = tool_answer.Stopped pc stop; is = h; status_is = refl; text_is = refl; files = after })
+tool-required (tool_answer.Refused r) words u old new is h after = (Uses u, is, r, h, refl, after)
+tool-required (tool_answer.NotAnImage fault) words u old new is h after = (Uses u, is, fault, no-image-file old u fault is.1 h, refl, after)
+tool-required (tool_answer.NotAnElf fault) words u old new is h after = (u, is, fault, h, refl, after)
+tool-required (tool_answer.BadTrace fault) words u old new is h after = (u, is, fault, h, refl, after)
+tool-required tool_answer.NoHolds words u old new is h after = (u, is, h, refl, after)
+
+pub end-required : (s : Status) (words : List (List ℕ)) (u : ToolUse) (old new : Files) (text : List ℕ) → IsCommand words (Uses u) → IsToolEnd s old new u text
+    → Requires s words old new text
+end-required s words u old new text is h =
+    subst (λ x. Requires x words old new text) (sym h.status_is)
+    (subst (λ t. Requires (tool_status h.answer) words old new t) (sym h.text_is) (tool-required h.answer words u old new is h.is h.files))
+
+-- ---- behind the reads
+
+output-kept : (old mid new : Files) (output : Option (List ℕ)) (bytes : List ℕ) → KeepsFiles old mid → IsOutput mid new output bytes → IsOutput old new output bytes
+output-kept old mid new None bytes kept h = λ name. h name ∙ kept.holds name
+output-kept old mid new (Some name) bytes kept h = (h.0, λ other differs. h.1 other differs ∙ kept.holds other)
+
+pub after-kept : (a : ToolAnswer) (old mid new : Files) (output : Option (List ℕ)) → KeepsFiles old mid → FilesAfter a mid new output → FilesAfter a old new output
+after-kept (tool_answer.Done outcome) old mid new output kept h = output-kept old mid new output outcome.file kept h
+after-kept (tool_answer.Refused r) old mid new output kept h = λ name. h name ∙ kept.holds name
+after-kept (tool_answer.Stopped pc stop) old mid new output kept h = λ name. h name ∙ kept.holds name
+after-kept (tool_answer.NotAnImage f) old mid new output kept h = λ name. h name ∙ kept.holds name
+after-kept (tool_answer.NotAnElf f) old mid new output kept h = λ name. h name ∙ kept.holds name
+after-kept (tool_answer.BadTrace f) old mid new output kept h = λ name. h name ∙ kept.holds name
+after-kept tool_answer.NoHolds old mid new output kept h = λ name. h name ∙ kept.holds name
+
+unwritten-kept : (old mid new : Files) (output : Option (List ℕ)) (bytes : List ℕ) → KeepsFiles old mid → IsUnwrittenOutput mid new output bytes
+    → IsUnwrittenOutput old new output bytes
+unwritten-kept old mid new None bytes kept h = absurd h
+unwritten-kept old mid new (Some name) bytes kept h = (
+  (
+    subst (λ n. Rose n new.failed_writes) kept.failed_writes h.0.0,
+    λ sure. (ap (λ s. is_space_for s (length bytes)) (sym (kept.space name)) ∙ h.0.1 (subst (λ t. IsTrue t) (sym kept.sure) sure)),
+  ),
+  λ other differs. h.1 other differs ∙ kept.holds other,
+)
+
+module _ (old mid : Files) (sink : Output) (new : World) (u : ToolUse) (kept : KeepsFiles old mid) where
+  pub tell-ends : (f : Failure) (a : ToolAnswer) → IsToolAnswer old u a → TellFailed f a (world mid sink) new u.output → CommandFailed f (world old sink) new (Uses u)
+  tell-ends failure.Put a is h = (
+    tool_status a,
+    tool_text a,
+    record { answer = a; is = is; status_is = refl; text_is = refl; files = after-kept a old mid new.files u.output kept h.0 },
+    h.1,
+  )
+  tell-ends failure.WriteFile (tool_answer.Done outcome) is h =
+      (record { outcome = outcome; is = is; failed = unwritten-kept old mid new.files u.output outcome.file kept h.0 }, h.1)
+  tell-ends failure.WriteFile (tool_answer.Refused r) is h = absurd h
+  tell-ends failure.WriteFile (tool_answer.Stopped pc stop) is h = absurd h
+  tell-ends failure.WriteFile (tool_answer.NotAnImage e) is h = absurd h
+  tell-ends failure.WriteFile (tool_answer.NotAnElf e) is h = absurd h
+  tell-ends failure.WriteFile (tool_answer.BadTrace e) is h = absurd h
+  tell-ends failure.WriteFile tool_answer.NoHolds is h = absurd h
+  tell-ends (failure.Refused r) a is h = absurd h
+  tell-ends failure.ReadFault a is h = absurd h
+  tell-ends failure.TooLong a is h = absurd h
+  tell-ends (failure.NotAnImage e) a is h = absurd h
+  tell-ends failure.NoMemory a is h = absurd h
+
+  pub tool-performed : (s : Status) (a : ToolAnswer) → IsToolAnswer old u a → s ≡ tool_status a → Took sink new.sink (tool_text a) → FilesAfter a mid new.files u.output
+      → IsPerformed s (world old sink) new (Uses u)
+  tool-performed s a is status text after =
+      (tool_text a, record { answer = a; is = is; status_is = status; text_is = refl; files = after-kept a old mid new.files u.output kept after }, text)
+
+-- the answer to what was read
+pub answer-of : (files : Files) (u : ToolUse) (inputs slice : List (List ℕ)) (a : ToolAnswer) → AreToolInputs files u.inputs inputs → slice ≡ inputs
+    → IsAnswer u.tool u.counts slice a → IsToolAnswer files u a
+answer-of files u inputs slice a read same is = record { inputs = inputs; read = read; is = subst (λ xs. IsAnswer u.tool u.counts xs a) same is }
+
+-- three facts of a call that succeeds
+pub all-told : {T E : Type 0} (r : Result T E) (P : T → Type 0) (Q R : Type 0) (W : T → Type 0) → ((t : T) → P t → Q → R → W t) → IfOk r P → OnOk r Q → OnOk r R → IfOk r W
+all-told (Ok t) P Q R W f p q r = f t p q r
+all-told (Err e) P Q R W f p q r = tt

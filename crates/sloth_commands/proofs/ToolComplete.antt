@@ -1,0 +1,202 @@
+-- Which answer a tool has, where the files that it reads are told.
+use Rattle.std.proofs.Common.{◌≡◌, ◌∙◌, inl, inr, ℕ, List, ◌∷◌, length, refl, ap, subst}
+use Rattle.std.specs.Prelude.{IsTrue, ◌⊎◌, Option, Some, None, codes}
+use Rattle.sloth_io.specs.Counts.{Rose}
+use Rattle.sloth_io.specs.Store.{Files, IsMissing, IsTooLong}
+use Rattle.image_file.specs.declared.fault.ImageFault.{ImageFault}
+use Rattle.image_file.proofs.Faulted.{fault_is_one, none_is_both}
+use Rattle.command_line.specs.Command.{Command, Builds, Executes, Lists, Samples, Uses, IsCommand}
+use Rattle.command_line.specs.Tools.{ToolUse}
+use Rattle.command_line.proofs.Commands.{one-command}
+use Rattle.tool_commands.specs.Answers.{IsAnswer}
+use Rattle.tool_commands.specs.Lines.{tool_text}
+use Rattle.tool_answers.specs.declared.answer.Outcome.{Outcome}
+use Rattle.tool_answers.specs.declared.answer.ToolAnswer.{ToolAnswer}
+use Rattle.tool_answers.specs.declared.answer.ToolAnswer.TheVariants as tool_answer
+use Rattle.tool_commands.proofs.OneAnswer.{HasImage, image-or-fault, no-image, one_answer}
+use Rattle.sloth_commands.specs.Inputs.{input_limit}
+use Rattle.sloth_commands.specs.ImageFiles.{IsNoImage}
+use Rattle.tool_answers.specs.Statuses.{tool_status}
+use Rattle.sloth_commands.specs.ToolFiles.{AreToolInputs, IsToolAnswer, ReadsImageFirst}
+use Rattle.sloth_commands.specs.ToolAnswers.{IsTold, AnswersTool, OutputWorks, ToolWorks, TellsTool, TellsToolDone}
+use Rattle.sloth_commands.specs.Top.{World, IsFailedRead, IsLongRead, FilesAfter, IsUnwrittenOutput, Requires, Puts, Took, BrokeOff, EndsAs, Answers}
+use Rattle.sloth_commands.specs.Top.{CommandDone, CommandRefused, CommandUnwritten, CommandStopped, ReadsWork}
+use Rattle.tool_answers.specs.declared.status.Status.{Status}
+use Rattle.tool_answers.specs.declared.status.Status.TheVariants as status
+use Rattle.sloth_commands.proofs.Complete.{not-missing, not-long, counted-put, no-broken-put, no-failed-write}
+use Rattle.sloth_commands.proofs.ToolReads.{none-unread, told-inputs}
+
+-- a command is a tool with this answer
+abbrev pub AnswersAs : Files → ToolAnswer → Command → Type 0
+AnswersAs files a (Builds b) = ⊥
+AnswersAs files a (Executes e) = ⊥
+AnswersAs files a (Lists img) = ⊥
+AnswersAs files a (Samples seed img) = ⊥
+AnswersAs files a (Uses u) = IsToolAnswer files u a
+
+pub no-failed-tool-read : (old new : Files) (u : ToolUse) (inputs : List (List ℕ)) → IsTrue old.tells → AreToolInputs old u.inputs inputs → ReadsWork old new
+    → IsFailedRead old new (Uses u) → ⊥
+no-failed-tool-read old new u inputs tells i works =
+    none-unread (IsMissing old new) old u.inputs inputs i (λ name bytes holds short. not-missing old new name bytes tells works holds)
+
+pub no-long-tool-read : (old new : Files) (u : ToolUse) (inputs : List (List ℕ)) → IsTrue old.tells → AreToolInputs old u.inputs inputs
+    → IsLongRead old new (Uses u) → ⊥
+no-long-tool-read old new u inputs tells i =
+    none-unread (λ name. IsTooLong old new name input_limit) old u.inputs inputs i (λ name bytes holds short. not-long old new name bytes tells holds short)
+
+-- what an answer says of the image file that a tool reads first
+pub tool-image : (old : Files) (u : ToolUse) (file : List ℕ) (b : ToolAnswer) → IsTrue old.tells → ReadsImageFirst old u file → IsToolAnswer old u b
+    → HasImage file ⊎ ((fault : ImageFault) × (b ≡ tool_answer.NotAnImage fault))
+tool-image old u file b tells i h =
+    let same : h.inputs ≡ file ∷ i.rest = told-inputs old u.inputs h.inputs (file ∷ i.rest) tells h.read i.read in
+    let is = subst (λ xs. IsAnswer u.tool u.counts xs b) same h.is in
+    image-or-fault u.tool u.counts (file ∷ i.rest) b i.first is
+
+-- the write of an answer's file failed
+abbrev IsUnwrittenFor : ToolAnswer → Option (List ℕ) → Files → Files → Type 0
+IsUnwrittenFor (tool_answer.Done outcome) output old new = IsUnwrittenOutput old new output outcome.file
+IsUnwrittenFor (tool_answer.Refused r) output old new = ⊥
+IsUnwrittenFor (tool_answer.Stopped pc stop) output old new = ⊥
+IsUnwrittenFor (tool_answer.NotAnImage f) output old new = ⊥
+IsUnwrittenFor (tool_answer.NotAnElf f) output old new = ⊥
+IsUnwrittenFor (tool_answer.BadTrace f) output old new = ⊥
+IsUnwrittenFor tool_answer.NoHolds output old new = ⊥
+
+-- what a failed write leaves to be said
+data Told (words : List (List ℕ)) (a : ToolAnswer) (output : Option (List ℕ)) (old new : World) (answer : Status) : Type 0 where
+  Whole : IsTold a output old new answer → Told words a output old new answer
+  Wanting : EndsAs status.NoMemory words old new answer → Told words a output old new answer
+  Unwritten : answer ≡ status.WriteFault → IsUnwrittenFor a output old.files new.files → Told words a output old new answer
+  Broke : answer ≡ status.WriteFault → BrokeOff old.sink new.sink (tool_text a) → Told words a output old new answer
+  BrokeWanting : answer ≡ status.WriteFault → BrokeOff old.sink new.sink (codes "no memory\n") → Told words a output old new answer
+
+module _ (words : List (List ℕ)) (old new : World) (answer : Status) (u : ToolUse) (is : IsCommand words (Uses u)) (tells : IsTrue old.files.tells)
+    (inputs : List (List ℕ)) (i : AreToolInputs old.files u.inputs inputs) (works : ReadsWork old.files new.files) (a : ToolAnswer)
+    (is_answer : IsAnswer u.tool u.counts inputs a) where
+  -- the tool's answer is this one
+  the-answer : (b : ToolAnswer) → IsToolAnswer old.files u b → b ≡ a
+  the-answer b h =
+      let same : h.inputs ≡ inputs = told-inputs old.files u.inputs h.inputs inputs tells h.read i in
+      one_answer u.tool u.counts inputs b a (subst (λ xs. IsAnswer u.tool u.counts xs b) same h.is) is_answer
+
+  ended : (wanted : Status) (b : ToolAnswer) (text : List ℕ) → IsToolAnswer old.files u b → wanted ≡ tool_status b → text ≡ tool_text b
+      → FilesAfter b old.files new.files u.output → Puts wanted answer old.sink new.sink text → Told words a u.output old new answer
+  ended wanted b text h status_is text_is after (inl p) =
+      let same = the-answer b h in
+      let P : ToolAnswer → Type 0 = λ x. FilesAfter x old.files new.files u.output in
+      Whole (record {
+        status_is = p.0 ∙ status_is ∙ ap tool_status same;
+        text = subst (λ x. Took old.sink new.sink x) (text_is ∙ ap tool_text same) p.1;
+        files = subst P same after;
+      })
+  ended wanted b text h status_is text_is after (inr p) =
+      Broke p.0 (subst (λ x. BrokeOff old.sink new.sink x) (text_is ∙ ap tool_text (the-answer b h)) p.1)
+
+  own : (c : Command) (b : ToolAnswer) → IsCommand words c → AnswersAs old.files b c → IsToolAnswer old.files u b
+  own c b other h = subst (AnswersAs old.files b) (one-command words c (Uses u) other is) h
+
+  -- where the image file that it reads has a fault, this is its answer
+  no-image-told : (fault : ImageFault) → IsNoImage old.files (Uses u) fault → IsToolAnswer old.files u (tool_answer.NotAnImage fault)
+  no-image-told fault n = by (tool-image old.files u n.file a tells n.inputs (record { inputs = inputs; read = i; is = is_answer }))
+    where
+      by : HasImage n.file ⊎ ((own : ImageFault) × (a ≡ tool_answer.NotAnImage own)) → IsToolAnswer old.files u (tool_answer.NotAnImage fault)
+      by (inl image) = absurd (none_is_both n.file image.0 fault image.1 n.faulty)
+      by (inr other) =
+          let same : inputs ≡ n.file ∷ n.inputs.rest = told-inputs old.files u.inputs inputs (n.file ∷ n.inputs.rest) tells i n.inputs.read in
+          let is_no : IsAnswer u.tool u.counts (n.file ∷ n.inputs.rest) (tool_answer.NotAnImage other.0) =
+          subst (λ xs. IsAnswer u.tool u.counts xs (tool_answer.NotAnImage other.0)) same (subst (λ x. IsAnswer u.tool u.counts inputs x) other.1 is_answer) in
+          let fault_is : other.0 ≡ fault = fault_is_one n.file other.0 fault (no-image u.tool u.counts (n.file ∷ n.inputs.rest) other.0 is_no).1 n.faulty in
+          record {
+            inputs = n.file ∷ n.inputs.rest;
+            read = n.inputs.read;
+            is = subst (λ f. IsAnswer u.tool u.counts (n.file ∷ n.inputs.rest) (tool_answer.NotAnImage f)) fault_is is_no;
+          }
+
+  unwritten-for : (b : ToolAnswer) → b ≡ a → IsUnwrittenFor b u.output old.files new.files → IsUnwrittenFor a u.output old.files new.files
+  unwritten-for b same h = subst (λ x. IsUnwrittenFor x u.output old.files new.files) same h
+
+  told-by : (wanted : Status) (text : List ℕ) → Requires wanted words old.files new.files text → Puts wanted answer old.sink new.sink text
+      → Told words a u.output old new answer
+  told-by status.Done text q p =
+      let d = subst (λ x. CommandDone old.files new.files x text) (one-command words q.0 (Uses u) q.1 is) q.2 in
+      ended status.Done d.answer text d.is d.status_is d.text_is d.files p
+  told-by status.Stopped text q p =
+      let d = subst (λ x. CommandStopped old.files new.files x text) (one-command words q.0 (Uses u) q.1 is) q.2 in
+      ended status.Stopped d.answer text d.is d.status_is d.text_is d.files p
+  told-by status.Refused text q p =
+      let d = subst (λ x. CommandRefused old.files x q.2) (one-command words q.0 (Uses u) q.1 is) q.3 in
+      ended status.Refused (tool_answer.Refused q.2) text d refl q.4 q.5 p
+  told-by status.NotAnImage text q p =
+      let n = subst (λ x. IsNoImage old.files x q.2) (one-command words q.0 (Uses u) q.1 is) q.3 in
+      ended status.NotAnImage (tool_answer.NotAnImage q.2) text (no-image-told q.2 n) refl q.4 q.5 p
+  told-by status.NotAnElf text q p = ended status.NotAnElf (tool_answer.NotAnElf q.2) text (own (Uses q.0) (tool_answer.NotAnElf q.2) q.1 q.3) refl q.4 q.5 p
+  told-by status.BadTrace text q p = ended status.BadTrace (tool_answer.BadTrace q.2) text (own (Uses q.0) (tool_answer.BadTrace q.2) q.1 q.3) refl q.4 q.5 p
+  told-by status.NoHolds text q p = ended status.NoHolds tool_answer.NoHolds text (own (Uses q.0) tool_answer.NoHolds q.1 q.2) refl q.3 q.4 p
+  told-by status.NoMemory text q (inl p) = Wanting (p.0, (text, q, p.1))
+  told-by status.NoMemory text q (inr p) = BrokeWanting p.0 (subst (λ x. BrokeOff old.sink new.sink x) q.2 p.1)
+  told-by status.WriteFault text q p =
+      let d = subst (CommandUnwritten old.files new.files) (one-command words q.0 (Uses u) q.1 is) q.2 in
+      Unwritten (write-fault p) (unwritten-for (tool_answer.Done d.outcome) (the-answer (tool_answer.Done d.outcome) d.is) d.failed)
+    where
+      write-fault : Puts status.WriteFault answer old.sink new.sink text → answer ≡ status.WriteFault
+      write-fault (inl p) = p.0
+      write-fault (inr p) = p.0
+  told-by status.Usage text q p = absurd (q.0 (Uses u) is)
+  told-by status.ReadFault text q p =
+      absurd (no-failed-tool-read old.files new.files u inputs tells i works (subst (IsFailedRead old.files new.files) (one-command words q.0 (Uses u) q.1 is) q.2))
+  told-by status.TooLong text q p =
+      absurd (no-long-tool-read old.files new.files u inputs tells i (subst (IsLongRead old.files new.files) (one-command words q.0 (Uses u) q.1 is) q.2))
+
+-- ---- the clauses
+
+rose-output : (output : Option (List ℕ)) (bytes : List ℕ) (old new : Files) → IsUnwrittenOutput old new output bytes → Rose old.failed_writes new.failed_writes
+rose-output None bytes old new h = absurd h
+rose-output (Some name) bytes old new h = h.0.0
+
+rose-for : (a : ToolAnswer) (output : Option (List ℕ)) (old new : Files) → IsUnwrittenFor a output old new → Rose old.failed_writes new.failed_writes
+rose-for (tool_answer.Done outcome) output old new h = rose-output output outcome.file old new h
+rose-for (tool_answer.Refused r) output old new h = absurd h
+rose-for (tool_answer.Stopped pc stop) output old new h = absurd h
+rose-for (tool_answer.NotAnImage f) output old new h = absurd h
+rose-for (tool_answer.NotAnElf f) output old new h = absurd h
+rose-for (tool_answer.BadTrace f) output old new h = absurd h
+rose-for tool_answer.NoHolds output old new h = absurd h
+
+not-unwritten-output : (outcome : Outcome) (output : Option (List ℕ)) (old new : Files) → OutputWorks (tool_answer.Done outcome) output old new
+    → IsUnwrittenOutput old new output outcome.file → ⊥
+not-unwritten-output outcome None old new works h = h
+not-unwritten-output outcome (Some name) old new works h = no-failed-write old new name (length outcome.file) works h.0
+
+not-unwritten : (a : ToolAnswer) (output : Option (List ℕ)) (old new : Files) → OutputWorks a output old new → IsUnwrittenFor a output old new → ⊥
+not-unwritten (tool_answer.Done outcome) output old new works h = not-unwritten-output outcome output old new works h
+not-unwritten (tool_answer.Refused r) output old new works h = h
+not-unwritten (tool_answer.Stopped pc stop) output old new works h = h
+not-unwritten (tool_answer.NotAnImage f) output old new works h = h
+not-unwritten (tool_answer.NotAnElf f) output old new works h = h
+not-unwritten (tool_answer.BadTrace f) output old new works h = h
+not-unwritten tool_answer.NoHolds output old new works h = h
+
+answers-tool : (words : List (List ℕ)) (a : ToolAnswer) (output : Option (List ℕ)) (old new : World) (answer : Status) → Told words a output old new answer
+    → AnswersTool words a output old new answer
+answers-tool words a output old new answer (Whole h) = inl h
+answers-tool words a output old new answer (Wanting h) = inr (inl h)
+answers-tool words a output old new answer (Unwritten is h) = inr (inr (inl (is, rose-for a output old.files new.files h)))
+answers-tool words a output old new answer (Broke is h) = inr (inr (inr (is, counted-put old.sink new.sink (tool_text a) h)))
+answers-tool words a output old new answer (BrokeWanting is h) = inr (inr (inr (is, counted-put old.sink new.sink (codes "no memory\n") h)))
+
+answers-done : (words : List (List ℕ)) (a : ToolAnswer) (output : Option (List ℕ)) (old new : World) (answer : Status) → ToolWorks a output old new
+    → Told words a output old new answer → IsTold a output old new answer ⊎ EndsAs status.NoMemory words old new answer
+answers-done words a output old new answer works (Whole h) = inl h
+answers-done words a output old new answer works (Wanting h) = inr h
+answers-done words a output old new answer works (Unwritten is h) = absurd (not-unwritten a output old.files new.files works.write h)
+answers-done words a output old new answer works (Broke is h) = absurd (no-broken-put old.sink new.sink (tool_text a) works.text h)
+answers-done words a output old new answer works (BrokeWanting is h) = absurd (no-broken-put old.sink new.sink (codes "no memory\n") works.last_line h)
+
+pub tells-tool : (words : List (List ℕ)) (old new : World) (answer : Status) → Answers words old new answer → TellsTool words old new answer
+tells-tool words old new answer h u is tells inputs i reads a is_answer =
+    answers-tool words a u.output old new answer (told-by words old new answer u is tells inputs i reads a is_answer h.wanted h.text h.required h.puts)
+
+pub tells-tool-done : (words : List (List ℕ)) (old new : World) (answer : Status) → Answers words old new answer → TellsToolDone words old new answer
+tells-tool-done words old new answer h u is tells inputs i a is_answer works =
+    answers-done words a u.output old new answer works
+    (told-by words old new answer u is tells inputs i works.reads a is_answer h.wanted h.text h.required h.puts)

@@ -1,0 +1,21 @@
+use Rattle.std.proofs.Common.{◌∙◌}
+use Rattle.std.proofs.lemmas.Result.{IfErr-weaker}
+use Rattle.sloth_commands.proofs.Causes.{both-ok}
+use Rattle.sloth_commands.proofs.SampleCauses.{generated, sample-failed, sample-done}
+use Rattle.sloth_commands.proofs.sample_command.attempt.Goals as goal
+
+pub returns-clause-err : goal.returns-clause-err
+returns-clause-err g c =
+    let of = c.in_ok-made.ensures in
+    let made = c.in_ok-made.made in
+    let is = generated c.args.seed made.built.config made.built.app made.built.image made.arrivals of.accepted of.image of.arrivals of.in_range in
+    IfErr-weaker c.perform.result _ _ (λ failure h. sample-failed failure _ _ _ c.args.seed c.args.img.now made.built.image is h)
+    (rw (c.items.ensures ∙ of.arrivals) at c.perform.ensures.err)
+
+pub returns-clause-done : goal.returns-clause-done
+returns-clause-done g c =
+    let of = c.in_ok-made.ensures in
+    let made = c.in_ok-made.made in
+    let is = generated c.args.seed made.built.config made.built.app made.built.image made.arrivals of.accepted of.image of.arrivals of.in_range in
+    both-ok c.perform.result _ _ _ (λ written text. sample-done _ _ _ _ c.args.seed c.args.img.now made.built.image is written text) c.perform.ensures.written
+    (rw (c.items.ensures ∙ of.arrivals) at c.perform.ensures.text)

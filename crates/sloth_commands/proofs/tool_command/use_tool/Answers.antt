@@ -1,0 +1,42 @@
+use Rattle.std.proofs.Common.{◌≤◌, ◌∙◌, ℕ, List, ap, subst, sym, length}
+use Rattle.std.specs.Prelude.{All}
+use Rattle.std.proofs.lemmas.Result.{err_from_is_err_and, IfErr-weaker}
+use Rattle.std.proofs.lemmas.List.Elements.{All-from_recursion}
+use Rattle.command_line.specs.Command.{Uses, words_of}
+use Rattle.command_line.specs.Words.{use_of}
+use Rattle.sloth_commands.proofs.Causes.{read-ends}
+use Rattle.sloth_commands.proofs.ToolCauses.{all-told, answer-of, tell-ends, tool-performed}
+use Rattle.sloth_commands.proofs.ToolReads.{all-short, as-many}
+use Rattle.sloth_commands.proofs.tool_command.use_tool.Goals as goal
+
+-- as many files are read as the tool asks for
+pub judge-requires-clause-counted : goal.judge-requires-clause-counted
+judge-requires-clause-counted g c =
+    ap (λ (xs : List (List ℕ)). length xs) c.as_slice.ensures.value
+    ∙ as-many _ (words_of c.args.words.now.inputs.now) _ c.in_ok-inputs.ensures.ok
+    ∙ c.requires.counted
+
+pub judge-requires-clause-short : goal.judge-requires-clause-short
+judge-requires-clause-short g c =
+    let P : List ℕ → Type 0 = λ input. length input ≤ 4194304 in
+    let Q : List (List ℕ) → Type 0 = λ xs. All P xs in
+    subst Q (sym c.as_slice.ensures.value)
+    (All-from_recursion P _ (all-short _ (words_of c.args.words.now.inputs.now) _ c.in_ok-inputs.ensures.ok))
+
+pub returns-in_err-inputs-clause-err : goal.returns-in_err-inputs-clause-err
+returns-in_err-inputs-clause-err g c =
+    let failed = err_from_is_err_and c.from_residual.result c.from_residual.ensures.1 in
+    rw (failed.1, failed.2)
+    (read-ends c.in_err-inputs.field-0.0 _ _ _ (Uses (use_of c.args.words.now)) c.in_err-inputs.ensures.err c.fetch_all.ensures.keeps.holds)
+
+pub returns-clause-err : goal.returns-clause-err
+returns-clause-err g c =
+    let is = answer-of _ (use_of c.args.words.now) _ _ _ c.in_ok-inputs.ensures.ok c.as_slice.ensures.value c.in_ok-answer.ensures in
+    IfErr-weaker c.tell.result _ _ (λ failure h. tell-ends _ _ _ _ (use_of c.args.words.now) c.fetch_all.ensures.keeps failure c.in_ok-answer.answer is h) c.tell.ensures.err
+
+pub returns-clause-done : goal.returns-clause-done
+returns-clause-done g c =
+    let is = answer-of _ (use_of c.args.words.now) _ _ _ c.in_ok-inputs.ensures.ok c.as_slice.ensures.value c.in_ok-answer.ensures in
+    all-told c.tell.result _ _ _ _
+    (λ status is_status text after. tool-performed _ _ _ _ (use_of c.args.words.now) c.fetch_all.ensures.keeps status c.in_ok-answer.answer is is_status text after)
+    c.tell.ensures.status c.tell.ensures.text c.tell.ensures.files

@@ -1,0 +1,150 @@
+-- Why a command was not done, phase by phase, before its last line is put.
+use Rattle.std.specs.Prelude.{ℕ, ◌≡◌, List, Option, codes, length}
+use Rattle.sloth_base.specs.declared.refusal.BuildError.{BuildError}
+use Rattle.sloth_base.specs.declared.refusal.BuildError.TheVariants as error
+use Rattle.sloth_io.specs.Sink.{Output}
+use Rattle.sloth_io.specs.Store.{Files, KeepsOthers, IsMissing, IsTooLong, IsUnwritten}
+use Rattle.sloth_io.specs.declared.store.StoreFault.{StoreFault}
+use Rattle.sloth_io.specs.declared.store.StoreFault.TheVariants as fault
+use Rattle.sloth_base.specs.declared.image.Image.{Image}
+use Rattle.least_fault.specs.Order.{IsLeast}
+use Rattle.trace_text.specs.ArrivalsText.{ArrivalsFault}
+use Rattle.image_file.specs.ImageText.{ImageText}
+use Rattle.image_file.specs.Faults.{IsFirstImageFault}
+use Rattle.image_file.specs.declared.fault.ImageFault.{ImageFault}
+use Rattle.image_file.specs.declared.fault.FileError.{FileError}
+use Rattle.image_file.specs.declared.fault.FileError.TheVariants as image_error
+use Rattle.sloth_source.specs.Texts.{FirstRefusal}
+use Rattle.command_line.specs.Command.{Command, Builds, Executes, Lists, Samples, Uses}
+use Rattle.tool_commands.specs.Lines.{tool_text}
+use Rattle.tool_answers.specs.declared.answer.ToolAnswer.{ToolAnswer}
+use Rattle.tool_answers.specs.declared.answer.ToolAnswer.TheVariants as tool_answer
+use Rattle.sloth_commands.specs.Inputs.{input_limit}
+use Rattle.sloth_commands.specs.ImageFiles.{IsNoImage}
+use Rattle.command_line.specs.LastLine.{refusal_line, no_image_line}
+use Rattle.sloth_commands.specs.Samples.{sample_oil, sample_source}
+use Rattle.sloth_commands.specs.Top.{World, FirstUnread, IsFailedRead, IsLongRead, IsRefusal, FilesStay, IsWritten, Took, BrokeOff, Puts}
+use Rattle.sloth_commands.specs.Top.{CommandDone, CommandRefused, CommandUnwritten, CommandStopped, FilesAfter, IsToolEnd, IsUnwrittenOutput}
+use Rattle.tool_answers.specs.declared.status.Status.{Status}
+use Rattle.tool_answers.specs.declared.status.Status.TheVariants as status
+use Rattle.sloth_commands.specs.declared.failure.Failure.{Failure}
+use Rattle.sloth_commands.specs.declared.failure.Failure.TheVariants as failure
+
+-- the failure of a read that was refused so
+abbrev pub read_failure : StoreFault → Failure
+read_failure fault.Failed = failure.ReadFault
+read_failure fault.TooLong = failure.TooLong
+read_failure fault.Memory = failure.NoMemory
+
+-- the failure of a judgement that ended so
+abbrev pub judge_failure : BuildError → Failure
+judge_failure (error.Refused refusal) = failure.Refused refusal
+judge_failure error.Memory = failure.NoMemory
+
+-- the failure of reading an image that ended so
+abbrev pub image_failure : FileError ImageFault → Failure
+image_failure (image_error.Fault fault) = failure.NotAnImage fault
+image_failure image_error.Memory = failure.NoMemory
+
+-- the file of this name was not read for this reason
+abbrev pub FetchFailed : Failure → Files → Files → List ℕ → Type 0
+FetchFailed failure.ReadFault old new name = IsMissing old new name
+FetchFailed failure.TooLong old new name = IsTooLong old new name input_limit
+FetchFailed failure.NoMemory old new name = Unit {0}
+FetchFailed _ old new name = ⊥
+
+-- not all of these files were read for this reason, which is that of the first that was not
+abbrev pub ReadFailed : Failure → Files → Files → List (List ℕ) → Type 0
+ReadFailed failure.ReadFault old new names = FirstUnread old (IsMissing old new) names
+ReadFailed failure.TooLong old new names = FirstUnread old (λ name. IsTooLong old new name input_limit) names
+ReadFailed failure.NoMemory old new names = Unit {0}
+ReadFailed _ old new names = ⊥
+
+-- nothing was built of these texts for this reason
+abbrev pub JudgeFailed : Failure → List ℕ → List ℕ → List ℕ → Type 0
+JudgeFailed (failure.Refused refusal) oil src arr = IsRefusal oil src arr refusal
+JudgeFailed failure.NoMemory oil src arr = Unit {0}
+JudgeFailed _ oil src arr = ⊥
+
+-- nothing was built of the texts that are generated from this seed for this reason
+abbrev pub SampleFailed : Failure → ℕ → Type 0
+SampleFailed (failure.Refused refusal) seed = FirstRefusal sample_oil (sample_source seed) refusal
+SampleFailed failure.NoMemory seed = Unit {0}
+SampleFailed _ seed = ⊥
+
+-- no image and no arrivals were read of these files for this reason
+abbrev pub LoadFailed : Failure → List ℕ → List ℕ → Type 0
+LoadFailed (failure.NotAnImage fault) file arr = IsFirstImageFault fault file
+LoadFailed (failure.Refused refusal) file arr = (image : Image) × ImageText file image × IsLeast (ArrivalsFault image.tasks image.counters arr) refusal
+LoadFailed failure.NoMemory file arr = Unit {0}
+LoadFailed _ file arr = ⊥
+
+-- the lines of an image that is not written were not all put for this reason
+abbrev pub LinesFailed : Failure → Output → Output → List ℕ → Type 0
+LinesFailed failure.NoMemory old new text = new ≡ old
+LinesFailed failure.Put old new text = BrokeOff old new text
+LinesFailed _ old new text = ⊥
+
+-- The image was not run, or its lines were not put, for this reason. The image's file was to hold these bytes, and the sink to take this text.
+abbrev pub PerformFailed : Failure → World → World → List ℕ → List ℕ → List ℕ → Type 0
+PerformFailed failure.NoMemory old new img bytes text = FilesStay old.files new.files × (new.sink ≡ old.sink)
+PerformFailed failure.WriteFile old new img bytes text =
+    IsUnwritten old.files new.files img (length bytes) × KeepsOthers old.files new.files img × (new.sink ≡ old.sink)
+PerformFailed failure.Put old new img bytes text = IsWritten old.files new.files img bytes × BrokeOff old.sink new.sink text
+PerformFailed _ old new img bytes text = ⊥
+
+-- a command that is no tool ended with this status and had this text: it was done, or its run stopped
+abbrev pub EndsPlainly : Status → Files → Files → Command → List ℕ → Type 0
+EndsPlainly status.Done old new c text = CommandDone old new c text
+EndsPlainly status.Stopped old new c text = CommandStopped old new c text
+EndsPlainly _ old new c text = ⊥
+
+-- a command that ended with this status had this text; a tool has its own statuses
+abbrev pub Ends : Status → Files → Files → Command → List ℕ → Type 0
+Ends status old new (Builds b) text = EndsPlainly status old new (Builds b) text
+Ends status old new (Executes e) text = EndsPlainly status old new (Executes e) text
+Ends status old new (Lists img) text = EndsPlainly status old new (Lists img) text
+Ends status old new (Samples seed img) text = EndsPlainly status old new (Samples seed img) text
+Ends status old new (Uses u) text = IsToolEnd status old new u text
+
+-- the file of a tool that was done was not written
+abbrev pub OutputFailed : Failure → Files → Files → Option (List ℕ) → List ℕ → Type 0
+OutputFailed failure.WriteFile old new output bytes = IsUnwrittenOutput old new output bytes
+OutputFailed _ old new output bytes = ⊥
+
+-- a line was not put
+abbrev pub LineFailed : Failure → Output → Output → List ℕ → Type 0
+LineFailed failure.Put old new line = BrokeOff old new line
+LineFailed _ old new line = ⊥
+
+-- The answer of a tool was not told for this reason: its file was not written, or its text was not put.
+abbrev pub TellFailed : Failure → ToolAnswer → World → World → Option (List ℕ) → Type 0
+TellFailed failure.Put answer old new output = FilesAfter answer old.files new.files output × BrokeOff old.sink new.sink (tool_text answer)
+TellFailed failure.WriteFile (tool_answer.Done outcome) old new output =
+    IsUnwrittenOutput old.files new.files output outcome.file × (new.sink ≡ old.sink)
+TellFailed _ answer old new output = ⊥
+
+-- The command was not done for this reason; no last line is put yet.
+abbrev pub CommandFailed : Failure → World → World → Command → Type 0
+CommandFailed (failure.Refused refusal) old new c = CommandRefused old.files c refusal × FilesStay old.files new.files × (new.sink ≡ old.sink)
+CommandFailed failure.ReadFault old new c = IsFailedRead old.files new.files c × FilesStay old.files new.files × (new.sink ≡ old.sink)
+CommandFailed failure.TooLong old new c = IsLongRead old.files new.files c × FilesStay old.files new.files × (new.sink ≡ old.sink)
+CommandFailed (failure.NotAnImage fault) old new c = IsNoImage old.files c fault × FilesStay old.files new.files × (new.sink ≡ old.sink)
+CommandFailed failure.NoMemory old new c = FilesStay old.files new.files × (new.sink ≡ old.sink)
+CommandFailed failure.WriteFile old new c = CommandUnwritten old.files new.files c × (new.sink ≡ old.sink)
+CommandFailed failure.Put old new c =
+    (status : Status) × (text : List ℕ) × Ends status old.files new.files c text × BrokeOff old.sink new.sink text
+
+-- the command ended with this status
+abbrev pub IsPerformed : Status → World → World → Command → Type 0
+IsPerformed status old new c = (text : List ℕ) × Ends status old.files new.files c text × Took old.sink new.sink text
+
+-- the failure's last line was put, or broke off; where a put failed before, there is none
+abbrev pub Finished : Failure → Status → Output → Output → Type 0
+Finished (failure.Refused refusal) answer old new = Puts status.Refused answer old new (refusal_line refusal)
+Finished failure.ReadFault answer old new = Puts status.ReadFault answer old new (codes "read fault\n")
+Finished failure.TooLong answer old new = Puts status.TooLong answer old new (codes "too long\n")
+Finished (failure.NotAnImage fault) answer old new = Puts status.NotAnImage answer old new (no_image_line fault)
+Finished failure.NoMemory answer old new = Puts status.NoMemory answer old new (codes "no memory\n")
+Finished failure.WriteFile answer old new = Puts status.WriteFault answer old new (codes "write fault\n")
+Finished failure.Put answer old new = (answer ≡ status.WriteFault) × (new ≡ old)

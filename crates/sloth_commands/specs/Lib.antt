@@ -1,0 +1,11 @@
+pub mod Inputs
+pub mod ImageFiles
+pub mod Samples
+pub mod Top
+pub mod ImageAnswers
+pub mod SampleAnswers
+pub mod Failures
+pub mod InMemory
+pub mod FileInputs
+pub mod ToolFiles
+pub mod ToolAnswers

@@ -1,0 +1,55 @@
+-- Which answer a tool has.
+use Rattle.std.specs.Prelude.{ℕ, ◌≡◌, ◌⊎◌, List, Option, Some, IsTrue, codes, length}
+use Rattle.sloth_io.specs.Counts.{Rose}
+use Rattle.sloth_io.specs.Store.{Files}
+use Rattle.command_line.specs.Command.{Uses, IsCommand}
+use Rattle.command_line.specs.Tools.{ToolUse}
+use Rattle.tool_commands.specs.Answers.{IsAnswer}
+use Rattle.tool_commands.specs.Lines.{tool_text}
+use Rattle.tool_answers.specs.declared.answer.ToolAnswer.{ToolAnswer}
+use Rattle.tool_answers.specs.declared.answer.ToolAnswer.TheVariants as tool_answer
+use Rattle.tool_answers.specs.Statuses.{tool_status}
+use Rattle.sloth_commands.specs.ToolFiles.{AreToolInputs}
+use Rattle.sloth_commands.specs.Top.{World, Took, FilesAfter, EndsAs, IsBrokenOff, ReadsWork, WritesWork, PutsWork}
+use Rattle.tool_answers.specs.declared.status.Status.{Status}
+use Rattle.tool_answers.specs.declared.status.Status.TheVariants as status
+
+-- this is the tool's answer: its status, its text whole, and what it leaves in the files
+pub record IsTold (a : ToolAnswer) (output : Option (List ℕ)) (old new : World) (answer : Status) : Type 0 where
+  pub status_is : answer ≡ tool_status a
+  pub text : Took old.sink new.sink (tool_text a)
+  pub files : FilesAfter a old.files new.files output
+
+-- a write failed
+abbrev pub IsNotWritten : World → World → Status → Type 0
+IsNotWritten old new answer = (answer ≡ status.WriteFault) × Rose old.files.failed_writes new.files.failed_writes
+
+-- this answer, unless memory was wanting, the tool's file was not written or the text could not be put
+abbrev pub AnswersTool : List (List ℕ) → ToolAnswer → Option (List ℕ) → World → World → Status → Type 0
+AnswersTool words a output old new answer =
+    IsTold a output old new answer ⊎ (EndsAs status.NoMemory words old new answer ⊎ (IsNotWritten old new answer ⊎ IsBrokenOff old new answer))
+
+-- no write of the file of a tool that was done failed, or none is to fail
+abbrev pub OutputWorks : ToolAnswer → Option (List ℕ) → Files → Files → Type 0
+OutputWorks (tool_answer.Done outcome) (Some name) old new = WritesWork old new name (length outcome.file)
+OutputWorks _ output old new = Unit {0}
+
+-- no read, no write and no put of the text or of a last line for want of memory failed, or none is to fail
+pub record ToolWorks (a : ToolAnswer) (output : Option (List ℕ)) (old new : World) : Type 0 where
+  pub reads : ReadsWork old.files new.files
+  pub write : OutputWorks a output old.files new.files
+  pub text : PutsWork old.sink new.sink (tool_text a)
+  pub last_line : PutsWork old.sink new.sink (codes "no memory\n")
+
+-- The files are there, and this is the tool's answer to them: this answer.
+abbrev pub TellsTool : List (List ℕ) → World → World → Status → Type 0
+TellsTool words old new answer =
+    (u : ToolUse) → IsCommand words (Uses u) → IsTrue old.files.tells → (inputs : List (List ℕ)) → AreToolInputs old.files u.inputs inputs
+    → ReadsWork old.files new.files → (a : ToolAnswer) → IsAnswer u.tool u.counts inputs a → AnswersTool words a u.output old new answer
+
+-- And no call failed: this answer, or memory was wanting.
+abbrev pub TellsToolDone : List (List ℕ) → World → World → Status → Type 0
+TellsToolDone words old new answer =
+    (u : ToolUse) → IsCommand words (Uses u) → IsTrue old.files.tells → (inputs : List (List ℕ)) → AreToolInputs old.files u.inputs inputs
+    → (a : ToolAnswer) → IsAnswer u.tool u.counts inputs a → ToolWorks a u.output old new
+    → IsTold a u.output old new answer ⊎ EndsAs status.NoMemory words old new answer

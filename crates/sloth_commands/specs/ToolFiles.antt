@@ -1,0 +1,26 @@
+-- What tools read, and what they answer to it.
+use Rattle.std.specs.Prelude.{ℕ, List, [], ◌∷◌, IsTrue}
+use Rattle.sloth_io.specs.Store.{Files}
+use Rattle.command_line.specs.Tools.{ToolUse}
+use Rattle.tool_commands.specs.Answers.{IsAnswer, reads_image}
+use Rattle.tool_answers.specs.declared.answer.ToolAnswer.{ToolAnswer}
+use Rattle.sloth_commands.specs.FileInputs.{IsInput}
+
+-- these are the files of these names, where the store tells its files, each of at most 4 MiB
+abbrev pub AreToolInputs : Files → List (List ℕ) → List (List ℕ) → Type 0
+AreToolInputs files [] [] = Unit {0}
+AreToolInputs files [] (bytes ∷ rest) = ⊥
+AreToolInputs files (name ∷ names) [] = ⊥
+AreToolInputs files (name ∷ names) (bytes ∷ rest) = IsInput files name bytes × AreToolInputs files names rest
+
+-- the tool reads these files, and this is its answer to them
+pub record IsToolAnswer (files : Files) (u : ToolUse) (answer : ToolAnswer) : Type 0 where
+  pub inputs : List (List ℕ)
+  pub read : AreToolInputs files u.inputs inputs
+  pub is : IsAnswer u.tool u.counts inputs answer
+
+-- the tool reads an image file first, which has these bytes
+pub record ReadsImageFirst (files : Files) (u : ToolUse) (file : List ℕ) : Type 0 where
+  pub rest : List (List ℕ)
+  pub first : IsTrue (reads_image u.tool)
+  pub read : AreToolInputs files u.inputs (file ∷ rest)

@@ -1,0 +1,165 @@
+//! The commands that are tools: they read files, come to one answer, write one file at most, and put the answer's text.
+ghost use Rattle.std.specs.Prelude.{◌≡◌, ◌<◌, ◌≤◌, IfOk, IfErr, OnOk, OnErr, length};
+ghost use Rattle.sloth_io.specs.Sink.{output_with, GainsPart};
+ghost use Rattle.sloth_io.specs.Store.{KeepsFiles};
+ghost use Rattle.command_line.specs.Command.{Uses, words_of};
+ghost use Rattle.command_line.specs.Tools.{IsToolUse};
+ghost use Rattle.command_line.specs.Words.{use_of};
+ghost use Rattle.tool_commands.specs.Lines.{tool_text};
+ghost use Rattle.tool_answers.specs.declared.answer.ToolAnswer.TheVariants as tool_answer;
+ghost use Rattle.tool_answers.specs.Statuses.{tool_status};
+ghost use Rattle.sloth_commands.specs.ToolFiles.{AreToolInputs};
+ghost use Rattle.sloth_commands.specs.Top.{world, Took, FilesAfter, IsOutput};
+ghost use Rattle.sloth_commands.specs.Failures.{ReadFailed, OutputFailed, LineFailed, TellFailed, CommandFailed, IsPerformed};
+
+use crate::failure::Failure;
+use crate::inputs::fetch;
+use command_line::last_line::{no_image_line, refusal_line};
+use command_line::tool::ToolWords;
+use command_numbers::stop_line::stopped_line;
+use sloth_base::list::List;
+use sloth_io::sink::{Sink, SinkFault};
+use sloth_io::store::Store;
+use std::alloc::Global;
+use tool_answers::Status;
+use tool_commands::lines::{bad_trace_line, no_elf_line};
+use tool_commands::{Outcome, ToolAnswer, judge};
+
+// The bytes of these files, in their order.
+fn fetch_all<F: Store>(
+    alloc: Global,
+    files: &mut F,
+    names: &[String],
+) -> Result<Vec<List<u8>>, Failure>
+    ensures ok { IfOk result (λ inputs. AreToolInputs (F.seen files.old) (words_of names.now) inputs.items) }
+    ensures err { IfErr result (λ failure. ReadFailed failure (F.seen files.old) (F.seen files.new) (words_of names.now)) }
+    ensures keeps { KeepsFiles (F.seen files.old) (F.seen files.new) }
+{
+    let mut inputs = Vec::new(alloc);
+    for name in names {
+        let bytes = fetch(alloc, files, name.as_str())?;
+        inputs.push(List::from_vec(bytes))?;
+    }
+    Ok(inputs)
+}
+
+// Writes the file of a tool that was done, if it writes one.
+fn write_output<F: Store>(files: &mut F, words: &ToolWords, bytes: &[u8]) -> Result<(), Failure>
+    ensures ok { OnOk result (IsOutput (F.seen files.old) (F.seen files.new) (use_of words.now).output bytes.now) }
+    ensures err { IfErr result (λ failure.
+        OutputFailed failure (F.seen files.old) (F.seen files.new) (use_of words.now).output bytes.now) }
+{
+    let Some(name) = words.output else {
+        return Ok(());
+    };
+    files.write(name, bytes).map_err(|_| Failure::WriteFile)
+}
+
+// The number of bytes of the first line of a text, with its LF.
+fn line_length(text: &[u8]) -> usize
+    ensures within { result ≤ length text.now }
+    ensures some { 0 < length text.now → 0 < result }
+{
+    match text.iter().position(|byte| *byte == b'\n') {
+        Some(at) => at + 1,
+        None => text.len(),
+    }
+}
+
+// Puts a text, a line at a time.
+fn put_text<S: Sink>(out: &mut S, text: &[u8]) -> Result<(), SinkFault>
+    ensures ok { OnOk result (S.seen out.new ≡ output_with (S.seen out.old) text.now) }
+    ensures err { OnErr result (GainsPart (S.seen out.old) (S.seen out.new) text.now) }
+{
+    let mut rest = text;
+    while !rest.is_empty() {
+        let (line, behind) = rest.split_at(line_length(rest));
+        out.put(line)?;
+        rest = behind;
+    }
+    Ok(())
+}
+
+// Writes the file of a tool that was done, if it writes one, and puts its text.
+fn tell_outcome<F: Store, S: Sink>(
+    files: &mut F,
+    out: &mut S,
+    words: &ToolWords,
+    outcome: &Outcome,
+) -> Result<(), Failure>
+    ensures files { OnOk result (IsOutput (F.seen files.old) (F.seen files.new) (use_of words.now).output outcome.now.file) }
+    ensures text { OnOk result (Took (S.seen out.old) (S.seen out.new) outcome.now.text) }
+    ensures err { IfErr result (λ failure. TellFailed failure (tool_answer.Done outcome.now)
+        (world (F.seen files.old) (S.seen out.old)) (world (F.seen files.new) (S.seen out.new)) (use_of words.now).output) }
+{
+    write_output(files, words, outcome.file.items())?;
+    put_text(out, outcome.text.items())?;
+    Ok(())
+}
+
+// Puts the last line of an answer.
+fn tell_line<S: Sink>(out: &mut S, line: &[u8]) -> Result<(), Failure>
+    ensures ok { OnOk result (Took (S.seen out.old) (S.seen out.new) line.now) }
+    ensures err { IfErr result (λ failure. LineFailed failure (S.seen out.old) (S.seen out.new) line.now) }
+{
+    out.put(line)?;
+    Ok(())
+}
+
+// Tells an answer: its file, if it has one, and then its text.
+fn tell_text<F: Store, S: Sink>(
+    files: &mut F,
+    out: &mut S,
+    words: &ToolWords,
+    answer: &ToolAnswer,
+) -> Result<(), Failure>
+    ensures text { OnOk result (Took (S.seen out.old) (S.seen out.new) (tool_text answer.now)) }
+    ensures files { OnOk result (FilesAfter answer.now (F.seen files.old) (F.seen files.new) (use_of words.now).output) }
+    ensures err { IfErr result (λ failure. TellFailed failure answer.now
+        (world (F.seen files.old) (S.seen out.old)) (world (F.seen files.new) (S.seen out.new)) (use_of words.now).output) }
+{
+    match answer {
+        ToolAnswer::Done(outcome) => tell_outcome(files, out, words, outcome),
+        ToolAnswer::Refused(refusal) => tell_line(out, refusal_line(*refusal).bytes()),
+        ToolAnswer::Stopped { pc, stop } => tell_line(out, stopped_line(*pc, *stop).bytes()),
+        ToolAnswer::NotAnImage(fault) => tell_line(out, no_image_line(*fault).bytes()),
+        ToolAnswer::NotAnElf(fault) => tell_line(out, no_elf_line(*fault).bytes()),
+        ToolAnswer::BadTrace(fault) => tell_line(out, bad_trace_line(*fault).bytes()),
+        ToolAnswer::NoHolds => tell_line(out, b"no holds\n"),
+    }
+}
+
+// The same, and its status.
+fn tell<F: Store, S: Sink>(
+    files: &mut F,
+    out: &mut S,
+    words: &ToolWords,
+    answer: &ToolAnswer,
+) -> Result<Status, Failure>
+    ensures status { IfOk result (λ status. status ≡ tool_status answer.now) }
+    ensures text { OnOk result (Took (S.seen out.old) (S.seen out.new) (tool_text answer.now)) }
+    ensures files { OnOk result (FilesAfter answer.now (F.seen files.old) (F.seen files.new) (use_of words.now).output) }
+    ensures err { IfErr result (λ failure. TellFailed failure answer.now
+        (world (F.seen files.old) (S.seen out.old)) (world (F.seen files.new) (S.seen out.new)) (use_of words.now).output) }
+{
+    tell_text(files, out, words, answer)?;
+    Ok(answer.status())
+}
+
+/// Reads the files of a tool, judges them, and tells its answer, but for the last line of a failure.
+pub fn use_tool<F: Store, S: Sink>(
+    alloc: Global,
+    files: &mut F,
+    out: &mut S,
+    words: &ToolWords,
+) -> Result<Status, Failure>
+    requires { IsToolUse (use_of words.now) }
+    ensures done { IfOk result (λ status. IsPerformed status
+        (world (F.seen files.old) (S.seen out.old)) (world (F.seen files.new) (S.seen out.new)) (Uses (use_of words.now))) }
+    ensures err { IfErr result (λ failure. CommandFailed failure
+        (world (F.seen files.old) (S.seen out.old)) (world (F.seen files.new) (S.seen out.new)) (Uses (use_of words.now))) }
+{
+    let inputs = fetch_all(alloc, files, words.inputs)?;
+    let answer = judge(alloc, words.tool, words.counts, inputs.as_slice())?;
+    tell(files, out, words, &answer)
+}

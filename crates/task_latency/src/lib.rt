@@ -1,0 +1,4 @@
+//! The task of highest priority, and its latency.
+#![tactic(auto)]
+
+pub mod latency;

@@ -1,0 +1,2 @@
+pub mod CheckAnswers
+pub mod Statuses

@@ -1,0 +1,58 @@
+//! The answers of tools.
+ghost use Rattle.std.specs.Prelude.{◌≡◌};
+
+use crate::status::Status;
+use elf_fields::fault::ElfFault;
+use image_file::fault::ImageFault;
+use rv32_instr::Stop;
+use sloth_base::list::List;
+use sloth_base::refusal::Refusal;
+
+/// Why a text is no trace of a run.
+#[derive(Clone, Copy)]
+pub enum TraceFault {
+    /// The line of this number, from 1, is no event line.
+    Line(u32),
+    /// The events up to this line are those of no run.
+    Step(u32),
+    /// The arrivals do not stand in time.
+    Time,
+}
+
+/// What a tool writes to its file, if it has one, and what it prints.
+#[derive(Drop)]
+pub struct Outcome {
+    pub file: List<u8>,
+    pub text: List<u8>,
+}
+
+/// What a tool answers to the files that it reads.
+#[derive(Drop)]
+pub enum ToolAnswer {
+    Done(Outcome),
+    Refused(Refusal),
+    Stopped { pc: u32, stop: Stop },
+    NotAnImage(ImageFault),
+    NotAnElf(ElfFault),
+    BadTrace(TraceFault),
+    NoHolds,
+}
+
+impl ToolAnswer {
+    ghost use Rattle.tool_answers.specs.Statuses.{tool_status};
+
+    /// The status that it ends with.
+    pub fn status(&self) -> Status
+        ensures { result ≡ tool_status self.now }
+    {
+        match self {
+            ToolAnswer::Done(_) => Status::Done,
+            ToolAnswer::Refused(_) => Status::Refused,
+            ToolAnswer::Stopped { .. } => Status::Stopped,
+            ToolAnswer::NotAnImage(_) => Status::NotAnImage,
+            ToolAnswer::NotAnElf(_) => Status::NotAnElf,
+            ToolAnswer::BadTrace(_) => Status::BadTrace,
+            ToolAnswer::NoHolds => Status::NoHolds,
+        }
+    }
+}

@@ -1,0 +1,34 @@
+//! The command `check`.
+ghost use Rattle.std.specs.Prelude.{◌≤◌, IfOk, length};
+ghost use Rattle.tool_answers.specs.CheckAnswers.{IsCheckAnswer};
+
+use crate::answer::{ToolAnswer, TraceFault};
+use crate::told::told;
+use sloth_base::memory::NoMemory;
+use std::alloc::Global;
+use trace_check::Verdict;
+use trace_command::{TraceAnswer, judge_trace};
+
+/// Whether a text of events is that of a run of n instructions, or where it fails to be; or the first refusal of the other texts.
+pub fn check(
+    alloc: Global,
+    oil: &[u8],
+    src: &[u8],
+    arr: &[u8],
+    text: &[u8],
+    n: u32,
+) -> Result<ToolAnswer, NoMemory>
+    requires oil { length oil.now ≤ 4194304 }
+    requires src { length src.now ≤ 4194304 }
+    requires arr { length arr.now ≤ 4194304 }
+    requires text { length text.now ≤ 4194304 }
+    ensures { IfOk result (λ answer. IsCheckAnswer oil.now src.now arr.now text.now n answer) }
+{
+    match judge_trace(alloc, oil, src, arr, text, n)? {
+        TraceAnswer::Refused(refusal) => Ok(ToolAnswer::Refused(refusal)),
+        TraceAnswer::Judged(Verdict::Yes) => Ok(told(alloc, Vec::from_slice(alloc, b"yes\n")?)),
+        TraceAnswer::Judged(Verdict::Line(k)) => Ok(ToolAnswer::BadTrace(TraceFault::Line(k))),
+        TraceAnswer::Judged(Verdict::Step(k)) => Ok(ToolAnswer::BadTrace(TraceFault::Step(k))),
+        TraceAnswer::Judged(Verdict::Time) => Ok(ToolAnswer::BadTrace(TraceFault::Time)),
+    }
+}

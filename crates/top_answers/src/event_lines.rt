@@ -1,0 +1,107 @@
+//! Lines of events and of summaries.
+ghost use Rattle.sloth_base.specs.ImageRange.{InFormat};
+
+use crate::rows::{Piece, row};
+use crate::syntax::shown;
+use sloth_base::event::{Event, Stamp, Stamped};
+use sloth_base::image::Image;
+use sloth_base::service::Service;
+use trace_text::printing::Form;
+use trace_text::summary::kind_line;
+use trace_text::{print, read_line};
+
+/// The task, function and counter number of none.
+const NONE: u32 = 4_294_967_295;
+
+const EVENTS: [Event; 12] = [
+    Event::Boot,
+    Event::Admit(0),
+    Event::Enter(NONE),
+    Event::Run {
+        task: 0,
+        func: 0,
+        item: 12,
+        result: NONE,
+    },
+    Event::Call {
+        task: 0,
+        service: Service::ActivateTask,
+        status: 4,
+    },
+    Event::Left {
+        task: 0,
+        service: Service::WaitEvent,
+    },
+    Event::Back(0),
+    Event::Idle,
+    Event::Stray,
+    Event::Due(0),
+    Event::Tick(0),
+    Event::Tick(NONE),
+];
+
+// The line of an event.
+fn list_line(rt: &impl Print, event: &Stamped, form: Form, image: &Image) -> anyhow::Result<()>
+    requires { InFormat image.now }
+{
+    let line = print(event, form, image);
+    row(rt, Piece::Bytes(line.bytes()), &[])
+}
+
+// Whether an event is read back from its line with its counts.
+fn is_read_back(event: &Stamped, image: &Image) -> bool
+    requires { InFormat image.now }
+{
+    let line = print(event, Form::Counted, image);
+    let read = read_line(
+        line.bytes(),
+        image.tasks.items(),
+        image.funcs.items(),
+        image.counters.items(),
+    );
+    read == Some(*event)
+}
+
+// Both lines of an event, and whether it is read back.
+fn list_event(rt: &impl Print, event: Event, image: &Image) -> anyhow::Result<()>
+    requires { InFormat image.now }
+{
+    let stamp = Stamp {
+        from: 9,
+        at: 1_000_000,
+    };
+    let event = Stamped { stamp, event };
+    list_line(rt, &event, Form::Bare, image)?;
+    list_line(rt, &event, Form::Counted, image)?;
+    let again = is_read_back(&event, image);
+    row(rt, Piece::Text("read back"), &[Piece::Flag(again)])
+}
+
+fn list_each(rt: &impl Print, events: &[Event], image: &Image) -> anyhow::Result<()>
+    requires { InFormat image.now }
+{
+    for event in events {
+        list_event(rt, *event, image)?;
+    }
+    Ok(())
+}
+
+/// The lines of an event of each kind, with the names of an image.
+pub fn list_events(rt: &impl Print, image: &Image) -> anyhow::Result<()>
+    requires { InFormat image.now }
+{
+    list_each(rt, &EVENTS, image)
+}
+
+fn list_kinds(rt: &impl Print, counts: &[u32; 10]) -> anyhow::Result<()> {
+    for kind in 0..10 {
+        let line = kind_line(counts, kind);
+        rt.print(shown(line.bytes()))?;
+    }
+    Ok(())
+}
+
+/// The lines of a summary.
+pub fn list_summary(rt: &impl Print) -> anyhow::Result<()> {
+    list_kinds(rt, &[1, 20, 300, 4, 0, 6, 70, NONE, 0, 8])
+}

@@ -1,0 +1,144 @@
+//! The events of a run whose steps are written out by hand.
+ghost use Rattle.std.specs.Prelude.{◌≡◌, ◌<◌, ◌^◌, [], length, OnOk};
+ghost use Rattle.sloth_base.specs.ImageRange.{InFormat};
+ghost use Rattle.observe.specs.Progress.{expected_count, remaining};
+
+use observe::Observer;
+use sloth_base::event::{Arrival, Stamped};
+use sloth_base::image::Image;
+use sloth_base::numbers::Line;
+use sloth_base::step::Step;
+
+// The address, the line that is taken before it, MIE and the running task's word behind it, the line that it touches.
+#[derive(Clone, Copy)]
+struct Row(u32, Option<Line>, bool, u32, Option<Line>);
+
+/// The addresses of the marks of the image: of an item, of two openings, of the idle loop, and of the way back.
+const ITEM: u32 = 0x8000_0004;
+
+const OPENING: u32 = 0x8000_0008;
+
+const OTHER_OPENING: u32 = 0x8000_000c;
+
+const IDLE: u32 = 0x8000_0010;
+
+const BACK: u32 = 0x8000_0014;
+
+const ROWS: [Row; 20] = [
+    Row(0, None, false, 0, None),
+    Row(4, None, true, 1, None),
+    Row(ITEM, None, true, 1, None),
+    Row(OPENING, None, false, 1, None),
+    Row(600, None, false, 1, Some(Line(1))),
+    Row(604, None, true, 1, None),
+    Row(500, Some(Line(1)), false, 2, None),
+    Row(504, None, true, 2, None),
+    Row(ITEM, None, true, 2, None),
+    Row(OTHER_OPENING, None, false, 2, None),
+    Row(600, None, true, 1, None),
+    Row(BACK, None, false, 1, None),
+    Row(600, None, true, 1, None),
+    Row(IDLE, None, true, 1, None),
+    Row(500, Some(Line(30)), true, 1, None),
+    Row(700, None, false, 1, None),
+    Row(704, None, true, 0, None),
+    Row(ITEM, None, true, 0, None),
+    Row(OPENING, None, false, 0, None),
+    Row(600, None, false, 0, Some(Line(0))),
+];
+
+const ARRIVALS: [Arrival; 9] = [
+    Arrival {
+        at: 2,
+        line: Line(0),
+    },
+    Arrival {
+        at: 3,
+        line: Line(1),
+    },
+    Arrival {
+        at: 4,
+        line: Line(1),
+    },
+    Arrival {
+        at: 4,
+        line: Line(0),
+    },
+    Arrival {
+        at: 5,
+        line: Line(1),
+    },
+    Arrival {
+        at: 6,
+        line: Line(0),
+    },
+    Arrival {
+        at: 13,
+        line: Line(30),
+    },
+    Arrival {
+        at: 18,
+        line: Line(1),
+    },
+    Arrival {
+        at: 19,
+        line: Line(0),
+    },
+];
+
+// The step of this count, where the one before left MIE and the running task's word so.
+fn step_of(count: u32, before: (bool, u32), row: Row) -> Step
+    ensures { result.count ≡ count }
+{
+    let Row(pc, entered, enabled_after, cur_after, touched) = row;
+    let (enabled_before, cur_before) = before;
+    Step {
+        count,
+        pc,
+        entered,
+        enabled_before,
+        enabled_after,
+        cur_before,
+        cur_after,
+        touched,
+        regs: [7; 32],
+    }
+}
+
+fn list_event(rt: &impl Print, event: &Stamped) -> anyhow::Result<()> {
+    println!(rt; "{} {} {:?}", event.stamp.from, event.stamp.at, event.event)?;
+    Ok(())
+}
+
+// The events that are finished.
+fn drain(rt: &impl Print, observer: &mut Observer) -> anyhow::Result<()>
+    ensures drained { OnOk result (remaining observer.new ≡ []) }
+    ensures expected { expected_count observer.new ≡ expected_count observer.old }
+{
+    while let Some(event) = observer.next() {
+        list_event(rt, &event)?;
+    }
+    Ok(())
+}
+
+fn feed_all(rt: &impl Print, observer: &mut Observer, rows: &[Row]) -> anyhow::Result<()>
+    requires few { length rows.now < 2 ^ 32 }
+    requires new { expected_count observer.old ≡ 0 }
+    requires drained { remaining observer.old ≡ [] }
+{
+    let mut before = (false, 0);
+    for (count, row) in rows.iter().enumerate() {
+        observer.feed(&step_of(count as u32, before, *row));
+        drain(rt, observer)?;
+        before = (row.2, row.3);
+    }
+    Ok(())
+}
+
+/// The events of the steps above, under the marks of an image, with the arrivals above.
+pub fn list_observed(rt: &(impl Print + AllocGlobal), image: &Image) -> anyhow::Result<()>
+    requires { InFormat image.now }
+{
+    let mut observer = Observer::new(rt.alloc(), image, &ARRIVALS)?;
+    feed_all(rt, &mut observer, &ROWS)
+}
