@@ -21,7 +21,7 @@ use Rattle.sloth_base.specs.declared.config.Action.TheVariants.{Activate, Set}
 use Rattle.code_lengths.specs.CodeLengths.{sets_events_of}
 use Rattle.alarm_gen.specs.declared.alarms.NumberedAlarm.{NumberedAlarm}
 use Rattle.alarm_gen.specs.Alarms.{IsAction, IsNumbered, AreNumbered, is_target}
-use Rattle.routine_pieces.specs.Ticks.{awaited_events_test}
+use Rattle.block_parts.specs.Ticks.{awaited_events_test}
 use Rattle.alarm_gen.specs.Pieces.{waking_code, basing_code, action_code, action_size, losing_code, alarm_code, alarms_code}
 use Rattle.alarm_gen.specs.Tick.{Ground, is_suspended_task, grown_events, with_events, woken_ground, with_set, action_ground, less_one, with_left, alarm_ground, alarms_ground}
 use Rattle.alarm_gen.proofs.Passing.{passes}

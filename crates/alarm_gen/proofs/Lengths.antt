@@ -7,7 +7,7 @@ use Rattle.sloth_base.specs.declared.config.AlarmDecl.{AlarmDecl}
 use Rattle.code_lengths.specs.CodeLengths.{sets_events_of, is_looked_at, action_length, alarms_length, tick_length}
 use Rattle.alarm_gen.specs.declared.alarms.NumberedAlarm.{NumberedAlarm}
 use Rattle.alarm_gen.specs.Alarms.{alarms_from, is_target}
-use Rattle.routine_pieces.specs.Ticks.{look_code}
+use Rattle.block_parts.specs.Ticks.{look_code}
 use Rattle.alarm_gen.specs.Pieces.{counting_code, look_clearing_code, look_of, looks_code, basing_code, action_code, action_size, losing_code, alarm_code, alarms_code, returning_code, tick_code}
 
 -- ---- at most

@@ -20,7 +20,7 @@ use Rattle.sloth_base.specs.declared.config.Action.TheVariants.{Activate, Set}
 use Rattle.code_lengths.specs.CodeLengths.{sets_events_of}
 use Rattle.alarm_gen.specs.declared.alarms.NumberedAlarm.{NumberedAlarm}
 use Rattle.alarm_gen.specs.Alarms.{is_target, targets, tasks_before_later}
-use Rattle.routine_pieces.specs.Ticks.{look_code}
+use Rattle.block_parts.specs.Ticks.{look_code}
 use Rattle.alarm_gen.specs.Pieces.{look_of, looks_code}
 use Rattle.alarm_gen.specs.Tick.{Ground, is_suspended_task, AreTaskBits}
 use Rattle.alarm_gen.proofs.Flags.{Knows, KnowsAll, suspended_same, added_own, added_other}

@@ -24,8 +24,8 @@ use Rattle.block_parts.proofs.Serving.{opens}
 use Rattle.alarm_gen.specs.ServicePieces.{unused_alarm_test, cycle_test, alarm_value_test, ticks_test, setting_code, state_refusal_code, refusing_code}
 use Rattle.alarm_gen.specs.CancelAlarm.{MayUse, left_ticks}
 use Rattle.alarm_gen.specs.SetAlarm.{CycleFits, TicksFit, AlarmValueFits, first_operand, ticks_until, with_alarm, AlarmSet, MaySetAbsolute, SetsRelative, SetsAbsolute}
-use Rattle.routine_pieces.specs.Alarms.{finding_code}
-use Rattle.routine_pieces.specs.Ticks.{passing_distance}
+use Rattle.block_parts.specs.Alarms.{finding_code}
+use Rattle.block_parts.specs.Ticks.{passing_distance}
 use Rattle.alarm_gen.proofs.Passing.{passes}
 
 -- the code of SetRelAlarm behind the masking instruction

@@ -6,7 +6,7 @@ use Rattle.sloth_region.specs.Layout.{events, counter_value, alarm_left, alarm_c
 use Rattle.rv32_instr.specs.declared.InstrKind.{InstrKind}
 use Rattle.rv32_instr.specs.declared.InstrKind.TheVariants.{Beq, Bne, Lui, Lw, Sw, Sb, Addi, Or, Slli, Mret}
 use Rattle.sloth_base.specs.Arithmetic.{hi, lo}
-use Rattle.routine_pieces.specs.Ticks.{passing_distance, look_code, suspension_test, awaited_events_test}
+use Rattle.block_parts.specs.Ticks.{passing_distance, look_code, suspension_test, awaited_events_test}
 use Rattle.alarm_gen.specs.declared.alarms.NumberedAlarm.{NumberedAlarm}
 use Rattle.alarm_gen.specs.Alarms.{is_target}
 

@@ -6,7 +6,7 @@ use Rattle.sloth_region.specs.Layout.{alarm_left, alarm_cycle}
 use Rattle.rv32_instr.specs.declared.InstrKind.{InstrKind}
 use Rattle.rv32_instr.specs.declared.InstrKind.TheVariants.{Lui, Lw, Sw, Addi, Beq, Bne, Bltu}
 use Rattle.block_parts.specs.Pieces.{back_code}
-use Rattle.routine_pieces.specs.Ticks.{passing_distance}
+use Rattle.block_parts.specs.Ticks.{passing_distance}
 
 -- the status of an alarm that is not in use, and on to the way back, behind two more, where this one is not
 abbrev pub used_alarm_test : ℕ → List InstrKind

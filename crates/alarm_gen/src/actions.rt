@@ -2,11 +2,11 @@
 ghost use Rattle.std.specs.Prelude.{◌≡◌, ◌<◌, ◌≤◌, ◌++◌, OnOk};
 ghost use Rattle.alarm_gen.specs.Alarms.{IsAction, IsNumbered, AreNumbered};
 ghost use Rattle.alarm_gen.specs.Pieces.{basing_code, activating_code, event_adding_code, waking_code, action_code, action_size, losing_code, alarm_code, alarms_code};
-ghost use Rattle.routine_pieces.specs.Ticks.{suspension_test, awaited_events_test};
+ghost use Rattle.block_parts.specs.Ticks.{suspension_test, awaited_events_test};
 
 use crate::alarms::NumberedAlarm;
+use block_parts::ticks::{ask_awaited, ask_busy, start_again};
 use masked_code::emit::{emit, past};
-use routine_pieces::ticks::{ask_awaited, ask_busy, start_again};
 use rv32_instr::Instr;
 use rv32_instr::asm::{X1, X3, X4, ZERO, addi, beq, bne, lui, lw, or, sb, slli, sw};
 use rv32_instr::constant::{hi, lo};

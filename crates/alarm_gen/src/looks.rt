@@ -4,8 +4,8 @@ ghost use Rattle.alarm_gen.specs.Alarms.{IsAction, AreNumbered, is_target};
 ghost use Rattle.alarm_gen.specs.Pieces.{look_of, looks_code};
 
 use crate::alarms::NumberedAlarm;
+use block_parts::ticks::look_unless_later;
 use code_lengths::sets_events_of;
-use routine_pieces::ticks::look_unless_later;
 use rv32_instr::Instr;
 use sloth_base::config::Action;
 use sloth_base::numbers::TaskId;

@@ -3,8 +3,8 @@ ghost use Rattle.std.specs.Prelude.{◌<◌, ◌^◌, IfOk};
 ghost use Rattle.alarm_gen.specs.SetAlarm.{SetsAbsolute};
 
 use crate::pieces::{CYCLE, REFUSAL, SET, VALUE, ask_cycle, ask_unused, ask_value, refuse, set};
+use block_parts::alarms::find_ticks;
 use block_parts::pieces::open;
-use routine_pieces::alarms::find_ticks;
 use rv32_instr::Instr;
 use std::alloc::{AllocError, Global};
 

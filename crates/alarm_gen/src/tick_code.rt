@@ -8,8 +8,8 @@ ghost use Rattle.alarm_gen.specs.Pieces.{counting_code, look_clearing_code, retu
 use crate::actions::{base, run_all};
 use crate::alarms::NumberedAlarm;
 use crate::looks::look_at_all;
+use block_parts::ticks::ask_greatest;
 use masked_code::emit::emit;
-use routine_pieces::ticks::ask_greatest;
 use rv32_instr::Instr;
 use rv32_instr::asm::{X1, X3, X4, ZERO, addi, lui, lw, mret, sw};
 use sloth_region::layout::{CONTROLLER_HIGH, counter_value};

@@ -7,7 +7,8 @@ use Rattle.asm_scopes.specs.declared.scope.Kind.TheVariants as kind
 use Rattle.asm_scopes.specs.declared.scope.Scope.{Scope}
 use Rattle.asm_scopes.specs.Scopes.{is_named}
 use Rattle.asm_items.specs.Operations.{number_of, resource_number, mask_by}
-use Rattle.code_rules.specs.AppRange.{IsSymbol, IsLabel, IsCallable, IsDeclared, IsResource, IsDeclaredAlarm, no_event}
+use Rattle.code_rules.specs.AppRange.{IsSymbol, IsLabel, IsCallable, IsDeclared, IsResource, IsDeclaredAlarm}
+use Rattle.sloth_base.specs.ConfigRange.{no_event}
 
 -- the event of a name
 pub record IsEvent (config : Config) (scope : Scope) (name : List ℕ) : Type 0 where

@@ -38,7 +38,8 @@ use Rattle.asm_names.specs.NameFaults.{has_long, items_in, lacks_body, BodyFault
 use Rattle.asm_items.specs.Operations.{number_of as number_in, resource_number, mask_given, mask_at}
 use Rattle.asm_items.specs.Apps.{func_of, symbol_of, body_task, app_of, labels_from}
 use Rattle.asm_parse.specs.AppTexts.{AppText, SourceTextFault}
-use Rattle.code_rules.specs.AppRange.{IsResource, IsCallable, IsPlaced, IsBody, HasBodies, IsWithinLimits, AppInRange, no_event}
+use Rattle.code_rules.specs.AppRange.{IsResource, IsCallable, IsPlaced, IsBody, HasBodies, IsWithinLimits, AppInRange}
+use Rattle.sloth_base.specs.ConfigRange.{no_event}
 use Rattle.asm_parse.proofs.BodiesRead.{IsReadBody, bodies_read, no_body, body_at, line_at, names_apart, few_bodies, few_words, short_name, known_at, short_at, labels_apart, few_items}
 use Rattle.asm_parse.proofs.Declared.{header_name, label_name}
 use Rattle.asm_parse.proofs.Growth.{Apart, same_place, sum_mapped}

@@ -1,3 +1,4 @@
 mod Told
 pub mod OneTold
 pub mod KeptTold
+mod Alarms

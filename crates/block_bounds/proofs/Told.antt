@@ -13,7 +13,7 @@ use Rattle.osek_valid.specs.Apart.{static_priority}
 use Rattle.osek_valid.proofs.Facts.{Facts, facts}
 use Rattle.osek_valid.proofs.Stacks.{has_body}
 use Rattle.call_graph.specs.Reached.{any_below}
-use Rattle.code_tables.specs.Tables.{max_below}
+use Rattle.call_graph.specs.Tables.{max_below}
 use Rattle.stack_bounds.proofs.Below.{max_below-at, max_below-some, last_or_before}
 use Rattle.raised_sections.specs.Walks.{Position}
 use Rattle.raised_sections.specs.Sections.{size_of_section, IsLower, IsSectionFor, NoneIsLarger, IsGreatestSize, IsBound, lowest, above, HasNoBound, ExceedsBound, greatest_told_bound}

@@ -4,7 +4,7 @@ ghost use Rattle.code_rules.specs.WellFormed.{WellFormed};
 ghost use Rattle.osek_valid.specs.Apart.{static_priority};
 ghost use Rattle.call_graph.specs.Ranks.{RanksOf};
 ghost use Rattle.call_graph.specs.Reached.{any_below};
-ghost use Rattle.code_tables.specs.Tables.{HasBody};
+ghost use Rattle.call_graph.specs.Tables.{HasBody};
 ghost use Rattle.section_sizes.specs.CallOrder.{IsCallOrder};
 ghost use Rattle.section_sizes.specs.Known.{AreKnownBodies, AreSummaries};
 ghost use Rattle.block_bounds.specs.Kept.{RunsKeepTold};

@@ -5,3 +5,9 @@ pub mod Pieces
 pub mod Marks
 pub mod Looks
 pub mod Objects
+pub mod Alarms
+pub mod Boot
+pub mod Events
+pub mod Prologues
+pub mod Services
+pub mod Ticks

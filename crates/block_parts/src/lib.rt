@@ -2,5 +2,12 @@
 //! the caller.
 #![tactic(auto)]
 
+pub mod alarms;
+pub mod boot;
+pub mod events;
+pub mod leaving;
 pub mod marks;
 pub mod pieces;
+pub mod prologues;
+pub mod services;
+pub mod ticks;

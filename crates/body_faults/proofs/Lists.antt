@@ -11,7 +11,7 @@ use Rattle.sloth_base.specs.declared.app.Item.{Item}
 use Rattle.sloth_base.specs.declared.app.Label.{Label}
 use Rattle.sloth_base.specs.Named.{item_of, no_item, label_of, no_label}
 use Rattle.code_rules.specs.Code.{is_in, is_last, without_last}
-use Rattle.code_tables.specs.Bits.{is_member}
+use Rattle.call_graph.specs.Bits.{is_member}
 
 pub has_above : (n set member : ℕ) → set < 2 ^ n → n ≤ member → is_member set member ≡ false
 unfolding is_member

@@ -17,10 +17,10 @@ use Rattle.code_rules.specs.AppRange.{AppInRange, IsOp}
 use Rattle.code_rules.specs.Code.{is_followed, way, Ends, Pauses, TaskReaches, is_in, is_last}
 use Rattle.code_rules.specs.WellFormed.{AccessesPast, IsUneven, MasksPast, RunsOut, ReleasesOther, TakesHeld, LeavesHolding, LeavesWrongly, Lists, HasEvents, IsUnlisted, IsLacked, Misuses, UsesUndeclared}
 use Rattle.call_graph.specs.declared.ranking.Ranks.{Ranks}
-use Rattle.code_tables.specs.Bits.{is_member}
+use Rattle.call_graph.specs.Bits.{is_member}
 use Rattle.call_graph.specs.Ranks.{RanksOf}
 use Rattle.call_graph.specs.Reached.{any_below}
-use Rattle.code_tables.specs.Rows.{is_get, is_pausing}
+use Rattle.call_graph.specs.Rows.{is_get, is_pausing}
 use Rattle.call_graph.proofs.Itself.{number_found, number_counts, get_is, pausing_is, is_pausing_of}
 use Rattle.body_faults.specs.Tests.{accesses_past, is_uneven, masks_past, leads_out, runs_out, is_ending, is_release, holds_any, releases_other, takes_held, leaves_holding, leaves_wrongly, is_unlisted, lacks, is_lacked, is_misuse, uses_undeclared, OperandsOf}
 use Rattle.body_faults.specs.Ways.{LeadsToLabels}

@@ -11,7 +11,7 @@ use Rattle.sloth_base.specs.Named.{item_of, label_of}
 use Rattle.code_rules.specs.AppRange.{IsOp}
 use Rattle.code_rules.specs.Code.{TaskReaches, held_list_at, held_list_fallen_into, is_fallen_into}
 use Rattle.code_rules.specs.WellFormed.{AccessesPast, IsUneven, MasksPast, RunsOut, IsUnreached, HoldsOther, ReleasesOther, TakesHeld, LeavesHolding, LeavesWrongly, UsesUndeclared, fault_at_line}
-use Rattle.code_tables.specs.Bits.{is_member}
+use Rattle.call_graph.specs.Bits.{is_member}
 use Rattle.body_faults.specs.Labels.{last_label_below, first_label_below}
 
 -- a refusal of this code at this line, where this is so

@@ -14,8 +14,8 @@ use Rattle.sloth_base.specs.ConfigRange.{scheduler_number}
 use Rattle.code_rules.specs.AppRange.{AreOperands}
 use Rattle.code_rules.specs.Code.{is_followed, way, is_in, is_last}
 use Rattle.call_graph.specs.declared.ranking.Ranks.{Ranks}
-use Rattle.code_tables.specs.Bits.{is_member}
-use Rattle.code_tables.specs.Rows.{is_get, is_pausing}
+use Rattle.call_graph.specs.Bits.{is_member}
+use Rattle.call_graph.specs.Rows.{is_get, is_pausing}
 use Rattle.call_graph.specs.Reached.{any_below}
 
 -- V2

@@ -3,8 +3,8 @@ ghost use Rattle.std.specs.Prelude.{◌≡◌, ◌==◌, ◌||◌, get_or, false
 ghost use Rattle.std.specs.List.{list_any};
 ghost use Rattle.code_rules.specs.Code.{is_in, is_last, held_behind, held_after};
 ghost use Rattle.code_rules.specs.WellFormed.{HoldsOther};
-ghost use Rattle.code_tables.specs.Bits.{is_member};
-ghost use Rattle.code_tables.specs.Rows.{is_get, is_pausing};
+ghost use Rattle.call_graph.specs.Bits.{is_member};
+ghost use Rattle.call_graph.specs.Rows.{is_get, is_pausing};
 ghost use Rattle.body_faults.specs.Tests.{is_ending, is_release, holds_any, releases_other, takes_held, leaves_holding};
 ghost use Rattle.body_faults.specs.Ways.{LeadsToLabels};
 

@@ -3,10 +3,10 @@ ghost use Rattle.std.specs.Prelude.{◌≡◌, ◌==◌, ◌<◌, ◌||◌, ◌&
 ghost use Rattle.std.specs.List.{list_any};
 ghost use Rattle.code_rules.specs.AppRange.{AreOperands};
 ghost use Rattle.code_rules.specs.Code.{is_in};
-ghost use Rattle.code_tables.specs.Bits.{is_member};
+ghost use Rattle.call_graph.specs.Bits.{is_member};
 ghost use Rattle.body_faults.specs.Tests.{is_ending, leaves_wrongly, is_unlisted, lacks, is_lacked, is_misuse, OperandsOf, uses_undeclared};
 
-use code_tables::bits::has;
+use call_graph::word_bits::has;
 use sloth_base::app::{Call, Func, Op};
 use sloth_base::config::{Config, TaskDecl};
 use sloth_base::numbers::{RES_SCHEDULER, ResId};

@@ -1,6 +1,6 @@
 //! What is told of a task: the summary of its body, and the bound by a greatest size.
 ghost use Rattle.std.specs.Prelude.{◌≡◌, ◌<◌, length};
-ghost use Rattle.code_tables.specs.Tables.{HasBody};
+ghost use Rattle.call_graph.specs.Tables.{HasBody};
 ghost use Rattle.bound_rules.specs.Tasks.{task_summary, told};
 
 use crate::sizes::Summary;

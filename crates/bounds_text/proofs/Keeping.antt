@@ -18,7 +18,7 @@ use Rattle.block_bounds.specs.Bounds.{AreBounds}
 use Rattle.block_bounds.proofs.KeptTold.{told-bound}
 use Rattle.bounds_text.specs.BoundsText.{HasLines, bound_lines}
 use Rattle.bounds_text.specs.KeptRuns.{RunsKeepAll, IsBehindBoot, with_ticks, RunsKeepLatency}
-use Rattle.task_latency.specs.Highest.{IsHighestAmong}
+use Rattle.block_bounds.specs.Highest.{IsHighestAmong}
 use Rattle.bounds_text.specs.Latency.{IsHighestTask, HasLatency, last_line}
 
 pub runs-keep-all : (config : Config) (app : App) (bounds : List Bound) → WellFormed config app → AreBounds config app bounds → RunsKeepAll config app bounds

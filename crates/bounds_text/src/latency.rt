@@ -8,13 +8,13 @@ ghost use Rattle.bounds_text.specs.Latency.{IsHighestTask, HasLatency, IsLatency
 
 use crate::{bound_lines, read_checked};
 use block_bounds::bound::{Bound, bounds};
+use block_bounds::latency::{highest_among, latency_of};
 use call_graph::ranking::Ranks;
 use itoa::Buffer;
 use sloth_base::config::Config;
 use sloth_base::memory::NoMemory;
 use sloth_base::refusal::BuildError;
 use std::alloc::Global;
-use task_latency::latency::{highest_among, latency_of};
 use task_verify::verified::Verified;
 
 // The task of highest priority, if there is a task.

@@ -13,13 +13,13 @@ use Rattle.sloth_base.specs.Options.{is_number}
 use Rattle.code_rules.specs.Code.{Calls, IsCallChain, Reaches, TaskReaches, ReachesTaking, ReachesPause}
 use Rattle.code_rules.specs.WellFormed.{CycleFault, on_cycle}
 use Rattle.call_graph.specs.declared.ranking.Ranks.{Ranks}
-use Rattle.code_tables.specs.Bits.{is_member}
-use Rattle.code_tables.specs.Rows.{row_has, IsRowChain}
+use Rattle.call_graph.specs.Bits.{is_member}
+use Rattle.call_graph.specs.Rows.{row_has, IsRowChain}
 use Rattle.call_graph.specs.Cycles.{RowCycle}
 use Rattle.call_graph.specs.Reached.{func_of, calls_itself, takes_itself, pauses_itself, reaches_by, takes_by, pauses_by, used_by}
 use Rattle.call_graph.specs.Gathered.{AreGathered}
 use Rattle.call_graph.specs.Ranks.{RanksOf}
-use Rattle.code_tables.proofs.Sets.{row_inside}
+use Rattle.call_graph.proofs.Sets.{row_inside}
 use Rattle.call_graph.proofs.Counted.{counts_less}
 use Rattle.call_graph.proofs.Itself.{number_found, number_counts, Decides-calls, takes_are, are_takes, pauses_are, are_pauses, body_is, is_body}
 

@@ -4,8 +4,8 @@ use Rattle.std.specs.Prelude.{count_ones, ◌==◌}
 use Rattle.std.specs.Int.Count.{ones_step}
 use Rattle.std.proofs.lemmas.Bool.{true≢false, eqb-true, eqb-false}
 use Rattle.std.proofs.lemmas.Nat.Bits.{bit_at_lowest, bit_at-suc}
-use Rattle.code_tables.specs.Bits.{is_member}
-use Rattle.code_tables.proofs.Sets.{has_none}
+use Rattle.call_graph.specs.Bits.{is_member}
+use Rattle.call_graph.proofs.Sets.{has_none}
 
 abbrev pub IsSubset : ℕ → ℕ → Type 0
 IsSubset a b = (i : ℕ) → is_member a i ≡ true → is_member b i ≡ true

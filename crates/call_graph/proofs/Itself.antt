@@ -16,7 +16,7 @@ use Rattle.sloth_base.specs.declared.service.Service.TheVariants as service
 use Rattle.sloth_base.specs.Named.{function, no_function, no_item}
 use Rattle.sloth_base.specs.Options.{is_number}
 use Rattle.code_rules.specs.Code.{IsItem, service_op, Calls, Pauses}
-use Rattle.code_tables.specs.Rows.{is_call, is_get, is_taking, is_pausing, is_pause}
+use Rattle.call_graph.specs.Rows.{is_call, is_get, is_taking, is_pausing, is_pause}
 use Rattle.call_graph.specs.Reached.{any_below, func_of, calls_itself, takes_itself, pauses_itself}
 
 -- ---- some item, some number

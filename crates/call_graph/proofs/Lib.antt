@@ -2,3 +2,6 @@ pub mod Counted
 pub mod Itself
 pub mod Belongs
 pub mod Few
+pub mod Sets
+pub mod Closure
+pub mod Growing

@@ -5,7 +5,7 @@ use Rattle.sloth_base.specs.declared.refusal.Code.TheVariants as code
 use Rattle.sloth_base.specs.declared.refusal.Refusal.{Refusal}
 use Rattle.sloth_base.specs.Named.{no_function}
 use Rattle.code_rules.specs.WellFormed.{fault_at_line}
-use Rattle.code_tables.specs.Rows.{row_has}
+use Rattle.call_graph.specs.Rows.{row_has}
 
 -- V1 at function f, where its own row has it
 abbrev pub RowCycleAt : List Func → List ℕ → ℕ → Refusal → Type 0

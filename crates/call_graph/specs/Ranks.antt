@@ -3,7 +3,7 @@ use Rattle.std.specs.Prelude.{ℕ, ◌<◌, ◌≡◌, false, length, get_or, De
 use Rattle.sloth_base.specs.declared.app.App.{App}
 use Rattle.code_rules.specs.Code.{Calls, ReachesTaking, ReachesPause, TaskReaches}
 use Rattle.call_graph.specs.declared.ranking.Ranks.{Ranks}
-use Rattle.code_tables.specs.Bits.{is_member}
+use Rattle.call_graph.specs.Bits.{is_member}
 
 -- one entry for each function
 pub record CoversFunctions (app : App) (ranks : Ranks) : Type 0 where

@@ -4,8 +4,8 @@ use Rattle.std.specs.List.{list_any}
 use Rattle.sloth_base.specs.declared.app.Func.{Func}
 use Rattle.sloth_base.specs.Named.{no_function}
 use Rattle.sloth_base.specs.Options.{is_number}
-use Rattle.code_tables.specs.Bits.{is_member}
-use Rattle.code_tables.specs.Rows.{is_call, is_taking, is_pause}
+use Rattle.call_graph.specs.Bits.{is_member}
+use Rattle.call_graph.specs.Rows.{is_call, is_taking, is_pause}
 
 -- some number below n passes the test
 abbrev pub any_below : ℕ → (ℕ → Bool) → Bool

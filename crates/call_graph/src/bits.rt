@@ -1,6 +1,6 @@
 //! Sets of small numbers as bits, with one more.
 ghost use Rattle.std.specs.Prelude.{◌≡◌, ℕ, ◌<◌, ◌==◌, ◌||◌};
-ghost use Rattle.code_tables.specs.Bits.{is_member};
+ghost use Rattle.call_graph.specs.Bits.{is_member};
 
 /// The set with one member more.
 pub fn with(set: u64, member: u32) -> u64

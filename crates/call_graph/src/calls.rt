@@ -1,8 +1,8 @@
 //! What a function does itself: the functions that it calls, the resources that it takes, and whether it waits or calls Schedule.
 ghost use Rattle.std.specs.Prelude.{◌≡◌, ℕ, ◌<◌, ◌==◌, ◌||◌, ◌&&◌, true};
 ghost use Rattle.std.specs.List.{list_any};
-ghost use Rattle.code_tables.specs.Bits.{is_member};
-ghost use Rattle.code_tables.specs.Rows.{is_call, is_get, is_taking, is_pause};
+ghost use Rattle.call_graph.specs.Bits.{is_member};
+ghost use Rattle.call_graph.specs.Rows.{is_call, is_get, is_taking, is_pause};
 
 use crate::bits::with;
 use sloth_base::app::{Call, Item, Op};

@@ -3,7 +3,7 @@ ghost use Rattle.std.specs.Prelude.{◌≡◌, ◌≤◌, length};
 ghost use Rattle.least_fault.specs.Search.{Finds};
 ghost use Rattle.call_graph.specs.Cycles.{RowCycle};
 
-use code_tables::bits::has;
+use crate::word_bits::has;
 use least_fault::{merge, when};
 use sloth_base::app::Func;
 use sloth_base::refusal::{Code, Part, Refusal};

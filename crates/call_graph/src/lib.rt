@@ -8,16 +8,20 @@ ghost use Rattle.code_rules.specs.WellFormed.{CycleFault};
 ghost use Rattle.call_graph.specs.Ranks.{RanksOf};
 
 pub mod bits;
+pub mod called_bytes;
 pub mod calls;
 pub mod cycles;
 pub mod lists;
 pub mod ranking;
 pub mod reached;
+pub mod rows;
+pub mod stack_offsets;
+pub mod word_bits;
 
 use crate::cycles::cycle;
 use crate::lists::{direct_calls, gathered};
 use crate::ranking::Ranks;
-use code_tables::rows::closed;
+use crate::rows::closed;
 use sloth_base::app::App;
 use sloth_base::refusal::BuildError;
 use std::alloc::Global;

@@ -1,7 +1,7 @@
 //! Lists with an entry for each function.
 ghost use Rattle.std.specs.Prelude.{◌≡◌, ℕ, ◌<◌, ◌≤◌, false, length, map, get_or, count_ones, IfOk};
-ghost use Rattle.code_tables.specs.Bits.{is_member};
-ghost use Rattle.code_tables.specs.Rows.{row_has};
+ghost use Rattle.call_graph.specs.Bits.{is_member};
+ghost use Rattle.call_graph.specs.Rows.{row_has};
 ghost use Rattle.call_graph.specs.Reached.{AreFew, func_of, calls_itself, takes_by, pauses_by, used_by};
 ghost use Rattle.call_graph.specs.Gathered.{AreGathered};
 

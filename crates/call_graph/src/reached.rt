@@ -1,12 +1,12 @@
 //! What a function reaches, from its number and its row.
 ghost use Rattle.std.specs.Prelude.{◌≡◌, ℕ, ◌<◌, ◌≤◌, ◌||◌, ◌&&◌, length};
 ghost use Rattle.sloth_base.specs.Options.{is_number};
-ghost use Rattle.code_tables.specs.Bits.{is_member};
+ghost use Rattle.call_graph.specs.Bits.{is_member};
 ghost use Rattle.call_graph.specs.Reached.{AreFew, TakesFew, IsOfFew, takes_itself, pauses_itself, reaches_by, takes_by, pauses_by, used_by};
 
 use crate::bits::with_task;
 use crate::calls::{pauses, taken};
-use code_tables::bits::{has, union};
+use crate::word_bits::{has, union};
 use sloth_base::app::Func;
 
 /// Whether the function with this number and this row is the other, or reaches it.

@@ -14,7 +14,7 @@ use Rattle.sloth_base.specs.declared.service.ObjectKind.{ObjectKind}
 use Rattle.sloth_base.specs.declared.service.ObjectKind.TheVariants as object
 use Rattle.sloth_base.specs.declared.service.Service.{Service}
 use Rattle.sloth_base.specs.ConfigRange.{InRange, scheduler_number}
-pub use Rattle.sloth_base.specs.ConfigRange.{no_event}
+use Rattle.sloth_base.specs.ConfigRange.{no_event}
 use Rattle.sloth_base.specs.ImageRange.{AreNames}
 use Rattle.sloth_base.specs.Named.{function, IsBodyOf}
 use Rattle.sloth_base.specs.ServiceCodes.{object_kind, has_mask}

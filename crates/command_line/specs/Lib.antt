@@ -2,3 +2,4 @@ pub mod Command
 pub mod Words
 pub mod LastLine
 pub mod Tools
+pub mod StopLine

@@ -4,5 +4,7 @@
 pub mod command;
 pub mod counts;
 pub mod last_line;
+pub mod number;
+pub mod stop_line;
 pub mod tool;
 mod tool_words;

@@ -6,16 +6,16 @@ use Rattle.std.proofs.Math.Seq.{take-append_seam}
 use Rattle.sloth_base.specs.ImageRange.{IsMark}
 use Rattle.sloth_base.specs.declared.image.Image.{Image}
 use Rattle.sloth_base.specs.declared.image.Mark.{Mark}
-use Rattle.image_fields.specs.Fields.{four_bytes}
+use Rattle.image_file.specs.Fields.{four_bytes}
 use Rattle.image_file.specs.ImageText.{mark_bytes, name_bytes}
-use Rattle.image_fields.specs.Limits.{SizesFit}
+use Rattle.image_file.specs.Limits.{SizesFit}
 use Rattle.image_file.specs.Parts.{Parts, PartsStand, body_bytes}
 use Rattle.image_file.specs.Reading.{MarksStand, NamedPartsStand, parts_at}
-use Rattle.image_fields.specs.declared.sizes.Sizes.{Sizes}
+use Rattle.image_file.specs.declared.sizes.Sizes.{Sizes}
 use Rattle.image_file.proofs.Headers.{FitWords, same_with, words_fit}
 use Rattle.image_file.proofs.Unique.{Splits, four, lists, mark, mark_fits}
 use Rattle.image_file.proofs.Faulted.{one_body}
-use Rattle.elf_fields.specs.Faults.{AreRight, Description, IsWithin, described_bytes}
+use Rattle.elf_image.specs.Faults.{AreRight, Description, IsWithin, described_bytes}
 use Rattle.elf_image.specs.Reading.{AreRead, BeginsWith, IsDescription, description_at, numbers_before}
 
 -- its numbers, and its parts: there is no memory

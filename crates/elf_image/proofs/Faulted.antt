@@ -5,16 +5,16 @@ use Rattle.std.specs.List.{flat_map}
 use Rattle.std.proofs.lemmas.Bool.{cases_lt}
 use Rattle.std.proofs.lemmas.List.{take-append-drop}
 use Rattle.sloth_base.specs.declared.image.Image.{Image}
-use Rattle.image_fields.specs.Fields.{four_bytes, magic_bytes}
+use Rattle.image_file.specs.Fields.{four_bytes, magic_bytes}
 use Rattle.image_file.specs.ImageText.{counter_bytes, image_bytes, name_bytes}
 use Rattle.image_file.proofs.Images.{image-unique}
-use Rattle.elf_fields.specs.ElfText.{ElfText, elf_header, note_bytes}
-use Rattle.elf_fields.specs.Faults.{AreRight, Description, FaultIsOne, Fails, IsFirstElfFault, HasElfHeader, HasElfMagic, HasLoadHeader, HasNote, HasNoteHeader, IsFramed, NoneIsBoth, NoneIsNeither, described_bytes}
-use Rattle.elf_fields.specs.declared.fault.ElfFault.{ElfFault}
-use Rattle.elf_fields.specs.declared.fault.ElfFault.TheVariants as fault
+use Rattle.elf_image.specs.ElfText.{ElfText, elf_header, note_bytes}
+use Rattle.elf_image.specs.Faults.{AreRight, Description, FaultIsOne, Fails, IsFirstElfFault, HasElfHeader, HasElfMagic, HasLoadHeader, HasNote, HasNoteHeader, IsFramed, NoneIsBoth, NoneIsNeither, described_bytes}
+use Rattle.elf_image.specs.declared.fault.ElfFault.{ElfFault}
+use Rattle.elf_image.specs.declared.fault.ElfFault.TheVariants as fault
 use Rattle.image_file.specs.declared.fault.FileError.{FileError}
 use Rattle.image_file.specs.declared.fault.FileError.TheVariants as failure
-use Rattle.elf_fields.proofs.Frames.{one-load, one-note}
+use Rattle.elf_image.proofs.Frames.{one-load, one-note}
 use Rattle.elf_image.proofs.Descriptions.{one-described}
 use Rattle.elf_image.proofs.Notes.{length-note, one-description}
 use Rattle.elf_image.proofs.Whole.{described_of, framed-of, image_of, is-elf, memory_in, memory-of, note-length, note_of, noted-of, right-of}

@@ -3,3 +3,4 @@ pub mod Descriptions
 pub mod Notes
 pub mod Steps
 pub mod Whole
+pub mod Frames

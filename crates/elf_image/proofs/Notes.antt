@@ -2,9 +2,9 @@
 use Rattle.std.proofs.Common.{◌≡◌, ◌<◌, ◌+◌, ◌-◌, ◌%◌, ◌^◌, ℕ, List, [], ◌∷◌, ◌++◌, length, take, drop, sym, ◌∙◌, ap, arith}
 use Rattle.std.proofs.Math.Seq.{take-append_seam}
 use Rattle.std.proofs.lemmas.List.{length-append, length-take-le}
-use Rattle.image_fields.specs.Fields.{four_bytes}
+use Rattle.image_file.specs.Fields.{four_bytes}
 use Rattle.image_file.proofs.Unique.{four}
-use Rattle.elf_fields.specs.ElfText.{note_bytes, owner, padding}
+use Rattle.elf_image.specs.ElfText.{note_bytes, owner, padding}
 
 pub length-padding : (n : ℕ) → length (padding n) ≡ (4 - n % 4) % 4
 length-padding n = length-take-le ((4 - n % 4) % 4) (0 ∷ 0 ∷ 0 ∷ []) (omega arith)

@@ -7,11 +7,11 @@ use Rattle.std.proofs.lemmas.List.{take-append-drop, drop-drop, length-append, l
 use Rattle.sloth_base.specs.ImageRange.{InFormat, IsName, IsMark, service_limit}
 use Rattle.sloth_base.specs.declared.image.Image.{Image}
 use Rattle.sloth_base.specs.declared.image.Mark.{Mark}
-use Rattle.image_fields.specs.Fields.{four_bytes, two_bytes}
+use Rattle.image_file.specs.Fields.{four_bytes, two_bytes}
 use Rattle.image_file.specs.ImageText.{mark_bytes, name_bytes}
 use Rattle.image_file.proofs.RightParts.{length-marks}
-use Rattle.elf_fields.specs.ElfText.{ElfText, elf_header, load_header, note_header, note_bytes, file_bytes, description_bytes}
-use Rattle.elf_fields.specs.Faults.{AreRight, Description, HasNote, IsFramed, IsNoteSize, IsWithin, described_bytes}
+use Rattle.elf_image.specs.ElfText.{ElfText, elf_header, load_header, note_header, note_bytes, file_bytes, description_bytes}
+use Rattle.elf_image.specs.Faults.{AreRight, Description, HasNote, IsFramed, IsNoteSize, IsWithin, described_bytes}
 use Rattle.elf_image.proofs.Notes.{length-note, length-padding}
 
 -- ---- the lengths of descriptions

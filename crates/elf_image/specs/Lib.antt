@@ -1,3 +1,3 @@
 pub mod Reading
-pub use Rattle.elf_fields.specs.ElfText
-pub use Rattle.elf_fields.specs.Faults
+pub mod ElfText
+pub mod Faults

@@ -4,15 +4,15 @@ use Rattle.std.specs.List.{flat_map}
 use Rattle.sloth_base.specs.ImageRange.{AreAscending, service_limit}
 use Rattle.sloth_base.specs.declared.image.Image.{Image}
 use Rattle.sloth_base.specs.declared.image.Mark.{Mark}
-use Rattle.image_fields.specs.Fields.{four_bytes}
-use Rattle.image_fields.specs.Limits.{SizesFit}
+use Rattle.image_file.specs.Fields.{four_bytes}
+use Rattle.image_file.specs.Limits.{SizesFit}
 use Rattle.image_file.specs.Parts.{AreRightNames, Parts, PartsStand}
 use Rattle.image_file.specs.Reading.{MarksStand, NoMarks}
-use Rattle.image_fields.specs.declared.sizes.Sizes.{Sizes}
-use Rattle.elf_fields.specs.ElfText.{note_bytes}
-use Rattle.elf_fields.specs.Faults.{Description, IsFramed, IsWithin, described_bytes}
-use Rattle.elf_fields.specs.declared.fault.ElfFault.TheVariants as fault
-use Rattle.elf_fields.specs.declared.fault.ElfFault.{ElfFault}
+use Rattle.image_file.specs.declared.sizes.Sizes.{Sizes}
+use Rattle.elf_image.specs.ElfText.{note_bytes}
+use Rattle.elf_image.specs.Faults.{Description, IsFramed, IsWithin, described_bytes}
+use Rattle.elf_image.specs.declared.fault.ElfFault.TheVariants as fault
+use Rattle.elf_image.specs.declared.fault.ElfFault.{ElfFault}
 use Rattle.image_file.specs.declared.fault.FileError.{FileError}
 use Rattle.image_file.specs.declared.fault.FileError.TheVariants as failure
 

@@ -1,7 +1,7 @@
 //! Laws of the definitions.
 ghost use Rattle.std.specs.Prelude.{◌≡◌, ℕ, List};
-ghost use Rattle.elf_fields.specs.ElfText.{ElfText};
-ghost use Rattle.elf_fields.specs.Faults.{FaultIsOne, NoneIsBoth, NoneIsNeither};
+ghost use Rattle.elf_image.specs.ElfText.{ElfText};
+ghost use Rattle.elf_image.specs.Faults.{FaultIsOne, NoneIsBoth, NoneIsNeither};
 ghost use Rattle.sloth_base.specs.declared.image.Image.{Image};
 
 /// No two images have the same ELF file.

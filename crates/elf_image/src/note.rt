@@ -1,9 +1,9 @@
 //! The note of an ELF file.
 ghost use Rattle.std.specs.Prelude.{◌≡◌, ◌≤◌, ◌<◌, ◌++◌, OnOk, length};
-ghost use Rattle.elf_fields.specs.ElfText.{note_bytes};
+ghost use Rattle.elf_image.specs.ElfText.{note_bytes};
 
-use elf_fields::headers::put_words;
-pub use elf_fields::padding::padding_size;
+use crate::headers::put_words;
+pub use crate::padding::padding_size;
 use sloth_base::memory::NoMemory;
 
 /// The length of a note before its description.

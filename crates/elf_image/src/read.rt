@@ -1,26 +1,26 @@
 //! Reading an ELF file.
 ghost use Rattle.std.specs.Prelude.{◌⊎◌, ◌≡◌, ◌<◌, ◌≤◌, ◌+◌, IfOk, IfErr, IfSome, IfNone, Decides, drop, length, take};
 ghost use Rattle.image_file.specs.Reading.{MarksStand, NamedPartsStand};
-ghost use Rattle.image_fields.specs.declared.sizes.Sizes.{Sizes as AnySizes};
+ghost use Rattle.image_file.specs.declared.sizes.Sizes.{Sizes as AnySizes};
 ghost use Rattle.sloth_base.specs.ImageRange.{service_limit};
 ghost use Rattle.sloth_base.specs.declared.image.Image.{Image as ImageOf};
-ghost use Rattle.elf_fields.specs.ElfText.{ElfText, note_bytes};
-ghost use Rattle.elf_fields.specs.Faults.{Fails, IsFirstElfFault};
+ghost use Rattle.elf_image.specs.ElfText.{ElfText, note_bytes};
+ghost use Rattle.elf_image.specs.Faults.{Fails, IsFirstElfFault};
 ghost use Rattle.elf_image.specs.Reading.{IsFramedAt, PartsMiss, MarksMiss, IsNote, NoteFails, BeginsWith, IsDescription, DescriptionFails, AreRead, AreRightMarks, ContentsFail};
-ghost use Rattle.elf_fields.specs.declared.fault.ElfFault.{ElfFault as FaultOf};
+ghost use Rattle.elf_image.specs.declared.fault.ElfFault.{ElfFault as FaultOf};
 ghost use Rattle.image_file.specs.declared.fault.FileError.TheVariants as failed_by;
 
+use crate::fault::{ElfError, ElfFault};
+use crate::headers::HEADERS;
+use crate::names::has_right_names;
 use crate::note::{NOTE_HEAD, padding_size, put_note};
-use elf_fields::fault::{ElfError, ElfFault};
-use elf_fields::headers::HEADERS;
-use elf_fields::names::has_right_names;
-use elf_fields::reading::{judge_header, read_load_header, read_note_header};
-use image_fields::services::service_limit;
-use image_fields::sizes::Sizes;
+use crate::reading::{judge_header, read_load_header, read_note_header};
 use image_file::fault::ImageError;
+use image_file::mark_services::service_limit;
 use image_file::marks::{are_ascending, read_marks};
 use image_file::numbers::u32_at;
 use image_file::read::{Outline, read_parts};
+use image_file::sizes::Sizes;
 use sloth_base::image::{Image, Mark};
 use sloth_base::list::List;
 use sloth_base::memory::NoMemory;

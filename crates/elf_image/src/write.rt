@@ -1,10 +1,10 @@
 //! Writing an ELF file.
 ghost use Rattle.std.specs.Prelude.{◌≡◌, ◌≤◌, IfOk, length};
 ghost use Rattle.sloth_base.specs.ImageRange.{InFormat};
-ghost use Rattle.elf_fields.specs.ElfText.{ElfText, description_bytes, file_bytes};
+ghost use Rattle.elf_image.specs.ElfText.{ElfText, description_bytes, file_bytes};
 
+use crate::headers::{elf_header, put_load_header, put_note_header, put_words};
 use crate::note::{note_size, put_note};
-use elf_fields::headers::{elf_header, put_load_header, put_note_header, put_words};
 use image_file::write::{put_marks, put_names};
 use sloth_base::image::Image;
 use sloth_base::memory::NoMemory;

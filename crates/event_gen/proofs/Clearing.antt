@@ -22,7 +22,7 @@ use Rattle.block_parts.proofs.Serving.{opens}
 use Rattle.block_parts.specs.Back.{WentBack, a0}
 use Rattle.block_parts.specs.Pieces.{back_code}
 use Rattle.event_gen.proofs.Finding.{own_end, finds_by_x10}
-use Rattle.routine_pieces.specs.Events.{own_clearing_code}
+use Rattle.block_parts.specs.Events.{own_clearing_code}
 use Rattle.event_gen.specs.Pieces.{own_finding_code}
 use Rattle.event_gen.specs.ClearEvent.{MayClear, EventsCleared, ClearsEvents, cleared_ram}
 

@@ -20,7 +20,7 @@ use Rattle.block_parts.proofs.Busy.{Finds, looks_owe}
 use Rattle.block_parts.proofs.Serving.{opens}
 use Rattle.block_parts.specs.Pieces.{looking_code, back_code}
 use Rattle.event_gen.proofs.Refusing.{refuses_owe}
-use Rattle.routine_pieces.specs.Events.{refusal_code, events_telling_code}
+use Rattle.block_parts.specs.Events.{refusal_code, events_telling_code}
 use Rattle.event_gen.specs.GetEvent.{MayGet, EventsTold, TellsEvents}
 
 -- the code behind the masking instruction

@@ -17,7 +17,7 @@ use Rattle.block_parts.proofs.Returning.{goes_back}
 use Rattle.block_parts.specs.Back.{CanGoBack, WentBack, a0}
 use Rattle.block_parts.specs.Looks.{LooksSuspended}
 use Rattle.block_parts.specs.Pieces.{back_code}
-use Rattle.routine_pieces.specs.Events.{refusal_code}
+use Rattle.block_parts.specs.Events.{refusal_code}
 
 -- code that is passed is owed nothing
 passes : (from to : ℕ) (first code : List InstrKind) (E : List ℕ → State → State → Type 0) (start : State) (c : Core) (o : ℕ)

@@ -25,7 +25,7 @@ use Rattle.block_parts.specs.Looks.{LooksSuspended}
 use Rattle.block_parts.specs.Back.{CanGoBack}
 use Rattle.block_parts.specs.Pieces.{looking_code, raising_code, back_code}
 use Rattle.event_gen.proofs.Refusing.{refuses_owe}
-use Rattle.routine_pieces.specs.Events.{refusal_code, awaited_mask_test, enabling_code}
+use Rattle.block_parts.specs.Events.{refusal_code, awaited_mask_test, enabling_code}
 use Rattle.event_gen.specs.Pieces.{mask_adding_code}
 use Rattle.event_gen.specs.SetEvent.{MaySet, EventsSet, SetsEvents, with_mask}
 

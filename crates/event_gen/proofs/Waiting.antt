@@ -25,7 +25,7 @@ use Rattle.block_parts.proofs.Landing.{lands}
 use Rattle.block_parts.proofs.Serving.{opens_within}
 use Rattle.block_parts.specs.Pieces.{back_code}
 use Rattle.event_gen.proofs.Finding.{own_end, finds_by_x3}
-use Rattle.routine_pieces.specs.Events.{keeping_code}
+use Rattle.block_parts.specs.Events.{keeping_code}
 use Rattle.event_gen.specs.Pieces.{own_finding_code, set_events_test, controller_address_code, set_answer_code, resting_code, disabling_code}
 use Rattle.event_gen.specs.WaitEvent.{MayWait, Waited, HasWaited, Waits, set_of, rested_ram, kept_ram}
 

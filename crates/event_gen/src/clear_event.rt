@@ -3,8 +3,8 @@ ghost use Rattle.std.specs.Prelude.{IfOk};
 ghost use Rattle.event_gen.specs.ClearEvent.{ClearsEvents};
 
 use crate::pieces::find_own;
+use block_parts::events::clear_own;
 use block_parts::pieces::{go_back, open};
-use routine_pieces::events::clear_own;
 use rv32_instr::Instr;
 use rv32_instr::asm::A0;
 use std::alloc::{AllocError, Global};

@@ -2,8 +2,8 @@
 ghost use Rattle.std.specs.Prelude.{◌<◌, IfOk};
 ghost use Rattle.event_gen.specs.GetEvent.{TellsEvents};
 
+use block_parts::events::tell_events;
 use block_parts::pieces::{go_back, look_at, open};
-use routine_pieces::events::tell_events;
 use rv32_instr::Instr;
 use std::alloc::{AllocError, Global};
 

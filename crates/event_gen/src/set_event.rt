@@ -2,12 +2,12 @@
 //! its set events.
 ghost use Rattle.std.specs.Prelude.{◌≡◌, ◌<◌, ◌++◌, IfOk, OnOk};
 ghost use Rattle.event_gen.specs.Pieces.{mask_adding_code};
-ghost use Rattle.routine_pieces.specs.Events.{enabling_code};
+ghost use Rattle.block_parts.specs.Events.{enabling_code};
 ghost use Rattle.event_gen.specs.SetEvent.{SetsEvents};
 
+use block_parts::events::{WAKE, ask_awaited, refuse};
 use block_parts::pieces::{go_back, look_at, open, raise};
 use masked_code::emit::emit;
-use routine_pieces::events::{WAKE, ask_awaited, refuse};
 use rv32_instr::Instr;
 use rv32_instr::asm::{X1, X3, X4, X30, lw, or, sb, sw};
 use sloth_region::layout::{enabled_byte, events};

@@ -4,10 +4,10 @@ ghost use Rattle.event_gen.specs.Pieces.{set_events_test, controller_address_cod
 ghost use Rattle.event_gen.specs.WaitEvent.{Waits};
 
 use crate::pieces::find_own;
+use block_parts::events::keep;
+use block_parts::leaving::leave;
 use block_parts::pieces::{BACK, OWN_ACTIVE, OWN_EVENTS, go_back, open};
 use masked_code::emit::{X5, emit, past, save};
-use routine_pieces::events::keep;
-use routine_pieces::leaving::leave;
 use rv32_instr::Instr;
 use rv32_instr::asm::{A0, X1, X2, X3, X30, ZERO, add, addi, and, beq, lui, lw, sb, sw};
 use sloth_base::service::E_OK;

@@ -45,7 +45,7 @@ use Rattle.asm_parse.proofs.Read.{IsRead}
 use Rattle.asm_parse.proofs.LinesRead.{all_read}
 use Rattle.sloth_source.specs.SourceText.{HasApp, SourceText}
 use Rattle.held_lists.specs.Filling.{bare_app, SameButLists}
-use Rattle.label_lines.specs.LabelLines.{resource_name, resource_names}
+use Rattle.label_lists.specs.LabelLines.{resource_name, resource_names}
 use Rattle.holds_infer.specs.Relabel.{func_holds, all_holds, relabeled_lines, AreInPlace}
 use Rattle.holds_infer.specs.FilledText.{filled_text}
 use Rattle.held_lists.proofs.Spreading.{all_none}

@@ -20,7 +20,7 @@ use Rattle.asm_lines.proofs.Shapes.{remains_made, shape_made}
 use Rattle.asm_lines.proofs.PlacesMade.{name_bare, end_on}
 use Rattle.asm_lines.proofs.Parts.{name_bytes}
 use Rattle.holds_infer.specs.Relabel.{label_statement}
-use Rattle.label_lines.specs.LabelLines.{label_text}
+use Rattle.label_lists.specs.LabelLines.{label_text}
 
 -- names, each a word
 abbrev pub AreWritten : List (List ℕ) → Type 0

@@ -10,7 +10,7 @@ use Rattle.asm_lines.specs.declared.source_line.SourceLine.TheVariants.{Statemen
 use Rattle.statement_forms.specs.declared.forms.Mnemonic.TheVariants as mnemonic
 use Rattle.asm_lines.specs.Faults.{is_a1, after_line}
 use Rattle.asm_scopes.specs.Said.{is_label, name_of}
-use Rattle.label_lines.specs.LabelLines.{resource_names}
+use Rattle.label_lists.specs.LabelLines.{resource_names}
 
 -- ---- the lists of task code
 

@@ -3,11 +3,11 @@ use Rattle.std.proofs.Common.{ℕ, List, ◌≡◌, Option, None, Some, Err, ref
 use Rattle.std.specs.Prelude.{Bool, true, false, IfNone}
 use Rattle.std.specs.Option.{ok_or}
 use Rattle.std.specs.Bool.{then_some}
-use Rattle.image_fields.specs.Limits.{header_size}
+use Rattle.image_file.specs.Limits.{header_size}
 use Rattle.image_file.specs.Parts.{Parts, PartsStand}
 use Rattle.image_file.specs.Faults.{Fails, HasMagic}
 use Rattle.image_file.specs.Reading.{HasSizes, NamesFail, NoNames, PartsFail}
-use Rattle.image_fields.specs.declared.sizes.Sizes.{Sizes}
+use Rattle.image_file.specs.declared.sizes.Sizes.{Sizes}
 use Rattle.image_file.proofs.Parted.{body_of}
 use Rattle.image_file.specs.declared.fault.ImageFault.{ImageFault}
 use Rattle.image_file.specs.declared.fault.ImageFault.TheVariants as fault

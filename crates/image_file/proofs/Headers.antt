@@ -1,12 +1,12 @@
 -- The header of a file, in its two formats: it holds its numbers once.
 use Rattle.std.proofs.Common.{◌≡◌, ◌≢◌, ◌<◌, ◌≤◌, ◌^◌, ℕ, zero, suc, List, ◌++◌, length, take, drop, get_or, refl, sym, ◌∙◌, ap, subst, arith, inl, inr, codes}
 use Rattle.std.proofs.lemmas.List.{append_cancel_left, take-append-drop}
-use Rattle.image_fields.specs.Fields.{four_bytes}
-use Rattle.image_fields.specs.Limits.{SizesFit, header_size}
+use Rattle.image_file.specs.Fields.{four_bytes}
+use Rattle.image_file.specs.Limits.{SizesFit, header_size}
 use Rattle.image_file.specs.Parts.{header_before}
 use Rattle.image_file.specs.Faults.{HasMagic}
 use Rattle.image_file.specs.Reading.{HasSizes, NoSizes}
-use Rattle.image_fields.specs.declared.sizes.Sizes.{Sizes}
+use Rattle.image_file.specs.declared.sizes.Sizes.{Sizes}
 use Rattle.image_file.proofs.Unique.{Splits, four}
 
 -- numbers that fit their four bytes

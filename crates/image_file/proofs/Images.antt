@@ -1,11 +1,11 @@
 -- An image is determined by its bytes, and by any bytes that begin with them.
 use Rattle.std.proofs.Common.{◌≡◌, ℕ, List, [], ◌++◌, length, All, sym, ◌∙◌, ap, append_assoc, append-nil}
 use Rattle.std.specs.List.{flat_map}
-use Rattle.image_fields.specs.Fields.{four_bytes, magic_bytes}
+use Rattle.image_file.specs.Fields.{four_bytes, magic_bytes}
 use Rattle.image_file.specs.ImageText.{ImageText, counter_bytes, image_bytes, mark_bytes, name_bytes}
-use Rattle.image_fields.specs.Limits.{SizesFit}
+use Rattle.image_file.specs.Limits.{SizesFit}
 use Rattle.image_file.specs.Parts.{header_before}
-use Rattle.image_fields.specs.declared.sizes.Sizes.{Sizes}
+use Rattle.image_file.specs.declared.sizes.Sizes.{Sizes}
 use Rattle.sloth_base.specs.ImageRange.{InFormat, service_limit}
 use Rattle.sloth_base.specs.declared.image.Image.{Image}
 use Rattle.sloth_base.specs.declared.image.Mark.{Mark}

@@ -4,9 +4,9 @@ use Rattle.std.specs.List.{flat_map, All}
 use Rattle.sloth_base.specs.declared.image.Mark.{Mark}
 use Rattle.sloth_base.specs.ImageRange.{IsMark, AreAscending}
 use Rattle.image_file.specs.ImageText.{mark_bytes, name_bytes}
-use Rattle.image_fields.specs.Limits.{SizesFit, header_size}
+use Rattle.image_file.specs.Limits.{SizesFit, header_size}
 use Rattle.image_file.specs.Parts.{Parts, HasParts, PartsStand, AreRight, header_before}
-use Rattle.image_fields.specs.declared.sizes.Sizes.{Sizes}
+use Rattle.image_file.specs.declared.sizes.Sizes.{Sizes}
 use Rattle.image_file.specs.declared.fault.ImageFault.TheVariants as fault
 use Rattle.image_file.specs.declared.fault.ImageFault.{ImageFault}
 use Rattle.image_file.specs.declared.fault.FileError.{FileError}

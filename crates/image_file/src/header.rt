@@ -4,7 +4,7 @@ ghost use Rattle.image_file.specs.Faults.{HasMagic};
 ghost use Rattle.image_file.specs.Reading.{HasSizes, NoSizes};
 
 use crate::numbers::u32_at;
-pub use image_fields::sizes::Sizes;
+pub use crate::sizes::Sizes;
 
 // Whether the file begins as an image file without counters does.
 fn has_plain_magic(bytes: &[u8]) -> bool

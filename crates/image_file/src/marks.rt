@@ -6,8 +6,8 @@ ghost use Rattle.sloth_base.specs.ImageRange.{AreFields, IsMark, AreAscending};
 ghost use Rattle.sloth_base.specs.declared.image.MarkKind.{MarkKind as KindOfMark};
 
 use crate::fault::{ImageError, ImageFault};
+pub use crate::mark_services::service_limit;
 use crate::numbers::{u16_at, u32_at};
-pub use image_fields::services::service_limit;
 use sloth_base::image::{Mark, MarkKind};
 use sloth_base::memory_map::MEMORY_BASE;
 use std::alloc::Global;

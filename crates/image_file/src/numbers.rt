@@ -1,6 +1,6 @@
 //! Little-endian numbers at a place of a file.
 ghost use Rattle.std.specs.Prelude.{◌≡◌, ◌≤◌, ◌+◌, ◌++◌, length, drop};
-ghost use Rattle.image_fields.specs.Fields.{four_bytes, two_bytes};
+ghost use Rattle.image_file.specs.Fields.{four_bytes, two_bytes};
 
 /// The number in the four bytes at `at`.
 pub fn u32_at(bytes: &[u8], at: usize) -> u32

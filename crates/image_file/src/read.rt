@@ -2,17 +2,17 @@
 ghost use Rattle.std.specs.Prelude.{◌⊎◌, ◌≡◌, ◌≤◌, IfOk, IfErr, length};
 ghost use Rattle.image_file.specs.ImageText.{ImageText};
 ghost use Rattle.image_file.specs.Faults.{Fails, IsFirstImageFault, HasMagic};
-ghost use Rattle.image_fields.specs.Limits.{SizesFit};
+ghost use Rattle.image_file.specs.Limits.{SizesFit};
 ghost use Rattle.image_file.specs.Reading.{AreLastMarks, HasOutline, HasSizes, NamedPartsStand, PartsFail};
 ghost use Rattle.sloth_base.specs.declared.image.Image.{Image as ImageOf};
 ghost use Rattle.image_file.specs.declared.fault.ImageFault.{ImageFault as FaultOf};
 ghost use Rattle.image_file.specs.declared.fault.FileError.TheVariants as failed_by;
 
 use crate::fault::{ImageError, ImageFault};
+use crate::file_end::is_followed;
 use crate::header::{Sizes, has_magic, read_sizes};
 use crate::marks::{are_ascending, read_marks, service_limit};
 use crate::names::{are_right_names, read_names};
-use image_fields::ends::is_followed;
 use sloth_base::image::{Image, Mark};
 use sloth_base::list::List;
 use sloth_base::name::Name;

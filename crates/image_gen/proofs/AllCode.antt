@@ -39,7 +39,8 @@ use Rattle.vector_gen.specs.Idle.{Idles, idle_mark}
 use Rattle.vector_gen.specs.Vectors.{AreJumps}
 use Rattle.mem_map.proofs.Bounds.{before_all}
 use Rattle.mem_map.proofs.Wanting.{all_places}
-use Rattle.mem_map.specs.Plan.{code_byte_count, code_end, code_extents, idle_bytes}
+use Rattle.mem_map.specs.Starts.{code_byte_count}
+use Rattle.mem_map.specs.Plan.{code_end, code_extents, idle_bytes}
 use Rattle.mem_map.specs.Wanted.{wanted_blocks}
 use Rattle.sim_image.specs.Generated.{HasBlockWith, HasCode, HasItemBlocks}
 use Rattle.sim_image.specs.Rooms.{FitRooms, FitsRoom, FollowClosely}

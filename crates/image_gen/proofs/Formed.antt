@@ -16,7 +16,8 @@ use Rattle.sloth_base.specs.declared.image.Image.{Image}
 use Rattle.sloth_base.specs.declared.places.Levels.{Levels}
 use Rattle.sloth_region.specs.declared.map.Map.{Map}
 use Rattle.rv32_instr.specs.declared.block.Block.{Block}
-use Rattle.sloth_link.specs.Linked.{IsInside, block_section, datum_section, marks_of}
+use Rattle.mem_map.specs.Sections.{IsInside, block_section, marks_of}
+use Rattle.sloth_link.specs.Linked.{datum_section}
 use Rattle.sloth_link.proofs.Written.{code_bytes_length, front_of}
 use Rattle.sloth_link.proofs.Standing.{all_marks}
 use Rattle.image_gen.specs.Gathered.{MayGenerate, IsImageOf}

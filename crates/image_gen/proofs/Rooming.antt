@@ -37,10 +37,12 @@ use Rattle.masked_code.specs.Kernel.{masking}
 use Rattle.sloth_base.specs.Arithmetic.{sum32}
 use Rattle.sloth_base.specs.Blocks.{block_count, block_code, block_object}
 use Rattle.mem_map.specs.declared.all_lengths.CodeLengths.{CodeLengths}
-use Rattle.mem_map.specs.Plan.{code_byte_count, items_at, prologues_at, ticks_at, tick_starts, services_at, some_extents}
-use Rattle.mem_map.specs.Run.{extents_of, starts}
+use Rattle.mem_map.specs.Starts.{code_byte_count}
+use Rattle.mem_map.specs.Plan.{items_at, prologues_at, ticks_at, tick_starts, services_at, some_extents}
+use Rattle.mem_map.specs.Run.{extents_of}
+use Rattle.mem_map.specs.Starts.{starts}
 use Rattle.mem_map.specs.Wanted.{wanted_blocks}
-use Rattle.mem_map.specs.Zones.{no_extent}
+use Rattle.mem_map.specs.StackParts.{no_extent}
 use Rattle.mem_map.proofs.Starts.{end_above, length_starts, stands}
 use Rattle.mem_map.proofs.Wanting.{all_places, at_place}
 use Rattle.sim_image.proofs.Fitting.{end_of_code}

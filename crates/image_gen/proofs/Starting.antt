@@ -13,7 +13,7 @@ use Rattle.sloth_region.specs.declared.map.Map.{Map}
 use Rattle.prologue_gen.specs.Places.{IsStackTop}
 use Rattle.rv32_expand.specs.Sizes.{items_before}
 use Rattle.rv32_expand.proofs.Verified.{has_first}
-use Rattle.mem_map.specs.Plan.{code_byte_count}
+use Rattle.mem_map.specs.Starts.{code_byte_count}
 use Rattle.sim_image.proofs.Fitting.{part_inside, code_from, code_to}
 use Rattle.mem_map.proofs.Starts.{length_starts}
 use Rattle.image_gen.specs.Prologues.{MayStartTasks}

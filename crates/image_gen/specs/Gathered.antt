@@ -21,7 +21,7 @@ use Rattle.sim_relation.specs.Bounds.{AreBelow}
 use Rattle.sloth_link.specs.declared.datum.Datum.{Datum}
 use Rattle.sloth_link.specs.Image.{all_blocks}
 use Rattle.sloth_link.specs.Items.{MarksAreOfItems}
-use Rattle.sloth_link.specs.Linked.{addresses, marks_of}
+use Rattle.mem_map.specs.Sections.{addresses, marks_of}
 use Rattle.sim_image.specs.Generated.{HasCode, HasItemBlocks}
 use Rattle.sim_image.specs.Rooms.{FitRooms, FollowClosely, HasOwnMarks}
 use Rattle.sim_image.specs.Standing.{IsLinkedIn}

@@ -2,12 +2,12 @@
 use Rattle.std.specs.Prelude.{ℕ, ◌+◌, ◌-◌, ◌*◌, ◌/◌, ◌==◌, ltb, leb, Bool, ◌||◌, ◌&&◌, List, [], ◌∷◌, ◌++◌, codes, decimal, slice_index, filter}
 use Rattle.std.specs.List.{flat_map, range_with_len}
 use Rattle.sloth_base.specs.declared.event.Arrival.{Arrival}
-use Rattle.lane_strips.specs.declared.bars.Bar.{Bar}
-use Rattle.lane_strips.specs.declared.bars.Look.{Look}
-use Rattle.lane_strips.specs.declared.bars.Look.TheVariants as look
-use Rattle.lane_strips.specs.declared.scale.Scale.{Scale}
-use Rattle.lane_strips.specs.Arrivals.{arrival_line}
-use Rattle.lane_strips.specs.Scale.{place, pixels, axis_step, first_multiple, last_multiple}
+use Rattle.lane_drawing.specs.declared.bars.Bar.{Bar}
+use Rattle.lane_drawing.specs.declared.bars.Look.{Look}
+use Rattle.lane_drawing.specs.declared.bars.Look.TheVariants as look
+use Rattle.lane_drawing.specs.declared.scale.Scale.{Scale}
+use Rattle.lane_drawing.specs.Arrivals.{arrival_line}
+use Rattle.lane_drawing.specs.Scale.{place, pixels, axis_step, first_multiple, last_multiple}
 
 -- ---- bars
 

@@ -1,1 +1,5 @@
 pub mod Drawing
+pub mod Arrivals
+pub mod Bars
+pub mod Scale
+pub mod Strips

@@ -1,14 +1,14 @@
 //! The lanes of a picture, a line for each bar and mark.
 ghost use Rattle.std.specs.Prelude.{◌≡◌, ◌≤◌, ◌++◌, OnOk, All, length};
 ghost use Rattle.std.specs.List.{flat_map};
-ghost use Rattle.lane_strips.specs.Bars.{IsInside};
-ghost use Rattle.lane_strips.specs.Scale.{IsScale};
+ghost use Rattle.lane_drawing.specs.Bars.{IsInside};
+ghost use Rattle.lane_drawing.specs.Scale.{IsScale};
 ghost use Rattle.lane_drawing.specs.Drawing.{look_class, look_word, look_height, bar_line, lane_line, shown_arrivals, is_shown};
-ghost use Rattle.lane_strips.specs.Arrivals.{arrival_line};
+ghost use Rattle.lane_drawing.specs.Arrivals.{arrival_line};
 
-use lane_strips::arrivals::arrival_line;
-use lane_strips::bars::{Bar, Look};
-use lane_strips::scale::{Scale, push_pixels};
+use crate::arrivals::arrival_line;
+use crate::bars::{Bar, Look};
+use crate::scale::{Scale, push_pixels};
 use sloth_base::event::Arrival;
 use sloth_base::memory::NoMemory;
 use trace_text::line_text::LineText;

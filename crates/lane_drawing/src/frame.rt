@@ -1,9 +1,9 @@
 //! What stands round the lanes: the size, the looks, the axis and the legend.
 ghost use Rattle.std.specs.Prelude.{◌≡◌, ◌≤◌, ◌++◌, OnOk, map};
-ghost use Rattle.lane_strips.specs.Scale.{IsScale, first_multiple, last_multiple};
+ghost use Rattle.lane_drawing.specs.Scale.{IsScale, first_multiple, last_multiple};
 ghost use Rattle.lane_drawing.specs.Drawing.{all_lines, head_line, style_lines, count_line, axis_line, axis_lines, legend_line, legend_lines};
 
-use lane_strips::scale::{Scale, push_pixels};
+use crate::scale::{Scale, push_pixels};
 use sloth_base::memory::NoMemory;
 use trace_text::line_text::LineText;
 

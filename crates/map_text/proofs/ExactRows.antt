@@ -13,18 +13,19 @@ use Rattle.sloth_region.specs.declared.map.Map.{Map}
 use Rattle.code_rules.specs.WellFormed.{WellFormed}
 use Rattle.rv32_expand.specs.Sizes.{items_before}
 use Rattle.mem_map.specs.declared.all_lengths.CodeLengths.{CodeLengths}
-use Rattle.mem_map.specs.Plan.{code_byte_count, code_end, idle_at, idle_bytes, items_at, prologues_at, services_at, symbol_bytes, tick_starts, ticks_at}
+use Rattle.mem_map.specs.Starts.{code_byte_count}
+use Rattle.mem_map.specs.Plan.{code_end, idle_at, idle_bytes, items_at, prologues_at, services_at, symbol_bytes, tick_starts, ticks_at}
 use Rattle.mem_map.specs.Planned.{IsPlanned}
-use Rattle.mem_map.specs.Run.{starts, end_of}
+use Rattle.mem_map.specs.Starts.{starts, end_of}
 use Rattle.mem_map.specs.Stacks.{address_behind_data}
 use Rattle.mem_map.proofs.Starts.{length_starts}
 use Rattle.map_text.specs.ExactRows.{RowsAreExact, behind_symbols, exact_rows, function_bytes, row_alone, rows_of}
 use Rattle.map_text.specs.Rows.{address_behind_code, code_places, map_rows, numbered_starts, own_rows, prologues_of, shared_rows, single_start, starts_of, ticks_of}
-use Rattle.piece_rows.specs.Rows.{first_at, row_to, rows_between}
-use Rattle.piece_rows.specs.declared.rows.Kind.{Kind}
-use Rattle.piece_rows.specs.declared.rows.Kind.TheVariants as kind
-use Rattle.piece_rows.specs.declared.rows.Row.{Row}
-use Rattle.piece_rows.specs.declared.rows.Start.{Start}
+use Rattle.map_text.specs.PieceRows.{first_at, row_to, rows_between}
+use Rattle.map_text.specs.declared.piece_rows.Kind.{Kind}
+use Rattle.map_text.specs.declared.piece_rows.Kind.TheVariants as kind
+use Rattle.map_text.specs.declared.piece_rows.Row.{Row}
+use Rattle.map_text.specs.declared.piece_rows.Start.{Start}
 
 -- ---- one row
 

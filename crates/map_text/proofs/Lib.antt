@@ -4,3 +4,4 @@ pub mod OneNeed
 pub mod OneRow
 pub mod OneText
 pub mod Services
+pub mod OnePieceRow

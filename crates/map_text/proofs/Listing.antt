@@ -7,7 +7,7 @@ use Rattle.sloth_region.specs.declared.extent.Extent.{Extent}
 use Rattle.sloth_region.specs.declared.map.Map.{Map}
 use Rattle.code_rules.specs.WellFormed.{WellFormed}
 use Rattle.mem_map.specs.Planned.{IsPlanned}
-use Rattle.mem_map.specs.Zones.{no_extent}
+use Rattle.mem_map.specs.StackParts.{no_extent}
 use Rattle.map_text.specs.Listable.{IsListable}
 
 pub listable : (config : Config) (app : App) (bounds : Bounds) (m : Map) → WellFormed config app → IsPlanned config app bounds m → IsListable config m

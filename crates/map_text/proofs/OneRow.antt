@@ -4,12 +4,12 @@ use Rattle.std.proofs.Math.Numerals.{add-one}
 use Rattle.std.proofs.lemmas.List.{drop_all, drop_more}
 use Rattle.sloth_base.specs.declared.config.Config.{Config}
 use Rattle.sloth_region.specs.declared.map.Map.{Map}
-use Rattle.mem_map.specs.Stacks.{is_extended}
+use Rattle.mem_map.specs.StackParts.{is_extended}
 use Rattle.mem_map.specs.Zones.{stack_of}
-use Rattle.piece_rows.specs.declared.rows.Kind.{Kind}
-use Rattle.piece_rows.specs.declared.rows.Kind.TheVariants as kind
-use Rattle.piece_rows.specs.declared.rows.Row.{Row}
-use Rattle.piece_rows.specs.declared.rows.Start.{Start}
+use Rattle.map_text.specs.declared.piece_rows.Kind.{Kind}
+use Rattle.map_text.specs.declared.piece_rows.Kind.TheVariants as kind
+use Rattle.map_text.specs.declared.piece_rows.Row.{Row}
+use Rattle.map_text.specs.declared.piece_rows.Start.{Start}
 use Rattle.map_text.specs.Rows.{numbered_starts, own_rows, row_of, sum_of}
 
 -- what stands in the place of a row that is not there

@@ -11,15 +11,16 @@ use Rattle.sloth_source.proofs.Unique.{one_meaning}
 use Rattle.stack_bounds.specs.Bounds.{AreBounds, AreStacked, CallsInTurn, IsGreatest, stacked_bytes, total, used_bytes}
 use Rattle.stack_bounds.proofs.Parts.{one_greatest}
 use Rattle.mem_map.specs.Planned.{IsPlanned}
-use Rattle.mem_map.specs.Stacks.{address_behind_data, is_extended}
+use Rattle.mem_map.specs.Stacks.{address_behind_data}
+use Rattle.mem_map.specs.StackParts.{is_extended}
 use Rattle.mem_map.specs.Zones.{stack_of}
 use Rattle.mem_map.proofs.OnePlan.{AreAlike, one_plan}
 use Rattle.map_text.specs.MapText.{OneText, lines_of, map_text}
 use Rattle.map_text.specs.Rows.{map_rows, own_rows, row_of, shared_rows, starts_of}
-use Rattle.piece_rows.specs.Rows.{rows_between}
-use Rattle.piece_rows.specs.declared.rows.Kind.TheVariants as kind
-use Rattle.piece_rows.specs.declared.rows.Row.{Row}
-use Rattle.piece_rows.specs.declared.rows.Start.{Start}
+use Rattle.map_text.specs.PieceRows.{rows_between}
+use Rattle.map_text.specs.declared.piece_rows.Kind.TheVariants as kind
+use Rattle.map_text.specs.declared.piece_rows.Row.{Row}
+use Rattle.map_text.specs.declared.piece_rows.Start.{Start}
 
 -- ---- rows
 

@@ -2,3 +2,4 @@ pub mod ExactRows
 pub mod Listable
 pub mod MapText
 pub mod Rows
+pub mod PieceRows

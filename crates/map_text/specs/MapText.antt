@@ -12,15 +12,15 @@ use Rattle.sloth_base.specs.ConfigRange.{scheduler_number}
 use Rattle.sloth_base.specs.Named.{alarm_declaration, counter_declaration, declaration, function, no_symbol}
 use Rattle.sloth_base.specs.ServiceCodes.{object_kind, service_name}
 use Rattle.sloth_region.specs.declared.map.Map.{Map}
-use Rattle.trace_text.specs.Listing.{word_text}
+use Rattle.line_words.specs.MarkWords.{word_text}
 use Rattle.code_rules.specs.WellFormed.{WellFormed}
 use Rattle.stack_bounds.specs.Bounds.{AreBounds, bytes_of}
 use Rattle.mem_map.specs.Planned.{IsPlanned}
 use Rattle.sloth_source.specs.Texts.{AreAccepted}
 use Rattle.map_text.specs.Rows.{map_rows, sum_of}
-use Rattle.piece_rows.specs.declared.rows.Kind.{Kind}
-use Rattle.piece_rows.specs.declared.rows.Kind.TheVariants as kind
-use Rattle.piece_rows.specs.declared.rows.Row.{Row}
+use Rattle.map_text.specs.declared.piece_rows.Kind.{Kind}
+use Rattle.map_text.specs.declared.piece_rows.Kind.TheVariants as kind
+use Rattle.map_text.specs.declared.piece_rows.Row.{Row}
 
 -- ---- what stands in a row
 

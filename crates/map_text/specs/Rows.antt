@@ -8,13 +8,15 @@ use Rattle.sloth_base.specs.MemoryMap.{memory_base, vectors_base, boot_base}
 use Rattle.sloth_base.specs.Owners.{first_counter_line}
 use Rattle.sloth_region.specs.declared.extent.Extent.{Extent}
 use Rattle.sloth_region.specs.declared.map.Map.{Map}
-use Rattle.mem_map.specs.Stacks.{address_behind_data, is_extended}
-use Rattle.mem_map.specs.Zones.{code_zone, stack_of, no_extent}
-use Rattle.piece_rows.specs.declared.rows.Kind.{Kind}
-use Rattle.piece_rows.specs.declared.rows.Kind.TheVariants as kind
-use Rattle.piece_rows.specs.declared.rows.Row.{Row}
-use Rattle.piece_rows.specs.declared.rows.Start.{Start}
-use Rattle.piece_rows.specs.Rows.{rows_between}
+use Rattle.mem_map.specs.Stacks.{address_behind_data}
+use Rattle.mem_map.specs.StackParts.{is_extended}
+use Rattle.mem_map.specs.Zones.{code_zone, stack_of}
+use Rattle.mem_map.specs.StackParts.{no_extent}
+use Rattle.map_text.specs.declared.piece_rows.Kind.{Kind}
+use Rattle.map_text.specs.declared.piece_rows.Kind.TheVariants as kind
+use Rattle.map_text.specs.declared.piece_rows.Row.{Row}
+use Rattle.map_text.specs.declared.piece_rows.Start.{Start}
+use Rattle.map_text.specs.PieceRows.{rows_between}
 
 -- ---- code and data: each piece goes to where the next one begins
 

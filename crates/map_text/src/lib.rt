@@ -3,9 +3,10 @@
 
 pub mod laws;
 mod lines;
+pub mod piece_rows;
 mod rows;
 mod starts;
 mod text;
 
-pub use piece_rows::rows::{Kind, Row};
+pub use crate::piece_rows::{Kind, Row};
 pub use text::map_text;

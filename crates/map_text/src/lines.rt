@@ -4,8 +4,8 @@ ghost use Rattle.sloth_base.specs.Blocks.{block_object, block_service};
 ghost use Rattle.sloth_base.specs.Named.{alarm_declaration, counter_declaration, declaration, function, no_symbol};
 ghost use Rattle.map_text.specs.MapText.{need_line, object_text, piece_text, resource_name, row_line, service_text, sum_line};
 
+use crate::piece_rows::{Kind, Row};
 use itoa::Buffer;
-use piece_rows::rows::{Kind, Row};
 use sloth_base::app::App;
 use sloth_base::config::Config;
 use sloth_base::memory::NoMemory;

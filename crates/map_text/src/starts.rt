@@ -1,11 +1,11 @@
 //! Where each piece of code and data begins.
 ghost use Rattle.std.specs.Prelude.{◌≡◌, ◌<◌, ◌≤◌, ◌+◌, ◌++◌, ◌∷◌, [], IfOk, OnOk, drop, get_or, take};
 ghost use Rattle.sloth_base.specs.Owners.{first_counter_line};
-ghost use Rattle.mem_map.specs.Zones.{no_extent};
+ghost use Rattle.mem_map.specs.StackParts.{no_extent};
 ghost use Rattle.map_text.specs.Listable.{IsListable};
 ghost use Rattle.map_text.specs.Rows.{address_behind_code, code_places, numbered_starts, single_start, starts_of};
 
-use piece_rows::rows::{Kind, Start, tick_count};
+use crate::piece_rows::{Kind, Start, tick_count};
 use sloth_base::config::Config;
 use sloth_base::lines::COUNTER_LINE;
 use sloth_base::memory_map::{BOOT_BASE, MEMORY_BASE, VECTORS_BASE};

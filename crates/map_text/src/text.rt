@@ -8,9 +8,9 @@ ghost use Rattle.map_text.specs.Listable.{IsListable};
 ghost use Rattle.map_text.specs.MapText.{HasMap, IsMapText, map_text, need_lines, row_line};
 
 use crate::lines::{need_line, row_line, sum_line};
+use crate::piece_rows::Row;
 use crate::rows::{map_rows, sum_of};
 use mem_map::plan;
-use piece_rows::rows::Row;
 use sloth_base::app::App;
 use sloth_base::config::Config;
 use sloth_base::memory::NoMemory;

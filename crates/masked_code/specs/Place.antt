@@ -3,7 +3,8 @@ use Rattle.std.specs.Prelude.{ℕ, ◌+◌, ◌≡◌, List, [], ◌∷◌, Some
 use Rattle.sloth_base.specs.Machine.{Core, State}
 use Rattle.sloth_base.specs.MemoryMap.{memory_base}
 use Rattle.rv32_instr.specs.declared.InstrKind.{InstrKind}
-use Rattle.rv32_instr.specs.Table.{Decode, Encode}
+use Rattle.rv32_instr.specs.Table.{Decode}
+use Rattle.rv32_instr.specs.Encode.{Encode}
 use Rattle.rv32_instr.specs.Ram.{word_at}
 
 -- the state whose pc is at an offset in RAM

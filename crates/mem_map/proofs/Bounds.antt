@@ -19,9 +19,10 @@ use Rattle.rv32_expand.specs.InPlace.{IsItem}
 use Rattle.rv32_expand.specs.Sizes.{AreItemSizes, items_before}
 use Rattle.expansion_parts.proofs.Counts.{size_few}
 use Rattle.rv32_expand.proofs.InRangeOf.{frame_of}
-use Rattle.mem_map.specs.Run.{end_of}
+use Rattle.mem_map.specs.Starts.{end_of}
 use Rattle.mem_map.specs.Wanted.{IsServicePlace}
-use Rattle.mem_map.specs.Plan.{IsSmallPrologue, IsSmallTick, code_byte_count, symbol_bytes}
+use Rattle.mem_map.specs.Plan.{IsSmallPrologue, IsSmallTick, symbol_bytes}
+use Rattle.mem_map.specs.Starts.{code_byte_count}
 
 -- ---- sizes of items
 

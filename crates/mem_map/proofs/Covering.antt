@@ -24,8 +24,9 @@ use Rattle.rv32_expand.specs.InPlace.{IsItem}
 use Rattle.rv32_expand.specs.Sizes.{AreItemSizes, AgreeWithSizes, Covers, IsWordAddress, items_before}
 use Rattle.expansion_parts.proofs.Counts.{size_few, size_is}
 use Rattle.rv32_expand.proofs.InRangeOf.{frame_of}
-use Rattle.mem_map.specs.Run.{starts, end_of}
-use Rattle.mem_map.specs.Plan.{code_byte_count, symbol_bytes}
+use Rattle.mem_map.specs.Starts.{starts, end_of}
+use Rattle.mem_map.specs.Starts.{code_byte_count}
+use Rattle.mem_map.specs.Plan.{symbol_bytes}
 use Rattle.mem_map.proofs.Starts.{stands, next, starts_aligned, length_starts, end_above}
 
 -- ---- objects of services

@@ -2,7 +2,7 @@
 use Rattle.std.proofs.Common.{◌≡◌, ◌<◌, ◌+◌, ◌∙◌, ℕ, List, [], ◌∷◌, ◌++◌, length, get_or, drop, sym, ap, append_assoc}
 use Rattle.std.specs.Prelude.{map}
 use Rattle.std.proofs.lemmas.List.{drop_more}
-use Rattle.mem_map.specs.Run.{starts, end_of}
+use Rattle.mem_map.specs.Starts.{starts, end_of}
 
 -- one more of a mapped list
 pub one_mapped : {A : Type 0} (f : A → ℕ) (xs : List A) (i : ℕ) (d : A) (out more : List ℕ) (v : ℕ) → i < length xs → more ≡ out ++ v ∷ [] → v ≡ f (get_or xs i d)

@@ -13,3 +13,6 @@ pub mod Wanting
 pub mod OnePlan
 pub mod SmallLengths
 pub mod Growing
+pub mod Ends
+pub mod CodeBytes
+pub mod Marked

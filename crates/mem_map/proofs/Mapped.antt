@@ -9,9 +9,11 @@ use Rattle.sloth_region.specs.declared.map.Map.{Map}
 use Rattle.sloth_region.specs.Region.{AreApartWithin}
 use Rattle.sloth_base.specs.declared.places.Bounds.{Bounds}
 use Rattle.mem_map.specs.declared.all_lengths.CodeLengths.{CodeLengths}
-use Rattle.mem_map.specs.Run.{starts, end_of}
-use Rattle.mem_map.specs.Zones.{code_zone, data_zone, all_stacks, no_extent, HasZones}
-use Rattle.mem_map.specs.Plan.{MayPlan, HasAddresses, idle_at, prologues_at, tick_starts, services_at, items_at, code_end, code_byte_count, symbol_bytes}
+use Rattle.mem_map.specs.Starts.{starts, end_of}
+use Rattle.mem_map.specs.Zones.{code_zone, data_zone, all_stacks, HasZones}
+use Rattle.mem_map.specs.StackParts.{no_extent}
+use Rattle.mem_map.specs.Plan.{MayPlan, HasAddresses, idle_at, prologues_at, tick_starts, services_at, items_at, code_end, symbol_bytes}
+use Rattle.mem_map.specs.Starts.{code_byte_count}
 use Rattle.mem_map.proofs.Planned.{few_tasks, prologues_above, services_above, items_above, symbols_above, items_all_even, blocks_all_even}
 
 module _ (config : Config) (app : App) (lengths : CodeLengths) (bounds : Bounds) (offsets : List ℕ) (may : MayPlan config app lengths bounds offsets) (plan : Map) where

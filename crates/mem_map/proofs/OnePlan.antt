@@ -20,11 +20,15 @@ use Rattle.code_rules.specs.AppRange.{AppInRange}
 use Rattle.rv32_expand.proofs.Least.{sizes_are_one}
 use Rattle.mem_map.specs.declared.all_lengths.CodeLengths.{CodeLengths}
 use Rattle.mem_map.specs.Lengths.{AreLengths}
-use Rattle.mem_map.specs.Plan.{code_byte_count, code_end, data_end, idle_at, items_at, prologues_at, services_at, symbol_bytes, tick_starts}
+use Rattle.mem_map.specs.Starts.{code_byte_count}
+use Rattle.mem_map.specs.Plan.{code_end, data_end, idle_at, items_at, prologues_at, services_at, symbol_bytes, tick_starts}
 use Rattle.mem_map.specs.Planned.{IsPlanned}
-use Rattle.mem_map.specs.Run.{run, starts}
-use Rattle.mem_map.specs.Stacks.{lengths_before, stack_number}
-use Rattle.mem_map.specs.Zones.{all_stacks, code_zone, data_zone, no_extent}
+use Rattle.mem_map.specs.Run.{run}
+use Rattle.mem_map.specs.Starts.{starts}
+use Rattle.mem_map.specs.Stacks.{lengths_before}
+use Rattle.mem_map.specs.StackParts.{stack_number}
+use Rattle.mem_map.specs.Zones.{all_stacks, code_zone, data_zone}
+use Rattle.mem_map.specs.StackParts.{no_extent}
 
 -- two maps have the same addresses and extents
 pub record AreAlike (m n : Map) : Type 0 where

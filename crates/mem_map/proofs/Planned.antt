@@ -14,9 +14,11 @@ use Rattle.sloth_region.specs.declared.map.Map.{Map}
 use Rattle.sloth_region.specs.Region.{FollowWithin}
 use Rattle.std.proofs.lemmas.Bool.{cases_lt}
 use Rattle.sloth_base.specs.declared.places.Bounds.{Bounds}
-use Rattle.mem_map.specs.Run.{end_of, extents_of, starts, AreClose}
+use Rattle.mem_map.specs.Starts.{end_of, starts}
+use Rattle.mem_map.specs.Run.{extents_of, AreClose}
 use Rattle.mem_map.specs.declared.all_lengths.CodeLengths.{CodeLengths}
-use Rattle.mem_map.specs.Plan.{MayPlan, HasAddresses, IsInVectorReach, prologues_at, ticks_at, tick_starts, services_at, items_at, code_end, data_end, code_byte_count, symbol_bytes, some_extents, code_extents, data_extents}
+use Rattle.mem_map.specs.Plan.{MayPlan, HasAddresses, IsInVectorReach, prologues_at, ticks_at, tick_starts, services_at, items_at, code_end, data_end, symbol_bytes, some_extents, code_extents, data_extents}
+use Rattle.mem_map.specs.Starts.{code_byte_count}
 use Rattle.mem_map.proofs.Bounds.{sizes_few, before_all, items_end, prologues_end, ticks_end, symbols_end, services_end, IsSize}
 use Rattle.mem_map.proofs.Covering.{ArePlaced, code_bytes_aligned}
 use Rattle.mem_map.proofs.Starts.{stands, end_above, end_aligned, starts_aligned, length_starts, follow_from, extents_follow, extents_before, some_follow, extents_close, close_before, some_close}

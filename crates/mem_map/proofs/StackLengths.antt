@@ -8,7 +8,8 @@ use Rattle.sloth_base.specs.declared.config.TaskDecl.{TaskDecl}
 use Rattle.sloth_base.specs.declared.places.Bounds.{Bounds}
 use Rattle.stack_bounds.specs.Bounds.{bytes_of}
 use Rattle.mem_map.specs.Run.{room_for}
-use Rattle.mem_map.specs.Stacks.{is_extended, own_before, first_own, lengths_before, AreStackLengths}
+use Rattle.mem_map.specs.StackParts.{is_extended, own_before, first_own}
+use Rattle.mem_map.specs.Stacks.{lengths_before, AreStackLengths}
 use Rattle.mem_map.proofs.StackNumbers.{skipped, rises}
 
 room_more : (lengths : List ℕ) (len : ℕ) → room_for 16 (lengths ++ len ∷ []) ≡ room_for 16 lengths + 15 + len

@@ -5,9 +5,11 @@ use Rattle.std.proofs.lemmas.List.{drop_more}
 use Rattle.std.proofs.lemmas.List.Elements.{All-cons}
 use Rattle.sloth_region.specs.declared.extent.Extent.{Extent}
 use Rattle.sloth_region.specs.Region.{FollowWithin}
-pub use Rattle.image_pieces.proofs.Ends.{end_above}
-use Rattle.mem_map.specs.Run.{starts, end_of, extents_of, AreClose}
-use Rattle.mem_map.specs.Plan.{code_byte_count, some_extents}
+pub use Rattle.mem_map.proofs.Ends.{end_above}
+use Rattle.mem_map.specs.Starts.{starts, end_of}
+use Rattle.mem_map.specs.Run.{extents_of, AreClose}
+use Rattle.mem_map.specs.Starts.{code_byte_count}
+use Rattle.mem_map.specs.Plan.{some_extents}
 
 -- each piece has a start
 pub length_starts : (from : ℕ) (lengths : List ℕ) → length (starts from lengths) ≡ length lengths

@@ -5,3 +5,6 @@ pub mod Plan
 pub mod Wanted
 pub mod Lengths
 pub mod Planned
+pub mod Starts
+pub mod StackParts
+pub mod Sections

@@ -13,11 +13,12 @@ use Rattle.sloth_region.specs.declared.extent.Extent.{Extent}
 use Rattle.sloth_region.specs.declared.map.Map.{Map}
 use Rattle.sloth_region.specs.Region.{aligned}
 use Rattle.code_rules.specs.AppRange.{AppInRange}
-pub use Rattle.image_pieces.specs.Starts.{code_byte_count}
+use Rattle.mem_map.specs.Starts.{code_byte_count}
 use Rattle.rv32_expand.specs.Sizes.{AreItemSizes}
 use Rattle.stack_bounds.specs.Bounds.{AreBounds, AreParts}
 use Rattle.mem_map.specs.declared.all_lengths.CodeLengths.{CodeLengths}
-use Rattle.mem_map.specs.Run.{starts, end_of, extents_of}
+use Rattle.mem_map.specs.Starts.{starts, end_of}
+use Rattle.mem_map.specs.Run.{extents_of}
 use Rattle.mem_map.specs.Zones.{code_zone, data_zone}
 
 -- ---- bytes of each piece

@@ -11,7 +11,8 @@ use Rattle.rv32_expand.specs.Sizes.{AgreeWithSizes, Covers}
 use Rattle.mem_map.specs.declared.all_lengths.CodeLengths.{CodeLengths}
 use Rattle.mem_map.specs.Lengths.{AreLengths}
 use Rattle.mem_map.specs.Plan.{HasAddresses, IsInVectorReach, code_end, code_extents, data_end, data_extents, symbol_bytes}
-use Rattle.mem_map.specs.Run.{AreClose, end_of}
+use Rattle.mem_map.specs.Run.{AreClose}
+use Rattle.mem_map.specs.Starts.{end_of}
 use Rattle.mem_map.specs.Stacks.{HasStacks}
 use Rattle.mem_map.specs.Zones.{HasZones}
 

@@ -5,7 +5,7 @@ use Rattle.sloth_base.specs.MemoryMap.{memory_end}
 use Rattle.sloth_region.specs.declared.extent.Extent.{Extent}
 use Rattle.sloth_region.specs.declared.map.Map.{Map}
 use Rattle.sloth_region.specs.Region.{AreApartWithin}
-pub use Rattle.image_pieces.specs.StackParts.{no_extent}
+use Rattle.mem_map.specs.StackParts.{no_extent}
 
 -- the zone of code, which is the second extent
 abbrev pub code_zone : Map → Extent

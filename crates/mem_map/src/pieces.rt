@@ -1,6 +1,6 @@
 //! Addresses of pieces, each right behind the one before it.
 ghost use Rattle.std.specs.Prelude.{◌≡◌, ◌<◌, IfOk};
-ghost use Rattle.mem_map.specs.Run.{starts, end_of};
+ghost use Rattle.mem_map.specs.Starts.{starts, end_of};
 
 use sloth_base::list::List;
 use std::alloc::{AllocError, Global};

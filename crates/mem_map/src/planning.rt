@@ -2,19 +2,20 @@
 ghost use Rattle.std.specs.Prelude.{ℕ, ◌≡◌, ◌≤◌, ◌<◌, ◌⊎◌, IfOk, All, length, map, get_or, slice_index, take};
 ghost use Rattle.code_rules.specs.WellFormed.{WellFormed};
 ghost use Rattle.stack_bounds.specs.Bounds.{AreBounds};
-ghost use Rattle.mem_map.specs.Run.{starts, end_of};
+ghost use Rattle.mem_map.specs.Starts.{starts, end_of};
 ghost use Rattle.mem_map.specs.Zones.{HasZones};
 ghost use Rattle.mem_map.specs.Stacks.{HasStacks};
-ghost use Rattle.mem_map.specs.Plan.{MayPlan, HasAddresses, idle_at, prologues_at, ticks_at, tick_starts, services_at, items_at, code_end, code_byte_count, symbol_bytes};
+ghost use Rattle.mem_map.specs.Plan.{MayPlan, HasAddresses, idle_at, prologues_at, ticks_at, tick_starts, services_at, items_at, code_end, symbol_bytes};
+ghost use Rattle.mem_map.specs.Starts.{code_byte_count};
 ghost use Rattle.sloth_base.specs.Owners.{first_counter_line, counter_line};
 ghost use Rattle.mem_map.specs.Planned.{IsPlanned};
 
+use crate::addresses::{handlers, place_services};
 use crate::all_lengths::{CodeLengths, all_lengths};
 use crate::lengths::{code_in_bytes, item_counts, symbol_lengths};
 use crate::pieces::{Pieces, place_pieces};
 use crate::stacks::{stack_lengths, task_parts};
 use crate::zones::plan_zones;
-use image_pieces::{handlers, place_services};
 use sloth_base::app::App;
 use sloth_base::config::Config;
 use sloth_base::list::List;

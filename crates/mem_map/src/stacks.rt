@@ -1,9 +1,10 @@
 //! The stacks of the tasks: how long each is, which of them a task has, and where its part of it ends.
 ghost use Rattle.std.specs.Prelude.{ℕ, ◌≡◌, ◌<◌, ◌≤◌, IfOk, length};
 ghost use Rattle.stack_bounds.specs.Bounds.{bytes_of};
-ghost use Rattle.mem_map.specs.Stacks.{first_own, AreStackLengths, HasStack, AreStacksBefore};
+ghost use Rattle.mem_map.specs.StackParts.{first_own, HasStack};
+ghost use Rattle.mem_map.specs.Stacks.{AreStackLengths, AreStacksBefore};
 
-use image_pieces::{first_own, part_of};
+use crate::stack_parts::{first_own, part_of};
 use sloth_base::config::TaskDecl;
 use sloth_base::list::List;
 use sloth_base::places::Bounds;

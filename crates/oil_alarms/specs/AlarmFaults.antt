@@ -8,14 +8,14 @@ use Rattle.oil_parse.specs.declared.tree.OilValue.{OilValue}
 use Rattle.oil_parse.specs.declared.tree.OilValue.TheVariants.{Word}
 use Rattle.oil_parse.specs.declared.tree.OilAttr.{OilAttr}
 use Rattle.oil_parse.specs.declared.tree.OilObject.{OilObject}
-use Rattle.oil_rules.specs.declared.table.Place.{Place}
-use Rattle.oil_rules.specs.declared.table.Place.TheVariants as place
-use Rattle.oil_rules.specs.declared.table.Attribute.{Attribute}
-use Rattle.oil_rules.specs.Cases.{Case}
-use Rattle.oil_rules.specs.Table.{attribute_of, is_single, is_word, block_place}
-use Rattle.oil_rules.specs.Objects.{is_of_kind, is_use}
-use Rattle.alarm_limits.specs.declared.limits.Limits.{Limits}
-use Rattle.alarm_limits.specs.Beyond.{is_beyond}
+use Rattle.oil_table.specs.declared.table.Place.{Place}
+use Rattle.oil_table.specs.declared.table.Place.TheVariants as place
+use Rattle.oil_table.specs.declared.table.Attribute.{Attribute}
+use Rattle.oil_table.specs.Cases.{Case}
+use Rattle.oil_table.specs.Table.{attribute_of, is_single, is_word, block_place}
+use Rattle.oil_table.specs.Objects.{is_of_kind, is_use}
+use Rattle.oil_table.specs.declared.alarm_limits.Limits.{Limits}
+use Rattle.oil_table.specs.Beyond.{is_beyond}
 use Rattle.oil_alarms.specs.Limits.{object_named, limits_of}
 use Rattle.oil_alarms.specs.Blocks.{BlockText, blocks_of, first_block, is_inner_use, is_used_in, first_in}
 

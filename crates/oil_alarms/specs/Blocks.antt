@@ -5,7 +5,7 @@ use Rattle.std.specs.Str.{bytes_eq}
 use Rattle.oil_parse.specs.declared.tree.OilAttr.{OilAttr}
 use Rattle.std.specs.Borrow.{Bor}
 use Rattle.indexmap.specs.IndexSet.{IndexSet}
-use Rattle.oil_rules.specs.Objects.{is_use, number_given}
+use Rattle.oil_table.specs.Objects.{is_use, number_given}
 
 -- an attribute of a block behind another attribute's value
 abbrev pub is_inner : OilAttr → Bool

@@ -4,9 +4,9 @@ use Rattle.oil_parse.specs.declared.tree.OilValue.{OilValue}
 use Rattle.oil_parse.specs.declared.tree.OilValue.TheVariants.{Word}
 use Rattle.oil_parse.specs.declared.tree.OilAttr.{OilAttr}
 use Rattle.oil_parse.specs.declared.tree.OilObject.{OilObject}
-use Rattle.oil_rules.specs.Table.{greatest_value}
-use Rattle.oil_rules.specs.Objects.{is_use, is_declaration, first_number}
-use Rattle.alarm_limits.specs.declared.limits.Limits.{Limits}
+use Rattle.oil_table.specs.Table.{greatest_value}
+use Rattle.oil_table.specs.Objects.{is_use, is_declaration, first_number}
+use Rattle.oil_table.specs.declared.alarm_limits.Limits.{Limits}
 
 -- the first object of this kind that a value names
 abbrev pub object_of_value : List OilObject → List ℕ → OilValue → Option OilObject

@@ -6,7 +6,7 @@ ghost use Rattle.oil_alarms.specs.AlarmFaults.{lacks_inner, place_behind, lacks_
 use crate::blocks::{first_block, first_in, is_inner_use, is_used_in};
 use crate::limits::object_named;
 use oil_parse::tree::{OilAttr, OilObject, OilValue};
-use oil_rules::{Place, block_place, first_use, is_use, is_word};
+use oil_table::{Place, block_place, first_use, is_use, is_word};
 
 fn lacks_inner(place: Place, inner: &[OilAttr]) -> bool
     ensures { result ≡ lacks_inner place inner.now }

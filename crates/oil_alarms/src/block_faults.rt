@@ -7,11 +7,10 @@ ghost use Rattle.oil_alarms.specs.AlarmFaults.{is_second_in, InsideFault, BlockF
 
 use crate::alarm_faults::is_unlisted;
 use crate::blocks::Block;
-use alarm_limits::{Limits, is_beyond};
 use indexmap::IndexSet;
 use least_fault::{merge, when};
 use oil_parse::tree::{OilAttr, OilObject};
-use oil_rules::{Attribute, Place, attribute_of, block_place, is_single};
+use oil_table::{Attribute, Limits, Place, attribute_of, block_place, is_beyond, is_single};
 use sloth_base::memory::NoMemory;
 use sloth_base::refusal::{Code, Part, Refusal};
 use std::alloc::Global;

@@ -4,7 +4,7 @@ ghost use Rattle.std.specs.List.{take_while, prefix_len};
 ghost use Rattle.oil_alarms.specs.Blocks.{is_inner, blocks_of, first_block, is_inner_use, is_used_in, first_in, number_in};
 
 use oil_parse::tree::OilAttr;
-use oil_rules::{is_use, number_of};
+use oil_table::{is_use, number_of};
 use sloth_base::memory::NoMemory;
 use std::alloc::Global;
 use std::marker::Model;

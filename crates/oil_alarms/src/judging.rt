@@ -11,7 +11,7 @@ use crate::blocks::blocks_of;
 use crate::limits::limits_of;
 use least_fault::{merge, when};
 use oil_parse::tree::OilObject;
-use oil_rules::is_of_kind;
+use oil_table::is_of_kind;
 use sloth_base::memory::NoMemory;
 use sloth_base::refusal::{Code, Part, Refusal};
 use std::alloc::Global;

@@ -1,11 +1,10 @@
 //! The limits of an alarm's counter.
 ghost use Rattle.std.specs.Prelude.{◌≡◌, find, option_copied};
-ghost use Rattle.oil_rules.specs.Objects.{is_declaration};
+ghost use Rattle.oil_table.specs.Objects.{is_declaration};
 ghost use Rattle.oil_alarms.specs.Limits.{object_of_value, object_named, limit_by, limits_given, limits_of};
 
-use alarm_limits::Limits;
 use oil_parse::tree::{OilAttr, OilObject, OilValue};
-use oil_rules::{GREATEST_VALUE, declares, first_number, first_use};
+use oil_table::{GREATEST_VALUE, Limits, declares, first_number, first_use};
 
 fn first_declared<'t>(objects: &'t [OilObject], kind: &[u8], word: &[u8]) -> Option<&'t OilObject>
     ensures { option_copied result ≡ find (is_declaration kind.now word.now) objects.now }

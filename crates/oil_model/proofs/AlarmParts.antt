@@ -12,16 +12,16 @@ use Rattle.least_fault.proofs.Nowhere.{nowhere, case_false}
 use Rattle.oil_parse.specs.declared.tree.OilAttr.{OilAttr}
 use Rattle.oil_parse.specs.declared.tree.OilObject.{OilObject}
 use Rattle.oil_parse.specs.declared.tree.OilTree.{OilTree}
-use Rattle.oil_rules.specs.declared.table.Attribute.{Attribute}
-use Rattle.oil_rules.specs.declared.table.Place.{Place}
-use Rattle.oil_rules.specs.declared.table.Place.TheVariants as place
-use Rattle.oil_rules.specs.Table.{place_of, attribute_of, is_allowed, block_place}
-use Rattle.oil_rules.specs.Objects.{is_of_kind, is_use, has_scheduler}
+use Rattle.oil_table.specs.declared.table.Attribute.{Attribute}
+use Rattle.oil_table.specs.declared.table.Place.{Place}
+use Rattle.oil_table.specs.declared.table.Place.TheVariants as place
+use Rattle.oil_table.specs.Table.{place_of, attribute_of, is_allowed, block_place}
+use Rattle.oil_table.specs.Objects.{is_of_kind, is_use, has_scheduler}
 use Rattle.oil_rules.specs.AttributeFaults.{inner_place, misses_value, refers_to_none, is_refused, RowFault}
-use Rattle.alarm_limits.specs.declared.limits.Limits.{Limits}
+use Rattle.oil_table.specs.declared.alarm_limits.Limits.{Limits}
 use Rattle.oil_alarms.specs.Limits.{limits_of}
 use Rattle.oil_alarms.specs.Blocks.{BlockText, blocks_of, first_block, is_inner_use, is_used_in}
-use Rattle.alarm_limits.specs.Beyond.{is_beyond}
+use Rattle.oil_table.specs.Beyond.{is_beyond}
 use Rattle.oil_alarms.specs.AlarmFaults.{lacks_part, is_unlisted, InsideFault, BlockFault}
 use Rattle.oil_alarms.specs.ModelFaults.{ModelFault}
 use Rattle.oil_model.proofs.NoFaults.{part_at}

@@ -9,10 +9,10 @@ use Rattle.least_fault.specs.Order.{NoFault}
 use Rattle.oil_parse.specs.declared.tree.OilAttr.{OilAttr}
 use Rattle.oil_parse.specs.declared.tree.OilObject.{OilObject}
 use Rattle.oil_parse.specs.declared.tree.OilTree.{OilTree}
-use Rattle.oil_rules.specs.declared.table.Attribute.{Attribute}
-use Rattle.oil_rules.specs.declared.table.Place.TheVariants.{Nowhere}
-use Rattle.oil_rules.specs.Table.{place_of, attribute_of, is_allowed}
-use Rattle.oil_rules.specs.Objects.{is_of_kind, is_use, has_scheduler}
+use Rattle.oil_table.specs.declared.table.Attribute.{Attribute}
+use Rattle.oil_table.specs.declared.table.Place.TheVariants.{Nowhere}
+use Rattle.oil_table.specs.Table.{place_of, attribute_of, is_allowed}
+use Rattle.oil_table.specs.Objects.{is_of_kind, is_use, has_scheduler}
 use Rattle.oil_rules.specs.AttributeFaults.{inner_place, place_at, misses_value, refers_to_none, is_refused, AttributeFault, RowFault}
 use Rattle.oil_alarms.specs.ModelFaults.{ModelFault}
 use Rattle.least_fault.proofs.Nowhere.{nowhere, case_false}

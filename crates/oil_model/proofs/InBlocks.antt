@@ -6,9 +6,9 @@ use Rattle.std.specs.Str.{bytes_eq}
 use Rattle.std.proofs.lemmas.Bool.{and_parts}
 use Rattle.std.proofs.lemmas.List.Sums.{take_while-cons}
 use Rattle.oil_parse.specs.declared.tree.OilAttr.{OilAttr}
-use Rattle.oil_rules.specs.declared.table.Place.{Place}
-use Rattle.oil_rules.specs.Table.{block_place}
-use Rattle.oil_rules.specs.Objects.{is_use}
+use Rattle.oil_table.specs.declared.table.Place.{Place}
+use Rattle.oil_table.specs.Table.{block_place}
+use Rattle.oil_table.specs.Objects.{is_use}
 use Rattle.oil_rules.specs.AttributeFaults.{opened_place}
 use Rattle.oil_alarms.specs.Blocks.{is_inner, BlockText, blocks_of, first_block}
 

@@ -13,9 +13,9 @@ use Rattle.oil_parse.specs.declared.tree.OilValue.TheVariants.{Word, Number, Tex
 use Rattle.oil_parse.specs.declared.tree.OilAttr.{OilAttr}
 use Rattle.oil_parse.specs.declared.tree.OilObject.{OilObject}
 use Rattle.oil_parse.specs.declared.tree.OilTree.{OilTree}
-use Rattle.oil_rules.specs.declared.table.Attribute.TheVariants.{Limit}
-use Rattle.oil_rules.specs.Table.{attribute_of, place_of, is_allowed, greatest_value}
-use Rattle.oil_rules.specs.Objects.{is_of_kind, is_use, is_used, first_number, number_of, number_given}
+use Rattle.oil_table.specs.declared.table.Attribute.TheVariants.{Limit}
+use Rattle.oil_table.specs.Table.{attribute_of, place_of, is_allowed, greatest_value}
+use Rattle.oil_table.specs.Objects.{is_of_kind, is_use, is_used, first_number, number_of, number_given}
 use Rattle.oil_rules.specs.ObjectFaults.{lacks_attribute}
 use Rattle.oil_alarms.specs.Limits.{limit_by}
 use Rattle.oil_alarms.specs.ModelFaults.{ModelFault}

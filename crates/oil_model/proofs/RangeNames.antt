@@ -12,7 +12,7 @@ use Rattle.sloth_base.specs.declared.refusal.Code.TheVariants.{O9}
 use Rattle.least_fault.specs.Order.{NoFault}
 use Rattle.oil_parse.specs.declared.tree.OilObject.{OilObject}
 use Rattle.oil_parse.specs.declared.tree.OilTree.{OilTree}
-use Rattle.oil_rules.specs.Objects.{is_of_kind, has_scheduler}
+use Rattle.oil_table.specs.Objects.{is_of_kind, has_scheduler}
 use Rattle.oil_rules.specs.ObjectFaults.{is_double_of, shares_name, is_doubled, is_clock_above, comes_behind}
 use Rattle.oil_alarms.specs.ModelFaults.{ModelFault}
 use Rattle.text_pieces.proofs.Tests.{none_pass, All-kept}

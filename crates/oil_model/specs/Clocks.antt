@@ -10,9 +10,9 @@ use Rattle.oil_parse.specs.declared.tree.OilValue.{OilValue}
 use Rattle.oil_parse.specs.declared.tree.OilValue.TheVariants.{Word}
 use Rattle.oil_parse.specs.declared.tree.OilAttr.{OilAttr}
 use Rattle.oil_parse.specs.declared.tree.OilObject.{OilObject}
-use Rattle.oil_rules.specs.Table.{greatest_value}
-use Rattle.oil_rules.specs.Objects.{is_of_kind, is_use, first_is, first_number}
-use Rattle.event_masks.specs.Masks.{mask_of_value}
+use Rattle.oil_table.specs.Table.{greatest_value}
+use Rattle.oil_table.specs.Objects.{is_of_kind, is_use, first_is, first_number}
+use Rattle.oil_events.specs.Masks.{mask_of_value}
 use Rattle.oil_alarms.specs.Blocks.{first_block, first_in, number_in}
 
 -- the counter that an object declares

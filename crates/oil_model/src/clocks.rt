@@ -1,14 +1,12 @@
 //! The counters and alarms of a tree that has no fault.
 ghost use Rattle.std.specs.Prelude.{◌≡◌, ◌≤◌, [], ◌∷◌, ◌++◌, IfOk, OnOk, codes, length, option_copied};
-ghost use Rattle.oil_rules.specs.Objects.{names_of};
+ghost use Rattle.oil_table.specs.Objects.{names_of};
 ghost use Rattle.oil_model.specs.Clocks.{declared_counter, counters_of, number_of_value, number_named, mask_named_by, action_of, started, declared_alarm, alarms_of};
 
-use event_masks::mask_of_value;
 use oil_alarms::{first_block, first_in, number_in};
+use oil_events::{EventTable, mask_of_value};
 use oil_parse::tree::{OilAttr, OilObject, OilValue};
-use oil_rules::{
-    EventTable, GREATEST_VALUE, first_is, first_number, first_use, is_of_kind, names_of,
-};
+use oil_table::{GREATEST_VALUE, first_is, first_number, first_use, is_of_kind, names_of};
 use sloth_base::config::{Action, AlarmDecl, CounterDecl};
 use sloth_base::memory::NoMemory;
 use sloth_base::name::Name;

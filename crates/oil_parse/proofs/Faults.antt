@@ -5,17 +5,17 @@ use Rattle.sloth_base.specs.declared.refusal.Refusal.{Refusal}
 use Rattle.sloth_base.specs.declared.refusal.Part.TheVariants.{Oil}
 use Rattle.sloth_base.specs.declared.refusal.Code.TheVariants as code
 use Rattle.oil_lex.specs.Tokens.{Lexeme}
-use Rattle.grammar_machine.specs.declared.machine.Key.TheVariants.{Cpu}
-use Rattle.grammar_machine.specs.declared.machine.Shape.{Shape}
-use Rattle.grammar_machine.specs.declared.machine.Shape.TheVariants.{Word, Number, Text, Open, Close, Equals, Semicolon, Colon}
-use Rattle.grammar_machine.specs.declared.machine.Construct.TheVariants.{Object, Attr, File}
-use Rattle.grammar_machine.specs.declared.machine.Expect.{Expect}
-use Rattle.grammar_machine.specs.declared.machine.Expect.TheVariants.{Start, Ending, Describing, Closing, CpuName, CpuOpen, Objects, ObjectName, ObjectTail, Attrs, AttrIs, AttrValue, AttrTail, Done}
-use Rattle.grammar_machine.specs.Shapes.{shape}
+use Rattle.oil_parse.specs.declared.machine.Key.TheVariants.{Cpu}
+use Rattle.oil_parse.specs.declared.machine.Shape.{Shape}
+use Rattle.oil_parse.specs.declared.machine.Shape.TheVariants.{Word, Number, Text, Open, Close, Equals, Semicolon, Colon}
+use Rattle.oil_parse.specs.declared.machine.Construct.TheVariants.{Object, Attr, File}
+use Rattle.oil_parse.specs.declared.machine.Expect.{Expect}
+use Rattle.oil_parse.specs.declared.machine.Expect.TheVariants.{Start, Ending, Describing, Closing, CpuName, CpuOpen, Objects, ObjectName, ObjectTail, Attrs, AttrIs, AttrValue, AttrTail, Done}
+use Rattle.oil_parse.specs.Shapes.{shape}
 use Rattle.oil_parse.specs.declared.tree.OilTree.{OilTree}
 use Rattle.oil_parse.specs.Grammar.{IsSection, IsHead, IsFile, file}
 use Rattle.oil_parse.specs.Faults.{IsViable, InCpu, IsTooBig, last_line, EndFault, GrammarFault}
-use Rattle.grammar_machine.specs.Steps.{next, closed_construct}
+use Rattle.oil_parse.specs.Steps.{next, closed_construct}
 use Rattle.oil_parse.specs.Machine.{nothing_built}
 use Rattle.oil_parse.proofs.Steps.{step, TooBig, MachineFault}
 use Rattle.oil_parse.proofs.Steps.{none_done, step_append, step_none}

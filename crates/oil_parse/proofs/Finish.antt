@@ -2,12 +2,12 @@
 use Rattle.std.proofs.Common.{◌≡◌, ℕ, List, [], ◌∷◌, Some, refl, suc, zero}
 use Rattle.oil_lex.specs.Tokens.{Lexeme}
 use Rattle.oil_lex.specs.declared.kinds.TokenKind.TheVariants as token
-use Rattle.grammar_machine.specs.declared.machine.Construct.{Construct}
-use Rattle.grammar_machine.specs.declared.machine.Construct.TheVariants.{Head, Section, Object, Attr, File}
-use Rattle.grammar_machine.specs.declared.machine.Expect.{Expect}
-use Rattle.grammar_machine.specs.declared.machine.Expect.TheVariants.{Start, VersionIs, VersionText, Ending, Describing, Closing, Body, SectionName, SectionOpen, Inside, CpuWord, CpuName, CpuOpen, Objects, ObjectName, ObjectTail, Attrs, AttrIs, AttrValue, AttrTail, Done}
-use Rattle.grammar_machine.specs.Shapes.{shape_by, sign_of, key_of, version_word, cpu_word}
-use Rattle.grammar_machine.specs.Steps.{next, behind}
+use Rattle.oil_parse.specs.declared.machine.Construct.{Construct}
+use Rattle.oil_parse.specs.declared.machine.Construct.TheVariants.{Head, Section, Object, Attr, File}
+use Rattle.oil_parse.specs.declared.machine.Expect.{Expect}
+use Rattle.oil_parse.specs.declared.machine.Expect.TheVariants.{Start, VersionIs, VersionText, Ending, Describing, Closing, Body, SectionName, SectionOpen, Inside, CpuWord, CpuName, CpuOpen, Objects, ObjectName, ObjectTail, Attrs, AttrIs, AttrValue, AttrTail, Done}
+use Rattle.oil_parse.specs.Shapes.{shape_by, sign_of, key_of, version_word, cpu_word}
+use Rattle.oil_parse.specs.Steps.{next, behind}
 use Rattle.oil_parse.proofs.Steps.{step}
 
 abbrev sign : ℕ → Lexeme

@@ -6,11 +6,11 @@ use Rattle.sloth_base.specs.declared.refusal.Code.TheVariants as code
 use Rattle.least_fault.specs.Order.{NoFault}
 use Rattle.oil_lex.specs.Tokens.{Lexeme, TextFault}
 use Rattle.oil_lex.proofs.Cuts.{text_judged, tokens_some}
-use Rattle.grammar_machine.specs.declared.machine.Expect.{Expect}
-use Rattle.grammar_machine.specs.declared.machine.Expect.TheVariants.{Start, Done}
+use Rattle.oil_parse.specs.declared.machine.Expect.{Expect}
+use Rattle.oil_parse.specs.declared.machine.Expect.TheVariants.{Start, Done}
 use Rattle.oil_parse.specs.declared.tree.OilTree.{OilTree}
-use Rattle.grammar_machine.specs.Shapes.{shape}
-use Rattle.grammar_machine.specs.Steps.{next}
+use Rattle.oil_parse.specs.Shapes.{shape}
+use Rattle.oil_parse.specs.Steps.{next}
 use Rattle.oil_parse.specs.Machine.{too_big}
 use Rattle.oil_parse.specs.Text.{HasTree, BreaksGrammar}
 use Rattle.oil_parse.proofs.Steps.{step, TooBig, MachineFault}

@@ -15,20 +15,20 @@ use Rattle.oil_lex.specs.declared.kinds.TokenKind.{TokenKind}
 use Rattle.oil_lex.specs.declared.kinds.TokenKind.TheVariants as token
 use Rattle.oil_lex.specs.declared.kinds.Token.{Token}
 use Rattle.oil_lex.specs.Tokens.{Lexeme, lexeme}
-use Rattle.grammar_machine.specs.declared.machine.Key.TheVariants.{Version, Cpu}
-use Rattle.grammar_machine.specs.declared.machine.Shape.{Shape}
-use Rattle.grammar_machine.specs.declared.machine.Shape.TheVariants.{Word, Number, Text, Open, Close, Equals, Semicolon}
-use Rattle.grammar_machine.specs.declared.machine.Construct.{Construct}
-use Rattle.grammar_machine.specs.declared.machine.Construct.TheVariants.{Head, Section, Object, Attr, File}
-use Rattle.grammar_machine.specs.declared.machine.Expect.{Expect}
-use Rattle.grammar_machine.specs.declared.machine.Expect.TheVariants.{Start, VersionIs, VersionText, Ending, Describing, Closing, Body, SectionName, SectionOpen, Inside, CpuWord, CpuName, CpuOpen, Objects, ObjectName, ObjectTail, Attrs, AttrIs, AttrValue, AttrTail, Done}
-use Rattle.grammar_machine.specs.Shapes.{shape}
+use Rattle.oil_parse.specs.declared.machine.Key.TheVariants.{Version, Cpu}
+use Rattle.oil_parse.specs.declared.machine.Shape.{Shape}
+use Rattle.oil_parse.specs.declared.machine.Shape.TheVariants.{Word, Number, Text, Open, Close, Equals, Semicolon}
+use Rattle.oil_parse.specs.declared.machine.Construct.{Construct}
+use Rattle.oil_parse.specs.declared.machine.Construct.TheVariants.{Head, Section, Object, Attr, File}
+use Rattle.oil_parse.specs.declared.machine.Expect.{Expect}
+use Rattle.oil_parse.specs.declared.machine.Expect.TheVariants.{Start, VersionIs, VersionText, Ending, Describing, Closing, Body, SectionName, SectionOpen, Inside, CpuWord, CpuName, CpuOpen, Objects, ObjectName, ObjectTail, Attrs, AttrIs, AttrValue, AttrTail, Done}
+use Rattle.oil_parse.specs.Shapes.{shape}
 use Rattle.oil_parse.specs.declared.parser.Parser.{Parser}
-use Rattle.grammar_machine.specs.Shapes.{shape_by}
+use Rattle.oil_parse.specs.Shapes.{shape_by}
 use Rattle.oil_parse.specs.declared.tree.OilTree.{OilTree}
 use Rattle.oil_parse.specs.Grammar.{IsFile}
 use Rattle.oil_parse.specs.Faults.{GrammarFault}
-use Rattle.grammar_machine.specs.Steps.{next, expectation_behind, behind}
+use Rattle.oil_parse.specs.Steps.{next, expectation_behind, behind}
 use Rattle.oil_parse.specs.Machine.{partial_tree_after, PartialTree, nothing_built, too_big, TakesFit}
 use Rattle.oil_parse.proofs.Steps.{step, build, TooBig, MachineFault}
 use Rattle.oil_parse.specs.Parser.{draft, Moved, StopsWith}

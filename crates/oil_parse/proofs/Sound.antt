@@ -4,18 +4,18 @@ use Rattle.std.proofs.lemmas.Bool.{ltb-true}
 use Rattle.std.proofs.lemmas.List.{append-nil}
 use Rattle.oil_lex.specs.Tokens.{Lexeme}
 use Rattle.oil_parse.specs.declared.tree.OilAttr.{OilAttr}
-use Rattle.grammar_machine.specs.declared.machine.Key.TheVariants.{Version, Implementation, Cpu}
-use Rattle.grammar_machine.specs.declared.machine.Shape.{Shape}
-use Rattle.grammar_machine.specs.declared.machine.Shape.TheVariants.{Word, Number, Text, Open, Close, Equals, Semicolon, Colon}
-use Rattle.grammar_machine.specs.declared.machine.Construct.{Construct}
-use Rattle.grammar_machine.specs.declared.machine.Construct.TheVariants.{Head, Section, Object, Attr, File}
-use Rattle.grammar_machine.specs.declared.machine.Expect.{Expect}
-use Rattle.grammar_machine.specs.declared.machine.Expect.TheVariants.{Start, VersionIs, VersionText, Ending, Describing, Closing, Body, SectionName, SectionOpen, Inside, CpuWord, CpuName, CpuOpen, Objects, ObjectName, ObjectTail, Attrs, AttrIs, AttrValue, AttrTail, Done}
-use Rattle.grammar_machine.specs.Shapes.{shape, IsWordToken}
+use Rattle.oil_parse.specs.declared.machine.Key.TheVariants.{Version, Implementation, Cpu}
+use Rattle.oil_parse.specs.declared.machine.Shape.{Shape}
+use Rattle.oil_parse.specs.declared.machine.Shape.TheVariants.{Word, Number, Text, Open, Close, Equals, Semicolon, Colon}
+use Rattle.oil_parse.specs.declared.machine.Construct.{Construct}
+use Rattle.oil_parse.specs.declared.machine.Construct.TheVariants.{Head, Section, Object, Attr, File}
+use Rattle.oil_parse.specs.declared.machine.Expect.{Expect}
+use Rattle.oil_parse.specs.declared.machine.Expect.TheVariants.{Start, VersionIs, VersionText, Ending, Describing, Closing, Body, SectionName, SectionOpen, Inside, CpuWord, CpuName, CpuOpen, Objects, ObjectName, ObjectTail, Attrs, AttrIs, AttrValue, AttrTail, Done}
+use Rattle.oil_parse.specs.Shapes.{shape, IsWordToken}
 use Rattle.oil_parse.specs.declared.tree.OilObject.{OilObject}
 use Rattle.oil_parse.specs.declared.tree.OilTree.{OilTree}
 use Rattle.oil_parse.specs.Grammar.{IsValue, IsEnd, bare, described, IsAttrs, no_attr, attr, block, attr_of, IsObject, plain_object, block_object, IsObjects, no_object, object, IsBalanced, no_token, token_in, braces, IsSection, no_section, section, head, IsFile, file}
-use Rattle.grammar_machine.specs.Steps.{next, behind, closed_construct, expectation_behind}
+use Rattle.oil_parse.specs.Steps.{next, behind, closed_construct, expectation_behind}
 use Rattle.oil_parse.proofs.Steps.{step}
 use Rattle.oil_parse.proofs.Steps.{none_done}
 

@@ -4,12 +4,12 @@ use Rattle.sloth_base.specs.declared.refusal.Part.TheVariants.{Oil}
 use Rattle.sloth_base.specs.declared.refusal.Code.TheVariants as code
 use Rattle.sloth_base.specs.declared.refusal.Refusal.{Refusal}
 use Rattle.oil_lex.specs.Tokens.{Lexeme}
-use Rattle.grammar_machine.specs.declared.machine.Shape.{Shape}
-use Rattle.grammar_machine.specs.declared.machine.Shape.TheVariants.{Number}
-use Rattle.grammar_machine.specs.declared.machine.Expect.{Expect}
-use Rattle.grammar_machine.specs.declared.machine.Expect.TheVariants.{AttrValue, Done}
-use Rattle.grammar_machine.specs.Shapes.{shape}
-use Rattle.grammar_machine.specs.Steps.{next}
+use Rattle.oil_parse.specs.declared.machine.Shape.{Shape}
+use Rattle.oil_parse.specs.declared.machine.Shape.TheVariants.{Number}
+use Rattle.oil_parse.specs.declared.machine.Expect.{Expect}
+use Rattle.oil_parse.specs.declared.machine.Expect.TheVariants.{AttrValue, Done}
+use Rattle.oil_parse.specs.Shapes.{shape}
+use Rattle.oil_parse.specs.Steps.{next}
 use Rattle.oil_parse.specs.Machine.{partial_tree_after, PartialTree}
 
 -- what is to come behind these tokens

@@ -8,12 +8,12 @@ use Rattle.oil_lex.specs.declared.kinds.TokenKind.{TokenKind}
 use Rattle.oil_lex.specs.declared.kinds.TokenKind.TheVariants as token
 use Rattle.oil_lex.specs.Tokens.{Lexeme}
 use Rattle.oil_lex.proofs.Words.{Spelled, tokens_spelled}
-use Rattle.grammar_machine.specs.declared.machine.Key.{Key}
-use Rattle.grammar_machine.specs.declared.machine.Shape.TheVariants.{Word, Open, Close, Equals, Semicolon, Colon, Other}
+use Rattle.oil_parse.specs.declared.machine.Key.{Key}
+use Rattle.oil_parse.specs.declared.machine.Shape.TheVariants.{Word, Open, Close, Equals, Semicolon, Colon, Other}
 use Rattle.oil_parse.specs.declared.tree.OilAttr.{OilAttr}
 use Rattle.oil_parse.specs.declared.tree.OilObject.{OilObject}
 use Rattle.oil_parse.specs.declared.tree.OilTree.{OilTree}
-use Rattle.grammar_machine.specs.Shapes.{shape_by, sign_of, IsWordToken}
+use Rattle.oil_parse.specs.Shapes.{shape_by, sign_of, IsWordToken}
 use Rattle.oil_parse.specs.Grammar.{value_by, attr_of, IsAttrs, no_attr, attr, block, IsObject, plain_object, block_object, IsObjects, no_object, object, IsFile, file}
 use Rattle.oil_parse.specs.Text.{HasTree}
 use Rattle.oil_parse.specs.Words.{IsValueOfWord, IsAttrOfWords, IsObjectOfWords}

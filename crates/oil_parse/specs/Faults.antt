@@ -4,11 +4,11 @@ use Rattle.sloth_base.specs.declared.refusal.Part.TheVariants.{Oil}
 use Rattle.sloth_base.specs.declared.refusal.Code.TheVariants as code
 use Rattle.sloth_base.specs.declared.refusal.Refusal.{Refusal}
 use Rattle.oil_lex.specs.Tokens.{Lexeme}
-use Rattle.grammar_machine.specs.declared.machine.Key.TheVariants.{Cpu}
-use Rattle.grammar_machine.specs.declared.machine.Shape.{Shape}
-use Rattle.grammar_machine.specs.declared.machine.Shape.TheVariants.{Word, Number}
+use Rattle.oil_parse.specs.declared.machine.Key.TheVariants.{Cpu}
+use Rattle.oil_parse.specs.declared.machine.Shape.{Shape}
+use Rattle.oil_parse.specs.declared.machine.Shape.TheVariants.{Word, Number}
 use Rattle.oil_parse.specs.declared.tree.OilTree.{OilTree}
-use Rattle.grammar_machine.specs.Shapes.{shape}
+use Rattle.oil_parse.specs.Shapes.{shape}
 use Rattle.oil_parse.specs.Grammar.{IsSection, IsHead, IsFile}
 
 -- Some file begins so.

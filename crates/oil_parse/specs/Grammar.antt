@@ -3,14 +3,14 @@ use Rattle.std.specs.Prelude.{◌≡◌, ℕ, ◌<◌, List, [], ◌∷◌, ◌+
 use Rattle.oil_lex.specs.declared.kinds.TokenKind.{TokenKind}
 use Rattle.oil_lex.specs.declared.kinds.TokenKind.TheVariants as token
 use Rattle.oil_lex.specs.Tokens.{Lexeme}
-use Rattle.grammar_machine.specs.declared.machine.Key.TheVariants.{Version, Implementation, Cpu}
-use Rattle.grammar_machine.specs.declared.machine.Shape.TheVariants.{Word, Number, Text, Open, Close, Equals, Semicolon, Colon}
+use Rattle.oil_parse.specs.declared.machine.Key.TheVariants.{Version, Implementation, Cpu}
+use Rattle.oil_parse.specs.declared.machine.Shape.TheVariants.{Word, Number, Text, Open, Close, Equals, Semicolon, Colon}
 use Rattle.oil_parse.specs.declared.tree.OilValue.{OilValue}
 use Rattle.oil_parse.specs.declared.tree.OilValue.TheVariants as value
 use Rattle.oil_parse.specs.declared.tree.OilAttr.{OilAttr}
 use Rattle.oil_parse.specs.declared.tree.OilObject.{OilObject}
 use Rattle.oil_parse.specs.declared.tree.OilTree.{OilTree}
-use Rattle.grammar_machine.specs.Shapes.{shape, IsWordToken}
+use Rattle.oil_parse.specs.Shapes.{shape, IsWordToken}
 
 -- a word, a number or a string
 abbrev pub IsValue : Lexeme → Type 0

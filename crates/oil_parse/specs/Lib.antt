@@ -4,3 +4,5 @@ pub mod Text
 pub mod Words
 pub mod Machine
 pub mod Parser
+pub mod Shapes
+pub mod Steps

@@ -8,12 +8,12 @@ use Rattle.least_fault.specs.Search.{lesser}
 use Rattle.oil_lex.specs.declared.kinds.TokenKind.{TokenKind}
 use Rattle.oil_lex.specs.declared.kinds.TokenKind.TheVariants as token
 use Rattle.oil_lex.specs.Tokens.{Lexeme}
-use Rattle.grammar_machine.specs.declared.machine.Shape.{Shape}
-use Rattle.grammar_machine.specs.declared.machine.Shape.TheVariants.{Word, Number, Semicolon}
-use Rattle.grammar_machine.specs.declared.machine.Construct.{Construct}
-use Rattle.grammar_machine.specs.declared.machine.Construct.TheVariants.{Object}
-use Rattle.grammar_machine.specs.declared.machine.Expect.{Expect}
-use Rattle.grammar_machine.specs.declared.machine.Expect.TheVariants.{Ending, Closing, Body, CpuWord, Objects, ObjectName, ObjectTail, Attrs, AttrValue}
+use Rattle.oil_parse.specs.declared.machine.Shape.{Shape}
+use Rattle.oil_parse.specs.declared.machine.Shape.TheVariants.{Word, Number, Semicolon}
+use Rattle.oil_parse.specs.declared.machine.Construct.{Construct}
+use Rattle.oil_parse.specs.declared.machine.Construct.TheVariants.{Object}
+use Rattle.oil_parse.specs.declared.machine.Expect.{Expect}
+use Rattle.oil_parse.specs.declared.machine.Expect.TheVariants.{Ending, Closing, Body, CpuWord, Objects, ObjectName, ObjectTail, Attrs, AttrValue}
 use Rattle.oil_parse.specs.declared.tree.OilAttr.{OilAttr}
 use Rattle.oil_parse.specs.declared.tree.OilObject.{OilObject}
 use Rattle.oil_parse.specs.Grammar.{value_by}

@@ -8,8 +8,8 @@ use Rattle.least_fault.specs.Search.{lesser}
 use Rattle.oil_lex.specs.Tokens.{Lexeme}
 use Rattle.oil_parse.specs.declared.draft.Draft.{Draft}
 use Rattle.oil_parse.specs.declared.parser.Parser.{Parser}
-use Rattle.grammar_machine.specs.Shapes.{shape}
-use Rattle.grammar_machine.specs.Steps.{next}
+use Rattle.oil_parse.specs.Shapes.{shape}
+use Rattle.oil_parse.specs.Steps.{next}
 use Rattle.oil_parse.specs.Machine.{partial_tree_after, PartialTree, least_fault_after}
 
 -- the draft without where it lies in memory

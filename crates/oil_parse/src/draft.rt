@@ -6,8 +6,8 @@ ghost use Rattle.oil_parse.specs.Grammar.{value_by};
 ghost use Rattle.oil_parse.specs.Machine.{partial_tree_after, whole_object, nothing_built, ValueFits, TakesFit, with_attr};
 ghost use Rattle.oil_parse.specs.Parser.{draft};
 
+use crate::machine::{Construct, Expect, Shape};
 use crate::tree::{OilAttr, OilObject, OilValue};
-use grammar_machine::{Construct, Expect, Shape};
 use oil_lex::{Token, TokenKind};
 use sloth_base::list::List;
 use sloth_base::memory::NoMemory;

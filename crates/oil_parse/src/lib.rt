@@ -2,6 +2,7 @@
 #![tactic(auto)]
 
 mod draft;
+mod machine;
 mod parser;
 pub mod tree;
 

@@ -9,13 +9,13 @@ ghost use Rattle.oil_parse.specs.Grammar.{IsFile};
 ghost use Rattle.oil_parse.specs.Faults.{GrammarFault};
 ghost use Rattle.oil_parse.specs.Text.{HasTree, BreaksGrammar};
 ghost use Rattle.oil_parse.specs.Words.{IsObjectOfWords};
-ghost use Rattle.grammar_machine.specs.Steps.{IsShallow};
+ghost use Rattle.oil_parse.specs.Steps.{IsShallow};
 ghost use Rattle.oil_parse.specs.Machine.{too_big};
 ghost use Rattle.oil_parse.specs.Parser.{Moved, StopsWith};
 
 use crate::draft::Draft;
+use crate::machine::{Expect, Shape, next, shape_of};
 use crate::tree::OilTree;
-use grammar_machine::{Expect, Shape, next, shape_of};
 use least_fault::lesser;
 use oil_lex::Token;
 use sloth_base::list::List;

@@ -7,7 +7,7 @@ use Rattle.std.proofs.lemmas.Slice.Eq.{bytes_eq-Decides}
 use Rattle.std.proofs.lemmas.Bool.{and_parts}
 use mathlib.Core.Bool.{or-false}
 use Rattle.oil_parse.specs.declared.tree.OilObject.{OilObject}
-use Rattle.oil_rules.specs.Objects.{is_of_kind, is_declaration, is_declared}
+use Rattle.oil_table.specs.Objects.{is_of_kind, is_declaration, is_declared}
 use Rattle.oil_rules.specs.ObjectFaults.{is_double_of}
 use Rattle.text_pieces.proofs.Tests.{any_implies}
 

@@ -1,5 +1,3 @@
-pub mod Names
-pub mod Found
 mod Doubles
 mod Fronts
 mod KeptReferences

@@ -8,13 +8,13 @@ use Rattle.oil_parse.specs.declared.tree.OilValue.{OilValue}
 use Rattle.oil_parse.specs.declared.tree.OilValue.TheVariants.{Word}
 use Rattle.oil_parse.specs.declared.tree.OilAttr.{OilAttr}
 use Rattle.oil_parse.specs.declared.tree.OilObject.{OilObject}
-use Rattle.oil_rules.specs.declared.table.Place.{Place}
-use Rattle.oil_rules.specs.declared.table.Place.TheVariants.{Nowhere}
-use Rattle.oil_rules.specs.declared.table.Attribute.{Attribute}
-use Rattle.oil_rules.specs.declared.table.Attribute.TheVariants as attribute
-use Rattle.oil_rules.specs.Cases.{Case}
-use Rattle.oil_rules.specs.Table.{attribute_of, is_single, is_allowed, block_place}
-use Rattle.oil_rules.specs.Objects.{is_use, is_declared}
+use Rattle.oil_table.specs.declared.table.Place.{Place}
+use Rattle.oil_table.specs.declared.table.Place.TheVariants.{Nowhere}
+use Rattle.oil_table.specs.declared.table.Attribute.{Attribute}
+use Rattle.oil_table.specs.declared.table.Attribute.TheVariants as attribute
+use Rattle.oil_table.specs.Cases.{Case}
+use Rattle.oil_table.specs.Table.{attribute_of, is_single, is_allowed, block_place}
+use Rattle.oil_table.specs.Objects.{is_use, is_declared}
 
 -- the place that the last attribute opened, with one more attribute
 abbrev pub opened_place : Place → Place → OilAttr → Place

@@ -6,7 +6,7 @@ use Rattle.std.specs.Borrow.{Bor}
 use Rattle.indexmap.specs.IndexSet.{IndexSet}
 use Rattle.oil_parse.specs.declared.tree.OilAttr.{OilAttr}
 use Rattle.oil_parse.specs.declared.tree.OilObject.{OilObject}
-use Rattle.oil_rules.specs.Objects.{is_of_kind, is_used, is_declared, first_number}
+use Rattle.oil_table.specs.Objects.{is_of_kind, is_used, is_declared, first_number}
 use Rattle.oil_rules.specs.TaskFaults.{has_priority}
 
 -- the priority of a task

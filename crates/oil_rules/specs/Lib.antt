@@ -1,7 +1,3 @@
-pub mod Cases
-pub mod Table
-pub mod Objects
-pub mod Events
 pub mod ObjectFaults
 pub mod AttributeFaults
 pub mod TaskFaults

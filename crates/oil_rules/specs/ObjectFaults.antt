@@ -5,9 +5,9 @@ use Rattle.std.specs.Str.{bytes_eq}
 use Rattle.sloth_base.specs.declared.refusal.Code.TheVariants.{O7, O9, O11, O12, O14}
 use Rattle.sloth_base.specs.declared.refusal.Refusal.{Refusal}
 use Rattle.oil_parse.specs.declared.tree.OilObject.{OilObject}
-use Rattle.oil_rules.specs.Cases.{Case}
-use Rattle.oil_rules.specs.Table.{is_nowhere, place_of}
-use Rattle.oil_rules.specs.Objects.{is_of_kind, is_used, is_declaration, is_declared}
+use Rattle.oil_table.specs.Cases.{Case}
+use Rattle.oil_table.specs.Table.{is_nowhere, place_of}
+use Rattle.oil_table.specs.Objects.{is_of_kind, is_used, is_declaration, is_declared}
 
 -- the kind of an object is one of the subset
 abbrev pub is_known : OilObject → Bool

@@ -4,7 +4,7 @@ use Rattle.sloth_base.specs.declared.config.EventDecl.{EventDecl}
 use Rattle.oil_parse.specs.declared.tree.OilValue.{OilValue}
 use Rattle.oil_parse.specs.declared.tree.OilValue.TheVariants.{Word}
 use Rattle.oil_parse.specs.declared.tree.OilAttr.{OilAttr}
-use Rattle.oil_rules.specs.Objects.{is_use}
+use Rattle.oil_table.specs.Objects.{is_use}
 use Rattle.oil_rules.specs.TaskFaults.{is_event_clash}
 
 -- the attributes of a task before one, and the events of the tree

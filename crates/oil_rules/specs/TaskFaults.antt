@@ -10,9 +10,9 @@ use Rattle.oil_parse.specs.declared.tree.OilValue.{OilValue}
 use Rattle.oil_parse.specs.declared.tree.OilValue.TheVariants.{Word}
 use Rattle.oil_parse.specs.declared.tree.OilAttr.{OilAttr}
 use Rattle.oil_parse.specs.declared.tree.OilObject.{OilObject}
-use Rattle.oil_rules.specs.Cases.{Case}
-use Rattle.oil_rules.specs.Objects.{is_of_kind, is_use, is_used, number_of, first_number}
-use Rattle.oil_rules.specs.Events.{mask_named}
+use Rattle.oil_table.specs.Cases.{Case}
+use Rattle.oil_table.specs.Objects.{is_of_kind, is_use, is_used, number_of, first_number}
+use Rattle.oil_events.specs.Events.{mask_named}
 
 -- a task of this priority
 abbrev pub has_priority : ℕ → OilObject → Bool

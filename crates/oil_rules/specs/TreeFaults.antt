@@ -8,10 +8,10 @@ use Rattle.sloth_base.specs.declared.refusal.Refusal.{Refusal}
 use Rattle.least_fault.specs.Search.{Somewhere}
 use Rattle.oil_parse.specs.declared.tree.OilObject.{OilObject}
 use Rattle.oil_parse.specs.declared.tree.OilTree.{OilTree}
-use Rattle.oil_rules.specs.Cases.{Case}
-use Rattle.oil_rules.specs.Table.{place_of}
-use Rattle.oil_rules.specs.Objects.{is_of_kind, has_scheduler}
-use Rattle.oil_rules.specs.Events.{events_of, BitFault}
+use Rattle.oil_table.specs.Cases.{Case}
+use Rattle.oil_table.specs.Table.{place_of}
+use Rattle.oil_table.specs.Objects.{is_of_kind, has_scheduler}
+use Rattle.oil_events.specs.Events.{events_of, BitFault}
 use Rattle.oil_rules.specs.ObjectFaults.{is_known, KindFault, KnownFault}
 use Rattle.oil_rules.specs.AttributeFaults.{AttributeFault}
 use Rattle.oil_rules.specs.TaskFaults.{TaskFault}

@@ -1,14 +1,15 @@
 //! The faults of an attribute by the attribute table.
 ghost use Rattle.std.specs.Prelude.{◌≡◌, ◌&&◌, IfOk, bytes_eq, codes, is_none};
-ghost use Rattle.oil_rules.specs.declared.table.Attribute.TheVariants.{Resource};
+ghost use Rattle.oil_table.specs.declared.table.Attribute.TheVariants.{Resource};
 ghost use Rattle.least_fault.specs.Search.{Finds, Somewhere};
 ghost use Rattle.oil_rules.specs.AttributeFaults.{opened_place, place_by, is_second_use, is_missing, misses_value, refers_to_none, is_refused, RowFault, AttributeFault};
 
 use crate::before::Before;
 use crate::front::Front;
-use crate::table::{Attribute, Place, allows, attribute_of, block_place, is_single};
 use least_fault::{merge, when};
 use oil_parse::tree::{OilAttr, OilValue};
+use oil_table::table::allows;
+use oil_table::{Attribute, Place, attribute_of, block_place, is_single};
 use sloth_base::memory::NoMemory;
 use sloth_base::refusal::{Code, Part, Refusal};
 use std::alloc::Global;

@@ -1,7 +1,7 @@
 //! The attributes before one.
 ghost use Rattle.std.specs.Prelude.{◌≡◌, ◌||◌, ℕ, List, [], ◌∷◌, ◌++◌, IfOk, OnOk, bytes_eq};
 ghost use Rattle.std.specs.List.{list_any};
-ghost use Rattle.oil_rules.specs.Objects.{is_use, is_used};
+ghost use Rattle.oil_table.specs.Objects.{is_use, is_used};
 
 use indexmap::IndexSet;
 use oil_parse::tree::OilAttr;

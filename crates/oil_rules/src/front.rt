@@ -1,13 +1,13 @@
 //! The objects before one, and what of them bears on it.
 ghost use Rattle.std.specs.Prelude.{◌≡◌, ◌+◌, ◌<◌, ◌||◌, ◌==◌, ℕ, [], ◌∷◌, ◌++◌, if◌then◌else◌, IfOk, OnOk, codes, count_by};
 ghost use Rattle.std.specs.List.{list_any};
-ghost use Rattle.oil_rules.specs.Objects.{is_declared, is_of_kind};
+ghost use Rattle.oil_table.specs.Objects.{is_declared, is_of_kind};
 ghost use Rattle.oil_rules.specs.TaskFaults.{has_priority};
 ghost use Rattle.oil_rules.specs.Fronts.{priority_of};
 
-use crate::objects::{first_number, is_of_kind};
 use indexmap::IndexSet;
 use oil_parse::tree::OilObject;
+use oil_table::{first_number, is_of_kind};
 use sloth_base::memory::NoMemory;
 use std::alloc::Global;
 use std::marker::Model;
@@ -30,7 +30,7 @@ pub struct Front<'t> {
 impl<'t> Model for Front<'t> {
     ghost use Rattle.std.specs.Prelude.{◌≡◌, List, codes, count_by};
     ghost use Rattle.oil_parse.specs.declared.tree.OilObject.{OilObject};
-    ghost use Rattle.oil_rules.specs.Objects.{is_of_kind};
+    ghost use Rattle.oil_table.specs.Objects.{is_of_kind};
     ghost use Rattle.oil_rules.specs.Fronts.{IsFront};
 
     ghost Value = { List OilObject };

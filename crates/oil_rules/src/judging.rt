@@ -1,21 +1,21 @@
 //! The least fault of a tree.
 ghost use Rattle.std.specs.Prelude.{◌≡◌, IfOk, true};
 ghost use Rattle.least_fault.specs.Search.{Finds, Somewhere};
-ghost use Rattle.oil_rules.specs.Objects.{has_scheduler};
-ghost use Rattle.oil_rules.specs.Events.{events_of};
+ghost use Rattle.oil_table.specs.Objects.{has_scheduler};
+ghost use Rattle.oil_events.specs.Events.{events_of};
 ghost use Rattle.oil_rules.specs.ObjectFaults.{is_known};
 ghost use Rattle.oil_rules.specs.TreeFaults.{TaskFaults, InnerFault, ObjectFault, TreeFault};
 
 use crate::attribute_faults::attribute_faults;
-use crate::event_table::EventTable;
-use crate::events::events_without_bit;
 use crate::front::Front;
 use crate::object_faults::{kind_fault, known_fault};
-use crate::objects::is_of_kind;
-use crate::table::{is_nowhere, place_of};
 use crate::task_faults::task_faults;
 use least_fault::{merge, when};
+use oil_events::EventTable;
+use oil_events::events::events_without_bit;
 use oil_parse::tree::{OilObject, OilTree};
+use oil_table::is_of_kind;
+use oil_table::table::{is_nowhere, place_of};
 use sloth_base::memory::NoMemory;
 use sloth_base::refusal::{Code, Part, Refusal};
 use std::alloc::Global;

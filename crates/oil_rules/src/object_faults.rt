@@ -2,15 +2,15 @@
 ghost use Rattle.std.specs.Prelude.{◌≡◌, ◌&&◌, codes};
 ghost use Rattle.least_fault.specs.Search.{Finds};
 ghost use Rattle.std.specs.List.{list_any};
-ghost use Rattle.oil_rules.specs.Objects.{is_of_kind, is_declaration, is_declared};
+ghost use Rattle.oil_table.specs.Objects.{is_of_kind, is_declaration, is_declared};
 ghost use Rattle.oil_rules.specs.ObjectFaults.{is_double_of, shares_name, is_doubled, is_endless, is_idle, lacks_task_attribute, lacks_attribute, is_strange_mode, is_clock_above, is_above, KindFault, KnownFault};
 
 use crate::front::Front;
-use crate::objects::{declares, is_of_kind, is_used};
-use crate::table::{is_nowhere, place_of};
 use least_fault::{merge, when};
-use object_limits::{comes_behind, is_clock_more};
 use oil_parse::tree::OilObject;
+use oil_table::object_limits::{comes_behind, is_clock_more};
+use oil_table::table::{is_nowhere, place_of};
+use oil_table::{declares, is_of_kind, is_used};
 use sloth_base::refusal::{Code, Part, Refusal};
 use text_pieces::bytes::same;
 

@@ -1,15 +1,15 @@
 //! The faults of an attribute of a task that rest on other tasks and on events.
 ghost use Rattle.std.specs.Prelude.{◌≡◌, ◌&&◌, ◌||◌, not, IfOk, codes};
 ghost use Rattle.least_fault.specs.Search.{Finds, Somewhere};
-ghost use Rattle.oil_rules.specs.Objects.{is_use, is_used, number_of};
+ghost use Rattle.oil_table.specs.Objects.{is_use, is_used, number_of};
 ghost use Rattle.oil_rules.specs.TaskFaults.{is_taken, TaskFault};
 
-use crate::event_table::EventTable;
 use crate::front::Front;
-use crate::objects::{is_use, number_of};
 use crate::references::References;
 use least_fault::{merge, when};
+use oil_events::EventTable;
 use oil_parse::tree::OilAttr;
+use oil_table::{is_use, number_of};
 use sloth_base::memory::NoMemory;
 use sloth_base::refusal::{Code, Part, Refusal};
 use std::alloc::Global;

@@ -3,3 +3,5 @@ pub mod Effects
 pub mod Once
 pub mod Protocol
 pub mod Examples
+pub mod Only
+pub mod WithoutArrivals

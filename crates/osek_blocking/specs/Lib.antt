@@ -1,3 +1,4 @@
 pub mod Blocking
 pub mod Protocol
 pub mod ProtocolKept
+pub mod NextEvents

@@ -34,8 +34,10 @@ use Rattle.osek_scheduler.specs.Next.{is_ready, is_top, is_position, operation_o
 use Rattle.osek_scheduler.specs.declared.change.TaskChange.TheVariants as change
 use Rattle.osek_scheduler.specs.declared.plan.Other.TheVariants as other
 use Rattle.osek_scheduler.specs.declared.plan.Plan.{Plan}
-use Rattle.osek_plans.specs.Changes.{changed_task, woken_task_state}
-use Rattle.osek_plans.specs.Plans.{with_change, with_other, planned_system, plan, write_plan, service_plan, item_plan, item_behind, is_inside}
+use Rattle.osek_scheduler.specs.Changes.{changed_task, woken_task_state}
+use Rattle.osek_scheduler.specs.Changes.{with_change}
+use Rattle.osek_plans.specs.Plans.{with_other, planned_system, write_plan, service_plan, item_plan, item_behind, is_inside}
+use Rattle.osek_scheduler.specs.Outcomes.{plan}
 use Rattle.osek_plans.specs.Running.{next_operation, own_operation, run_plan, call_in, call_plan, serving_plan, running_plan, entry_change, entry_plan, back_plan}
 use Rattle.osek_plans.specs.Steps.{answer_plan, leave_plan, followed_state}
 

@@ -51,9 +51,13 @@ use Rattle.osek_scheduler.specs.declared.plan.Other.{Other}
 use Rattle.osek_scheduler.specs.declared.plan.Other.TheVariants as other
 use Rattle.osek_scheduler.specs.declared.plan.Plan.{Plan}
 use Rattle.osek_plans.specs.Clocked.{NamesTask, IsClocked}
-use Rattle.osek_plans.specs.Frames.{CanMove, HasWord, outer_frames}
-use Rattle.osek_plans.specs.Changes.{changed_task, Allows}
-use Rattle.osek_plans.specs.Plans.{with_change, with_other, planned_system, plan, write_plan, service_plan, item_plan, item_behind, load_of, is_inside, HasOther, HasPlanRoom}
+use Rattle.osek_plans.specs.Frames.{CanMove, HasWord}
+use Rattle.osek_scheduler.specs.Changes.{outer_frames}
+use Rattle.osek_scheduler.specs.Changes.{changed_task}
+use Rattle.osek_plans.specs.Changes.{Allows}
+use Rattle.osek_scheduler.specs.Changes.{with_change}
+use Rattle.osek_plans.specs.Plans.{with_other, planned_system, write_plan, service_plan, item_plan, item_behind, load_of, is_inside, HasOther, HasPlanRoom}
+use Rattle.osek_scheduler.specs.Outcomes.{plan}
 use Rattle.osek_plans.specs.Running.{IsComputed, own_operation, run_plan, call_in, call_plan, serving_plan, running_plan, entry_change, entry_plan, back_plan}
 use Rattle.osek_plans.specs.Steps.{answer_plan, leave_plan, followed_state, IsRead}
 use Rattle.osek_machine.specs.Steps.{IsSound}

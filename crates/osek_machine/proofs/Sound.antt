@@ -18,9 +18,9 @@ use Rattle.osek_valid.specs.Valid.{AreDistinct}
 use Rattle.osek_valid.proofs.Apart.{step_apart}
 use Rattle.osek_valid.proofs.Facts.{facts}
 use Rattle.osek_valid.proofs.Steps.{step_valid}
-use Rattle.next_events.specs.NextEvents.{IsNoAdmission}
+use Rattle.osek_blocking.specs.NextEvents.{IsNoAdmission}
 use Rattle.osek_machine.specs.Steps.{IsSound, Machine}
-use Rattle.next_events.proofs.Only.{settles}
+use Rattle.osek_blocking.proofs.Only.{settles}
 use Rattle.osek_machine.proofs.Rooms.{not_among}
 
 module _ (config : Config) (app : App) (s : System) (sound : IsSound config app s) where

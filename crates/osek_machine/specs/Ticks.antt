@@ -8,7 +8,7 @@ use Rattle.sloth_base.specs.Named.{counter_declaration}
 use Rattle.osek_scheduler.specs.State.{System, task, alarm}
 use Rattle.osek_scheduler.specs.Services.{if_suspended, with_left, counted_on_state}
 use Rattle.osek_scheduler.specs.declared.change.TaskChange.TheVariants as change
-use Rattle.osek_plans.specs.Plans.{with_change}
+use Rattle.osek_scheduler.specs.Changes.{with_change}
 
 -- the system after what an alarm does
 abbrev pub acted_system : Action → System → System

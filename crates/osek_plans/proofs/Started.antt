@@ -7,7 +7,7 @@ use Rattle.osek_scheduler.specs.State.{Task, sleeping_task}
 use Rattle.osek_scheduler.specs.declared.state.TaskState.TheVariants as mode
 use Rattle.osek_scheduler.specs.Steps.{autostarted_tasks}
 use Rattle.osek_scheduler.specs.declared.change.TaskChange.TheVariants as change
-use Rattle.osek_plans.specs.Changes.{changed_task}
+use Rattle.osek_scheduler.specs.Changes.{changed_task}
 
 -- so many of the first tasks are activated, where they are to start by themselves
 abbrev pub started : ℕ → List TaskDecl → List Task → List Task

@@ -3,8 +3,9 @@ use Rattle.std.specs.Prelude.{◌<◌, ◌≤◌, length}
 use Rattle.osek_scheduler.specs.State.{Task}
 use Rattle.osek_scheduler.specs.declared.change.TaskChange.{TaskChange}
 use Rattle.osek_scheduler.specs.declared.change.TaskChange.TheVariants as change
-pub use Rattle.osek_scheduler.specs.Changes.{changed_task, entry, woken_task_state, with_change}
-use Rattle.osek_plans.specs.Frames.{outer_frames, CanMove, HasWord}
+use Rattle.osek_scheduler.specs.Changes.{changed_task, entry, woken_task_state, with_change}
+use Rattle.osek_scheduler.specs.Changes.{outer_frames}
+use Rattle.osek_plans.specs.Frames.{CanMove, HasWord}
 
 -- the task has room for a change
 abbrev pub Allows : TaskChange → Task → Type 0

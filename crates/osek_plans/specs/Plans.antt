@@ -11,13 +11,13 @@ use Rattle.sloth_base.specs.declared.app.Width.{Width}
 use Rattle.sloth_base.specs.declared.service.Service.{Service}
 use Rattle.osek_scheduler.specs.State.{Frame, System, task, with_alarm}
 use Rattle.osek_scheduler.specs.Meaning.{register, shown_value, on_some, if_true, accessed_bytes, loaded_word, bytes_after_store}
-pub use Rattle.osek_scheduler.specs.Outcomes.{plan}
+use Rattle.osek_scheduler.specs.Outcomes.{plan}
 use Rattle.osek_scheduler.specs.Outcomes.{plan_in, decision}
 use Rattle.osek_scheduler.specs.declared.change.TaskChange.TheVariants as change
 use Rattle.osek_scheduler.specs.declared.plan.Other.{Other}
 use Rattle.osek_scheduler.specs.declared.plan.Other.TheVariants as other
 use Rattle.osek_scheduler.specs.declared.plan.Plan.{Plan}
-pub use Rattle.osek_scheduler.specs.Changes.{with_change}
+use Rattle.osek_scheduler.specs.Changes.{with_change}
 use Rattle.osek_plans.specs.Changes.{Allows}
 
 -- the system after what an event does besides; events are set in one change

@@ -10,7 +10,8 @@ use Rattle.sloth_base.specs.declared.app.Op.{Op}
 use Rattle.sloth_base.specs.declared.app.Op.TheVariants as op
 use Rattle.sloth_base.specs.declared.service.Service.{Service}
 use Rattle.code_rules.specs.AppRange.{IsNumberOf}
-use Rattle.osek_scheduler.specs.State.{Frame, Task, System, task, declaration, body_of}
+use Rattle.osek_scheduler.specs.State.{Frame, Task, System, task}
+use Rattle.sloth_base.specs.Named.{declaration, body_of}
 use Rattle.osek_scheduler.specs.Priority.{is_active}
 use Rattle.osek_scheduler.specs.Meaning.{is_own, registers_of, on_some, if_true}
 use Rattle.osek_scheduler.specs.Services.{is_there}
@@ -18,7 +19,8 @@ use Rattle.osek_scheduler.specs.Next.{is_ready, is_top, is_position}
 use Rattle.osek_scheduler.specs.declared.change.TaskChange.TheVariants as change
 use Rattle.osek_scheduler.specs.declared.plan.Other.TheVariants as other
 use Rattle.osek_scheduler.specs.declared.plan.Plan.{Plan}
-use Rattle.osek_plans.specs.Plans.{plan, item_plan, service_plan}
+use Rattle.osek_scheduler.specs.Outcomes.{plan}
+use Rattle.osek_plans.specs.Plans.{item_plan, service_plan}
 
 -- the numbers in an operation are in range
 abbrev pub IsComputed : Op → Type 0

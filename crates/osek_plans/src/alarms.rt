@@ -4,7 +4,7 @@ ghost use Rattle.sloth_base.specs.Named.{alarm_declaration, counter_of};
 ghost use Rattle.osek_scheduler.specs.State.{alarm, counter};
 ghost use Rattle.osek_scheduler.specs.Services.{allows_absolute, allows_cycle, allows_relative, is_in_use, ticks_to};
 ghost use Rattle.osek_scheduler.specs.Outcomes.{other_decision, plan_in, alarm_setting_decision, value_decision, alarm_use_decision};
-ghost use Rattle.osek_plans.specs.Plans.{plan};
+ghost use Rattle.osek_scheduler.specs.Outcomes.{plan};
 
 use crate::services::{answers, goes_on};
 use crate::store::Store;

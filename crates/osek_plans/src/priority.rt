@@ -1,6 +1,7 @@
 //! Priorities, and the task that is due.
 ghost use Rattle.std.specs.Prelude.{◌≡◌, ◌<◌, ◌≤◌, not, true, length, map};
-ghost use Rattle.osek_scheduler.specs.Priority.{ceiling, current_priority, greatest, is_active, is_in, rank};
+ghost use Rattle.osek_scheduler.specs.Priority.{ceiling, current_priority, greatest, is_active, rank};
+ghost use Rattle.code_rules.specs.Code.{is_in};
 ghost use Rattle.osek_scheduler.specs.State.{counter};
 ghost use Rattle.osek_scheduler.specs.Next.{all_below, is_due, is_next_tick, is_ready, is_top, no_ticks, yields_to};
 

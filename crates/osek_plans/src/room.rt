@@ -6,7 +6,8 @@ ghost use Rattle.osek_scheduler.specs.State.{sleeping_task};
 ghost use Rattle.osek_scheduler.specs.Meaning.{register, with_register};
 ghost use Rattle.osek_scheduler.specs.Services.{answered_task, answered_task_with, first_operand, second_operand};
 ghost use Rattle.osek_plans.specs.Frames.{CanMove};
-ghost use Rattle.osek_plans.specs.Changes.{Allows, changed_task, woken_task_state};
+ghost use Rattle.osek_plans.specs.Changes.{Allows};
+ghost use Rattle.osek_scheduler.specs.Changes.{changed_task, woken_task_state};
 
 use crate::frame::FrameRoom;
 use crate::held::Held;

@@ -3,7 +3,8 @@ ghost use Rattle.std.specs.Prelude.{◌≡◌, ◌<◌, ◌==◌, cond, Some, No
 ghost use Rattle.osek_scheduler.specs.State.{task};
 ghost use Rattle.osek_scheduler.specs.Services.{if_suspended, is_alarm, is_resource, is_task, is_there, state_number};
 ghost use Rattle.osek_plans.specs.Clocked.{IsClocked};
-ghost use Rattle.osek_plans.specs.Plans.{plan, service_plan};
+ghost use Rattle.osek_scheduler.specs.Outcomes.{plan};
+ghost use Rattle.osek_plans.specs.Plans.{service_plan};
 ghost use Rattle.osek_plans.specs.Running.{call_in, call_plan};
 
 use crate::alarms::{cancel_alarm, get_alarm, set_absolute, set_relative};

@@ -2,7 +2,8 @@
 ghost use Rattle.std.specs.Prelude.{◌≡◌, ◌<◌, ◌≤◌, ◌++◌, [], ◌∷◌, length, slice_get, IfOk, IfNone, OnSome, option_to_list};
 ghost use Rattle.std.specs.Option.{option_copied};
 ghost use Rattle.osek_scheduler.specs.Services.{moved_frames};
-ghost use Rattle.osek_plans.specs.Frames.{frames_at_item, with_word, outer_frames, HasWord, CanMove};
+ghost use Rattle.osek_scheduler.specs.Changes.{frames_at_item, with_word, outer_frames};
+ghost use Rattle.osek_plans.specs.Frames.{HasWord, CanMove};
 
 use crate::frame::FrameRoom;
 use sloth_base::memory::NoMemory;

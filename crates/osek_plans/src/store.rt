@@ -6,8 +6,10 @@ ghost use Rattle.osek_scheduler.specs.declared.state.TaskState.TheVariants as mo
 ghost use Rattle.osek_scheduler.specs.Steps.{admitted_state, autostarted_tasks, settled_state};
 ghost use Rattle.osek_scheduler.specs.Meaning.{bytes_after_store};
 ghost use Rattle.osek_scheduler.specs.Services.{if_suspended};
-ghost use Rattle.osek_plans.specs.Changes.{Allows, changed_task};
-ghost use Rattle.osek_plans.specs.Plans.{HasOther, HasPlanRoom, planned_system, is_inside, load_of, with_change, with_other};
+ghost use Rattle.osek_plans.specs.Changes.{Allows};
+ghost use Rattle.osek_scheduler.specs.Changes.{changed_task};
+ghost use Rattle.osek_plans.specs.Plans.{HasOther, HasPlanRoom, planned_system, is_inside, load_of, with_other};
+ghost use Rattle.osek_scheduler.specs.Changes.{with_change};
 
 use crate::arithmetic::size_of;
 use crate::clock::ClockRoom;

@@ -13,7 +13,8 @@ use Rattle.sloth_base.specs.declared.event.Event.{Event}
 use Rattle.sloth_base.specs.declared.event.Event.TheVariants as event
 use Rattle.sloth_base.specs.declared.service.Service.{Service}
 use Rattle.osek_scheduler.specs.declared.state.TaskState.TheVariants as mode
-use Rattle.osek_scheduler.specs.State.{Frame, Task, System, task, body_of}
+use Rattle.osek_scheduler.specs.State.{Frame, Task, System, task}
+use Rattle.sloth_base.specs.Named.{body_of}
 use Rattle.sloth_base.specs.Named.{function}
 use Rattle.sloth_base.proofs.Services.{same_code}
 use Rattle.osek_scheduler.specs.Priority.{IsDue, is_active}

@@ -7,7 +7,8 @@ use Rattle.sloth_base.specs.declared.config.Config.{Config}
 use Rattle.osek_scheduler.specs.declared.state.TaskState.{TaskState}
 use Rattle.osek_scheduler.specs.declared.state.TaskState.TheVariants as mode
 use Rattle.osek_scheduler.specs.State.{System, task, counter}
-use Rattle.osek_scheduler.specs.Priority.{rank, is_in, is_active, IsDue, NoTicks, IsNextTick, IsTop}
+use Rattle.osek_scheduler.specs.Priority.{rank, is_active, IsDue, NoTicks, IsNextTick, IsTop}
+use Rattle.code_rules.specs.Code.{is_in}
 use Rattle.osek_scheduler.specs.Next.{is_ready, is_due, all_below, yields_to, no_ticks, is_next_tick, is_top}
 use Rattle.osek_scheduler.specs.Meaning.{on_some, if_true}
 

@@ -7,7 +7,7 @@ use Rattle.sloth_base.specs.declared.event.Stamp.{Stamp}
 use Rattle.sloth_base.specs.declared.event.Stamped.{Stamped}
 use Rattle.sloth_base.specs.declared.config.Config.{Config}
 use Rattle.sloth_base.specs.Stretches.{Boots, stretch_limit, longest_stretch}
-pub use Rattle.sloth_base.specs.Events.{admitted_line, is_boot}
+use Rattle.sloth_base.specs.Events.{admitted_line, is_boot}
 use Rattle.sloth_base.specs.Events.{is_single}
 
 -- an event is the admission of an arrival: a task's activation, or that a counter is due

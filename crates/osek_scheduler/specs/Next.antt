@@ -10,9 +10,11 @@ use Rattle.sloth_base.specs.declared.event.Event.TheVariants as event
 use Rattle.sloth_base.specs.declared.service.Service.{Service}
 use Rattle.osek_scheduler.specs.declared.state.TaskState.{TaskState}
 use Rattle.osek_scheduler.specs.declared.state.TaskState.TheVariants as mode
-use Rattle.osek_scheduler.specs.State.{Frame, Task, System, task, with_task, counter, declaration, body_of}
+use Rattle.osek_scheduler.specs.State.{Frame, Task, System, task, with_task, counter}
+use Rattle.sloth_base.specs.Named.{declaration, body_of}
 use Rattle.sloth_base.specs.Named.{function, operation}
-use Rattle.osek_scheduler.specs.Priority.{rank, is_in, is_active}
+use Rattle.osek_scheduler.specs.Priority.{rank, is_active}
+use Rattle.code_rules.specs.Code.{is_in}
 use Rattle.osek_scheduler.specs.Meaning.{ItemMeaning, meaning, on_some, if_true}
 use Rattle.osek_scheduler.specs.Services.{is_there, Outcome, GoesOn, Leaves, entered_state, ticked_state}
 use Rattle.osek_scheduler.specs.Outcomes.{outcome}

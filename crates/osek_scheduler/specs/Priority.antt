@@ -3,10 +3,11 @@ use Rattle.std.specs.Prelude.{ℕ, ◌+◌, ◌*◌, ◌<◌, ◌≤◌, ◌≡�
 use Rattle.sloth_base.specs.declared.config.Config.{Config}
 use Rattle.sloth_base.specs.declared.config.TaskDecl.{TaskDecl}
 use Rattle.sloth_base.specs.ConfigRange.{scheduler_number}
-pub use Rattle.code_rules.specs.Code.{is_in}
+use Rattle.code_rules.specs.Code.{is_in}
 use Rattle.osek_scheduler.specs.declared.state.TaskState.{TaskState}
 use Rattle.osek_scheduler.specs.declared.state.TaskState.TheVariants as mode
-use Rattle.osek_scheduler.specs.State.{Task, System, task, counter, declaration}
+use Rattle.osek_scheduler.specs.State.{Task, System, task, counter}
+use Rattle.sloth_base.specs.Named.{declaration}
 
 -- the greatest of these numbers, 0 where there is none
 abbrev pub greatest : List ℕ → ℕ

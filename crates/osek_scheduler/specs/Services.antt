@@ -15,10 +15,11 @@ use Rattle.sloth_base.specs.Status.{E_OK}
 use Rattle.sloth_base.specs.ConfigRange.{scheduler_number}
 use Rattle.sloth_base.specs.Named.{counter_declaration}
 use Rattle.code_rules.specs.Code.{is_last}
-pub use Rattle.code_rules.specs.Code.{without_last}
+use Rattle.code_rules.specs.Code.{without_last}
 use Rattle.osek_scheduler.specs.declared.state.TaskState.{TaskState}
 use Rattle.osek_scheduler.specs.declared.state.TaskState.TheVariants as mode
-use Rattle.osek_scheduler.specs.State.{Frame, Task, System, task, with_task, counter, with_counter, alarm, with_alarm, zero_registers, declaration, body_of, entry_frame}
+use Rattle.osek_scheduler.specs.State.{Frame, Task, System, task, with_task, counter, with_counter, alarm, with_alarm, zero_registers, entry_frame}
+use Rattle.sloth_base.specs.Named.{declaration, body_of}
 use Rattle.osek_scheduler.specs.Meaning.{going_on_frame}
 
 -- the first where the task is Suspended, else the second

@@ -10,7 +10,8 @@ use Rattle.sloth_base.specs.declared.event.Event.{Event}
 use Rattle.sloth_base.specs.declared.event.Event.TheVariants as event
 use Rattle.sloth_base.specs.declared.service.Service.{Service}
 use Rattle.osek_scheduler.specs.declared.state.TaskState.TheVariants as mode
-use Rattle.osek_scheduler.specs.State.{Frame, Task, System, task, with_task, counter, with_counter, declaration, HasBody}
+use Rattle.osek_scheduler.specs.State.{Frame, Task, System, task, with_task, counter, with_counter, HasBody}
+use Rattle.sloth_base.specs.Named.{declaration}
 use Rattle.sloth_base.specs.Named.{function}
 use Rattle.sloth_base.specs.Named as named
 use Rattle.osek_scheduler.specs.Priority.{IsTop, IsDue, NoTicks, IsNextTick}

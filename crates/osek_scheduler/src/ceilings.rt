@@ -1,6 +1,7 @@
 //! The ceilings of resources (OSEK OS 2.2.3, section 8.5), computed.
 ghost use Rattle.std.specs.Prelude.{◌≡◌, map, filter};
-ghost use Rattle.osek_scheduler.specs.Priority.{ceiling, greatest, highest_priority, is_in};
+ghost use Rattle.osek_scheduler.specs.Priority.{ceiling, greatest, highest_priority};
+ghost use Rattle.code_rules.specs.Code.{is_in};
 
 use sloth_base::config::{Config, TaskDecl};
 use sloth_base::numbers::{RES_SCHEDULER, ResId};

@@ -9,7 +9,8 @@ use Rattle.osek_scheduler.specs.declared.state.TaskState.{TaskState}
 use Rattle.osek_scheduler.specs.declared.state.TaskState.TheVariants as mode
 use Rattle.osek_scheduler.specs.State.{Task, System, task}
 use Rattle.sloth_base.specs.Named.{undeclared_task}
-use Rattle.osek_scheduler.specs.Priority.{is_in, greatest, highest_priority, ceiling}
+use Rattle.code_rules.specs.Code.{is_in}
+use Rattle.osek_scheduler.specs.Priority.{greatest, highest_priority, ceiling}
 use Rattle.osek_valid.specs.Valid.{MayHold, InState, IsValidTask, IsValid}
 use Rattle.osek_valid.specs.Apart.{priority_of, static_priority, TasksAreApart, Excludes}
 use Rattle.osek_valid.proofs.Apart.{at_least_static}

@@ -15,7 +15,8 @@ use Rattle.sloth_base.specs.declared.service.Service.{Service}
 use Rattle.sloth_base.specs.declared.service.Service.TheVariants as service
 use Rattle.sloth_base.specs.Arithmetic.{size_of}
 use Rattle.sloth_base.specs.Named.{function, no_function, declaration, operation, label_of, no_label, no_item, symbol_size}
-use Rattle.code_rules.specs.AppRange.{AppInRange, IsBody, IsOp, IsMask, mask_of, no_event}
+use Rattle.code_rules.specs.AppRange.{AppInRange, IsBody, IsOp, IsMask, mask_of}
+use Rattle.sloth_base.specs.ConfigRange.{no_event}
 use Rattle.code_rules.specs.Code.{IsItem, service_op, IsCallChain, Reaches, TaskReaches, Pauses, Ends, way, GoesOn, is_in, is_last, mark_at_labels, held_list_at_labels, held_list_fallen_into, is_fallen_into}
 use Rattle.code_rules.specs.WellFormed
 use Rattle.code_rules.specs.WellFormed.{HasEvents, held_list_before, Breaks, at_header, at_label, at_item, falling_in, on_cycle}

@@ -12,5 +12,3 @@ pub mod Progress
 pub mod Depth
 pub mod Tidy
 pub mod Reached
-pub mod Owing
-pub mod Together

@@ -16,9 +16,10 @@ use Rattle.osek_scheduler.specs.declared.state.TaskState.{TaskState}
 use Rattle.osek_scheduler.specs.declared.state.TaskState.TheVariants as mode
 use Rattle.osek_scheduler.specs.State.{Frame, Task, System, task, with_task}
 use Rattle.sloth_base.specs.Named.{function, operation, symbol_size, no_symbol, label_of, no_label}
-use Rattle.osek_scheduler.specs.Priority.{is_in, IsTop}
+use Rattle.code_rules.specs.Code.{is_in}
+use Rattle.osek_scheduler.specs.Priority.{IsTop}
 use Rattle.osek_scheduler.specs.Meaning.{ItemMeaning, meaning, load_meaning, store_meaning, accessed_bytes, register, is_own, registers_of, execution, target, on_some, returned_frames}
-use Rattle.osek_scheduler.specs.InTime.{admitted_line}
+use Rattle.sloth_base.specs.Events.{admitted_line}
 use Rattle.sloth_base.specs.ServiceCodes.{is_service, object_kind}
 use Rattle.sloth_base.specs.declared.service.ObjectKind.{ObjectKind}
 use Rattle.sloth_base.specs.declared.service.ObjectKind.TheVariants as object

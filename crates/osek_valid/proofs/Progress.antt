@@ -9,7 +9,7 @@ use Rattle.osek_scheduler.specs.declared.state.TaskState.{TaskState}
 use Rattle.osek_scheduler.specs.declared.state.TaskState.TheVariants as mode
 use Rattle.osek_scheduler.specs.State.{System, task, counter}
 use Rattle.osek_scheduler.specs.Priority.{rank, IsDue, NoTicks, IsNextTick, IsTop}
-use Rattle.osek_scheduler.specs.InTime.{admitted_line}
+use Rattle.sloth_base.specs.Events.{admitted_line}
 use Rattle.osek_scheduler.specs.Steps.{OsekStep}
 use Rattle.osek_valid.proofs.Facts.{Facts}
 use Rattle.osek_valid.specs.Valid.{IsValid}

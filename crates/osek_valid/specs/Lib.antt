@@ -1,5 +1,4 @@
 pub mod Valid
 pub mod Apart
 pub mod Tidy
-pub mod Together
 pub mod WellFormedRuns

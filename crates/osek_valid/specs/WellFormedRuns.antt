@@ -10,7 +10,7 @@ use Rattle.sloth_base.specs.declared.event.Stamped.{Stamped}
 use Rattle.code_rules.specs.WellFormed.{WellFormed}
 use Rattle.osek_scheduler.specs.State.{System, opening, task}
 use Rattle.osek_scheduler.specs.Priority.{IsTop}
-use Rattle.osek_scheduler.specs.InTime.{admitted_line}
+use Rattle.sloth_base.specs.Events.{admitted_line}
 use Rattle.osek_scheduler.specs.Meaning.{ItemMeaning, meaning}
 use Rattle.osek_scheduler.specs.Steps.{IsAt, OsekStep}
 use Rattle.osek_scheduler.specs.Runs.{Leads}

@@ -1,6 +1,5 @@
 //! Laws of systems with well-formed task code.
 ghost use Rattle.osek_valid.specs.WellFormedRuns.{OpeningIsValid, StepsKeepValid, StepsKeepApart, RunsAreValid, ItemsMean, RunningGoesOn, RunsNeverStick, TasksAreTidy};
-ghost use Rattle.osek_valid.specs.Together.{StepsKeepOwing, LowerMayBePreempted, SharedStackHolds};
 
 /// The system is valid before it has started.
 pub fn opening_is_valid()
@@ -40,19 +39,4 @@ pub fn runs_never_stick()
 /// What a valid state says of each task.
 pub fn tasks_are_tidy()
     ensures { TasksAreTidy }
-{}
-
-/// Each step keeps true that a task owes a `back` only where it reaches a Schedule.
-pub fn steps_keep_owing()
-    ensures { StepsKeepOwing }
-{}
-
-/// Of two Active tasks the lower one may be preempted.
-pub fn lower_may_be_preempted()
-    ensures { LowerMayBePreempted }
-{}
-
-/// No set of basic tasks that are Active at once in a run needs more than the shared stack.
-pub fn shared_stack_holds()
-    ensures { SharedStackHolds }
 {}

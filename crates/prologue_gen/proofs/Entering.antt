@@ -13,7 +13,7 @@ use Rattle.masked_code.proofs.Words.{word_at-other, word_at-others}
 use Rattle.masked_code.proofs.Spread.{based, spread_from}
 use Rattle.masked_code.proofs.Runs.{saves_owes}
 use Rattle.masked_code.proofs.Leave.{behind}
-use Rattle.routine_pieces.specs.Prologues.{preempted_test}
+use Rattle.block_parts.specs.Prologues.{preempted_test}
 use Rattle.prologue_gen.specs.Pieces.{csr_saving_code, words_saving_code, active_marking_code}
 use Rattle.prologue_gen.specs.Fresh.{saved_registers}
 use Rattle.prologue_gen.specs.Resumed.{with_entry}

@@ -21,7 +21,7 @@ use Rattle.masked_code.proofs.Spread.{based, based_is, spread_from}
 use Rattle.masked_code.proofs.Runs.{restores_owes, length-restored, restored_other, restored_at}
 use Rattle.masked_code.proofs.Leave.{behind}
 use Rattle.masked_code.proofs.Routines.{jumps_in}
-use Rattle.routine_pieces.specs.Prologues.{own_taking_code}
+use Rattle.block_parts.specs.Prologues.{own_taking_code}
 use Rattle.prologue_gen.specs.Pieces.{wait_answer_code, kept_context_test}
 use Rattle.prologue_gen.specs.Fresh.{vector, Entered, saved_registers}
 use Rattle.prologue_gen.specs.Resumed.{MayStart, MayResume, Resumed, EntersOrResumes, with_entry}

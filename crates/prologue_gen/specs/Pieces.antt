@@ -7,7 +7,7 @@ use Rattle.rv32_instr.specs.declared.InstrKind.TheVariants.{Lui, Addi, Lw, Sw, B
 use Rattle.sloth_base.specs.Arithmetic.{hi, lo}
 use Rattle.sloth_base.specs.Status.{E_OK}
 use Rattle.masked_code.specs.Pieces.{past, saving_code, restoring_code, clearing_code, words_clearing_code}
-use Rattle.routine_pieces.specs.Prologues.{preempted_test, own_taking_code}
+use Rattle.block_parts.specs.Prologues.{preempted_test, own_taking_code}
 
 -- what the CSRs say goes into the context at x1, by x5; the level is now that of the entry
 abbrev pub csr_saving_code : ℕ → List InstrKind

@@ -2,8 +2,8 @@
 ghost use Rattle.std.specs.Prelude.{◌≡◌, ◌<◌, ◌≤◌, ◌++◌, OnOk};
 ghost use Rattle.prologue_gen.specs.Pieces.{context_saving_code, csr_saving_code, words_saving_code, active_marking_code, beginning_code, fresh_start_code};
 
+use block_parts::prologues::ask_preempted;
 use masked_code::emit::{X5, clear, clear_words, emit, save};
-use routine_pieces::prologues::ask_preempted;
 use rv32_instr::Instr;
 use rv32_instr::asm::{X1, X2, X4, ZERO, addi, csrrs, csrrw, csrrwi, lui, lw, mret, sw};
 use rv32_instr::constant::{hi, lo};

@@ -7,8 +7,8 @@ ghost use Rattle.prologue_gen.specs.Places.{IsStackTop, EntersTask, DoesEnter, f
 
 use crate::fresh::{mark_active, save_context, start_anew};
 use crate::resumed::take_up;
+use block_parts::prologues::start_level;
 use code_lengths::body_of;
-use routine_pieces::prologues::start_level;
 use rv32_instr::{Block, Instr};
 use sloth_base::app::App;
 use sloth_base::config::Config;

@@ -2,8 +2,8 @@
 ghost use Rattle.std.specs.Prelude.{◌≡◌, ◌<◌, ◌++◌, OnOk};
 ghost use Rattle.prologue_gen.specs.Pieces.{wait_answer_code, going_on_code, kept_context_test, context_taking_code};
 
+use block_parts::prologues::take_own;
 use masked_code::emit::{emit, past, restore};
-use routine_pieces::prologues::take_own;
 use rv32_instr::Instr;
 use rv32_instr::asm::{A0, X1, X4, ZERO, addi, beq, lw, mret};
 use sloth_base::service::E_OK;

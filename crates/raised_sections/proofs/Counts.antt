@@ -9,7 +9,8 @@ use Rattle.sloth_base.specs.declared.event.Event.TheVariants as event
 use Rattle.sloth_base.specs.declared.event.Stamped.{Stamped}
 use Rattle.sloth_base.specs.Events.{is_boot, admitted_line}
 use Rattle.osek_scheduler.specs.InTime.{is_admit}
-use Rattle.osek_blocking.specs.Blocking.{working_task, is_entry_of, events_up_to_entry}
+use Rattle.sloth_base.specs.Events.{working_task}
+use Rattle.osek_blocking.specs.Blocking.{is_entry_of, events_up_to_entry}
 use Rattle.raised_sections.specs.Kept.{is_lower, lower_events, KeepsBounds}
 use Rattle.raised_sections.specs.Pace.{item_counts, event_counts, last_count, EndsSoon, IsPaced}
 use Rattle.raised_sections.specs.Spent.{spent_counts, KeepsCounts}

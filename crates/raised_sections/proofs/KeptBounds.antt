@@ -18,7 +18,8 @@ use Rattle.osek_valid.proofs.Apart.{opening_apart}
 use Rattle.osek_valid.proofs.Facts.{Facts, facts}
 use Rattle.osek_valid.proofs.Reached.{run_valid}
 use Rattle.osek_valid.proofs.Steps.{step_valid, opening_valid}
-use Rattle.osek_blocking.specs.Blocking.{working_task, is_entry_of, events_up_to_entry, IsOfLower, IsBlockedBy}
+use Rattle.sloth_base.specs.Events.{working_task}
+use Rattle.osek_blocking.specs.Blocking.{is_entry_of, events_up_to_entry, IsOfLower, IsBlockedBy}
 use Rattle.osek_blocking.proofs.Effects.{IsReady, Ordered, step_ordered, opening_ordered, leads_ordered}
 use Rattle.osek_blocking.proofs.Once.{block_once}
 use Rattle.raised_sections.specs.Sections.{IsLower, IsBound, lowest, above}

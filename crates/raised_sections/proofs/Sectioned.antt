@@ -9,11 +9,13 @@ use Rattle.sloth_base.specs.declared.event.Event.{Event}
 use Rattle.sloth_base.specs.declared.event.Event.TheVariants as event
 use Rattle.sloth_base.specs.declared.event.Stamped.{Stamped}
 use Rattle.osek_scheduler.specs.State.{System, task}
-use Rattle.osek_scheduler.specs.Priority.{is_in, is_active}
+use Rattle.code_rules.specs.Code.{is_in}
+use Rattle.osek_scheduler.specs.Priority.{is_active}
 use Rattle.osek_scheduler.specs.Runs.{Leads}
 use Rattle.osek_scheduler.proofs.Tests.{Decides-is_active}
 use Rattle.osek_valid.specs.Apart.{static_priority, IsActive}
-use Rattle.osek_blocking.specs.Blocking.{working_task, is_entry_of, events_up_to_entry, IsRaisedTo, FindsFresh}
+use Rattle.sloth_base.specs.Events.{working_task}
+use Rattle.osek_blocking.specs.Blocking.{is_entry_of, events_up_to_entry, IsRaisedTo, FindsFresh}
 use Rattle.osek_blocking.proofs.Effects.{Effect, effect}
 use Rattle.osek_blocking.proofs.Once.{stays_out}
 use Rattle.raised_sections.specs.Walks.{Position, WalksOn, WalksOnTo, AreConsecutive, IsWalk}

@@ -17,7 +17,8 @@ use Rattle.osek_valid.specs.Apart.{static_priority, IsActive}
 use Rattle.osek_valid.proofs.Apart.{rank_active, rank_ready}
 use Rattle.osek_valid.proofs.Facts.{Facts}
 use Rattle.osek_valid.proofs.Steps.{step_valid}
-use Rattle.osek_blocking.specs.Blocking.{working_task, is_entry_of, events_up_to_entry, IsOfLower, IsBlockedBy}
+use Rattle.sloth_base.specs.Events.{working_task}
+use Rattle.osek_blocking.specs.Blocking.{is_entry_of, events_up_to_entry, IsOfLower, IsBlockedBy}
 use Rattle.osek_blocking.proofs.Effects.{IsReady, Ordered, Effect, effect, step_ordered}
 use Rattle.osek_blocking.proofs.Once.{stays}
 use Rattle.raised_sections.specs.Sections.{IsLower}

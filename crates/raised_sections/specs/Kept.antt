@@ -6,7 +6,8 @@ use Rattle.sloth_base.specs.declared.event.Stamped.{Stamped}
 use Rattle.osek_scheduler.specs.State.{System, opening}
 use Rattle.osek_scheduler.specs.Runs.{Leads}
 use Rattle.osek_valid.specs.Apart.{static_priority}
-use Rattle.osek_blocking.specs.Blocking.{working_task, events_up_to_entry, MakesReady}
+use Rattle.sloth_base.specs.Events.{working_task}
+use Rattle.osek_blocking.specs.Blocking.{events_up_to_entry, MakesReady}
 use Rattle.raised_sections.specs.Sections.{IsBound}
 
 -- there is a task, and it is of lower static priority than h

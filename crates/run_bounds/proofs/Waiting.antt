@@ -9,12 +9,13 @@ use Rattle.sloth_base.specs.declared.event.Stamped.{Stamped}
 use Rattle.sloth_base.specs.Named.{declaration}
 use Rattle.sloth_base.specs.Events.{is_boot}
 use Rattle.osek_scheduler.specs.State.{System, task}
-use Rattle.osek_scheduler.specs.Priority.{is_in}
+use Rattle.code_rules.specs.Code.{is_in}
 use Rattle.osek_scheduler.specs.Steps.{OsekStep}
 use Rattle.osek_scheduler.specs.Runs.{Leads}
 use Rattle.osek_valid.specs.Apart.{static_priority, priority_of, IsActive}
 use Rattle.osek_valid.proofs.Facts.{Facts}
-use Rattle.osek_blocking.specs.Blocking.{working_task, is_entry_of, events_up_to_entry, IsRaisedTo, FindsFresh, IsBlockedBy}
+use Rattle.sloth_base.specs.Events.{working_task}
+use Rattle.osek_blocking.specs.Blocking.{is_entry_of, events_up_to_entry, IsRaisedTo, FindsFresh, IsBlockedBy}
 use Rattle.osek_blocking.proofs.Effects.{effect}
 use Rattle.osek_blocking.proofs.Once.{Blocks, BlocksAlone, blocker, at_top, old, at_work, called, stays_out}
 use Rattle.raised_sections.specs.Sections.{IsLower, IsBound, lowest, above, NoneIsLarger}

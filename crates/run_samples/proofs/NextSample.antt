@@ -11,13 +11,14 @@ use Rattle.rv32_machine.specs.Start.{start}
 use Rattle.rv32_machine.specs.Advance.{Goes, Halts}
 use Rattle.rv32_machine.proofs.Runs.{stop_halts}
 use Rattle.observe.specs.Progress.{arrivals_of}
-use Rattle.sloth_runner.specs.Runner.{HasRun, HasArrived, HasExecuted, HaltsAt, image_of, given_arrivals, count_of, sloth_state, end_of}
+use Rattle.sloth_runner.specs.Runner.{HasRun, HasArrived, HasExecuted, HaltsAt, image_of, given_arrivals, count_of, end_of}
+use Rattle.sloth_runner.specs.Moments.{sloth_state}
 use Rattle.sloth_runner.specs.Sight.{IsLast, sight_at, interrupts_in}
 use Rattle.sloth_runner.specs.declared.runner.Halt.{Halt}
 use Rattle.sloth_runner.specs.declared.runner.Runner.{Runner}
 use Rattle.sloth_runner.specs.declared.runner.RunEnd.TheVariants as ends
 use Rattle.sloth_runner.specs.declared.sight.Interrupts.{Interrupts}
-use Rattle.sloth_runner.specs.Sight.{Seen}
+use Rattle.sloth_runner.specs.declared.looks.Seen.{Seen}
 use Rattle.sloth_runner.proofs.Sighted.{last-behind}
 use Rattle.sloth_runner.proofs.Turning.{machine-more, moment-is}
 use Rattle.run_samples.specs.declared.sampling.Sampler.{Sampler}

@@ -2,7 +2,8 @@
 
 ghost use Rattle.std.specs.Prelude.{◌≡◌, Some, ◌↔◌};
 ghost use Rattle.rv32_instr.specs.Words.{opcode, rd, funct3, rs1, rs2, funct7, csr, imm_i, imm_s, imm_b, imm_u, imm_j};
-ghost use Rattle.rv32_instr.specs.Table.{Decode, IsWordOf, jump, branch, load, store, immediate, register, control, fence, system};
+ghost use Rattle.rv32_instr.specs.Table.{Decode, jump, branch, load, store, immediate, register, control, fence, system};
+ghost use Rattle.rv32_instr.specs.Encode.{IsWordOf};
 ghost use Rattle.rv32_instr.specs.declared.InstrKind.{InstrKind};
 
 use crate::fields::{bits, signed};

@@ -3,7 +3,8 @@
 ghost use Rattle.std.specs.Prelude.{◌≡◌, ◌<◌, ◌^◌, Some};
 ghost use Rattle.rv32_instr.specs.Range.{InRange};
 ghost use Rattle.rv32_instr.specs.Words.{word, upper_word, r_word, i_word, s_word, b_word, j_word};
-ghost use Rattle.rv32_instr.specs.Table.{Encode, Decode};
+ghost use Rattle.rv32_instr.specs.Encode.{Encode};
+ghost use Rattle.rv32_instr.specs.Table.{Decode};
 
 use crate::fields::part;
 use crate::opcodes::{

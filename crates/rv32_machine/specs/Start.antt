@@ -4,8 +4,8 @@ use Rattle.sloth_base.specs.declared.image.Image.{Image}
 use Rattle.sloth_base.specs.Machine.{State}
 use Rattle.irq_ctrl.specs.Fresh.{fresh_lines}
 use Rattle.rv32_instr.specs.Memory.{Memory}
-unfoldable pub use Rattle.machine_memory.specs.Fresh.{ram_of}
-pub use Rattle.machine_memory.specs.Fresh.{sloth_start}
+use Rattle.machine_memory.specs.Fresh.{ram_of}
+use Rattle.machine_memory.specs.Fresh.{sloth_start}
 
 -- what a bus without a controller starts with
 abbrev pub flat_start : Image → Memory

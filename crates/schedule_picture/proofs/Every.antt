@@ -3,7 +3,7 @@ use Rattle.std.proofs.Common.{◌≡◌, ◌<◌, ◌+◌, ◌∙◌, inl, inr, 
 use Rattle.std.proofs.lemmas.Bool.Decides.{leb_tells}
 use Rattle.std.proofs.lemmas.List.{get_or-set_same, get_or-set_other, length-set, get_or_append_left}
 use Rattle.std.proofs.Math.Seq.{get_or-append_seam}
-use Rattle.lane_strips.specs.Strips.{Lane, empty_lane}
+use Rattle.lane_drawing.specs.Strips.{Lane, empty_lane}
 use Rattle.schedule_picture.specs.Lanes.{HaveChanged}
 
 module _ (P : (lane : ℕ) (old new : Lane) → Type 0) where

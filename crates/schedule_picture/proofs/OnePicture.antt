@@ -7,13 +7,13 @@ use Rattle.sloth_runner.specs.Sight.{task_levels}
 use Rattle.run_samples.specs.declared.sampling.Sample.{Sample}
 use Rattle.run_samples.specs.Samples.{AreSampledLevels}
 use Rattle.run_samples.proofs.OneSample.{one-samples}
-use Rattle.lane_strips.specs.declared.bars.Bar.{Bar}
-use Rattle.lane_strips.specs.declared.scale.Scale.{Scale}
-use Rattle.lane_strips.specs.Bars.{AreBars}
+use Rattle.lane_drawing.specs.declared.bars.Bar.{Bar}
+use Rattle.lane_drawing.specs.declared.scale.Scale.{Scale}
+use Rattle.lane_drawing.specs.Bars.{AreBars}
 use Rattle.std.specs.Prelude.{codes}
 use Rattle.std.specs.List.{flat_map}
 use Rattle.lane_drawing.specs.Drawing.{head_line, style_lines, axis_lines, lane_line, bar_line, lane_text, row_middle, shown_arrivals, legend_lines}
-use Rattle.lane_strips.proofs.Growing.{one_bars}
+use Rattle.lane_drawing.proofs.Growing.{one_bars}
 use Rattle.schedule_picture.specs.Looks.{look_at}
 use Rattle.schedule_picture.specs.Picture.{Drawing, IsPictureOf, scale_of, tasks_above, task_lane, task_lanes, picture_text}
 

@@ -9,19 +9,20 @@ use Rattle.sloth_base.specs.declared.event.Arrival.{Arrival}
 use Rattle.sloth_base.specs.declared.image.Image.{Image}
 use Rattle.rv32_machine.specs.Start.{start}
 use Rattle.rv32_machine.proofs.Runs.{stop_none}
-use Rattle.sloth_runner.specs.Runner.{HasRun, run_end, end_of, sloth_state}
+use Rattle.sloth_runner.specs.Runner.{HasRun, run_end, end_of}
+use Rattle.sloth_runner.specs.Moments.{sloth_state}
 use Rattle.sloth_runner.specs.declared.runner.Halt.{Halt}
 use Rattle.sloth_runner.specs.declared.runner.RunEnd.TheVariants as ends
 use Rattle.run_samples.specs.declared.sampling.Sample.{Sample}
 use Rattle.run_samples.specs.declared.sampling.Sampler.{Sampler}
 use Rattle.run_samples.specs.Samples.{AreSampledLevels, IsSample, IsSampling, StopsAt, sampled_image, sampled_arrivals, sampled_count}
 use Rattle.run_samples.proofs.OneSample.{samples-more}
-use Rattle.lane_strips.specs.declared.bars.Bar.{Bar}
-use Rattle.lane_strips.specs.declared.bars.Look.{Look}
-use Rattle.lane_strips.specs.declared.scale.Scale.{Scale}
-use Rattle.lane_strips.specs.Bars.{AreBars, IsInside}
-use Rattle.lane_strips.specs.Strips.{Lane, IsStrip, IsFresh, ShowsMore, empty_lane, last_bar}
-use Rattle.lane_strips.proofs.Growing.{same_strip}
+use Rattle.lane_drawing.specs.declared.bars.Bar.{Bar}
+use Rattle.lane_drawing.specs.declared.bars.Look.{Look}
+use Rattle.lane_drawing.specs.declared.scale.Scale.{Scale}
+use Rattle.lane_drawing.specs.Bars.{AreBars, IsInside}
+use Rattle.lane_drawing.specs.Strips.{Lane, IsStrip, IsFresh, ShowsMore, empty_lane, last_bar}
+use Rattle.lane_drawing.proofs.Growing.{same_strip}
 use Rattle.schedule_picture.specs.Lanes.{HaveChanged}
 use Rattle.schedule_picture.specs.Looks.{lane_look, look_at, no_sample}
 use Rattle.schedule_picture.specs.Picture.{IsPictureOf, picture_text, scale_of}

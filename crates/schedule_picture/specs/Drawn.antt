@@ -1,9 +1,9 @@
 -- What a picture's text is made of.
 use Rattle.std.specs.Prelude.{ℕ, ◌≡◌, ◌≤◌, ◌+◌, All, length, get_or}
 use Rattle.sloth_base.specs.ImageRange.{InFormat}
-use Rattle.lane_strips.specs.Bars.{IsInside}
-use Rattle.lane_strips.specs.Scale.{IsScale}
-use Rattle.lane_strips.specs.Strips.{empty_lane}
+use Rattle.lane_drawing.specs.Bars.{IsInside}
+use Rattle.lane_drawing.specs.Scale.{IsScale}
+use Rattle.lane_drawing.specs.Strips.{empty_lane}
 use Rattle.schedule_picture.specs.declared.text.Drawn.{Drawn}
 use Rattle.schedule_picture.specs.Picture.{Drawing}
 

@@ -1,6 +1,6 @@
 -- Lanes that change one after the other.
 use Rattle.std.specs.Prelude.{ℕ, ◌≡◌, ◌≤◌, ◌<◌, List, length, get_or}
-use Rattle.lane_strips.specs.Strips.{Lane, empty_lane}
+use Rattle.lane_drawing.specs.Strips.{Lane, empty_lane}
 
 -- the first lanes, so many of them, have changed so, and the others are as they were
 pub record HaveChanged (P : (lane : ℕ) (old new : Lane) → Type 0) (count : ℕ) (old new : List Lane) : Type 0 where

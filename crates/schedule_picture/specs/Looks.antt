@@ -2,10 +2,10 @@
 use Rattle.std.specs.Prelude.{ℕ, ◌+◌, ◌==◌, ◌||◌, is_some, Bool, cond, if◌then◌else◌, List, [], false, get_or, Option, Some, None}
 use Rattle.osek_scheduler.specs.declared.state.TaskState.{TaskState}
 use Rattle.osek_scheduler.specs.declared.state.TaskState.TheVariants as mode
-use Rattle.sloth_runner.specs.Sight.{Seen}
+use Rattle.sloth_runner.specs.declared.looks.Seen.{Seen}
 use Rattle.run_samples.specs.declared.sampling.Sample.{Sample}
-use Rattle.lane_strips.specs.declared.bars.Look.{Look}
-use Rattle.lane_strips.specs.declared.bars.Look.TheVariants as look
+use Rattle.lane_drawing.specs.declared.bars.Look.{Look}
+use Rattle.lane_drawing.specs.declared.bars.Look.TheVariants as look
 
 -- an Active task runs, or is preempted; a Suspended one is not shown
 abbrev pub task_look : TaskState → (runs : Bool) → Option Look

@@ -7,12 +7,12 @@ use Rattle.sloth_runner.specs.declared.runner.RunEnd.TheVariants as ends
 use Rattle.sloth_runner.specs.Runner.{run_end}
 use Rattle.run_samples.specs.declared.sampling.Sample.{Sample}
 use Rattle.run_samples.specs.Samples.{AreSampledLevels, AreSamples}
-use Rattle.lane_strips.specs.declared.bars.Bar.{Bar}
+use Rattle.lane_drawing.specs.declared.bars.Bar.{Bar}
 use Rattle.schedule_picture.specs.declared.picture.Picture.{Picture}
 use Rattle.schedule_picture.specs.declared.picture.Picture.TheVariants as picture
-use Rattle.lane_strips.specs.Bars.{AreBars}
+use Rattle.lane_drawing.specs.Bars.{AreBars}
 use Rattle.schedule_picture.specs.Looks.{look_at}
-use Rattle.lane_strips.specs.declared.scale.Scale.{Scale}
+use Rattle.lane_drawing.specs.declared.scale.Scale.{Scale}
 use Rattle.lane_drawing.specs.Drawing.{left_margin, head_line, style_lines, axis_lines, lane_text, lane_line, bar_line, row_middle, is_above, shown_arrivals, legend_lines}
 
 -- the length of the longest of the first names, so many of them, and at least that of `kernel`

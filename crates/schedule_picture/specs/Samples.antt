@@ -8,8 +8,8 @@ use Rattle.sloth_runner.specs.declared.runner.RunEnd.TheVariants as ends
 use Rattle.run_samples.specs.declared.sampling.Sample.{Sample}
 use Rattle.run_samples.specs.declared.sampling.Sampler.{Sampler}
 use Rattle.run_samples.specs.Samples.{AreSamples, IsSampling, sampled_image, sampled_arrivals, sampled_count}
-use Rattle.lane_strips.specs.Bars.{AreBars}
-use Rattle.lane_strips.specs.Strips.{Lane, IsStrip, empty_lane}
+use Rattle.lane_drawing.specs.Bars.{AreBars}
+use Rattle.lane_drawing.specs.Strips.{Lane, IsStrip, empty_lane}
 use Rattle.schedule_picture.specs.Looks.{look_at}
 
 -- it has given these, the first of a run of an image with arrivals

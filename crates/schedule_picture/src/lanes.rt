@@ -1,6 +1,6 @@
 //! The lanes of a picture, as the counts of a run come.
 ghost use Rattle.std.specs.Prelude.{ℕ, ◌≡◌, ◌≤◌, ◌<◌, ◌+◌, ◌++◌, OnOk, IfOk, length, get_or};
-ghost use Rattle.lane_strips.specs.Strips.{empty_lane, last_bar, ShowsMore, IsFresh};
+ghost use Rattle.lane_drawing.specs.Strips.{empty_lane, last_bar, ShowsMore, IsFresh};
 ghost use Rattle.schedule_picture.specs.Lanes.{HaveChanged};
 ghost use Rattle.schedule_picture.specs.Looks.{lane_look};
 

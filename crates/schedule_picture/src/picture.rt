@@ -4,7 +4,7 @@ ghost use Rattle.sloth_base.specs.ImageRange.{InFormat};
 ghost use Rattle.sloth_base.specs.Arrivals.{AreArrivals};
 ghost use Rattle.sloth_base.specs.Owners.{owners_named};
 ghost use Rattle.run_samples.specs.Samples.{IsSampling, sampled_image, sampled_arrivals, sampled_count};
-ghost use Rattle.lane_strips.specs.Strips.{IsFresh, empty_lane};
+ghost use Rattle.lane_drawing.specs.Strips.{IsFresh, empty_lane};
 ghost use Rattle.schedule_picture.specs.Samples.{HasGivenFirst, HasBars, StopsBefore};
 ghost use Rattle.schedule_picture.specs.Picture.{IsPicture, IsPictureOf};
 

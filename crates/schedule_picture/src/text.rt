@@ -1,9 +1,9 @@
 //! The text of a picture.
 ghost use Rattle.std.specs.Prelude.{◌≡◌, ◌≤◌, ◌<◌, ◌+◌, ◌*◌, ◌++◌, IfOk, OnOk, All, length};
 ghost use Rattle.sloth_base.specs.ImageRange.{InFormat};
-ghost use Rattle.lane_strips.specs.Bars.{IsInside};
+ghost use Rattle.lane_drawing.specs.Bars.{IsInside};
 ghost use Rattle.lane_drawing.specs.Drawing.{is_above};
-ghost use Rattle.lane_strips.specs.Scale.{IsScale};
+ghost use Rattle.lane_drawing.specs.Scale.{IsScale};
 ghost use Rattle.schedule_picture.specs.Drawn.{IsDrawable, drawing_of};
 ghost use Rattle.schedule_picture.specs.Picture.{longest_of, scale_of, tasks_above, task_lane, picture_text};
 

@@ -8,7 +8,7 @@ use Rattle.sloth_base.specs.declared.app.Op.{Op}
 use Rattle.sloth_base.specs.declared.app.Op.TheVariants as op
 use Rattle.sloth_base.specs.Named.{function, operation}
 use Rattle.code_rules.specs.Code.{IsItem, Calls}
-use Rattle.code_tables.specs.Tables.{max_below}
+use Rattle.call_graph.specs.Tables.{max_below}
 use Rattle.stack_bounds.proofs.Below.{max_below-at, max_below-some, last_or_before}
 use Rattle.bound_rules.specs.declared.bodies.Body.{Body}
 use Rattle.bound_rules.specs.declared.sizes.Summary.{Summary}

@@ -6,7 +6,7 @@ use Rattle.sloth_base.specs.declared.app.Op.TheVariants as op
 use Rattle.sloth_base.specs.Named.{item_of, label_of}
 use Rattle.code_rules.specs.Code.{is_followed, way}
 use Rattle.call_graph.specs.Reached.{any_below}
-use Rattle.code_tables.specs.Tables.{max_below}
+use Rattle.call_graph.specs.Tables.{max_below}
 use Rattle.raised_sections.specs.Sections.{is_counted}
 use Rattle.section_sizes.specs.declared.graph.Ways.{Ways}
 use Rattle.bound_rules.specs.declared.bodies.Body.{Body}

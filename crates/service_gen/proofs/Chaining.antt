@@ -23,7 +23,7 @@ use Rattle.block_parts.proofs.Returning.{goes_back}
 use Rattle.block_parts.proofs.Busy.{Finds, looks_owe}
 use Rattle.service_gen.proofs.Ending.{ends_owe, ended_below, has_ended}
 use Rattle.block_parts.proofs.Serving.{opens_within}
-use Rattle.routine_pieces.specs.Services.{own_task_code, refusing_code}
+use Rattle.block_parts.specs.Services.{own_task_code, refusing_code}
 use Rattle.block_parts.specs.Pieces.{ending_code, looking_code, raising_code, back_code}
 use Rattle.block_parts.specs.Looks.{LooksSuspended}
 use Rattle.service_gen.specs.TerminateTask.{ended_ram, Terminated}

@@ -13,7 +13,7 @@ use Rattle.masked_code.proofs.Spread.{based}
 use Rattle.masked_code.proofs.Routines.{masked}
 use Rattle.block_parts.proofs.Returning.{goes_back_at}
 use Rattle.block_parts.proofs.Serving.{opens}
-use Rattle.routine_pieces.specs.Services as piece
+use Rattle.block_parts.specs.Services as piece
 use Rattle.service_gen.specs.ReleaseResource.{MayRelease, Released, Releases}
 
 -- the code behind the masking instruction

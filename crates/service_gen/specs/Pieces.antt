@@ -8,7 +8,7 @@ use Rattle.rv32_instr.specs.declared.InstrKind.{InstrKind}
 use Rattle.rv32_instr.specs.declared.InstrKind.TheVariants.{Jal, Beq, Lw, Lbu, Addi, Xori, Sltu, Slli, Csrrw, Mret}
 use Rattle.masked_code.specs.Kernel.{masking}
 use Rattle.masked_code.specs.Pieces.{past}
-use Rattle.routine_pieces.specs.Services.{resting_telling_code}
+use Rattle.block_parts.specs.Services.{resting_telling_code}
 
 -- ActivateTask's status: E_OK, which is 0, where x1 is 1, and E_OS_LIMIT, which is 4, where it is 0
 abbrev pub status_code : List InstrKind

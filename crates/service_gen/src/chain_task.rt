@@ -1,13 +1,13 @@
 //! ChainTask: the running task ends, and another, or itself, is activated; but where that task isn't Suspended nothing
 //! happens.
 ghost use Rattle.std.specs.Prelude.{◌≡◌, ◌<◌, ◌++◌, IfOk, OnOk};
-ghost use Rattle.routine_pieces.specs.Services.{refusing_code};
+ghost use Rattle.block_parts.specs.Services.{refusing_code};
 ghost use Rattle.service_gen.specs.ChainTask.{Chains};
 
+use block_parts::leaving::leave;
 use block_parts::pieces::{BACK, end, go_back, look_at, open, raise};
+use block_parts::services::ask;
 use masked_code::emit::{emit, past};
-use routine_pieces::leaving::leave;
-use routine_pieces::services::ask;
 use rv32_instr::Instr;
 use rv32_instr::asm::{A0, X1, ZERO, addi, bne};
 use sloth_base::service::E_OS_LIMIT;

@@ -4,8 +4,8 @@ ghost use Rattle.service_gen.specs.Pieces.{ok_back_code};
 ghost use Rattle.service_gen.specs.GetResource.{Takes};
 
 use block_parts::pieces::{go_back, open};
+use block_parts::services::take;
 use masked_code::emit::emit;
-use routine_pieces::services::take;
 use rv32_instr::Instr;
 use rv32_instr::asm::{A0, ZERO, addi};
 use sloth_base::service::E_OK;

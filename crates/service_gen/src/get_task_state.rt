@@ -4,8 +4,8 @@ ghost use Rattle.service_gen.specs.Pieces.{active_task_test, active_telling_code
 ghost use Rattle.service_gen.specs.GetTaskState.{TellsState};
 
 use block_parts::pieces::{BACK, go_back, open};
+use block_parts::services::tell_resting;
 use masked_code::emit::{emit, past};
-use routine_pieces::services::tell_resting;
 use rv32_instr::Instr;
 use rv32_instr::asm::{A0, A1, X1, X3, X4, ZERO, addi, beq, lbu, lw, slli, sltu};
 use sloth_base::service::E_OK;

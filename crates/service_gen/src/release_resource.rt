@@ -3,7 +3,7 @@ ghost use Rattle.std.specs.Prelude.{◌≤◌, IfOk};
 ghost use Rattle.service_gen.specs.ReleaseResource.{Releases};
 
 use block_parts::pieces::open;
-use routine_pieces::services::release;
+use block_parts::services::release;
 use rv32_instr::Instr;
 use std::alloc::{AllocError, Global};
 

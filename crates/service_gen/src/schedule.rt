@@ -4,8 +4,8 @@ ghost use Rattle.service_gen.specs.Pieces.{way_back_address_code, way_back_code,
 ghost use Rattle.service_gen.specs.Schedule.{Yields};
 
 use block_parts::pieces::open;
+use block_parts::services::lower;
 use masked_code::emit::{emit, past};
-use routine_pieces::services::lower;
 use rv32_instr::Instr;
 use rv32_instr::asm::{A0, X1, X30, X31, ZERO, addi, csrrci, csrrw, jal, mret};
 use rv32_instr::csr::{MEPC, MIE, MSTATUS, PLEVEL};

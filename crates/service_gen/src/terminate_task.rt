@@ -2,8 +2,8 @@
 ghost use Rattle.std.specs.Prelude.{IfOk};
 ghost use Rattle.service_gen.specs.TerminateTask.{Terminates};
 
+use block_parts::leaving::leave;
 use block_parts::pieces::{end, open};
-use routine_pieces::leaving::leave;
 use rv32_instr::Instr;
 use std::alloc::{AllocError, Global};
 

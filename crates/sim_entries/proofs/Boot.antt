@@ -10,8 +10,10 @@ use Rattle.sloth_base.specs.Owners.{first_counter_line, counter_line, line_kind,
 use Rattle.sloth_base.specs.declared.lines.LineKind.TheVariants as line_of
 use Rattle.sloth_base.specs.declared.lines.Owners.{Owners}
 use Rattle.sloth_base.proofs.Owners.{unused_behind, counter_owned}
-use Rattle.rv32_machine.specs.Start.{ram_of, start}
-use Rattle.osek_scheduler.specs.State.{declaration, opening, opening_clock}
+use Rattle.machine_memory.specs.Fresh.{ram_of}
+use Rattle.rv32_machine.specs.Start.{start}
+use Rattle.sloth_base.specs.Named.{declaration}
+use Rattle.osek_scheduler.specs.State.{opening, opening_clock}
 use Rattle.osek_scheduler.specs.Steps.{OsekStep}
 use Rattle.vector_gen.specs.Boot.{Booted}
 use Rattle.sim_relation.specs.Build.{Build, Fits}

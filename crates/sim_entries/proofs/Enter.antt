@@ -10,7 +10,8 @@ use Rattle.sloth_base.specs.Machine.{State}
 use Rattle.sloth_base.specs.Choose.{choose}
 use Rattle.sloth_region.specs.Layout.{resume}
 use Rattle.osek_scheduler.specs.declared.state.TaskState.TheVariants as mode
-use Rattle.osek_scheduler.specs.State.{Task, System, task, with_task, declaration, body_of, entry_frame, zero_registers}
+use Rattle.osek_scheduler.specs.State.{Task, System, task, with_task, entry_frame, zero_registers}
+use Rattle.sloth_base.specs.Named.{declaration, body_of}
 use Rattle.sloth_base.specs.Named.{function, no_function}
 use Rattle.osek_scheduler.specs.Priority.{is_active}
 use Rattle.osek_scheduler.specs.Services.{started_task, entered_state}

@@ -11,7 +11,7 @@ use Rattle.sloth_base.specs.declared.places.Levels.{Levels}
 use Rattle.sloth_region.specs.declared.map.Map.{Map}
 use Rattle.rv32_instr.specs.declared.InstrKind.{InstrKind}
 use Rattle.expansion_parts.specs.Expansion.{item_address}
-use Rattle.osek_scheduler.specs.State.{declaration, undeclared_task, body_of}
+use Rattle.sloth_base.specs.Named.{declaration, undeclared_task, body_of}
 use Rattle.sloth_base.specs.Named.{function, no_function}
 use Rattle.osek_scheduler.specs.Priority.{greatest, highest_priority}
 use Rattle.prologue_gen.specs.Places.{EntersTask, DoesEnter, frame_at, first_item}

@@ -12,7 +12,8 @@ use Rattle.rv32_instr.specs.Ram.{word_at, with_word}
 use Rattle.prologue_gen.specs.Fresh.{saved_registers}
 use Rattle.masked_code.proofs.Words.{word_at-same, get_or-with_word, length-with_word}
 use Rattle.osek_scheduler.specs.declared.state.TaskState.TheVariants as mode
-use Rattle.osek_scheduler.specs.State.{Frame, Task, System, HasBody, task, with_task, declaration}
+use Rattle.osek_scheduler.specs.State.{Frame, Task, System, HasBody, task, with_task}
+use Rattle.sloth_base.specs.Named.{declaration}
 use Rattle.osek_scheduler.specs.Priority.{is_active}
 use Rattle.osek_scheduler.specs.Services.{started_task, entered_state}
 use Rattle.osek_scheduler.specs.Steps.{OsekStep, settled_state}

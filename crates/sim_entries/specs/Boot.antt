@@ -2,7 +2,8 @@
 use Rattle.std.specs.Prelude.{ℕ, ◌<◌, ◌≤◌, ◌≡◌, List, length, slice_index}
 use Rattle.sloth_base.specs.declared.image.Image.{Image}
 use Rattle.sloth_region.specs.Layout.{idle_context}
-use Rattle.osek_scheduler.specs.State.{declaration, opening, opening_clock}
+use Rattle.sloth_base.specs.Named.{declaration}
+use Rattle.osek_scheduler.specs.State.{opening, opening_clock}
 use Rattle.sloth_base.specs.PriorityLevels.{level_of}
 use Rattle.sim_relation.specs.Build.{Build}
 use Rattle.sim_relation.specs.ClockStands.{ClockStands, IsBesideClock}

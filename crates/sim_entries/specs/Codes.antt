@@ -3,7 +3,7 @@ use Rattle.std.specs.Prelude.{ℕ, ℤ, ◌+◌, ◌<◌, ◌≤◌, ◌≡◌, 
 use Rattle.rv32_instr.specs.declared.InstrKind.{InstrKind}
 use Rattle.rv32_instr.specs.declared.InstrKind.TheVariants.{Jal}
 use Rattle.sloth_base.specs.Arithmetic.{plus}
-use Rattle.osek_scheduler.specs.State.{body_of}
+use Rattle.sloth_base.specs.Named.{body_of}
 use Rattle.sloth_base.specs.Named.{function}
 use Rattle.sloth_base.specs.MemoryMap.{memory_base}
 use Rattle.vector_gen.specs.Boot.{Boots}

@@ -4,7 +4,8 @@ use Rattle.sloth_base.specs.Machine.{State}
 use Rattle.sloth_base.specs.Take.{take}
 use Rattle.rv32_instr.specs.declared.InstrKind.{InstrKind}
 use Rattle.expansion_parts.specs.Expansion.{item_address}
-use Rattle.osek_scheduler.specs.State.{System, task, declaration, body_of}
+use Rattle.osek_scheduler.specs.State.{System, task}
+use Rattle.sloth_base.specs.Named.{declaration, body_of}
 use Rattle.sloth_base.specs.Named.{function}
 use Rattle.prologue_gen.specs.Fresh.{Entered}
 use Rattle.prologue_gen.specs.Resumed.{Resumed}

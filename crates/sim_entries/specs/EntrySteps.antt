@@ -11,7 +11,8 @@ use Rattle.rv32_machine.specs.Run.{state_with_arrivals}
 use Rattle.rv32_machine.specs.Start.{start}
 use Rattle.masked_code.specs.Trace.{Trace}
 use Rattle.observe.specs.Observe.{View}
-use Rattle.osek_scheduler.specs.State.{System, HasBody, task, declaration, body_of, opening}
+use Rattle.osek_scheduler.specs.State.{System, HasBody, task, opening}
+use Rattle.sloth_base.specs.Named.{declaration, body_of}
 use Rattle.sloth_base.specs.Named.{function}
 use Rattle.sloth_base.specs.MemoryMap.{memory_base}
 use Rattle.osek_scheduler.specs.Services.{entered_state}

@@ -6,7 +6,7 @@ use Rattle.sloth_base.specs.declared.places.Levels.{Levels}
 use Rattle.sloth_base.specs.MemoryMap.{memory_base}
 use Rattle.sloth_region.specs.declared.map.Map.{Map}
 use Rattle.rv32_instr.specs.declared.InstrKind.{InstrKind}
-use Rattle.osek_scheduler.specs.State.{body_of}
+use Rattle.sloth_base.specs.Named.{body_of}
 use Rattle.prologue_gen.specs.Places.{EntersTask}
 use Rattle.sim_relation.specs.Build.{Build, Fits}
 use Rattle.sim_entries.specs.Boot.{AreLevelsOf}

@@ -6,7 +6,8 @@ use Rattle.std.proofs.lemmas.Bool.{cases_lt}
 use Rattle.std.proofs.lemmas.List.{get_or_append_left, get_or_default, length-append}
 use Rattle.std.proofs.Math.ListN.{get_or-map, length-map}
 use Rattle.rv32_instr.specs.declared.block.Block.{Block}
-use Rattle.sloth_link.specs.Linked.{AreApart, Section, block_section}
+use Rattle.sloth_link.specs.Linked.{AreApart}
+use Rattle.mem_map.specs.Sections.{Section, block_section}
 
 -- a block by its place among all sections
 section_at : (blocks : List Block) (rest : List Section) (k : ℕ) (x : Block) (d : Section) → k < length blocks → get_or blocks k x ≡ x

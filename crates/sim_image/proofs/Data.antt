@@ -14,7 +14,8 @@ use Rattle.sloth_region.specs.Region.{FollowWithin, aligned}
 use Rattle.sloth_region.proofs.Placed.{apart_within}
 use Rattle.mem_map.specs.Plan.{symbol_bytes, data_extents}
 use Rattle.mem_map.specs.Run.{extents_of}
-use Rattle.mem_map.specs.Zones.{data_zone, no_extent}
+use Rattle.mem_map.specs.Zones.{data_zone}
+use Rattle.mem_map.specs.StackParts.{no_extent}
 use Rattle.sloth_link.specs.Linked.{datum_section}
 use Rattle.sloth_link.specs.Room.{AreIn}
 use Rattle.sloth_link.specs.Symbols.{data_of}

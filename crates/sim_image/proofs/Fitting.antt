@@ -15,7 +15,8 @@ use Rattle.sim_relation.specs.Build.{Build, Fits, IsElsewhere}
 use Rattle.sim_relation.specs.Placed.{IsPlaced}
 use Rattle.sim_relation.specs.Stands.{AreApart}
 use Rattle.sloth_link.specs.Linked.{BlockStands}
-use Rattle.mem_map.specs.Zones.{HasZones, code_zone, data_zone, all_stacks, no_extent}
+use Rattle.mem_map.specs.Zones.{HasZones, code_zone, data_zone, all_stacks}
+use Rattle.mem_map.specs.StackParts.{no_extent}
 use Rattle.mem_map.specs.Stacks.{HasStacks, top_of}
 use Rattle.sloth_base.specs.declared.places.Bounds.{Bounds}
 use Rattle.stack_bounds.specs.Bounds.{MayMeet, bytes_of}

@@ -36,7 +36,7 @@ use Rattle.block_parts.specs.Marks.{opening, back_mark}
 use Rattle.service_blocks.specs.Calls.{ServesCall}
 use Rattle.sloth_base.specs.Arithmetic.{sum32}
 use Rattle.service_gen.specs.Schedule.{way_back, Yields}
-use Rattle.sim_laws.specs.Kernel.{HasWayBack}
+use Rattle.sim_services.specs.Stretch.{HasWayBack}
 use Rattle.sim_relation.specs.Build.{Build}
 use Rattle.sim_relation.specs.Placed.{IsPlaced}
 use Rattle.sim_entries.specs.Generated.{HasOneBody}
@@ -48,7 +48,8 @@ use Rattle.sim_laws.specs.Items.{HasItems}
 use Rattle.sim_laws.proofs.Items.{marks_found, item_stands}
 use Rattle.sim_laws.proofs.Known.{item_known}
 use Rattle.sloth_link.specs.declared.datum.Datum.{Datum}
-use Rattle.sloth_link.specs.Linked.{marks_of, code_bytes, block_section, datum_section, IsInside}
+use Rattle.mem_map.specs.Sections.{marks_of, code_bytes, block_section, IsInside}
+use Rattle.sloth_link.specs.Linked.{datum_section}
 use Rattle.sloth_link.proofs.Written.{code_bytes_length, front_of}
 use Rattle.mem_map.specs.Zones.{code_zone}
 use Rattle.sloth_base.specs.declared.places.Bounds.{Bounds}

@@ -8,7 +8,7 @@ use Rattle.sloth_region.specs.declared.map.Map.{Map}
 use Rattle.sloth_region.specs.Region.{FollowWithin}
 use Rattle.rv32_instr.specs.declared.block.Block.{Block}
 use Rattle.mem_map.specs.Zones.{code_zone}
-use Rattle.sloth_link.specs.Linked.{addresses, marks_of}
+use Rattle.mem_map.specs.Sections.{addresses, marks_of}
 use Rattle.sloth_link.proofs.Written.{code_bytes_length}
 use Rattle.sim_image.specs.Zones.{IsInCode}
 use Rattle.sim_image.specs.Rooms.{FitRooms, FollowClosely, MarksRise, BlocksAreIn, BlocksAreInCode, BlocksFollowClosely, MarksDiffer}

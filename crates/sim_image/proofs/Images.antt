@@ -22,7 +22,8 @@ use Rattle.sim_relation.specs.Build.{Build}
 use Rattle.sim_relation.specs.DataStands.{ByteStands}
 use Rattle.sim_relation.proofs.Starting.{zero_word}
 use Rattle.sloth_link.specs.declared.datum.Datum.{Datum}
-use Rattle.sloth_link.specs.Linked.{block_section, datum_section, sections_of, Holds, Misses}
+use Rattle.mem_map.specs.Sections.{block_section}
+use Rattle.sloth_link.specs.Linked.{datum_section, sections_of, Holds, Misses}
 use Rattle.sloth_link.specs.Image.{all_data}
 use Rattle.sloth_link.proofs.Joined.{front}
 use Rattle.sloth_link.proofs.Stand.{symbols_stand, word_of}

@@ -7,7 +7,8 @@ use Rattle.std.proofs.lemmas.List.{get_or_default}
 use Rattle.std.proofs.lemmas.List.Elements.{All-nil, All-cons}
 use Rattle.sloth_base.specs.declared.image.Mark.{Mark}
 use Rattle.rv32_instr.specs.declared.block.Block.{Block}
-use Rattle.sloth_link.specs.Linked.{AreApart, Section, block_section, code_bytes}
+use Rattle.sloth_link.specs.Linked.{AreApart}
+use Rattle.mem_map.specs.Sections.{Section, block_section, code_bytes}
 use Rattle.sloth_link.proofs.Written.{code_bytes_length}
 use Rattle.sim_image.specs.Rooms.{HasOwnMarks}
 use Rattle.sim_image.proofs.Apart.{apart_at}

@@ -36,7 +36,7 @@ use Rattle.sim_relation.specs.Bounds.{AreBelow}
 use Rattle.sim_ticks.specs.TickSteps.{IsTick}
 use Rattle.sim_laws.specs.Generated.{IsGenerated}
 use Rattle.sloth_link.specs.declared.datum.Datum.{Datum}
-use Rattle.sloth_link.specs.Linked.{marks_of, addresses}
+use Rattle.mem_map.specs.Sections.{marks_of, addresses}
 use Rattle.sim_image.specs.Zones.{build_of}
 use Rattle.sim_image.specs.Rooms.{HasOwnMarks}
 use Rattle.sloth_link.specs.Items.{HaveItems, MarksAreOfItems}

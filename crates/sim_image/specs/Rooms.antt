@@ -10,7 +10,7 @@ use Rattle.sloth_region.specs.Region.{FollowWithin}
 use Rattle.rv32_instr.specs.declared.block.Block.{Block}
 use Rattle.mem_map.specs.Run.{AreClose}
 use Rattle.mem_map.specs.Zones.{code_zone}
-use Rattle.sloth_link.specs.Linked.{HaveOwnAddresses, block_section, marks_of}
+use Rattle.mem_map.specs.Sections.{HaveOwnAddresses, block_section, marks_of}
 use Rattle.sloth_link.specs.Room.{AreIn}
 use Rattle.sim_image.specs.Zones.{IsInCode}
 

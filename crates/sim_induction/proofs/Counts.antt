@@ -6,7 +6,8 @@ use Rattle.std.proofs.lemmas.List.Sums.{sum_by-cons, sum_by-append}
 use Rattle.sloth_base.specs.declared.event.Arrival.{Arrival}
 use Rattle.sloth_base.specs.declared.event.Stamped.{Stamped}
 use Rattle.sloth_base.specs.Arrivals.{moments}
-use Rattle.osek_scheduler.specs.InTime.{is_admit, admitted_line, admits_at, arrivals_at}
+use Rattle.osek_scheduler.specs.InTime.{is_admit, admits_at, arrivals_at}
+use Rattle.sloth_base.specs.Events.{admitted_line}
 use Rattle.sloth_base.specs.Options.{is_number}
 use Rattle.sim_induction.specs.Admits.{admit_event}
 use Rattle.sim_induction.proofs.Lines.{line_back}

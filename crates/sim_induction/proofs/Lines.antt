@@ -14,7 +14,8 @@ use Rattle.sloth_base.proofs.Owners.{IsCounterLine, kind_of_task, kind_of_counte
 use Rattle.observe.specs.Observe.{arrival_event}
 use Rattle.osek_scheduler.specs.State.{System}
 use Rattle.osek_scheduler.specs.Steps.{admitted_state, due_state, OsekStep}
-use Rattle.osek_scheduler.specs.InTime.{admitted_line, is_admit, SpansFor, IsOrdered, StandsBefore}
+use Rattle.sloth_base.specs.Events.{admitted_line}
+use Rattle.osek_scheduler.specs.InTime.{is_admit, SpansFor, IsOrdered, StandsBefore}
 use Rattle.osek_scheduler.specs.Runs.{PassesOverArrivals}
 use Rattle.sim_induction.specs.Admits.{line_event, with_arrival, admit_event}
 

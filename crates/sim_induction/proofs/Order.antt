@@ -5,7 +5,8 @@ use Rattle.std.proofs.lemmas.List.{map-append}
 use Rattle.std.proofs.lemmas.List.Elements.{All-cons}
 use Rattle.sloth_base.specs.declared.event.Arrival.{Arrival}
 use Rattle.sloth_base.specs.declared.event.Stamped.{Stamped}
-use Rattle.osek_scheduler.specs.InTime.{is_admit, admitted_line, IsSubsequence, KeepsOrder}
+use Rattle.osek_scheduler.specs.InTime.{is_admit, IsSubsequence, KeepsOrder}
+use Rattle.sloth_base.specs.Events.{admitted_line}
 use Rattle.sim_induction.specs.Admits.{admit_event}
 use Rattle.sim_induction.proofs.Lines.{line_back}
 use Rattle.std.specs.List.{AllByRecursion}

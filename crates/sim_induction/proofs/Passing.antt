@@ -11,8 +11,10 @@ use Rattle.sloth_base.specs.Owners.{first_counter_line, owners_in, AreTasks}
 use Rattle.sloth_base.proofs.Owners.{task_owned}
 use Rattle.osek_scheduler.specs.declared.state.TaskState.{TaskState}
 use Rattle.osek_scheduler.specs.declared.state.TaskState.TheVariants as mode
-use Rattle.osek_scheduler.specs.State.{Task, Clock, System, task, with_task, sleeping_task, no_counter, declaration, opening}
-use Rattle.osek_scheduler.specs.Priority.{IsTop, IsDue, rank, is_in, is_active, current_priority}
+use Rattle.osek_scheduler.specs.State.{Task, Clock, System, task, with_task, sleeping_task, no_counter, opening}
+use Rattle.sloth_base.specs.Named.{declaration}
+use Rattle.osek_scheduler.specs.Priority.{IsTop, IsDue, rank, is_active, current_priority}
+use Rattle.code_rules.specs.Code.{is_in}
 use Rattle.osek_scheduler.specs.Services.{if_suspended, activated_state}
 use Rattle.osek_scheduler.specs.Steps.{OsekStep, admitted_state}
 use Rattle.osek_scheduler.specs.Runs.{Leads, ReadySince, PassesOver}

@@ -7,7 +7,8 @@ use Rattle.sloth_base.specs.Owners.{counter_line}
 use Rattle.sloth_base.specs.PriorityLevels.{level_of}
 use Rattle.rv32_instr.specs.Ram.{word_at}
 use Rattle.osek_scheduler.specs.declared.state.TaskState.TheVariants as mode
-use Rattle.osek_scheduler.specs.State.{System, task, counter, declaration}
+use Rattle.osek_scheduler.specs.State.{System, task, counter}
+use Rattle.sloth_base.specs.Named.{declaration}
 use Rattle.osek_scheduler.specs.Priority.{current_priority}
 
 -- the current priority of a task

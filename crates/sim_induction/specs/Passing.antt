@@ -6,7 +6,8 @@ use Rattle.sloth_base.specs.declared.event.Stamped.{Stamped}
 use Rattle.sloth_base.specs.Owners.{first_counter_line, owners_in, AreTasks}
 use Rattle.osek_scheduler.specs.declared.state.TaskState.TheVariants as mode
 use Rattle.osek_scheduler.specs.State.{System, task, opening}
-use Rattle.osek_scheduler.specs.Priority.{IsTop, is_in}
+use Rattle.osek_scheduler.specs.Priority.{IsTop}
+use Rattle.code_rules.specs.Code.{is_in}
 use Rattle.osek_scheduler.specs.Runs.{Leads, PassesOver}
 use Rattle.masked_code.specs.Trace.{Trace, early_arrivals}
 use Rattle.sim_induction.specs.Admits.{with_admits, admit_event, arrivals_before_event}

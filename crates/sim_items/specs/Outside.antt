@@ -22,7 +22,7 @@ use Rattle.sim_induction.specs.Admits.{IsSetting, lines_at, with_admits}
 use Rattle.sim_induction.specs.PieceLaws.{OutsideLaw}
 use Rattle.sim_relation.specs.Build.{Build, Fits}
 use Rattle.sim_relation.specs.Stands.{Stands}
-pub use Rattle.sim_relation.specs.Placed.{setting_of}
+use Rattle.sim_relation.specs.Placed.{setting_of}
 use Rattle.sim_relation.specs.Placed.{IsPlaced}
 use Rattle.sim_items.specs.Place.{AtItem, InCall, InReturn, ItemStands, FunctionStands, IsStraight, IsFlow, IsCall, IsReturn, HasNumbers}
 use Rattle.sim_items.specs.Progress.{progress_in}

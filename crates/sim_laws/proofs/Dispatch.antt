@@ -16,7 +16,7 @@ use Rattle.sloth_base.specs.Named.{operation, function}
 use Rattle.observe.specs.Observe.{View, view_of_image}
 use Rattle.osek_scheduler.specs.declared.state.TaskState.TheVariants as mode
 use Rattle.osek_scheduler.specs.State.{Frame, System, task}
-use Rattle.osek_scheduler.specs.Priority.{is_in}
+use Rattle.code_rules.specs.Code.{is_in}
 use Rattle.sim_induction.specs.Admits.{IsSetting, lines_at, with_admits}
 use Rattle.sim_induction.specs.Advances.{Advances}
 use Rattle.sim_induction.specs.PieceLaws.{StretchLaw}
@@ -35,7 +35,8 @@ use Rattle.sim_relation.proofs.Tops.{falling_head}
 use Rattle.sim_entries.specs.Range.{IsSane}
 use Rattle.sim_entries.proofs.EnterRoute.{enter_advances}
 use Rattle.sim_items.specs.Place.{AtItem, HasNumbers, IsStraight, IsFlow, IsCall, IsReturn}
-use Rattle.sim_items.specs.Outside.{setting_of, StandsAt, GoesOutside, JumpsToService, JumpsWithMask}
+use Rattle.sim_relation.specs.Placed.{setting_of}
+use Rattle.sim_items.specs.Outside.{StandsAt, GoesOutside, JumpsToService, JumpsWithMask}
 use Rattle.sim_items.specs.Progress.{progress_in}
 use Rattle.sim_items.proofs.Call.{call_begins, call_goes_on}
 use Rattle.sim_items.proofs.Return.{return_begins, return_goes_on}
@@ -49,8 +50,8 @@ use Rattle.sim_services.specs.Stretch.{OpensGoingOn}
 use Rattle.sim_services.proofs.GoingOnStretch.{activates_stretches, chain_stretches, releases_stretches, states_stretches, takes_stretches, tells_stretches}
 use Rattle.sim_services.proofs.ScheduleStretch.{back_stretches, yields_stretches}
 use Rattle.sim_services.proofs.TerminateStretch.{terminate_stretches}
-use Rattle.sim_events.proofs.Stretches as on_events
-use Rattle.sim_events.proofs.WaitStretch.{wait_stretches}
+use Rattle.sim_services.proofs.Stretches as on_events
+use Rattle.sim_services.proofs.WaitStretch.{wait_stretches}
 use Rattle.sim_ticks.specs.AlarmSteps.{OpensAlarm}
 use Rattle.sim_ticks.proofs.AlarmStretches.{relative_stretches, absolute_stretches, cancel_stretches, told_stretches}
 use Rattle.sim_ticks.proofs.TickRoute.{tick_advances}

@@ -11,7 +11,7 @@ use Rattle.sloth_base.specs.Arithmetic.{plus}
 use Rattle.rv32_instr.specs.Ram.{word_at}
 use Rattle.rv32_instr.specs.Table.{Decode}
 use Rattle.masked_code.specs.Place.{InPlace}
-use Rattle.osek_scheduler.specs.State.{undeclared_task}
+use Rattle.sloth_base.specs.Named.{undeclared_task}
 use Rattle.vector_gen.specs.Boot.{Boots}
 use Rattle.vector_gen.specs.Vectors.{AreJumps}
 use Rattle.prologue_gen.specs.Fresh.{vector}

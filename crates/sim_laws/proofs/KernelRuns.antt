@@ -36,7 +36,7 @@ use Rattle.sim_relation.proofs.MirrorOf.{mirror_of}
 use Rattle.sim_entries.proofs.Boot.{ram_at}
 use Rattle.sim_entries.proofs.BootRoute.{boot_stretch}
 use Rattle.sim_entries.proofs.Spot.{zero_at}
-use Rattle.sim_items.specs.Outside.{setting_of}
+use Rattle.sim_relation.specs.Placed.{setting_of}
 use Rattle.sim_items.specs.Progress.{passed_count_at, passed_count_in, progress_in}
 use Rattle.sim_laws.specs.Bounded.{IsBounded}
 use Rattle.sim_laws.specs.Kernel.{Kernel}

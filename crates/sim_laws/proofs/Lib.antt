@@ -10,3 +10,4 @@ pub mod Generated
 pub mod Items
 pub mod Known
 pub mod Ceilings
+pub mod Shown

@@ -10,7 +10,8 @@ use Rattle.sloth_base.specs.declared.app.Op.TheVariants as op
 use Rattle.sloth_base.specs.declared.config.Config.{Config}
 use Rattle.sloth_base.specs.declared.service.Service.{Service}
 use Rattle.sloth_base.specs.ServiceCodes.{has_mask}
-use Rattle.code_rules.specs.AppRange.{AreOperands, AreEvents, IsMask, no_event}
+use Rattle.code_rules.specs.AppRange.{AreOperands, AreEvents, IsMask}
+use Rattle.sloth_base.specs.ConfigRange.{no_event}
 use Rattle.code_rules.specs.AppRange as ranges
 use Rattle.code_rules.specs.Code.{IsItem}
 use Rattle.rv32_instr.specs.declared.InstrKind.{InstrKind}

@@ -6,11 +6,12 @@ use Rattle.stack_bounds.specs.Bounds.{MayMeet}
 use Rattle.stack_bounds.specs.Bounds.MayMeet.{meets_waiting, is_over}
 use Rattle.osek_scheduler.specs.declared.state.TaskState.{TaskState}
 use Rattle.osek_scheduler.specs.declared.state.TaskState.TheVariants as mode
-use Rattle.osek_scheduler.specs.State.{System, task, declaration}
+use Rattle.osek_scheduler.specs.State.{System, task}
+use Rattle.sloth_base.specs.Named.{declaration}
 use Rattle.osek_valid.specs.Valid.{IsValid, InState}
-use Rattle.osek_valid.specs.Together.{OwesBySchedule}
+use Rattle.shared_stacks.specs.Together.{OwesBySchedule}
 use Rattle.osek_valid.proofs.Apart.{at_least_static}
-use Rattle.osek_valid.proofs.Together.{lower_may}
+use Rattle.shared_stacks.proofs.Together.{lower_may}
 use Rattle.sim_relation.specs.Build.{Build}
 use Rattle.sim_relation.specs.Stands.{Stands, IsAlive}
 use Rattle.sim_relation.proofs.Choice.{taken_above}

@@ -2,9 +2,9 @@
 use Rattle.std.proofs.Common.{ℕ, List, [], ◌∷◌, arith}
 use Rattle.osek_scheduler.specs.State.{System, task}
 use Rattle.osek_valid.specs.Valid.{IsValid}
-use Rattle.osek_valid.specs.Together.{OwesBySchedule}
+use Rattle.shared_stacks.specs.Together.{OwesBySchedule}
 use Rattle.osek_valid.proofs.Apart.{at_least_static}
-use Rattle.osek_valid.proofs.Together.{lower_may}
+use Rattle.shared_stacks.proofs.Together.{lower_may}
 use Rattle.sim_relation.specs.Build.{Build}
 use Rattle.sim_relation.specs.Stands.{AreFalling}
 use Rattle.sim_relation.proofs.Tops.{below_first, falling_active, falling_head, falling_tail}

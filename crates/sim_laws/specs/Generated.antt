@@ -9,7 +9,7 @@ use Rattle.rv32_instr.specs.declared.InstrKind.{InstrKind}
 use Rattle.observe.specs.Observe.{view_of_image}
 use Rattle.code_rules.specs.WellFormed.{WellFormed}
 use Rattle.stack_bounds.specs.Bounds.{MayMeet}
-use Rattle.osek_scheduler.specs.State.{body_of}
+use Rattle.sloth_base.specs.Named.{body_of}
 use Rattle.sloth_base.specs.Named.{function}
 use Rattle.sloth_base.specs.MemoryMap.{memory_base}
 use Rattle.prio_levels.specs.Levels.{AreLevels}

@@ -23,7 +23,7 @@ use Rattle.sim_entries.specs.Codes.{BootStands, PrologueStands}
 use Rattle.sim_items.specs.Place.{ItemStands, IsStraight, IsFlow}
 use Rattle.sim_items.specs.Outside.{HasIdle}
 use Rattle.sim_services.specs.Opening.{StandsAtBlock}
-pub use Rattle.sim_services.specs.Stretch.{HasWayBack}
+use Rattle.sim_services.specs.Stretch.{HasWayBack}
 use Rattle.sim_ticks.specs.TickSteps.{TickStands}
 
 -- an item computes on registers, frame words and data, and isn't the last one of its function

@@ -2,7 +2,7 @@
 use Rattle.std.specs.Prelude.{ℕ, ◌<◌, ◌≤◌, ◌≡◌, List, [], ◌∷◌, true}
 use Rattle.sloth_base.specs.Named.{declaration}
 use Rattle.stack_bounds.specs.Bounds.{IsBasic, MayBePreempted}
-use Rattle.osek_scheduler.specs.Priority.{is_in}
+use Rattle.code_rules.specs.Code.{is_in}
 use Rattle.sim_relation.specs.Build.{Build}
 
 -- the part of a basic task lies below the part of each basic task over which it may be entered

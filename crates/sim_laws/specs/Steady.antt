@@ -7,7 +7,7 @@ use Rattle.osek_scheduler.specs.State.{System}
 use Rattle.osek_scheduler.specs.Steps.{OsekStep}
 use Rattle.osek_valid.specs.Valid.{IsValid}
 use Rattle.osek_valid.specs.Apart.{TasksAreApart}
-use Rattle.osek_valid.specs.Together.{OwesBySchedule}
+use Rattle.shared_stacks.specs.Together.{OwesBySchedule}
 
 -- what each step keeps: the system is valid, and a task owes the way back only where it reaches a Schedule
 pub record IsSteady (config : Config) (app : App) (s : System) : Type 0 where

@@ -2,6 +2,8 @@
 //! generators' contracts say of the code makes such a kernel (`specs/Generated`, `specs/Items`).
 #![tactic(auto)]
 
+pub mod states;
+
 ghost use Rattle.sim_laws.specs.Bounded.{BoundsStay};
 ghost use Rattle.sim_laws.specs.Steady.{SteadyStays};
 ghost use Rattle.sim_laws.specs.Kernel.{KernelIsSound};

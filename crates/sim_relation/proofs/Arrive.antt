@@ -13,7 +13,8 @@ use Rattle.osek_scheduler.specs.declared.state.Counter.{Counter}
 use Rattle.osek_scheduler.specs.declared.state.TaskState.{TaskState}
 use Rattle.osek_scheduler.specs.declared.state.TaskState.TheVariants as mode
 use Rattle.osek_scheduler.specs.State.{Task, System, Clock, sleeping_task, task, with_task, counter, no_counter}
-use Rattle.osek_scheduler.specs.Priority.{is_in, is_active}
+use Rattle.code_rules.specs.Code.{is_in}
+use Rattle.osek_scheduler.specs.Priority.{is_active}
 use Rattle.osek_scheduler.specs.Services.{if_suspended, activated_state}
 use Rattle.osek_scheduler.specs.Steps.{admitted_state, due_state}
 use Rattle.sim_induction.specs.Admits.{with_arrival, with_admits}

@@ -5,7 +5,7 @@ use Rattle.sloth_base.specs.Machine.{State}
 use Rattle.sloth_region.specs.Layout.{cur, below_word, active, events, wait, resume, saved_level, idle_context}
 use Rattle.rv32_instr.specs.Ram.{word_at}
 use Rattle.osek_scheduler.specs.State.{Clock, System, task}
-use Rattle.osek_scheduler.specs.Priority.{is_in}
+use Rattle.code_rules.specs.Code.{is_in}
 use Rattle.sim_relation.specs.Build.{Build, Fits}
 use Rattle.sim_relation.specs.ClockStands.{CountersStand, ClockStands, IsBesideClock}
 use Rattle.sim_relation.specs.Position.{thread_of}

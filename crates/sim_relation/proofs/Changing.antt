@@ -9,8 +9,10 @@ use Rattle.sloth_region.specs.Layout.{cur, below_word, active, events, wait, res
 use Rattle.rv32_instr.specs.Ram.{word_at}
 use Rattle.osek_scheduler.specs.declared.state.TaskState.{TaskState}
 use Rattle.osek_scheduler.specs.declared.state.TaskState.TheVariants as mode
-use Rattle.osek_scheduler.specs.State.{Frame, Task, System, task, declaration}
-use Rattle.osek_scheduler.specs.Priority.{is_in, is_active, current_priority}
+use Rattle.osek_scheduler.specs.State.{Frame, Task, System, task}
+use Rattle.sloth_base.specs.Named.{declaration}
+use Rattle.code_rules.specs.Code.{is_in}
+use Rattle.osek_scheduler.specs.Priority.{is_active, current_priority}
 use Rattle.sim_relation.specs.Build.{Build, Fits}
 use Rattle.sim_relation.specs.Position.{Thread, thread_of, thread_at}
 use Rattle.sim_relation.specs.Context.{IsContext, IsSaved, IsContextChain, RunsFirst, Resumes}

@@ -8,8 +8,10 @@ use Rattle.sloth_base.specs.Choose.{MayTake, IsChosen, choose_line, choose}
 use Rattle.sloth_base.proofs.Choosing.{choose_line-is}
 use Rattle.osek_scheduler.specs.declared.state.TaskState.{TaskState}
 use Rattle.osek_scheduler.specs.declared.state.TaskState.TheVariants as mode
-use Rattle.osek_scheduler.specs.State.{System, task, counter, declaration}
-use Rattle.osek_scheduler.specs.Priority.{is_in, IsDue, IsTop, NoTicks, IsNextTick}
+use Rattle.osek_scheduler.specs.State.{System, task, counter}
+use Rattle.sloth_base.specs.Named.{declaration}
+use Rattle.code_rules.specs.Code.{is_in}
+use Rattle.osek_scheduler.specs.Priority.{IsDue, IsTop, NoTicks, IsNextTick}
 use Rattle.sim_induction.specs.Mirror.{priority_of}
 use Rattle.sloth_base.specs.PriorityLevels.{level_of}
 use Rattle.sloth_base.specs.Owners.{counter_line, owners_in, IsOwned}

@@ -8,7 +8,8 @@ use Rattle.sloth_base.specs.Owners.{counter_line}
 use Rattle.sloth_base.specs.declared.config.Config.{Config}
 use Rattle.sloth_region.specs.Layout.{below_word, counter_value, alarm_left, alarm_cycle}
 use Rattle.rv32_instr.specs.Ram.{word_at}
-use Rattle.osek_scheduler.specs.State.{Clock, System, declaration}
+use Rattle.osek_scheduler.specs.State.{Clock, System}
+use Rattle.sloth_base.specs.Named.{declaration}
 use Rattle.sim_relation.specs.Build.{Build, Fits}
 use Rattle.sim_relation.specs.ClockStands.{CounterLineStands, ClockStands}
 use Rattle.sim_relation.specs.Framing.{Agree, NamedKept}

@@ -9,8 +9,10 @@ use Rattle.sloth_region.specs.Layout.{cur, events, wait, idle_context}
 use Rattle.rv32_instr.specs.Ram.{word_at}
 use Rattle.osek_scheduler.specs.declared.state.TaskState.{TaskState}
 use Rattle.osek_scheduler.specs.declared.state.TaskState.TheVariants as mode
-use Rattle.osek_scheduler.specs.State.{Task, System, task, with_task, declaration}
-use Rattle.osek_scheduler.specs.Priority.{is_in, is_active, highest_priority, current_priority}
+use Rattle.osek_scheduler.specs.State.{Task, System, task, with_task}
+use Rattle.sloth_base.specs.Named.{declaration}
+use Rattle.code_rules.specs.Code.{is_in}
+use Rattle.osek_scheduler.specs.Priority.{is_active, highest_priority, current_priority}
 use Rattle.osek_scheduler.specs.Steps.{settled_state}
 use Rattle.sloth_base.specs.PriorityLevels.{level_of}
 use Rattle.sim_relation.specs.Build.{Build, Fits, IsElsewhere}

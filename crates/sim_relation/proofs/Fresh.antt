@@ -3,8 +3,10 @@ use Rattle.std.proofs.Common.{◌≡◌, ℕ, zero, suc, ◌<◌, ◌≤◌, Lis
 use Rattle.std.specs.Prelude.{map}
 use Rattle.sloth_base.specs.declared.config.Config.{Config}
 use Rattle.sloth_base.specs.declared.config.TaskDecl.{TaskDecl}
-use Rattle.osek_scheduler.specs.State.{Task, System, declaration, undeclared_task}
-use Rattle.osek_scheduler.specs.Priority.{is_in, greatest, highest_priority, ceiling, current_priority}
+use Rattle.osek_scheduler.specs.State.{Task, System}
+use Rattle.sloth_base.specs.Named.{declaration, undeclared_task}
+use Rattle.code_rules.specs.Code.{is_in}
+use Rattle.osek_scheduler.specs.Priority.{greatest, highest_priority, ceiling, current_priority}
 use Rattle.sim_induction.specs.Mirror.{priority_of}
 use Rattle.sim_relation.specs.Build.{Build}
 use Rattle.sim_relation.specs.Stands.{IsActive, AreFalling}

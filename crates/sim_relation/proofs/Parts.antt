@@ -9,8 +9,10 @@ use Rattle.rv32_instr.specs.Ram.{word_at, with_word}
 use Rattle.masked_code.proofs.Words.{word_at-other}
 use Rattle.osek_scheduler.specs.declared.state.TaskState.{TaskState}
 use Rattle.osek_scheduler.specs.declared.state.TaskState.TheVariants as mode
-use Rattle.osek_scheduler.specs.State.{Frame, Task, System, sleeping_task, task, with_task, declaration}
-use Rattle.osek_scheduler.specs.Priority.{is_in, is_active, ceiling, current_priority}
+use Rattle.osek_scheduler.specs.State.{Frame, Task, System, sleeping_task, task, with_task}
+use Rattle.sloth_base.specs.Named.{declaration}
+use Rattle.code_rules.specs.Code.{is_in}
+use Rattle.osek_scheduler.specs.Priority.{is_active, ceiling, current_priority}
 use Rattle.sloth_base.specs.PriorityLevels.{level_of}
 use Rattle.sim_relation.specs.Build.{Build}
 use Rattle.sim_relation.specs.Position.{thread_of}

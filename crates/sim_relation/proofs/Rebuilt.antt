@@ -8,7 +8,8 @@ use Rattle.sloth_base.specs.Owners.{owners_in, counter_line}
 use Rattle.sloth_base.proofs.Owners.{unused_behind}
 use Rattle.sloth_region.specs.Layout.{active, events, wait, resume, saved_level}
 use Rattle.osek_scheduler.specs.State.{Task, System, task}
-use Rattle.osek_scheduler.specs.Priority.{is_in, is_active}
+use Rattle.code_rules.specs.Code.{is_in}
+use Rattle.osek_scheduler.specs.Priority.{is_active}
 use Rattle.sim_relation.specs.Build.{Build, Fits}
 use Rattle.sim_relation.specs.Context.{RunsFirst}
 use Rattle.sim_relation.specs.ServiceWords.{AreServiceWords}

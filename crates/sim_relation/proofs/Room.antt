@@ -4,7 +4,8 @@ use Rattle.std.specs.Prelude.{map}
 use Rattle.sloth_base.specs.Named.{function}
 use Rattle.sloth_region.specs.Layout.{context_bytes}
 use Rattle.code_rules.specs.Code.{Calls, IsCalledBy}
-use Rattle.osek_scheduler.specs.State.{Frame, body_of}
+use Rattle.osek_scheduler.specs.State.{Frame}
+use Rattle.sloth_base.specs.Named.{body_of}
 use Rattle.sim_relation.specs.Build.{Build, Fits, outer_bytes, frame_bytes}
 use Rattle.sim_relation.specs.Position.{AreOuterFrames, AreFrames}
 

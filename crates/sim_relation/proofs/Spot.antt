@@ -5,7 +5,7 @@ use Rattle.std.proofs.lemmas.Bool.{eqb-false, or_left}
 use Rattle.sloth_base.specs.Machine.{State}
 use Rattle.sloth_region.specs.Layout.{idle_context}
 use Rattle.osek_scheduler.specs.State.{System, task}
-use Rattle.osek_scheduler.specs.Priority.{is_in}
+use Rattle.code_rules.specs.Code.{is_in}
 use Rattle.sim_relation.specs.Build.{Build, Fits, IsElsewhere}
 use Rattle.sim_relation.specs.Position.{thread_of}
 use Rattle.sim_relation.specs.Context.{RunsFirst}

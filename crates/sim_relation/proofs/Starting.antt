@@ -7,7 +7,8 @@ use Rattle.sloth_base.specs.declared.config.CounterDecl.{CounterDecl}
 use Rattle.sloth_region.specs.Layout.{cur, active, events, counter_value, below_word, resume, idle_context}
 use Rattle.rv32_instr.specs.Ram.{word_at}
 use Rattle.osek_scheduler.specs.declared.state.TaskState.TheVariants as mode
-use Rattle.osek_scheduler.specs.State.{Task, System, sleeping_task, no_counter, task, declaration, undeclared_task}
+use Rattle.osek_scheduler.specs.State.{Task, System, sleeping_task, no_counter, task}
+use Rattle.sloth_base.specs.Named.{declaration, undeclared_task}
 use Rattle.osek_scheduler.specs.Steps.{autostarted_tasks}
 use Rattle.sim_relation.specs.Build.{Build, Fits}
 use Rattle.sim_relation.specs.ClockStands.{CounterLineStands}

@@ -3,8 +3,10 @@ use Rattle.std.proofs.Common.{◌≡◌, ℕ, ◌<◌, List, [], ◌∷◌, leng
 use Rattle.std.specs.Prelude.{slice_index}
 use Rattle.sloth_base.specs.Machine.{State}
 use Rattle.osek_scheduler.specs.declared.state.TaskState.TheVariants as mode
-use Rattle.osek_scheduler.specs.State.{Task, System, task, declaration}
-use Rattle.osek_scheduler.specs.Priority.{is_in, current_priority}
+use Rattle.osek_scheduler.specs.State.{Task, System, task}
+use Rattle.sloth_base.specs.Named.{declaration}
+use Rattle.code_rules.specs.Code.{is_in}
+use Rattle.osek_scheduler.specs.Priority.{current_priority}
 use Rattle.sloth_base.specs.PriorityLevels.{level_of}
 use Rattle.sim_relation.specs.Build.{Build}
 use Rattle.sim_relation.specs.Position.{thread_of}

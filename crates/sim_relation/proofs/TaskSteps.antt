@@ -6,8 +6,10 @@ use Rattle.sloth_base.specs.declared.config.Config.{Config}
 use Rattle.sloth_base.specs.declared.config.TaskDecl.{TaskDecl}
 use Rattle.sloth_region.specs.Layout.{cur, below_word, active, events, wait, resume, saved_level}
 use Rattle.rv32_instr.specs.Ram.{word_at}
-use Rattle.osek_scheduler.specs.State.{Frame, Task, System, task, declaration}
-use Rattle.osek_scheduler.specs.Priority.{is_in, is_active, highest_priority, ceiling, greatest, current_priority}
+use Rattle.osek_scheduler.specs.State.{Frame, Task, System, task}
+use Rattle.sloth_base.specs.Named.{declaration}
+use Rattle.code_rules.specs.Code.{is_in}
+use Rattle.osek_scheduler.specs.Priority.{is_active, highest_priority, ceiling, greatest, current_priority}
 use Rattle.sloth_base.specs.PriorityLevels.{level_of}
 use Rattle.sim_relation.specs.Build.{Build, Fits}
 use Rattle.sim_relation.specs.Context.{RunsFirst, RunsTask, Resumes}

@@ -3,8 +3,10 @@ use Rattle.std.proofs.Common.{◌≡◌, ◌≢◌, ℕ, ◌+◌, ◌*◌, ◌<�
 use Rattle.std.proofs.lemmas.Bool.{cases_Bool, eqb-true, eq-eqb, or_cases, or_left, or_right}
 use Rattle.sloth_base.specs.declared.config.Config.{Config}
 use Rattle.osek_scheduler.specs.declared.state.TaskState.TheVariants as mode
-use Rattle.osek_scheduler.specs.State.{System, task, declaration}
-use Rattle.osek_scheduler.specs.Priority.{rank, is_in, is_active, IsTop, NoTicks}
+use Rattle.osek_scheduler.specs.State.{System, task}
+use Rattle.sloth_base.specs.Named.{declaration}
+use Rattle.osek_scheduler.specs.Priority.{rank, is_active, IsTop, NoTicks}
+use Rattle.code_rules.specs.Code.{is_in}
 use Rattle.sim_induction.specs.Mirror.{priority_of}
 use Rattle.sim_relation.specs.Build.{Build}
 use Rattle.sim_relation.specs.Stands.{IsActive, AreFalling, AreActive}

@@ -9,7 +9,7 @@ use Rattle.sloth_region.specs.Layout.{context_bytes}
 use Rattle.code_rules.specs.Code.{IsCalledBy}
 use Rattle.expansion_parts.specs.Expansion.{item_address, symbol_address, block_address}
 use Rattle.sloth_base.specs.Named.{operation, function, symbol_size}
-use Rattle.osek_scheduler.specs.State.{declaration}
+use Rattle.sloth_base.specs.Named.{declaration}
 use Rattle.osek_scheduler.specs.Priority.{highest_priority}
 use Rattle.sloth_base.specs.PriorityLevels.{level_of}
 

@@ -5,7 +5,8 @@ use Rattle.sloth_base.specs.MemoryMap.{memory_base}
 use Rattle.sloth_region.specs.Layout.{cur, below_word, active, resume, idle_context, context_bytes}
 use Rattle.rv32_instr.specs.Ram.{word_at}
 use Rattle.osek_scheduler.specs.declared.state.TaskState.TheVariants as mode
-use Rattle.osek_scheduler.specs.State.{Task, System, task, declaration}
+use Rattle.osek_scheduler.specs.State.{Task, System, task}
+use Rattle.sloth_base.specs.Named.{declaration}
 use Rattle.sim_relation.specs.Build.{Build, start_level}
 use Rattle.sim_relation.specs.Position.{thread_of}
 use Rattle.sim_relation.specs.Context.{IsContext}

@@ -4,7 +4,8 @@ use Rattle.sloth_region.specs.Layout.{active, events, wait, saved_level}
 use Rattle.rv32_instr.specs.Ram.{word_at}
 use Rattle.osek_scheduler.specs.declared.state.TaskState.{TaskState}
 use Rattle.osek_scheduler.specs.declared.state.TaskState.TheVariants as mode
-use Rattle.osek_scheduler.specs.State.{Task, declaration}
+use Rattle.osek_scheduler.specs.State.{Task}
+use Rattle.sloth_base.specs.Named.{declaration}
 use Rattle.osek_scheduler.specs.Priority.{highest_priority, ceiling, is_active}
 use Rattle.sloth_base.specs.PriorityLevels.{level_of}
 use Rattle.sim_relation.specs.Build.{Build}

@@ -2,7 +2,8 @@
 use Rattle.std.specs.Prelude.{ℕ, ◌+◌, ◌<◌, ◌≡◌, length, slice_index, true, false, cond}
 use Rattle.sloth_base.specs.Machine.{State}
 use Rattle.sloth_region.specs.Layout.{idle_context, context_bytes}
-use Rattle.osek_scheduler.specs.State.{System, declaration, opening, opening_clock}
+use Rattle.osek_scheduler.specs.State.{System, opening, opening_clock}
+use Rattle.sloth_base.specs.Named.{declaration}
 use Rattle.osek_scheduler.specs.Steps.{settled_state, autostarted_tasks}
 use Rattle.sloth_base.specs.PriorityLevels.{level_of}
 use Rattle.sloth_base.specs.MemoryMap.{memory_base}

@@ -4,7 +4,8 @@ use Rattle.std.specs.Prelude.{slice_index}
 use Rattle.sloth_base.specs.Machine.{State}
 use Rattle.sloth_base.specs.PriorityLevels.{level_of}
 use Rattle.service_gen.specs.Schedule.{CameBack, start_register}
-use Rattle.osek_scheduler.specs.State.{Task, System, task, with_task, declaration}
+use Rattle.osek_scheduler.specs.State.{Task, System, task, with_task}
+use Rattle.sloth_base.specs.Named.{declaration}
 use Rattle.osek_scheduler.specs.Steps.{settled_state}
 use Rattle.sim_relation.specs.Build.{Build, Fits}
 use Rattle.sim_relation.specs.Context.{RunsTask, RunsFirst}

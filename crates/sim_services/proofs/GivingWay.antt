@@ -12,7 +12,8 @@ use Rattle.sloth_base.specs.PriorityLevels.{level_of}
 use Rattle.sloth_region.specs.Layout.{cur}
 use Rattle.rv32_instr.specs.Ram.{word_at}
 use Rattle.service_gen.specs.Schedule.{Yielded}
-use Rattle.osek_scheduler.specs.State.{Task, System, task, with_task, declaration}
+use Rattle.osek_scheduler.specs.State.{Task, System, task, with_task}
+use Rattle.sloth_base.specs.Named.{declaration}
 use Rattle.osek_scheduler.specs.Meaning.{going_on_frame}
 use Rattle.osek_scheduler.specs.Priority.{current_priority, greatest, ceiling, highest_priority}
 use Rattle.osek_scheduler.specs.Services.{answered_task, is_there, moved_frames}

@@ -5,8 +5,10 @@ use Rattle.std.proofs.lemmas.Bool.{eqb-true, false≢true, or_cases, or_left, or
 use Rattle.sloth_base.specs.PriorityLevels.{level_of}
 use Rattle.sloth_region.specs.Layout.{saved_level}
 use Rattle.rv32_instr.specs.Ram.{word_at}
-use Rattle.osek_scheduler.specs.State.{Task, declaration}
-use Rattle.osek_scheduler.specs.Priority.{is_in, greatest, ceiling, current_priority}
+use Rattle.osek_scheduler.specs.State.{Task}
+use Rattle.sloth_base.specs.Named.{declaration}
+use Rattle.code_rules.specs.Code.{is_in}
+use Rattle.osek_scheduler.specs.Priority.{greatest, ceiling, current_priority}
 use Rattle.code_rules.specs.Code.{is_last, without_last}
 use Rattle.sim_relation.specs.Build.{Build}
 use Rattle.sim_relation.specs.ServiceWords.{AreHeldWords, base_priority}

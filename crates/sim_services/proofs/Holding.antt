@@ -15,8 +15,10 @@ use Rattle.service_gen.specs.ReleaseResource.{Released}
 use Rattle.code_rules.specs.Code.{is_last, without_last}
 use Rattle.osek_scheduler.specs.declared.state.TaskState.{TaskState}
 use Rattle.osek_scheduler.specs.declared.state.TaskState.TheVariants as mode
-use Rattle.osek_scheduler.specs.State.{Task, System, task, with_task, declaration}
-use Rattle.osek_scheduler.specs.Priority.{is_in, is_active, ceiling}
+use Rattle.osek_scheduler.specs.State.{Task, System, task, with_task}
+use Rattle.sloth_base.specs.Named.{declaration}
+use Rattle.code_rules.specs.Code.{is_in}
+use Rattle.osek_scheduler.specs.Priority.{is_active, ceiling}
 use Rattle.osek_scheduler.specs.Services.{answered_task, is_there, GoesOn}
 use Rattle.osek_valid.proofs.Stacks.{is_in-append, in-without_last}
 use Rattle.sim_relation.specs.Build.{Build, Fits}

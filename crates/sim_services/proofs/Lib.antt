@@ -18,3 +18,12 @@ pub mod GivingWay
 pub mod ComingBack
 pub mod ScheduleStretch
 pub mod Touching
+pub mod Changed
+pub mod Cleared
+pub mod EventTold
+pub mod TaskAfter
+pub mod Setting
+pub mod Stretches
+pub mod WaitRam
+pub mod Waiting
+pub mod WaitStretch

@@ -8,9 +8,11 @@ use Rattle.sloth_region.specs.Layout.{cur, below_word, active as active_place, e
 use Rattle.rv32_instr.specs.Ram.{word_at}
 use Rattle.masked_code.specs.Kernel.{LeftAs}
 use Rattle.osek_scheduler.specs.declared.state.TaskState.TheVariants as mode
-use Rattle.osek_scheduler.specs.State.{Task, System, task, declaration}
+use Rattle.osek_scheduler.specs.State.{Task, System, task}
+use Rattle.sloth_base.specs.Named.{declaration}
 use Rattle.osek_scheduler.specs.Meaning.{going_on_frame}
-use Rattle.osek_scheduler.specs.Priority.{is_in, is_active, current_priority}
+use Rattle.code_rules.specs.Code.{is_in}
+use Rattle.osek_scheduler.specs.Priority.{is_active, current_priority}
 use Rattle.osek_scheduler.specs.Services.{moved_frames}
 use Rattle.sim_relation.specs.Build.{Build, Fits}
 use Rattle.sim_relation.specs.Context.{RunsTask, RunsFirst}

@@ -41,7 +41,7 @@ use Rattle.sim_relation.proofs.Choice.{running_top}
 use Rattle.sim_relation.proofs.Levels.{level_of-few}
 use Rattle.sim_relation.proofs.Placed.{active_by_word, code_behind, first_by_word, placed_in}
 use Rattle.osek_scheduler.specs.Priority.{highest_priority}
-use Rattle.osek_scheduler.specs.State.{declaration}
+use Rattle.sloth_base.specs.Named.{declaration}
 use Rattle.sim_services.specs.ServiceSteps.{Returns}
 use Rattle.sim_services.specs.Stretch.{OpensSchedule, OpensWayBack, Stretches}
 use Rattle.sim_services.proofs.ComingBack.{comes_back, owing_of}

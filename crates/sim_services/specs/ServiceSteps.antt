@@ -14,8 +14,10 @@ use Rattle.service_gen.specs.GetTaskState.{StateTold}
 use Rattle.service_gen.specs.ReleaseResource.{Released}
 use Rattle.service_gen.specs.Schedule.{CameBack, way_back, Yielded}
 use Rattle.service_gen.specs.TerminateTask.{Terminated}
-use Rattle.osek_scheduler.specs.State.{Task, System, declaration, task}
-use Rattle.osek_scheduler.specs.Priority.{is_in, ceiling, IsTop}
+use Rattle.osek_scheduler.specs.State.{Task, System, task}
+use Rattle.sloth_base.specs.Named.{declaration}
+use Rattle.code_rules.specs.Code.{is_in}
+use Rattle.osek_scheduler.specs.Priority.{ceiling, IsTop}
 use Rattle.osek_scheduler.specs.Steps.{OsekStep}
 use Rattle.sloth_base.specs.PriorityLevels.{level_of}
 use Rattle.sloth_base.specs.MemoryMap.{memory_base}

@@ -2,6 +2,8 @@
 //! `proofs/ServiceStretch`); a service adds its own law, by the effect of its block in `service_gen`.
 #![tactic(auto)]
 
+pub mod event_services;
+
 ghost use Rattle.sim_services.specs.ServiceSteps.{ActivateTaskGoesOn, ChainTaskAnswers, GetResourceGoesOn, GetTaskIDGoesOn, GetTaskStateGoesOn};
 ghost use Rattle.sim_services.specs.ServiceSteps.{ReleaseResourceGoesOn, ScheduleGivesWay, ScheduleReturns, TerminateTaskEnds};
 ghost use Rattle.sim_services.specs.Stretch.{ActivateTaskStretches, ChainTaskStretches, GetResourceStretches, GetTaskIDStretches};

@@ -28,7 +28,7 @@ use Rattle.sim_relation.proofs.Arrive.{is_suspended, not_suspended}
 use Rattle.sim_relation.proofs.Changing.{change_stands}
 use Rattle.sim_relation.proofs.Parts.{word_other}
 use Rattle.sim_services.proofs.Raising.{looks, is_so, readied, stayed}
-use Rattle.sim_events.proofs.TaskAfter.{state_after, after_active, after_awake, after_none, some_line, some_word, woken_is}
+use Rattle.sim_services.proofs.TaskAfter.{state_after, after_active, after_awake, after_none, some_line, some_word, woken_is}
 use Rattle.sim_ticks.proofs.Clocks.{word_bytes}
 
 -- an action names a task, and its events are a word

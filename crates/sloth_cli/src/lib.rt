@@ -1,6 +1,7 @@
 //! The program's top call.
 #![tactic(auto)]
 
+pub mod program;
 pub mod top;
 
 pub use sloth_commands::laws;

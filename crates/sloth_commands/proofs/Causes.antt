@@ -10,17 +10,20 @@ use Rattle.sloth_base.specs.Owners.{owners_in}
 use Rattle.sloth_io.specs.Counts.{Rose}
 use Rattle.sloth_io.specs.Sink.{Output}
 use Rattle.sloth_io.proofs.Gains.{part-whole}
-use Rattle.sloth_io.specs.Store.{Files, KeepsFiles, is_space_for}
+use Rattle.sloth_io.specs.Store.{Files, KeepsFiles}
+use Rattle.sloth_io.specs.Slots.{is_space_for}
 use Rattle.image_file.specs.ImageText.{image_bytes}
 use Rattle.sloth_source.specs.Texts.{AreAccepted}
 use Rattle.command_line.specs.Command.{Command, Building, Builds, Executes, Lists, Samples, Uses, IsCommand, IsInLimit}
-use Rattle.sloth_commands.specs.Inputs.{AreRead}
+use Rattle.trace_check.specs.Inputs.{AreRead}
 use Rattle.command_line.specs.LastLine.{refusal_line, no_image_line}
 use Rattle.tool_answers.specs.declared.status.Status.{Status}
 use Rattle.tool_answers.specs.declared.status.Status.TheVariants as status
 use Rattle.sloth_commands.specs.declared.failure.Failure.{Failure}
 use Rattle.sloth_commands.specs.declared.failure.Failure.TheVariants as failure
-use Rattle.sloth_commands.specs.Top.{World, world, inputs_of, names_of, counter_names, AreInputs, FilesStay, IsAccepted, IsBuiltImage}
+use Rattle.sloth_commands.specs.Top.{World, world, inputs_of, AreInputs, FilesStay, IsAccepted, IsBuiltImage}
+use Rattle.trace_check.specs.Inputs.{names_of}
+use Rattle.trace_check.specs.Verdicts.{counter_names}
 use Rattle.sloth_commands.specs.Top.{IsWritten, IsDone, Requires, Took, Puts, Closes, BrokeOff, Answers, done_text}
 use Rattle.sloth_commands.specs.Failures.{ReadFailed, JudgeFailed, PerformFailed, Ends, EndsPlainly, CommandFailed, IsPerformed, Finished}
 use Rattle.sloth_commands.proofs.Ceilings.{shown-keep, shown-keep_bounds}

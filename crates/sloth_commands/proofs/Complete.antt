@@ -18,15 +18,18 @@ use Rattle.sloth_source.proofs.Unique.{one_meaning}
 use Rattle.command_line.specs.LastLine.{refusal_line}
 use Rattle.command_line.specs.Command.{Command, Building, Run, Builds, Uses, IsCommand, IsNoTool, NoCommand}
 use Rattle.command_line.specs.Tools.{ToolUse}
-use Rattle.sloth_commands.specs.Inputs.{input_limit, AreRead}
+use Rattle.sloth_commands.specs.Inputs.{input_limit}
+use Rattle.trace_check.specs.Inputs.{AreRead}
 use Rattle.sloth_commands.specs.ImageFiles.{IsNoImage}
 use Rattle.tool_answers.specs.declared.status.Status.{Status}
 use Rattle.tool_answers.specs.declared.status.Status.TheVariants as status
 use Rattle.sloth_commands.specs.Top.{World, arrivals_named, inputs_of, FirstUnread, AreInputs, HoldsArrivals, AreThere, IsFailedRead, IsLongRead}
-use Rattle.sloth_commands.specs.Top.{CommandDone, CommandRefused, CommandUnwritten, CommandStopped, names_of, counter_names, done_text, IsRefusal, IsRefused, IsAccepted, IsBuiltImage, Requires, Puts, Took, BrokeOff, EndsAs, Answers}
+use Rattle.sloth_commands.specs.Top.{CommandDone, CommandRefused, CommandUnwritten, CommandStopped, done_text, IsRefused, IsAccepted, IsBuiltImage, Requires, Puts, Took, BrokeOff, EndsAs, Answers}
+use Rattle.trace_check.specs.Inputs.{names_of, IsRefusal}
+use Rattle.trace_check.specs.Verdicts.{counter_names}
 use Rattle.sloth_commands.specs.Top.{AnswersUsage, AnswersRefused, ReadsWork, WritesWork, HasSpace, PutsWork, CallsWork, TellsUsage, TellsRefused, IsComplete}
 use Rattle.command_line.proofs.Commands.{one-command}
-use Rattle.trace_command.proofs.Refused.{not-refused, one-way}
+use Rattle.trace_check.proofs.Refused.{not-refused, one-way}
 
 pub stays : (a b : ℕ) → Stays a b → Rose a b → ⊥
 stays a b s r =

@@ -11,7 +11,8 @@ use Rattle.sloth_io.proofs.Gains.{gains-gains, gains-nil, part-behind}
 use Rattle.image_file.specs.ImageText.{ImageText}
 use Rattle.trace_text.specs.Listing.{listing}
 use Rattle.command_line.specs.Command.{Execution, Executes, Lists}
-use Rattle.sloth_commands.specs.Inputs.{input_limit, AreRead}
+use Rattle.sloth_commands.specs.Inputs.{input_limit}
+use Rattle.trace_check.specs.Inputs.{AreRead}
 use Rattle.sloth_commands.specs.ImageFiles.{AreExecInputs, IsRunnable, IsExecuted, IsListed, exec_text}
 use Rattle.sloth_commands.specs.ImageAnswers.{end_status}
 use Rattle.sloth_runner.specs.Runner.{run_end}

@@ -25,7 +25,8 @@ use Rattle.tool_answers.specs.Statuses.{tool_status}
 use Rattle.sloth_commands.specs.ToolFiles.{IsToolAnswer, ReadsImageFirst}
 use Rattle.sloth_commands.proofs.ToolReads.{told-inputs, none-unread as no-tool-unread}
 use Rattle.sloth_commands.proofs.ToolComplete.{AnswersAs, tool-image}
-use Rattle.sloth_commands.specs.Inputs.{input_limit, AreRead}
+use Rattle.sloth_commands.specs.Inputs.{input_limit}
+use Rattle.trace_check.specs.Inputs.{AreRead}
 use Rattle.sloth_commands.specs.ImageFiles.{AreExecInputs, ReadsImageFile, IsRunnable, IsExecuted, IsNoImage, exec_text}
 use Rattle.sloth_commands.specs.ImageAnswers.{end_status, LinesWork, AnswersNoImage, AnswersFault, TellsFault, TellsNoImage, TellsExecRefused, TellsExecuted, TellsListed}
 use Rattle.command_line.specs.LastLine.{no_image_line, refusal_line}
@@ -38,7 +39,7 @@ use Rattle.tool_answers.specs.declared.status.Status.{Status}
 use Rattle.tool_answers.specs.declared.status.Status.TheVariants as status
 use Rattle.command_line.proofs.Commands.{one-command}
 use Rattle.sloth_commands.proofs.Complete.{told, not-missing, not-long, counted-put, no-tool, stands}
-use Rattle.trace_command.proofs.Refused.{of-arrivals}
+use Rattle.trace_check.proofs.Refused.{of-arrivals}
 
 -- ---- the inputs that are told
 

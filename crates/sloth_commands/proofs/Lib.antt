@@ -12,3 +12,6 @@ mod ToolCauses
 pub mod ToolComplete
 mod ToolReads
 mod LinePuts
+pub mod Declared
+pub mod Registers
+pub mod Printed

@@ -9,7 +9,7 @@ use Rattle.sloth_base.specs.declared.lines.Owners.{Owners}
 use Rattle.sloth_base.specs.Arrivals.{AreArrivals}
 use Rattle.sloth_base.specs.Owners.{IsOwned, owners_in}
 use Rattle.code_rules.specs.AppRange.{AppInRange}
-use Rattle.next_events.proofs.WithoutArrivals.{only_run}
+use Rattle.osek_blocking.proofs.WithoutArrivals.{only_run}
 use Rattle.sim_induction.specs.Sound.{Sound, events_of}
 use Rattle.sloth_source.specs.Texts.{AreAccepted}
 use Rattle.sloth_commands.specs.Top.{RunsAreOnly}

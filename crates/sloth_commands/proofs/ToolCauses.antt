@@ -4,7 +4,8 @@ use Rattle.std.specs.Prelude.{IsTrue, Option, Some, None, Result, Ok, Err, IfOk,
 use Rattle.image_file.specs.declared.fault.ImageFault.{ImageFault}
 use Rattle.sloth_io.specs.Counts.{Rose}
 use Rattle.sloth_io.specs.Sink.{Output}
-use Rattle.sloth_io.specs.Store.{Files, KeepsFiles, is_space_for}
+use Rattle.sloth_io.specs.Store.{Files, KeepsFiles}
+use Rattle.sloth_io.specs.Slots.{is_space_for}
 use Rattle.command_line.specs.Command.{Uses, IsCommand}
 use Rattle.command_line.specs.Tools.{ToolUse, IsToolUse}
 use Rattle.tool_commands.specs.Answers.{IsAnswer, input, reads_image}

@@ -23,7 +23,8 @@ use Rattle.sloth_commands.specs.Inputs.{input_limit}
 use Rattle.sloth_commands.specs.ImageFiles.{IsNoImage}
 use Rattle.command_line.specs.LastLine.{refusal_line, no_image_line}
 use Rattle.sloth_commands.specs.Samples.{sample_oil, sample_source}
-use Rattle.sloth_commands.specs.Top.{World, FirstUnread, IsFailedRead, IsLongRead, IsRefusal, FilesStay, IsWritten, Took, BrokeOff, Puts}
+use Rattle.sloth_commands.specs.Top.{World, FirstUnread, IsFailedRead, IsLongRead, FilesStay, IsWritten, Took, BrokeOff, Puts}
+use Rattle.trace_check.specs.Inputs.{IsRefusal}
 use Rattle.sloth_commands.specs.Top.{CommandDone, CommandRefused, CommandUnwritten, CommandStopped, FilesAfter, IsToolEnd, IsUnwrittenOutput}
 use Rattle.tool_answers.specs.declared.status.Status.{Status}
 use Rattle.tool_answers.specs.declared.status.Status.TheVariants as status

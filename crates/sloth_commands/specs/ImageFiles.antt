@@ -14,10 +14,10 @@ use Rattle.trace_text.specs.ArrivalsText.{ArrivalsFault}
 use Rattle.trace_text.specs.Listing.{listing}
 use Rattle.trace_text.specs.declared.printing.Form.TheVariants as form
 use Rattle.command_line.specs.Command.{Command, Execution, Builds, Executes, Lists, Samples, Uses}
-use Rattle.sloth_commands.specs.Inputs.{AreRead}
+use Rattle.trace_check.specs.Inputs.{AreRead}
 use Rattle.sloth_commands.specs.FileInputs.{IsInput}
 use Rattle.sloth_commands.specs.ToolFiles.{ReadsImageFirst}
-use Rattle.command_numbers.specs.StopLine.{stopped_line}
+use Rattle.command_line.specs.StopLine.{stopped_line}
 use Rattle.sloth_runner.specs.Runner.{run_text, run_end}
 use Rattle.sloth_runner.specs.declared.runner.RunEnd.{RunEnd}
 use Rattle.sloth_runner.specs.declared.runner.RunEnd.TheVariants as ends

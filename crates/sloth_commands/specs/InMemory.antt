@@ -4,7 +4,8 @@ use Rattle.sloth_base.specs.declared.config.Config.{Config}
 use Rattle.sloth_base.specs.declared.app.App.{App}
 use Rattle.sloth_base.specs.declared.event.Arrival.{Arrival}
 use Rattle.sloth_base.specs.declared.image.Image.{Image}
-use Rattle.sloth_io.specs.MemStore.{files_of, has_space}
+use Rattle.sloth_io.specs.MemStore.{files_of}
+use Rattle.sloth_io.specs.Slots.{has_space}
 use Rattle.sloth_io.specs.MemSink.{taken_by}
 use Rattle.sloth_io.specs.declared.mem_store.MemStore.{MemStore}
 use Rattle.sloth_io.specs.declared.mem_sink.MemSink.{MemSink}

@@ -1,6 +1,6 @@
 -- What commands read.
 use Rattle.std.specs.Prelude.{ℕ}
-pub use Rattle.trace_command.specs.Inputs.{AreRead}
+use Rattle.trace_check.specs.Inputs.{AreRead}
 
 -- the greatest number of bytes of an input: 4 MiB
 abbrev pub input_limit : ℕ

@@ -9,3 +9,4 @@ pub mod InMemory
 pub mod FileInputs
 pub mod ToolFiles
 pub mod ToolAnswers
+pub mod CheckedRuns

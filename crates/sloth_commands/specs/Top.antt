@@ -8,30 +8,33 @@ use Rattle.sloth_base.specs.declared.refusal.Refusal.{Refusal}
 use Rattle.sloth_base.specs.Arrivals.{AreArrivals}
 use Rattle.sloth_base.specs.ImageRange.{InFormat}
 use Rattle.sloth_base.specs.Owners.{owners_in}
-use Rattle.checked_runs.specs.CheckedRuns.{RunsAreChecked}
+use Rattle.sloth_commands.specs.CheckedRuns.{RunsAreChecked}
 use Rattle.rv32_expand.specs.InPlace.{ItemsInPlace}
 use Rattle.osek_blocking.specs.Protocol.{KeepsCeilingProtocol}
 use Rattle.run_bounds.specs.BlockingBounds.{KeepsBlockingBounds}
-use Rattle.next_events.specs.NextEvents.{IsOnlyRun}
+use Rattle.osek_blocking.specs.NextEvents.{IsOnlyRun}
 use Rattle.sim_induction.specs.Sound.{Sound, events_of}
-use Rattle.sim_states.specs.Shown.{ShowsStates}
+use Rattle.sim_laws.specs.Shown.{ShowsStates}
 use Rattle.sloth_io.specs.Counts.{Rose, Stays}
 use Rattle.sloth_io.specs.Sink.{Output, output_with, GainsPart, FailsToPassOn}
-use Rattle.sloth_io.specs.Store.{Files, Holds, KeepsOthers, IsMissing, IsTooLong, IsUnwritten, is_space_for}
+use Rattle.sloth_io.specs.Store.{Files, Holds, KeepsOthers, IsMissing, IsTooLong, IsUnwritten}
+use Rattle.sloth_io.specs.Slots.{is_space_for}
 use Rattle.image_file.specs.ImageText.{image_bytes}
 use Rattle.image_file.specs.declared.fault.ImageFault.{ImageFault}
 use Rattle.rv32_instr.specs.declared.stop.Stop.{Stop}
 use Rattle.sloth_source.specs.Texts.{AreAccepted, FirstRefusal}
 use Rattle.command_line.specs.Command.{Command, Building, Run, Builds, Executes, Lists, Samples, Uses, IsCommand, NoCommand}
 use Rattle.command_line.specs.Tools.{ToolUse}
-use Rattle.elf_fields.specs.declared.fault.ElfFault.{ElfFault}
+use Rattle.elf_image.specs.declared.fault.ElfFault.{ElfFault}
 use Rattle.tool_commands.specs.Lines.{no_elf_line, bad_trace_line, tool_text}
 use Rattle.tool_answers.specs.declared.answer.ToolAnswer.{ToolAnswer}
 use Rattle.tool_answers.specs.declared.answer.ToolAnswer.TheVariants as tool_answer
 use Rattle.tool_answers.specs.declared.answer.Outcome.{Outcome}
 use Rattle.tool_answers.specs.declared.answer.TraceFault.{TraceFault}
-pub use Rattle.trace_command.specs.Inputs.{names_of, counter_names, IsRefusal}
-use Rattle.sloth_commands.specs.Inputs.{input_limit, AreRead}
+use Rattle.trace_check.specs.Inputs.{names_of, IsRefusal}
+use Rattle.trace_check.specs.Verdicts.{counter_names}
+use Rattle.sloth_commands.specs.Inputs.{input_limit}
+use Rattle.trace_check.specs.Inputs.{AreRead}
 use Rattle.tool_answers.specs.Statuses.{tool_status}
 use Rattle.sloth_commands.specs.ToolFiles.{IsToolAnswer}
 use Rattle.sloth_commands.specs.ImageFiles.{IsExecuted, IsExecRefused, IsListed, IsNoImage}

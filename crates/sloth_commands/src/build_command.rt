@@ -8,10 +8,13 @@ ghost use Rattle.image_file.specs.ImageText.{image_bytes};
 ghost use Rattle.sloth_source.specs.Texts.{AreAccepted};
 ghost use Rattle.command_line.specs.Command.{Builds, IsInLimit};
 ghost use Rattle.command_line.specs.Words.{building_of, run_of};
-ghost use Rattle.sloth_commands.specs.Inputs.{input_limit, AreRead};
+ghost use Rattle.sloth_commands.specs.Inputs.{input_limit};
+ghost use Rattle.trace_check.specs.Inputs.{AreRead};
 ghost use Rattle.command_line.specs.LastLine.{built_line};
 ghost use Rattle.sloth_runner.specs.Runner.{IsFresh, image_of, given_arrivals, run_text};
-ghost use Rattle.sloth_commands.specs.Top.{world, arrivals_named, inputs_of, names_of, counter_names, AreInputs, HoldsArrivals, IsBuiltImage, IsWritten, done_text, Took};
+ghost use Rattle.sloth_commands.specs.Top.{world, arrivals_named, inputs_of, AreInputs, HoldsArrivals, IsBuiltImage, IsWritten, done_text, Took};
+ghost use Rattle.trace_check.specs.Inputs.{names_of};
+ghost use Rattle.trace_check.specs.Verdicts.{counter_names};
 ghost use Rattle.sloth_commands.specs.Failures.{ReadFailed, JudgeFailed, PerformFailed};
 
 use crate::building::build_image;

@@ -1,7 +1,9 @@
 //! Builds an image, with what holds of each of its runs.
 ghost use Rattle.std.specs.Prelude.{◌≡◌, ◌<◌, IfOk, IfErr, length};
 ghost use Rattle.sloth_source.specs.Texts.{AreAccepted, ErrorIs};
-ghost use Rattle.sloth_commands.specs.Top.{names_of, counter_names, IsBuiltImage};
+ghost use Rattle.trace_check.specs.Inputs.{names_of};
+ghost use Rattle.trace_check.specs.Verdicts.{counter_names};
+ghost use Rattle.sloth_commands.specs.Top.{IsBuiltImage};
 
 use sloth_base::refusal::BuildError;
 use sloth_build::{Built, build};

@@ -3,6 +3,7 @@
 
 pub mod build_command;
 mod building;
+mod checked_run_laws;
 pub mod ending;
 pub mod failure;
 pub mod image_commands;
@@ -10,4 +11,5 @@ mod inputs;
 pub mod laws;
 mod listing;
 pub mod sample_command;
+pub mod sample_laws;
 pub mod tool_command;

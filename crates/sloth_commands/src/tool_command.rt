@@ -15,8 +15,8 @@ ghost use Rattle.sloth_commands.specs.Failures.{ReadFailed, OutputFailed, LineFa
 use crate::failure::Failure;
 use crate::inputs::fetch;
 use command_line::last_line::{no_image_line, refusal_line};
+use command_line::stop_line::stopped_line;
 use command_line::tool::ToolWords;
-use command_numbers::stop_line::stopped_line;
 use sloth_base::list::List;
 use sloth_io::sink::{Sink, SinkFault};
 use sloth_io::store::Store;

@@ -6,3 +6,4 @@ pub mod MemStore
 pub mod FileStore
 pub mod OutSink
 pub mod Buffered
+pub mod Slots

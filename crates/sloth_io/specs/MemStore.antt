@@ -2,14 +2,14 @@
 use Rattle.std.specs.Prelude.{◌≡◌, ◌==◌, ◌&&◌, ℕ, not, List, [], ◌∷◌, length, map}
 use Rattle.std.specs.Prelude.{Option, Some, None, Bool, true, false, if◌then◌else◌, nat_lt}
 use Rattle.std.specs.List.{list_any}
-use Rattle.io_buffers.specs.Slots.{file_of, bytes_named, space_named}
-pub use Rattle.io_buffers.specs.Slots.{has_space}
+use Rattle.sloth_io.specs.Slots.{file_of, bytes_named, space_named}
+use Rattle.sloth_io.specs.Slots.{has_space}
 use Rattle.sloth_io.specs.Counts.{next_call}
 use Rattle.sloth_io.specs.Store.{Files}
 use Rattle.sloth_io.specs.declared.store.StoreFault.{StoreFault}
 use Rattle.sloth_io.specs.declared.store.StoreFault.TheVariants.{Failed, TooLong, Memory}
 use Rattle.sloth_io.specs.declared.mem_store.MemStore.{MemStore}
-use Rattle.io_buffers.specs.declared.slots.MemFile.{MemFile}
+use Rattle.sloth_io.specs.declared.slots.MemFile.{MemFile}
 
 -- the files of a store
 abbrev pub files_of : MemStore → List MemFile

@@ -1,7 +1,7 @@
 -- What a store shows, and what its calls do.
 use Rattle.std.specs.Prelude.{◌≡◌, ◌≢◌, ◌≤◌, ◌<◌, ◌⊎◌, ℕ, List, ◌++◌, length, Option, Some, None, Bool, false, IsTrue}
 use Rattle.sloth_io.specs.Counts.{Rose}
-pub use Rattle.io_buffers.specs.Slots.{is_space_for}
+use Rattle.sloth_io.specs.Slots.{is_space_for}
 
 -- What each named file holds, where the store tells that, and three counts. A sure store has no call that is to fail: what its
 -- files hold, their space and want of memory are the only causes.

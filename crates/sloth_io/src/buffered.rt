@@ -3,9 +3,9 @@ ghost use Rattle.std.specs.Prelude.{◌≡◌, ◌++◌, [], OnErr, OnOk};
 ghost use Rattle.std.specs.Io.KnownBytes.{Appends};
 ghost use Rattle.sloth_io.specs.Buffered.{PassesOn, BreaksOff};
 
+use crate::backlog::{Backlog, MOST};
 use crate::sink::SinkFault;
 use crate::whole::write_whole;
-use io_buffers::backlog::{Backlog, MOST};
 use std::io::Write;
 
 /// A writer, and the bytes that were put and are not yet written to it. Behind a failure nothing is held back.

@@ -4,8 +4,8 @@ ghost use Rattle.sloth_io.specs.Counts.{count_after_call};
 ghost use Rattle.sloth_io.specs.MemSink.{IsCalled, IsFresh, limit_of, shown_output, taken_by, bytes_after_call, takes_next};
 ghost use Rattle.sloth_io.specs.Sink.{output_with, GainsPart};
 
+use crate::buffer::Buffer;
 use crate::sink::{Sink, SinkFault};
-use io_buffers::buffer::Buffer;
 use sloth_base::memory::NoMemory;
 use std::alloc::Global;
 

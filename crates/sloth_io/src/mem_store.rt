@@ -3,14 +3,14 @@ ghost use Rattle.std.specs.Prelude.{◌≡◌, ◌≢◌, ◌≤◌, ◌<◌, No
 ghost use Rattle.std.specs.Prelude.{OnErr, OnOk, IfOk, IfSome, IfNone, IsOkUnless, MatchOption, is_ok, is_err, if◌then◌else◌};
 ghost use Rattle.std.specs.List.{AllPairs};
 ghost use Rattle.sloth_io.specs.Counts.{count_after_call, next_call};
-ghost use Rattle.io_buffers.specs.Slots.{bytes_named, files_with};
+ghost use Rattle.sloth_io.specs.Slots.{bytes_named, files_with};
 ghost use Rattle.sloth_io.specs.MemStore.{IsFresh, fails_next, files_of, IsCalled};
 ghost use Rattle.sloth_io.specs.MemStore.{is_too_long, read_fault, shown_files, writes_next};
 ghost use Rattle.sloth_io.specs.Store.{Appends, IsMissing, IsTooLong, IsUnwritten, Holds, KeepsOthers, KeepsFiles, KeepsReads};
 
+pub use crate::slots::MemFile;
+use crate::slots::{Slot, bytes_of, replace, slots_of};
 use crate::store::{Store, StoreFault};
-pub use io_buffers::slots::MemFile;
-use io_buffers::slots::{Slot, bytes_of, replace, slots_of};
 use sloth_base::memory::NoMemory;
 use std::alloc::Global;
 

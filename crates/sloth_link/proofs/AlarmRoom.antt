@@ -7,7 +7,8 @@ use Rattle.sloth_base.specs.declared.config.AlarmDecl.{AlarmDecl}
 use Rattle.rv32_instr.specs.declared.block.Block.{Block}
 use Rattle.sloth_link.specs.declared.datum.Datum.{Datum}
 use Rattle.sloth_link.specs.Symbols.{alarm_bytes, alarm_data}
-use Rattle.sloth_link.specs.Linked.{Section, AreApart, IsInside, HaveRoom, sections_of, block_section, datum_section}
+use Rattle.mem_map.specs.Sections.{Section, IsInside, block_section}
+use Rattle.sloth_link.specs.Linked.{AreApart, HaveRoom, sections_of, datum_section}
 use Rattle.sloth_link.proofs.Joined.{front, back}
 
 -- the sections of alarms

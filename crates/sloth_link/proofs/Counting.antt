@@ -11,7 +11,7 @@ use Rattle.sloth_base.specs.declared.places.Places.{Places}
 use Rattle.rv32_instr.specs.declared.block.Block.{Block}
 use Rattle.rv32_expand.specs.Sizes.{IsVerified, items_before}
 use Rattle.rv32_expand.proofs.InRangeOf.{small}
-use Rattle.mem_map.specs.Run.{starts}
+use Rattle.mem_map.specs.Starts.{starts}
 use Rattle.sloth_link.specs.Items.{item_block, first_items, items_of, item_blocks}
 use Rattle.sloth_link.proofs.Growing.{flat_more}
 

@@ -5,7 +5,8 @@ use Rattle.std.proofs.lemmas.List.Elements.{All-cons}
 use Rattle.std.proofs.lemmas.List.Kept.{AllPairs-cons}
 use Rattle.sloth_region.specs.declared.extent.Extent.{Extent}
 use Rattle.sloth_region.specs.Region.{FollowWithin}
-use Rattle.sloth_link.specs.Linked.{Section, AreApart, IsInside, sections_of, block_section, datum_section}
+use Rattle.mem_map.specs.Sections.{Section, IsInside, block_section}
+use Rattle.sloth_link.specs.Linked.{AreApart, sections_of, datum_section}
 use Rattle.sloth_link.specs.Room.{RoomFollows, AreIn}
 
 -- one list of extents behind another

@@ -12,7 +12,8 @@ use Rattle.rv32_instr.specs.declared.block.Block.{Block}
 use Rattle.rv32_expand.specs.InPlace.{ItemsInPlace}
 use Rattle.sloth_link.specs.Image.{MayLink, all_blocks, all_data, symbol_data, memory_size}
 use Rattle.sloth_link.specs.Items.{MarksAreOfItems, item_block, item_blocks}
-use Rattle.sloth_link.specs.Linked.{AreLinked, BlockStands, marks_of, sections_of}
+use Rattle.sloth_link.specs.Linked.{AreLinked, BlockStands, sections_of}
+use Rattle.mem_map.specs.Sections.{marks_of}
 use Rattle.sloth_link.specs.Names.{task_names, function_names}
 use Rattle.sloth_link.specs.Standing.{ItemsStand}
 use Rattle.sloth_link.proofs.ItemBlocks.{item_among, items_own}

@@ -12,7 +12,8 @@ use Rattle.rv32_instr.specs.declared.block.Block.{Block}
 use Rattle.rv32_instr.proofs.Fits.{encode_fits}
 use Rattle.masked_code.specs.Place.{AreWritten}
 use Rattle.sloth_link.specs.declared.datum.Datum.{Datum}
-use Rattle.sloth_link.specs.Linked.{code_bytes, block_section, datum_section, sections_of, Holds, BlockStands, AreLinked}
+use Rattle.mem_map.specs.Sections.{code_bytes, block_section}
+use Rattle.sloth_link.specs.Linked.{datum_section, sections_of, Holds, BlockStands, AreLinked}
 use Rattle.sloth_link.proofs.Written.{front_of, back_of, each_of}
 
 -- the word that four bytes are

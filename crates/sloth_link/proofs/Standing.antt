@@ -13,7 +13,8 @@ use Rattle.masked_code.specs.Place.{AreWritten}
 use Rattle.rv32_instr.specs.Ram.{word_at}
 use Rattle.expansion_parts.specs.Expansion.{expansion, item_address}
 use Rattle.rv32_expand.specs.InPlace.{CodeAt, item_mark}
-use Rattle.sloth_link.specs.Linked.{BlockStands, marks_of, block_section, IsInside}
+use Rattle.sloth_link.specs.Linked.{BlockStands}
+use Rattle.mem_map.specs.Sections.{marks_of, block_section, IsInside}
 use Rattle.sloth_link.proofs.Written.{code_bytes_length}
 use Rattle.sloth_link.specs.Items.{item_block, HaveItems, IsOwnMark, MarksAreOfItems}
 use Rattle.sloth_link.specs.Standing.{ItemsStand}

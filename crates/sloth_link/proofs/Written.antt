@@ -3,8 +3,9 @@ use Rattle.std.proofs.Common.{◌≡◌, ◌≤◌, ◌<◌, ◌+◌, ◌⊎◌,
 use Rattle.std.specs.Prelude.{All, AllPairs, set, map, replicate, slice_index}
 use Rattle.std.proofs.lemmas.List.{length-set, length-replicate, get_or-set_same, get_or-set_other}
 use Rattle.std.proofs.lemmas.List.Elements.{All-cons, All-head, All-tail}
-pub use Rattle.image_pieces.proofs.CodeBytes.{code_bytes_length}
-use Rattle.sloth_link.specs.Linked.{Section, with_bytes, linked_memory, Holds, Misses, IsInside, AreApart, AreLinked}
+pub use Rattle.mem_map.proofs.CodeBytes.{code_bytes_length}
+use Rattle.mem_map.specs.Sections.{Section, with_bytes, linked_memory, IsInside}
+use Rattle.sloth_link.specs.Linked.{Holds, Misses, AreApart, AreLinked}
 
 -- ---- bytes
 

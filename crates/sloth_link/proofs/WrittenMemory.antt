@@ -4,7 +4,8 @@ use Rattle.std.specs.Prelude.{All, replicate, take, drop, map}
 use Rattle.std.proofs.lemmas.List.{length-replicate, take_at}
 use Rattle.rv32_instr.specs.declared.block.Block.{Block}
 use Rattle.sloth_link.specs.declared.datum.Datum.{Datum}
-use Rattle.sloth_link.specs.Linked.{Section, HaveRoom, AreLinked, sections_of, linked_memory, block_section, datum_section, IsInside}
+use Rattle.mem_map.specs.Sections.{Section, linked_memory, block_section, IsInside}
+use Rattle.sloth_link.specs.Linked.{HaveRoom, AreLinked, sections_of, datum_section}
 use Rattle.sloth_link.proofs.Written.{are_linked, length-linked, front_of, back_of, each_of}
 
 -- the first so many bytes of what was written are the memory of the image

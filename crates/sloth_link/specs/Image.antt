@@ -15,7 +15,8 @@ use Rattle.rv32_expand.specs.Sizes.{AgreeWithSizes, Covers}
 use Rattle.mem_map.specs.Zones.{data_zone}
 use Rattle.sloth_link.specs.declared.datum.Datum.{Datum}
 use Rattle.sloth_link.specs.Items.{MarksAreOfItems, item_blocks}
-use Rattle.sloth_link.specs.Linked.{AreLinked, BlockStands, HaveOwnAddresses, HaveRoom, Holds, addresses, datum_section, marks_of, sections_of}
+use Rattle.sloth_link.specs.Linked.{AreLinked, BlockStands, HaveRoom, Holds, datum_section, sections_of}
+use Rattle.mem_map.specs.Sections.{HaveOwnAddresses, addresses, marks_of}
 use Rattle.sloth_link.specs.Standing.{ItemsStand}
 use Rattle.sloth_link.specs.Symbols.{alarm_data, data_of}
 

@@ -5,7 +5,8 @@ use Rattle.sloth_region.specs.declared.extent.Extent.{Extent}
 use Rattle.sloth_region.specs.Region.{FollowWithin}
 use Rattle.rv32_instr.specs.declared.block.Block.{Block}
 use Rattle.sloth_link.specs.declared.datum.Datum.{Datum}
-use Rattle.sloth_link.specs.Linked.{Section, block_section, datum_section, HaveRoom}
+use Rattle.mem_map.specs.Sections.{Section, block_section}
+use Rattle.sloth_link.specs.Linked.{datum_section, HaveRoom}
 use Rattle.sloth_base.specs.MemoryMap.{memory_base}
 
 -- a section lies in an extent

@@ -5,7 +5,7 @@ ghost use Rattle.rv32_expand.specs.InPlace.{IsItem};
 ghost use Rattle.rv32_expand.specs.Sizes.{AgreeWithSizes, Covers, IsVerified};
 ghost use Rattle.sloth_link.specs.Items.{item_block, items_of, item_blocks};
 
-use image_pieces::mark;
+use mem_map::mark;
 use rv32_expand::addresses::item_address;
 use rv32_expand::expand;
 use rv32_instr::Block;

@@ -1,10 +1,11 @@
 //! Runs of bytes, written into a memory.
 ghost use Rattle.std.specs.Prelude.{◌≡◌, ◌≤◌, length, map, All};
 ghost use Rattle.sloth_base.specs.MemoryMap.{memory_base};
-ghost use Rattle.sloth_link.specs.Linked.{linked_memory, datum_section, IsInside};
+ghost use Rattle.mem_map.specs.Sections.{linked_memory, IsInside};
+ghost use Rattle.sloth_link.specs.Linked.{datum_section};
 
 use crate::datum::Datum;
-use image_pieces::write;
+use mem_map::write;
 use sloth_base::memory_map::MEMORY_BASE;
 
 /// Writes each run of bytes at its address.

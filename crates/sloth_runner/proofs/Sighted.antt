@@ -12,9 +12,10 @@ use Rattle.rv32_machine.specs.Advance.{Halts}
 use Rattle.rv32_machine.specs.Run.{state_with_arrivals, moment, state_after}
 use Rattle.rv32_machine.proofs.Runs.{stop_halts, stop_none}
 use Rattle.sloth_runner.specs.declared.runner.Runner.{Runner}
-use Rattle.sloth_runner.specs.Runner.{HasRun, end_of, image_of, given_arrivals, count_of, sloth_state}
+use Rattle.sloth_runner.specs.Runner.{HasRun, end_of, image_of, given_arrivals, count_of}
+use Rattle.sloth_runner.specs.Moments.{sloth_state}
 use Rattle.sloth_runner.specs.declared.runner.RunEnd.TheVariants as ends
-use Rattle.run_moments.specs.declared.looks.Seen.{Seen}
+use Rattle.sloth_runner.specs.declared.looks.Seen.{Seen}
 use Rattle.sloth_runner.specs.declared.sight.Sight.{Sight}
 use Rattle.sloth_runner.specs.declared.sight.Sight.TheVariants as sights
 use Rattle.sloth_runner.specs.Sight.{task_states, running_task, AreMasked, IsSeen, IsSight, IsLast, sight_at, sight_of}

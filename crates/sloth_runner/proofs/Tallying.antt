@@ -9,10 +9,11 @@ use Rattle.std.proofs.lemmas.Bool.Decides.{eqb_tells}
 use Rattle.sloth_base.specs.declared.event.Event.{Event}
 use Rattle.sloth_base.specs.declared.event.Event.TheVariants as event
 use Rattle.sloth_base.specs.declared.event.Stamped.{Stamped}
-use Rattle.trace_text.specs.Summary.{kind_of, count_of_kind, counts_of}
+use Rattle.line_words.specs.EventWords.{kind_of}
+use Rattle.trace_text.specs.Summary.{count_of_kind, counts_of}
 use Rattle.observe.specs.Progress.{remaining}
 use Rattle.sim_induction.specs.Sound.{events_of}
-use Rattle.run_moments.specs.Moments.{counts_with_one, counts_with}
+use Rattle.sloth_runner.specs.Moments.{counts_with_one, counts_with}
 use Rattle.sloth_runner.specs.Runner.{Advanced, Adds, Ran, image_of, given_arrivals, count_of}
 use Rattle.sloth_runner.specs.declared.runner.Runner.{Runner}
 use Rattle.sloth_runner.proofs.Running.{adds-at}

@@ -22,7 +22,8 @@ use Rattle.rv32_machine.specs.declared.machine.Machine.{Machine}
 use Rattle.machine_memory.specs.declared.sloth.SlothBus.{SlothBus}
 use Rattle.rv32_machine.specs.Run.{Moment, moment, moment_of, state_with_arrivals, run, run_from, steps_of, state_after}
 use Rattle.sim_induction.specs.Sound.{events_of}
-use Rattle.sloth_runner.specs.Runner.{AreLines, HasRun, HasDone, HasArrived, HasExecuted, HandsOut, Advanced, Adds, IsRunning, image_of, given_arrivals, count_of, sloth_state, run_steps}
+use Rattle.sloth_runner.specs.Moments.{AreLines, HandsOut, sloth_state}
+use Rattle.sloth_runner.specs.Runner.{HasRun, HasDone, HasArrived, HasExecuted, Advanced, Adds, IsRunning, image_of, given_arrivals, count_of, run_steps}
 use Rattle.sloth_runner.specs.declared.runner.Runner.{Runner}
 use Rattle.rv32_machine.proofs.Runs.{after_more, run_more}
 use Rattle.std.proofs.lemmas.List.Elements.{All-drop}

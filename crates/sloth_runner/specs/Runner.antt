@@ -20,7 +20,7 @@ use Rattle.sloth_base.specs.Take.{execution_state}
 use Rattle.sloth_base.specs.Owners.{owners_named}
 use Rattle.rv32_instr.specs.declared.stop.Stop.{Stop}
 use Rattle.rv32_machine.specs.Run.{Stopping, moment, state_with_arrivals, run, steps_of, state_after, stop_of}
-pub use Rattle.run_moments.specs.Moments.{AreLines, HandingOut, HandsOut, sloth_state}
+use Rattle.sloth_runner.specs.Moments.{AreLines, HandingOut, HandsOut, sloth_state}
 use Rattle.sloth_runner.specs.declared.runner.Halt.{Halt}
 use Rattle.sloth_runner.specs.declared.runner.Printer.{Printer}
 use Rattle.sloth_runner.specs.declared.runner.Runner.{Runner}

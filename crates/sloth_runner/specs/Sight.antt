@@ -9,7 +9,7 @@ use Rattle.rv32_machine.specs.Run.{state_with_arrivals, state_after}
 use Rattle.osek_scheduler.specs.declared.state.TaskState.{TaskState}
 use Rattle.sloth_base.specs.Owners.{counter_line}
 use Rattle.sloth_inspect.specs.States.{states_in, running_number_in, is_pending_in, pending_lines_in, levels_in}
-pub use Rattle.run_moments.specs.declared.looks.Seen.{Seen}
+use Rattle.sloth_runner.specs.declared.looks.Seen.{Seen}
 use Rattle.sloth_runner.specs.declared.runner.RunEnd.TheVariants as ends
 use Rattle.sloth_runner.specs.declared.sight.Interrupts.{Interrupts}
 use Rattle.sloth_runner.specs.declared.sight.Sight.{Sight}

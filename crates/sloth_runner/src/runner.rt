@@ -6,10 +6,11 @@ ghost use Rattle.sloth_base.specs.Owners.{owners_named};
 ghost use Rattle.sloth_io.specs.Sink.{output_with, GainsPart};
 ghost use Rattle.trace_text.specs.Texts.{ends_idle, is_idle};
 ghost use Rattle.observe.specs.Progress.{remaining, view_of, arrivals_of, expected_count, arrivals_due};
-ghost use Rattle.sloth_runner.specs.Runner.{lines_of, HandsOut};
+ghost use Rattle.sloth_runner.specs.Runner.{lines_of};
+ghost use Rattle.sloth_runner.specs.Moments.{HandsOut};
 
+use crate::arrivals::arrive_front;
 use observe::{Observer, passing};
-use run_moments::arrivals::arrive_front;
 use rv32_machine::{Machine, SlothBus, Step, Stop, blank_step};
 use sloth_base::event::{Arrival, Event, Stamped};
 use sloth_base::image::Image;

@@ -1,11 +1,11 @@
 //! The states of the tasks at a count of a run.
 ghost use Rattle.std.specs.Prelude.{◌≡◌, ◌<◌, ◌≤◌, length};
-ghost use Rattle.sloth_runner.specs.Runner.{sloth_state};
+ghost use Rattle.sloth_runner.specs.Moments.{sloth_state};
 ghost use Rattle.sloth_runner.specs.Sight.{sight_at, pending_counters_in, interrupts_in, task_levels};
 
+pub use crate::looks::Seen;
+use crate::looks::{instructions_through, look};
 use crate::runner::Runner;
-pub use run_moments::looks::Seen;
-use run_moments::looks::{instructions_through, look};
 use rv32_machine::{SlothBus, Stop};
 use sloth_base::lines::COUNTER_LINE;
 use sloth_base::numbers::Line;

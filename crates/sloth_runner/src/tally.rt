@@ -3,8 +3,8 @@ ghost use Rattle.std.specs.Prelude.{◌≡◌, ◌≤◌};
 ghost use Rattle.sim_induction.specs.Sound.{events_of};
 ghost use Rattle.trace_text.specs.Summary.{counts_of};
 
+use crate::counting::count_events;
 use crate::runner::{RunEnd, Runner};
-use run_moments::counting::count_events;
 use trace_text::summary::KINDS;
 
 /// The numbers of the events of each kind, in the order of the summary, and how the run ended.

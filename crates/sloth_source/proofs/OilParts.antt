@@ -13,17 +13,17 @@ use Rattle.oil_parse.specs.declared.tree.OilObject.{OilObject}
 use Rattle.oil_parse.specs.declared.tree.OilAttr.{OilAttr}
 use Rattle.oil_parse.specs.Faults.{GrammarFault}
 use Rattle.oil_parse.specs.Text.{BreaksGrammar}
-use Rattle.oil_rules.specs.Cases.{Case}
-use Rattle.oil_rules.specs.Objects.{has_scheduler}
-use Rattle.oil_rules.specs.Events.{events_of, BitFault}
+use Rattle.oil_table.specs.Cases.{Case}
+use Rattle.oil_table.specs.Objects.{has_scheduler}
+use Rattle.oil_events.specs.Events.{events_of, BitFault}
 use Rattle.oil_rules.specs.ObjectFaults.{KnownFault}
 use Rattle.oil_rules.specs.AttributeFaults.{AttributeFault}
 use Rattle.oil_rules.specs.TaskFaults.{TaskFault}
 use Rattle.oil_rules.specs.TreeFaults.{InnerFault, ObjectFault, TreeFault}
-use Rattle.oil_rules.specs.declared.table.Place.{Place}
-use Rattle.oil_rules.specs.declared.table.Place.TheVariants.{Alarm}
-use Rattle.oil_rules.specs.Table.{place_of, block_place}
-use Rattle.alarm_limits.specs.declared.limits.Limits.{Limits}
+use Rattle.oil_table.specs.declared.table.Place.{Place}
+use Rattle.oil_table.specs.declared.table.Place.TheVariants.{Alarm}
+use Rattle.oil_table.specs.Table.{place_of, block_place}
+use Rattle.oil_table.specs.declared.alarm_limits.Limits.{Limits}
 use Rattle.oil_alarms.specs.Limits.{limits_of}
 use Rattle.oil_alarms.specs.Blocks.{BlockText, blocks_of}
 use Rattle.oil_alarms.specs.AlarmFaults.{InsideFault, BlockFault, PartFault, AlarmFault}

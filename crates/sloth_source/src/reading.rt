@@ -10,8 +10,8 @@ use sloth_base::app::App;
 use sloth_base::config::Config;
 use sloth_base::places::Bounds;
 use sloth_base::refusal::BuildError;
+use stack_bounds::bounds_of;
 use std::alloc::Global;
-use verified_bounds::bounds_of;
 
 /// A configuration and its task code, and the bytes of stack that its tasks may need.
 #[derive(Drop)]

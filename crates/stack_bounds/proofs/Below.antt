@@ -2,7 +2,7 @@
 use Rattle.std.proofs.Common.{◌≡◌, ℕ, zero, suc, ◌+◌, ◌*◌, ◌<◌, ◌≤◌, ◌⊎◌, inl, inr, ⊎_elim, refl, sym, ap, ◌∙◌, subst, arith}
 use Rattle.std.specs.Prelude.{max}
 use Rattle.std.proofs.lemmas.Bool.{cases_eq, cases_lt}
-use Rattle.code_tables.specs.Tables.{sum_below, max_below}
+use Rattle.call_graph.specs.Tables.{sum_below, max_below}
 
 pub last_or_before : (i n : ℕ) → i < suc n → (i ≡ n) ⊎ (i < n)
 last_or_before i n l = ⊎_elim inl (λ ne. inr (omega (arith, l, ne))) (cases_eq i n)

@@ -11,7 +11,7 @@ use Rattle.sloth_base.specs.Options.{is_number}
 use Rattle.sloth_base.specs.Named.{function, body_of, no_function, no_item, IsBodyOf}
 use Rattle.code_rules.specs.AppRange.{AppInRange, IsOp}
 use Rattle.code_rules.specs.WellFormed.{WellFormed}
-use Rattle.code_tables.specs.Tables.{IsKnown, AreCallable, HasBody}
+use Rattle.call_graph.specs.Tables.{IsKnown, AreCallable, HasBody}
 
 some_number : (t : ℕ) (o : Option ℕ) → is_number t o ≡ true → o ≡ Some t
 some_number t None e = absurd (true≢false (sym e))

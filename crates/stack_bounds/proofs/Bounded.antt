@@ -11,7 +11,7 @@ use Rattle.code_rules.specs.WellFormed.{WellFormed}
 use Rattle.call_graph.specs.declared.ranking.Ranks.{Ranks}
 use Rattle.call_graph.specs.Ranks.{RanksOf}
 use Rattle.stack_bounds.specs.Bounds.{total, IsGreatest, context_bytes, frame_bytes, call_bytes, CallsInTurn, used_bytes, AreBounds, HaveRoom, IsLength}
-use Rattle.code_tables.specs.Tables.{table_entry, IsTable, task_bytes, gives_way, most_stacked, task_at}
+use Rattle.call_graph.specs.Tables.{table_entry, IsTable, task_bytes, gives_way, most_stacked, task_at}
 use Rattle.stack_bounds.proofs.Bodies.{has_body, callable}
 use Rattle.stack_bounds.proofs.Chains.{greatest, greatest_small, inwards, words}
 use Rattle.stack_bounds.proofs.Rows.{AreRows, preempted, greatest_shared}

@@ -10,7 +10,7 @@ use Rattle.code_rules.specs.Code.{Calls, IsCalledBy}
 use Rattle.call_graph.specs.declared.ranking.Ranks.{Ranks}
 use Rattle.call_graph.specs.Ranks.{RanksOf}
 use Rattle.stack_bounds.specs.Bounds.{total, frame_bytes, call_bytes, CallsInTurn, IsGreatest}
-use Rattle.code_tables.specs.Tables.{sum_below, bytes_called, calls_to_depth, IsKnown, AreCallable}
+use Rattle.call_graph.specs.Tables.{sum_below, bytes_called, calls_to_depth, IsKnown, AreCallable}
 use Rattle.stack_bounds.proofs.Below.{max_below-at, max_below-some, sum_below-gain, sum_below-le}
 
 called_is : (further : ℕ → ℕ) (app : App) (o : Op) → (bytes_called app.funcs further o ≡ 0) ⊎ ((g : ℕ) × (o ≡ op.Invoke g))

@@ -6,7 +6,7 @@ use Rattle.sloth_base.specs.declared.app.Func.{Func}
 use Rattle.sloth_base.specs.declared.app.Op.{Op}
 use Rattle.sloth_base.specs.declared.app.Op.TheVariants as op
 use Rattle.sloth_base.specs.Named.{no_item}
-use Rattle.code_tables.specs.Tables.{func_of, bytes_called, most_called, calls_to_depth, table_entry, IsTable, IsKnown, IsSmall, AreCallable}
+use Rattle.call_graph.specs.Tables.{func_of, bytes_called, most_called, calls_to_depth, table_entry, IsTable, IsKnown, IsSmall, AreCallable}
 use Rattle.stack_bounds.proofs.Below.{max_below-le, max_below-same}
 
 module _ (funcs : List Func) where

@@ -8,7 +8,7 @@ use Rattle.sloth_base.specs.Named.{declaration}
 use Rattle.call_graph.specs.declared.ranking.Ranks.{Ranks}
 use Rattle.sloth_base.specs.declared.places.Bounds.{Bounds}
 use Rattle.stack_bounds.specs.Bounds.{total, IsGreatest, IsBasic, MayBePreempted, AreStacked, AreBounds, AreParts}
-use Rattle.code_tables.specs.Tables.{sum_below, most_stacked, AreOffsets}
+use Rattle.call_graph.specs.Tables.{sum_below, most_stacked, AreOffsets}
 use Rattle.stack_bounds.proofs.Below.{max_below-at, max_below-le, sum_below-le, sum_below-gain}
 use Rattle.stack_bounds.proofs.Rows.{AreRows, length_is, priority, size, counted, counts, under, above, more, best, bests, greatest_shared}
 

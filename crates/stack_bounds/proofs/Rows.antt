@@ -13,7 +13,7 @@ use Rattle.code_rules.specs.WellFormed.{WellFormed}
 use Rattle.call_graph.specs.declared.ranking.Ranks.{Ranks}
 use Rattle.call_graph.specs.Ranks.{RanksOf}
 use Rattle.stack_bounds.specs.Bounds.{total, IsGreatest, IsBasic, MayBePreempted, AreStacked, IsLength}
-use Rattle.code_tables.specs.Tables.{sum_below, gives_way, bytes_under, bytes_with_lower, most_stacked, AreStacks, task_at}
+use Rattle.call_graph.specs.Tables.{sum_below, gives_way, bytes_under, bytes_with_lower, most_stacked, AreStacks, task_at}
 use Rattle.stack_bounds.proofs.Yielding.{Decides-gives_way}
 use Rattle.stack_bounds.proofs.Stacked as stacked
 

@@ -2,7 +2,7 @@
 use Rattle.std.proofs.Common.{◌≡◌, ℕ, zero, suc, ◌+◌, ◌<◌, ◌≤◌, ◌⊎◌, ⊎_elim, List, [], ◌∷◌, ◌++◌, refl, sym, arith}
 use Rattle.std.proofs.lemmas.Bool.{cases_lt}
 use Rattle.stack_bounds.specs.Bounds.{total, IsGreatest}
-use Rattle.code_tables.specs.Tables.{sum_below, max_below}
+use Rattle.call_graph.specs.Tables.{sum_below, max_below}
 use Rattle.stack_bounds.proofs.Below.{max_below-at, max_below-some, sum_below-gain}
 
 -- Numbers below n with a priority that differs, a size, and tests which of them are wanted, and which may stand below others.

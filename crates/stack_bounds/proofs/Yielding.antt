@@ -11,13 +11,14 @@ use Rattle.sloth_base.specs.declared.service.Service.{Service}
 use Rattle.sloth_base.specs.declared.service.Service.TheVariants as service
 use Rattle.sloth_base.specs.declared.refusal.Code.TheVariants as code
 use Rattle.sloth_base.specs.Named.{declaration, function, operation, body_of, undeclared_task, no_function, no_item}
-use Rattle.code_rules.specs.AppRange.{IsOp, IsMask, mask_of, no_event}
+use Rattle.code_rules.specs.AppRange.{IsOp, IsMask, mask_of}
+use Rattle.sloth_base.specs.ConfigRange.{no_event}
 use Rattle.code_rules.specs.Code.{IsItem, service_op, Pauses, Reaches, TaskReaches, ReachesPause}
 use Rattle.code_rules.specs.WellFormed.{WellFormed, HasEvents, UsesUndeclared, at_item, uses_undeclared}
 use Rattle.call_graph.specs.declared.ranking.Ranks.{Ranks}
 use Rattle.call_graph.specs.Ranks.{RanksOf}
 use Rattle.stack_bounds.specs.Bounds.{IsBasic, ReachesSchedule, MayBePreempted}
-use Rattle.code_tables.specs.Tables.{gives_way}
+use Rattle.call_graph.specs.Tables.{gives_way}
 use Rattle.stack_bounds.proofs.Bodies.{has_body}
 
 module _ (config : Config) (app : App) (w : WellFormed config app) where

@@ -1,9 +1,9 @@
 //! The most bytes that each function's calls need.
 ghost use Rattle.std.specs.Prelude.{◌≡◌, ℕ, ◌<◌, max, length, get_or, IfOk};
 ghost use Rattle.sloth_base.specs.Named.{no_item};
-ghost use Rattle.code_tables.specs.Tables.{most_called, table_entry, func_of, IsTable, IsKnown, IsSmall, AreCallable};
+ghost use Rattle.call_graph.specs.Tables.{most_called, table_entry, func_of, IsTable, IsKnown, IsSmall, AreCallable};
 
-use code_tables::calls::bytes_called;
+use call_graph::called_bytes::bytes_called;
 use sloth_base::app::{Func, Item};
 use sloth_base::memory::NoMemory;
 use std::alloc::Global;

@@ -5,6 +5,7 @@ ghost use Rattle.std.specs.Prelude.{IfOk};
 ghost use Rattle.call_graph.specs.Ranks.{RanksOf};
 ghost use Rattle.stack_bounds.specs.Bounds.{AreBounds};
 
+mod bounding;
 mod calls;
 mod shared;
 mod stacking;
@@ -14,6 +15,7 @@ mod tasks;
 use crate::calls::most_calls;
 use crate::shared::most_stacked;
 use crate::tasks::{bytes_of_tasks, yielding_tasks};
+pub use bounding::bounds_of;
 use call_graph::ranking::Ranks;
 use sloth_base::list::List;
 use sloth_base::memory::NoMemory;

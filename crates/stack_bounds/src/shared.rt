@@ -1,9 +1,9 @@
 //! The most bytes that all basic tasks need on one stack.
 ghost use Rattle.std.specs.Prelude.{◌≡◌, ◌<◌, length};
-ghost use Rattle.code_tables.specs.Tables.{bytes_with_lower, most_stacked, AreStacks};
+ghost use Rattle.call_graph.specs.Tables.{bytes_with_lower, most_stacked, AreStacks};
 
 use crate::calls::larger;
-use code_tables::shared::bytes_below;
+use call_graph::stack_offsets::bytes_below;
 use sloth_base::config::TaskDecl;
 
 /// The bytes of a basic task with all that may stand below it, 0 for an extended task.

@@ -7,7 +7,7 @@ ghost use Rattle.stack_bounds.specs.Bounds.{AreBounds, AreParts};
 use crate::tasks::yielding_tasks;
 use call_graph::ranking::Ranks;
 use call_graph::ranks;
-use code_tables::shared::offsets_of_tasks;
+use call_graph::stack_offsets::offsets_of_tasks;
 use sloth_base::app::App;
 use sloth_base::config::Config;
 use sloth_base::memory::NoMemory;

@@ -2,7 +2,7 @@
 ghost use Rattle.std.specs.Prelude.{◌≡◌, ◌<◌, length};
 ghost use Rattle.sloth_base.specs.Options.{is_number};
 ghost use Rattle.sloth_base.specs.Named.{body_of};
-ghost use Rattle.code_tables.specs.Tables.{HasBody};
+ghost use Rattle.call_graph.specs.Tables.{HasBody};
 
 use sloth_base::app::Func;
 

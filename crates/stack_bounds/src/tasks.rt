@@ -1,7 +1,7 @@
 //! What each task needs for itself, and which tasks may be preempted.
 ghost use Rattle.std.specs.Prelude.{◌≡◌, ℕ, ◌<◌, false, length, get_or, IfOk};
 ghost use Rattle.sloth_base.specs.Named.{body_of};
-ghost use Rattle.code_tables.specs.Tables.{AreCallable, HasBody, IsSmall, task_at, task_bytes, gives_way};
+ghost use Rattle.call_graph.specs.Tables.{AreCallable, HasBody, IsSmall, task_at, task_bytes, gives_way};
 
 use crate::task_bodies::body_of;
 use sloth_base::app::Func;

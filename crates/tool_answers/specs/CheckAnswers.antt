@@ -2,8 +2,8 @@
 use Rattle.std.specs.Prelude.{ℕ, ◌≡◌, List, [], codes}
 use Rattle.trace_check.specs.declared.verdict.Verdict.{Verdict}
 use Rattle.trace_check.specs.declared.verdict.Verdict.TheVariants as verdict
-use Rattle.trace_command.specs.Answers.{IsJudged}
-use Rattle.trace_command.specs.Inputs.{IsRefusal}
+use Rattle.trace_check.specs.TraceAnswers.{IsJudged}
+use Rattle.trace_check.specs.Inputs.{IsRefusal}
 use Rattle.tool_answers.specs.declared.answer.ToolAnswer.{ToolAnswer}
 use Rattle.tool_answers.specs.declared.answer.ToolAnswer.TheVariants as answer
 use Rattle.tool_answers.specs.declared.answer.TraceFault.{TraceFault}

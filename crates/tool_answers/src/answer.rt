@@ -2,7 +2,7 @@
 ghost use Rattle.std.specs.Prelude.{◌≡◌};
 
 use crate::status::Status;
-use elf_fields::fault::ElfFault;
+use elf_image::fault::ElfFault;
 use image_file::fault::ImageFault;
 use rv32_instr::Stop;
 use sloth_base::list::List;

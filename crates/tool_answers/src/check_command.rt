@@ -6,8 +6,7 @@ use crate::answer::{ToolAnswer, TraceFault};
 use crate::told::told;
 use sloth_base::memory::NoMemory;
 use std::alloc::Global;
-use trace_check::Verdict;
-use trace_command::{TraceAnswer, judge_trace};
+use trace_check::{TraceAnswer, Verdict, judge_trace};
 
 /// Whether a text of events is that of a run of n instructions, or where it fails to be; or the first refusal of the other texts.
 pub fn check(

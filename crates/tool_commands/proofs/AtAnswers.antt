@@ -20,7 +20,7 @@ use Rattle.tool_commands.specs.AtAnswers.{IsShown, IsRefused, IsAtAnswer, sight_
 use Rattle.tool_commands.specs.RunAnswers.{AreRunInputs}
 use Rattle.tool_answers.specs.declared.answer.ToolAnswer.{ToolAnswer}
 use Rattle.tool_answers.specs.declared.answer.ToolAnswer.TheVariants as answer
-use Rattle.trace_command.proofs.Refused.{of-arrivals}
+use Rattle.trace_check.proofs.Refused.{of-arrivals}
 
 -- what an answer of `at` is
 pub data AtView (img arr : List ℕ) (k : ℕ) (a : ToolAnswer) : Type 0 where

@@ -10,7 +10,7 @@ use Rattle.command_line.specs.Tools.{input_count, number_of, window_of}
 use Rattle.command_line.specs.declared.counts.Counts.{Counts}
 use Rattle.command_line.specs.declared.tool.Tool.{Tool}
 use Rattle.command_line.specs.declared.tool.Tool.TheVariants as tool
-use Rattle.elf_fields.specs.ElfText.{ElfText}
+use Rattle.elf_image.specs.ElfText.{ElfText}
 use Rattle.tool_commands.specs.Answers.{IsAnswer, OneAnswer, input, reads_image}
 use Rattle.tool_answers.specs.declared.answer.ToolAnswer.{ToolAnswer}
 use Rattle.tool_answers.specs.declared.answer.ToolAnswer.TheVariants as answer

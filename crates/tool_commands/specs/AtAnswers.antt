@@ -10,7 +10,7 @@ use Rattle.trace_text.specs.ArrivalsText.{ArrivalsFault, arrivals_in}
 use Rattle.sloth_runner.specs.Sight.{IsSight}
 use Rattle.sloth_runner.specs.declared.sight.Sight.{Sight}
 use Rattle.sloth_runner.specs.declared.sight.Sight.TheVariants as sight
-use Rattle.sight_text.specs.SightText.{seen_text}
+use Rattle.tool_commands.specs.SightText.{seen_text}
 use Rattle.tool_answers.specs.declared.answer.ToolAnswer.{ToolAnswer}
 use Rattle.tool_answers.specs.declared.answer.ToolAnswer.TheVariants as answer
 

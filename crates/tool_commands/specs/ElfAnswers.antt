@@ -3,8 +3,8 @@ use Rattle.std.specs.Prelude.{ℕ, ◌≡◌, List, length}
 use Rattle.sloth_base.specs.declared.image.Image.{Image}
 use Rattle.image_file.specs.ImageText.{ImageText}
 use Rattle.image_file.specs.Faults.{IsFirstImageFault as ImageFaulty}
-use Rattle.elf_fields.specs.ElfText.{ElfText}
-use Rattle.elf_fields.specs.Faults.{IsFirstElfFault as ElfFaulty}
+use Rattle.elf_image.specs.ElfText.{ElfText}
+use Rattle.elf_image.specs.Faults.{IsFirstElfFault as ElfFaulty}
 use Rattle.tool_commands.specs.Lines.{written_line}
 use Rattle.tool_answers.specs.declared.answer.ToolAnswer.{ToolAnswer}
 use Rattle.tool_answers.specs.declared.answer.ToolAnswer.TheVariants as answer

@@ -7,8 +7,8 @@ ghost use Rattle.sloth_runner.specs.Sight.{IsSight};
 ghost use Rattle.tool_commands.specs.AtAnswers.{IsAtAnswer, sight_answer};
 ghost use Rattle.tool_commands.specs.RunAnswers.{AreRunInputs};
 
+use crate::at_lines::seen_text;
 use crate::run_inputs::{RunInputs, Unread, read_run};
-use sight_text::seen_text;
 use sloth_base::event::Arrival;
 use sloth_base::image::Image;
 use sloth_base::list::List;

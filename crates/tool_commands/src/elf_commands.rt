@@ -1,13 +1,13 @@
 //! The commands `elf` and `unelf`.
 ghost use Rattle.std.specs.Prelude.{◌≡◌, ℕ, List as Sequence, IfOk, length};
 ghost use Rattle.sloth_base.specs.ImageRange.{InFormat};
-ghost use Rattle.elf_fields.specs.ElfText.{ElfText};
+ghost use Rattle.elf_image.specs.ElfText.{ElfText};
 ghost use Rattle.image_file.specs.ImageText.{ImageText};
 ghost use Rattle.tool_commands.specs.Lines.{written_line};
 ghost use Rattle.tool_commands.specs.ElfAnswers.{IsElfAnswer, IsUnelfAnswer};
 
 use crate::lines::written_line;
-use elf_fields::fault::ElfError;
+use elf_image::fault::ElfError;
 use elf_image::{read_elf, write_elf};
 use image_file::fault::ImageError;
 use image_file::{read_image, write_image};

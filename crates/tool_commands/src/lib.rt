@@ -2,6 +2,7 @@
 #![tactic(auto)]
 
 mod at_command;
+pub mod at_lines;
 mod bounds_command;
 mod elf_commands;
 mod infer_command;

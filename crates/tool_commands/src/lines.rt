@@ -2,7 +2,7 @@
 ghost use Rattle.std.specs.Prelude.{◌≡◌, ◌≤◌, length};
 ghost use Rattle.tool_commands.specs.Lines.{elf_fault_text, no_elf_line, bad_trace_line, written_line};
 
-use elf_fields::fault::ElfFault;
+use elf_image::fault::ElfFault;
 use itoa::Buffer;
 use tool_answers::answer::TraceFault;
 use trace_text::line_text::LineText;

@@ -1,9 +1,9 @@
 //! Commands on files of the system, and the picture of a run that the README shows.
 use crate::commands::words;
 use crate::rows::{Piece, numbers, row};
+use sloth_cli::program::run_words;
 use sloth_io::file_store::FileStore;
 use sloth_io::store::Store;
-use sloth_program::run_words;
 use std::rt::Files;
 
 /// The most bytes of a picture.

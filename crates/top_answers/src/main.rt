@@ -68,7 +68,7 @@ use crate::sources::list_sources;
 use crate::sweeps::run_sweep;
 use crate::system_files::list_outside;
 use crate::texts::{LONGEST, Texts};
-use sloth_program::run_program;
+use sloth_cli::program::run_program;
 use std::io::{Input, Read};
 use std::process::ExitCode;
 use std::rt::Files;

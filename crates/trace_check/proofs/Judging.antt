@@ -17,7 +17,7 @@ use Rattle.sloth_base.specs.ConfigRange.{InRange}
 use Rattle.sloth_base.specs.Owners.{IsOwned, owners_in}
 use Rattle.sloth_base.proofs.Owners.{IsCounterLine, owned_cases}
 use Rattle.osek_scheduler.specs.InTime.{InTime}
-use Rattle.trace_text.specs.EventLines.{HasNumbers}
+use Rattle.line_words.specs.EventNumbers.{HasNumbers}
 use Rattle.trace_time.specs.Counts.{AreSmall, IsSmall}
 use Rattle.walked_events.specs.TraceText.{BeginsWithNone, HasLine, HasRead, IsFirstBad, Shows}
 use Rattle.trace_check.specs.Begun.{AreNamesOf}

@@ -1,2 +1,4 @@
 pub mod Exact
 pub mod Judging
+pub mod Refused
+pub mod OneAnswer

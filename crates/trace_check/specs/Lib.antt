@@ -1,3 +1,5 @@
 pub mod Verdicts
 pub mod Answer
 pub mod Begun
+pub mod Inputs
+pub mod TraceAnswers

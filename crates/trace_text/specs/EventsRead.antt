@@ -1,13 +1,13 @@
 -- How the one event is found that a counted line may show: word after word, read loosely. The line of that event is compared with the text.
 use Rattle.std.specs.Prelude.{ℕ, nat_lt, Bool, ◌||◌, if◌then◌else◌, List}
 use Rattle.std.specs.Prelude.{codes, bytes_eq, position, Option, Some, None, option_and_then}
-unfoldable pub use Rattle.sloth_base.specs.ServiceCodes.{service_named}
+use Rattle.sloth_base.specs.ServiceCodes.{service_named}
 use Rattle.sloth_base.specs.declared.event.Event.{Event}
 use Rattle.sloth_base.specs.declared.event.Event.TheVariants as event
 use Rattle.sloth_base.specs.declared.event.Stamped.{Stamped}
 use Rattle.text_pieces.specs.Digits.{value_from, capped_value}
 use Rattle.asm_lines.specs.Operands.{before, behind}
-unfoldable pub use Rattle.line_words.specs.EventWords.{single_in}
+use Rattle.line_words.specs.EventWords.{single_in}
 
 infixl 10 ◌>>=◌
 -- goes on with what there is

@@ -5,8 +5,8 @@ use Rattle.hex.specs.Hex.{encode_lower}
 use Rattle.sloth_base.specs.declared.image.Image.{Image}
 use Rattle.sloth_base.specs.declared.image.Mark.{Mark}
 use Rattle.sloth_base.specs.MemoryMap.{memory_base}
-unfoldable pub use Rattle.line_words.specs.MarkWords.{word_text}
-pub use Rattle.line_words.specs.MarkWords.{called_text, kind_text, mark_text}
+use Rattle.line_words.specs.MarkWords.{word_text}
+use Rattle.line_words.specs.MarkWords.{called_text, kind_text, mark_text}
 
 -- ---- words and marks
 

@@ -2,7 +2,8 @@
 ghost use Rattle.std.specs.Prelude.{◌≡◌, ℕ, ◌↔◌, Some, IfSome, length};
 ghost use Rattle.sloth_base.specs.ImageRange.{AreNames, AreApart};
 ghost use Rattle.sloth_base.specs.declared.event.Stamped.{Stamped as AnyEvent};
-ghost use Rattle.trace_text.specs.EventLines.{HasNumbers, IsLineOf, IsNameNumber, IsNumberOrNone, Has32Bits, counted_line};
+ghost use Rattle.line_words.specs.EventNumbers.{HasNumbers, IsNameNumber, IsNumberOrNone, Has32Bits};
+ghost use Rattle.trace_text.specs.EventLines.{IsLineOf, counted_line};
 ghost use Rattle.trace_text.specs.EventsRead.{admit_in, call_in, event_in, is_single, left_in, more_in, named_in, number, of_task, place};
 ghost use Rattle.trace_text.specs.EventsRead.{place_or_none, run_in, stamped_in, tick_in};
 

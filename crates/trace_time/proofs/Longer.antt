@@ -10,7 +10,7 @@ use Rattle.sloth_base.specs.declared.event.Stamped.{Stamped}
 use Rattle.osek_scheduler.specs.Meaning.{on_some}
 use Rattle.sloth_base.specs.Events.{admitted_line, is_boot}
 use Rattle.osek_scheduler.specs.InTime.{longest_cut_off_stretch}
-use Rattle.arrival_pass.specs.Scan.{Scan, scan_start, scan_after_event, scan_after_events}
+use Rattle.trace_time.specs.Scan.{Scan, scan_start, scan_after_event, scan_after_events}
 use Rattle.trace_time.specs.Counts.{admit_numbers, with_admit, last_moment}
 use Rattle.trace_time.specs.Timed.{KeptPass, is_late, NeverInTime, IsTimely, TimedBy}
 

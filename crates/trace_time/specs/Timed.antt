@@ -4,7 +4,7 @@ use Rattle.sloth_base.specs.declared.config.Config.{Config}
 use Rattle.sloth_base.specs.declared.event.Arrival.{Arrival}
 use Rattle.sloth_base.specs.declared.event.Stamped.{Stamped}
 use Rattle.osek_scheduler.specs.InTime.{longest_cut_off_stretch}
-use Rattle.arrival_pass.specs.Scan.{Scan, scan_start, scan_after_events}
+use Rattle.trace_time.specs.Scan.{Scan, scan_start, scan_after_events}
 use Rattle.trace_time.specs.Counts.{admit_numbers}
 
 -- the configuration has no more counters and alarms than one in range

@@ -2,6 +2,7 @@
 #![tactic(auto)]
 
 pub mod numbers;
+pub mod pass;
 pub mod stretches;
 pub mod timing;
 

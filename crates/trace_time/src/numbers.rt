@@ -6,7 +6,7 @@ ghost use Rattle.std.specs.Bool.{Decides};
 ghost use Rattle.trace_time.specs.Counts.{SameCounts, arrival_number, last_moment, may_leave, number_at, with_admit};
 ghost use Rattle.sloth_base.specs.Events.{admitted_line};
 
-use arrival_pass::pass::admitted_line;
+use crate::pass::admitted_line;
 use sloth_base::event::{Arrival, Stamped};
 use sloth_base::memory::NoMemory;
 use std::alloc::Global;

@@ -10,8 +10,8 @@ ghost use Rattle.trace_time.specs.Counts.{AreSmall};
 ghost use Rattle.trace_time.specs.Timed.{HasFewAlarms, TimedBy, is_late};
 
 use crate::numbers::{are_admits_of, last_moment, may_leave, push_number};
+use crate::pass::Pass;
 use crate::stretches::{boot_limit, longest_stretch};
-use arrival_pass::pass::Pass;
 use sloth_base::config::Config;
 use sloth_base::event::{Arrival, Event, Stamped};
 use sloth_base::memory::NoMemory;

@@ -19,7 +19,7 @@ use Rattle.masked_code.proofs.Spread.{spread, spread_is, spread_from, others}
 use Rattle.masked_code.proofs.Routines.{handles}
 use Rattle.code_lengths.specs.CodeLengths.{lines_length}
 use Rattle.code_lengths.proofs.Short.{short_lines}
-use Rattle.routine_pieces.specs.Boot.{line_code}
+use Rattle.block_parts.specs.Boot.{line_code}
 use Rattle.vector_gen.specs.Boot.{register_code, line_start_code, lines_code, counters_code, finishing_code, IsUnused, MayBoot, Booted, Boots}
 
 -- the lines' bytes after the tasks from this line on

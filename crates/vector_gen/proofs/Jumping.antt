@@ -4,7 +4,7 @@ use Rattle.std.proofs.lemmas.Bool.{cases_eq}
 use Rattle.std.proofs.lemmas.List.{get_or_append_left, get_or-append_right}
 use Rattle.sloth_base.specs.MemoryMap.{vectors_base}
 use Rattle.rv32_instr.specs.declared.InstrKind.{InstrKind}
-use Rattle.routine_pieces.specs.Boot.{IsJump}
+use Rattle.block_parts.specs.Boot.{IsJump}
 use Rattle.vector_gen.specs.Vectors.{AreJumps}
 
 -- a jump to the next line's handler behind those of all lines before it

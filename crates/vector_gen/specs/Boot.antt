@@ -13,7 +13,7 @@ use Rattle.sloth_base.specs.MemoryMap.{memory_base}
 use Rattle.masked_code.specs.Place.{offset_state}
 use Rattle.masked_code.specs.Masked.{Masked, WithArrivals}
 use Rattle.masked_code.specs.Kernel.{CanRun, LeftAs}
-use Rattle.routine_pieces.specs.Boot.{line_code}
+use Rattle.block_parts.specs.Boot.{line_code}
 
 -- ---- the code
 

@@ -5,7 +5,7 @@ use Rattle.rv32_instr.specs.declared.InstrKind.{InstrKind}
 use Rattle.sloth_base.specs.MemoryMap.{vectors_base, boot_base}
 use Rattle.rv32_instr.specs.Execute.{Going, step, touched}
 use Rattle.masked_code.specs.Place.{offset_state, InPlace}
-use Rattle.routine_pieces.specs.Boot.{IsJump}
+use Rattle.block_parts.specs.Boot.{IsJump}
 
 -- each handler stands behind the vector words, within reach of a jump, at a multiple of 4
 pub record AreInReach (handlers : List ℕ) : Type 0 where

@@ -6,8 +6,8 @@ ghost use Rattle.code_lengths.specs.CodeLengths.{boot_length};
 ghost use Rattle.vector_gen.specs.Boot.{register_code, line_start_code, lines_code, counters_code, finishing_code, Boots};
 ghost use Rattle.sloth_base.specs.Owners.{first_counter_line};
 
+use block_parts::boot::{counter_level, raise_autostarted};
 use masked_code::emit::emit;
-use routine_pieces::boot::{counter_level, raise_autostarted};
 use rv32_instr::asm::{X1, X2, X3, X4, ZERO, addi, csrrw, lui, mret, sb};
 use rv32_instr::constant::{hi, lo};
 use rv32_instr::csr::{MEPC, MPIE, MSTATUS};

@@ -2,7 +2,7 @@
 ghost use Rattle.std.specs.Prelude.{◌≡◌, ◌≤◌, ◌∷◌, [], length, IfOk};
 ghost use Rattle.vector_gen.specs.Idle.{idle_mark, Idles};
 
-use routine_pieces::boot::stay;
+use block_parts::boot::stay;
 use rv32_instr::Block;
 use sloth_base::image::{Mark, MarkKind};
 use sloth_base::list::List;

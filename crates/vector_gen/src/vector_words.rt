@@ -3,8 +3,8 @@ ghost use Rattle.std.specs.Prelude.{◌≡◌, ◌≤◌, [], length, IfOk};
 ghost use Rattle.sloth_base.specs.MemoryMap.{vectors_base};
 ghost use Rattle.vector_gen.specs.Vectors.{AreInReach, AreJumps, StepToHandlers};
 
+use block_parts::boot::jump;
 use masked_code::emit::emit;
-use routine_pieces::boot::jump;
 use rv32_instr::Block;
 use sloth_base::list::List;
 use sloth_base::memory::NoMemory;

@@ -11,7 +11,8 @@ use Rattle.sloth_base.specs.declared.event.Stamp.{Stamp}
 use Rattle.sloth_base.specs.declared.event.Stamped.{Stamped}
 use Rattle.osek_scheduler.specs.declared.state.TaskState.{TaskState}
 use Rattle.osek_scheduler.specs.declared.state.TaskState.TheVariants as mode
-use Rattle.osek_scheduler.specs.State.{Task, System, task, sleeping_task, opening, declaration}
+use Rattle.osek_scheduler.specs.State.{Task, System, task, sleeping_task, opening}
+use Rattle.sloth_base.specs.Named.{declaration}
 use Rattle.osek_scheduler.specs.Services.{if_suspended, activated_state, started_task}
 use Rattle.osek_scheduler.specs.Steps.{OsekStep, admitted_state}
 use Rattle.osek_scheduler.specs.Runs.{Leads, ReadySince}

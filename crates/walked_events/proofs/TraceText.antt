@@ -17,9 +17,10 @@ use Rattle.sloth_base.specs.declared.service.Service.TheVariants as service
 use Rattle.text_pieces.specs.Bytes.{is_byte_of}
 use Rattle.asm_lines.specs.Operands.{before, behind}
 use Rattle.asm_lines.proofs.Cuts.{lacks, has_in, has_here, before_is, behind_is}
-use Rattle.trace_text.specs.EventLines.{HasNumbers, IsLineOf, counted_line}
+use Rattle.line_words.specs.EventNumbers.{HasNumbers}
+use Rattle.trace_text.specs.EventLines.{IsLineOf, counted_line}
 use Rattle.sloth_base.specs.ServiceCodes.{service_name}
-use Rattle.trace_text.specs.Lines.{name_of, event_text}
+use Rattle.line_words.specs.EventWords.{name_of, event_text}
 use Rattle.trace_text.proofs.Digits.{writes}
 use Rattle.trace_text.proofs.EventsBack.{stamped_back}
 use Rattle.walked_events.specs.TraceText.{text_of, HasLine, Shows, IsFirstBad, Begins, BeginsWithNone, HasRead}

@@ -1,9 +1,9 @@
 -- The declarations of a scope, one signal after the other.
 use Rattle.std.proofs.Common.{◌≡◌, ◌+◌, ℕ, List, [], ◌++◌, get_or, refl, ap}
 use Rattle.std.proofs.Math.Numerals.{add-one}
-use Rattle.wave_signals.specs.declared.signals.Scope.{Scope}
+use Rattle.wave_text.specs.declared.signals.Scope.{Scope}
 use Rattle.wave_text.specs.Header.{variable_line, variable_lines}
-use Rattle.wave_signals.specs.Signals.{first_code, width_of}
+use Rattle.wave_text.specs.Signals.{first_code, width_of}
 
 pub no-variables : (s : Scope) (names : List (List ℕ)) → variable_lines s names 0 ≡ []
 unfolding variable_lines

@@ -6,10 +6,10 @@ use Rattle.std.proofs.lemmas.List.{flat_map_more}
 use Rattle.std.proofs.Math.Numerals.{add-one}
 use Rattle.run_samples.specs.declared.sampling.Sample.{Sample}
 use Rattle.wave_text.specs.declared.dump.Dump.{Dump}
-use Rattle.wave_signals.specs.declared.signals.Scope.{Scope}
-use Rattle.wave_signals.specs.declared.signals.Width.{Width}
+use Rattle.wave_text.specs.declared.signals.Scope.{Scope}
+use Rattle.wave_text.specs.declared.signals.Width.{Width}
 use Rattle.wave_text.specs.Changes.{Entry, same_value, change_entries, scope_changes, moment_entries, with_moment, stands_behind}
-use Rattle.wave_signals.specs.Signals.{first_code, width_of, value_of, KeepValues}
+use Rattle.wave_text.specs.Signals.{first_code, width_of, value_of, KeepValues}
 use Rattle.wave_text.specs.Text.{entry_line, entry_lines}
 use Rattle.wave_text.specs.Waves.{Gets}
 

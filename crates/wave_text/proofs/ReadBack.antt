@@ -5,13 +5,13 @@ use Rattle.std.proofs.lemmas.Bool.{cases_lt, false≢true}
 use Rattle.std.proofs.lemmas.Bool.Decides.{eqb_tells, leb_tells}
 use Rattle.sloth_base.specs.declared.lines.Owners.{Owners}
 use Rattle.run_samples.specs.declared.sampling.Sample.{Sample}
-use Rattle.wave_signals.specs.declared.signals.Scope.{Scope}
-use Rattle.wave_signals.specs.declared.signals.Scope.TheVariants as scope
-use Rattle.wave_signals.specs.declared.signals.Width.{Width}
-use Rattle.wave_signals.specs.declared.signals.Width.TheVariants as width
+use Rattle.wave_text.specs.declared.signals.Scope.{Scope}
+use Rattle.wave_text.specs.declared.signals.Scope.TheVariants as scope
+use Rattle.wave_text.specs.declared.signals.Width.{Width}
+use Rattle.wave_text.specs.declared.signals.Width.TheVariants as width
 use Rattle.wave_text.specs.Changes.{Entry, same_value, change_entries, changes, scope_changes, with_moment, entries, entries_from}
 use Rattle.wave_text.specs.Reading.{value_behind, value_at, ReadsBack}
-use Rattle.wave_signals.specs.Signals.{first_code, level_signal, masked_code, signal_count, width_of, value_of, level_value, masked_value}
+use Rattle.wave_text.specs.Signals.{first_code, level_signal, masked_code, signal_count, width_of, value_of, level_value, masked_value}
 
 -- ---- tests
 

@@ -8,7 +8,8 @@ use Rattle.sloth_base.specs.declared.lines.Owners.{Owners}
 use Rattle.sloth_base.specs.Owners.{owners_named}
 use Rattle.rv32_machine.specs.Start.{start}
 use Rattle.rv32_machine.proofs.Runs.{stop_none}
-use Rattle.sloth_runner.specs.Runner.{HasRun, run_end, end_of, sloth_state}
+use Rattle.sloth_runner.specs.Runner.{HasRun, run_end, end_of}
+use Rattle.sloth_runner.specs.Moments.{sloth_state}
 use Rattle.sloth_runner.specs.declared.runner.RunEnd.TheVariants as ends
 use Rattle.run_samples.specs.declared.sampling.Sample.{Sample}
 use Rattle.run_samples.specs.declared.sampling.Sampler.{Sampler}

@@ -2,11 +2,11 @@
 use Rattle.std.specs.Prelude.{ℕ, zero, suc, ◌+◌, ◌==◌, Bool, true, false, cond, if◌then◌else◌, List, [], ◌∷◌, ◌++◌, length, Option, Some, None}
 use Rattle.sloth_base.specs.declared.lines.Owners.{Owners}
 use Rattle.run_samples.specs.declared.sampling.Sample.{Sample}
-use Rattle.wave_signals.specs.declared.signals.Scope.{Scope}
-use Rattle.wave_signals.specs.declared.signals.Scope.TheVariants as scope
-use Rattle.wave_signals.specs.declared.signals.Width.{Width}
-use Rattle.wave_signals.specs.declared.signals.Width.TheVariants as width
-use Rattle.wave_signals.specs.Signals.{first_code, level_signal, masked_code, width_of, value_of, level_value, masked_value}
+use Rattle.wave_text.specs.declared.signals.Scope.{Scope}
+use Rattle.wave_text.specs.declared.signals.Scope.TheVariants as scope
+use Rattle.wave_text.specs.declared.signals.Width.{Width}
+use Rattle.wave_text.specs.declared.signals.Width.TheVariants as width
+use Rattle.wave_text.specs.Signals.{first_code, level_signal, masked_code, width_of, value_of, level_value, masked_value}
 
 -- what a dump says: it is this moment from here on, or a signal has this value from here on
 pub data Entry : Type 0 where

@@ -1,11 +1,11 @@
 -- The declarations of signals, in front of their changes (IEEE 1364-2005, section 18.2).
 use Rattle.std.specs.Prelude.{ℕ, zero, suc, ◌+◌, List, [], ◌∷◌, ◌++◌, codes, get_or, length}
 use Rattle.sloth_base.specs.declared.image.Image.{Image}
-use Rattle.wave_signals.specs.declared.signals.Scope.{Scope}
-use Rattle.wave_signals.specs.declared.signals.Scope.TheVariants as scope
-use Rattle.wave_signals.specs.declared.signals.Width.{Width}
-use Rattle.wave_signals.specs.declared.signals.Width.TheVariants as width
-use Rattle.wave_signals.specs.Signals.{first_code, width_of}
+use Rattle.wave_text.specs.declared.signals.Scope.{Scope}
+use Rattle.wave_text.specs.declared.signals.Scope.TheVariants as scope
+use Rattle.wave_text.specs.declared.signals.Width.{Width}
+use Rattle.wave_text.specs.declared.signals.Width.TheVariants as width
+use Rattle.wave_text.specs.Signals.{first_code, width_of}
 
 -- the name of a scope; the counters' lines stand in that of pending lines
 abbrev pub scope_name : Scope → List ℕ

@@ -3,3 +3,4 @@ pub mod Header
 pub mod Reading
 pub mod Text
 pub mod Waves
+pub mod Signals

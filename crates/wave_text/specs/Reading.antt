@@ -2,9 +2,9 @@
 use Rattle.std.specs.Prelude.{ℕ, ◌+◌, ◌==◌, ◌≡◌, ◌<◌, nat_le, if◌then◌else◌, List, [], ◌∷◌, slice_get, Option, None}
 use Rattle.sloth_base.specs.declared.lines.Owners.{Owners}
 use Rattle.run_samples.specs.declared.sampling.Sample.{Sample}
-use Rattle.wave_signals.specs.declared.signals.Scope.{Scope}
+use Rattle.wave_text.specs.declared.signals.Scope.{Scope}
 use Rattle.wave_text.specs.Changes.{Entry, entries}
-use Rattle.wave_signals.specs.Signals.{first_code, level_signal, masked_code, signal_count, value_of, level_value, masked_value}
+use Rattle.wave_text.specs.Signals.{first_code, level_signal, masked_code, signal_count, value_of, level_value, masked_value}
 
 -- the value of a signal at a moment, where this is its value in front of these entries: that of its last change up to the first later moment
 abbrev pub value_behind : (code at : ℕ) → Option ℕ → List Entry → Option ℕ

@@ -1,8 +1,8 @@
 -- The lines of a value change dump (IEEE 1364-2005, section 18).
 use Rattle.std.specs.Prelude.{ℕ, ◌+◌, ◌/◌, ◌%◌, List, [], ◌∷◌, ◌++◌, codes, decimal, Option, Some, None}
 use Rattle.std.specs.List.{flat_map}
-use Rattle.wave_signals.specs.declared.signals.Width.{Width}
-use Rattle.wave_signals.specs.declared.signals.Width.TheVariants as width
+use Rattle.wave_text.specs.declared.signals.Width.{Width}
+use Rattle.wave_text.specs.declared.signals.Width.TheVariants as width
 use Rattle.wave_text.specs.Changes.{Entry}
 
 -- the digit of a number's last binary place

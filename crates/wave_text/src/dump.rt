@@ -2,17 +2,17 @@
 ghost use Rattle.std.specs.Prelude.{◌≡◌, ◌≤◌, ◌++◌, true, false, Some, None, OnOk};
 ghost use Rattle.wave_text.specs.Changes.{Entry, same_value, change_entries, changes, scope_changes, moment_entries, with_moment};
 ghost use Rattle.wave_text.specs.Text.{digit, entry_line, entry_lines};
-ghost use Rattle.wave_signals.specs.Signals.{most_signals};
+ghost use Rattle.wave_text.specs.Signals.{most_signals};
 ghost use Rattle.wave_text.specs.Waves.{Gets};
 
 use crate::keeping::keeps;
+use crate::signals::{
+    LEVEL, MASKED, Scope, Width, first_code, level_value, masked_value, value_of, width_of,
+};
 use itoa::Buffer;
 use run_samples::Sample;
 use sloth_base::lines::Owners;
 use sloth_base::memory::NoMemory;
-use wave_signals::signals::{
-    LEVEL, MASKED, Scope, Width, first_code, level_value, masked_value, value_of, width_of,
-};
 
 // Whether two values are the same.
 fn same_value(one: Option<u8>, other: Option<u8>) -> bool

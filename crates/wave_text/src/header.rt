@@ -3,12 +3,12 @@ ghost use Rattle.std.specs.Prelude.{◌≡◌, ◌≤◌, ◌++◌, IfOk, OnOk, 
 ghost use Rattle.sloth_base.specs.ImageRange.{InFormat, IsName};
 ghost use Rattle.wave_text.specs.Header.{scope_name, width_digit, variable_line, variable_lines, scope_line, scope_text, header};
 
+use crate::signals::{Scope, Width, first_code, width_of};
 use sloth_base::image::Image;
 use sloth_base::memory::NoMemory;
 use sloth_base::name::Name;
 use std::alloc::Global;
 use trace_text::line_text::LineText;
-use wave_signals::signals::{Scope, Width, first_code, width_of};
 
 fn scope_name(scope: Scope) -> &'static [u8]
     ensures is { result.now ≡ scope_name scope }

@@ -1,13 +1,13 @@
 //! Whether signals keep their values: told by one look at the parts of two samples, since most counts change nothing.
 ghost use Rattle.std.specs.Prelude.{ℕ, ◌≡◌, ◌<◌, ◌≤◌, IsTrue, false, get_or};
 ghost use Rattle.osek_scheduler.specs.declared.state.TaskState.TheVariants as mode;
-ghost use Rattle.wave_signals.specs.Signals.{KeepValues, most_signals, state_number, seen_state, running_value, value_in};
+ghost use Rattle.wave_text.specs.Signals.{KeepValues, most_signals, state_number, seen_state, running_value, value_in};
 
+use crate::signals::{Scope, state_number};
 use osek_scheduler::state::TaskState;
 use run_samples::Sample;
 use sloth_inspect::TASKS;
 use sloth_runner::sight::{COUNTERS, Seen};
-use wave_signals::signals::{Scope, state_number};
 
 // Whether the states of the tasks have the same numbers.
 fn same_states(tasks: usize, one: &[TaskState; TASKS], other: &[TaskState; TASKS]) -> bool

@@ -6,5 +6,6 @@ mod header;
 mod keeping;
 pub mod laws;
 mod recording;
+pub mod signals;
 
 pub use recording::{Recorded, waves};

@@ -6,7 +6,7 @@ use Rattle.least_fault.proofs.Kept.{least_same}
 use Rattle.code_rules.specs.WellFormed.{CycleFault}
 use Rattle.std.specs.Bool.{Decides}
 use Rattle.call_graph.specs.Cycles.{RowCycle}
-use Rattle.code_tables.specs.Rows.{row_has, IsRowChain}
+use Rattle.call_graph.specs.Rows.{row_has, IsRowChain}
 use Rattle.call_graph.specs.Gathered.{AreGathered}
 use Rattle.call_graph.specs.Reached.{AreFew, func_of, calls_itself}
 use Rattle.call_graph.proofs.Belongs.{Closed, cycle_is, is_cycle, belongs}

@@ -5,7 +5,7 @@ use Rattle.sloth_base.specs.declared.config.Config.{Config}
 use Rattle.sloth_base.specs.declared.config.TaskDecl.{TaskDecl}
 use Rattle.code_rules.specs.WellFormed.{WellFormed}
 use Rattle.stack_bounds.specs.Bounds.{AreBounds}
-use Rattle.code_tables.specs.Tables.{AreCallable, IsSmall, most_stacked}
+use Rattle.call_graph.specs.Tables.{AreCallable, IsSmall, most_stacked}
 use Rattle.stack_bounds.proofs.Bodies.{bodies_of, callable}
 use Rattle.stack_bounds.proofs.Bounded.{made, bounds, rows}
 use Rattle.stack_bounds.proofs.Rows.{same_stacks, stacks}

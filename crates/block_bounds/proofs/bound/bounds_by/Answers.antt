@@ -1,7 +1,7 @@
 use Rattle.bound_rules.specs.declared.bound.Bound.{Bound}
 use Rattle.bound_rules.specs.declared.bound.Bound.TheVariants as bound
 use Rattle.block_bounds.specs.Bounds.{IsTold}
-use Rattle.code_tables.proofs.Growing.{held_more}
+use Rattle.call_graph.proofs.Growing.{held_more}
 use Rattle.block_bounds.proofs.bound.bounds_by.Goals as goal
 
 pub loop-task-preserved : goal.loop-task-preserved

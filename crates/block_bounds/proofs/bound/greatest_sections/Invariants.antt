@@ -1,5 +1,5 @@
 use Rattle.std.proofs.Common.{◌≡◌}
-use Rattle.code_tables.specs.Tables.{max_below}
+use Rattle.call_graph.specs.Tables.{max_below}
 use Rattle.block_bounds.specs.Bounds.{greatest_section}
 use Rattle.block_bounds.proofs.bound.greatest_sections.Given as goal
 

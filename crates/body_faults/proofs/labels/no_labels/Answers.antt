@@ -1,5 +1,5 @@
 use Rattle.std.proofs.Common.{ℕ, Option, None, refl}
-use Rattle.code_tables.proofs.Growing.{grown}
+use Rattle.call_graph.proofs.Growing.{grown}
 use Rattle.body_faults.proofs.labels.no_labels.Goals as goal
 
 pub loop-place-preserved : goal.loop-place-preserved

@@ -1,5 +1,5 @@
 use Rattle.std.proofs.Common.{Bool, false, refl}
-use Rattle.code_tables.proofs.Growing.{grown}
+use Rattle.call_graph.proofs.Growing.{grown}
 use Rattle.body_faults.proofs.reachable.no_marks.Goals as goal
 
 pub loop-place-preserved : goal.loop-place-preserved

@@ -1,7 +1,7 @@
 use Rattle.std.proofs.Common.{◌≡◌, ◌&&◌, not}
 use Rattle.sloth_base.specs.Named.{declaration}
 use Rattle.code_rules.specs.Code.{is_in}
-use Rattle.code_tables.specs.Bits.{is_member}
+use Rattle.call_graph.specs.Bits.{is_member}
 use Rattle.call_graph.specs.Reached.{any_below}
 use Rattle.body_faults.proofs.tasks.is_unlisted.Given as goal
 

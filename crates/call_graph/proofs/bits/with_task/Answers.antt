@@ -1,4 +1,4 @@
-use Rattle.code_tables.proofs.Sets.{has_one_more}
+use Rattle.call_graph.proofs.Sets.{has_one_more}
 use Rattle.call_graph.proofs.bits.with_task.Goals as goal
 
 pub returns : goal.returns

@@ -1,7 +1,7 @@
 use Rattle.std.proofs.Common.{ap, sym, ◌∙◌}
 use Rattle.std.proofs.lemmas.List.Folds.{list_any_at}
-use Rattle.code_tables.specs.Rows.{is_call}
-use Rattle.code_tables.proofs.Sets.{has_none}
+use Rattle.call_graph.specs.Rows.{is_call}
+use Rattle.call_graph.proofs.Sets.{has_none}
 use Rattle.call_graph.proofs.calls.called.Goals as goal
 
 pub loop-item-init : goal.loop-item-init

@@ -1,7 +1,7 @@
 use Rattle.std.proofs.Common.{◌≡◌, ℕ, take}
 use Rattle.std.specs.List.{list_any}
-use Rattle.code_tables.specs.Bits.{is_member}
-use Rattle.code_tables.specs.Rows.{is_taking}
+use Rattle.call_graph.specs.Bits.{is_member}
+use Rattle.call_graph.specs.Rows.{is_taking}
 use Rattle.call_graph.proofs.calls.taken.Given as goal
 
 abbrev pub invariant-loop-item : goal.invariant-loop-item

@@ -1,6 +1,6 @@
 use Rattle.std.proofs.Common.{ℕ, ◌<◌, ap, sym, subst, ◌∙◌, refl}
 use Rattle.std.proofs.lemmas.Bool.{eq-eqb}
-use Rattle.code_tables.specs.Rows.{is_call}
+use Rattle.call_graph.specs.Rows.{is_call}
 use Rattle.call_graph.proofs.calls.with_call.Goals as goal
 
 pub with-requires : goal.with-requires

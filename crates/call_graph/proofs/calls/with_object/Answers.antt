@@ -1,7 +1,7 @@
 use Rattle.std.proofs.Common.{ap, ◌∙◌, refl}
 use Rattle.std.specs.Prelude.{◌==◌, ◌&&◌}
 use Rattle.std.proofs.lemmas.Bool.{eq-eqb}
-use Rattle.code_tables.specs.Rows.{is_get}
+use Rattle.call_graph.specs.Rows.{is_get}
 use Rattle.call_graph.proofs.calls.with_object.Goals as goal
 
 pub with-requires : goal.with-requires

@@ -1,5 +1,5 @@
 use Rattle.std.proofs.Common.{ap, ◌∙◌}
-use Rattle.code_tables.specs.Rows.{is_taking}
+use Rattle.call_graph.specs.Rows.{is_taking}
 use Rattle.call_graph.proofs.calls.with_taken.Goals as goal
 
 pub with_object-requires : goal.with_object-requires

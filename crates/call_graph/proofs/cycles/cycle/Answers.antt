@@ -4,7 +4,7 @@ use Rattle.sloth_base.specs.declared.refusal.Code.TheVariants as code
 use Rattle.least_fault.specs.Search.{Finds}
 use Rattle.code_rules.specs.WellFormed.{fault_at_line}
 use Rattle.code_rules.proofs.Judged.{judged_more, judged_end, decided}
-use Rattle.code_tables.specs.Rows.{row_has}
+use Rattle.call_graph.specs.Rows.{row_has}
 use Rattle.call_graph.specs.Cycles.{RowCycleAt}
 use Rattle.call_graph.proofs.Itself.{func_is}
 use Rattle.call_graph.proofs.cycles.cycle.Goals as goal

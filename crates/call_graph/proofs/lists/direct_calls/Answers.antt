@@ -2,9 +2,9 @@ use Rattle.std.proofs.Common.{◌≡◌, ◌∙◌, ℕ, ◌<◌, true, List, ap
 use Rattle.std.specs.List.{list_any}
 use Rattle.sloth_base.specs.declared.app.Func.{Func}
 use Rattle.sloth_base.specs.declared.app.Item.{Item}
-use Rattle.code_tables.specs.Bits.{is_member}
-use Rattle.code_tables.specs.Rows.{is_call}
-use Rattle.code_tables.proofs.Growing.{held_more}
+use Rattle.call_graph.specs.Bits.{is_member}
+use Rattle.call_graph.specs.Rows.{is_call}
+use Rattle.call_graph.proofs.Growing.{held_more}
 use Rattle.call_graph.specs.Reached.{CallsFew, func_of, calls_itself}
 use Rattle.call_graph.proofs.Itself.{func_is}
 use Rattle.call_graph.proofs.lists.direct_calls.Goals as goal

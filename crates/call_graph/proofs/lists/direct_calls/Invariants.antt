@@ -1,5 +1,5 @@
 use Rattle.std.proofs.Common.{◌≡◌, ℕ, ◌<◌, length}
-use Rattle.code_tables.specs.Rows.{row_has}
+use Rattle.call_graph.specs.Rows.{row_has}
 use Rattle.call_graph.specs.Reached.{func_of, calls_itself}
 use Rattle.call_graph.proofs.lists.direct_calls.Given as goal
 

@@ -1,6 +1,6 @@
 use Rattle.std.proofs.Common.{◌≡◌, ℕ}
-use Rattle.code_tables.specs.Bits.{is_member}
-use Rattle.code_tables.proofs.Growing.{held_more}
+use Rattle.call_graph.specs.Bits.{is_member}
+use Rattle.call_graph.proofs.Growing.{held_more}
 use Rattle.call_graph.specs.Reached.{used_by}
 use Rattle.call_graph.proofs.lists.user_sets.Goals as goal
 

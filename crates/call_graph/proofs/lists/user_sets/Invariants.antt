@@ -1,5 +1,5 @@
 use Rattle.std.proofs.Common.{◌≡◌, ℕ, ◌<◌, length, get_or}
-use Rattle.code_tables.specs.Bits.{is_member}
+use Rattle.call_graph.specs.Bits.{is_member}
 use Rattle.call_graph.specs.Reached.{used_by}
 use Rattle.call_graph.proofs.lists.user_sets.Given as goal
 

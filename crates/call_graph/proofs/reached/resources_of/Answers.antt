@@ -1,7 +1,7 @@
 use Rattle.std.proofs.Common.{subst, sym}
 use Rattle.sloth_base.specs.declared.app.Func.{Func}
 use Rattle.call_graph.specs.Reached.{TakesFew}
-use Rattle.code_tables.proofs.Sets.{has_none}
+use Rattle.call_graph.proofs.Sets.{has_none}
 use Rattle.call_graph.proofs.Itself.{func_is}
 use Rattle.call_graph.proofs.reached.resources_of.Goals as goal
 

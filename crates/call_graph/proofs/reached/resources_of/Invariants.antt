@@ -1,5 +1,5 @@
 use Rattle.std.proofs.Common.{◌≡◌, ℕ, ◌&&◌}
-use Rattle.code_tables.specs.Bits.{is_member}
+use Rattle.call_graph.specs.Bits.{is_member}
 use Rattle.call_graph.specs.Reached.{any_below, func_of, reaches_by, takes_itself}
 use Rattle.call_graph.proofs.reached.resources_of.Given as goal
 

@@ -1,6 +1,6 @@
 use Rattle.std.proofs.Common.{◌≡◌, ℕ, ◌&&◌, get_or}
 use Rattle.sloth_base.specs.Options.{is_number}
-use Rattle.code_tables.specs.Bits.{is_member}
+use Rattle.call_graph.specs.Bits.{is_member}
 use Rattle.call_graph.specs.Reached.{any_below, func_of, reaches_by}
 use Rattle.call_graph.proofs.reached.users_of.Given as goal
 

@@ -1,6 +1,6 @@
 use Rattle.std.proofs.Common.{◌≡◌, ◌∙◌, ◌+◌, ◌-◌, sym, ap, arith, length, take, drop}
 use Rattle.std.proofs.lemmas.Bool.{true≢false}
-use Rattle.elf_fields.specs.ElfText.{note_bytes, padding}
+use Rattle.elf_image.specs.ElfText.{note_bytes, padding}
 use Rattle.elf_image.proofs.Notes.{description-is, length-note, size-is}
 use Rattle.elf_image.proofs.read.read_note.Goals as goal
 

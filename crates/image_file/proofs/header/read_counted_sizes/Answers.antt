@@ -1,6 +1,6 @@
 use Rattle.std.proofs.Common.{sym, ◌∙◌, ◌++◌, ap, drop, codes}
 use Rattle.std.proofs.lemmas.Bool.{true≢false}
-use Rattle.image_fields.specs.Fields.{four_bytes}
+use Rattle.image_file.specs.Fields.{four_bytes}
 use Rattle.image_file.proofs.Headers.{counted_before, counted_stands, no_sizes, none_counted, sizes_with}
 use Rattle.image_file.proofs.header.read_counted_sizes.Goals as goal
 

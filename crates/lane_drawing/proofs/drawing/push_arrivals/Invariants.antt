@@ -1,7 +1,7 @@
 use Rattle.std.proofs.Common.{◌≡◌, ◌++◌, drop}
 use Rattle.std.specs.List.{flat_map}
 use Rattle.lane_drawing.specs.Drawing.{shown_arrivals}
-use Rattle.lane_strips.specs.Arrivals.{arrival_line}
+use Rattle.lane_drawing.specs.Arrivals.{arrival_line}
 use Rattle.lane_drawing.proofs.drawing.push_arrivals.Given as goal
 
 abbrev pub invariant-loop-arrival : goal.invariant-loop-arrival

@@ -2,10 +2,10 @@ use Rattle.std.proofs.Common.{rules, ◌≡◌, ◌∙◌, ◌++◌, ◌∷◌, 
 use Rattle.std.proofs.lemmas.List.{get_or_default}
 use Rattle.sloth_base.specs.Named.{undeclared_task}
 use Rattle.sloth_base.specs.declared.config.TaskDecl.{TaskDecl}
-use Rattle.mem_map.specs.Stacks.{is_extended}
+use Rattle.mem_map.specs.StackParts.{is_extended}
 use Rattle.mem_map.specs.Zones.{stack_of}
 use Rattle.map_text.specs.Rows.{row_of}
-use Rattle.piece_rows.specs.declared.rows.Kind.TheVariants as kind
+use Rattle.map_text.specs.declared.piece_rows.Kind.TheVariants as kind
 use Rattle.map_text.proofs.OneRow.{own_begin, own_more, own_passed}
 use Rattle.map_text.proofs.rows.push_own.Goals as goal
 use Rattle.map_text.proofs.rows.push_own.Goals.{then-tasks-task+in_ok-push, else-tasks-task}

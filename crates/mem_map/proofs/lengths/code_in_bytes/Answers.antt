@@ -1,5 +1,5 @@
 use Rattle.std.proofs.Common.{refl}
-use Rattle.mem_map.specs.Plan.{code_byte_count}
+use Rattle.mem_map.specs.Starts.{code_byte_count}
 use Rattle.mem_map.proofs.Growing.{one_mapped}
 use Rattle.mem_map.proofs.lengths.code_in_bytes.Goals as goal
 

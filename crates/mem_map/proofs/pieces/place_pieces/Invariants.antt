@@ -1,5 +1,5 @@
 use Rattle.std.proofs.Common.{◌≡◌, ◌++◌, drop}
-use Rattle.mem_map.specs.Run.{starts, end_of}
+use Rattle.mem_map.specs.Starts.{starts, end_of}
 use Rattle.mem_map.proofs.pieces.place_pieces.Given as goal
 
 abbrev pub invariant-loop-len : goal.invariant-loop-len

@@ -2,13 +2,13 @@ use Rattle.std.proofs.Common.{◌≤◌, ◌<◌, ◌+◌, ◌∙◌, ℕ, List,
 use Rattle.std.specs.Prelude.{All, map, slice_index_or}
 use Rattle.sloth_base.specs.declared.config.TaskDecl.{TaskDecl}
 use Rattle.sloth_region.specs.declared.extent.Extent.{Extent}
-use Rattle.mem_map.specs.Run.{end_of}
+use Rattle.mem_map.specs.Starts.{end_of}
 use Rattle.mem_map.specs.Plan.{symbol_bytes}
 use Rattle.mem_map.proofs.Planned.{AreEnds, few_starts, few_ticks, starts_small, ticks_small, sizes_small, code_short, ticks_above, services_above, items_above, counts_few, symbols_few, symbols_short, ends_are}
 use Rattle.mem_map.proofs.Mapped.{addressed, zoned}
 use Rattle.mem_map.specs.Run.{room_for, run}
-use Rattle.mem_map.specs.Zones.{no_extent}
-use Rattle.mem_map.specs.Stacks.{first_own}
+use Rattle.mem_map.specs.StackParts.{no_extent}
+use Rattle.mem_map.specs.StackParts.{first_own}
 use Rattle.mem_map.proofs.StackNumbers.{few_stacks}
 use Rattle.mem_map.proofs.StackParts.{ArePlaced, part, shared_some, fit, placed}
 use Rattle.mem_map.proofs.planning.make_map.Goals.{In_ok-symbols, In_ok-zones}

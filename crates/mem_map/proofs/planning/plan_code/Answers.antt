@@ -2,8 +2,9 @@ use Rattle.std.proofs.Common.{◌≡◌, ◌∙◌, ⊎_elim, inl, inr, ℕ, ◌
 use Rattle.std.specs.Prelude.{map}
 use Rattle.std.proofs.lemmas.List.{length-map}
 use Rattle.sloth_base.specs.Owners.{counter_line}
-use Rattle.mem_map.specs.Run.{starts, end_of}
-use Rattle.mem_map.specs.Plan.{code_byte_count, prologues_at, ticks_at}
+use Rattle.mem_map.specs.Starts.{starts, end_of}
+use Rattle.mem_map.specs.Starts.{code_byte_count}
+use Rattle.mem_map.specs.Plan.{prologues_at, ticks_at}
 use Rattle.mem_map.proofs.Starts.{length_starts}
 use Rattle.mem_map.proofs.planning.plan_code.Goals as goal
 

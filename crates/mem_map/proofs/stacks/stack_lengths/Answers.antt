@@ -3,7 +3,8 @@ use Rattle.std.proofs.lemmas.List.{get_or_default}
 use Rattle.sloth_base.specs.Named.{undeclared_task}
 use Rattle.sloth_base.specs.declared.config.TaskDecl.{TaskDecl}
 use Rattle.stack_bounds.specs.Bounds.{bytes_of}
-use Rattle.mem_map.specs.Stacks.{AreStackLengths, is_extended}
+use Rattle.mem_map.specs.Stacks.{AreStackLengths}
+use Rattle.mem_map.specs.StackParts.{is_extended}
 use Rattle.mem_map.proofs.StackLengths.{more, same}
 use Rattle.mem_map.proofs.stacks.stack_lengths.Goals as goal
 use Rattle.mem_map.proofs.stacks.stack_lengths.Goals.{then-task+in_ok-push, else-task}

@@ -1,9 +1,9 @@
 use Rattle.std.proofs.Common.{◌∙◌, List, ap, subst}
 use Rattle.least_fault.specs.Search.{Finds, Somewhere}
 use Rattle.oil_parse.specs.declared.tree.OilAttr.{OilAttr}
-use Rattle.oil_rules.specs.declared.table.Place.{Place}
-use Rattle.oil_rules.specs.declared.table.Place.TheVariants as place
-use Rattle.oil_rules.specs.Table.{block_place}
+use Rattle.oil_table.specs.declared.table.Place.{Place}
+use Rattle.oil_table.specs.declared.table.Place.TheVariants as place
+use Rattle.oil_table.specs.Table.{block_place}
 use Rattle.oil_alarms.specs.AlarmFaults.{InsideFault}
 use Rattle.oil_alarms.proofs.block_faults.block_fault.Goals as goal
 

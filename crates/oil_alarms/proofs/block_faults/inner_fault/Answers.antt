@@ -3,10 +3,10 @@ use Rattle.sloth_base.specs.declared.refusal.Code.TheVariants.{O9, O10, O12}
 use Rattle.sloth_base.specs.declared.refusal.Part.TheVariants.{Oil}
 use Rattle.least_fault.proofs.Kept.{both_are}
 use Rattle.least_fault.proofs.Cases.{case_found}
-use Rattle.oil_rules.specs.declared.table.Attribute.{Attribute}
-use Rattle.oil_rules.specs.Cases.{Case}
-use Rattle.oil_rules.specs.Table.{attribute_of}
-use Rattle.alarm_limits.specs.Beyond.{is_beyond}
+use Rattle.oil_table.specs.declared.table.Attribute.{Attribute}
+use Rattle.oil_table.specs.Cases.{Case}
+use Rattle.oil_table.specs.Table.{attribute_of}
+use Rattle.oil_table.specs.Beyond.{is_beyond}
 use Rattle.oil_alarms.specs.AlarmFaults.{is_second_in, is_unlisted}
 use Rattle.oil_alarms.proofs.block_faults.inner_fault.Goals as goal
 

@@ -1,6 +1,6 @@
 use Rattle.std.proofs.Common.{◌∙◌, ap, sym}
 use Rattle.std.specs.Prelude.{is_some, option_copied}
-use Rattle.oil_rules.proofs.Found.{found_any}
+use Rattle.oil_table.proofs.Found.{found_any}
 use Rattle.oil_alarms.specs.Blocks.{is_inner_use}
 use Rattle.oil_alarms.proofs.blocks.is_used_in.Goals as goal
 

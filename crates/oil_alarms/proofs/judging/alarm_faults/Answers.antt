@@ -1,7 +1,7 @@
 use Rattle.std.proofs.Common.{◌≡◌, ◌∙◌, sym, true}
 use Rattle.std.specs.Prelude.{codes}
 use Rattle.least_fault.proofs.Kept.{finds_if}
-use Rattle.oil_rules.specs.Objects.{is_of_kind}
+use Rattle.oil_table.specs.Objects.{is_of_kind}
 use Rattle.oil_alarms.specs.AlarmFaults.{PartFault}
 use Rattle.oil_alarms.proofs.judging.alarm_faults.Goals as goal
 

@@ -1,6 +1,6 @@
 use Rattle.std.proofs.Common.{◌∙◌, List, ap, subst}
 use Rattle.least_fault.specs.Search.{Finds, Somewhere}
-use Rattle.alarm_limits.specs.declared.limits.Limits.{Limits}
+use Rattle.oil_table.specs.declared.alarm_limits.Limits.{Limits}
 use Rattle.oil_alarms.specs.Blocks.{BlockText, blocks_of}
 use Rattle.oil_alarms.specs.Limits.{limits_of}
 use Rattle.oil_alarms.specs.AlarmFaults.{BlockFault}

@@ -4,7 +4,7 @@ use Rattle.sloth_base.specs.declared.refusal.Part.TheVariants.{Oil}
 use Rattle.least_fault.specs.Search.{Somewhere}
 use Rattle.least_fault.proofs.Kept.{both_are}
 use Rattle.least_fault.proofs.Cases.{case_found}
-use Rattle.oil_rules.specs.Cases.{Case}
+use Rattle.oil_table.specs.Cases.{Case}
 use Rattle.oil_alarms.specs.Blocks.{blocks_of}
 use Rattle.oil_alarms.specs.Limits.{limits_of}
 use Rattle.oil_alarms.specs.AlarmFaults.{lacks_part, BlockFault}

@@ -1,7 +1,7 @@
 use Rattle.std.proofs.Common.{◌∙◌, [], ◌∷◌, ◌++◌, List, ap}
 use Rattle.std.specs.Prelude.{codes}
 use Rattle.sloth_base.specs.declared.config.CounterDecl.{CounterDecl}
-use Rattle.oil_rules.specs.Objects.{is_of_kind}
+use Rattle.oil_table.specs.Objects.{is_of_kind}
 use Rattle.oil_model.specs.Clocks.{declared_counter, counters_of}
 use Rattle.oil_model.proofs.Made.{made_more}
 use Rattle.oil_model.proofs.clocks.counters_of.Goals as goal

@@ -1,7 +1,7 @@
 use Rattle.std.proofs.Common.{◌∙◌, [], ◌∷◌, ◌++◌, ℕ, List, ap}
 use Rattle.std.specs.Prelude.{codes}
 use Rattle.oil_parse.specs.declared.tree.OilObject.{OilObject}
-use Rattle.oil_rules.specs.Objects.{is_of_kind}
+use Rattle.oil_table.specs.Objects.{is_of_kind}
 use Rattle.oil_model.specs.Configs.{resource_names}
 use Rattle.oil_model.proofs.Made.{made_more}
 use Rattle.oil_model.proofs.config.resource_names.Goals as goal

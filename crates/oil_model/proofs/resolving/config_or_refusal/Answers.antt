@@ -9,7 +9,7 @@ use Rattle.least_fault.specs.Search.{Finds}
 use Rattle.oil_parse.specs.declared.tree.OilObject.{OilObject}
 use Rattle.oil_parse.specs.Words.{IsObjectOfWords}
 use Rattle.oil_parse.proofs.Words.{tree_words}
-use Rattle.oil_rules.specs.Objects.{names_of}
+use Rattle.oil_table.specs.Objects.{names_of}
 use Rattle.oil_model.specs.Configs.{resource_names, config_of}
 use Rattle.oil_alarms.specs.ModelFaults.{ModelFault}
 use Rattle.oil_model.proofs.NoFaults.{few_tasks, few_counters, few_names, number_of_names}

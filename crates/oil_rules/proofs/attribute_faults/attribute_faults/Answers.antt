@@ -3,9 +3,9 @@ use Rattle.std.proofs.lemmas.List.Sums.{fold_more}
 use Rattle.least_fault.specs.Search.{Finds}
 use Rattle.least_fault.proofs.Kept.{loop_more, loop_end}
 use Rattle.oil_parse.specs.declared.tree.OilAttr.{OilAttr}
-use Rattle.oil_rules.specs.declared.table.Attribute.{Attribute}
-use Rattle.oil_rules.specs.declared.table.Place.TheVariants.{Nowhere}
-use Rattle.oil_rules.specs.Table.{attribute_of}
+use Rattle.oil_table.specs.declared.table.Attribute.{Attribute}
+use Rattle.oil_table.specs.declared.table.Place.TheVariants.{Nowhere}
+use Rattle.oil_table.specs.Table.{attribute_of}
 use Rattle.oil_rules.specs.AttributeFaults.{opened_place, inner_place, place_by, RowFault, AttributeFault}
 use Rattle.oil_rules.proofs.attribute_faults.attribute_faults.Goals as goal
 

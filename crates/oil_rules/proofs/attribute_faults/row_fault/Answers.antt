@@ -2,7 +2,7 @@ use Rattle.std.proofs.Common.{◌⊎◌}
 use Rattle.std.specs.Prelude.{is_none}
 use Rattle.sloth_base.specs.declared.refusal.Code.TheVariants.{O8, O9, O10, O12}
 use Rattle.least_fault.proofs.Kept.{both_are}
-use Rattle.oil_rules.specs.Cases.{Case}
+use Rattle.oil_table.specs.Cases.{Case}
 use Rattle.oil_rules.specs.AttributeFaults.{is_second_use, refers_to_none, is_refused}
 use Rattle.sloth_base.specs.declared.refusal.Part.TheVariants.{Oil}
 use Rattle.least_fault.proofs.Cases.{case_found}

@@ -1,6 +1,6 @@
 use Rattle.std.proofs.Common.{◌≡◌, ◌∙◌, ap, sym, not, true}
 use Rattle.least_fault.proofs.Kept.{finds_if}
-use Rattle.oil_rules.specs.Table.{place_of, is_nowhere}
+use Rattle.oil_table.specs.Table.{place_of, is_nowhere}
 use Rattle.oil_rules.specs.ObjectFaults.{is_known}
 use Rattle.oil_rules.specs.TreeFaults.{InnerFault}
 use Rattle.oil_rules.proofs.judging.fault_of_known.Goals as goal

@@ -3,7 +3,7 @@ use Rattle.std.specs.Prelude.{codes}
 use Rattle.least_fault.specs.Search.{Finds, Somewhere}
 use Rattle.least_fault.proofs.Kept.{finds_if}
 use Rattle.oil_parse.specs.declared.tree.OilAttr.{OilAttr}
-use Rattle.oil_rules.specs.Objects.{is_of_kind}
+use Rattle.oil_table.specs.Objects.{is_of_kind}
 use Rattle.oil_rules.specs.TaskFaults.{TaskFault}
 use Rattle.oil_rules.proofs.judging.faults_of_task.Goals as goal
 

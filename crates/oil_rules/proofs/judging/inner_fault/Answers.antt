@@ -2,8 +2,8 @@ use Rattle.std.proofs.Common.{◌∙◌, ◌⊎◌, ap, subst, List}
 use Rattle.least_fault.specs.Search.{Finds, Somewhere}
 use Rattle.least_fault.proofs.Kept.{both_are}
 use Rattle.oil_parse.specs.declared.tree.OilAttr.{OilAttr}
-use Rattle.oil_rules.specs.declared.table.Place.{Place}
-use Rattle.oil_rules.specs.Table.{place_of}
+use Rattle.oil_table.specs.declared.table.Place.{Place}
+use Rattle.oil_table.specs.Table.{place_of}
 use Rattle.oil_rules.specs.ObjectFaults.{KnownFault}
 use Rattle.oil_rules.specs.AttributeFaults.{AttributeFault}
 use Rattle.oil_rules.specs.TreeFaults.{TaskFaults}

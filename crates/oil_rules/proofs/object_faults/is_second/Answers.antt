@@ -1,7 +1,7 @@
 use Rattle.std.proofs.Common.{◌∙◌, ap, sym}
 use Rattle.std.specs.Prelude.{◌||◌, ◌&&◌, codes}
 use Rattle.std.specs.List.{list_any}
-use Rattle.oil_rules.specs.Objects.{is_of_kind}
+use Rattle.oil_table.specs.Objects.{is_of_kind}
 use Rattle.oil_rules.proofs.Doubles.{doubled}
 use Rattle.oil_rules.proofs.object_faults.is_second.Goals as goal
 

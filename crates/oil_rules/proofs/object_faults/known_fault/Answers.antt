@@ -1,7 +1,7 @@
 use Rattle.std.proofs.Common.{◌⊎◌}
 use Rattle.sloth_base.specs.declared.refusal.Code.TheVariants.{O9, O11, O12, O14}
 use Rattle.least_fault.proofs.Kept.{both_are}
-use Rattle.oil_rules.specs.Cases.{Case}
+use Rattle.oil_table.specs.Cases.{Case}
 use Rattle.oil_rules.specs.ObjectFaults.{is_doubled, lacks_attribute, is_strange_mode, is_above}
 use Rattle.sloth_base.specs.declared.refusal.Part.TheVariants.{Oil}
 use Rattle.least_fault.proofs.Cases.{case_found}

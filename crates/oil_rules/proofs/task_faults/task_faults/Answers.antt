@@ -4,7 +4,7 @@ use Rattle.std.proofs.lemmas.List.Folds.{list_any_more}
 use Rattle.least_fault.specs.Search.{Finds}
 use Rattle.least_fault.proofs.Kept.{loop_more, loop_end}
 use Rattle.oil_parse.specs.declared.tree.OilAttr.{OilAttr}
-use Rattle.oil_rules.specs.Objects.{is_use, is_used}
+use Rattle.oil_table.specs.Objects.{is_use, is_used}
 use Rattle.oil_rules.specs.References.{ReferenceContext}
 use Rattle.oil_rules.specs.TaskFaults.{TaskFault}
 use Rattle.oil_rules.proofs.task_faults.task_faults.Goals as goal

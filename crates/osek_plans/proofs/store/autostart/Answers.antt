@@ -2,7 +2,7 @@ use Rattle.std.proofs.Common.{◌≡◌, ◌∙◌, ◌<◌, List, length, get_o
 use Rattle.std.proofs.lemmas.List.{get_or_default}
 use Rattle.sloth_base.specs.declared.config.TaskDecl.{TaskDecl}
 use Rattle.osek_scheduler.specs.State.{Task, sleeping_task}
-use Rattle.osek_plans.specs.Changes.{changed_task}
+use Rattle.osek_scheduler.specs.Changes.{changed_task}
 use Rattle.osek_scheduler.specs.declared.change.TaskChange.TheVariants as change
 use Rattle.osek_plans.proofs.Started.{started-all, activates, passes_on}
 use Rattle.osek_plans.proofs.store.autostart.Goals as goal

@@ -1,6 +1,7 @@
 use Rattle.std.proofs.Common.{◌≡◌, drop, map, max}
 use Rattle.std.specs.Prelude.{filter}
-use Rattle.osek_scheduler.specs.Priority.{greatest, is_in}
+use Rattle.osek_scheduler.specs.Priority.{greatest}
+use Rattle.code_rules.specs.Code.{is_in}
 use Rattle.osek_scheduler.proofs.ceilings.highest_user.Given as goal
 
 abbrev pub invariant-loop-task : goal.invariant-loop-task

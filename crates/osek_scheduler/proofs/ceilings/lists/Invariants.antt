@@ -1,5 +1,5 @@
 use Rattle.std.proofs.Common.{◌≡◌, drop}
-use Rattle.osek_scheduler.specs.Priority.{is_in}
+use Rattle.code_rules.specs.Code.{is_in}
 use Rattle.osek_scheduler.proofs.ceilings.lists.Given as goal
 
 abbrev pub invariant-loop-other : goal.invariant-loop-other

@@ -1,5 +1,5 @@
 use Rattle.std.proofs.Common.{◌≡◌, ◌++◌}
-use Rattle.lane_strips.specs.Strips.{last_bar}
+use Rattle.lane_drawing.specs.Strips.{last_bar}
 use Rattle.schedule_picture.specs.Lanes.{HaveChanged}
 use Rattle.schedule_picture.proofs.lanes.close.Given as goal
 

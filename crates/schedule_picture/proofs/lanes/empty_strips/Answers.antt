@@ -1,5 +1,5 @@
 use Rattle.std.proofs.Common.{rules, ◌≡◌, ◌+◌, ◌++◌, [], ◌∷◌, length, arith}
-use Rattle.lane_strips.specs.Strips.{IsFresh}
+use Rattle.lane_drawing.specs.Strips.{IsFresh}
 use Rattle.schedule_picture.proofs.Every.{each_more}
 use Rattle.schedule_picture.proofs.lanes.empty_strips.Goals as goal
 

@@ -1,5 +1,5 @@
 use Rattle.std.proofs.Common.{◌≡◌, ◌<◌, ℕ, length, get_or}
-use Rattle.lane_strips.specs.Strips.{empty_lane, IsFresh}
+use Rattle.lane_drawing.specs.Strips.{empty_lane, IsFresh}
 use Rattle.schedule_picture.proofs.lanes.empty_strips.Given as goal
 
 abbrev pub invariant-loop : goal.invariant-loop

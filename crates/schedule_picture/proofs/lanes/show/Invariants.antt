@@ -1,4 +1,4 @@
-use Rattle.lane_strips.specs.Strips.{ShowsMore}
+use Rattle.lane_drawing.specs.Strips.{ShowsMore}
 use Rattle.schedule_picture.specs.Lanes.{HaveChanged}
 use Rattle.schedule_picture.specs.Looks.{lane_look}
 use Rattle.schedule_picture.proofs.lanes.show.Given as goal

@@ -1,5 +1,5 @@
 use Rattle.std.proofs.Common.{Bool, true, false, refl}
-use Rattle.code_tables.proofs.Growing.{grown}
+use Rattle.call_graph.proofs.Growing.{grown}
 use Rattle.section_sizes.proofs.bodies.all_items.Goals as goal
 
 pub loop-number-preserved : goal.loop-number-preserved

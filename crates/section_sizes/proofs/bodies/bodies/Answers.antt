@@ -1,6 +1,6 @@
 use Rattle.bound_rules.specs.declared.bodies.Body.{Body}
 use Rattle.section_sizes.specs.Known.{IsKnownBody, no_body}
-use Rattle.code_tables.proofs.Growing.{held_more}
+use Rattle.call_graph.proofs.Growing.{held_more}
 use Rattle.section_sizes.proofs.bodies.bodies.Goals as goal
 
 pub loop-number-preserved : goal.loop-number-preserved

@@ -1,7 +1,7 @@
 use Rattle.std.proofs.Common.{Bool, not, false}
 use Rattle.sloth_base.specs.Named.{item_of}
 use Rattle.raised_sections.specs.Walks.{chains_itself}
-use Rattle.code_tables.proofs.Growing.{grown}
+use Rattle.call_graph.proofs.Growing.{grown}
 use Rattle.section_sizes.proofs.bodies.onward_items.Goals as goal
 
 pub loop-number-preserved : goal.loop-number-preserved

@@ -1,6 +1,6 @@
 use Rattle.std.proofs.Common.{ℕ}
 use Rattle.osek_scheduler.specs.Priority.{ceiling}
-use Rattle.code_tables.proofs.Growing.{grown}
+use Rattle.call_graph.proofs.Growing.{grown}
 use Rattle.section_sizes.proofs.ceilings.ceilings.Goals as goal
 
 pub loop-resource-preserved : goal.loop-resource-preserved

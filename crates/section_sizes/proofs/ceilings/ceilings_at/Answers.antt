@@ -6,7 +6,7 @@ use Rattle.osek_scheduler.specs.Priority.{greatest, ceiling}
 use Rattle.body_faults.specs.Labels.{last_label_below, list_of}
 use Rattle.body_faults.proofs.Labelled.{last_inside, held_is}
 use Rattle.body_faults.proofs.Lists.{item_is}
-use Rattle.code_tables.proofs.Growing.{grown}
+use Rattle.call_graph.proofs.Growing.{grown}
 use Rattle.section_sizes.proofs.ceilings.ceilings_at.Goals as goal
 
 pub held_at_label-requires : goal.held_at_label-requires

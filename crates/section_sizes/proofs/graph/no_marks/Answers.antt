@@ -1,5 +1,5 @@
 use Rattle.std.proofs.Common.{Bool, false, refl}
-use Rattle.code_tables.proofs.Growing.{grown}
+use Rattle.call_graph.proofs.Growing.{grown}
 use Rattle.section_sizes.proofs.graph.no_marks.Goals as goal
 
 pub loop-node-preserved : goal.loop-node-preserved

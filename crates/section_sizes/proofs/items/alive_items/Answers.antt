@@ -1,6 +1,6 @@
 use Rattle.std.proofs.Common.{Bool, false}
 use Rattle.section_sizes.specs.Computed.{is_alive}
-use Rattle.code_tables.proofs.Growing.{grown}
+use Rattle.call_graph.proofs.Growing.{grown}
 use Rattle.section_sizes.proofs.items.alive_items.Goals as goal
 
 pub loop-number-preserved : goal.loop-number-preserved

@@ -1,6 +1,6 @@
 use Rattle.bound_rules.specs.declared.sizes.Summary.{Summary}
 use Rattle.bound_rules.specs.Summaries.{unknown}
-use Rattle.code_tables.proofs.Growing.{filled_more}
+use Rattle.call_graph.proofs.Growing.{filled_more}
 use Rattle.section_sizes.proofs.levels.unknown.Goals as goal
 
 pub loop-number-preserved : goal.loop-number-preserved

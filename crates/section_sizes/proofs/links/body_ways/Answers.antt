@@ -1,7 +1,7 @@
 use Rattle.section_sizes.specs.declared.graph.Ways.{Ways}
 use Rattle.section_sizes.specs.Graph.{no_ways}
 use Rattle.section_sizes.specs.Computed.{item_ways}
-use Rattle.code_tables.proofs.Growing.{grown}
+use Rattle.call_graph.proofs.Growing.{grown}
 use Rattle.section_sizes.proofs.links.body_ways.Goals as goal
 
 pub loop-from-preserved : goal.loop-from-preserved

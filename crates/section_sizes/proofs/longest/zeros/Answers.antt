@@ -1,5 +1,5 @@
 use Rattle.std.proofs.Common.{ℕ}
-use Rattle.code_tables.proofs.Growing.{filled_more}
+use Rattle.call_graph.proofs.Growing.{filled_more}
 use Rattle.section_sizes.proofs.longest.zeros.Goals as goal
 
 pub loop-number-preserved : goal.loop-number-preserved

@@ -1,5 +1,5 @@
 use Rattle.std.proofs.Common.{◌≡◌}
-use Rattle.code_tables.specs.Tables.{max_below}
+use Rattle.call_graph.specs.Tables.{max_below}
 use Rattle.section_sizes.specs.Computed.{known_body_of, out_at}
 use Rattle.section_sizes.proofs.summary.out_of.Given as goal
 

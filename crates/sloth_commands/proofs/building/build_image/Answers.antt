@@ -1,4 +1,4 @@
-use Rattle.checked_runs.proofs.Printed.{runs_are_checked}
+use Rattle.sloth_commands.proofs.Printed.{runs_are_checked}
 use Rattle.sloth_commands.proofs.Ceilings.{runs-keep, runs-keep_bounds}
 use Rattle.sloth_commands.proofs.OnlyRuns.{runs-only}
 use Rattle.sloth_commands.proofs.building.build_image.Goals as goal

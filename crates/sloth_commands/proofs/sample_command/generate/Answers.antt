@@ -1,7 +1,7 @@
 use Rattle.std.proofs.Common.{◌∙◌, ℕ, List, length, sym, subst}
 use Rattle.sloth_base.specs.Arrivals.{AreArrivals}
 use Rattle.sloth_source.specs.OilText.{OilText}
-use Rattle.sample_tasks.proofs.Declared.{thirty-tasks, no-counters}
+use Rattle.sloth_commands.proofs.Declared.{thirty-tasks, no-counters}
 use Rattle.sloth_commands.proofs.sample_command.generate.Goals as goal
 
 -- the text that is built declares 30 tasks and no counters

@@ -5,7 +5,8 @@ use Rattle.rv32_instr.specs.Range.{InRange}
 use Rattle.rv32_instr.specs.declared.block.Block.{Block}
 use Rattle.sloth_link.specs.declared.datum.Datum.{Datum}
 use Rattle.sloth_link.specs.Image.{all_blocks, all_data, symbol_data, memory_size}
-use Rattle.sloth_link.specs.Linked.{AreLinked, BlockStands, HaveOwnAddresses, HaveRoom, Holds, datum_section, marks_of, sections_of}
+use Rattle.sloth_link.specs.Linked.{AreLinked, BlockStands, HaveRoom, Holds, datum_section, sections_of}
+use Rattle.mem_map.specs.Sections.{HaveOwnAddresses, marks_of}
 use Rattle.sloth_link.proofs.InPlace.{stand}
 use Rattle.sloth_link.proofs.AlarmRoom.{alarms_have_room}
 use Rattle.sloth_link.proofs.linking.link_memory.Goals as goal

@@ -1,7 +1,8 @@
 use Rattle.std.proofs.Common.{◌≤◌, ◌++◌, ap, length, ◌∙◌}
 use Rattle.std.specs.Prelude.{map}
 use Rattle.rv32_instr.specs.declared.block.Block.{Block}
-use Rattle.sloth_link.specs.Linked.{block_section, datum_section, linked_memory}
+use Rattle.mem_map.specs.Sections.{block_section, linked_memory}
+use Rattle.sloth_link.specs.Linked.{datum_section}
 use Rattle.sloth_link.proofs.Joined.{front, back, front_inside, back_inside, written_in_turn}
 use Rattle.sloth_link.proofs.Written.{length-linked}
 use Rattle.sloth_link.proofs.WrittenMemory.{symbols_inside}

@@ -1,6 +1,7 @@
 use Rattle.std.proofs.Common.{◌≡◌, drop, length}
 use Rattle.std.specs.Prelude.{map}
-use Rattle.sloth_link.specs.Linked.{linked_memory, datum_section}
+use Rattle.mem_map.specs.Sections.{linked_memory}
+use Rattle.sloth_link.specs.Linked.{datum_section}
 use Rattle.sloth_link.proofs.writing.write_data.Given as goal
 
 abbrev pub invariant-loop-datum : goal.invariant-loop-datum

@@ -1,5 +1,5 @@
 use Rattle.std.proofs.Common.{◌≡◌, ℕ, ◌<◌, length}
-use Rattle.code_tables.specs.Tables.{most_called, table_entry, func_of}
+use Rattle.call_graph.specs.Tables.{most_called, table_entry, func_of}
 use Rattle.stack_bounds.proofs.calls.deeper.Given as goal
 
 abbrev pub invariant-loop-func : goal.invariant-loop-func

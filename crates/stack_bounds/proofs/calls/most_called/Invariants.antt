@@ -1,6 +1,6 @@
 use Rattle.std.proofs.Common.{◌≡◌, get_or}
 use Rattle.sloth_base.specs.Named.{no_item}
-use Rattle.code_tables.specs.Tables.{max_below, bytes_called, table_entry}
+use Rattle.call_graph.specs.Tables.{max_below, bytes_called, table_entry}
 use Rattle.stack_bounds.proofs.calls.most_called.Given as goal
 
 abbrev pub invariant-loop-item : goal.invariant-loop-item

@@ -1,5 +1,5 @@
 use Rattle.std.proofs.Common.{ℕ, ◌+◌, List, subst, sym, arith}
-use Rattle.code_tables.specs.Tables.{IsTable, IsSmall}
+use Rattle.call_graph.specs.Tables.{IsTable, IsSmall}
 use Rattle.stack_bounds.proofs.Depths.{table_small, one_deeper}
 use Rattle.stack_bounds.proofs.calls.most_calls.Goals as goal
 

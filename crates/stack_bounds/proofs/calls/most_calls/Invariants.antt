@@ -1,4 +1,4 @@
-use Rattle.code_tables.specs.Tables.{IsTable}
+use Rattle.call_graph.specs.Tables.{IsTable}
 use Rattle.stack_bounds.proofs.calls.most_calls.Given as goal
 
 abbrev pub invariant-loop-depth : goal.invariant-loop-depth

@@ -1,5 +1,5 @@
 use Rattle.std.proofs.Common.{◌≡◌, ℕ, length}
-use Rattle.code_tables.specs.Tables.{table_entry}
+use Rattle.call_graph.specs.Tables.{table_entry}
 use Rattle.stack_bounds.proofs.calls.no_calls.Given as goal
 
 abbrev pub invariant-loop-number : goal.invariant-loop-number

@@ -1,5 +1,5 @@
 use Rattle.std.proofs.Common.{◌≡◌}
-use Rattle.code_tables.specs.Tables.{max_below, bytes_with_lower}
+use Rattle.call_graph.specs.Tables.{max_below, bytes_with_lower}
 use Rattle.stack_bounds.proofs.shared.most_stacked.Given as goal
 
 abbrev pub invariant-loop-number : goal.invariant-loop-number

@@ -2,7 +2,7 @@ use Rattle.std.proofs.Common.{◌≡◌, ◌∙◌, ap, refl, subst, length, Lis
 use Rattle.std.proofs.lemmas.Result.{IfOk-weaker}
 use Rattle.sloth_base.specs.declared.config.TaskDecl.{TaskDecl}
 use Rattle.stack_bounds.specs.Bounds.{AreParts}
-use Rattle.code_tables.specs.Tables.{AreOffsets}
+use Rattle.call_graph.specs.Tables.{AreOffsets}
 use Rattle.stack_bounds.proofs.Bodies.{bodies_of}
 use Rattle.stack_bounds.proofs.Parts.{parts}
 use Rattle.stack_bounds.proofs.Rows.{AreRows, preempted}

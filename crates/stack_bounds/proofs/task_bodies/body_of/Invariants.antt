@@ -1,6 +1,6 @@
 use Rattle.std.proofs.Common.{◌≡◌, ℕ, ◌+◌, ◌<◌, drop, Some}
 use Rattle.sloth_base.specs.Named.{body_of}
-use Rattle.code_tables.specs.Tables.{func_of}
+use Rattle.call_graph.specs.Tables.{func_of}
 use Rattle.stack_bounds.proofs.task_bodies.body_of.Given as goal
 
 abbrev pub invariant-loop-number : goal.invariant-loop-number

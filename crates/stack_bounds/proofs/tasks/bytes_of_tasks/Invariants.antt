@@ -1,5 +1,5 @@
 use Rattle.std.proofs.Common.{◌≡◌, ℕ, ◌<◌, length, get_or}
-use Rattle.code_tables.specs.Tables.{task_bytes}
+use Rattle.call_graph.specs.Tables.{task_bytes}
 use Rattle.stack_bounds.proofs.tasks.bytes_of_tasks.Given as goal
 
 abbrev pub invariant-loop-task : goal.invariant-loop-task

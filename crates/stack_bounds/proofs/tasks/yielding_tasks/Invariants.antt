@@ -1,6 +1,6 @@
 use Rattle.std.proofs.Common.{◌≡◌, ℕ, ◌<◌, false, length, get_or}
 use Rattle.sloth_base.specs.Named.{body_of}
-use Rattle.code_tables.specs.Tables.{gives_way, task_at}
+use Rattle.call_graph.specs.Tables.{gives_way, task_at}
 use Rattle.stack_bounds.proofs.tasks.yielding_tasks.Given as goal
 
 abbrev pub invariant-loop-number : goal.invariant-loop-number

@@ -1,5 +1,5 @@
 use Rattle.std.proofs.Common.{◌≡◌, sym, subst}
-use Rattle.routine_pieces.specs.Boot.{idle_code}
+use Rattle.block_parts.specs.Boot.{idle_code}
 use Rattle.vector_gen.specs.Idle.{Idles}
 use Rattle.vector_gen.proofs.Idling.{idles}
 use Rattle.vector_gen.proofs.idle_loop.idle.Goals as goal

@@ -1,7 +1,7 @@
 use Rattle.std.proofs.Common.{◌≡◌, ◌∙◌, ◌+◌, ◌++◌, [], ap, sym, get_or, append_assoc, append-nil}
 use Rattle.std.proofs.lemmas.List.{get_or_default}
 use Rattle.wave_text.specs.Header.{variable_line, variable_lines}
-use Rattle.wave_signals.specs.Signals.{first_code, width_of}
+use Rattle.wave_text.specs.Signals.{first_code, width_of}
 use Rattle.wave_text.proofs.Declaring.{no-variables, variables-more}
 use Rattle.wave_text.proofs.header.push_variables.Goals as goal
 

@@ -1,7 +1,7 @@
 use Rattle.std.proofs.Common.{◌∙◌, ap, sym, List}
 use Rattle.std.specs.Prelude.{◌||◌}
 use Rattle.oil_parse.specs.declared.tree.OilAttr.{OilAttr}
-use Rattle.oil_rules.specs.Objects.{is_use, is_used}
+use Rattle.oil_table.specs.Objects.{is_use, is_used}
 use Rattle.text_pieces.proofs.Tests.{any_push}
 use Rattle.oil_rules.proofs.before.Before.with.Goals as goal
 

@@ -4,7 +4,7 @@ use Rattle.std.specs.Borrow.{Bor}
 use Rattle.std.specs.List.{list_any}
 use Rattle.std.specs.Str.{bytes_eq}
 use Rattle.oil_parse.specs.declared.tree.OilObject.{OilObject}
-use Rattle.oil_rules.specs.Objects.{is_of_kind, is_declaration}
+use Rattle.oil_table.specs.Objects.{is_of_kind, is_declaration}
 use Rattle.oil_rules.specs.TaskFaults.{has_priority}
 use Rattle.oil_rules.specs.Fronts.{IsFront}
 use Rattle.text_pieces.proofs.Tests.{any_push}

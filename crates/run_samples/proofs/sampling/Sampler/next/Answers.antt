@@ -1,5 +1,6 @@
 use Rattle.std.proofs.Common.{◌∙◌, ap}
-use Rattle.sloth_runner.specs.Runner.{image_of, sloth_state}
+use Rattle.sloth_runner.specs.Runner.{image_of}
+use Rattle.sloth_runner.specs.Moments.{sloth_state}
 use Rattle.sloth_runner.specs.Sight.{interrupts_in}
 use Rattle.sloth_runner.specs.declared.runner.Runner.{Runner}
 use Rattle.run_samples.proofs.NextSample.{IsLookedAt, sample-is, sampling-behind, stops-there}

@@ -1,6 +1,6 @@
 use Rattle.std.proofs.Common.{◌≡◌, ap, sym, ◌∙◌, length, refl, arith}
-use Rattle.io_buffers.proofs.Files.{bytes_named-written, bytes_named-written_other, space_named-written}
-use Rattle.io_buffers.specs.Slots.{bytes_named, space_named}
+use Rattle.sloth_io.proofs.Files.{bytes_named-written, bytes_named-written_other, space_named-written}
+use Rattle.sloth_io.specs.Slots.{bytes_named, space_named}
 use Rattle.sloth_io.specs.MemStore.{files_of, is_sure}
 use Rattle.sloth_io.specs.declared.mem_store.MemStore.{MemStore}
 use Rattle.sloth_io.proofs.mem_store.MemStoreStore.write.Goals as goal

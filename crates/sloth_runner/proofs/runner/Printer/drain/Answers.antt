@@ -1,6 +1,6 @@
 use Rattle.std.proofs.Common.{◌∙◌, refl}
 use Rattle.std.proofs.lemmas.Result.{err_from_is_err_and}
-use Rattle.run_moments.proofs.Handing.{handed-out}
+use Rattle.sloth_runner.proofs.Handing.{handed-out}
 use Rattle.sloth_runner.proofs.Draining.{draining-init, draining-put, draining-broke, draining-done, draining-ends}
 use Rattle.sloth_runner.proofs.runner.Printer.drain.Goals as goal
 

@@ -7,7 +7,8 @@ use Rattle.observe.specs.Progress.{Fed, view_of, arrivals_of, expected_count}
 use Rattle.observe.specs.declared.observing.Observer.{Observer}
 use Rattle.rv32_machine.specs.Advance.{Goes, Halts}
 use Rattle.sloth_runner.specs.declared.runner.Runner.{Runner}
-use Rattle.sloth_runner.specs.Runner.{HasExecuted, image_of, sloth_state}
+use Rattle.sloth_runner.specs.Runner.{HasExecuted, image_of}
+use Rattle.sloth_runner.specs.Moments.{sloth_state}
 use Rattle.sloth_runner.specs.declared.runner.RunEnd.TheVariants as ends
 use Rattle.sloth_runner.proofs.Turning.{moment-is, machine-more}
 use Rattle.sloth_runner.proofs.runner.Runner.advance.Goals as goal

@@ -1,6 +1,7 @@
 use Rattle.std.proofs.Common.{List, ◌∙◌, ap, take, drop, refl, subst, sym}
 use Rattle.sloth_base.specs.declared.event.Arrival.{Arrival}
-use Rattle.sloth_runner.specs.Runner.{AreLines, count_of, image_of}
+use Rattle.sloth_runner.specs.Moments.{AreLines}
+use Rattle.sloth_runner.specs.Runner.{count_of, image_of}
 use Rattle.sloth_runner.proofs.Turning.{arrived-is, lines-drop}
 use Rattle.sloth_runner.proofs.runner.Runner.arrive_first.Goals as goal
 

@@ -7,8 +7,9 @@ use Rattle.sloth_base.specs.Machine.{State}
 use Rattle.sloth_base.specs.Take.{execution_state}
 use Rattle.sloth_base.specs.declared.image.Image.{Image}
 use Rattle.sloth_runner.specs.declared.runner.Runner.{Runner}
-use Rattle.run_moments.specs.declared.looks.Seen.{Seen}
-use Rattle.sloth_runner.specs.Runner.{HasRun, HasArrived, HasExecuted, image_of, given_arrivals, count_of, sloth_state}
+use Rattle.sloth_runner.specs.declared.looks.Seen.{Seen}
+use Rattle.sloth_runner.specs.Runner.{HasRun, HasArrived, HasExecuted, image_of, given_arrivals, count_of}
+use Rattle.sloth_runner.specs.Moments.{sloth_state}
 use Rattle.sloth_runner.specs.Sight.{IsLast, IsSight, sight_at, sight_of}
 use Rattle.sloth_runner.proofs.Turning.{moment-is, machine-more}
 use Rattle.sloth_runner.proofs.Sighted.{last-behind, sight-stopped, sight-behind}

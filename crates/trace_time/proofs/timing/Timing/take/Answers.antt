@@ -1,7 +1,7 @@
 use Rattle.std.proofs.Common.{◌∙◌, Some, None, true, [], ◌++◌, sym, ap, refl, cond}
 use Rattle.sloth_base.specs.Events.{admitted_line, is_boot}
 use Rattle.sloth_base.specs.Stretches.{longest_stretch}
-use Rattle.arrival_pass.specs.Scan.{scan_after_event}
+use Rattle.trace_time.specs.Scan.{scan_after_event}
 use Rattle.trace_time.specs.Counts.{with_admit}
 use Rattle.trace_time.specs.Timed.{KeptPass}
 use Rattle.trace_time.proofs.Longer.{stays_late, stops_here, goes_on}

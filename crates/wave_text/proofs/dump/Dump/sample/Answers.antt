@@ -1,10 +1,10 @@
 use Rattle.std.proofs.Common.{◌++◌, List}
 use Rattle.std.specs.Prelude.{false}
 use Rattle.wave_text.specs.declared.dump.Dump.{Dump}
-use Rattle.wave_signals.specs.declared.signals.Scope.TheVariants as scope
-use Rattle.wave_signals.specs.declared.signals.Width.TheVariants as width
+use Rattle.wave_text.specs.declared.signals.Scope.TheVariants as scope
+use Rattle.wave_text.specs.declared.signals.Width.TheVariants as width
 use Rattle.wave_text.specs.Changes.{Entry, change_entries, scope_changes}
-use Rattle.wave_signals.specs.Signals.{level_signal, masked_code, level_value, masked_value}
+use Rattle.wave_text.specs.Signals.{level_signal, masked_code, level_value, masked_value}
 use Rattle.wave_text.specs.Waves.{Gets}
 use Rattle.wave_text.proofs.Dumping.{gets-both, gets-values}
 use Rattle.wave_text.proofs.dump.Dump.sample.Goals as goal

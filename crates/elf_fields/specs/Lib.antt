@@ -1,2 +1,0 @@
-pub mod ElfText
-pub mod Faults

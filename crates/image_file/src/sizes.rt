@@ -1,0 +1,34 @@
+//! The numbers of a header, and their limits.
+ghost use Rattle.std.specs.Prelude.{◌≡◌, Decides};
+ghost use Rattle.image_file.specs.Limits.{SizesFit, header_size};
+
+/// The numbers of tasks, functions, counters, bytes of memory and marks.
+#[derive(Clone, Copy)]
+pub struct Sizes {
+    pub tasks: usize,
+    pub funcs: usize,
+    pub counters: usize,
+    pub memory: usize,
+    pub marks: usize,
+}
+
+impl Sizes {
+    /// The length of a header with these numbers, in bytes.
+    pub fn header(&self) -> usize
+        ensures { result ≡ header_size self.now.counters }
+    {
+        if self.counters == 0 { 24 } else { 28 }
+    }
+
+    /// The numbers are within the limits.
+    pub fn are_within(&self) -> bool
+        ensures { Decides result (SizesFit self.now) }
+    {
+        self.tasks <= 30
+            && self.funcs <= 64
+            && self.counters <= 2
+            && self.memory <= 2_097_152
+            && self.memory % 4 == 0
+            && self.marks <= 16_384
+    }
+}

@@ -1,6 +1,0 @@
-use Rattle.std.proofs.Common.{◌≡◌, ◌++◌, drop}
-use Rattle.image_pieces.specs.Sections.{marks_of}
-use Rattle.image_pieces.proofs.marking.all_marks.Given as goal
-
-abbrev pub invariant-loop-block : goal.invariant-loop-block
-invariant-loop-block l = l.marks.items ++ marks_of (drop l.block-index l.blocks) ≡ marks_of l.blocks

@@ -1,3 +1,0 @@
-pub mod Starts
-pub mod StackParts
-pub mod Sections

@@ -1,0 +1,31 @@
+//! An arrival in a lane.
+ghost use Rattle.std.specs.Prelude.{◌≡◌, ◌≤◌, length};
+ghost use Rattle.lane_drawing.specs.Scale.{IsScale};
+ghost use Rattle.lane_drawing.specs.Arrivals.{arrival_line};
+
+use crate::scale::{Scale, push_pixels};
+use sloth_base::event::Arrival;
+use trace_text::line_text::LineText;
+
+/// An arrival in the lane of a name, at its moment.
+#[tactic(auto, unfolding(crate::specs::Arrivals::arrival_line))]
+pub fn arrival_line(scale: Scale, name: &[u8], middle: u32, arrival: Arrival) -> LineText
+    requires scale { IsScale scale }
+    requires name { length name.now ≤ 64 }
+    requires low { 12 ≤ middle }
+    requires behind { scale.from ≤ arrival.at }
+    requires within { arrival.at ≤ scale.to }
+    ensures { result ≡ arrival_line scale name.now middle arrival }
+{
+    let mut line = LineText::new();
+    line.push(b"<path class=\"a\" d=\"M");
+    push_pixels(&mut line, scale.place(arrival.at));
+    line.push(b" ");
+    line.push_number(middle - 12);
+    line.push(b"l-5 -8h10z\"><title>");
+    line.push(name);
+    line.push(b" arrives at ");
+    line.push_number(arrival.at);
+    line.push(b"</title></path>\n");
+    line
+}

@@ -1,0 +1,101 @@
+//! Where counts stand in a picture.
+ghost use Rattle.std.specs.Prelude.{◌≡◌, ◌≤◌, ◌+◌, ◌++◌, length};
+ghost use Rattle.lane_drawing.specs.Scale.{IsScale, span, place, pixels, axis_step, steps, first_step, first_multiple, last_multiple};
+
+use trace_text::line_text::LineText;
+
+/// The counts of a picture: from one to below another, in a chart that begins so many pixels from the left.
+#[derive(Clone, Copy)]
+pub struct Scale {
+    pub left: u32,
+    pub from: u32,
+    pub to: u32,
+}
+
+// The first step that goes at most 12 times into so many counts, or 10,000.
+fn step_for(counts: u32) -> u32
+    ensures is { result ≡ first_step steps counts }
+    ensures some { 1 ≤ result }
+    ensures short { result ≤ 10000 }
+{
+    match counts {
+        0..=12 => 1,
+        13..=24 => 2,
+        25..=60 => 5,
+        61..=120 => 10,
+        121..=240 => 20,
+        241..=600 => 50,
+        601..=1200 => 100,
+        1201..=2400 => 200,
+        2401..=6000 => 500,
+        6001..=12000 => 1000,
+        12001..=24000 => 2000,
+        24001..=60000 => 5000,
+        _ => 10_000,
+    }
+}
+
+impl Scale {
+    // How many counts there are, and at least one.
+    fn span(self) -> u32
+        requires { IsScale self }
+        ensures is { result ≡ span self }
+        ensures some { 1 ≤ result }
+        ensures short { result ≤ 100000 }
+    {
+        (self.to - self.from).max(1)
+    }
+
+    /// The place of a count from the left, in hundredths of a pixel.
+    pub fn place(self, count: u32) -> u32
+        requires scale { IsScale self }
+        requires behind { self.from ≤ count }
+        requires within { count ≤ self.to }
+        ensures is { result ≡ place self count }
+        ensures near { result ≤ 162000 }
+    {
+        let behind = u64::from(count - self.from) * 102_000 / u64::from(self.span());
+        self.left * 100 + behind as u32
+    }
+
+    /// The step of the axis, in counts.
+    pub fn axis_step(self) -> u32
+        requires { IsScale self }
+        ensures is { result ≡ axis_step self }
+        ensures some { 1 ≤ result }
+        ensures short { result ≤ 10000 }
+    {
+        step_for(self.span())
+    }
+
+    /// The first multiple of the axis' step that is a count of the picture, as how often the step is taken.
+    pub fn first_multiple(self) -> u32
+        requires { IsScale self }
+        ensures is { result ≡ first_multiple self }
+        ensures few { result ≤ 1000000 }
+    {
+        (self.from + self.axis_step() - 1) / self.axis_step()
+    }
+
+    /// The last one.
+    pub fn last_multiple(self) -> u32
+        requires { IsScale self }
+        ensures is { result ≡ last_multiple self }
+        ensures few { result ≤ 1000000 }
+    {
+        self.to / self.axis_step()
+    }
+}
+
+/// Appends a place in pixels, with two decimals.
+#[tactic(auto, unfolding(crate::specs::Scale::pixels))]
+pub fn push_pixels(line: &mut LineText, place: u32)
+    requires { length line.old + 13 ≤ 256 }
+    ensures is { line.new ≡ line.old ++ pixels place }
+    ensures short { length line.new ≤ length line.old + 13 }
+{
+    line.push_number(place / 100);
+    let digits = [b'0' + (place / 10 % 10) as u8, b'0' + (place % 10) as u8];
+    line.push(b".");
+    line.push(&digits);
+}

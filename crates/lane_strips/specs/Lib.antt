@@ -1,4 +1,0 @@
-pub mod Arrivals
-pub mod Bars
-pub mod Scale
-pub mod Strips

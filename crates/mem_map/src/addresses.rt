@@ -1,0 +1,62 @@
+//! The addresses of services, each right behind the one before it, and those to which the vector words jump.
+ghost use Rattle.std.specs.Prelude.{ℕ, ◌≡◌, ◌≤◌, ◌<◌, ◌⊎◌, length, map, get_or, slice_index, take};
+ghost use Rattle.sloth_base.specs.Owners.{first_counter_line, counter_line};
+ghost use Rattle.mem_map.specs.Starts.{starts, end_of, code_byte_count};
+
+use sloth_base::lines::COUNTER_LINE;
+use sloth_base::places::BLOCK_COUNT;
+
+/// The bytes of an instruction.
+const WORD: u32 = 4;
+
+// Those of the lines of counters: their ticks. All others go to the idle loop.
+fn with_ticks(idle: u32, ticks: &[u32]) -> [u32; 32]
+    requires { length ticks.now ≤ 2 }
+    ensures ticks { (c : ℕ) → c < length ticks.now → slice_index result (counter_line c) ≡ get_or ticks.now c 0 }
+    ensures unused { (line : ℕ) → line < 32 → (line < first_counter_line) ⊎ (counter_line (length ticks.now) ≤ line) → slice_index result line ≡ idle }
+    ensures lines { length result ≡ 32 }
+{
+    let mut handlers = [idle; 32];
+    for counter in 0..ticks.len() {
+        handlers[usize::from(COUNTER_LINE) + counter] = ticks[counter];
+    }
+    handlers
+}
+
+/// The address to which the vector word of each line jumps: the prologue of its task, the tick of its counter, or the idle loop.
+pub fn handlers(idle: u32, prologues: &[u32], ticks: &[u32]) -> [u32; 32]
+    requires { (length prologues.now ≤ 30) × (length ticks.now ≤ 2) }
+    ensures prologues { take (length prologues.now) result ≡ prologues.now }
+    ensures ticks { (c : ℕ) → c < length ticks.now → slice_index result (counter_line c) ≡ get_or ticks.now c 0 }
+    ensures unused { (line : ℕ) → length prologues.now ≤ line → line < 32 → (line < first_counter_line) ⊎ (counter_line (length ticks.now) ≤ line)
+        → slice_index result line ≡ idle }
+    ensures lines { length result ≡ 32 }
+{
+    let mut handlers = with_ticks(idle, ticks);
+    for task in 0..prologues.len() {
+        handlers[task] = prologues[task];
+    }
+    handlers
+}
+
+/// The address of each service by its number, and the address behind the last one.
+#[derive(Drop)]
+pub struct Services {
+    pub starts: [u32; BLOCK_COUNT],
+    pub end: u32,
+}
+
+/// The addresses of services of so many instructions, the first at `from`. One that has none takes no room.
+pub fn place_services(from: u32, sizes: &[u32; BLOCK_COUNT]) -> Services
+    requires { end_of from (map code_byte_count sizes.now) < 4294967296 }
+    ensures starts { result.starts ≡ starts from (map code_byte_count sizes.now) }
+    ensures end { result.end ≡ end_of from (map code_byte_count sizes.now) }
+{
+    let mut starts = [0; BLOCK_COUNT];
+    let mut end = from;
+    for number in 0..BLOCK_COUNT {
+        starts[number] = end;
+        end += WORD * sizes[number];
+    }
+    Services { starts, end }
+}

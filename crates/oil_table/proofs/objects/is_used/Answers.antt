@@ -1,0 +1,13 @@
+use Rattle.std.proofs.Common.{◌∙◌, ap, sym}
+use Rattle.std.specs.Prelude.{is_some, option_copied}
+use Rattle.oil_table.specs.Objects.{is_use}
+use Rattle.oil_table.proofs.Found.{found_any}
+use Rattle.oil_table.proofs.objects.is_used.Goals as goal
+
+pub returns-in-Some : goal.returns-in-Some
+returns-in-Some c =
+    sym (ap is_some (sym c.first_use.ensures ∙ ap option_copied c.in-Some.is)) ∙ found_any (is_use c.args.name.now) c.args.attrs.now
+
+pub returns-in-None : goal.returns-in-None
+returns-in-None c =
+    sym (ap is_some (sym c.first_use.ensures ∙ ap option_copied c.in-None.is)) ∙ found_any (is_use c.args.name.now) c.args.attrs.now

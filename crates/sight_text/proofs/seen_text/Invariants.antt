@@ -1,6 +1,0 @@
-use Rattle.std.proofs.Common.{◌≡◌, ◌++◌}
-use Rattle.sight_text.specs.SightText.{count_line, task_lines}
-use Rattle.sight_text.proofs.seen_text.Given as goal
-
-abbrev pub invariant-loop-task : goal.invariant-loop-task
-invariant-loop-task l = l.text.items ≡ count_line l.seen.count ++ task_lines l.image l.seen.tasks l.task

@@ -1,9 +1,0 @@
-pub mod Changed
-pub mod Cleared
-pub mod Told
-pub mod TaskAfter
-pub mod Setting
-pub mod Stretches
-pub mod WaitRam
-pub mod Waiting
-pub mod WaitStretch

@@ -1,2 +1,0 @@
-pub mod EventServiceSteps
-pub mod Stretch

@@ -1,0 +1,41 @@
+//! What the program does with its words: they go to the top call, over the system's files and standard output, and the status is how it ends.
+use sloth_cli::{Status, sloth_top};
+use sloth_io::file_store::FileStore;
+use sloth_io::out_sink::OutSink;
+use std::env;
+use std::env::Env;
+use std::io::ErrorKind;
+use std::process::ExitCode;
+use std::rt::Files;
+
+// The words without the program's own name, or how the program ends without them: a word that is not UTF-8 is none of a command's.
+fn words(rt: &(impl Env + AllocGlobal)) -> Result<Vec<String>, Status> {
+    let mut words = Vec::new(rt.alloc());
+    let args = match env::args(rt) {
+        Ok(args) => args,
+        Err(fault) if fault.kind() == ErrorKind::OutOfMemory => return Err(Status::NoMemory),
+        Err(_) => return Err(Status::Usage),
+    };
+    for word in args.skip(1) {
+        if words.push(word).is_err() {
+            return Err(Status::NoMemory);
+        }
+    }
+    Ok(words)
+}
+
+/// Runs the command of these words.
+pub fn run_words(rt: &(impl Files + Print + AllocGlobal), words: &[String]) -> Status {
+    let mut files = FileStore::new(rt);
+    let mut out = OutSink::new(rt);
+    sloth_top(rt.alloc(), words, &mut files, &mut out)
+}
+
+/// Runs the command of the program's words, and answers with the number of its status.
+pub fn run_program(rt: &(impl Env + Files + Print + AllocGlobal)) -> ExitCode {
+    let status = match words(rt) {
+        Ok(words) => run_words(rt, words.as_slice()),
+        Err(status) => status,
+    };
+    ExitCode::from(status.code())
+}

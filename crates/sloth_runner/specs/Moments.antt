@@ -1,0 +1,53 @@
+-- What a runner does with its machine and its observer at a moment of a run.
+use Rattle.std.specs.Prelude.{ℕ, ◌≡◌, ◌+◌, ◌<◌, List, All, [], ◌∷◌, ◌++◌, slice_index, slice_set, Option, Some, None, if◌then◌else◌}
+use Rattle.sloth_base.specs.Machine.{State}
+use Rattle.sloth_base.specs.declared.event.Arrival.{Arrival}
+use Rattle.sloth_base.specs.declared.event.Stamped.{Stamped}
+use Rattle.sloth_base.specs.declared.step.Step.{Step}
+use Rattle.rv32_instr.specs.Memory.{memory_of}
+use Rattle.rv32_machine.specs.State.{state}
+use Rattle.rv32_machine.specs.declared.machine.Machine.{Machine}
+use Rattle.machine_memory.specs.declared.sloth.SlothBus.{SlothBus}
+use Rattle.sloth_inspect.specs.States.{states_in, running_number_in}
+use Rattle.observe.specs.Progress.{Fed, remaining, view_of, arrivals_of, expected_count}
+use Rattle.observe.specs.declared.observing.Observer.{Observer}
+use Rattle.line_words.specs.EventWords.{kind_of}
+use Rattle.sloth_runner.specs.declared.looks.Seen.{Seen}
+
+-- the state of a machine
+abbrev pub sloth_state : Machine SlothBus → State
+sloth_state machine = state (λ bus. bus) machine
+
+-- each line is one of the controller's 32
+abbrev pub AreLines : List Arrival → Type 0
+AreLines arrivals = All (λ arrival. arrival.line < 32) arrivals
+
+-- what a state shows of so many tasks at a count, where it finds MIE 1
+abbrev pub seen_at : (tasks count : ℕ) → State → Option Seen
+seen_at tasks count now =
+    if now.core.mie
+    then Some (record { count = count; tasks = states_in (memory_of now.core) tasks; running = running_number_in (memory_of now.core) })
+    else None
+
+-- ---- finished events
+
+-- all finished events were handed out
+abbrev pub HandsOut : Observer → Observer → Type 0
+HandsOut old new = (steps : List Step) (events : List Stamped) → Fed old steps events → Fed new steps (events ++ remaining old)
+
+-- on the way from one observer to another some of them were handed out
+pub record HandingOut (o0 o : Observer) : Type 0 where
+  pub view : view_of o ≡ view_of o0
+  pub arrivals : arrivals_of o ≡ arrivals_of o0
+  pub expected : expected_count o ≡ expected_count o0
+  pub fed : (steps : List Step) (events : List Stamped) → Fed o0 steps events
+      → (front : List Stamped) × Fed o steps front × (front ++ remaining o ≡ events ++ remaining o0)
+
+-- these numbers of events of each kind, with one event more
+abbrev pub counts_with_one : List ℕ → Stamped → List ℕ
+counts_with_one counts e = slice_set counts (kind_of e.event) (slice_index counts (kind_of e.event) + 1)
+
+-- with all of these events more
+abbrev pub counts_with : List ℕ → List Stamped → List ℕ
+counts_with counts [] = counts
+counts_with counts (e ∷ rest) = counts_with (counts_with_one counts e) rest

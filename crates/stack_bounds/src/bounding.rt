@@ -1,0 +1,34 @@
+//! The stacks of task code that keeps the rules.
+ghost use Rattle.std.specs.Prelude.{IfOk, IfErr, OnOk};
+ghost use Rattle.least_fault.specs.Order.{ErrorIs, NoFault};
+ghost use Rattle.code_rules.specs.AppRange.{AppInRange};
+ghost use Rattle.code_rules.specs.WellFormed.{RuleFault};
+ghost use Rattle.call_graph.specs.Ranks.{RanksOf};
+ghost use Rattle.stack_bounds.specs.Bounds.{AreBounds};
+
+use crate::bound;
+use call_graph::ranking::Ranks;
+use sloth_base::app::App;
+use sloth_base::config::Config;
+use sloth_base::places::Bounds;
+use sloth_base::refusal::BuildError;
+use std::alloc::Global;
+use task_verify::verify;
+
+/// The bytes of stack that tasks may need, where no rule of V2 to V12 has a fault; else the least fault.
+pub fn bounds_of(
+    alloc: Global,
+    config: &Config,
+    app: &App,
+    ranks: &Ranks,
+) -> Result<Bounds, BuildError>
+    requires in_range { AppInRange config.now app.now }
+    requires belong { RanksOf app.now ranks.now }
+    ensures bounds { IfOk result (AreBounds config.now app.now) }
+    ensures none { OnOk result (NoFault (RuleFault config.now app.now)) }
+    ensures refused { IfErr result (ErrorIs (RuleFault config.now app.now)) }
+{
+    let verified = verify(alloc, config, app, ranks)?;
+    let bounds = bound(alloc, &verified, ranks)?;
+    Ok(bounds)
+}

@@ -1,0 +1,28 @@
+-- What is said of a configuration, its task source, arrivals and a text of events.
+use Rattle.std.specs.Prelude.{ℕ, List}
+use Rattle.sloth_base.specs.declared.app.App.{App}
+use Rattle.sloth_base.specs.declared.config.Config.{Config}
+use Rattle.sloth_base.specs.declared.event.Arrival.{Arrival}
+use Rattle.code_rules.specs.WellFormed.{WellFormed}
+use Rattle.sloth_source.specs.Texts.{AreAccepted}
+use Rattle.trace_check.specs.Answer.{IsVerdict}
+use Rattle.trace_check.specs.declared.verdict.Verdict.{Verdict}
+use Rattle.trace_check.specs.Inputs.{AreRead, IsRefusal, names_of}
+use Rattle.trace_check.specs.Verdicts.{counter_names}
+use Rattle.trace_check.specs.declared.answer.TraceAnswer.{TraceAnswer}
+use Rattle.trace_check.specs.declared.answer.TraceAnswer.TheVariants as answer
+
+-- the inputs are accepted, and this is the verdict on the text
+pub record IsJudged (oil src arr trace : List ℕ) (n : ℕ) (verdict : Verdict) : Type 0 where
+  pub config : Config
+  pub app : App
+  pub accepted : AreAccepted oil src config app
+  pub well_formed : WellFormed config app
+  pub arrivals : List Arrival
+  pub read : AreRead (names_of config) (counter_names config) arr arrivals
+  pub is : IsVerdict config app arrivals trace n verdict
+
+-- the inputs are refused so, or the text has this verdict
+abbrev pub IsTraceAnswer : (oil src arr trace : List ℕ) → ℕ → TraceAnswer → Type 0
+IsTraceAnswer oil src arr trace n (answer.Refused refusal) = IsRefusal oil src arr refusal
+IsTraceAnswer oil src arr trace n (answer.Judged verdict) = IsJudged oil src arr trace n verdict
