@@ -1,4 +1,8 @@
 //! The code of counters and alarms (OSEK OS 2.2.3, sections 9 and 13.6): the ticks of counters, and the services on alarms.
+//!
+//! From the taking of a counter's line, with any arrivals and any number of alarms: the effect of the tick as a fold over its alarms, which lines it
+//! touches, and its length (`tick`; `specs/Tick`, `specs/Alarms`). Of SetRelAlarm, SetAbsAlarm, CancelAlarm and GetAlarm the same as of other
+//! services (`block`; a file of `specs/` for each). Lengths: `code_lengths` (`CodeLengths`); leaving: `masked_code` (`Kernel`).
 #![tactic(auto)]
 
 ghost use Rattle.std.specs.Prelude.{◌≡◌, ◌<◌, [], IfOk, length, slice_index};

@@ -1,4 +1,10 @@
-//! The lines of the command `bounds`, from the texts of a configuration and its task source.
+//! The lines of the command `bounds`, without and with `latency`, from the texts of a configuration and its task source.
+//!
+//! The lines of the bounds of accepted texts, and with `latency` the line of the task of highest priority, or their first refusal (`bounds_text`,
+//! `latency::latency_lines`). In every sound run of an image of the task code each task of which a number is told waits for at most so many items and
+//! 200 counts for each, and from an arrival behind boot the task of the last line is entered within its latency and the counts of the ticks on the
+//! way. Texts have one list of lines of each kind at most (`one_text`, `one_latency_text`). Definitions: `specs/BoundsText`, the last line
+//! `specs/Latency`, what the numbers promise of runs `specs/KeptRuns`. Bounds: `block_bounds` (`Bounds`, `Kept`); latency: `run_bounds` (`Latency`).
 #![tactic(auto)]
 
 ghost use Rattle.std.specs.Prelude.{◌≡◌, ◌<◌, length, IfOk, IfErr};

@@ -1,4 +1,9 @@
-//! The table of what may stand in an OIL text, what its objects say by it, and the limits of objects and alarms (OIL 2.5, section 3).
+//! The table of OIL objects and attributes (OIL 2.5, section 3): which attribute may stand in which place, how often, and with which values.
+//!
+//! The rows: `place_of`, `attribute_of`, `is_single`, `allows`, `block_place` (`specs/Table`). What an object declares and what its attributes say:
+//! `first_use`, `first_number`, `declares`, `is_of_kind`, .. (`specs/Objects`). The limits: an object of a kind comes behind as many of it as there
+//! may be, or not (`comes_behind`, `is_clock_more`); a number in a block of an alarm lies outside the limits of its counter, or not (`is_beyond`,
+//! `specs/Beyond`). Trees: `oil_parse` (`Grammar`).
 #![tactic(auto)]
 
 mod alarm_limits;

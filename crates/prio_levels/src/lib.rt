@@ -1,4 +1,7 @@
 //! Levels: the numbers by which the interrupt controller does the work of the scheduler.
+//!
+//! The level of a priority is the number of tasks of no greater priority; ceilings are those of the priority ceiling protocol (`assign`,
+//! `specs/Levels`). In range: `sloth_base` (`ConfigRange`).
 #![tactic(auto)]
 
 ghost use Rattle.std.specs.Prelude.{◌≡◌, ◌<◌, ◌≤◌, ℕ, if◌then◌else◌, max, length, Contains, slice_index, slice_index_or};

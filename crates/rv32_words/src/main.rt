@@ -1,5 +1,5 @@
-//! Prints the instructions of the words that it reads, and the words of the generated code of a small kernel. The files `stdin` and
-//! `stdout` hold what an independent assembler makes of `instructions.s` and of `words.s`, where each routine is written by hand.
+//! Prints the instructions of the words that it reads, and the words of the generated code of a small kernel. The files `stdin` and `stdout` hold
+//! what an independent assembler makes of `instructions.s` and of `words.s`, where each routine is written by hand.
 #![tactic(auto)]
 
 ghost use Rattle.std.specs.Prelude.{ℕ, ◌≡◌, ◌<◌, ◌≤◌, All, length, slice_index};

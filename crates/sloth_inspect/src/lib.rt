@@ -1,4 +1,5 @@
-//! The states of tasks, as the memory and the interrupt controller of the machine show them.
+//! The states of tasks, as the memory and the interrupt controller of the machine show them: exactly the definition (`specs/States`). Service words:
+//! `sloth_region` (`Layout`); memory: `rv32_instr` (`Memory`).
 #![tactic(auto)]
 
 ghost use Rattle.std.specs.Prelude.{◌≡◌, ◌≤◌, ◌<◌, ◌+◌, ◌%◌};
