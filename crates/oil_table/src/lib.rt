@@ -1,11 +1,11 @@
 //! The table of what may stand in an OIL text, what its objects say by it, and the limits of objects and alarms (OIL 2.5, section 3).
 #![tactic(auto)]
 
-mod alarm_limits;
-mod numbers;
+pub mod alarm_limits;
+pub mod numbers;
 pub mod object_limits;
-mod objects;
-mod table;
+pub mod objects;
+pub mod table;
 
 pub use alarm_limits::{Limits, is_beyond};
 pub use numbers::names_of;
