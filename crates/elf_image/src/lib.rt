@@ -19,6 +19,5 @@ pub mod read;
 pub mod reading;
 pub mod write;
 
-pub use crate::{fault, headers};
 pub use read::read_elf;
 pub use write::write_elf;

@@ -5,9 +5,9 @@
 //! (`mask_of_value`, `event_mask`, `specs/Masks`). Rows of the table: `oil_table` (`Table`).
 #![tactic(auto)]
 
-mod event_table;
-mod events;
-mod masks;
+pub mod event_table;
+pub mod events;
+pub mod masks;
 
 pub use event_table::EventTable;
 pub use events::events_of;

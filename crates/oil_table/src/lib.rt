@@ -6,11 +6,11 @@
 //! `specs/Beyond`). Trees: `oil_parse` (`Grammar`).
 #![tactic(auto)]
 
-mod alarm_limits;
-mod numbers;
+pub mod alarm_limits;
+pub mod numbers;
 pub mod object_limits;
-mod objects;
-mod table;
+pub mod objects;
+pub mod table;
 
 pub use alarm_limits::{Limits, is_beyond};
 pub use numbers::names_of;
