@@ -52,8 +52,7 @@ with open(gate.__file__, encoding="utf-8") as it:
     exec(compile(it.read(), gate.__file__, "exec"), gate.__dict__)
 kit = gate.rtlib
 kit.Crate, kit.stop, gate.stop = gate.Crate, sys.exit, sys.exit
-# (read along each path of crates.txt otherwise)
-kit.Crate.below = functools.lru_cache(None)(kit.Crate.below)
+kit.Crate.below = functools.lru_cache(None)(kit.Crate.below)  # (looked for along each path of crates.txt otherwise)
 
 def gigabytes(count):
     return f"{count / 1e9:.1f} GB"
