@@ -7,7 +7,7 @@ ghost use Rattle.command_line.specs.declared.tool.Tool.{Tool as AnyTool};
 use crate::counts::{Counts, Limit};
 
 /// A command that reads files, judges what they hold, and writes one file at most.
-#[derive(Clone, Copy, Debug, PartialEq, Eq)]
+#[derive(Clone, Copy)]
 pub enum Tool {
     /// `elf IMG OUT`: the ELF file of an image file.
     Elf,

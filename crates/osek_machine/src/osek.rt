@@ -31,7 +31,7 @@ use std::marker::Model;
 use thiserror::Error;
 
 /// The event has no next state.
-#[derive(Clone, Copy, Debug, PartialEq, Eq, Error)]
+#[derive(Clone, Copy, Debug, Error)]
 #[error("not a run")]
 pub struct NotARun;
 

@@ -5,7 +5,7 @@ ghost use Rattle.sloth_base.specs.Owners.{line_kind};
 use crate::numbers::Line;
 
 /// What a line is for.
-#[derive(Clone, Copy, Debug, PartialEq, Eq)]
+#[derive(Clone, Copy)]
 pub enum LineKind {
     /// It enters this task.
     Task(u32),
@@ -18,7 +18,7 @@ pub enum LineKind {
 pub const COUNTER_LINE: u8 = 30;
 
 /// The owners of lines: so many tasks, and so many counters.
-#[derive(Clone, Copy, Debug, PartialEq, Eq)]
+#[derive(Clone, Copy)]
 pub struct Owners {
     pub tasks: usize,
     pub counters: usize,

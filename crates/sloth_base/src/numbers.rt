@@ -3,7 +3,7 @@
 use std::marker::Model;
 
 /// A task: its place among the TASK objects of the configuration, from 0. Its interrupt line has the same number.
-#[derive(Clone, Copy, Debug, PartialEq, Eq)]
+#[derive(Clone, Copy, Debug)]
 pub struct TaskId(pub u32);
 
 impl Model for TaskId {
@@ -62,7 +62,7 @@ impl Model for SymId {
 }
 
 /// A line of the interrupt controller, 0 to 31.
-#[derive(Clone, Copy, Debug, PartialEq, Eq)]
+#[derive(Clone, Copy)]
 pub struct Line(pub u8);
 
 impl Model for Line {
@@ -76,7 +76,7 @@ impl Model for Line {
 }
 
 /// A register, x0 to x31.
-#[derive(Clone, Copy, Debug, PartialEq, Eq)]
+#[derive(Clone, Copy, Debug)]
 pub struct Reg(pub u8);
 
 impl Model for Reg {

@@ -9,7 +9,7 @@ use sloth_base::refusal::{BuildError, Refusal};
 use std::alloc::Global;
 
 /// What is said of a configuration, its task source, arrivals and a text of events.
-#[derive(Clone, Copy, Debug, PartialEq, Eq)]
+#[derive(Clone, Copy)]
 pub enum TraceAnswer {
     /// The inputs are refused.
     Refused(Refusal),

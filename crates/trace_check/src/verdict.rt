@@ -25,7 +25,7 @@ use walked_events::lines::first_event;
 use walked_events::walk::Walk;
 
 /// What is said of a text of events.
-#[derive(Clone, Copy, Debug, PartialEq, Eq)]
+#[derive(Clone, Copy)]
 pub enum Verdict {
     /// It is that of a run.
     Yes,
