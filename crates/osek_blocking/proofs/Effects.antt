@@ -77,17 +77,14 @@ pub record Calls (config : Config) (t : ℕ) (s next : System) : Type 0 where
 
 -- what each event does
 abbrev pub Effect : Config → System → System → Event → Type 0
-Effect config s next event.Boot = Passes config s next
 Effect config s next (event.Admit t) = Admits config s next
 Effect config s next (event.Enter t) = Enters config t s next
 Effect config s next (event.Run t func item result) = Works config t s next
 Effect config s next (event.Call t served status) = Calls config t s next
 Effect config s next (event.Left t served) = Calls config t s next
 Effect config s next (event.Back t) = Works config t s next
-Effect config s next event.Idle = Passes config s next
-Effect config s next event.Stray = ⊥
 Effect config s next (event.Due c) = Admits config s next
-Effect config s next (event.Tick c) = Passes config s next
+Effect config s next _ = Passes config s next
 
 -- ---- arrivals
 
@@ -178,7 +175,7 @@ module _ (config : Config) (app : App) (s next : System) (o : Ordered config s) 
     was = h.2;
   }
   effect event.Idle h = subst (Passes config s) (sym h.3) (record { count = refl; same = λ u e. (e, refl); ready = λ u r. r; settles = refl })
-  effect event.Stray h = h
+  effect event.Stray h = absurd h
   effect (event.Due c) h = subst (Admits config s) (sym h.2) (record { count = refl; same = λ u e. (e, refl); ready = λ u r. r; fresh = λ u r. refl })
   effect (event.Tick c) h =
       subst (Passes config s) (sym h.2)
@@ -190,17 +187,12 @@ module _ (config : Config) (app : App) (s next : System) (o : Ordered config s) 
       })
 
   kept_count : (e : Event) → Effect config s next e → length next.tasks ≡ length s.tasks
-  kept_count event.Boot f = f.count
-  kept_count (event.Admit t) f = f.count
   kept_count (event.Enter t) f = f.moves.stays.count
   kept_count (event.Run t func item result) f = f.moves.stays.count
   kept_count (event.Call t served status) f = f.moves.stays.count
   kept_count (event.Left t served) f = f.moves.stays.count
   kept_count (event.Back t) f = f.moves.stays.count
-  kept_count event.Idle f = f.count
-  kept_count event.Stray f = absurd f
-  kept_count (event.Due c) f = f.count
-  kept_count (event.Tick c) f = f.count
+  kept_count e f = f.count
 
   pub step_ordered : (e : Event) → OsekStep config app e s next → Ordered config next
   step_ordered e h = record {
