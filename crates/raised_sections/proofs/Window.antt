@@ -94,8 +94,6 @@ module _ {config : Config} {app : App} {h l : ℕ} (pair : LowerPair config app 
     view e step one = by e step one (effect config app s next x.ordered e step) (frame_effect config app pair.facts s next x.valid e step)
       where
         by : (e : Event) → OsekStep config app e s next → OfOne e → Effect config s next e → FrameEffect app s next e → View e
-        by event.Boot step one f p = keeps refl (p l) (λ a. (f.same l a).0)
-        by (event.Admit t) step one f p = keeps refl (p l) (λ a. (f.same l a).0)
         by (event.Enter t) step one f p = at (cases_eq t l)
           where
             at : (t ≡ l) ⊎ (t ≡ l → ⊥) → View (event.Enter t)
@@ -128,10 +126,7 @@ module _ {config : Config} {app : App} {h l : ℕ} (pair : LowerPair config app 
             at (inl e) =
                 absurd (not_back (subst (IsTop config s []) e f.moves.top) (subst (IsActive s) e f.was) (subst (λ v. (task s v).owed ≡ true) e step.3))
             at (inr n) = keeps refl (p.others l (λ e. n (sym e))) (λ a. (f.moves.acts.calm l (λ e. n (sym e)) a).0)
-        by event.Idle step one f p = keeps refl (p l) (λ a. (f.same l a).0)
-        by event.Stray step one f p = absurd f
-        by (event.Due c) step one f p = keeps refl (p l) (λ a. (f.same l a).0)
-        by (event.Tick c) step one f p = keeps refl (p l) (λ a. (f.same l a).0)
+        by e step one f p = keeps refl (p l) (λ a. (f.same l a).0)
 
   -- ---- what blocks, behind an event
 
