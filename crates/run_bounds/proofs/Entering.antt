@@ -193,16 +193,8 @@ begins config app e events end leads = by e.event leads.1
   where
     by : (what : Event) → OsekStep config app what (opening config app) leads.0 → is_boot what ≡ true
     by event.Boot step = refl
-    by (event.Admit t) step = absurd (false≢true step.0)
-    by (event.Enter t) step = absurd (false≢true step.0)
-    by (event.Run t func item result) step = absurd (false≢true step.0)
-    by (event.Call t served status) step = absurd (false≢true step.0)
-    by (event.Left t served) step = absurd (false≢true step.0)
-    by (event.Back t) step = absurd (false≢true step.0)
-    by event.Idle step = absurd (false≢true step.0)
-    by (event.Due c) step = absurd (false≢true step.0)
-    by (event.Tick c) step = absurd (false≢true step.0)
     by event.Stray step = absurd step
+    by e step = absurd (false≢true step.0)
 
 some_boot : (config : Config) (app : App) (before behind : List Stamped) (made : Stamped) (end : System)
     → Leads config app (before ++ made ∷ behind) (opening config app) end → BeginsWithBoot (before ++ made ∷ behind)
