@@ -1,5 +1,6 @@
 pub mod Staying
 pub mod Effects
+pub mod Ordering
 pub mod Once
 pub mod Protocol
 pub mod Examples

@@ -21,7 +21,8 @@ use Rattle.osek_scheduler.proofs.Tests.{Decides-is_active, Decides-leb}
 use Rattle.osek_valid.specs.Apart.{priority_of, static_priority, IsActive, IsOver}
 use Rattle.osek_valid.proofs.Apart.{Same, rank_active, rank_ready}
 use Rattle.osek_blocking.specs.Blocking.{is_entry_of, events_up_to_entry, IsOfLower, IsRaisedTo, FindsFresh, IsBlockedBy, BlocksOnce}
-use Rattle.osek_blocking.proofs.Effects.{IsReady, Ordered, Moves, Enters, Works, Calls, Effect, effect, step_ordered, opening_ordered, leads_ordered}
+use Rattle.osek_blocking.proofs.Effects.{IsReady, Ordered, Moves, Enters, Works, Calls, Effect}
+use Rattle.osek_blocking.proofs.Ordering.{effect, step_ordered, opening_ordered, leads_ordered}
 
 -- ---- lists
 

@@ -70,17 +70,12 @@ pub record Returns (t : ℕ) (s next : System) : Type 0 where
 
 -- what each event does to the frames
 abbrev pub FrameEffect : App → System → System → Event → Type 0
-FrameEffect app s next event.Boot = KeepsFrames s next
-FrameEffect app s next (event.Admit t) = KeepsFrames s next
 FrameEffect app s next (event.Enter t) = Begins app t s next
 FrameEffect app s next (event.Run t func item result) = Advances app t s next
 FrameEffect app s next (event.Call t served status) = Advances app t s next
 FrameEffect app s next (event.Left t served) = Departs app t s next
 FrameEffect app s next (event.Back t) = Returns t s next
-FrameEffect app s next event.Idle = KeepsFrames s next
-FrameEffect app s next event.Stray = ⊥
-FrameEffect app s next (event.Due c) = KeepsFrames s next
-FrameEffect app s next (event.Tick c) = KeepsFrames s next
+FrameEffect app s next _ = KeepsFrames s next
 
 module _ (config : Config) (app : App) (w : Facts config app) (s next : System) (v : IsValid config app s) where
   at_least : (t : ℕ) → t < length config.tasks → t < length s.tasks
@@ -234,17 +229,12 @@ module _ (config : Config) (app : App) where
   begun t old new p (inr e) = subst (IsPlaced app t) (sym e) p
 
   pub step_placed : (s next : System) (e : Event) → FrameEffect app s next e → Placed app s → Placed app next
-  step_placed s next event.Boot f p = still_placed s next p f
-  step_placed s next (event.Admit t) f p = still_placed s next p f
   step_placed s next (event.Enter t) f p = split s next t p f.others (begun t _ _ (p t) f.frames)
   step_placed s next (event.Run t func item result) f p = split s next t p f.others (stepped t _ _ (p t) f.steps.walks)
   step_placed s next (event.Call t served status) f p = split s next t p f.others (stepped t _ _ (p t) f.steps.walks)
   step_placed s next (event.Left t served) f p = split s next t p f.others (departed t _ _ (p t) f.frames)
   step_placed s next (event.Back t) f p = split s next t p f.others (subst (IsPlaced app t) (sym f.frames) (p t))
-  step_placed s next event.Idle f p = still_placed s next p f
-  step_placed s next event.Stray f p = absurd f
-  step_placed s next (event.Due c) f p = still_placed s next p f
-  step_placed s next (event.Tick c) f p = still_placed s next p f
+  step_placed s next e f p = still_placed s next p f
 
   pub opening_placed : Placed app (opening config app)
   opening_placed u = inl (ap (λ k. k.frames) (asleep_at config.tasks u))

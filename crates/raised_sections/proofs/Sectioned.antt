@@ -16,7 +16,8 @@ use Rattle.osek_scheduler.proofs.Tests.{Decides-is_active}
 use Rattle.osek_valid.specs.Apart.{static_priority, IsActive}
 use Rattle.sloth_base.specs.Events.{working_task}
 use Rattle.osek_blocking.specs.Blocking.{is_entry_of, events_up_to_entry, IsRaisedTo, FindsFresh}
-use Rattle.osek_blocking.proofs.Effects.{Effect, effect}
+use Rattle.osek_blocking.proofs.Effects.{Effect}
+use Rattle.osek_blocking.proofs.Ordering.{effect}
 use Rattle.osek_blocking.proofs.Once.{stays_out}
 use Rattle.raised_sections.specs.Walks.{Position, WalksOn, WalksOnTo, AreConsecutive, IsWalk}
 use Rattle.raised_sections.specs.Sections.{priority_at, operation_at, is_schedule, OnlyLastSchedules, IsSection, size_of_section, NoneIsLarger}

@@ -19,7 +19,8 @@ use Rattle.osek_valid.proofs.Facts.{Facts}
 use Rattle.osek_valid.proofs.Steps.{step_valid}
 use Rattle.sloth_base.specs.Events.{working_task}
 use Rattle.osek_blocking.specs.Blocking.{is_entry_of, events_up_to_entry, IsOfLower, IsBlockedBy}
-use Rattle.osek_blocking.proofs.Effects.{IsReady, Ordered, Effect, effect, step_ordered}
+use Rattle.osek_blocking.proofs.Effects.{IsReady, Ordered, Effect}
+use Rattle.osek_blocking.proofs.Ordering.{effect, step_ordered}
 use Rattle.osek_blocking.proofs.Once.{stays}
 use Rattle.raised_sections.specs.Sections.{IsLower}
 use Rattle.raised_sections.specs.Kept.{is_lower, lower_events}

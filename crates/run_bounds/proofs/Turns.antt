@@ -21,7 +21,8 @@ use Rattle.osek_valid.proofs.Facts.{Facts}
 use Rattle.osek_valid.proofs.Steps.{step_valid}
 use Rattle.sloth_base.specs.Events.{working_task, is_call}
 use Rattle.osek_blocking.specs.Blocking.{is_entry_of, IsRaisedTo}
-use Rattle.osek_blocking.proofs.Effects.{IsReady, Ordered, Calls, Effect, effect, step_ordered}
+use Rattle.osek_blocking.proofs.Effects.{IsReady, Ordered, Calls, Effect}
+use Rattle.osek_blocking.proofs.Ordering.{effect, step_ordered}
 use Rattle.osek_blocking.proofs.Once.{Blocks, stays}
 use Rattle.raised_sections.specs.Sections.{IsLower}
 use Rattle.raised_sections.proofs.Raised.{owing}

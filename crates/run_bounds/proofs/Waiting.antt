@@ -16,7 +16,7 @@ use Rattle.osek_valid.specs.Apart.{static_priority, priority_of, IsActive}
 use Rattle.osek_valid.proofs.Facts.{Facts}
 use Rattle.sloth_base.specs.Events.{working_task}
 use Rattle.osek_blocking.specs.Blocking.{is_entry_of, events_up_to_entry, IsRaisedTo, FindsFresh, IsBlockedBy}
-use Rattle.osek_blocking.proofs.Effects.{effect}
+use Rattle.osek_blocking.proofs.Ordering.{effect}
 use Rattle.osek_blocking.proofs.Once.{Blocks, BlocksAlone, blocker, at_top, old, at_work, called, stays_out}
 use Rattle.raised_sections.specs.Sections.{IsLower, IsBound, lowest, above, NoneIsLarger}
 use Rattle.raised_sections.specs.Kept.{is_lower, lower_events}

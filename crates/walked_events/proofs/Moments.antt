@@ -17,7 +17,8 @@ use Rattle.osek_scheduler.specs.Services.{if_suspended, activated_state, started
 use Rattle.osek_scheduler.specs.Steps.{OsekStep, admitted_state}
 use Rattle.osek_scheduler.specs.Runs.{Leads, ReadySince}
 use Rattle.osek_scheduler.proofs.Leading.{leads-append, leads-parts, one_end}
-use Rattle.osek_blocking.proofs.Effects.{Ordered, Effect, effect, opening_ordered, leads_ordered}
+use Rattle.osek_blocking.proofs.Effects.{Ordered, Effect}
+use Rattle.osek_blocking.proofs.Ordering.{effect, opening_ordered, leads_ordered}
 use Rattle.walked_events.specs.Moments.{KeepsMoments, noted_moments}
 
 -- ---- lists
