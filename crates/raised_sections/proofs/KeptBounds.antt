@@ -25,7 +25,8 @@ use Rattle.osek_blocking.proofs.Ordering.{step_ordered, opening_ordered, leads_o
 use Rattle.osek_blocking.proofs.Once.{block_once}
 use Rattle.raised_sections.specs.Sections.{IsLower, IsBound, lowest, above}
 use Rattle.raised_sections.specs.Kept.{is_lower, lower_events, KeepsBounds}
-use Rattle.raised_sections.proofs.Placed.{Placed, frame_effect, step_placed, opening_placed, leads_placed}
+use Rattle.raised_sections.proofs.Placed.{Placed, step_placed, opening_placed}
+use Rattle.raised_sections.proofs.FrameEffects.{frame_effect, leads_placed}
 use Rattle.raised_sections.proofs.Sectioned.{at_most}
 
 -- ---- where the task that might block is not lower

@@ -26,7 +26,8 @@ use Rattle.raised_sections.specs.Sections.{IsLower}
 use Rattle.raised_sections.specs.Kept.{is_lower, lower_events}
 use Rattle.raised_sections.proofs.Frames.{SameFrames}
 use Rattle.raised_sections.proofs.Raised.{owing}
-use Rattle.raised_sections.proofs.Placed.{Placed, Advances, FrameEffect, frame_effect, step_placed}
+use Rattle.raised_sections.proofs.Placed.{Placed, Advances, FrameEffect, step_placed}
+use Rattle.raised_sections.proofs.FrameEffects.{frame_effect}
 
 -- task h, and task l of lower priority
 pub record LowerPair (config : Config) (app : App) (h l : ℕ) : Type 0 where

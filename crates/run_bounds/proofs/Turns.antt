@@ -26,7 +26,8 @@ use Rattle.osek_blocking.proofs.Ordering.{effect, step_ordered}
 use Rattle.osek_blocking.proofs.Once.{Blocks, stays}
 use Rattle.raised_sections.specs.Sections.{IsLower}
 use Rattle.raised_sections.proofs.Raised.{owing}
-use Rattle.raised_sections.proofs.Placed.{Placed, Advances, FrameEffect, frame_effect, step_placed}
+use Rattle.raised_sections.proofs.Placed.{Placed, Advances, FrameEffect, step_placed}
+use Rattle.raised_sections.proofs.FrameEffects.{frame_effect}
 use Rattle.raised_sections.specs.Pace.{takes_line}
 use Rattle.run_bounds.specs.Latency.{IsHighest, is_tick}
 
