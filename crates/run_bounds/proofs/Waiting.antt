@@ -24,7 +24,8 @@ use Rattle.raised_sections.proofs.Window.{LowerPair, Waits, blocked_next}
 use Rattle.raised_sections.proofs.Sectioned.{Found, in_front, found_all, within}
 use Rattle.raised_sections.specs.Pace.{takes_line}
 use Rattle.run_bounds.specs.Latency.{IsHighest, is_tick}
-use Rattle.run_bounds.proofs.Turns.{Awaits, is_outside, next_awaits, Working, Leaving, Turn, turn_outside, turn_work, turn_leave, turn, raised_non, leaves_non}
+use Rattle.run_bounds.proofs.Turns.{Working, Leaving, Turn, turn_outside, turn_work, turn_leave, turn, raised_non, leaves_non}
+use Rattle.run_bounds.proofs.Awaiting.{Awaits, is_outside, next_awaits}
 
 -- how many of these events are a task's turn
 abbrev pub waiting : List Stamped → ℕ
