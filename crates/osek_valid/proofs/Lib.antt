@@ -4,6 +4,7 @@ pub mod Stacks
 pub mod Going
 pub mod Items
 pub mod Serving
+pub mod TaskSteps
 pub mod Steps
 pub mod Apart
 pub mod Excluding
