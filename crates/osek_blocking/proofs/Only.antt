@@ -23,7 +23,8 @@ use Rattle.osek_scheduler.specs.Runs.{Leads}
 use Rattle.osek_scheduler.proofs.Leading.{one_step}
 use Rattle.osek_valid.specs.Valid.{IsValid}
 use Rattle.osek_valid.specs.Apart.{TasksAreApart, Excludes, static_priority}
-use Rattle.osek_valid.proofs.Apart.{rank_active, rank_ready, step_apart, opening_apart}
+use Rattle.osek_valid.proofs.Apart.{rank_active, rank_ready, opening_apart}
+use Rattle.osek_valid.proofs.ApartSteps.{step_apart}
 use Rattle.osek_valid.proofs.Excluding.{excludes}
 use Rattle.osek_valid.proofs.Facts.{Facts, facts}
 use Rattle.osek_valid.proofs.Steps.{step_valid, opening_valid}

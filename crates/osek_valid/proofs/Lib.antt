@@ -7,6 +7,7 @@ pub mod Serving
 pub mod TaskSteps
 pub mod Steps
 pub mod Apart
+pub mod ApartSteps
 pub mod Excluding
 pub mod Meaning
 pub mod Progress
