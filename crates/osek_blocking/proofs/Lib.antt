@@ -4,5 +4,6 @@ pub mod Ordering
 pub mod Once
 pub mod Protocol
 pub mod Examples
+pub mod OfTask
 pub mod Only
 pub mod WithoutArrivals
