@@ -27,7 +27,7 @@ use Rattle.run_bounds.specs.Latency.{IsHighest, is_tick}
 abbrev pub is_outside : Event → Bool
 is_outside e = is_some (admitted_line e) || is_tick e
 
--- a state is one
+-- what is Ready is neither Active nor Suspended
 pub clash : (m : TaskState) → m ≡ mode.Ready → (m ≡ mode.Active) ⊎ (m ≡ mode.Suspended) → ⊥
 clash mode.Suspended a (inl b) = absurd cc
 clash mode.Suspended a (inr b) = absurd cc
@@ -54,7 +54,7 @@ module _ (config : Config) (app : App) (w : Facts config app) (h : ℕ) (declare
       ready = stays config app h declared s next x.ready e (effect config app s next x.ordered e step) away;
     }
 
-    -- of the events that name no task those alone come that are outside
+    -- what comes and names no task is outside, and neither a boot nor an entry
     pub outside : (e : Event) → OsekStep config app e s next → is_some (named_task e) ≡ false → (is_boot e ≡ false) × (takes_line e ≡ is_tick e) × (is_outside e ≡ true)
     outside event.Boot step none = absurd (clash (task s h).state x.ready (inr (x.valid.asleep step.0 h)))
     outside event.Idle step none = absurd (step.1 h declared (inl x.ready))
