@@ -8,7 +8,8 @@ ghost use Rattle.call_graph.specs.Rows.{is_get, is_pausing};
 ghost use Rattle.body_faults.specs.Tests.{is_ending, is_release, holds_any, releases_other, takes_held, leaves_holding};
 ghost use Rattle.body_faults.specs.Ways.{LeadsToLabels};
 
-use crate::tasks::{contains, is_ending};
+use crate::endings::is_ending;
+use crate::tasks::contains;
 use crate::ways::way;
 use call_graph::ranking::Ranks;
 use sloth_base::app::{Call, Func, Op};

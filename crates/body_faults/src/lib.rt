@@ -5,6 +5,7 @@
 #![tactic(auto)]
 
 pub mod accesses;
+pub mod endings;
 pub mod faults;
 pub mod held;
 pub mod items;

@@ -87,17 +87,9 @@ starts_bounded image bytes = record {
 
 -- the result or the status of an event is below 2^32
 abbrev pub HasValue : Event → Type 0
-HasValue event.Boot = Unit {0}
-HasValue (event.Admit t) = Unit {0}
-HasValue (event.Enter t) = Unit {0}
 HasValue (event.Run t function item result) = result < 4294967296
 HasValue (event.Call t called status) = status < 4294967296
-HasValue (event.Left t called) = Unit {0}
-HasValue (event.Back t) = Unit {0}
-HasValue event.Idle = Unit {0}
-HasValue event.Stray = Unit {0}
-HasValue (event.Due c) = Unit {0}
-HasValue (event.Tick c) = Unit {0}
+HasValue _ = Unit {0}
 
 abbrev pub HasValueAt : Stamped → Type 0
 HasValueAt e = HasValue e.event

@@ -65,15 +65,7 @@ pub fn admitted_line(event: &Event) -> Option<u64>
     match *event {
         Event::Admit(task) => Some(u64::from(task)),
         Event::Due(counter) => Some(FIRST_COUNTER_LINE + u64::from(counter)),
-        Event::Boot
-        | Event::Enter(_)
-        | Event::Run { .. }
-        | Event::Call { .. }
-        | Event::Left { .. }
-        | Event::Back(_)
-        | Event::Idle
-        | Event::Stray
-        | Event::Tick(_) => None,
+        _ => None,
     }
 }
 
@@ -83,13 +75,7 @@ fn is_single(event: &Event) -> bool
 {
     match *event {
         Event::Idle | Event::Run { .. } | Event::Admit(_) | Event::Due(_) => true,
-        Event::Boot
-        | Event::Enter(_)
-        | Event::Call { .. }
-        | Event::Left { .. }
-        | Event::Back(_)
-        | Event::Stray
-        | Event::Tick(_) => false,
+        _ => false,
     }
 }
 

@@ -94,30 +94,14 @@ module _ (config : Config) (app : App) (past : List Stamped) (s : System) (momen
 
   -- the test decides, where the event is a step
   pub event_of : (e : Event) (k : ℕ) (next : System) → OsekStep config app e s next → event_passes config s moments e k ≡ true → PassesOverArrivals config app past s k e
-  event_of event.Boot k next step h = tt
-  event_of (event.Admit t) k next step h = tt
-  event_of (event.Enter t) k next step h = tt
-  event_of (event.Run t func item result) k next step h = tt
   event_of (event.Call t served status) k next step h = task_of t k step.1.1.top.declared step.1.1.at.active h
   event_of (event.Left t served) k next step h = task_of t k step.1.1.top.declared step.1.1.at.active h
-  event_of (event.Back t) k next step h = tt
-  event_of event.Idle k next step h = tt
-  event_of event.Stray k next step h = tt
-  event_of (event.Due c) k next step h = tt
-  event_of (event.Tick c) k next step h = tt
+  event_of e k next step h = tt
 
   pub event_is : (e : Event) (k : ℕ) (next : System) → OsekStep config app e s next → PassesOverArrivals config app past s k e → event_passes config s moments e k ≡ true
-  event_is event.Boot k next step h = refl
-  event_is (event.Admit t) k next step h = refl
-  event_is (event.Enter t) k next step h = refl
-  event_is (event.Run t func item result) k next step h = refl
   event_is (event.Call t served status) k next step h = task_is t k step.1.1.top.declared step.1.1.at.active step.1.1.top.no_ticks h
   event_is (event.Left t served) k next step h = task_is t k step.1.1.top.declared step.1.1.at.active step.1.1.top.no_ticks h
-  event_is (event.Back t) k next step h = refl
-  event_is event.Idle k next step h = refl
-  event_is event.Stray k next step h = refl
-  event_is (event.Due c) k next step h = refl
-  event_is (event.Tick c) k next step h = refl
+  event_is e k next step h = refl
 
 -- ---- runs, one event more
 

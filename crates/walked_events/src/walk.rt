@@ -117,15 +117,7 @@ impl Walk {
         match *event {
             Event::Call { task, .. } => self.task_passes(task, count),
             Event::Left { task, .. } => self.task_passes(task, count),
-            Event::Boot
-            | Event::Admit(_)
-            | Event::Enter(_)
-            | Event::Run { .. }
-            | Event::Back(_)
-            | Event::Idle
-            | Event::Stray
-            | Event::Due(_)
-            | Event::Tick(_) => true,
+            _ => true,
         }
     }
 
@@ -143,15 +135,7 @@ impl Walk {
                 }
             }
             Event::Enter(task) => Some((task, 0)),
-            Event::Boot
-            | Event::Run { .. }
-            | Event::Call { .. }
-            | Event::Left { .. }
-            | Event::Back(_)
-            | Event::Idle
-            | Event::Stray
-            | Event::Due(_)
-            | Event::Tick(_) => None,
+            _ => None,
         }
     }
 
