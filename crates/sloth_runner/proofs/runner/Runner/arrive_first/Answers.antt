@@ -13,6 +13,5 @@ returns-clause-arrived c =
       state = arrived-is r (image_of r) (count_of r) (take c.args.due r.coming.now) _ c.requires.ran (ap (λ n. take n r.coming.now) c.requires.due) c.arrive_front-self.ensures.state;
       coming = c.arrive_front-self.ensures.behind ∙ ap (λ n. drop n r.coming.now) c.requires.due;
       lines = subst L (sym c.arrive_front-self.ensures.behind) (lines-drop _ r.coming.now c.requires.ran.lines);
-      count = refl;
-      executed = c.arrive_front-self.ensures.count;
+      count = c.arrive_front-self.ensures.count;
     }
