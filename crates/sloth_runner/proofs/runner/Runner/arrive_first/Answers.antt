@@ -1,4 +1,4 @@
-use Rattle.std.proofs.Common.{List, ◌∙◌, ap, take, drop, refl, subst, sym}
+use Rattle.std.proofs.Common.{List, ◌∙◌, ap, take, drop, subst, sym}
 use Rattle.sloth_base.specs.declared.event.Arrival.{Arrival}
 use Rattle.sloth_runner.specs.Moments.{AreLines}
 use Rattle.sloth_runner.specs.Runner.{count_of, image_of}
