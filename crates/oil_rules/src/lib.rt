@@ -2,7 +2,6 @@
 #![tactic(auto)]
 
 mod attribute_faults;
-mod before;
 mod front;
 mod judging;
 mod object_faults;

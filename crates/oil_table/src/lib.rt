@@ -6,6 +6,7 @@ mod numbers;
 pub mod object_limits;
 mod objects;
 mod table;
+mod uses;
 
 pub use alarm_limits::{Limits, is_beyond};
 pub use numbers::names_of;
@@ -14,3 +15,4 @@ pub use objects::{
     number_of,
 };
 pub use table::{Attribute, GREATEST_VALUE, Place, attribute_of, block_place, is_single, is_word};
+pub use uses::{EarlierUses, is_second};
