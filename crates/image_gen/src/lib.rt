@@ -2,7 +2,6 @@
 #![tactic(auto)]
 
 pub mod gathering;
-pub mod generating;
 pub mod image;
 pub mod prologues;
 pub mod services;
