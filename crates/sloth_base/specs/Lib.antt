@@ -17,3 +17,4 @@ pub mod Blocks
 pub mod MemoryMap
 pub mod Owners
 pub mod Stretches
+pub mod DeclaredNames
