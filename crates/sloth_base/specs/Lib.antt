@@ -18,3 +18,4 @@ pub mod MemoryMap
 pub mod Owners
 pub mod Stretches
 pub mod DeclaredNames
+pub mod Ticks
