@@ -96,7 +96,7 @@ pub struct Runner<'a> {
     pub(crate) image: &'a Image,
     pub(crate) machine: Machine<SlothBus>,
     pub(crate) observer: Observer<'a>,
-    // The arrivals of the next moment and of later ones.
+    // The arrivals of the next moment and of later ones. The observer keeps its own place among them, since it may be fed no step.
     pub(crate) coming: &'a [Arrival],
     // The record of the last instruction.
     pub(crate) shown: Step,
