@@ -1,4 +1,3 @@
-pub mod Block
 pub mod Pieces
 pub mod ClearEvent
 pub mod GetEvent

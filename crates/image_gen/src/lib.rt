@@ -6,7 +6,6 @@
 #![tactic(auto)]
 
 pub mod gathering;
-pub mod generating;
 pub mod image;
 pub mod prologues;
 pub mod services;

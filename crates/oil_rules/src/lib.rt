@@ -6,7 +6,6 @@
 #![tactic(auto)]
 
 mod attribute_faults;
-mod before;
 mod front;
 mod judging;
 mod object_faults;

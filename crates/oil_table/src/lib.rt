@@ -11,6 +11,7 @@ pub mod numbers;
 pub mod object_limits;
 pub mod objects;
 pub mod table;
+pub mod uses;
 
 pub use alarm_limits::{Limits, is_beyond};
 pub use numbers::names_of;
@@ -19,3 +20,4 @@ pub use objects::{
     number_of,
 };
 pub use table::{Attribute, GREATEST_VALUE, Place, attribute_of, block_place, is_single, is_word};
+pub use uses::{EarlierUses, is_second};

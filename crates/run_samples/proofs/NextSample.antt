@@ -68,7 +68,7 @@ module _ (s : Sampler) (a c : Runner) (seen last : Option Seen) (interrupts : In
     seen = last-seen;
     step = step;
     behind = sloth_state q.machine;
-    goes = moment-is s.runner c (Goes step (sloth_state q.machine)) h.sampling.ran.executed looked executed.goes;
+    goes = moment-is s.runner c (Goes step (sloth_state q.machine)) looked executed.goes;
     taken = refl;
     interrupts = h.interrupts_is ∙ ap (λ (i : Image). interrupts_in i (sloth_state a.machine)) h.image_is ∙ ap (interrupts_in image) h.arrives.state;
   }
@@ -96,6 +96,6 @@ module _ (s : Sampler) (a c : Runner) (seen last : Option Seen) (interrupts : In
   -- where the machine stops at the instruction
   pub stops-there : (halt : Halt) → HaltsAt c halt → StopsAt image A k halt
   stops-there halt halts n below =
-      let stopped = moment-is s.runner c (Halts halt.stop) h.sampling.ran.executed looked halts.halts in
+      let stopped = moment-is s.runner c (Halts halt.stop) looked halts.halts in
       let pc = halts.pc ∙ ap (λ (x : State). (execution_state x).pc) looked.state in
       ap end_of (stop_halts n k A (start image) m halt.stop below h.sampling.ran.after stopped) ∙ ap (λ p. ends.Stopped p halt.stop) (sym pc)

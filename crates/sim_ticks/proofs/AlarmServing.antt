@@ -6,6 +6,7 @@ use Rattle.std.proofs.lemmas.Bool.{cases_eq, cases_lt, eq-eqb, ne_eqb, le-leb, l
 use Rattle.sloth_base.specs.Machine.{Core, State}
 use Rattle.sloth_base.specs.Named.{counter_of, alarm_declaration, undeclared_alarm, undeclared_counter}
 use Rattle.sloth_base.specs.Status.{E_OK, E_OS_NOFUNC, E_OS_STATE, E_OS_VALUE}
+use Rattle.sloth_base.specs.Ticks.{ticks_to}
 use Rattle.sloth_base.specs.declared.config.CounterDecl.{CounterDecl}
 use Rattle.sloth_base.specs.declared.service.Service.{Service}
 use Rattle.sloth_base.specs.declared.service.Service.TheVariants as service
@@ -18,7 +19,7 @@ use Rattle.alarm_gen.specs.GetAlarm.{HasToldLeft, AlarmTold}
 use Rattle.alarm_gen.specs.SetAlarm.{CycleFits, TicksFit, AlarmValueFits, first_operand, second_operand, ticks_until, HasAlarm, HasNoFit, HasAlarmSet, AlarmSet}
 use Rattle.osek_scheduler.specs.declared.state.Alarm.{Alarm}
 use Rattle.osek_scheduler.specs.State.{Task, System, task, counter, alarm, with_alarm}
-use Rattle.osek_scheduler.specs.Services.{answered_state, answered_state_with, is_in_use, allows_cycle, allows_relative, allows_absolute, ticks_to, is_there, Outcome, GoesOn}
+use Rattle.osek_scheduler.specs.Services.{answered_state, answered_state_with, is_in_use, allows_cycle, allows_relative, allows_absolute, is_there, Outcome, GoesOn}
 use Rattle.osek_scheduler.specs.Outcomes.{outcome}
 use Rattle.sim_relation.specs.Build.{Build, Fits}
 use Rattle.sim_relation.specs.Stands.{Stands}

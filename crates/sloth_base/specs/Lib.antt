@@ -17,3 +17,5 @@ pub mod Blocks
 pub mod MemoryMap
 pub mod Owners
 pub mod Stretches
+pub mod DeclaredNames
+pub mod Ticks

@@ -13,6 +13,7 @@
 pub mod app;
 pub mod config;
 pub mod copy;
+pub mod declared_names;
 pub mod event;
 pub mod image;
 pub mod lines;

@@ -23,7 +23,7 @@ use Rattle.line_words.specs.EventNumbers.{Has32Bits, HasNumbers, IsNumberOrNone,
 use Rattle.trace_text.specs.Texts.{lines_with}
 use Rattle.trace_text.specs.declared.printing.Form.TheVariants as form
 use Rattle.walked_events.specs.TraceText.{HasLine}
-use Rattle.trace_check.specs.Verdicts.{counter_names, func_names, task_names}
+use Rattle.sloth_base.specs.DeclaredNames.{task_names, counter_names, function_names}
 use Rattle.sloth_commands.specs.CheckedRuns.{SoundRunsAreChecked}
 use Rattle.code_rules.specs.AppRange.{AppInRange}
 use Rattle.osek_scheduler.specs.InTime.{IsStamped}
@@ -57,7 +57,7 @@ module _ (config : Config) (app : App) (in_range : AppInRange config app) where
           let none = ap (λ (x : Func). length x.items) (get_or-eq_default app.funcs no_function past) in
           absurd (omega (arith, inside, none))
 
-  func_number : (f item : ℕ) → item < length (function app f).items → IsNameNumber (length (func_names app)) f
+  func_number : (f item : ℕ) → item < length (function app f).items → IsNameNumber (length (function_names app)) f
   func_number f item inside =
       let declared = has_item f item inside in
       let long = length-map app.funcs (λ d. d.name) in
@@ -72,7 +72,7 @@ module _ (config : Config) (app : App) (in_range : AppInRange config app) where
       omega (arith, inside, within, same, few)
 
   -- the numbers of an event that is a step
-  numbers_of : (e : Event) (s next : System) → OsekStep config app e s next → HasValue e → HasNumbers (length (task_names config)) (length (func_names app)) (length (counter_names config)) e
+  numbers_of : (e : Event) (s next : System) → OsekStep config app e s next → HasValue e → HasNumbers (length (task_names config)) (length (function_names app)) (length (counter_names config)) e
   numbers_of (event.Run t f item result) s next step value =
       let at = step.1.at in
       let P : ℕ → ℕ → Type 0 = λ g i. i < length (function app g).items in
@@ -85,13 +85,13 @@ module _ (config : Config) (app : App) (in_range : AppInRange config app) where
   numbers_of e s next step value = numbered (named_task e) (task_declared config app e s next step)
 
   lines_of_run : (n : ℕ) → n ≤ 1000000 → (past events : List Stamped) (s end : System) → Follows config app past s events end → All (IsStamped n) events
-      → AllByRecursion HasValueAt events → All (HasLine (task_names config) (func_names app) (counter_names config)) events
+      → AllByRecursion HasValueAt events → All (HasLine (task_names config) (function_names app) (counter_names config)) events
   lines_of_run n few past [] s end h stamped values = λ k d l. absurd (omega (arith, l))
   lines_of_run n few past (e ∷ events) s end h stamped values =
       let stamp = All-head (IsStamped n) e events stamped in
       let ordered = stamp.ordered in
       let below = stamp.below in
-      All-cons (HasLine (task_names config) (func_names app) (counter_names config)) e events
+      All-cons (HasLine (task_names config) (function_names app) (counter_names config)) e events
       (record { from = omega (arith, ordered, below, few); at = omega (arith, below, few); numbers = numbers_of e.event s h.0 h.1 values.0; prints = refl })
       (lines_of_run n few (past ++ e ∷ []) events h.0 end h.3 (All-tail (IsStamped n) e events stamped) values.1)
 
@@ -106,7 +106,7 @@ runs_are_checked config app image in_range sound items bytes arrivals n are few 
         is =
             ap (λ (l : List (List ℕ)). lines_with l image.funcs image.counters form.Counted events) items.tasks
             ∙ ap (λ (l : List (List ℕ)). lines_with (task_names config) l image.counters form.Counted events) items.functions
-            ∙ ap (λ (l : List (List ℕ)). lines_with (task_names config) (func_names app) l form.Counted events) sound.counters;
+            ∙ ap (λ (l : List (List ℕ)). lines_with (task_names config) (function_names app) l form.Counted events) sound.counters;
       };
       run = run.osek;
       in_time = run.in_time;

@@ -31,8 +31,8 @@ use Rattle.tool_answers.specs.declared.answer.ToolAnswer.{ToolAnswer}
 use Rattle.tool_answers.specs.declared.answer.ToolAnswer.TheVariants as tool_answer
 use Rattle.tool_answers.specs.declared.answer.Outcome.{Outcome}
 use Rattle.tool_answers.specs.declared.answer.TraceFault.{TraceFault}
-use Rattle.trace_check.specs.Inputs.{names_of, IsRefusal}
-use Rattle.trace_check.specs.Verdicts.{counter_names}
+use Rattle.trace_check.specs.Inputs.{IsRefusal}
+use Rattle.sloth_base.specs.DeclaredNames.{task_names, counter_names}
 use Rattle.sloth_commands.specs.Inputs.{input_limit}
 use Rattle.trace_check.specs.Inputs.{AreRead}
 use Rattle.tool_answers.specs.Statuses.{tool_status}
@@ -122,7 +122,7 @@ pub record IsAccepted (old : Files) (c : Building) (config : Config) (app : App)
   pub arr : List ℕ
   pub inputs : AreInputs old c oil src arr
   pub accepted : AreAccepted oil src config app
-  pub read : AreRead (names_of config) (counter_names config) arr arrivals
+  pub read : AreRead (task_names config) (counter_names config) arr arrivals
   -- so they are among those of which an image is sound
   pub in_range : AreArrivals (owners_in config) arrivals
 
@@ -161,7 +161,7 @@ pub record IsBuiltImage (config : Config) (app : App) (image : Image) : Type 0 w
   -- its numbers and names are those of an image file
   pub format : InFormat image
   -- its tasks and counters have the names of the configuration
-  pub names : image.tasks ≡ names_of config
+  pub names : image.tasks ≡ task_names config
   pub counters : image.counters ≡ counter_names config
 
 -- the events that a run of the image shows keep the priority ceiling protocol; a command that runs nothing shows none
@@ -412,5 +412,5 @@ TellsRefused words old new answer =
 abbrev pub IsComplete : List (List ℕ) → World → World → Status → Type 0
 IsComplete words old new answer =
     (c : Building) → IsCommand words (Builds c) → (oil src arr : List ℕ) → AreThere old.files c oil src arr
-    → (config : Config) (app : App) → AreAccepted oil src config app → (arrivals : List Arrival) → AreRead (names_of config) (counter_names config) arr arrivals
+    → (config : Config) (app : App) → AreAccepted oil src config app → (arrivals : List Arrival) → AreRead (task_names config) (counter_names config) arr arrivals
     → CallsWork c config app arrivals old new → EndsAs status.Done words old new answer ⊎ EndsAs status.NoMemory words old new answer

@@ -12,7 +12,6 @@ pub mod datum;
 pub mod items;
 pub mod laws;
 pub mod linking;
-pub mod names;
 pub mod symbols;
 mod writing;
 

@@ -96,9 +96,8 @@ pub struct Runner<'a> {
     pub(crate) image: &'a Image,
     pub(crate) machine: Machine<SlothBus>,
     pub(crate) observer: Observer<'a>,
-    // The arrivals of the next moment and of later ones.
+    // The arrivals of the next moment and of later ones. The observer keeps its own place among them, since it may be fed no step.
     pub(crate) coming: &'a [Arrival],
-    pub(crate) count: u32,
     // The record of the last instruction.
     pub(crate) shown: Step,
 }
@@ -125,7 +124,6 @@ impl<'a> Runner<'a> {
             machine,
             observer,
             coming: arrivals,
-            count: 0,
             shown: blank_step(),
         })
     }
@@ -138,7 +136,7 @@ impl<'a> Runner<'a> {
         ensures image { image_of self.new ≡ image_of self.old }
         ensures observer { self.new.observer ≡ self.old.observer }
     {
-        let due = passing(self.coming, self.count);
+        let due = passing(self.coming, self.machine.count());
         if due > 0 {
             self.arrive_first(due);
         }
@@ -148,7 +146,7 @@ impl<'a> Runner<'a> {
     #[inline(never)]
     fn arrive_first(&mut self, due: usize)
         requires ran { HasRun self.old (image_of self.old) (count_of self.old) }
-        requires due { due ≡ length (arrivals_due self.old.count self.old.coming.now) }
+        requires due { due ≡ length (arrivals_due (count_of self.old) self.old.coming.now) }
         ensures arrived { HasArrived self.old self.new }
         ensures image { image_of self.new ≡ image_of self.old }
         ensures observer { self.new.observer ≡ self.old.observer }
@@ -160,7 +158,6 @@ impl<'a> Runner<'a> {
     #[inline(always)]
     fn record(&mut self) -> Result<(), Halt>
         requires few { count_of self.old < 1000000 }
-        requires executed { self.old.machine.count ≡ count_of self.old }
         ensures ok { OnOk result (HasExecuted self.old self.new self.new.shown) }
         ensures err { IfErr result (HaltsAt self.old) }
         ensures coming { self.new.coming.now ≡ self.old.coming.now }
@@ -168,10 +165,7 @@ impl<'a> Runner<'a> {
         ensures observer { self.new.observer ≡ self.old.observer }
     {
         match self.machine.step_into(&mut self.shown) {
-            Ok(()) => {
-                self.count += 1;
-                Ok(())
-            }
+            Ok(()) => Ok(()),
             Err(stop) => Err(Halt {
                 pc: self.machine.next_pc(),
                 stop,
@@ -182,7 +176,6 @@ impl<'a> Runner<'a> {
     /// One instruction, unless the machine stops at it.
     pub fn execute(&mut self) -> Result<Step, Halt>
         requires few { count_of self.old < 1000000 }
-        requires executed { self.old.machine.count ≡ count_of self.old }
         ensures ok { IfOk result (HasExecuted self.old self.new) }
         ensures err { IfErr result (HaltsAt self.old) }
         ensures coming { self.new.coming.now ≡ self.old.coming.now }
@@ -258,7 +251,7 @@ impl<'a> Runner<'a> {
             form,
             after_idle: false,
         };
-        while self.count < n {
+        while self.machine.count() < n {
             if let Some(end) = self.turn(&mut printer, out)? {
                 return Ok(end);
             }

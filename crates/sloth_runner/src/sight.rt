@@ -59,7 +59,8 @@ impl<'a> Runner<'a> {
         ensures same { self.new ≡ self.old }
     {
         let tasks = self.image.tasks.items().len() as u32;
-        look(&mut self.machine, self.count, tasks)
+        let count = self.machine.count();
+        look(&mut self.machine, count, tasks)
     }
 
     /// What the machine shows of interrupts.
@@ -95,7 +96,7 @@ impl<'a> Runner<'a> {
     {
         let n = instructions_through(k);
         let mut last = None;
-        while self.count < n {
+        while self.machine.count() < n {
             self.arrive_now();
             last = self.look().or(last);
             if let Err(halt) = self.execute() {
