@@ -265,28 +265,28 @@ module _ (task level first frame words : ℕ) (is_task : task < 30) (low_level :
       → Masked (109 + words) (offset_state (vector task) c) (WithArrivals (Entered task level first place frame words) (offset_state (vector task) c))
   starts_it first_aligned may =
       let h = may.enters in
-      let can = h.can_run in
+      let can = h.taken.can_run in
       let to = offset + 4 * length whole in
       let E = Entered task level first place frame words in
       let small = small_offset can in
-      whole_runs E h.jump can h.bases h.masked h.vector_word h.to_code
-      (enters_owe offset to task level place c E (offset_state (vector task) (based c)) rest is_task h.masked h.x2 h.aligned h.behind h.inside h.apart can.behind offset (omega (arith, small))
-      (λ o e. fresh_owe offset to task level first place frame words c is_task h.behind may.kept_none o (memory_base + place) (omega (arith, small, e))
-      (λ o'. starts_owe offset to task level first place frame words c low_level first_fits first_aligned h.masked h.previous h.frame_aligned h.frame_inside h.frame_apart o' 0 1)))
+      whole_runs E h.taken.jump can h.taken.bases h.taken.masked h.taken.vector_word h.taken.to_code
+      (enters_owe offset to task level place c E (offset_state (vector task) (based c)) rest is_task h.taken.masked h.taken.x2 h.taken.aligned h.taken.behind h.taken.inside h.taken.apart can.behind offset (omega (arith, small))
+      (λ o e. fresh_owe offset to task level first place frame words c is_task h.taken.behind may.kept_none o (memory_base + place) (omega (arith, small, e))
+      (λ o'. starts_owe offset to task level first place frame words c low_level first_fits first_aligned h.taken.masked h.taken.previous h.frame_aligned h.frame_inside h.frame_apart o' 0 1)))
 
   resumes_it : (own : ℕ) → MayResume offset task place own whole c → Masked (109 + words) (offset_state (vector task) c) (WithArrivals (Resumed task level place own) (offset_state (vector task) c))
   resumes_it own h =
-      let can = h.can_run in
+      let can = h.taken.can_run in
       let to = offset + 4 * length whole in
       let E = Resumed task level place own in
       let small = small_offset can in
       let kept : IsKept offset task level place own c = record {
         is_task = is_task;
         low_level = low_level;
-        masked = h.masked;
-        previous = h.previous;
-        past = h.behind;
-        inside = h.inside;
+        masked = h.taken.masked;
+        previous = h.taken.previous;
+        past = h.taken.behind;
+        inside = h.taken.inside;
         is = h.resumes;
         aligned = h.own_aligned;
         own_past = h.own_behind;
@@ -295,8 +295,8 @@ module _ (task level first frame words : ℕ) (is_task : task < 30) (low_level :
         returns = h.returns;
         low = can.behind;
       } in
-      whole_runs E h.jump can h.bases h.masked h.vector_word h.to_code
-      (enters_owe offset to task level place c E (offset_state (vector task) (based c)) rest is_task h.masked h.x2 h.aligned h.behind h.inside h.apart can.behind offset (omega (arith, small))
+      whole_runs E h.taken.jump can h.taken.bases h.taken.masked h.taken.vector_word h.taken.to_code
+      (enters_owe offset to task level place c E (offset_state (vector task) (based c)) rest is_task h.taken.masked h.taken.x2 h.taken.aligned h.taken.behind h.taken.inside h.taken.apart can.behind offset (omega (arith, small))
       (λ o e. resumed_owe offset to task level place own c (starts (memory_base + frame) words first) kept o (memory_base + place) 1 (omega (arith, small, e))))
 
 -- so the whole code does one of the two

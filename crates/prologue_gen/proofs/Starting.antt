@@ -142,7 +142,7 @@ module _ (task level first frame words : ℕ) (is_task : task < 30) (low_level :
   -- from the vector word to the first instruction of the task
   pub runs_it : Masked (74 + words) (offset_state (vector task) c) (WithArrivals (Entered task level first place frame words) (offset_state (vector task) c))
   runs_it =
-      let can = h.can_run in
+      let can = h.taken.can_run in
       let long = length-code task level (memory_base + frame) words first in
       let n = words + 73 in
       let e : suc n ≡ 74 + words = omega arith in
@@ -150,13 +150,13 @@ module _ (task level first frame words : ℕ) (is_task : task < 30) (low_level :
       let E = Entered task level first place frame words in
       let own = memory_base + place in
       let fits = can.inside in
-      let all = enters_owe offset to task level place c E (offset_state (vector task) (based c)) (starts (memory_base + frame) words first) is_task h.masked h.x2 h.aligned h.behind h.inside h.apart can.behind offset (omega (arith, fits))
-      (λ o' e. starts_owe offset to task level first place frame words c low_level first_fits first_aligned h.masked h.previous h.frame_aligned h.frame_inside h.frame_apart o' own 1) in
+      let all = enters_owe offset to task level place c E (offset_state (vector task) (based c)) (starts (memory_base + frame) words first) is_task h.taken.masked h.taken.x2 h.taken.aligned h.taken.behind h.taken.inside h.taken.apart can.behind offset (omega (arith, fits))
+      (λ o' e. starts_owe offset to task level first place frame words c low_level first_fits first_aligned h.taken.masked h.taken.previous h.frame_aligned h.frame_inside h.frame_apart o' own 1) in
       subst (λ k. Masked k (offset_state (vector task) c) (WithArrivals E (offset_state (vector task) c))) e
-      (jumps_in (vector task) offset n h.jump whole c E (offset_state (vector task) c) (omega arith) h.vector_word h.to_code
-      (record { masked = h.masked; there = can.controller; lines = can.lines; aligned = can.aligned; fits = can.inside; placed = can.placed })
+      (jumps_in (vector task) offset n h.taken.jump whole c E (offset_state (vector task) c) (omega arith) h.taken.vector_word h.taken.to_code
+      (record { masked = h.taken.masked; there = can.controller; lines = can.lines; aligned = can.aligned; fits = can.inside; placed = can.placed })
       (omega arith)
-      (subst (λ x. Owes offset to offset whole 0 E (offset_state (vector task) x) x) (based_is c can.registers can.zero h.bases) all))
+      (subst (λ x. Owes offset to offset whole 0 E (offset_state (vector task) x) x) (based_is c can.registers can.zero h.taken.bases) all))
 
 -- for each task, level, first instruction and frame
 pub enters : (task level first frame words : ℕ) → task < 30 → level < 32 → first < 2 ^ 32 → words ≤ 32 → Enters task level first frame words (code task level (memory_base + frame) words first)

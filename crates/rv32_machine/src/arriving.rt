@@ -3,7 +3,7 @@ ghost use Rattle.std.specs.Prelude.{◌≡◌, ◌<◌, [], ◌∷◌, IfOk};
 ghost use Rattle.sloth_base.specs.Arrive.{state_arrive};
 ghost use Rattle.sloth_base.specs.ImageRange.{InFormat};
 
-use crate::machine::{Hart, Machine};
+use crate::machine::Machine;
 use machine_memory::SlothBus;
 use sloth_base::image::Image;
 use sloth_base::memory::NoMemory;
@@ -20,21 +20,7 @@ impl Machine<SlothBus> {
         ensures state { IfOk result (λ machine. state (λ bus. bus) machine ≡ start image.now) }
         ensures count { IfOk result (λ machine. machine.count ≡ 0) }
     {
-        let bus = SlothBus::new(alloc, image)?;
-        Ok(Machine {
-            hart: Hart {
-                pc: 0x8000_0480,
-                registers: [0; 32],
-                mie: false,
-                mpie: false,
-                mscratch: 0,
-                mepc: 0,
-                ilevel: 0,
-                plevel: 0,
-            },
-            count: 0,
-            bus,
-        })
+        Ok(Machine::new(SlothBus::new(alloc, image)?))
     }
 
     /// The line's pending byte becomes 1.

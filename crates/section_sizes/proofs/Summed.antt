@@ -27,22 +27,24 @@ pub out_within : (config : Config) (app : App) (level : Option ℕ) (f n : ℕ) 
 out_within config app level f n (out_here l g i k r b) = within_here l g i k r (back_on config app l g i k b)
 out_within config app level f n (out_behind l f' i g k m call inner b) = within_behind l f' i g k m call inner (back_on config app l f' (i + 1) m b)
 
--- ---- the larger of two
+-- ---- the greatest of two at each place
 
-is_right : (x y v : ℕ) → x < y → v ≡ y → v ≡ max x y
-is_right x y v lt e = omega (arith, lt, e)
+-- what holds of each number above 0, the own one or the called one of a place, holds of the greatest of all
+greatest_holds : (P : ℕ → Type 0) (N : ℕ) (own called : ℕ → ℕ) → ((i : ℕ) → 0 < own i → P (own i)) → ((i : ℕ) → i < N → 0 < called i → P (called i))
+    → 0 < max_below N (λ i. max (own i) (called i)) → P (max_below N (λ i. max (own i) (called i)))
+greatest_holds P N own called by_own by_called pos = by (max_below-some N (λ i. max (own i) (called i)))
+  where
+    from : (i : ℕ) → i < N → 0 < max (own i) (called i) → P (max (own i) (called i))
+    from i lt some =
+        ⊎_elim
+        (λ (less : own i < called i). let is : called i ≡ max (own i) (called i) = omega (arith, less) in subst P is (by_called i lt (omega (arith, less))))
+        (λ (le : called i ≤ own i). let is : own i ≡ max (own i) (called i) = omega (arith, le) in subst P is (by_own i (omega (arith, le, some))))
+        (cases_lt (own i) (called i))
 
-is_left : (x y v : ℕ) → y ≤ x → v ≡ x → v ≡ max x y
-is_left x y v le e = omega (arith, le, e)
-
-some_right : (x y v : ℕ) → x < y → y ≡ v → 0 < v
-some_right x y v lt e = omega (arith, lt, e)
-
-some_left : (x y : ℕ) → 0 < max x y → y ≤ x → 0 < x
-some_left x y pos le = omega (arith, pos, le)
-
-above_none : (x y : ℕ) → x < y → 0 < y
-above_none x y lt = omega (arith, lt)
+    by : (max_below N (λ i. max (own i) (called i)) ≡ 0) ⊎ ((i : ℕ) × (i < N) × (max (own i) (called i) ≡ max_below N (λ i. max (own i) (called i))))
+        → P (max_below N (λ i. max (own i) (called i)))
+    by (inl none) = absurd (omega (arith, none, pos))
+    by (inr at_one) = subst P at_one.2 (from at_one.0 at_one.1 (let e = at_one.2 in omega (arith, e, pos)))
 
 -- the functions that a body calls
 pub record Called (config : Config) (app : App) (level : Option ℕ) (f : ℕ) (whole own : List Summary) : Type 0 where
@@ -308,23 +310,9 @@ module _ (config : Config) (app : App) (level : Option ℕ) (f : ℕ) (there : f
                   (a.0 + b.1.0, within_behind level f i g a.0 b.1.0 c a.1 b.1.1, omega (arith, e, d, less))
 
           attains : 0 < most_of K z.on → AttainsWithin (most_of K z.on)
-          attains pos = by (max_below-some N (most_at K z.on))
-            where
-              by : (max_below N (most_at K z.on) ≡ 0) ⊎ ((i : ℕ) × (i < N) × (most_at K z.on i ≡ max_below N (most_at K z.on))) → AttainsWithin (most_of K z.on)
-              by (inl none) = absurd (omega (arith, none, pos))
-              by (inr at_one) = subst AttainsWithin at_one.2 (from at_one.0 at_one.1 (let e = at_one.2 in omega (arith, e, pos)))
-                where
-                  from : (i : ℕ) → i < N → 0 < most_at K z.on i → AttainsWithin (most_at K z.on i)
-                  from i lt some = ⊎_elim
-                      (λ less.
-                      let a = adding i (operation app f i) lt refl (above_none _ _ less) in
-                      let is = a.2 in
-                      let got = from_call i a.0 a.1 (some_right _ _ _ less is) in
-                      (got.0, got.1, is_right _ _ _ less (got.2 ∙ sym is)))
-                      (λ le.
-                      let got = from_on i (some_left _ _ some le) in
-                      (got.0, got.1, is_left _ _ _ le got.2))
-                      (cases_lt (get_or z.on i 0) (called_most K z.on i (operation app f i)))
+          attains =
+              greatest_holds AttainsWithin N (λ i. get_or z.on i 0) (λ i. called_most K z.on i (operation app f i)) from_on
+              (λ i lt pos. let a = adding i (operation app f i) lt refl pos in subst AttainsWithin (sym a.2) (from_call i a.0 a.1 (subst (λ n. 0 < n) a.2 pos)))
 
       pub out_is : IsGreatestPart (CountsOut config app level f) (out_of K z.back)
       out_is = record { none_larger = larger; attained = attains }
@@ -414,23 +402,9 @@ module _ (config : Config) (app : App) (level : Option ℕ) (f : ℕ) (there : f
               (a.1.0, out_here level f i a.1.0 a.0.reached a.1.1, a.1.2)
 
           attains : 0 < out_of K z.back → AttainsOut (out_of K z.back)
-          attains pos = by (max_below-some N (out_at K z.back))
-            where
-              by : (max_below N (out_at K z.back) ≡ 0) ⊎ ((i : ℕ) × (i < N) × (out_at K z.back i ≡ max_below N (out_at K z.back))) → AttainsOut (out_of K z.back)
-              by (inl none) = absurd (omega (arith, none, pos))
-              by (inr at_one) = subst AttainsOut at_one.2 (from at_one.0 at_one.1 (let e = at_one.2 in omega (arith, e, pos)))
-                where
-                  from : (i : ℕ) → i < N → 0 < out_at K z.back i → AttainsOut (out_at K z.back i)
-                  from i lt some = ⊎_elim
-                      (λ less.
-                      let a = adding i (operation app f i) lt refl (above_none _ _ less) in
-                      let is = a.2 in
-                      let got = from_call i a.0 a.1 (some_right _ _ _ less is) in
-                      (got.0, got.1, is_right _ _ _ less (got.2 ∙ sym is)))
-                      (λ le.
-                      let got = from_back i (some_left _ _ some le) in
-                      (got.0, got.1, is_left _ _ _ le got.2))
-                      (cases_lt (get_or z.back i 0) (called_out K z.back i (operation app f i)))
+          attains =
+              greatest_holds AttainsOut N (λ i. get_or z.back i 0) (λ i. called_out K z.back i (operation app f i)) from_back
+              (λ i lt pos. let a = adding i (operation app f i) lt refl pos in subst AttainsOut (sym a.2) (from_call i a.0 a.1 (subst (λ n. 0 < n) a.2 pos)))
 
       -- ---- the summary
 

@@ -26,7 +26,7 @@ use Rattle.sloth_base.specs.Named.{declaration, body_of}
 use Rattle.osek_scheduler.specs.Priority.{is_active}
 use Rattle.osek_scheduler.specs.Services as services
 use Rattle.osek_scheduler.specs.Steps.{OsekStep, settled_state}
-use Rattle.prologue_gen.specs.Fresh.{vector, MayEnter, Entered}
+use Rattle.prologue_gen.specs.Fresh.{vector, IsTaken, MayEnter, Entered}
 use Rattle.prologue_gen.specs.Resumed.{MayResume, Resumed}
 use Rattle.prologue_gen.specs.Places.{DoesEnter}
 use Rattle.prologue_gen.proofs.BothKinds as kinds
@@ -192,6 +192,22 @@ module _ (b : Build) (view : View) (arrivals : List Arrival) (setting : IsSettin
         placed = placed_in b core.ram prologue.offset prologue.code k.fixed.code prologue.placed;
       }
 
+      is_taken : IsTaken prologue.offset t place prologue.code core
+      is_taken = record {
+        can_run = can_run;
+        masked = refl;
+        previous = k.fixed.open_to_lines;
+        bases = k.fixed.bases;
+        jump = prologue.jump;
+        vector_word = placed_in b core.ram (vector t) _ k.fixed.code prologue.vector_word;
+        to_code = prologue.to_code;
+        x2 = spot_is.1;
+        aligned = sp.aligned;
+        behind = sp.behind;
+        inside = sp.inside;
+        apart = code_beside b now found k.stack place prologue.offset prologue.code fits k.active.falling spot_is.1 k.running sizes.0 prologue.placed;
+      }
+
       -- ---- anew
 
       frame_room : (b.low t ≤ frame) × (frame + 4 * words ≡ b.top t) × (b.top t ≤ 2097152) × (frame % 4 ≡ 0) × (b.low t < b.top t)
@@ -202,18 +218,7 @@ module _ (b : Build) (view : View) (arrivals : List Arrival) (setting : IsSettin
       may_enter =
           let g = frame_room in
           record {
-            can_run = can_run;
-            masked = refl;
-            previous = k.fixed.open_to_lines;
-            bases = k.fixed.bases;
-            jump = prologue.jump;
-            vector_word = placed_in b core.ram (vector t) _ k.fixed.code prologue.vector_word;
-            to_code = prologue.to_code;
-            x2 = spot_is.1;
-            aligned = sp.aligned;
-            behind = sp.behind;
-            inside = sp.inside;
-            apart = code_beside b now found k.stack place prologue.offset prologue.code fits k.active.falling spot_is.1 k.running sizes.0 prologue.placed;
+            taken = is_taken;
             frame_aligned = g.3;
             frame_inside = omega arith;
             frame_apart =
@@ -248,20 +253,8 @@ module _ (b : Build) (view : View) (arrivals : List Arrival) (setting : IsSettin
             let to = fits.to t declared in
             let at = r.pc in
             let aligned = fits.items has.frame.func has.frame.item in
-            let start = may_enter in
             record {
-              can_run = start.can_run;
-              masked = start.masked;
-              previous = start.previous;
-              bases = start.bases;
-              jump = start.jump;
-              vector_word = start.vector_word;
-              to_code = start.to_code;
-              x2 = start.x2;
-              aligned = start.aligned;
-              behind = start.behind;
-              inside = start.inside;
-              apart = start.apart;
+              taken = is_taken;
               resumes = r.link;
               own_aligned = r.aligned;
               own_behind = omega arith;

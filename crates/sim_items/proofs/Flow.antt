@@ -11,6 +11,7 @@ use Rattle.sloth_base.specs.declared.app.Label.{Label}
 use Rattle.sloth_base.specs.declared.app.Op.{Op}
 use Rattle.sloth_base.specs.declared.app.Op.TheVariants as op
 use Rattle.sloth_base.specs.declared.image.MarkKind.TheVariants as mark_kind
+use Rattle.code_rules.specs.AppRange.{IsRegister}
 use Rattle.rv32_instr.specs.declared.InstrKind.{InstrKind}
 use Rattle.rv32_instr.specs.declared.InstrKind.TheVariants.{Lui, Addi, Jal, Jalr}
 use Rattle.rv32_instr.specs.declared.effect.Effect.TheVariants.{Branch, Write}
@@ -26,7 +27,7 @@ use Rattle.osek_scheduler.specs.State.{Frame}
 use Rattle.osek_scheduler.specs.Meaning.{meaning, register, target, goes_to, on_some}
 use Rattle.sim_relation.specs.Build.{Build, Fits}
 use Rattle.sim_relation.specs.Position.{Thread, HasTarget, HasScratch, thread_of}
-use Rattle.sim_items.specs.Place.{FunctionStands, IsTaskRegister, IsTarget, IsFlow}
+use Rattle.sim_items.specs.Place.{FunctionStands, IsTarget, IsFlow}
 use Rattle.sim_items.proofs.Distances.{arrives, jumps_to, IsInRam, item_in_ram, test_effect, opposite_holds}
 use Rattle.sim_items.proofs.Preparing.{Prepares, prepares}
 use Rattle.sim_items.proofs.Values.{own_meaning}
@@ -78,7 +79,7 @@ pub record Turns (b : Build) (state : State) (own : List ℕ) (symbols : List (L
       ≡ Some (record { registers = own; frames = record frame { item = item } ∷ outer; symbols = symbols; result = 0 })
 
 module _ (b : Build) (view : View) (fits : Fits b) (state : State) (own : List ℕ) (symbols : List (List ℕ)) (frame : Frame) (outer : List Frame) (wide : length state.core.registers ≡ 32)
-    (agree : (r : ℕ) → IsTaskRegister r → slice_index state.core.registers r ≡ register own r) (inside : frame.item < length (function b.app frame.func).items)
+    (agree : (r : ℕ) → IsRegister r → slice_index state.core.registers r ≡ register own r) (inside : frame.item < length (function b.app frame.func).items)
     (stand : FunctionStands b view frame.func) where
   abbrev x : List ℕ
   x = state.core.registers

@@ -6,6 +6,7 @@ use Rattle.sloth_base.specs.Machine.{State}
 use Rattle.sloth_base.specs.Named.{operation}
 use Rattle.sloth_base.specs.declared.app.Op.{Op}
 use Rattle.sloth_base.specs.declared.event.Arrival.{Arrival}
+use Rattle.code_rules.specs.AppRange.{IsRegister}
 use Rattle.rv32_instr.specs.Encode.{Encode}
 use Rattle.expansion_parts.specs.Expansion.{item_address, is_long, expansion}
 use Rattle.observe.specs.Observe.{View}
@@ -13,7 +14,7 @@ use Rattle.osek_scheduler.specs.State.{Frame, System, task}
 use Rattle.osek_scheduler.specs.Meaning.{register}
 use Rattle.sim_relation.specs.Build.{Build}
 use Rattle.sim_relation.specs.Stands.{Stands}
-use Rattle.sim_items.specs.Place.{AtItem, FunctionStands, IsTaskRegister, IsFlow}
+use Rattle.sim_items.specs.Place.{AtItem, FunctionStands, IsFlow}
 use Rattle.sim_items.specs.Outside.{StandsAt, GoesOutside}
 use Rattle.sim_items.specs.Progress.{progress_in}
 use Rattle.sim_items.proofs.InRam as code
@@ -47,7 +48,7 @@ module _ (b : Build) (view : View) (arrivals : List Arrival) (count : ℕ) (stat
   abbrev own : List ℕ
   own = (task s1 t).registers
 
-  agree : (r : ℕ) → IsTaskRegister r → slice_index n.core.registers r ≡ register own r
+  agree : (r : ℕ) → IsRegister r → slice_index n.core.registers r ≡ register own r
   agree = own_agrees n.core.registers own now.fixed.zero item.context.registers
 
   abbrev size : ℕ

@@ -9,6 +9,7 @@ use Rattle.sloth_base.specs.declared.app.Op.{Op}
 use Rattle.sloth_base.specs.declared.app.Op.TheVariants as op
 use Rattle.sloth_base.specs.declared.event.Arrival.{Arrival}
 use Rattle.sloth_base.specs.declared.image.Mark.{Mark}
+use Rattle.code_rules.specs.AppRange.{IsRegister}
 use Rattle.rv32_instr.specs.Effect.{effect}
 use Rattle.rv32_instr.specs.Encode.{Encode}
 use Rattle.rv32_instr.specs.Execute.{Going, step, touched, touched_line_by, perform, jumps}
@@ -27,7 +28,7 @@ use Rattle.sim_induction.specs.PieceLaws.{seen_step_at}
 use Rattle.sim_relation.specs.Build.{Build}
 use Rattle.sim_relation.specs.Position.{HasMask, HasScratch, thread_of}
 use Rattle.sim_relation.specs.Stands.{Stands}
-use Rattle.sim_items.specs.Place.{AtItem, IsTaskRegister, ItemStands}
+use Rattle.sim_items.specs.Place.{AtItem, ItemStands}
 use Rattle.sim_items.specs.Outside.{StandsAt, GoesOutside, JumpsWithMask}
 use Rattle.sim_items.specs.Progress.{progress_in}
 use Rattle.sim_items.proofs.Distances.{arrives}
@@ -96,7 +97,7 @@ module _ (b : Build) (view : View) (arrivals : List Arrival) (count : ℕ) (stat
   three : size ≡ 3
   three = ap (λ (c : List InstrKind). length c) item_expands
 
-  agree : (r : ℕ) → IsTaskRegister r → slice_index x r ≡ register own r
+  agree : (r : ℕ) → IsRegister r → slice_index x r ≡ register own r
   agree = own_agrees x own now.fixed.zero item.context.registers
 
   scratch : HasMask mask item.here.done (thread_of n)

@@ -8,6 +8,7 @@ use Rattle.sloth_base.specs.Machine.{State}
 use Rattle.sloth_base.specs.declared.app.Op.{Op}
 use Rattle.sloth_base.specs.declared.app.Op.TheVariants as op
 use Rattle.sloth_base.specs.declared.app.Width.{Width}
+use Rattle.code_rules.specs.AppRange.{IsRegister}
 use Rattle.rv32_instr.specs.Access.{load, store}
 use Rattle.rv32_instr.specs.declared.InstrKind.{InstrKind}
 use Rattle.rv32_instr.specs.declared.InstrKind.TheVariants.{Lui, Addi, Andi, Add, And}
@@ -23,7 +24,7 @@ use Rattle.osek_scheduler.specs.State.{Frame}
 use Rattle.osek_scheduler.specs.Meaning.{register}
 use Rattle.sim_relation.specs.Build.{Build}
 use Rattle.sim_relation.specs.Position.{Thread, HasIndexed, HasFarIndexed, HasScratch, thread_of}
-use Rattle.sim_items.specs.Place.{IsTaskRegister, IsStraight}
+use Rattle.sim_items.specs.Place.{IsStraight}
 use Rattle.sim_items.proofs.Cases.{straight_cases}
 use Rattle.sim_items.proofs.Masked.{load_near, load_far, store_near, store_far}
 use Rattle.sim_items.proofs.Registers.{written}
@@ -53,7 +54,7 @@ pub record Holds (x : List ℕ) (rd value : ℕ) (th : Thread) : Type 0 where
   pub others : (i : ℕ) → i ≢ rd → th.x i ≡ slice_index x i
 
 module _ (b : Build) (state : State) (own : List ℕ) (frame : Frame) (long : Bool) (wide : length state.core.registers ≡ 32)
-    (agree : (r : ℕ) → IsTaskRegister r → slice_index state.core.registers r ≡ register own r) where
+    (agree : (r : ℕ) → IsRegister r → slice_index state.core.registers r ≡ register own r) where
   abbrev x : List ℕ
   x = state.core.registers
 
@@ -110,7 +111,7 @@ module _ (b : Build) (state : State) (own : List ℕ) (frame : Frame) (long : Bo
 
   -- ---- the address of a masked index
 
-  module _ (o : Op) (index mask address : ℕ) (last : InstrKind) (own_index : IsTaskRegister index) where
+  module _ (o : Op) (index mask address : ℕ) (last : InstrKind) (own_index : IsRegister index) where
     abbrev masked : ℕ
     masked = bit_and (register own index) mask
 

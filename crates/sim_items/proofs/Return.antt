@@ -57,6 +57,15 @@ return_mark : (b : Build) (func item address : ℕ) (o : Op) → o ≡ op.Return
 return_mark b func item address o e =
     subst (λ v. mark_of v address func item ≡ record { address = address; kind = mark_kind.Item; a = result_register v; b = func; c = item }) (sym e) refl
 
+-- the caller's frame stands behind the words of the one that returns
+caller_behind : (b : Build) (ram : List ℕ) (frame caller : Frame) (outer rest : List Frame) (place top : ℕ) → outer ≡ caller ∷ rest → AreFrames b ram frame outer place top
+    → AreOuterFrames b ram (caller ∷ rest) (place + 4 * (function b.app frame.func).frame_words) top
+caller_behind b ram frame caller outer rest place top called_by stood =
+    let long = stood.0 in
+    let spot = place + 4 * (function b.app frame.func).frame_words in
+    let e : place + 4 * length frame.words ≡ spot = omega arith in
+    subst (λ o. AreOuterFrames b ram o spot top) called_by (subst (λ p. AreOuterFrames b ram outer p top) e stood.2)
+
 -- ---- the first instruction
 
 module _ (b : Build) (view : View) (arrivals : List Arrival) (count : ℕ) (state : State) (s : System) (here : StandsAt b view arrivals count state s)
@@ -97,10 +106,7 @@ module _ (b : Build) (view : View) (arrivals : List Arrival) (count : ℕ) (stat
   spot = item.place + 4 * words
 
   outer_at : AreOuterFrames b n.core.ram (caller ∷ rest) spot (b.top t)
-  outer_at =
-      let long = item.stood.0 in
-      let e : item.place + 4 * length item.frame.words ≡ spot = omega arith in
-      subst (λ o. AreOuterFrames b n.core.ram o spot (b.top t)) called_by (subst (λ p. AreOuterFrames b n.core.ram item.outer p (b.top t)) e item.stood.2)
+  outer_at = caller_behind b n.core.ram item.frame caller item.outer rest item.place (b.top t) called_by item.stood
 
   link_spot : IsPlaceOf width.Word (plus (slice_index x 2) (pos (4 * words))) spot
   link_spot =
@@ -203,10 +209,7 @@ module _ (b : Build) (view : View) (arrivals : List Arrival) (count : ℕ) (stat
     up = item.place + (4 + 4 * size)
 
     outer_up : AreOuterFrames b ram (r.caller ∷ r.rest) (item.place + 4 * size) (b.top t)
-    outer_up =
-        let long = frames.0 in
-        let e : item.place + 4 * length item.frame.words ≡ item.place + 4 * size = omega arith in
-        subst (λ o. AreOuterFrames b ram o (item.place + 4 * size) (b.top t)) r.called_by (subst (λ p. AreOuterFrames b ram item.outer p (b.top t)) e frames.2)
+    outer_up = caller_behind b ram item.frame r.caller item.outer r.rest item.place (b.top t) r.called_by frames
 
     caller_stands : AreFrames b ram r.caller r.rest up (b.top t)
     caller_stands =

@@ -28,6 +28,7 @@ use Rattle.sim_relation.specs.Moves.{changed_system, WholeMachine}
 use Rattle.sim_relation.proofs.Parts.{other_task, by_element, by_task, falling_kept, running_tasks, rests, anew}
 use Rattle.sim_relation.proofs.Rebuilt.{among, rebuilt}
 use Rattle.sim_relation.proofs.Aside.{aside}
+use Rattle.sim_relation.proofs.Machines.{changed_machine}
 use Rattle.sim_relation.proofs.ClockKept.{line_stands, no_task, in_range}
 
 -- the arrival of a counter's line makes the counter due
@@ -70,19 +71,8 @@ not_suspended (mode.Waiting w) x y n = refl
 
 -- an arrival leaves of the machine all but a pending byte
 arrived_machine : (b : Build) (state : State) (s : System) → Stands b state s → (l : ℕ) → WholeMachine state (state_arrive (l ∷ []) state)
-arrived_machine b state s k l = record {
-  ram = refl;
-  registers = refl;
-  zero = refl;
-  pending = length-set state.core.pending l 1;
-  enabled = refl;
-  levels = refl;
-  controller = refl;
-  open_to_lines = k.fixed.open_to_lines;
-  previous = k.fixed.previous;
-  same_level = k.fixed.same_level;
-  bases = k.fixed.bases;
-}
+arrived_machine b state s k l =
+    changed_machine b state k.fixed state.pc state.core.ram (set state.core.pending l 1) state.core.enabled refl (length-set state.core.pending l 1) refl
 
 module _ (b : Build) (state : State) (s : System) (l : ℕ) (k : Stands b state s) (inside : l < length b.config.tasks) (few : length b.config.tasks ≤ 32) where
   abbrev now : State
@@ -181,19 +171,7 @@ pub stands_fresh : (b : Build) (state : State) (s : System) (fresh : List ℕ) �
 stands_fresh b state s fresh k =
     aside b state state s k s.clock fresh
     (record {
-      machine = record {
-        ram = refl;
-        registers = refl;
-        zero = refl;
-        pending = refl;
-        enabled = refl;
-        levels = refl;
-        controller = refl;
-        open_to_lines = k.fixed.open_to_lines;
-        previous = k.fixed.previous;
-        same_level = k.fixed.same_level;
-        bases = k.fixed.bases;
-      };
+      machine = changed_machine b state k.fixed state.pc state.core.ram state.core.pending state.core.enabled refl refl refl;
       code = λ i x. refl;
       running = k.running;
       pending = λ t h. refl;

@@ -26,6 +26,7 @@ use Rattle.sim_relation.specs.ServiceWords.{IsWaitWord}
 use Rattle.sim_relation.specs.Stands.{Stands, AreLineBytes}
 use Rattle.sim_relation.proofs.Arrive.{is_suspended, not_suspended}
 use Rattle.sim_relation.proofs.Changing.{change_stands}
+use Rattle.sim_relation.proofs.Machines.{changed_machine}
 use Rattle.sim_relation.proofs.Parts.{word_other}
 use Rattle.sim_services.proofs.Raising.{looks, is_so, readied, stayed}
 use Rattle.sim_services.proofs.TaskAfter.{state_after, after_active, after_awake, after_none, some_line, some_word, woken_is}
@@ -118,19 +119,7 @@ module _ (b : Build) (end : State) (fits : Fits b) where
           record {
             same_active = same_active;
             awake = awake;
-            machine = record {
-              ram = length-with_word g.ram (events t) word;
-              registers = refl;
-              zero = refl;
-              pending = long_p;
-              enabled = long_e;
-              levels = refl;
-              controller = refl;
-              open_to_lines = k.fixed.open_to_lines;
-              previous = k.fixed.previous;
-              same_level = k.fixed.same_level;
-              bases = k.fixed.bases;
-            };
+            machine = changed_machine b (at g) k.fixed end.pc after.ram pending enabled (length-with_word g.ram (events t) word) long_p long_e;
             pc = refl;
             registers = refl;
             level = refl;
