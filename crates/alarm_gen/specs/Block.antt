@@ -1,13 +1,30 @@
--- What the code of services on alarms does.
-use Rattle.std.specs.Prelude.{ℕ, List}
+-- Blocks of services on alarms.
+use Rattle.std.specs.Prelude.{ℕ, ◌<◌, List, [], length}
 use Rattle.sloth_base.specs.declared.config.Config.{Config}
+use Rattle.sloth_base.specs.declared.image.Mark.{Mark}
+use Rattle.sloth_base.specs.declared.service.ObjectKind.{ObjectKind}
+use Rattle.sloth_base.specs.declared.service.ObjectKind.TheVariants as object
 use Rattle.sloth_base.specs.declared.service.Service.{Service}
 use Rattle.sloth_base.specs.declared.service.Service.TheVariants.{SetRelAlarm, SetAbsAlarm, CancelAlarm, GetAlarm}
 use Rattle.sloth_base.specs.Named.{alarm_declaration, counter_of}
+use Rattle.sloth_base.specs.ServiceCodes.{object_kind}
 use Rattle.rv32_instr.specs.declared.InstrKind.{InstrKind}
 use Rattle.alarm_gen.specs.SetAlarm.{SetsRelative, SetsAbsolute}
 use Rattle.alarm_gen.specs.CancelAlarm.{CancelsAlarm}
 use Rattle.alarm_gen.specs.GetAlarm.{TellsAlarm}
+
+-- an object of this kind is an alarm of the configuration
+abbrev pub IsAlarmOf : Config → ObjectKind → ℕ → Type 0
+IsAlarmOf config object.Alarm number = number < length config.alarms
+IsAlarmOf config kind number = ⊥
+
+-- the services on alarms, each with an alarm
+abbrev pub HasAlarmBlock : Config → Service → ℕ → Type 0
+HasAlarmBlock config service object = IsAlarmOf config (object_kind service) object
+
+-- no mark follows the opening
+abbrev pub no_marks : ℕ → List Mark
+no_marks at = []
 
 -- the code of a service with its alarm has the service's effect
 abbrev pub ServesAlarm : Config → Service → ℕ → List InstrKind → Type 0

@@ -6,32 +6,36 @@
 #![tactic(auto)]
 
 ghost use Rattle.std.specs.Prelude.{◌≡◌, ◌<◌, [], IfOk, length, slice_index};
-ghost use Rattle.code_lengths.specs.CodeLengths.{tick_length};
+ghost use Rattle.code_lengths.specs.CodeLengths.{service_length, tick_length};
 ghost use Rattle.sloth_base.specs.ConfigRange.{InRange};
 ghost use Rattle.sloth_base.specs.Named.{counter_declaration};
 ghost use Rattle.sloth_base.specs.Owners.{counter_line};
+ghost use Rattle.block_parts.specs.ServiceBlock.{IsServiceBlock};
 ghost use Rattle.alarm_gen.specs.Alarms.{counter_alarms};
+ghost use Rattle.alarm_gen.specs.Block.{HasAlarmBlock, ServesAlarm, no_marks};
 ghost use Rattle.alarm_gen.specs.Tick.{Ticks};
 
 mod actions;
 pub mod alarms;
-pub mod cancel_alarm;
-pub mod get_alarm;
+mod cancel_alarm;
+mod get_alarm;
 mod looks;
 mod pieces;
-pub mod set_abs_alarm;
-pub mod set_rel_alarm;
+mod set_abs_alarm;
+mod set_rel_alarm;
 mod tick_code;
 
 use crate::alarms::alarms_of;
-use rv32_instr::Block;
+use block_parts::marks::opening;
+use rv32_instr::{Block, Instr};
 use sloth_base::config::Config;
 use sloth_base::lines::COUNTER_LINE;
 use sloth_base::list::List;
 use sloth_base::memory::NoMemory;
-use sloth_base::places::Levels;
+use sloth_base::places::{Levels, block_number};
+use sloth_base::service::Service;
 use sloth_region::map::Map;
-use std::alloc::Global;
+use std::alloc::{AllocError, Global};
 
 /// The block of the tick of a counter, 0 or 1, at the address of the handler of its line: 11 instructions, and at most 34 for each alarm of the
 /// counter. It saves no register. `NoMemory` where memory is wanting, and no other error.
@@ -57,4 +61,64 @@ pub fn tick(
         code: List::from_vec(code),
         marks: List::from_vec(Vec::new(alloc)),
     })
+}
+
+/// The block of a service on alarms with its alarm, 0 to 31, at its address in the map. Its first instruction, under an opening mark, masks
+/// interrupts. `NoMemory` where memory is wanting, and no other error.
+pub fn block(
+    alloc: Global,
+    service: Service,
+    object: u32,
+    config: &Config,
+    levels: &Levels,
+    map: &Map,
+) -> Result<Block, NoMemory>
+    requires alarm { HasAlarmBlock config.now service object }
+    requires range { InRange config.now }
+    ensures block { IfOk result (IsServiceBlock service object map.now.places.blocks no_marks) }
+    ensures effect { IfOk result (λ block. ServesAlarm config.now service object block.code) }
+{
+    let at = map.places.blocks[block_number(service, object)];
+    let code = code(alloc, service, object, config)?;
+    let marks = Vec::from_slice(alloc, &[opening(at, service)])?;
+    Ok(Block {
+        at,
+        code: List::from_vec(code),
+        marks: List::from_vec(marks),
+    })
+}
+
+/// The instructions.
+fn code(
+    alloc: Global,
+    service: Service,
+    alarm: u32,
+    config: &Config,
+) -> Result<Vec<Instr>, AllocError>
+    requires alarm { HasAlarmBlock config.now service alarm }
+    requires range { InRange config.now }
+    ensures long { IfOk result (λ code. length code.items ≡ service_length service) }
+    ensures serves { IfOk result (λ code. ServesAlarm config.now service alarm code.items) }
+{
+    let counter = config.alarms.items()[alarm as usize].counter;
+    let declared = &config.counters.items()[counter as usize];
+    let number = alarm as u8;
+    match service {
+        Service::SetRelAlarm => set_rel_alarm::code(
+            alloc,
+            number,
+            declared.max,
+            declared.min_cycle,
+        ),
+        Service::SetAbsAlarm => set_abs_alarm::code(
+            alloc,
+            number,
+            counter as u8,
+            declared.max,
+            declared.min_cycle,
+        ),
+        Service::CancelAlarm => cancel_alarm::code(alloc, number),
+        Service::GetAlarm => get_alarm::code(alloc, number),
+        _ => unreachable!(),
+    }
 }

@@ -4,6 +4,7 @@ pub mod ServiceBlock
 pub mod Pieces
 pub mod Marks
 pub mod Looks
+pub mod Objects
 pub mod Alarms
 pub mod Boot
 pub mod Events

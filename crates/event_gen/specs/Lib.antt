@@ -1,3 +1,4 @@
+pub mod Block
 pub mod Pieces
 pub mod ClearEvent
 pub mod GetEvent

@@ -21,8 +21,8 @@ use Rattle.code_rules.specs.WellFormed.{WellFormed}
 use Rattle.code_rules.proofs.Objects.{object_number}
 use Rattle.stack_bounds.specs.Bounds.{AreBounds}
 use Rattle.rv32_expand.specs.InPlace.{IsItem}
+use Rattle.block_parts.proofs.Objects.{code_few}
 use Rattle.service_blocks.specs.Calls.{IsOfKind, IsCalledWith}
-use Rattle.service_blocks.proofs.Calls.{few_objects}
 use Rattle.mem_map.specs.Wanted.{wanted_blocks}
 use Rattle.mem_map.proofs.Callers.{called, marked}
 use Rattle.mem_map.proofs.Wanting.{all_places, at_place}
@@ -47,6 +47,13 @@ called_with config app well func item call is e =
     let own = (well.in_range.bodies func no_function is.declared).items item no_item is.inside in
     let operands : AreOperands config call.service call.object call.mask = subst (IsOp config app (function app func)) e own in
     has_code config well.in_range.configuration (object_kind call.service) call.object operands.0
+
+-- objects have small numbers
+few_of_kind : (config : Config) → InRange config → (kind : ObjectKind) (number : ℕ) → IsOfKind config kind number → number ≤ 32
+few_of_kind config range object.Nothing number h = code_few object.Nothing number h
+few_of_kind config range object.Task number h = code_few object.Task number h
+few_of_kind config range object.Resource number h = code_few object.Resource number h
+few_of_kind config range object.Alarm number h = let few = range.few_alarms in omega (arith, h, few)
 
 -- ---- marks
 
@@ -85,7 +92,7 @@ module _ (config : Config) (app : App) (well : WellFormed config app) where
   served number is =
       let c = marked app (wanted_blocks app) (all_places app) (at_place app) number is in
       let has = called_with config app well c.func c.item c.call c.is_item c.is in
-      let small = few_objects config well.in_range.configuration c.call.service c.call.object has in
+      let small = few_of_kind config well.in_range.configuration (object_kind c.call.service) c.call.object has in
       let n = c.numbered in
       let code : block_code number ≡ code_of c.call.service = omega (arith, small, n) in
       let object : block_object number ≡ c.call.object = omega (arith, small, n) in
@@ -95,6 +102,6 @@ module _ (config : Config) (app : App) (well : WellFormed config app) where
   pub calls : (func item : ℕ) (call : Call) → IsItem app func item → operation app func item ≡ op.Serve call
       → (call.object < block_objects) × (get_or (wanted_blocks app) (block_number call.service call.object) false ≡ true)
   calls func item call is e =
-      let small = few_objects config well.in_range.configuration call.service call.object (called_with config app well func item call is e) in
+      let small = few_of_kind config well.in_range.configuration (object_kind call.service) call.object (called_with config app well func item call is e) in
       let code = code_small call.service in
       (omega (arith, small), at_place app (block_number call.service call.object) (omega (arith, small, code)) ∙ called app func item call is e)

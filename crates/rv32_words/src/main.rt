@@ -3,9 +3,11 @@
 #![tactic(auto)]
 
 ghost use Rattle.std.specs.Prelude.{ℕ, ◌≡◌, ◌<◌, ◌≤◌, All, length, slice_index};
+ghost use Rattle.alarm_gen.specs.Block.{HasAlarmBlock};
+ghost use Rattle.event_gen.specs.Block.{HasEventBlock as HasEventBlock};
 ghost use Rattle.sloth_base.specs.ConfigRange.{InRange};
 ghost use Rattle.prologue_gen.specs.Places.{IsStackTop};
-ghost use Rattle.service_blocks.specs.Calls.{IsCalledWith};
+ghost use Rattle.service_gen.specs.Block.{HasBlock};
 ghost use Rattle.vector_gen.specs.Vectors.{AreInReach};
 
 mod instructions;
@@ -17,7 +19,7 @@ use crate::kernel::{app, clock, config, levels, map};
 use crate::listing::list;
 use prologue_gen::prologue;
 use rv32_instr::Block;
-use service_blocks::block;
+use service_gen::block;
 use sloth_base::config::Config;
 use sloth_base::memory::NoMemory;
 use sloth_base::numbers::TaskId;
@@ -82,8 +84,8 @@ fn list_tick(
     list(rt, "tick", code)
 }
 
-// A service's block.
-fn list_service(
+// The block of a service on alarms.
+fn list_alarm_service(
     rt: &(impl Print + AllocGlobal),
     service: Service,
     object: u32,
@@ -91,10 +93,9 @@ fn list_service(
     levels: &Levels,
     map: &Map,
 ) -> anyhow::Result<()>
-    requires called { IsCalledWith config.now service object }
-    requires range { InRange config.now }
+    requires { HasAlarmBlock config.now service object × InRange config.now }
 {
-    let code = block(rt.alloc(), service, object, config, levels, map)?;
+    let code = alarm_gen::block(rt.alloc(), service, object, config, levels, map)?;
     list(rt, "service", code)
 }
 
@@ -108,12 +109,12 @@ fn list_alarm_services(
     requires range { InRange config.now }
     requires three { length config.now.alarms ≡ 3 }
 {
-    list_service(rt, Service::SetRelAlarm, 0, config, levels, map)?;
-    list_service(rt, Service::SetRelAlarm, 2, config, levels, map)?;
-    list_service(rt, Service::SetAbsAlarm, 0, config, levels, map)?;
-    list_service(rt, Service::SetAbsAlarm, 2, config, levels, map)?;
-    list_service(rt, Service::CancelAlarm, 2, config, levels, map)?;
-    list_service(rt, Service::GetAlarm, 2, config, levels, map)
+    list_alarm_service(rt, Service::SetRelAlarm, 0, config, levels, map)?;
+    list_alarm_service(rt, Service::SetRelAlarm, 2, config, levels, map)?;
+    list_alarm_service(rt, Service::SetAbsAlarm, 0, config, levels, map)?;
+    list_alarm_service(rt, Service::SetAbsAlarm, 2, config, levels, map)?;
+    list_alarm_service(rt, Service::CancelAlarm, 2, config, levels, map)?;
+    list_alarm_service(rt, Service::GetAlarm, 2, config, levels, map)
 }
 
 // The prologue of a task that is extended or basic, preemptable or not, with a frame of so many words.
@@ -169,6 +170,21 @@ fn list_prologue_of(
     list(rt, "prologue", code)
 }
 
+// A service's block.
+fn list_service(
+    rt: &(impl Print + AllocGlobal),
+    service: Service,
+    object: u32,
+    config: &Config,
+    levels: &Levels,
+    map: &Map,
+) -> anyhow::Result<()>
+    requires { HasBlock service object }
+{
+    let code = block(rt.alloc(), service, object, config, levels, map)?;
+    list(rt, "service", code)
+}
+
 // The blocks of the services on tasks and resources: those on a task for the tasks 0 and 29, GetResource's for the resources 1 and 32,
 // ReleaseResource's for 0 and 32, the others once, of them Schedule's with its way back.
 fn list_services(
@@ -176,9 +192,7 @@ fn list_services(
     config: &Config,
     levels: &Levels,
     map: &Map,
-) -> anyhow::Result<()>
-    requires { InRange config.now }
-{
+) -> anyhow::Result<()> {
     list_service(rt, Service::ActivateTask, 0, config, levels, map)?;
     list_service(rt, Service::ActivateTask, 29, config, levels, map)?;
     list_service(rt, Service::TerminateTask, 0, config, levels, map)?;
@@ -194,21 +208,34 @@ fn list_services(
     list_service(rt, Service::ReleaseResource, 32, config, levels, map)
 }
 
+// The block of a service on events.
+fn list_event_service(
+    rt: &(impl Print + AllocGlobal),
+    service: Service,
+    object: u32,
+    config: &Config,
+    levels: &Levels,
+    map: &Map,
+) -> anyhow::Result<()>
+    requires { HasEventBlock service object }
+{
+    let code = event_gen::block(rt.alloc(), service, object, config, levels, map)?;
+    list(rt, "service", code)
+}
+
 // The blocks of the services on events: those on a task for the tasks 0 and 29, the others once.
 fn list_event_services(
     rt: &(impl Print + AllocGlobal),
     config: &Config,
     levels: &Levels,
     map: &Map,
-) -> anyhow::Result<()>
-    requires { InRange config.now }
-{
-    list_service(rt, Service::SetEvent, 0, config, levels, map)?;
-    list_service(rt, Service::SetEvent, 29, config, levels, map)?;
-    list_service(rt, Service::ClearEvent, 0, config, levels, map)?;
-    list_service(rt, Service::GetEvent, 0, config, levels, map)?;
-    list_service(rt, Service::GetEvent, 29, config, levels, map)?;
-    list_service(rt, Service::WaitEvent, 0, config, levels, map)
+) -> anyhow::Result<()> {
+    list_event_service(rt, Service::SetEvent, 0, config, levels, map)?;
+    list_event_service(rt, Service::SetEvent, 29, config, levels, map)?;
+    list_event_service(rt, Service::ClearEvent, 0, config, levels, map)?;
+    list_event_service(rt, Service::GetEvent, 0, config, levels, map)?;
+    list_event_service(rt, Service::GetEvent, 29, config, levels, map)?;
+    list_event_service(rt, Service::WaitEvent, 0, config, levels, map)
 }
 
 // Boot in each form, and the prologues of a basic and of an extended task: where it is preemptable, with a frame of 0 words and of 1;
@@ -248,9 +275,7 @@ fn list_blocks_of(
     config: &Config,
     levels: &Levels,
     map: &Map,
-) -> anyhow::Result<()>
-    requires { InRange config.now }
-{
+) -> anyhow::Result<()> {
     list_services(rt, config, levels, map)?;
     list_event_services(rt, config, levels, map)
 }
