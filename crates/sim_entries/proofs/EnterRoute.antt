@@ -12,7 +12,7 @@ use Rattle.sloth_base.specs.Take.{take, line_to_take, entry_state, execution_sta
 use Rattle.sloth_base.specs.Owners.{owners_in, IsOwned}
 use Rattle.sloth_base.specs.Stretches.{Takes, later_beginning, stretch_limit}
 use Rattle.sloth_base.specs.declared.lines.Owners.{Owners}
-use Rattle.sloth_base.proofs.Stretches.{task_limit}
+use Rattle.sloth_base.proofs.Stretches.{task_entry_limit}
 use Rattle.rv32_instr.specs.Execute.{touched}
 use Rattle.rv32_machine.specs.Run.{state_with_arrivals}
 use Rattle.masked_code.specs.Kernel.{CanRun}
@@ -178,7 +178,7 @@ module _ (b : Build) (view : View) (arrivals : List Arrival) (setting : IsSettin
       sizes = kinds.size (declaration b.config t).extended t (start_level b t) first frame words prologue.code prologue.enters
 
       short : suc (108 + words) ≤ stretch_limit b.config (Takes t)
-      short = let w = prologue.few_words in let l = task_limit b.config t declared in omega arith
+      short = let w = prologue.few_words in let l = task_entry_limit b.config t declared in omega arith
 
       can_run : CanRun prologue.offset prologue.code core
       can_run = record {

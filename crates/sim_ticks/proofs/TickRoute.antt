@@ -17,7 +17,7 @@ use Rattle.sloth_base.specs.declared.event.Event.TheVariants as event
 use Rattle.sloth_base.specs.declared.lines.LineKind.TheVariants as line_of
 use Rattle.sloth_base.specs.declared.step.Step.{Step}
 use Rattle.sloth_base.proofs.Owners.{kind_of_counter, tasks_owned}
-use Rattle.sloth_base.proofs.Stretches.{counter_limit, counter_touches}
+use Rattle.sloth_base.proofs.Stretches.{counter_entry_limit, counter_touches}
 use Rattle.rv32_instr.specs.Execute.{touched}
 use Rattle.rv32_machine.specs.Advance.{seen_step}
 use Rattle.rv32_machine.specs.Run.{state_with_arrivals}
@@ -266,7 +266,7 @@ module _ (b : Build) (view : View) (arrivals : List Arrival) (setting : IsSettin
         few =
             let f = route.few in
             let n = as_many in
-            let limit = counter_limit b.config c fits.few_tasks may.declared in
+            let limit = counter_entry_limit b.config c fits.few_tasks may.declared in
             subst (λ o. suc route.more ≤ stretch_limit b.config (later_beginning o)) (sym taken) (omega (arith, f, n, limit));
         steps = route.steps;
         ends = route.ends;

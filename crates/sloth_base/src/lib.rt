@@ -6,6 +6,7 @@ pub mod config;
 pub mod copy;
 pub mod event;
 pub mod image;
+pub mod limits;
 pub mod lines;
 pub mod list;
 pub mod memory;
