@@ -18,6 +18,7 @@ use Rattle.masked_code.proofs.Leave.{behind}
 use Rattle.block_parts.proofs.Landing.{lands}
 use Rattle.sloth_base.specs.declared.config.Action.{Action}
 use Rattle.sloth_base.specs.declared.config.Action.TheVariants.{Activate, Set}
+use Rattle.sloth_base.specs.Limits.{task_limit}
 use Rattle.code_lengths.specs.CodeLengths.{sets_events_of}
 use Rattle.alarm_gen.specs.declared.alarms.NumberedAlarm.{NumberedAlarm}
 use Rattle.alarm_gen.specs.Alarms.{IsAction, IsNumbered, AreNumbered, is_target}
@@ -29,7 +30,7 @@ use Rattle.alarm_gen.proofs.Flags.{KnowsAll, knows_ram, knows_raised, added_one,
 
 -- ---- words apart
 
-left_active : (ram : List ℕ) (alarm v task : ℕ) → alarm < 32 → task < 30 → word_at (with_word ram (alarm_left alarm) v) (active task) ≡ word_at ram (active task)
+left_active : (ram : List ℕ) (alarm v task : ℕ) → alarm < 32 → task < task_limit → word_at (with_word ram (alarm_left alarm) v) (active task) ≡ word_at ram (active task)
 left_active ram alarm v task a t = word_at-other ram (alarm_left alarm) v (active task) (inl (omega arith))
 
 events_active : (ram : List ℕ) (t v u : ℕ) → word_at (with_word ram (events t) v) (active u) ≡ word_at ram (active u)
@@ -50,7 +51,7 @@ module _ (from to : ℕ) (low : 1024 ≤ from) (E : List ℕ → State → State
 
   -- ---- actions
 
-  activate_owes : (rest : List InstrKind) (c : Ground) (t : ℕ) → t < 30 → Leads (action_code (Activate t)) rest c (action_ground (Activate t) c)
+  activate_owes : (rest : List InstrKind) (c : Ground) (t : ℕ) → t < task_limit → Leads (action_code (Activate t)) rest c (action_ground (Activate t) c)
   activate_owes rest c t few o x1 flags fits knows long go =
       let now = bit_or flags (left_shift 1 t) in
       let all = length-append (action_code (Activate t)) rest in
@@ -66,7 +67,7 @@ module _ (from to : ℕ) (low : 1024 ≤ from) (E : List ℕ → State → State
       (λ u n. added_other flags 1 t u (omega arith) (omega arith) n) (λ u n. refl) knows)
       (length-set c.pending t 1 ∙ long)
 
-  module _ (rest : List InstrKind) (t mask : ℕ) (few : t < 30) (word : mask < 2 ^ 32) (set_t : target t ≡ true) where
+  module _ (rest : List InstrKind) (t mask : ℕ) (few : t < task_limit) (word : mask < 2 ^ 32) (set_t : target t ≡ true) where
     -- the task is not Suspended
     module _ (c : Ground) (awake : is_suspended_task t c ≡ false) where
       abbrev v : ℕ

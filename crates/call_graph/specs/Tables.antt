@@ -6,6 +6,7 @@ use Rattle.sloth_base.specs.declared.app.Op.{Op}
 use Rattle.sloth_base.specs.declared.app.Op.TheVariants as op
 use Rattle.sloth_base.specs.declared.config.TaskDecl.{TaskDecl}
 use Rattle.sloth_base.specs.Named.{no_function, no_item, undeclared_task, body_of}
+use Rattle.sloth_base.specs.Limits.{task_limit}
 
 -- the sum of a size over the numbers below n
 abbrev pub sum_below : ℕ → (ℕ → ℕ) → ℕ
@@ -107,7 +108,7 @@ pub record AreOffsets (tasks : List TaskDecl) (yielding : List Bool) (bytes offs
 
 -- an entry for each of a few tasks, with bytes that have room in 32 bits together
 pub record AreStacks (tasks : List TaskDecl) (yielding : List Bool) (bytes : List ℕ) : Type 0 where
-  pub few : length tasks ≤ 30
+  pub few : length tasks ≤ task_limit
   pub yielding_count : length yielding ≡ length tasks
   pub bytes_count : length bytes ≡ length tasks
   pub small : (t : ℕ) → get_or bytes t 0 ≤ 8704

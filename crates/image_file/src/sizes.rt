@@ -2,6 +2,8 @@
 ghost use Rattle.std.specs.Prelude.{◌≡◌, Decides};
 ghost use Rattle.image_file.specs.Limits.{SizesFit, header_size};
 
+use sloth_base::limits::TASK_LIMIT;
+
 /// The numbers of tasks, functions, counters, bytes of memory and marks.
 #[derive(Clone, Copy)]
 pub struct Sizes {
@@ -24,7 +26,7 @@ impl Sizes {
     pub fn are_within(&self) -> bool
         ensures { Decides result (SizesFit self.now) }
     {
-        self.tasks <= 30
+        self.tasks <= TASK_LIMIT
             && self.funcs <= 64
             && self.counters <= 2
             && self.memory <= 2_097_152

@@ -8,6 +8,7 @@ use Rattle.sloth_region.specs.declared.extent.Extent.{Extent}
 use Rattle.sloth_region.specs.declared.map.Map.{Map}
 use Rattle.sloth_region.specs.Region.{AreApartWithin}
 use Rattle.sloth_base.specs.declared.places.Bounds.{Bounds}
+use Rattle.sloth_base.specs.Limits.{task_limit}
 use Rattle.mem_map.specs.declared.all_lengths.CodeLengths.{CodeLengths}
 use Rattle.mem_map.specs.Starts.{starts, end_of}
 use Rattle.mem_map.specs.Zones.{code_zone, data_zone, all_stacks, HasZones}
@@ -75,7 +76,7 @@ module _ (config : Config) (app : App) (lengths : CodeLengths) (bounds : Bounds)
           prologues = ap (λ (k : ℕ). take k plan.handlers) (sym count) ∙ prologues;
           ticks = λ c l. ticks c (omega (arith, l, counters));
           unused = λ line l m other. unused line (omega (arith, l, count)) m
-              (⊎_elim (λ (b : line < 30). inl b) (λ (b : counter_line (length config.counters) ≤ line). inr (omega (arith, b, counters))) other);
+              (⊎_elim (λ (b : line < task_limit). inl b) (λ (b : counter_line (length config.counters) ≤ line). inr (omega (arith, b, counters))) other);
           blocks = blocks;
           items = items;
           first = first;

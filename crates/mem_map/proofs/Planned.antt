@@ -14,6 +14,7 @@ use Rattle.sloth_region.specs.declared.map.Map.{Map}
 use Rattle.sloth_region.specs.Region.{FollowWithin}
 use Rattle.std.proofs.lemmas.Bool.{cases_lt}
 use Rattle.sloth_base.specs.declared.places.Bounds.{Bounds}
+use Rattle.sloth_base.specs.Limits.{task_limit}
 use Rattle.mem_map.specs.Starts.{end_of, starts}
 use Rattle.mem_map.specs.Run.{extents_of, AreClose}
 use Rattle.mem_map.specs.declared.all_lengths.CodeLengths.{CodeLengths}
@@ -30,7 +31,7 @@ module _ (config : Config) (app : App) (lengths : CodeLengths) (bounds : Bounds)
   n = length config.tasks
 
   -- what is asked of task code limits the tasks
-  pub few_tasks : n ≤ 30
+  pub few_tasks : n ≤ task_limit
   few_tasks = may.in_range.configuration.few_tasks
 
   items_sum : sum_by (λ (f : Func). length f.items) app.funcs ≤ 4096
@@ -61,7 +62,7 @@ module _ (config : Config) (app : App) (lengths : CodeLengths) (bounds : Bounds)
   ticks_small = λ k d l. let s = may.code.ticks_fit k d l in let most = s.1 in omega (arith, most)
 
   -- a prologue for each task, and a tick for each counter
-  pub few_starts : length lengths.prologues ≤ 30
+  pub few_starts : length lengths.prologues ≤ task_limit
   few_starts = let c = may.code.prologues in let f = few_tasks in omega (arith, c, f)
 
   pub few_ticks : length lengths.ticks ≤ 2
@@ -247,14 +248,14 @@ module _ (config : Config) (app : App) (lengths : CodeLengths) (bounds : Bounds)
         let few = may.code.boot.1 in
         let e = at.idle in
         let counters : ℕ = length config.counters in
-        let idle : (l : n ≤ line) (other : (line < 30) ⊎ (counter_line counters ≤ line)) → IsInVectorReach (slice_index plan.handlers line) = λ l other.
+        let idle : (l : n ≤ line) (other : (line < task_limit) ⊎ (counter_line counters ≤ line)) → IsInVectorReach (slice_index plan.handlers line) = λ l other.
         let a = at.unused line l h other in
         (omega (arith, a, e), omega (arith, a, e), omega (arith, a, e, few))
         in
         ⊎_elim
         (λ (l : line < n). start_near line l)
         (λ (l : n ≤ line). ⊎_elim
-        (λ (m : line < 30). idle l (inl m))
+        (λ (m : line < task_limit). idle l (inl m))
         (λ (m : 30 ≤ line). ⊎_elim
         (λ (f : line - 30 < counters).
         let same : counter_line (line - 30) ≡ line = omega (arith, m) in

@@ -1,6 +1,7 @@
 //! The zones of an image, placed in one region.
 ghost use Rattle.std.specs.Prelude.{◌≡◌, ◌<◌, ◌≤◌, ◌+◌, ◌%◌, ◌∷◌, IfOk, All, length, map};
 ghost use Rattle.sloth_base.specs.MemoryMap.{memory_end, vectors_base};
+ghost use Rattle.sloth_base.specs.Limits.{task_limit};
 ghost use Rattle.sloth_region.specs.Region.{AreApartWithin};
 ghost use Rattle.mem_map.specs.Run.{room_for, run};
 ghost use Rattle.mem_map.specs.Zones.{data_zone};
@@ -55,7 +56,7 @@ pub fn plan_zones(
 ) -> Result<Zones, NoMemory>
     requires some { (1 ≤ code_len) × (1 ≤ data_len) × All (λ len. 1 ≤ len) stack_lens.now }
     requires words { code_len % 4 ≡ 0 }
-    requires few { length stack_lens.now ≤ 30 }
+    requires few { length stack_lens.now ≤ task_limit }
     requires room { 1024 + code_len + 3 + data_len + 3 + room_for 16 stack_lens.now ≤ 0x200000 }
     ensures extents { IfOk result (λ zones. zones.extents ≡ zones.words ∷ zones.code ∷ zones.data ∷ zones.stacks) }
     ensures apart { IfOk result (λ zones. AreApartWithin 0x80000004 memory_end zones.extents) }

@@ -10,6 +10,7 @@ use Rattle.sloth_base.specs.declared.config.CounterDecl.{CounterDecl}
 use Rattle.sloth_base.specs.declared.config.AlarmDecl.{AlarmDecl}
 use Rattle.sloth_base.specs.ImageRange.{IsWord, AreNames, AreApart}
 use Rattle.sloth_base.specs.ConfigRange.{IsTask, IsCounter, IsAlarm, InRange}
+use Rattle.sloth_base.specs.Limits.{task_limit}
 use Rattle.least_fault.specs.Order.{NoFault}
 use Rattle.oil_parse.specs.declared.tree.OilObject.{OilObject}
 use Rattle.oil_parse.specs.declared.tree.OilTree.{OilTree}
@@ -57,7 +58,7 @@ module _ (tree : OilTree) (none : NoFault (ModelFault tree)) (words : All (λ (o
       let n = few_events tree none in
       omega (arith, a, e, b, f, n)
 
-  number_of_tasks : length (tasks_of (resource_names tree.objects) (events_of tree.objects) tree.objects) ≤ 30
+  number_of_tasks : length (tasks_of (resource_names tree.objects) (events_of tree.objects) tree.objects) ≤ task_limit
   number_of_tasks =
       let a = length-map (filter (is_of_kind (codes "TASK")) tree.objects) (declared_task (resource_names tree.objects) (events_of tree.objects)) in
       let f = length-filter (is_of_kind (codes "TASK")) tree.objects in

@@ -26,6 +26,7 @@ use Rattle.sloth_base.specs.declared.event.Event.TheVariants as event
 use Rattle.sloth_base.specs.declared.service.Service.{Service}
 use Rattle.sloth_base.specs.declared.service.Service.TheVariants as service
 use Rattle.sloth_base.specs.Named.{function, no_function, body_of, declaration, counter_declaration, undeclared_counter, alarm_declaration, undeclared_alarm}
+use Rattle.sloth_base.specs.Limits.{task_limit}
 use Rattle.code_rules.specs.AppRange.{IsOp}
 use Rattle.code_rules.specs.Code.{is_in}
 use Rattle.osek_scheduler.specs.declared.state.TaskState.{TaskState}
@@ -515,7 +516,7 @@ module _ {config : Config} {app : App} {s : System} (sound : IsSound config app 
   pub not_among : (t : ℕ) → (task s t).state ≡ mode.Suspended → is_in t s.fresh ≡ false
   not_among t asleep = false_from_ne_true _ (λ e. no_both (task s t).state asleep (sound.apart.fresh_ready t e))
 
-  pub admit-room : (t : ℕ) → t < length s.tasks → (task s t).state ≡ mode.Suspended → length s.fresh < 30
+  pub admit-room : (t : ℕ) → t < length s.tasks → (task s t).state ≡ mode.Suspended → length s.fresh < task_limit
   admit-room t lt asleep =
       let most = at_most (t ∷ s.fresh) (length s.tasks) (not_among t asleep, sound.distinct) (λ q h. all-there q (or_cases _ _ h)) in
       let few = w.in_range.configuration.few_tasks in

@@ -5,6 +5,7 @@ use Rattle.std.specs.Int.{bit_at}
 use Rattle.std.proofs.lemmas.Bool.{lt-ltb, le-ltb, le-leb, lt-leb, cases_lt}
 use Rattle.std.proofs.Math.Bool.{or-false}
 use Rattle.sloth_base.specs.declared.config.Config.{Config}
+use Rattle.sloth_base.specs.Limits.{task_limit}
 use Rattle.osek_scheduler.specs.State.{System, task, counter}
 use Rattle.osek_scheduler.specs.Priority.{rank}
 use Rattle.osek_scheduler.specs.Next.{is_ready}
@@ -14,7 +15,7 @@ use Rattle.osek_plans.proofs.Row.{Row, row_set, row_kept}
 abbrev one_bit : Bool → ℕ
 one_bit b = cond b 1 0
 
-module _ (config : Config) (s : System) (t : ℕ) (few : length config.tasks ≤ 30) where
+module _ (config : Config) (s : System) (t : ℕ) (few : length config.tasks ≤ task_limit) where
   abbrev test : ℕ → Bool
   test = is_line_above config s t
 
@@ -23,7 +24,7 @@ module _ (config : Config) (s : System) (t : ℕ) (few : length config.tasks ≤
   no_task v ge = ap (λ b. b && (is_ready (task s v).state && ltb (rank config s t) (rank config s v))) (le-ltb v (length config.tasks) (omega (arith, ge, few)))
 
   -- no counter has one of the other lines
-  no_counter_line : (v : ℕ) → v < 30 → test v ≡ is_above config s t v
+  no_counter_line : (v : ℕ) → v < task_limit → test v ≡ is_above config s t v
   no_counter_line v lt =
       ap (λ b. is_above config s t v || ((b && ltb (v - 30) (length config.counters)) && (counter s (v - 30)).due)) (lt-leb 30 v lt)
       ∙ or-false (is_above config s t v)
@@ -42,7 +43,7 @@ module _ (config : Config) (s : System) (t : ℕ) (few : length config.tasks ≤
   pub tasks_row : (row : ℕ) → ((v : ℕ) → bit_at row v ≡ cond (is_above config s t v) 1 0) → Row test 30 row
   tasks_row row h v = h v ∙ by (cases_lt v 30)
     where
-      by : (v < 30) ⊎ (30 ≤ v) → one_bit (is_above config s t v) ≡ one_bit (ltb v 30 && test v)
+      by : (v < task_limit) ⊎ (30 ≤ v) → one_bit (is_above config s t v) ≡ one_bit (ltb v 30 && test v)
       by (inl lt) = ap one_bit (sym (ap (λ b. b && test v) (lt-ltb v 30 lt) ∙ no_counter_line v lt))
       by (inr ge) = ap one_bit (no_task v ge ∙ sym (ap (λ b. b && test v) (le-ltb v 30 ge)))
 
@@ -62,7 +63,7 @@ module _ (config : Config) (s : System) (t : ℕ) (few : length config.tasks ≤
     pub whole_row : length config.counters ≤ c → (v : ℕ) → bit_at row v ≡ cond (test v) 1 0
     whole_row all v = h v ∙ by (cases_lt v (30 + c))
       where
-        by : (v < 30 + c) ⊎ (30 + c ≤ v) → one_bit (ltb v (30 + c) && test v) ≡ one_bit (test v)
+        by : (v < task_limit + c) ⊎ (30 + c ≤ v) → one_bit (ltb v (30 + c) && test v) ≡ one_bit (test v)
         by (inl lt) = ap (λ b. one_bit (b && test v)) (lt-ltb v (30 + c) lt)
         by (inr ge) =
             let past = ap (λ b. b && (counter s (v - 30)).due) (le-ltb (v - 30) (length config.counters) (omega (arith, all, ge))) in

@@ -1,6 +1,7 @@
 //! What stands above a task in the order of the tasks and counters that are due.
 ghost use Rattle.std.specs.Prelude.{◌≡◌, ◌<◌, ◌≤◌, ◌*◌, ◌%◌, ◌^◌, ℕ, bit_or, cond, length};
 ghost use Rattle.std.specs.Int.{bit_at};
+ghost use Rattle.sloth_base.specs.Limits.{task_limit};
 ghost use Rattle.osek_scheduler.specs.Priority.{rank};
 ghost use Rattle.osek_plans.specs.Above.{is_above, is_line_above};
 
@@ -32,7 +33,7 @@ fn with_line(row: u32, line: u32) -> u32
 // The Ready tasks that stand above a task, a bit for each line.
 fn tasks_above(config: &Config, store: &Store, task: u32) -> u32
     requires count { length store.now.tasks ≡ length config.now.tasks }
-    requires few { length config.now.tasks ≤ 30 }
+    requires few { length config.now.tasks ≤ task_limit }
     requires declared { task < length config.now.tasks }
     ensures { (u : ℕ) → bit_at result u ≡ cond (is_above config.now store.now task u) 1 0 }
 {
@@ -50,7 +51,7 @@ fn tasks_above(config: &Config, store: &Store, task: u32) -> u32
 /// The due counters, and the Ready tasks that stand above a task, a bit for each line.
 pub fn lines_above(config: &Config, store: &Store, task: u32) -> u32
     requires count { length store.now.tasks ≡ length config.now.tasks }
-    requires few { length config.now.tasks ≤ 30 }
+    requires few { length config.now.tasks ≤ task_limit }
     requires declared { task < length config.now.tasks }
     requires few_counters { length config.now.counters ≤ 2 }
     ensures { (line : ℕ) → bit_at result line ≡ cond (is_line_above config.now store.now task line) 1 0 }

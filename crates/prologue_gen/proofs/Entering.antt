@@ -7,6 +7,7 @@ use Rattle.rv32_instr.specs.declared.InstrKind.{InstrKind}
 use Rattle.rv32_instr.specs.Ram.{word_at, with_word, with_words}
 use Rattle.sloth_base.specs.Arithmetic.{plus}
 use Rattle.sloth_base.specs.MemoryMap.{memory_base}
+use Rattle.sloth_base.specs.Limits.{task_limit}
 use Rattle.masked_code.specs.Owes.{◌▸◌, writes, loads, stores, accesses, IsWordAt, IsApart, Owes}
 use Rattle.masked_code.specs.Pieces.{saving_code}
 use Rattle.masked_code.proofs.Words.{word_at-other, word_at-others}
@@ -32,7 +33,7 @@ entered task level place c x1 x2 =
 lands : (o : ℕ) → o ≤ 0x20_1000 → plus (memory_base + o) (pos 112) ≡ memory_base + (o + 4 + 4 * 27)
 lands o small = omega arith
 
-module _ (from to task level place : ℕ) (c : Core) (E : List ℕ → State → State → Type 0) (start : State) (rest : List InstrKind) (is_task : task < 30)
+module _ (from to task level place : ℕ) (c : Core) (E : List ℕ → State → State → Type 0) (start : State) (rest : List InstrKind) (is_task : task < task_limit)
     (masked : c.mie ≡ false) (x2 : get_or c.registers 2 0 ≡ memory_base + (place + context_bytes)) (aligned : place % 4 ≡ 0) (past : idle_context ≤ place)
     (inside : place + context_bytes ≤ 0x20_0000) (apart : (place + context_bytes ≤ from) ⊎ (to ≤ place)) (low : 1024 ≤ from) where
   abbrev own : ℕ

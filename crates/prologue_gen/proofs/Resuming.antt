@@ -7,6 +7,7 @@ use Rattle.sloth_base.specs.Machine.{Core, State}
 use Rattle.sloth_base.specs.Arithmetic.{plus}
 use Rattle.sloth_base.specs.Status.{E_OK}
 use Rattle.sloth_base.specs.MemoryMap.{memory_base}
+use Rattle.sloth_base.specs.Limits.{task_limit}
 use Rattle.sloth_region.specs.Layout.{cur, active, resume, below_word, idle_context, context_bytes, controller_base}
 use Rattle.rv32_instr.specs.declared.InstrKind.{InstrKind}
 use Rattle.rv32_instr.specs.Ram.{word_at, with_word, with_words}
@@ -68,11 +69,11 @@ entry_keeps c task place p far past below activity =
     ∙ word_at-others ws c.ram (place + 4 * 5) p (grind (arith, far, few))
 
 -- the resume word stands apart from it
-kept_word : (c : Core) (task place : ℕ) → task < 30 → idle_context ≤ place → word_at (with_entry c task place) (resume task) ≡ word_at c.ram (resume task)
+kept_word : (c : Core) (task place : ℕ) → task < task_limit → idle_context ≤ place → word_at (with_entry c task place) (resume task) ≡ word_at c.ram (resume task)
 kept_word c task place is_task past = entry_keeps c task place (resume task) (inl (omega arith)) (omega arith) (inr (omega arith)) (inr (omega arith))
 
 -- no context is kept: the task starts anew
-module _ (from to task level first place frame words : ℕ) (c : Core) (is_task : task < 30) (past : idle_context ≤ place) (none : word_at c.ram (resume task) ≡ 0) where
+module _ (from to task level first place frame words : ℕ) (c : Core) (is_task : task < task_limit) (past : idle_context ≤ place) (none : word_at c.ram (resume task) ≡ 0) where
   abbrev E : List ℕ → State → State → Type 0
   E = Entered task level first place frame words
 
@@ -94,7 +95,7 @@ module _ (from to task level first place frame words : ℕ) (c : Core) (is_task 
 
 -- what a task that goes on behind a wait needs: the word of its context names one at `own`, apart from that of what it preempts
 pub record IsKept (from task level place own : ℕ) (c : Core) : Type 0 where
-  pub is_task : task < 30
+  pub is_task : task < task_limit
   pub low_level : level < 32
   pub masked : c.mie ≡ false
   pub previous : c.mpie ≡ true
@@ -232,7 +233,7 @@ module _ (from to task level place own : ℕ) (c : Core) (rest : List InstrKind)
 length-code : (task level frame words first : ℕ) → length (code task level frame words first) ≡ words + 108
 length-code task level frame words first = let e = length-starts frame words first in omega arith
 
-module _ (task level first frame words : ℕ) (is_task : task < 30) (low_level : level < 32) (first_fits : first < 2 ^ 32) (few : words ≤ 32) (offset place : ℕ) (c : Core) where
+module _ (task level first frame words : ℕ) (is_task : task < task_limit) (low_level : level < 32) (first_fits : first < 2 ^ 32) (few : words ≤ 32) (offset place : ℕ) (c : Core) where
   abbrev whole : List InstrKind
   whole = code task level (memory_base + frame) words first
 
@@ -300,7 +301,7 @@ module _ (task level first frame words : ℕ) (is_task : task < 30) (low_level :
       (λ o e. resumed_owe offset to task level place own c (starts (memory_base + frame) words first) kept o (memory_base + place) 1 (omega (arith, small, e))))
 
 -- so the whole code does one of the two
-pub enters_or_resumes : (task level first frame words : ℕ) → task < 30 → level < 32 → first < 2 ^ 32 → words ≤ 32
+pub enters_or_resumes : (task level first frame words : ℕ) → task < task_limit → level < 32 → first < 2 ^ 32 → words ≤ 32
     → EntersOrResumes task level first frame words (code task level (memory_base + frame) words first)
 enters_or_resumes task level first frame words a b d f =
     let long = length-code task level (memory_base + frame) words first in

@@ -1,5 +1,6 @@
 //! The parts of a prologue: what was preempted is saved, and the task starts anew.
 ghost use Rattle.std.specs.Prelude.{◌≡◌, ◌<◌, ◌≤◌, ◌++◌, OnOk};
+ghost use Rattle.sloth_base.specs.Limits.{task_limit};
 ghost use Rattle.prologue_gen.specs.Pieces.{context_saving_code, csr_saving_code, words_saving_code, active_marking_code, beginning_code, fresh_start_code};
 
 use block_parts::prologues::ask_preempted;
@@ -55,7 +56,7 @@ fn save_words(code: &mut Vec<Instr>) -> Result<(), AllocError>
 
 /// The task becomes the running one and Active.
 pub fn mark_active(code: &mut Vec<Instr>, task: u32) -> Result<(), AllocError>
-    requires { task < 30 }
+    requires { task < task_limit }
     ensures { OnOk result (code.new.items ≡ code.old.items ++ active_marking_code task) }
 {
     let marked = [

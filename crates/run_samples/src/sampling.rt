@@ -7,9 +7,9 @@ ghost use Rattle.run_samples.specs.Samples.{AreSampledLevels, IsSample, IsSampli
 
 use sloth_base::event::Arrival;
 use sloth_base::image::Image;
+use sloth_base::limits::TASK_LIMIT;
 use sloth_base::memory::NoMemory;
 use sloth_base::numbers::Line;
-use sloth_inspect::TASKS;
 use sloth_runner::runner::{Halt, Runner};
 use sloth_runner::sight::{Interrupts, Seen};
 use std::alloc::Global;
@@ -74,7 +74,7 @@ impl<'a> Sampler<'a> {
     }
 
     /// The levels of the lines of the image's tasks, in 30 places.
-    pub fn levels(&mut self) -> [u8; TASKS]
+    pub fn levels(&mut self) -> [u8; TASK_LIMIT]
         requires sampling { IsSampling self.old }
         ensures levels { AreSampledLevels (sampled_image self.old) (sampled_arrivals self.old) (sampled_count self.old) result }
         ensures same { self.new ≡ self.old }

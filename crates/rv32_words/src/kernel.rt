@@ -8,6 +8,7 @@ ghost use Rattle.vector_gen.specs.Vectors.{AreInReach};
 
 use sloth_base::app::{App, Func};
 use sloth_base::config::{Action, AlarmDecl, Config, CounterDecl, EventDecl, TaskDecl};
+use sloth_base::limits::TASK_LIMIT;
 use sloth_base::list::List;
 use sloth_base::memory::NoMemory;
 use sloth_base::name::Name;
@@ -220,7 +221,7 @@ pub fn app(alloc: Global, frame_words: u32) -> Result<App, NoMemory>
 pub fn levels() -> Levels
     ensures { (result.top < 32) × ((t : ℕ) → slice_index result.task t < 32) }
 {
-    let mut task = [0; 30];
+    let mut task = [0; TASK_LIMIT];
     task[0] = 5;
     let mut ceiling = [0; 33];
     ceiling[1] = 2;

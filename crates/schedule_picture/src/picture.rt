@@ -3,6 +3,7 @@ ghost use Rattle.std.specs.Prelude.{ℕ, ◌≡◌, ◌≤◌, ◌<◌, ◌+◌,
 ghost use Rattle.sloth_base.specs.ImageRange.{InFormat};
 ghost use Rattle.sloth_base.specs.Arrivals.{AreArrivals};
 ghost use Rattle.sloth_base.specs.Owners.{owners_named};
+ghost use Rattle.sloth_base.specs.Limits.{task_limit};
 ghost use Rattle.run_samples.specs.Samples.{IsSampling, sampled_image, sampled_arrivals, sampled_count};
 ghost use Rattle.lane_drawing.specs.Strips.{IsFresh, empty_lane};
 ghost use Rattle.schedule_picture.specs.Samples.{HasGivenFirst, HasBars, StopsBefore};
@@ -52,7 +53,7 @@ fn show_all(
 ) -> Result<Option<Halt>, NoMemory>
     requires given { HasGivenFirst (sampled_image sampler.old) (sampled_arrivals sampler.old) from sampler.old }
     requires tasks { tasks ≡ length (sampled_image sampler.old).tasks }
-    requires few_tasks { tasks ≤ 30 }
+    requires few_tasks { tasks ≤ task_limit }
     requires lanes { length strips.old.items ≡ tasks + 1 }
     requires fresh { (lane : ℕ) → lane < tasks + 1 → IsFresh from (get_or strips.old.items lane empty_lane) }
     requires ordered { from ≤ to }

@@ -7,6 +7,7 @@ use Rattle.sloth_base.specs.Arithmetic.{plus, one_if, left_shift}
 use Rattle.sloth_base.specs.Arrive.{arrive}
 use Rattle.sloth_base.specs.Status.{E_OK}
 use Rattle.sloth_base.specs.MemoryMap.{memory_base}
+use Rattle.sloth_base.specs.Limits.{task_limit}
 use Rattle.sloth_region.specs.Layout.{cur, active, controller_base}
 use Rattle.rv32_instr.specs.declared.InstrKind.{InstrKind}
 use Rattle.rv32_instr.specs.Ram.{word_at}
@@ -39,10 +40,10 @@ apart own task = plus (own + 1) (negsuc task)
 abbrev told : ℕ → ℕ
 told v = left_shift (one_if (nat_lt 0 v)) 1
 
-told_own : (task own : ℕ) → task < 30 → task ≡ own → told (apart own task) ≡ 0
+told_own : (task own : ℕ) → task < task_limit → task ≡ own → told (apart own task) ≡ 0
 told_own task own x e = let z : apart own task ≡ 0 = omega arith in ap told z
 
-told_other : (task own : ℕ) → task < 30 → own < 30 → task ≢ own → told (apart own task) ≡ 2
+told_other : (task own : ℕ) → task < task_limit → own < task_limit → task ≢ own → told (apart own task) ≡ 2
 told_other task own x y ne =
     ⊎_elim
     (λ (more : 0 < apart own task). ap (λ t. left_shift (one_if t) 1) (lt-ltb 0 (apart own task) more))

@@ -1,6 +1,7 @@
 -- The RAM that an entry leaves: a context, the words of the entry, and a frame.
 use Rattle.std.proofs.Common.{◌≡◌, ℕ, suc, ◌+◌, ◌*◌, ◌%◌, ◌<◌, ◌≤◌, List, [], ◌∷◌, length, ◌∙◌, arith, ⊎_elim, inl, inr}
 use Rattle.std.specs.Prelude.{◌⊎◌, ◌≢◌, slice_index}
+use Rattle.sloth_base.specs.Limits.{task_limit}
 use Rattle.sloth_region.specs.Layout.{cur, below_word, active, idle_context, context_bytes}
 use Rattle.rv32_instr.specs.Ram.{word_at, with_word, with_words}
 use Rattle.masked_code.proofs.Words.{word_at-same, word_at-others, get_or-with_word, get_or-with_words, word_at-with_words, length-with_word, length-with_words, word_at-agree}
@@ -40,7 +41,7 @@ pub record MayStore (ram words registers zeros : List ℕ) (place t frame : ℕ)
   pub size : length ram ≡ 2097152
   pub four : length words ≡ 4
   pub rest : length registers ≤ 27
-  pub declared : t < 30
+  pub declared : t < task_limit
   pub behind : idle_context ≤ place
   pub aligned : place % 4 ≡ 0
   pub inside : place + context_bytes ≤ 2097152

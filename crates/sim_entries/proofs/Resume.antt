@@ -14,6 +14,7 @@ use Rattle.masked_code.proofs.Words.{word_at-same, get_or-with_word, length-with
 use Rattle.osek_scheduler.specs.declared.state.TaskState.TheVariants as mode
 use Rattle.osek_scheduler.specs.State.{Frame, Task, System, HasBody, task, with_task}
 use Rattle.sloth_base.specs.Named.{declaration}
+use Rattle.sloth_base.specs.Limits.{task_limit}
 use Rattle.osek_scheduler.specs.Priority.{is_active}
 use Rattle.osek_scheduler.specs.Services.{started_task, entered_state}
 use Rattle.osek_scheduler.specs.Steps.{OsekStep, settled_state}
@@ -42,7 +43,7 @@ module _ (b : Build) (state end : State) (s : System) (t place own : ℕ) (fits 
   few : length b.config.tasks ≤ 32
   few = let f = fits.few_tasks in omega arith
 
-  few30 : t < 30
+  few30 : t < task_limit
   few30 = let g = fits.few_tasks in let l = declared in omega arith
 
   ready : (task s t).state ≡ mode.Ready

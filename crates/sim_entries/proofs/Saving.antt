@@ -5,6 +5,7 @@ use Rattle.std.proofs.lemmas.Bool.{cases_Bool, ne_eqb}
 use Rattle.std.proofs.lemmas.List.{length-replicate}
 use Rattle.sloth_base.specs.Machine.{Core, State}
 use Rattle.sloth_base.specs.Take.{take}
+use Rattle.sloth_base.specs.Limits.{task_limit}
 use Rattle.sloth_region.specs.Layout.{cur, below_word, active, resume, idle_context}
 use Rattle.rv32_instr.specs.Ram.{word_at}
 use Rattle.masked_code.specs.Kernel.{LeftAs}
@@ -51,7 +52,7 @@ module _ (b : Build) (state : State) (s : System) (t place : ℕ) (fits : Fits b
   few : length b.config.tasks ≤ 32
   few = let f = fits.few_tasks in omega arith
 
-  few30 : t < 30
+  few30 : t < task_limit
   few30 = let g = fits.few_tasks in let l = declared in omega arith
 
   sp : Spot b s k.stack place

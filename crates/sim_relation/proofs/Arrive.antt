@@ -8,6 +8,7 @@ use Rattle.sloth_region.specs.Layout.{counter_value}
 use Rattle.rv32_instr.specs.Ram.{word_at}
 use Rattle.sloth_base.specs.Arrive.{state_arrive}
 use Rattle.sloth_base.specs.Owners.{first_counter_line, counter_line, owners_in, AreOwned}
+use Rattle.sloth_base.specs.Limits.{task_limit}
 use Rattle.sloth_base.proofs.Owners.{IsCounterLine, owned_cases}
 use Rattle.osek_scheduler.specs.declared.state.Counter.{Counter}
 use Rattle.osek_scheduler.specs.declared.state.TaskState.{TaskState}
@@ -249,7 +250,7 @@ module _ (b : Build) (state : State) (s : System) (c : ℕ) (k : Stands b state 
       })
 
 -- Arrivals at a count that finds MIE 1 are the admits of their tasks, and make their counters due.
-pub stands_arrived : (b : Build) (lines : List ℕ) (state : State) (s : System) → length b.config.tasks ≤ 30 → AreOwned (owners_in b.config) lines
+pub stands_arrived : (b : Build) (lines : List ℕ) (state : State) (s : System) → length b.config.tasks ≤ task_limit → AreOwned (owners_in b.config) lines
     → Stands b state s → Stands b (state_arrive lines state) (with_admits lines s)
 stands_arrived b [] state s few h k = k
 stands_arrived b (l ∷ lines) state s few h k =

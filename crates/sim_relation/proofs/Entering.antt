@@ -15,6 +15,7 @@ use Rattle.code_rules.specs.Code.{is_in}
 use Rattle.osek_scheduler.specs.Priority.{is_active, highest_priority, current_priority}
 use Rattle.osek_scheduler.specs.Steps.{settled_state}
 use Rattle.sloth_base.specs.PriorityLevels.{level_of}
+use Rattle.sloth_base.specs.Limits.{task_limit}
 use Rattle.sim_relation.specs.Build.{Build, Fits, IsElsewhere}
 use Rattle.sim_relation.specs.Position.{thread_of, thread_at}
 use Rattle.sim_relation.specs.Context.{IsContext, IsContextChain, RunsFirst, RunsTask}
@@ -50,7 +51,7 @@ module _ (b : Build) (old now : State) (s : System) (k : Stands b old s) (fits :
   ready : (task s t).state ≡ mode.Ready
   ready = taken_ready b old s k few t declared e
 
-  few30 : t < 30
+  few30 : t < task_limit
   few30 = let g = fits.few_tasks in let l = declared in omega arith
 
   abbrev next : System

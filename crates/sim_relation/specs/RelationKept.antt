@@ -4,6 +4,7 @@ use Rattle.sloth_base.specs.Machine.{State}
 use Rattle.sloth_base.specs.Arrive.{state_arrive}
 use Rattle.sloth_base.specs.Choose.{choose}
 use Rattle.sloth_base.specs.Owners.{owners_in, counter_line, IsOwned, AreOwned}
+use Rattle.sloth_base.specs.Limits.{task_limit}
 use Rattle.osek_scheduler.specs.declared.state.TaskState.{TaskState}
 use Rattle.osek_scheduler.specs.declared.state.TaskState.TheVariants as mode
 use Rattle.masked_code.specs.Kernel.{IsBelow}
@@ -25,7 +26,7 @@ MirrorOfStands = (b : Build) (state : State) (s : System) → Stands b state s �
 
 -- lines with owners that arrive where MIE is 1 are the activations of their tasks, and make their counters due
 abbrev pub ArrivalsAreAdmits : Type 0
-ArrivalsAreAdmits = (b : Build) (lines : List ℕ) (state : State) (s : System) → length b.config.tasks ≤ 30
+ArrivalsAreAdmits = (b : Build) (lines : List ℕ) (state : State) (s : System) → length b.config.tasks ≤ task_limit
     → AreOwned (owners_in b.config) lines → Stands b state s → Stands b (state_arrive lines state) (with_admits lines s)
 
 -- the line that is taken has an owner

@@ -1,6 +1,7 @@
 -- What is left of RAM where a task has ended: four words are written, all below the contexts.
 use Rattle.std.proofs.Common.{◌≡◌, ℕ, ◌%◌, ◌<◌, ◌≤◌, List, length, ◌∙◌, arith, inr}
 use Rattle.std.specs.Prelude.{◌≢◌, slice_index}
+use Rattle.sloth_base.specs.Limits.{task_limit}
 use Rattle.sloth_region.specs.Layout.{cur, below_word, active, events, idle_context}
 use Rattle.rv32_instr.specs.Ram.{word_at, with_word}
 use Rattle.masked_code.proofs.Words.{word_at-same, get_or-with_word, length-with_word}
@@ -15,7 +16,7 @@ pub record EndRam (old new : List ℕ) (t current link : ℕ) : Type 0 where
   pub current_word : word_at new cur ≡ current
   pub link_word : word_at new below_word ≡ link
 
-module _ (old : List ℕ) (t current link : ℕ) (long : length old ≡ 0x20_0000) (few : t < 30) (current_in : current < 4294967296) (link_in : link < 4294967296) where
+module _ (old : List ℕ) (t current link : ℕ) (long : length old ≡ 0x20_0000) (few : t < task_limit) (current_in : current < 4294967296) (link_in : link < 4294967296) where
   abbrev first : List ℕ
   first = with_word old (active t) 0
 

@@ -17,6 +17,7 @@ use Rattle.osek_scheduler.specs.declared.state.TaskState.{TaskState}
 use Rattle.osek_scheduler.specs.declared.state.TaskState.TheVariants as mode
 use Rattle.osek_scheduler.specs.State.{Task, System, task, with_task}
 use Rattle.sloth_base.specs.Named.{declaration}
+use Rattle.sloth_base.specs.Limits.{task_limit}
 use Rattle.code_rules.specs.Code.{is_in}
 use Rattle.osek_scheduler.specs.Priority.{is_active, ceiling}
 use Rattle.osek_scheduler.specs.Services.{answered_task, is_there, GoesOn}
@@ -182,7 +183,7 @@ module _ (b : Build) (state : State) (s : System) (k : Stands b state s) (t : �
   popped = words_pop b state.core.ram (base_priority b t (task s t)) (task s t).held r last (k.words t declared).held
 
   -- the saved level has room in a byte
-  pub saved_few : length b.config.tasks ≤ 30 → word_at state.core.ram (saved_level r) < 256
+  pub saved_few : length b.config.tasks ≤ task_limit → word_at state.core.ram (saved_level r) < 256
   saved_few f =
       let e = popped.level in
       let m = level_of-few b.config (with_held b (base_priority b t (task s t)) (without_last (task s t).held)) in

@@ -1,6 +1,7 @@
 -- What is left of RAM where a task has gone to wait: its context, three words of its own, and those of what runs.
 use Rattle.std.proofs.Common.{◌≡◌, ℕ, ◌+◌, ◌*◌, ◌%◌, ◌<◌, ◌≤◌, List, length, ◌∙◌, arith, ⊎_elim, inl, inr}
 use Rattle.std.specs.Prelude.{◌≢◌, ◌⊎◌, slice_index}
+use Rattle.sloth_base.specs.Limits.{task_limit}
 use Rattle.sloth_region.specs.Layout.{cur, below_word, active, wait, resume, idle_context, context_bytes}
 use Rattle.rv32_instr.specs.Ram.{word_at, with_word, with_words}
 use Rattle.masked_code.proofs.Words.{word_at-same, word_at-other, word_at-others, word_at-with_words, word_at-agree, get_or-with_word, get_or-with_words, length-with_word, length-with_words}
@@ -18,7 +19,7 @@ pub record WaitRam (old new registers : List ℕ) (t own mask pc current link : 
   pub current_word : word_at new cur ≡ current
   pub link_word : word_at new below_word ≡ link
 
-module _ (old registers : List ℕ) (t own mask pc current link : ℕ) (long : length old ≡ 0x20_0000) (rest : length registers ≡ 27) (few : t < 30)
+module _ (old registers : List ℕ) (t own mask pc current link : ℕ) (long : length old ≡ 0x20_0000) (rest : length registers ≡ 27) (few : t < task_limit)
     (behind : 1024 ≤ own) (aligned : own % 4 ≡ 0) (inside : own + context_bytes ≤ 0x20_0000) (mask_in : mask < 4294967296) (pc_in : pc < 4294967296)
     (current_in : current < 4294967296) (link_in : link < 4294967296) (registers_in : (i : ℕ) → slice_index registers i < 4294967296) where
   abbrev ram1 : List ℕ

@@ -7,6 +7,7 @@ use Rattle.std.proofs.lemmas.List.{get_or-set_same, get_or-set_other, length-set
 use Rattle.sloth_base.specs.Machine.{State}
 use Rattle.sloth_base.specs.Status.{E_OK}
 use Rattle.sloth_base.specs.declared.service.Service.TheVariants as service
+use Rattle.sloth_base.specs.Limits.{task_limit}
 use Rattle.sloth_region.specs.Layout.{cur, events, context_bytes}
 use Rattle.rv32_instr.specs.Ram.{word_at}
 use Rattle.expansion_parts.specs.Expansion.{mask_of}
@@ -108,7 +109,7 @@ module _ (b : Build) (state : State) (s : System) (t : ℕ) (own : Task) (object
       run : RunsTask b state s t below
       run = subst (RunsFirst b state s) stack_is k.running
 
-      few : t < 30
+      few : t < task_limit
       few = let g = fits.few_tasks in let d = here.declared in omega arith
 
       place_is : run.place ≡ kept + context_bytes

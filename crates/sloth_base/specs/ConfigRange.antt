@@ -9,6 +9,7 @@ use Rattle.sloth_base.specs.declared.config.AlarmDecl.{AlarmDecl}
 use Rattle.sloth_base.specs.declared.config.Config.{Config}
 use Rattle.sloth_base.specs.ImageRange.{AreNames, AreApart}
 use Rattle.sloth_base.specs.Named.{declaration, counter_declaration}
+use Rattle.sloth_base.specs.Limits.{task_limit}
 
 -- "RES_SCHEDULER"
 abbrev pub res_scheduler_name : List ℕ
@@ -63,7 +64,7 @@ pub record IsAlarm (config : Config) (alarm : AlarmDecl) : Type 0 where
 
 -- the configuration is in range
 pub record InRange (config : Config) : Type 0 where
-  pub few_tasks : length config.tasks ≤ 30
+  pub few_tasks : length config.tasks ≤ task_limit
   pub few_resources : length config.resources ≤ scheduler_number
   pub few_events : length config.events ≤ 32
   pub task_names : AreNames (map (λ t. t.name) config.tasks)

@@ -2,6 +2,7 @@
 ghost use Rattle.std.specs.Prelude.{◌≡◌};
 ghost use Rattle.sloth_base.specs.Owners.{line_kind};
 
+use crate::limits::TASK_LIMIT;
 use crate::numbers::Line;
 
 /// What a line is for.
@@ -15,7 +16,7 @@ pub enum LineKind {
 }
 
 /// The line of the first counter; the others follow it.
-pub const COUNTER_LINE: u8 = 30;
+pub const COUNTER_LINE: u8 = TASK_LIMIT as u8;
 
 /// The owners of lines: so many tasks, and so many counters.
 #[derive(Clone, Copy, Debug, PartialEq, Eq)]

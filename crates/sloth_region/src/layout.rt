@@ -1,5 +1,6 @@
 //! The offsets of `specs/Layout.antt` as numbers for instructions: service words, contexts, and the controller's bytes.
 ghost use Rattle.std.specs.Prelude.{◌≡◌, ◌<◌, ◌≤◌, pos};
+ghost use Rattle.sloth_base.specs.Limits.{task_limit};
 ghost use Rattle.sloth_region.specs.Layout.{active, events, wait, counter_value, alarm_left, alarm_cycle, resume, saved_level, pending_byte, enabled_byte, level_byte};
 
 /// Bits 31 to 12 of the address of the service words.
@@ -36,7 +37,7 @@ pub const CONTROLLER_HIGH: u32 = 0x1_0000;
 
 /// Whether a task is Active.
 pub fn active(task: u8) -> i32
-    requires { task < 30 }
+    requires { task < task_limit }
     ensures { result ≡ pos (active task) }
 {
     4 + 12 * task as i32
@@ -44,7 +45,7 @@ pub fn active(task: u8) -> i32
 
 /// A task's events.
 pub fn events(task: u8) -> i32
-    requires { task < 30 }
+    requires { task < task_limit }
     ensures { result ≡ pos (events task) }
 {
     8 + 12 * task as i32
@@ -52,7 +53,7 @@ pub fn events(task: u8) -> i32
 
 /// The events that a task waits for.
 pub fn wait(task: u8) -> i32
-    requires { task < 30 }
+    requires { task < task_limit }
     ensures { result ≡ pos (wait task) }
 {
     12 + 12 * task as i32
@@ -84,7 +85,7 @@ pub fn alarm_cycle(alarm: u8) -> i32
 
 /// Where the address of a task's own context stands.
 pub fn resume(task: u32) -> i32
-    requires { task < 30 }
+    requires { task < task_limit }
     ensures { result ≡ pos (resume task) }
 {
     RESUME_WORDS + 4 * task as i32

@@ -5,6 +5,7 @@ ghost use Rattle.sloth_base.specs.ConfigRange.{InRange};
 ghost use Rattle.code_lengths.specs.CodeLengths.{boot_length};
 ghost use Rattle.vector_gen.specs.Boot.{register_code, line_start_code, lines_code, counters_code, finishing_code, Boots};
 ghost use Rattle.sloth_base.specs.Owners.{first_counter_line};
+ghost use Rattle.sloth_base.specs.Limits.{task_limit};
 
 use block_parts::boot::{counter_level, raise_autostarted};
 use masked_code::emit::emit;
@@ -13,6 +14,7 @@ use rv32_instr::constant::{hi, lo};
 use rv32_instr::csr::{MEPC, MPIE, MSTATUS};
 use rv32_instr::{Block, Instr};
 use sloth_base::config::{Config, CounterDecl, TaskDecl};
+use sloth_base::limits::TASK_LIMIT;
 use sloth_base::lines::COUNTER_LINE;
 use sloth_base::list::List;
 use sloth_base::memory::NoMemory;
@@ -68,8 +70,8 @@ fn start(code: &mut Vec<Instr>, line: u8, level: u8, autostart: bool) -> Result<
 }
 
 /// All tasks' lines.
-fn start_all(code: &mut Vec<Instr>, tasks: &[TaskDecl], levels: [u8; 30]) -> Result<(), AllocError>
-    requires { length tasks.now ≤ 30 }
+fn start_all(code: &mut Vec<Instr>, tasks: &[TaskDecl], levels: [u8; TASK_LIMIT]) -> Result<(), AllocError>
+    requires { length tasks.now ≤ task_limit }
     ensures added { OnOk result (code.new.items ≡ code.old.items ++ lines_code 0 tasks.now levels) }
     ensures bytes { (line : ℕ) → slice_index levels line < 256 }
 {

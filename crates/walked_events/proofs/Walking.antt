@@ -23,6 +23,7 @@ use Rattle.osek_scheduler.specs.Runs.{Follows, ReadySince, OsekRun, PassesOver, 
 use Rattle.osek_scheduler.proofs.Tests.{Decides-is_ready, Decides-is_active}
 use Rattle.osek_scheduler.proofs.Leading.{follows_leads, one_end}
 use Rattle.sloth_base.specs.Owners.{is_counter_line, owners_in}
+use Rattle.sloth_base.specs.Limits.{task_limit}
 use Rattle.osek_plans.specs.Above.{is_above, is_due_line, is_line_above}
 use Rattle.walked_events.specs.Moments.{KeepsMoments, all_later}
 use Rattle.walked_events.specs.Walk.{Walk, Walks, WalksOrStrays, StraysAt, Stops, IsWalked, task_passes, event_passes}
@@ -33,7 +34,7 @@ one_bit b = cond b 1 0
 
 -- ---- what is passed over
 
-module _ (config : Config) (app : App) (past : List Stamped) (s : System) (moments : List ℕ) (keeps : KeepsMoments config app past s moments) (few : length config.tasks ≤ 30) where
+module _ (config : Config) (app : App) (past : List Stamped) (s : System) (moments : List ℕ) (keeps : KeepsMoments config app past s moments) (few : length config.tasks ≤ task_limit) where
   abbrev IsAbove : ℕ → ℕ → Type 0
   IsAbove t u = (u < length config.tasks) × (((task s u).state ≡ mode.Ready) × (rank config s t < rank config s u))
 
@@ -223,7 +224,7 @@ walks_here config app events None walk none h = h
 walks_here config app events (Some k) walk none h = absurd cc
 
 -- before the first event
-pub walked_none : (config : Config) (app : App) (walk : Walk) → length config.tasks ≤ 30 → walk.machine ≡ record { config = config; app = app; system = opening config app }
+pub walked_none : (config : Config) (app : App) (walk : Walk) → length config.tasks ≤ task_limit → walk.machine ≡ record { config = config; app = app; system = opening config app }
     → length walk.moments ≡ 32 → ((u : ℕ) → get_or walk.moments u 0 ≡ 0) → IsWalked config app [] walk
 walked_none config app walk few is count zeros = record {
   few = few;
