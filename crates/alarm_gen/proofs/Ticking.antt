@@ -9,6 +9,7 @@ use Rattle.sloth_base.specs.Machine.{Core, State}
 use Rattle.sloth_base.specs.Arithmetic.{sum32, hi}
 use Rattle.sloth_base.specs.MemoryMap.{memory_base}
 use Rattle.sloth_base.specs.Owners.{counter_line}
+use Rattle.sloth_base.specs.Limits.{counter_limit}
 use Rattle.sloth_region.specs.Layout.{active, counter_value, controller_base}
 use Rattle.rv32_instr.specs.declared.InstrKind.{InstrKind}
 use Rattle.rv32_instr.specs.Ram.{word_at, with_word}
@@ -42,7 +43,7 @@ told_counted ram enabled pending counter v (t ∷ tasks) h =
       told_counted ram enabled pending counter v tasks h.1,
     )
 
-module _ (counter max : ℕ) (alarms : List NumberedAlarm) (small : counter < 2) (max_fits : max < 2 ^ 32) (numbered : AreNumbered alarms)
+module _ (counter max : ℕ) (alarms : List NumberedAlarm) (small : counter < counter_limit) (max_fits : max < 2 ^ 32) (numbered : AreNumbered alarms)
     (offset : ℕ) (c : Core) (h : MayTick offset counter alarms (tick_code counter max alarms) c) where
   abbrev to : ℕ
   to = offset + 4 * length (tick_code counter max alarms)
@@ -160,6 +161,6 @@ module _ (counter max : ℕ) (alarms : List NumberedAlarm) (small : counter < 2)
       (subst (λ x. Owes offset to offset (tick_code counter max alarms) 0 (Ticked counter max alarms) (offset_state v x) x) (based_is c can.registers can.zero h.bases) owes))
 
 -- from the vector word back to what it interrupts, for each counter with its alarms
-pub ticks : (counter max : ℕ) (alarms : List NumberedAlarm) → counter < 2 → max < 2 ^ 32 → AreNumbered alarms
+pub ticks : (counter max : ℕ) (alarms : List NumberedAlarm) → counter < counter_limit → max < 2 ^ 32 → AreNumbered alarms
     → Ticks counter max alarms (tick_code counter max alarms)
 ticks counter max alarms small fits numbered = λ offset core h. runs_it counter max alarms small fits numbered offset core h

@@ -1,7 +1,7 @@
 //! How many instructions each piece of generated code has.
 ghost use Rattle.std.specs.Prelude.{◌≡◌, ◌<◌, ◌≤◌, ◌*◌, ℕ, All, length};
 ghost use Rattle.sloth_base.specs.Blocks.{block_count};
-ghost use Rattle.sloth_base.specs.Limits.{task_limit};
+ghost use Rattle.sloth_base.specs.Limits.{task_limit, counter_limit};
 ghost use Rattle.code_lengths.specs.Bodies.{IsBodyPlace};
 ghost use Rattle.code_lengths.specs.CodeLengths.{lines_length, boot_length, prologue_length, service_length, block_length, IsPrologueLength};
 
@@ -39,7 +39,7 @@ fn lines_length(tasks: &[TaskDecl]) -> u32
 
 /// How many instructions boot of these tasks and of so many counters has.
 pub fn boot_length(tasks: &[TaskDecl], counters: u32) -> u32
-    requires { (length tasks.now ≤ task_limit) × (counters ≤ 2) }
+    requires { (length tasks.now ≤ task_limit) × (counters ≤ counter_limit) }
     ensures is { result ≡ boot_length tasks.now counters }
     ensures short { result ≤ 136 }
 {

@@ -2,7 +2,7 @@
 ghost use Rattle.std.specs.Prelude.{◌≡◌, Decides};
 ghost use Rattle.image_file.specs.Limits.{SizesFit, header_size};
 
-use sloth_base::limits::TASK_LIMIT;
+use sloth_base::limits::{COUNTER_LIMIT, TASK_LIMIT};
 
 /// The numbers of tasks, functions, counters, bytes of memory and marks.
 #[derive(Clone, Copy)]
@@ -28,7 +28,7 @@ impl Sizes {
     {
         self.tasks <= TASK_LIMIT
             && self.funcs <= 64
-            && self.counters <= 2
+            && self.counters <= COUNTER_LIMIT
             && self.memory <= 2_097_152
             && self.memory % 4 == 0
             && self.marks <= 16_384

@@ -1,6 +1,7 @@
 //! Where each piece of code and data begins.
 ghost use Rattle.std.specs.Prelude.{◌≡◌, ◌<◌, ◌≤◌, ◌+◌, ◌++◌, ◌∷◌, [], IfOk, OnOk, drop, get_or, take};
 ghost use Rattle.sloth_base.specs.Owners.{first_counter_line};
+ghost use Rattle.sloth_base.specs.Limits.{counter_limit};
 ghost use Rattle.mem_map.specs.StackParts.{no_extent};
 ghost use Rattle.map_text.specs.Listable.{IsListable};
 ghost use Rattle.map_text.specs.Rows.{address_behind_code, code_places, numbered_starts, single_start, starts_of};
@@ -105,7 +106,7 @@ fn prologues(map: &Map, tasks: usize) -> &[u32]
 
 // Those of the ticks of so many counters.
 fn ticks(map: &Map, counters: usize) -> &[u32]
-    requires { counters ≤ 2 }
+    requires { counters ≤ counter_limit }
     ensures { result.now ≡ take counters (drop first_counter_line map.now.handlers) }
 {
     let first = usize::from(COUNTER_LINE);

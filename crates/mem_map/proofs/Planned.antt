@@ -14,7 +14,7 @@ use Rattle.sloth_region.specs.declared.map.Map.{Map}
 use Rattle.sloth_region.specs.Region.{FollowWithin}
 use Rattle.std.proofs.lemmas.Bool.{cases_lt}
 use Rattle.sloth_base.specs.declared.places.Bounds.{Bounds}
-use Rattle.sloth_base.specs.Limits.{task_limit}
+use Rattle.sloth_base.specs.Limits.{task_limit, counter_limit}
 use Rattle.mem_map.specs.Starts.{end_of, starts}
 use Rattle.mem_map.specs.Run.{extents_of, AreClose}
 use Rattle.mem_map.specs.declared.all_lengths.CodeLengths.{CodeLengths}
@@ -65,7 +65,7 @@ module _ (config : Config) (app : App) (lengths : CodeLengths) (bounds : Bounds)
   pub few_starts : length lengths.prologues ≤ task_limit
   few_starts = let c = may.code.prologues in let f = few_tasks in omega (arith, c, f)
 
-  pub few_ticks : length lengths.ticks ≤ 2
+  pub few_ticks : length lengths.ticks ≤ counter_limit
   few_ticks = let c = may.code.ticks in let f = may.in_range.configuration.few_counters in omega (arith, c, f)
 
   ticks_short : services_at lengths ≤ ticks_at lengths + 8792

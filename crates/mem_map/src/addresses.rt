@@ -1,7 +1,7 @@
 //! The addresses of services, each right behind the one before it, and those to which the vector words jump.
 ghost use Rattle.std.specs.Prelude.{ℕ, ◌≡◌, ◌≤◌, ◌<◌, ◌⊎◌, length, map, get_or, slice_index, take};
 ghost use Rattle.sloth_base.specs.Owners.{first_counter_line, counter_line};
-ghost use Rattle.sloth_base.specs.Limits.{task_limit};
+ghost use Rattle.sloth_base.specs.Limits.{task_limit, counter_limit};
 ghost use Rattle.mem_map.specs.Starts.{starts, end_of, code_byte_count};
 
 use sloth_base::lines::COUNTER_LINE;
@@ -12,7 +12,7 @@ const WORD: u32 = 4;
 
 // Those of the lines of counters: their ticks. All others go to the idle loop.
 fn with_ticks(idle: u32, ticks: &[u32]) -> [u32; 32]
-    requires { length ticks.now ≤ 2 }
+    requires { length ticks.now ≤ counter_limit }
     ensures ticks { (c : ℕ) → c < length ticks.now → slice_index result (counter_line c) ≡ get_or ticks.now c 0 }
     ensures unused { (line : ℕ) → line < 32 → (line < first_counter_line) ⊎ (counter_line (length ticks.now) ≤ line) → slice_index result line ≡ idle }
     ensures lines { length result ≡ 32 }
@@ -26,7 +26,7 @@ fn with_ticks(idle: u32, ticks: &[u32]) -> [u32; 32]
 
 /// The address to which the vector word of each line jumps: the prologue of its task, the tick of its counter, or the idle loop.
 pub fn handlers(idle: u32, prologues: &[u32], ticks: &[u32]) -> [u32; 32]
-    requires { (length prologues.now ≤ task_limit) × (length ticks.now ≤ 2) }
+    requires { (length prologues.now ≤ task_limit) × (length ticks.now ≤ counter_limit) }
     ensures prologues { take (length prologues.now) result ≡ prologues.now }
     ensures ticks { (c : ℕ) → c < length ticks.now → slice_index result (counter_line c) ≡ get_or ticks.now c 0 }
     ensures unused { (line : ℕ) → length prologues.now ≤ line → line < 32 → (line < first_counter_line) ⊎ (counter_line (length ticks.now) ≤ line)

@@ -8,7 +8,7 @@ ghost use Rattle.mem_map.specs.Stacks.{HasStacks};
 ghost use Rattle.mem_map.specs.Plan.{MayPlan, HasAddresses, idle_at, prologues_at, ticks_at, tick_starts, services_at, items_at, code_end, symbol_bytes};
 ghost use Rattle.mem_map.specs.Starts.{code_byte_count};
 ghost use Rattle.sloth_base.specs.Owners.{first_counter_line, counter_line};
-ghost use Rattle.sloth_base.specs.Limits.{task_limit};
+ghost use Rattle.sloth_base.specs.Limits.{task_limit, counter_limit};
 ghost use Rattle.mem_map.specs.Planned.{IsPlanned};
 
 use crate::addresses::{handlers, place_services};
@@ -54,7 +54,7 @@ fn place_code(alloc: Global, from: u32, sizes: &[u32]) -> Result<Pieces, AllocEr
 // The addresses of the code behind boot.
 fn plan_code(alloc: Global, lengths: &CodeLengths) -> Result<Code, AllocError>
     requires boot { lengths.now.boot ≤ 136 }
-    requires few { (length lengths.now.prologues ≤ task_limit) × (length lengths.now.ticks ≤ 2) }
+    requires few { (length lengths.now.prologues ≤ task_limit) × (length lengths.now.ticks ≤ counter_limit) }
     requires prologues { All (λ size. size ≤ 2048) lengths.now.prologues }
     requires ticks { All (λ size. size ≤ 2048) lengths.now.ticks }
     requires items { All (λ size. size ≤ 2048) lengths.now.items }

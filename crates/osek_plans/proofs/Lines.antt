@@ -5,7 +5,7 @@ use Rattle.std.specs.Int.{bit_at}
 use Rattle.std.proofs.lemmas.Bool.{lt-ltb, le-ltb, le-leb, lt-leb, cases_lt}
 use Rattle.std.proofs.Math.Bool.{or-false}
 use Rattle.sloth_base.specs.declared.config.Config.{Config}
-use Rattle.sloth_base.specs.Limits.{task_limit}
+use Rattle.sloth_base.specs.Limits.{task_limit, counter_limit}
 use Rattle.osek_scheduler.specs.State.{System, task, counter}
 use Rattle.osek_scheduler.specs.Priority.{rank}
 use Rattle.osek_scheduler.specs.Next.{is_ready}
@@ -51,7 +51,7 @@ module _ (config : Config) (s : System) (t : ℕ) (few : length config.tasks ≤
     onward : (new : ℕ) → Row test (30 + c + 1) new → Row test (30 + (c + 1)) new
     onward new r = let e : 30 + c + 1 ≡ 30 + (c + 1) = omega arith in subst (λ n. Row test n new) e r
 
-    pub counter_set : length config.counters ≤ 2 → c < length config.counters → (counter s c).due ≡ true
+    pub counter_set : length config.counters ≤ counter_limit → c < length config.counters → (counter s c).due ≡ true
         → Row test (30 + (c + 1)) (bit_or row (1 * 2 ^ (30 + c) % 2 ^ 32))
     counter_set small lt due =
         onward (bit_or row (1 * 2 ^ (30 + c) % 2 ^ 32)) (row_set test (30 + c) row h (omega (arith, small, lt)) (counter_tested c lt ∙ due))

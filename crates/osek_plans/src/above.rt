@@ -1,7 +1,7 @@
 //! What stands above a task in the order of the tasks and counters that are due.
 ghost use Rattle.std.specs.Prelude.{◌≡◌, ◌<◌, ◌≤◌, ◌*◌, ◌%◌, ◌^◌, ℕ, bit_or, cond, length};
 ghost use Rattle.std.specs.Int.{bit_at};
-ghost use Rattle.sloth_base.specs.Limits.{task_limit};
+ghost use Rattle.sloth_base.specs.Limits.{task_limit, counter_limit};
 ghost use Rattle.osek_scheduler.specs.Priority.{rank};
 ghost use Rattle.osek_plans.specs.Above.{is_above, is_line_above};
 
@@ -53,7 +53,7 @@ pub fn lines_above(config: &Config, store: &Store, task: u32) -> u32
     requires count { length store.now.tasks ≡ length config.now.tasks }
     requires few { length config.now.tasks ≤ task_limit }
     requires declared { task < length config.now.tasks }
-    requires few_counters { length config.now.counters ≤ 2 }
+    requires few_counters { length config.now.counters ≤ counter_limit }
     ensures { (line : ℕ) → bit_at result line ≡ cond (is_line_above config.now store.now task line) 1 0 }
 {
     let mut row = tasks_above(config, store, task);

@@ -16,7 +16,7 @@ use Rattle.sloth_base.specs.declared.event.Arrival.{Arrival}
 use Rattle.sloth_base.specs.declared.event.Event.TheVariants as event
 use Rattle.sloth_base.specs.declared.lines.LineKind.TheVariants as line_of
 use Rattle.sloth_base.specs.declared.step.Step.{Step}
-use Rattle.sloth_base.specs.Limits.{task_limit}
+use Rattle.sloth_base.specs.Limits.{task_limit, counter_limit}
 use Rattle.sloth_base.proofs.Owners.{kind_of_counter, tasks_owned}
 use Rattle.sloth_base.proofs.Stretches.{counter_entry_limit, counter_touches}
 use Rattle.rv32_instr.specs.Execute.{touched}
@@ -99,7 +99,7 @@ module _ (b : Build) (view : View) (arrivals : List Arrival) (setting : IsSettin
   few : length b.config.tasks ≤ task_limit
   few = fits.few_tasks
 
-  number : c < 2
+  number : c < counter_limit
   number = let f = fits.few_counters in let l = may.declared in omega (arith, f, l)
 
   taken : line_to_take now ≡ Some line

@@ -8,7 +8,7 @@ use Rattle.sloth_base.specs.declared.image.Mark.{Mark}
 use Rattle.sloth_base.specs.declared.image.MarkKind.{MarkKind}
 use Rattle.sloth_base.specs.declared.image.MarkKind.TheVariants as kind
 use Rattle.sloth_base.specs.MemoryMap.{memory_base}
-use Rattle.sloth_base.specs.Limits.{task_limit}
+use Rattle.sloth_base.specs.Limits.{task_limit, counter_limit}
 
 -- a letter or `_`
 abbrev pub begins_word : ℕ → Bool
@@ -64,7 +64,7 @@ AreAscending marks = IsStrictlyIncreasing (map (λ mark. mark.address) marks)
 pub record InFormat (image : Image) : Type 0 where
   pub few_tasks : length image.tasks ≤ task_limit
   pub few_functions : length image.funcs ≤ 64
-  pub few_counters : length image.counters ≤ 2
+  pub few_counters : length image.counters ≤ counter_limit
   pub tasks : AreNames image.tasks
   pub functions : AreNames image.funcs
   pub counters : AreNames image.counters

@@ -1,6 +1,6 @@
 //! The offsets of `specs/Layout.antt` as numbers for instructions: service words, contexts, and the controller's bytes.
 ghost use Rattle.std.specs.Prelude.{◌≡◌, ◌<◌, ◌≤◌, pos};
-ghost use Rattle.sloth_base.specs.Limits.{task_limit};
+ghost use Rattle.sloth_base.specs.Limits.{task_limit, counter_limit};
 ghost use Rattle.sloth_region.specs.Layout.{active, events, wait, counter_value, alarm_left, alarm_cycle, resume, saved_level, pending_byte, enabled_byte, level_byte};
 
 /// Bits 31 to 12 of the address of the service words.
@@ -61,7 +61,7 @@ pub fn wait(task: u8) -> i32
 
 /// The value of a counter, 0 or 1: from 0 to the counter's greatest value.
 pub fn counter_value(counter: u8) -> i32
-    requires { counter < 2 }
+    requires { counter < counter_limit }
     ensures { result ≡ pos (counter_value counter) }
 {
     364 + 4 * counter as i32

@@ -8,7 +8,7 @@ pub use crate::looks::Seen;
 use crate::looks::{instructions_through, look};
 use crate::runner::Runner;
 use rv32_machine::{SlothBus, Stop};
-use sloth_base::limits::TASK_LIMIT;
+use sloth_base::limits::{COUNTER_LIMIT, TASK_LIMIT};
 use sloth_base::lines::COUNTER_LINE;
 use sloth_base::numbers::Line;
 use sloth_inspect::{levels, pending};
@@ -19,15 +19,12 @@ pub struct Interrupts {
     /// Whether each task's line is pending, in 30 places.
     pub pending: [bool; TASK_LIMIT],
     /// Whether the line of each counter is pending.
-    pub counters_pending: [bool; COUNTERS],
+    pub counters_pending: [bool; COUNTER_LIMIT],
     /// The running level, 0 to 255.
     pub level: u8,
     /// Whether interrupts are masked.
     pub masked: bool,
 }
-
-/// How many counters there are at most.
-pub const COUNTERS: usize = 2;
 
 /// What a run shows of its tasks.
 #[derive(Clone, Copy)]
@@ -41,7 +38,7 @@ pub enum Sight {
 }
 
 // Whether the line of each counter is pending.
-fn counters_pending(bus: &SlothBus) -> [bool; COUNTERS]
+fn counters_pending(bus: &SlothBus) -> [bool; COUNTER_LIMIT]
     ensures { result ≡ pending_counters_in bus.now }
 {
     [

@@ -2,6 +2,7 @@
 ghost use Rattle.std.specs.Prelude.{◌≡◌, ◌≤◌, length};
 ghost use Rattle.sloth_base.specs.Named.{alarms_of, most_alarms};
 ghost use Rattle.sloth_base.specs.Stretches.{Boots, longest_stretch, stretch_limit};
+ghost use Rattle.sloth_base.specs.Limits.{counter_limit};
 ghost use Rattle.trace_time.specs.Timed.{HasFewAlarms};
 
 use sloth_base::config::Config;
@@ -29,7 +30,7 @@ fn alarms_of(config: &Config, counter: u32) -> usize
 
 // The most alarms of one counter.
 fn most_alarms(config: &Config) -> usize
-    requires { length config.now.counters ≤ 2 }
+    requires { length config.now.counters ≤ counter_limit }
     ensures is { result ≡ most_alarms config.now }
     ensures few { result ≤ length config.now.alarms }
 {

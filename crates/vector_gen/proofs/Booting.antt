@@ -11,7 +11,7 @@ use Rattle.rv32_instr.specs.declared.InstrKind.{InstrKind}
 use Rattle.rv32_instr.specs.declared.InstrKind.TheVariants.{Sb}
 use Rattle.sloth_base.specs.Arithmetic.{hi}
 use Rattle.sloth_base.specs.MemoryMap.{memory_base}
-use Rattle.sloth_base.specs.Limits.{task_limit}
+use Rattle.sloth_base.specs.Limits.{task_limit, counter_limit}
 use Rattle.masked_code.specs.Place.{offset_state}
 use Rattle.masked_code.specs.Masked.{Masked, WithArrivals}
 use Rattle.masked_code.specs.Owes.{◌▸◌, writes, raises, sets_enabled, sets_level, accesses, Owes}
@@ -238,7 +238,7 @@ boot_code tasks counters levels top idle = register_code ++ (lines_code 0 tasks 
 abbrev idle_end : ℕ
 idle_end = memory_base + (idle_context + context_bytes)
 
-module _ (tasks : List TaskDecl) (counters : ℕ) (levels : List ℕ) (top idle : ℕ) (few : length tasks ≤ task_limit) (few_counters : counters ≤ 2) (byte : top + 1 < 256) (small : (k : ℕ) → get_or levels k 0 < 256) (fits : idle < 2 ^ 32)
+module _ (tasks : List TaskDecl) (counters : ℕ) (levels : List ℕ) (top idle : ℕ) (few : length tasks ≤ task_limit) (few_counters : counters ≤ counter_limit) (byte : top + 1 < 256) (small : (k : ℕ) → get_or levels k 0 < 256) (fits : idle < 2 ^ 32)
     (aligned : idle % 4 ≡ 0) (offset : ℕ) (c : Core) (h : MayBoot offset (boot_code tasks counters levels top idle) c) where
   end_owes : (from to o x2 x1 : ℕ)
       → Owes from to o (finishing_code idle) 0 (Booted tasks counters levels top idle) (offset_state offset (spread c))
@@ -316,7 +316,7 @@ module _ (tasks : List TaskDecl) (counters : ℕ) (levels : List ℕ) (top idle 
       (subst (λ x. Owes offset to offset (boot_code tasks counters levels top idle) 0 (Booted tasks counters levels top idle) (offset_state offset x) x) (spread_is c can.registers can.zero) (owes offset to))
 
 -- for each list of tasks and number of counters that it is generated for
-pub boots : (tasks : List TaskDecl) (counters : ℕ) (levels : List ℕ) (top idle : ℕ) → length tasks ≤ task_limit → counters ≤ 2 → top + 1 < 256
+pub boots : (tasks : List TaskDecl) (counters : ℕ) (levels : List ℕ) (top idle : ℕ) → length tasks ≤ task_limit → counters ≤ counter_limit → top + 1 < 256
     → ((k : ℕ) → get_or levels k 0 < 256) → idle < 2 ^ 32 → Boots tasks counters levels top idle (boot_code tasks counters levels top idle)
 boots tasks counters levels top idle few few_counters byte small fits =
     let long = length-starts tasks 0 levels in

@@ -5,7 +5,7 @@ ghost use Rattle.sloth_base.specs.ConfigRange.{InRange};
 ghost use Rattle.code_lengths.specs.CodeLengths.{boot_length};
 ghost use Rattle.vector_gen.specs.Boot.{register_code, line_start_code, lines_code, counters_code, finishing_code, Boots};
 ghost use Rattle.sloth_base.specs.Owners.{first_counter_line};
-ghost use Rattle.sloth_base.specs.Limits.{task_limit};
+ghost use Rattle.sloth_base.specs.Limits.{task_limit, counter_limit};
 
 use block_parts::boot::{counter_level, raise_autostarted};
 use masked_code::emit::emit;
@@ -87,7 +87,7 @@ fn start_counters(
     counters: &[CounterDecl],
     level: u8,
 ) -> Result<(), AllocError>
-    requires { length counters.now ≤ 2 }
+    requires { length counters.now ≤ counter_limit }
     ensures added { OnOk result (code.new.items ≡ code.old.items ++ counters_code (length counters.now) first_counter_line level) }
     ensures byte { level < 256 }
 {

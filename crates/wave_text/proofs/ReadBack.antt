@@ -4,7 +4,7 @@ use Rattle.std.specs.Prelude.{Bool, true, false, ◌==◌, nat_le, if◌then◌e
 use Rattle.std.proofs.lemmas.Bool.{cases_lt, false≢true}
 use Rattle.std.proofs.lemmas.Bool.Decides.{eqb_tells, leb_tells}
 use Rattle.sloth_base.specs.declared.lines.Owners.{Owners}
-use Rattle.sloth_base.specs.Limits.{task_limit}
+use Rattle.sloth_base.specs.Limits.{task_limit, counter_limit}
 use Rattle.run_samples.specs.declared.sampling.Sample.{Sample}
 use Rattle.wave_text.specs.declared.signals.Scope.{Scope}
 use Rattle.wave_text.specs.declared.signals.Scope.TheVariants as scope
@@ -258,7 +258,7 @@ signal-reads owners code val follow xs k below =
     let same : 0 + k ≡ k = omega arith in
     ap (λ v. value_behind code k v es) (sym follow.unknown) ∙ subst P same (value-at owners (length xs) code val follow xs 0 k None below (omega (arith, below)))
 
-pub reads-back : (owners : Owners) (samples : List Sample) (k : ℕ) → owners.tasks ≤ task_limit → owners.counters ≤ 2 → k < length samples → ReadsBack owners samples k
+pub reads-back : (owners : Owners) (samples : List Sample) (k : ℕ) → owners.tasks ≤ task_limit → owners.counters ≤ counter_limit → k < length samples → ReadsBack owners samples k
 reads-back owners samples k few counters below = record {
   of_scope = λ s place l. signal-reads owners (first_code s + place) (λ sample. value_of s sample place) (scope-followed owners few s place l) samples k below;
   of_level = signal-reads owners level_signal level_value (record { follows = λ at old new rest. of-level owners few at old new rest; unknown = refl }) samples k below;

@@ -1,6 +1,6 @@
 //! The changes of signals, written as they come.
 ghost use Rattle.std.specs.Prelude.{◌≡◌, ◌≤◌, ◌++◌, true, false, Some, None, OnOk};
-ghost use Rattle.sloth_base.specs.Limits.{task_limit};
+ghost use Rattle.sloth_base.specs.Limits.{task_limit, counter_limit};
 ghost use Rattle.wave_text.specs.Changes.{Entry, same_value, change_entries, changes, scope_changes, moment_entries, with_moment};
 ghost use Rattle.wave_text.specs.Text.{digit, entry_line, entry_lines};
 ghost use Rattle.wave_text.specs.Signals.{most_signals};
@@ -187,7 +187,7 @@ impl Dump {
         after: &Option<Sample>,
     ) -> Result<(), NoMemory>
         requires tasks { owners.now.tasks ≤ task_limit }
-        requires counters { owners.now.counters ≤ 2 }
+        requires counters { owners.now.counters ≤ counter_limit }
         ensures { OnOk result
             (self.new.text.items ≡ self.old.text.items ++ entry_lines (with_moment count false (changes owners.now before.now after.now))) }
     {

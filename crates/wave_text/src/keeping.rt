@@ -1,14 +1,14 @@
 //! Whether signals keep their values: told by one look at the parts of two samples, since most counts change nothing.
 ghost use Rattle.std.specs.Prelude.{ℕ, ◌≡◌, ◌<◌, ◌≤◌, IsTrue, false, get_or};
-ghost use Rattle.sloth_base.specs.Limits.{task_limit};
+ghost use Rattle.sloth_base.specs.Limits.{task_limit, counter_limit};
 ghost use Rattle.osek_scheduler.specs.declared.state.TaskState.TheVariants as mode;
 ghost use Rattle.wave_text.specs.Signals.{KeepValues, most_signals, state_number, seen_state, running_value, value_in};
 
 use crate::signals::{Scope, state_number};
 use osek_scheduler::state::TaskState;
 use run_samples::Sample;
-use sloth_base::limits::TASK_LIMIT;
-use sloth_runner::sight::{COUNTERS, Seen};
+use sloth_base::limits::{COUNTER_LIMIT, TASK_LIMIT};
+use sloth_runner::sight::Seen;
 
 // Whether the states of the tasks have the same numbers.
 fn same_states(tasks: usize, one: &[TaskState; TASK_LIMIT], other: &[TaskState; TASK_LIMIT]) -> bool
@@ -37,8 +37,8 @@ fn same_pending(tasks: usize, one: &[bool; TASK_LIMIT], other: &[bool; TASK_LIMI
 }
 
 // Whether the same lines of counters are pending.
-fn same_counters(counters: usize, one: &[bool; COUNTERS], other: &[bool; COUNTERS]) -> bool
-    requires { counters ≤ 2 }
+fn same_counters(counters: usize, one: &[bool; COUNTER_LIMIT], other: &[bool; COUNTER_LIMIT]) -> bool
+    requires { counters ≤ counter_limit }
     ensures { IsTrue result → (t : ℕ) → t < counters → get_or one.now t false ≡ get_or other.now t false }
 {
     for counter in 0..counters {
