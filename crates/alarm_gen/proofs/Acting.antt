@@ -18,7 +18,7 @@ use Rattle.masked_code.proofs.Leave.{behind}
 use Rattle.block_parts.proofs.Landing.{lands}
 use Rattle.sloth_base.specs.declared.config.Action.{Action}
 use Rattle.sloth_base.specs.declared.config.Action.TheVariants.{Activate, Set}
-use Rattle.sloth_base.specs.Limits.{task_limit}
+use Rattle.sloth_base.specs.Limits.{task_limit, alarm_limit}
 use Rattle.code_lengths.specs.CodeLengths.{sets_events_of}
 use Rattle.alarm_gen.specs.declared.alarms.NumberedAlarm.{NumberedAlarm}
 use Rattle.alarm_gen.specs.Alarms.{IsAction, IsNumbered, AreNumbered, is_target}
@@ -30,7 +30,7 @@ use Rattle.alarm_gen.proofs.Flags.{KnowsAll, knows_ram, knows_raised, added_one,
 
 -- ---- words apart
 
-left_active : (ram : List ℕ) (alarm v task : ℕ) → alarm < 32 → task < task_limit → word_at (with_word ram (alarm_left alarm) v) (active task) ≡ word_at ram (active task)
+left_active : (ram : List ℕ) (alarm v task : ℕ) → alarm < alarm_limit → task < task_limit → word_at (with_word ram (alarm_left alarm) v) (active task) ≡ word_at ram (active task)
 left_active ram alarm v task a t = word_at-other ram (alarm_left alarm) v (active task) (inl (omega arith))
 
 events_active : (ram : List ℕ) (t v u : ℕ) → word_at (with_word ram (events t) v) (active u) ≡ word_at ram (active u)

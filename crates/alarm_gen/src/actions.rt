@@ -1,6 +1,6 @@
 //! What a tick does with each alarm: it loses a tick, and where it expires it acts.
 ghost use Rattle.std.specs.Prelude.{◌≡◌, ◌<◌, ◌≤◌, ◌++◌, OnOk};
-ghost use Rattle.sloth_base.specs.Limits.{task_limit};
+ghost use Rattle.sloth_base.specs.Limits.{task_limit, alarm_limit};
 ghost use Rattle.alarm_gen.specs.Alarms.{IsAction, IsNumbered, AreNumbered};
 ghost use Rattle.alarm_gen.specs.Pieces.{basing_code, activating_code, event_adding_code, waking_code, action_code, action_size, losing_code, alarm_code, alarms_code};
 ghost use Rattle.block_parts.specs.Ticks.{suspension_test, awaited_events_test};
@@ -39,7 +39,7 @@ fn run(code: &mut Vec<Instr>, alarm: &NumberedAlarm) -> Result<(), AllocError>
 
 /// An alarm in use loses a tick, and starts again where it expires; else on behind the instructions of its action.
 fn lose(code: &mut Vec<Instr>, alarm: u8, size: u32) -> Result<(), AllocError>
-    requires { (alarm < 32) × (size ≤ 17) }
+    requires { (alarm < alarm_limit) × (size ≤ 17) }
     ensures { OnOk result (code.new.items ≡ code.old.items ++ losing_code alarm size) }
 {
     let lost = [

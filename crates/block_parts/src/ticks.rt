@@ -1,6 +1,6 @@
 //! Pieces of a tick. x4 holds the base of memory, and bit T of x3 says whether task T is not Suspended.
 ghost use Rattle.std.specs.Prelude.{◌≡◌, ◌<◌, ◌^◌, ◌++◌, [], OnOk, cond};
-ghost use Rattle.sloth_base.specs.Limits.{task_limit};
+ghost use Rattle.sloth_base.specs.Limits.{task_limit, alarm_limit};
 ghost use Rattle.block_parts.specs.Ticks.{greatest_test, look_code, suspension_test, awaited_events_test, restarting_code};
 
 use masked_code::emit::{emit, past};
@@ -95,7 +95,7 @@ pub fn ask_awaited(code: &mut Vec<Instr>, task: u8) -> Result<(), AllocError>
 
 /// The alarm starts again with its cycle.
 pub fn start_again(code: &mut Vec<Instr>, alarm: u8) -> Result<(), AllocError>
-    requires { alarm < 32 }
+    requires { alarm < alarm_limit }
     ensures { OnOk result (code.new.items ≡ code.old.items ++ restarting_code alarm) }
 {
     let started = [

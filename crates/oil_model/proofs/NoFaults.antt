@@ -10,7 +10,7 @@ use Rattle.sloth_base.specs.declared.refusal.Refusal.{Refusal}
 use Rattle.least_fault.specs.Order.{NoFault}
 use Rattle.least_fault.proofs.Nowhere.{nowhere, case_false}
 use Rattle.sloth_base.specs.declared.refusal.Part.TheVariants.{Oil}
-use Rattle.sloth_base.specs.Limits.{task_limit, counter_limit}
+use Rattle.sloth_base.specs.Limits.{task_limit, counter_limit, alarm_limit}
 use Rattle.oil_parse.specs.declared.tree.OilObject.{OilObject}
 use Rattle.oil_parse.specs.declared.tree.OilTree.{OilTree}
 use Rattle.oil_table.specs.Table.{place_of, is_nowhere}
@@ -92,8 +92,8 @@ module _ (tree : OilTree) (none : NoFault (ModelFault tree)) where
   few_counters = count_by-limited (is_of_kind (codes "COUNTER")) counter_limit tree.objects
       (λ i d h. (or_parts (comes_behind (codes "COUNTER") counter_limit (take i tree.objects) (get_or tree.objects i d)) _ (clock_not_above i d h)).0)
 
-  pub few_alarms : count_by (is_of_kind (codes "ALARM")) tree.objects ≤ 32
-  few_alarms = count_by-limited (is_of_kind (codes "ALARM")) 32 tree.objects
+  pub few_alarms : count_by (is_of_kind (codes "ALARM")) tree.objects ≤ alarm_limit
+  few_alarms = count_by-limited (is_of_kind (codes "ALARM")) alarm_limit tree.objects
       (λ i d h. (or_parts (comes_behind (codes "COUNTER") counter_limit (take i tree.objects) (get_or tree.objects i d)) _ (clock_not_above i d h)).1)
 
   -- so many objects of a kind have so many names

@@ -29,6 +29,7 @@ use Rattle.sloth_link.proofs.Joined.{front}
 use Rattle.sloth_link.proofs.Stand.{symbols_stand, word_of}
 use Rattle.mem_map.specs.Zones.{HasZones, data_zone}
 use Rattle.sloth_base.specs.declared.places.Bounds.{Bounds}
+use Rattle.sloth_base.specs.Limits.{alarm_limit}
 use Rattle.sim_image.specs.Zones.{IsInCode, build_of}
 use Rattle.sloth_link.specs.Symbols.{alarm_bytes, alarm_data, data_of}
 use Rattle.sim_image.specs.Symbols.{IsInData}
@@ -91,7 +92,7 @@ module _ (map : Map) (config : Config) (app : App) (bounds : Bounds) (back : ℕ
   miss_symbols : (symbols : List Datum) (i : ℕ) → i < 1024 → All (IsInData map) symbols → All (λ d. Misses i (datum_section d)) symbols
   miss_symbols symbols i l c = λ k d m. let from = (c k d m).from in let f = data_from in inl (omega (arith, l, from, f))
 
-  miss_alarms : (first : ℕ) (alarms : List AlarmDecl) (i : ℕ) → first + length alarms ≤ 32 → IsOther i → All (λ d. Misses i (datum_section d)) (alarm_data first alarms)
+  miss_alarms : (first : ℕ) (alarms : List AlarmDecl) (i : ℕ) → first + length alarms ≤ alarm_limit → IsOther i → All (λ d. Misses i (datum_section d)) (alarm_data first alarms)
   miss_alarms first [] i few o = All-nil (λ (d : Datum). Misses i (datum_section d))
   miss_alarms first (alarm ∷ later) i few o =
       let size : length (alarm_bytes alarm) ≡ 8 = refl in
@@ -100,7 +101,7 @@ module _ (map : Map) (config : Config) (app : App) (bounds : Bounds) (back : ℕ
       (miss_alarms (first + 1) later i (omega (arith, few)) o)
 
   -- no section has such a byte
-  missed : (blocks : List Block) (i : ℕ) → i < 1024 → IsOther i → length config.alarms ≤ 32 → All (IsInCode map) blocks
+  missed : (blocks : List Block) (i : ℕ) → i < 1024 → IsOther i → length config.alarms ≤ alarm_limit → All (IsInCode map) blocks
       → All (IsInData map) (data_of map.places.symbols app.symbols) → All (Misses i) (sections_of blocks (all_data config app map))
   missed blocks i l o few code in_data =
       All-append (Misses i) (prelude.map block_section blocks) (prelude.map datum_section (all_data config app map)) (miss_blocks blocks i l code)

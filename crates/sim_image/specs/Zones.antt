@@ -12,7 +12,7 @@ use Rattle.rv32_instr.specs.Range.{InRange}
 use Rattle.masked_code.specs.Kernel.{CanRun}
 use Rattle.code_rules.specs.Code.{IsCalledBy}
 use Rattle.sloth_base.specs.declared.places.Bounds.{Bounds}
-use Rattle.sloth_base.specs.Limits.{counter_limit}
+use Rattle.sloth_base.specs.Limits.{counter_limit, alarm_limit}
 use Rattle.stack_bounds.specs.Bounds.{MayMeet, bytes_of}
 use Rattle.sim_relation.specs.Build.{Build, Fits, frame_bytes}
 use Rattle.sim_relation.specs.Placed.{IsPlaced}
@@ -57,7 +57,7 @@ pub record IsInCode (map : Map) (block : Block) : Type 0 where
 
 -- a configuration has at most 2 counters and 32 alarms: the service words have room for theirs
 abbrev pub HasFewAlarms : Config → Type 0
-HasFewAlarms config = (length config.counters ≤ counter_limit) × (length config.alarms ≤ 32)
+HasFewAlarms config = (length config.counters ≤ counter_limit) × (length config.alarms ≤ alarm_limit)
 
 -- ---- the laws: one lemma each
 

@@ -12,7 +12,7 @@ use Rattle.sloth_base.specs.Named.{operation, function, symbol_size}
 use Rattle.sloth_base.specs.Named.{declaration}
 use Rattle.osek_scheduler.specs.Priority.{highest_priority}
 use Rattle.sloth_base.specs.PriorityLevels.{level_of}
-use Rattle.sloth_base.specs.Limits.{task_limit, counter_limit}
+use Rattle.sloth_base.specs.Limits.{task_limit, counter_limit, alarm_limit}
 
 -- the configuration, the task code, and where all of it stands in the image
 pub record Build : Type 0 where
@@ -60,7 +60,7 @@ HasRoom b t = (f : ℕ) (outer : List ℕ) → IsCalledBy b.app t f outer → b.
 pub record Fits (b : Build) : Type 0 where
   pub few_tasks : length b.config.tasks ≤ task_limit
   pub few_counters : length b.config.counters ≤ counter_limit
-  pub few_alarms : length b.config.alarms ≤ 32
+  pub few_alarms : length b.config.alarms ≤ alarm_limit
   -- code and data are apart, and stand behind the service words and outside each task's part of the stacks
   pub elsewhere : (i : ℕ) → IsElsewhere b i → 1024 ≤ i
   pub outside : (t i : ℕ) → t < length b.config.tasks → IsElsewhere b i → (i < b.low t) ⊎ (b.top t ≤ i)

@@ -9,7 +9,7 @@ use Rattle.sloth_base.specs.declared.config.AlarmDecl.{AlarmDecl}
 use Rattle.sloth_base.specs.declared.config.Config.{Config}
 use Rattle.sloth_base.specs.ImageRange.{AreNames, AreApart}
 use Rattle.sloth_base.specs.Named.{declaration, counter_declaration}
-use Rattle.sloth_base.specs.Limits.{task_limit, counter_limit}
+use Rattle.sloth_base.specs.Limits.{task_limit, counter_limit, alarm_limit}
 
 -- "RES_SCHEDULER"
 abbrev pub res_scheduler_name : List ℕ
@@ -76,7 +76,7 @@ pub record InRange (config : Config) : Type 0 where
   -- where RES_SCHEDULER exists, no RESOURCE object has its name
   pub scheduler_alone : IsTrue config.res_scheduler → All (λ name. name ≢ res_scheduler_name) config.resources
   pub few_counters : length config.counters ≤ counter_limit
-  pub few_alarms : length config.alarms ≤ 32
+  pub few_alarms : length config.alarms ≤ alarm_limit
   pub counter_names : AreNames (map (λ c. c.name) config.counters)
   pub alarm_names : AreNames (map (λ a. a.name) config.alarms)
   -- no counter has a task's name

@@ -4,6 +4,7 @@ use Rattle.std.specs.Prelude.{All, AllPairs, map}
 use Rattle.std.proofs.lemmas.List.Elements.{All-cons, All-append}
 use Rattle.std.proofs.lemmas.List.Kept.{AllPairs-cons}
 use Rattle.sloth_base.specs.declared.config.AlarmDecl.{AlarmDecl}
+use Rattle.sloth_base.specs.Limits.{alarm_limit}
 use Rattle.rv32_instr.specs.declared.block.Block.{Block}
 use Rattle.sloth_link.specs.declared.datum.Datum.{Datum}
 use Rattle.sloth_link.specs.Symbols.{alarm_bytes, alarm_data}
@@ -30,7 +31,7 @@ between first (alarm ∷ later) =
     (λ k d l. let r = rest k d l in (omega (arith, r.0), omega (arith, r.1)))
 
 -- and apart from one another, and from sections behind the service words
-alarms_apart : (first : ℕ) (alarms : List AlarmDecl) (others : List Section) → first + length alarms ≤ 32 → All (λ s. 1024 ≤ s.offset) others
+alarms_apart : (first : ℕ) (alarms : List AlarmDecl) (others : List Section) → first + length alarms ≤ alarm_limit → All (λ s. 1024 ≤ s.offset) others
     → AllPairs AreApart others → AllPairs AreApart (alarm_sections first alarms ++ others)
 alarms_apart first [] others few behind apart = apart
 alarms_apart first (alarm ∷ later) others few behind apart =
@@ -71,7 +72,7 @@ alarms_above first (alarm ∷ later) =
     All-cons (λ (d : Datum). 0x8000_0000 ≤ d.at) _ (alarm_data (first + 1) later) (omega arith) (alarms_above (first + 1) later)
 
 -- so the alarms' words may be linked with all else
-pub alarms_have_room : (size : ℕ) (blocks : List Block) (symbols : List Datum) (alarms : List AlarmDecl) → length alarms ≤ 32 → 1024 ≤ size
+pub alarms_have_room : (size : ℕ) (blocks : List Block) (symbols : List Datum) (alarms : List AlarmDecl) → length alarms ≤ alarm_limit → 1024 ≤ size
     → All (λ b. 0x8000_0400 ≤ b.at) blocks → All (λ d. 0x8000_0400 ≤ d.at) symbols → HaveRoom size blocks symbols
     → HaveRoom size blocks (alarm_data 0 alarms ++ symbols)
 alarms_have_room size blocks symbols alarms few large blocks_behind symbols_behind room =

@@ -1,6 +1,6 @@
 //! The offsets of `specs/Layout.antt` as numbers for instructions: service words, contexts, and the controller's bytes.
 ghost use Rattle.std.specs.Prelude.{◌≡◌, ◌<◌, ◌≤◌, pos};
-ghost use Rattle.sloth_base.specs.Limits.{task_limit, counter_limit};
+ghost use Rattle.sloth_base.specs.Limits.{task_limit, counter_limit, alarm_limit};
 ghost use Rattle.sloth_region.specs.Layout.{active, events, wait, counter_value, alarm_left, alarm_cycle, resume, saved_level, pending_byte, enabled_byte, level_byte};
 
 /// Bits 31 to 12 of the address of the service words.
@@ -69,7 +69,7 @@ pub fn counter_value(counter: u8) -> i32
 
 /// The ticks that an alarm, 0 to 31, has left: 0 where it isn't in use, at most 1 more than its counter's greatest value.
 pub fn alarm_left(alarm: u8) -> i32
-    requires { alarm < 32 }
+    requires { alarm < alarm_limit }
     ensures { result ≡ pos (alarm_left alarm) }
 {
     372 + 8 * alarm as i32
@@ -77,7 +77,7 @@ pub fn alarm_left(alarm: u8) -> i32
 
 /// The cycle of an alarm, 0 to 31: in ticks, 0 where it expires once.
 pub fn alarm_cycle(alarm: u8) -> i32
-    requires { alarm < 32 }
+    requires { alarm < alarm_limit }
     ensures { result ≡ pos (alarm_cycle alarm) }
 {
     376 + 8 * alarm as i32
