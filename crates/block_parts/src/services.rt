@@ -1,6 +1,7 @@
 //! Pieces of the services on tasks and resources. x3 and x4 hold the addresses of the controller and of memory.
 ghost use Rattle.std.specs.Prelude.{◌≡◌, ◌<◌, ◌≤◌, ◌++◌, OnOk};
 ghost use Rattle.sloth_base.specs.Limits.{task_limit};
+ghost use Rattle.sloth_base.specs.ConfigRange.{scheduler_number};
 ghost use Rattle.block_parts.specs.Services.{own_task_code, taking_code, resting_telling_code, releasing_code, level_code};
 
 use crate::pieces::{BACK, LOOK, go_on};
@@ -37,7 +38,7 @@ pub fn ask(code: &mut Vec<Instr>, task: u8) -> Result<(), AllocError>
 
 /// The ceiling is the level for `mret`, and the one that runs, which plevel held, is saved; where that is greater, it stays.
 pub fn take(code: &mut Vec<Instr>, resource: u8, ceiling: u8) -> Result<(), AllocError>
-    requires { resource ≤ 32 }
+    requires { resource ≤ scheduler_number }
     ensures { OnOk result (code.new.items ≡ code.old.items ++ taking_code resource ceiling) }
 {
     let taken = [
@@ -52,7 +53,7 @@ pub fn take(code: &mut Vec<Instr>, resource: u8, ceiling: u8) -> Result<(), Allo
 
 /// To the level that was saved for the resource, with the status E_OK.
 pub fn release(code: &mut Vec<Instr>, resource: u8) -> Result<(), AllocError>
-    requires { resource ≤ 32 }
+    requires { resource ≤ scheduler_number }
     ensures { OnOk result (code.new.items ≡ code.old.items ++ releasing_code resource) }
 {
     emit(code, &[lw(X1, X4, saved(resource))])?;

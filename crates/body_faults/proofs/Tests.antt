@@ -13,6 +13,7 @@ use Rattle.sloth_base.specs.declared.service.Service.{Service}
 use Rattle.sloth_base.specs.declared.service.Service.TheVariants as service
 use Rattle.sloth_base.specs.Arithmetic.{size_of}
 use Rattle.sloth_base.specs.Named.{declaration, item_of, label_of, symbol_size}
+use Rattle.sloth_base.specs.ConfigRange.{scheduler_number}
 use Rattle.code_rules.specs.AppRange.{AppInRange, IsOp}
 use Rattle.code_rules.specs.Code.{is_followed, way, Ends, Pauses, TaskReaches, is_in, is_last}
 use Rattle.code_rules.specs.WellFormed.{AccessesPast, IsUneven, MasksPast, RunsOut, ReleasesOther, TakesHeld, LeavesHolding, LeavesWrongly, Lists, HasEvents, IsUnlisted, IsLacked, Misuses, UsesUndeclared}
@@ -184,9 +185,9 @@ module _ (config : Config) (app : App) (in_range : AppInRange config app) where
   Decides-lacks : (t mask : ℕ) → Decides (lacks config t mask) (¬ (HasEvents (declaration config t) mask))
   Decides-lacks t mask = differs_decides (bit_and mask (declaration config t).events) mask
 
-  Decides-is_unlisted : (f users r : ℕ) → ((t : ℕ) → Decides (is_member users t) (TaskReaches app t f)) → Decides (not (r == 32) && is_unlisted config users r) (IsUnlisted config app f r)
+  Decides-is_unlisted : (f users r : ℕ) → ((t : ℕ) → Decides (is_member users t) (TaskReaches app t f)) → Decides (not (r == scheduler_number) && is_unlisted config users r) (IsUnlisted config app f r)
   Decides-is_unlisted f users r reach =
-      Decides-and (not (r == 32)) (is_unlisted config users r) (differs_decides r 32)
+      Decides-and (not (r == scheduler_number)) (is_unlisted config users r) (differs_decides r 32)
       (some_user f users (λ t. not (is_in r (declaration config t).resources)) (λ t. ¬ (Lists (declaration config t) r)) reach
       (λ t. Decides-not (is_in r (declaration config t).resources) (itself (is_in r (declaration config t).resources))))
 

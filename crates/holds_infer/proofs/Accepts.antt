@@ -9,7 +9,7 @@ use Rattle.std.proofs.lemmas.List.Sums.{list_all-from_AllPass, AllPass-from_list
 use Rattle.std.proofs.lemmas.List.Folds.{list_any_at}
 use Rattle.std.proofs.lemmas.List.Sums.{fold-append}
 use Rattle.std.proofs.lemmas.Slice.Eq.{bytes_eq-Decides}
-use Rattle.sloth_base.specs.ConfigRange.{InRange, res_scheduler_name}
+use Rattle.sloth_base.specs.ConfigRange.{InRange, res_scheduler_name, scheduler_number}
 use Rattle.sloth_base.specs.ImageRange.{IsWord, IsName, begins_word, continues_word}
 use Rattle.sloth_base.specs.declared.config.Config.{Config}
 use Rattle.sloth_base.specs.declared.app.App.{App}
@@ -69,9 +69,9 @@ word_name (b ∷ t) h =
 
 module _ (config : Config) (range : InRange config) where
   name_of_resource : (r : ℕ) → IsResource config r → IsName (resource_name config r)
-  name_of_resource r (inl l) = by (r == 32) refl
+  name_of_resource r (inl l) = by (r == scheduler_number) refl
     where
-      by : (c : Bool) → (r == 32) ≡ c → IsName (cond c res_scheduler_name (get_or config.resources r []))
+      by : (c : Bool) → (r == scheduler_number) ≡ c → IsName (cond c res_scheduler_name (get_or config.resources r []))
       by true e = let s = eqb-true r 32 e in let few = range.few_resources in absurd (omega (arith, l, s, few))
       by false e = range.resource_names.each r [] l
   name_of_resource r (inr h) = subst (λ (x : ℕ). IsName (resource_name config x)) (sym h.0) (record { word = (refl, AllPass-from_list_all continues_word (69 ∷ 83 ∷ 95 ∷ 83 ∷ 67 ∷ 72 ∷ 69 ∷ 68 ∷ 85 ∷ 76 ∷ 69 ∷ 82 ∷ []) refl); short = omega arith })
@@ -98,9 +98,9 @@ module _ (config : Config) (range : InRange config) where
     or_first false b e = absurd (false≢true e)
 
     known_resource : (r : ℕ) → IsResource config r → (is_scheduler scope (resource_name config r) || list_any (bytes_eq (resource_name config r)) scope.resources) ≡ true
-    known_resource r (inl l) = by (r == 32) refl
+    known_resource r (inl l) = by (r == scheduler_number) refl
       where
-        by : (c : Bool) → (r == 32) ≡ c
+        by : (c : Bool) → (r == scheduler_number) ≡ c
             → (is_scheduler scope (cond c res_scheduler_name (get_or config.resources r [])) || list_any (bytes_eq (cond c res_scheduler_name (get_or config.resources r []))) scope.resources) ≡ true
         by true e = let s = eqb-true r 32 e in let few = range.few_resources in absurd (omega (arith, l, s, few))
         by false e =

@@ -9,7 +9,7 @@ use Rattle.sloth_base.specs.declared.config.TaskDecl.{TaskDecl}
 use Rattle.sloth_base.specs.declared.config.CounterDecl.{CounterDecl}
 use Rattle.sloth_base.specs.declared.config.AlarmDecl.{AlarmDecl}
 use Rattle.sloth_base.specs.ImageRange.{IsWord, AreNames, AreApart}
-use Rattle.sloth_base.specs.ConfigRange.{IsTask, IsCounter, IsAlarm, InRange}
+use Rattle.sloth_base.specs.ConfigRange.{IsTask, IsCounter, IsAlarm, InRange, scheduler_number}
 use Rattle.sloth_base.specs.Limits.{task_limit}
 use Rattle.least_fault.specs.Order.{NoFault}
 use Rattle.oil_parse.specs.declared.tree.OilObject.{OilObject}
@@ -72,7 +72,7 @@ module _ (tree : OilTree) (none : NoFault (ModelFault tree)) (words : All (λ (o
       let p = priority_value tree none i d h t in
       record {
         priority = let e = ap (λ x. unwrap_or x 0) (priority_is tree none i d h t) in let s = p.small in omega (arith, e, s);
-        resources = All-weaker (λ n. n < length (resource_names tree.objects)) (λ n. (n < length (resource_names tree.objects)) ⊎ ((n ≡ 32) × IsTrue (has_scheduler tree.objects)))
+        resources = All-weaker (λ n. n < length (resource_names tree.objects)) (λ n. (n < length (resource_names tree.objects)) ⊎ ((n ≡ scheduler_number) × IsTrue (has_scheduler tree.objects)))
             (λ n b. inl b) _ (resources_within (resource_names tree.objects) o.attrs);
         events = is_union (events_of tree.objects) names_of_events.distinct o.attrs (no_shared tree none i d h t);
         extended = extended tree none i d h t;

@@ -26,7 +26,7 @@ use Rattle.sloth_base.specs.declared.event.Event.TheVariants as event
 use Rattle.sloth_base.specs.declared.service.Service.{Service}
 use Rattle.sloth_base.specs.declared.service.Service.TheVariants as service
 use Rattle.sloth_base.specs.Named.{function, no_function, body_of, declaration, counter_declaration, undeclared_counter, alarm_declaration, undeclared_alarm}
-use Rattle.sloth_base.specs.Limits.{task_limit}
+use Rattle.sloth_base.specs.Limits.{task_limit, ceiling_count}
 use Rattle.code_rules.specs.AppRange.{IsOp}
 use Rattle.code_rules.specs.Code.{is_in}
 use Rattle.osek_scheduler.specs.declared.state.TaskState.{TaskState}
@@ -285,7 +285,7 @@ module _ {config : Config} {app : App} {s : System} (sound : IsSound config app 
         let few = w.in_range.limits.few_bodies in
         omega (arith, most, long, same, few)
 
-    few_held : length (changed_task p.change (task s t)).held ≤ 33
+    few_held : length (changed_task p.change (task s t)).held ≤ ceiling_count
     few_held =
         let own = tidy config app w (settled_state (planned_system t p s)) t behind lt in
         let most = at_most (task (settled_state (planned_system t p s)) t).held 33 (behind.each t lt).distinct own.few in
@@ -382,7 +382,7 @@ module _ {config : Config} {app : App} {s : System} (sound : IsSound config app 
         nothing-there o h = absurd (false≢true h)
 
     -- there is room for each change that a service makes of its caller, where it holds few resources
-    own-allowed : (c : TaskChange) → is_own_change c ≡ true → length (changed_task c k).held ≤ 33 → Allows c k
+    own-allowed : (c : TaskChange) → is_own_change c ≡ true → length (changed_task c k).held ≤ ceiling_count → Allows c k
     own-allowed change.End e holds = tt
     own-allowed (change.Take r) e holds = let long = length-append k.held (r ∷ []) in (moves t, omega (arith, long, holds))
     own-allowed (change.Answer status) e holds = moves t
@@ -394,11 +394,11 @@ module _ {config : Config} {app : App} {s : System} (sound : IsSound config app 
     own-allowed c e holds = absurd (false≢true e)
 
     service-room : (srv : Service) (object mask : ℕ) → is_there config k.held srv object ≡ true
-        → length (changed_task (plan_of srv object mask).change k).held ≤ 33 → Roomy (plan_of srv object mask)
+        → length (changed_task (plan_of srv object mask).change k).held ≤ ceiling_count → Roomy (plan_of srv object mask)
     service-room srv object mask e holds =
         let d = decision config srv object mask t s in (
-          on_taken s (λ p. length (changed_task p.change k).held ≤ 33 → Allows p.change k) d
-              (on_tested s (λ p. length (changed_task p.change k).held ≤ 33 → Allows p.change k) (λ p. is_own_change p.change) (λ p. own-allowed p.change) d (own-changes config srv object mask t s))
+          on_taken s (λ p. length (changed_task p.change k).held ≤ ceiling_count → Allows p.change k) d
+              (on_tested s (λ p. length (changed_task p.change k).held ≤ ceiling_count → Allows p.change k) (λ p. is_own_change p.change) (λ p. own-allowed p.change) d (own-changes config srv object mask t s))
               holds,
           on_taken s (λ p. HasOther p.other s) d (besides-there srv object mask e),
         )
@@ -457,7 +457,7 @@ module _ {config : Config} {app : App} {s : System} (sound : IsSound config app 
       let call = on_some_from (call_in o.0) (call_plan config srv t s) p o.2 in
       let found = if_true_some ((code_of call.0.service == code_of srv) && is_there config (task s t).held srv call.0.object) _ p call.2 in
       let same = same_Some (service_plan config srv call.0.object call.0.mask t s) p found.1 in
-      let holds = subst (λ (q : Plan). length (changed_task q.change (task s t)).held ≤ 33) (sym same) (few_held e t lt p next) in
+      let holds = subst (λ (q : Plan). length (changed_task q.change (task s t)).held ≤ ceiling_count) (sym same) (few_held e t lt p next) in
       room-of t lt _ p found.1 (service-room t lt srv call.0.object call.0.mask (and_parts _ _ found.0).1 holds)
 
   call-room : (t : ℕ) (srv : Service) (status : ℕ) (p : Plan) → answer_plan config app t srv status s ≡ Some p → HasPlanRoom t p s

@@ -1,5 +1,6 @@
 -- The room of a task for its changes.
 use Rattle.std.specs.Prelude.{◌<◌, ◌≤◌, length}
+use Rattle.sloth_base.specs.Limits.{ceiling_count}
 use Rattle.osek_scheduler.specs.State.{Task}
 use Rattle.osek_scheduler.specs.declared.change.TaskChange.{TaskChange}
 use Rattle.osek_scheduler.specs.declared.change.TaskChange.TheVariants as change
@@ -16,7 +17,7 @@ Allows (change.AnswerWith value) k = CanMove k.frames
 Allows change.End k = Unit {0}
 Allows (change.Wait mask) k = CanMove k.frames
 Allows change.Pause k = CanMove k.frames
-Allows (change.Take resource) k = CanMove k.frames × (length k.held < 33)
+Allows (change.Take resource) k = CanMove k.frames × (length k.held < ceiling_count)
 Allows change.Release k = CanMove k.frames
 Allows (change.ClearEvents mask) k = CanMove k.frames
 Allows (change.Start func words non) k = words ≤ 32

@@ -9,7 +9,7 @@ ghost use Rattle.sloth_base.specs.PriorityLevels.{level_among};
 ghost use Rattle.sloth_base.specs.Limits.{task_limit};
 
 use sloth_base::config::{Config, TaskDecl};
-use sloth_base::limits::TASK_LIMIT;
+use sloth_base::limits::{CEILING_COUNT, TASK_LIMIT};
 use sloth_base::numbers::RES_SCHEDULER;
 use sloth_base::places::Levels;
 
@@ -70,11 +70,11 @@ fn ceiling_of(tasks: &[TaskDecl], resource: u32) -> u8
 }
 
 /// The ceilings of the resources 0 to 31, and that of RES_SCHEDULER.
-fn ceilings(tasks: &[TaskDecl]) -> [u8; 33]
+fn ceilings(tasks: &[TaskDecl]) -> [u8; CEILING_COUNT]
     requires { length tasks.now ≤ task_limit }
     ensures { AreCeilings tasks.now result }
 {
-    let mut ceilings = [0; 33];
+    let mut ceilings = [0; CEILING_COUNT];
     for resource in 0..RES_SCHEDULER {
         ceilings[resource as usize] = ceiling_of(tasks, resource);
     }

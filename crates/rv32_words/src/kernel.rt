@@ -8,7 +8,7 @@ ghost use Rattle.vector_gen.specs.Vectors.{AreInReach};
 
 use sloth_base::app::{App, Func};
 use sloth_base::config::{Action, AlarmDecl, Config, CounterDecl, EventDecl, TaskDecl};
-use sloth_base::limits::TASK_LIMIT;
+use sloth_base::limits::{CEILING_COUNT, TASK_LIMIT};
 use sloth_base::list::List;
 use sloth_base::memory::NoMemory;
 use sloth_base::name::Name;
@@ -223,7 +223,7 @@ pub fn levels() -> Levels
 {
     let mut task = [0; TASK_LIMIT];
     task[0] = 5;
-    let mut ceiling = [0; 33];
+    let mut ceiling = [0; CEILING_COUNT];
     ceiling[1] = 2;
     ceiling[32] = 30;
     Levels {

@@ -11,6 +11,7 @@ use Rattle.sim_induction.specs.Mirror.{priority_of}
 use Rattle.sloth_base.specs.PriorityLevels.{level_of}
 use Rattle.sloth_base.specs.Owners.{line_kind, owners_in}
 use Rattle.sloth_base.specs.declared.lines.LineKind.TheVariants as line_of
+use Rattle.sloth_base.specs.Limits.{ceiling_count}
 use Rattle.sim_relation.specs.Build.{Build}
 use Rattle.sim_relation.specs.Context.{RunsFirst}
 use Rattle.sim_relation.specs.ServiceWords.{AreServiceWords}
@@ -77,7 +78,7 @@ pub record IsTidyTask (own : Task) : Type 0 where
   pub registers : length own.registers ≡ 25
   pub at_rest : is_active own.state ≡ false → (own.held ≡ []) × (own.owed ≡ false) × (own.raised ≡ false)
   pub asleep : own.state ≡ mode.Suspended → (own.frames ≡ []) × (own.events ≡ 0)
-  pub few : (r : ℕ) → is_in r own.held ≡ true → r < 33
+  pub few : (r : ℕ) → is_in r own.held ≡ true → r < ceiling_count
 
 -- what holds of the system in every state after its start
 pub record IsTidySystem (b : Build) (s : System) : Type 0 where

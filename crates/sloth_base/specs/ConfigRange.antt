@@ -9,7 +9,7 @@ use Rattle.sloth_base.specs.declared.config.AlarmDecl.{AlarmDecl}
 use Rattle.sloth_base.specs.declared.config.Config.{Config}
 use Rattle.sloth_base.specs.ImageRange.{AreNames, AreApart}
 use Rattle.sloth_base.specs.Named.{declaration, counter_declaration}
-use Rattle.sloth_base.specs.Limits.{task_limit, counter_limit, alarm_limit}
+use Rattle.sloth_base.specs.Limits.{task_limit, counter_limit, alarm_limit, resource_limit}
 
 -- "RES_SCHEDULER"
 abbrev pub res_scheduler_name : List ℕ
@@ -17,7 +17,7 @@ res_scheduler_name = 82 ∷ 69 ∷ 83 ∷ 95 ∷ 83 ∷ 67 ∷ 72 ∷ 69 ∷ 68 
 
 -- the number of the resource RES_SCHEDULER, behind those of RESOURCE objects
 abbrev pub scheduler_number : ℕ
-scheduler_number = 32
+scheduler_number = resource_limit
 
 -- The mask is the union of the masks of some of the events, of which no two share a bit.
 abbrev pub IsUnionOf : List EventDecl → ℕ → Type 0

@@ -3,7 +3,7 @@
 ghost use Rattle.std.specs.Prelude.{◌≡◌, ◌<◌};
 ghost use Rattle.sloth_base.specs.Blocks.{block_count, block_number, block_service, block_object};
 
-use crate::limits::TASK_LIMIT;
+use crate::limits::{CEILING_COUNT, TASK_LIMIT};
 use crate::list::List;
 use crate::service::Service;
 
@@ -17,7 +17,7 @@ pub const BLOCK_COUNT: usize = 640;
 #[derive(Clone, Copy)]
 pub struct Levels {
     pub task: [u8; TASK_LIMIT],
-    pub ceiling: [u8; 33],
+    pub ceiling: [u8; CEILING_COUNT],
     /// The number of tasks, which is the highest task's level.
     pub top: u8,
 }

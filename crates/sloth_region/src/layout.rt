@@ -1,6 +1,7 @@
 //! The offsets of `specs/Layout.antt` as numbers for instructions: service words, contexts, and the controller's bytes.
 ghost use Rattle.std.specs.Prelude.{◌≡◌, ◌<◌, ◌≤◌, pos};
 ghost use Rattle.sloth_base.specs.Limits.{task_limit, counter_limit, alarm_limit};
+ghost use Rattle.sloth_base.specs.ConfigRange.{scheduler_number};
 ghost use Rattle.sloth_region.specs.Layout.{active, events, wait, counter_value, alarm_left, alarm_cycle, resume, saved_level, pending_byte, enabled_byte, level_byte};
 
 /// Bits 31 to 12 of the address of the service words.
@@ -93,7 +94,7 @@ pub fn resume(task: u32) -> i32
 
 /// The level at which a held resource was taken.
 pub fn saved(resource: u8) -> i32
-    requires { resource ≤ 32 }
+    requires { resource ≤ scheduler_number }
     ensures { result ≡ pos (saved_level resource) }
 {
     752 + 4 * resource as i32
