@@ -10,7 +10,7 @@ use Rattle.sloth_base.specs.declared.refusal.Refusal.{Refusal}
 use Rattle.least_fault.specs.Order.{NoFault}
 use Rattle.least_fault.proofs.Nowhere.{nowhere, case_false}
 use Rattle.sloth_base.specs.declared.refusal.Part.TheVariants.{Oil}
-use Rattle.sloth_base.specs.Limits.{task_limit, counter_limit, alarm_limit, resource_limit}
+use Rattle.sloth_base.specs.Limits.{task_limit, counter_limit, alarm_limit, resource_limit, event_limit}
 use Rattle.oil_parse.specs.declared.tree.OilObject.{OilObject}
 use Rattle.oil_parse.specs.declared.tree.OilTree.{OilTree}
 use Rattle.oil_table.specs.Table.{place_of, is_nowhere}
@@ -77,15 +77,15 @@ module _ (tree : OilTree) (none : NoFault (ModelFault tree)) where
   few_resources = count_by-limited (is_of_kind (codes "RESOURCE")) resource_limit tree.objects
       (λ i d h. (or_parts (comes_behind (codes "RESOURCE") resource_limit (take i tree.objects) (get_or tree.objects i d)) _ (or_parts (comes_behind (codes "TASK") task_limit (take i tree.objects) (get_or tree.objects i d)) _ (not_above i d h)).1).0)
 
-  pub few_events : count_by (is_of_kind (codes "EVENT")) tree.objects ≤ 32
-  few_events = count_by-limited (is_of_kind (codes "EVENT")) 32 tree.objects
-      (λ i d h. (or_parts (comes_behind (codes "EVENT") 32 (take i tree.objects) (get_or tree.objects i d)) _ (or_parts (comes_behind (codes "RESOURCE") resource_limit (take i tree.objects) (get_or tree.objects i d)) _ (or_parts (comes_behind (codes "TASK") task_limit (take i tree.objects) (get_or tree.objects i d)) _ (not_above i d h)).1).1).0)
+  pub few_events : count_by (is_of_kind (codes "EVENT")) tree.objects ≤ event_limit
+  few_events = count_by-limited (is_of_kind (codes "EVENT")) event_limit tree.objects
+      (λ i d h. (or_parts (comes_behind (codes "EVENT") event_limit (take i tree.objects) (get_or tree.objects i d)) _ (or_parts (comes_behind (codes "RESOURCE") resource_limit (take i tree.objects) (get_or tree.objects i d)) _ (or_parts (comes_behind (codes "TASK") task_limit (take i tree.objects) (get_or tree.objects i d)) _ (not_above i d h)).1).1).0)
 
   clock_not_above : (i : ℕ) (d : OilObject) → i < length tree.objects → is_clock_above (take i tree.objects) (get_or tree.objects i d) ≡ false
   clock_not_above i d h =
       let front = take i tree.objects in
       let o = get_or tree.objects i d in
-      (or_parts (is_clock_above front o) _ (or_parts (comes_behind (codes "EVENT") 32 front o) _ (or_parts (comes_behind (codes "RESOURCE") resource_limit front o) _
+      (or_parts (is_clock_above front o) _ (or_parts (comes_behind (codes "EVENT") event_limit front o) _ (or_parts (comes_behind (codes "RESOURCE") resource_limit front o) _
       (or_parts (comes_behind (codes "TASK") task_limit front o) _ (not_above i d h)).1).1).1).0
 
   pub few_counters : count_by (is_of_kind (codes "COUNTER")) tree.objects ≤ counter_limit

@@ -10,7 +10,7 @@ use Rattle.sloth_base.specs.declared.config.CounterDecl.{CounterDecl}
 use Rattle.sloth_base.specs.declared.config.AlarmDecl.{AlarmDecl}
 use Rattle.sloth_base.specs.ImageRange.{IsWord, AreNames, AreApart}
 use Rattle.sloth_base.specs.ConfigRange.{IsTask, IsCounter, IsAlarm, InRange, scheduler_number}
-use Rattle.sloth_base.specs.Limits.{task_limit}
+use Rattle.sloth_base.specs.Limits.{task_limit, event_limit}
 use Rattle.least_fault.specs.Order.{NoFault}
 use Rattle.oil_parse.specs.declared.tree.OilObject.{OilObject}
 use Rattle.oil_parse.specs.declared.tree.OilTree.{OilTree}
@@ -49,7 +49,7 @@ module _ (tree : OilTree) (none : NoFault (ModelFault tree)) (words : All (λ (o
   names_of_events : AreNames (map (λ (e : EventDecl). e.name) (events_of tree.objects))
   names_of_events = subst AreNames (sym (event_names (number_masks tree.objects) tree.objects)) (are_names tree none words (codes "EVENT"))
 
-  number_of_events : length (events_of tree.objects) ≤ 32
+  number_of_events : length (events_of tree.objects) ≤ event_limit
   number_of_events =
       let a = length-map (events_of tree.objects) (λ (e : EventDecl). e.name) in
       let e = ap length (event_names (number_masks tree.objects) tree.objects) in

@@ -9,7 +9,7 @@ use Rattle.sloth_base.specs.declared.config.AlarmDecl.{AlarmDecl}
 use Rattle.sloth_base.specs.declared.config.Config.{Config}
 use Rattle.sloth_base.specs.ImageRange.{AreNames, AreApart}
 use Rattle.sloth_base.specs.Named.{declaration, counter_declaration}
-use Rattle.sloth_base.specs.Limits.{task_limit, counter_limit, alarm_limit, resource_limit}
+use Rattle.sloth_base.specs.Limits.{task_limit, counter_limit, alarm_limit, resource_limit, event_limit}
 
 -- "RES_SCHEDULER"
 abbrev pub res_scheduler_name : List ℕ
@@ -66,7 +66,7 @@ pub record IsAlarm (config : Config) (alarm : AlarmDecl) : Type 0 where
 pub record InRange (config : Config) : Type 0 where
   pub few_tasks : length config.tasks ≤ task_limit
   pub few_resources : length config.resources ≤ scheduler_number
-  pub few_events : length config.events ≤ 32
+  pub few_events : length config.events ≤ event_limit
   pub task_names : AreNames (map (λ t. t.name) config.tasks)
   pub resource_names : AreNames config.resources
   pub event_names : AreNames (map (λ e. e.name) config.events)
