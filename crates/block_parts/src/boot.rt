@@ -1,5 +1,6 @@
 //! Pieces with which an image begins: the raise of an autostarted line, the level of the counters, the word of the idle loop, a vector word.
 ghost use Rattle.std.specs.Prelude.{◌≡◌, ◌<◌, ◌+◌, ◌%◌, ◌^◌, ◌++◌, OnOk};
+ghost use Rattle.sloth_base.specs.Limits.{level_count};
 ghost use Rattle.rv32_instr.specs.Range.{InRange};
 ghost use Rattle.block_parts.specs.Boot.{line_code, idle_code, IsJump};
 
@@ -23,7 +24,7 @@ pub fn raise_autostarted(code: &mut Vec<Instr>, line: u8, autostart: bool) -> Re
 
 /// The level of the counters' lines: above that of the highest task.
 pub fn counter_level(levels: &Levels) -> u8
-    requires { levels.now.top < 32 }
+    requires { levels.now.top < level_count }
     ensures { result ≡ levels.now.top + 1 }
 {
     levels.top + 1

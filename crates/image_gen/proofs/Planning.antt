@@ -6,7 +6,7 @@ use Rattle.sloth_base.specs.declared.app.App.{App}
 use Rattle.sloth_base.specs.declared.config.Config.{Config}
 use Rattle.sloth_base.specs.declared.places.Bounds.{Bounds}
 use Rattle.sloth_base.specs.declared.places.Levels.{Levels}
-use Rattle.sloth_base.specs.Limits.{task_limit}
+use Rattle.sloth_base.specs.Limits.{task_limit, level_count}
 use Rattle.sloth_region.specs.declared.map.Map.{Map}
 use Rattle.prio_levels.specs.Levels.{AreLevels}
 use Rattle.mem_map.specs.Planned.{IsPlanned}
@@ -19,7 +19,7 @@ beyond (x ∷ xs) zero h = absurd (omega (arith, h))
 beyond (x ∷ xs) (suc i) h = beyond xs i (omega (arith, h))
 
 small_levels : (config : Config) (levels : Levels) → length config.tasks ≤ task_limit → length levels.task ≡ task_limit → AreLevels config levels
-    → ((t : ℕ) → t < length config.tasks → (0 < slice_index levels.task t) × (slice_index levels.task t ≤ levels.top)) → (t : ℕ) → slice_index levels.task t < 32
+    → ((t : ℕ) → t < length config.tasks → (0 < slice_index levels.task t) × (slice_index levels.task t ≤ levels.top)) → (t : ℕ) → slice_index levels.task t < level_count
 small_levels config levels few long are within t =
     let top = are.top in
     ⊎_elim

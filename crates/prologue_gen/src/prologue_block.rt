@@ -1,7 +1,7 @@
 //! The block of a prologue.
 ghost use Rattle.std.specs.Prelude.{◌≡◌, ◌+◌, ◌-◌, ◌<◌, ◌≤◌, ℕ, [], All, IfOk, slice_index, length};
 ghost use Rattle.sloth_base.specs.MemoryMap.{memory_base};
-ghost use Rattle.sloth_base.specs.Limits.{task_limit};
+ghost use Rattle.sloth_base.specs.Limits.{task_limit, level_count};
 ghost use Rattle.code_lengths.specs.Bodies.{IsBodyPlace};
 ghost use Rattle.code_lengths.specs.CodeLengths.{prologue_length, IsPrologueLength};
 ghost use Rattle.prologue_gen.specs.Places.{IsStackTop, EntersTask, DoesEnter, frame_at};
@@ -31,7 +31,7 @@ pub fn prologue(
     map: &Map,
 ) -> Result<Block, NoMemory>
     requires exists { (task < length config.now.tasks) × (length config.now.tasks ≤ task_limit) }
-    requires levels { (levels.now.top < 32) × ((t : ℕ) → slice_index levels.now.task t < 32) }
+    requires levels { (levels.now.top < level_count) × ((t : ℕ) → slice_index levels.now.task t < level_count) }
     requires body { (body : ℕ) × IsBodyPlace app.now.funcs task body }
     requires frames { All (λ func. func.frame_words ≤ 32) app.now.funcs }
     requires tops { (length map.now.tops ≡ length config.now.tasks) × All IsStackTop map.now.tops }
@@ -59,7 +59,7 @@ fn entry(
     map: &Map,
 ) -> Result<Vec<Instr>, AllocError>
     requires exists { (task < length config.now.tasks) × (length config.now.tasks ≤ task_limit) }
-    requires levels { (levels.now.top < 32) × ((t : ℕ) → slice_index levels.now.task t < 32) }
+    requires levels { (levels.now.top < level_count) × ((t : ℕ) → slice_index levels.now.task t < level_count) }
     requires body { (body : ℕ) × IsBodyPlace app.now.funcs task body }
     requires frames { All (λ func. func.frame_words ≤ 32) app.now.funcs }
     requires tops { (length map.now.tops ≡ length config.now.tasks) × All IsStackTop map.now.tops }
@@ -102,7 +102,7 @@ fn code_of(
     words: u32,
     first: u32,
 ) -> Result<Vec<Instr>, AllocError>
-    requires small { (task < task_limit) × (level < 32) × (words ≤ 32) }
+    requires small { (task < task_limit) × (level < level_count) × (words ≤ 32) }
     requires in_ram { memory_base ≤ frame }
     ensures size { IfOk result (λ code. length code.items ≡ prologue_length extended words) }
     ensures enters { IfOk result (λ code. DoesEnter extended task level first (frame - memory_base) words code.items) }

@@ -1,6 +1,7 @@
 //! Configurations of one task, its levels and its task code, and the map of its kernel.
 ghost use Rattle.std.specs.Prelude.{◌≡◌, ◌<◌, ◌≤◌, ◌++◌, ℕ, All, IfOk, OnOk, length, slice_index, ◌∷◌, []};
 ghost use Rattle.sloth_base.specs.ConfigRange.{InRange};
+ghost use Rattle.sloth_base.specs.Limits.{level_count};
 ghost use Rattle.code_lengths.specs.Bodies.{IsBodyPlace};
 ghost use Rattle.prologue_gen.specs.Places.{IsStackTop};
 ghost use Rattle.rv32_words.specs.Alone.{alone, main_task, go_event, clock_counter, sleeping_alarm, clock_alarms};
@@ -219,7 +220,7 @@ pub fn app(alloc: Global, frame_words: u32) -> Result<App, NoMemory>
 
 /// A level of the task, the level of a task that isn't preempted, and the ceilings of the resources 1 and RES_SCHEDULER.
 pub fn levels() -> Levels
-    ensures { (result.top < 32) × ((t : ℕ) → slice_index result.task t < 32) }
+    ensures { (result.top < level_count) × ((t : ℕ) → slice_index result.task t < level_count) }
 {
     let mut task = [0; TASK_LIMIT];
     task[0] = 5;

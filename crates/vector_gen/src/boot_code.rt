@@ -5,7 +5,7 @@ ghost use Rattle.sloth_base.specs.ConfigRange.{InRange};
 ghost use Rattle.code_lengths.specs.CodeLengths.{boot_length};
 ghost use Rattle.vector_gen.specs.Boot.{register_code, line_start_code, lines_code, counters_code, finishing_code, Boots};
 ghost use Rattle.sloth_base.specs.Owners.{first_counter_line};
-ghost use Rattle.sloth_base.specs.Limits.{task_limit, counter_limit};
+ghost use Rattle.sloth_base.specs.Limits.{task_limit, counter_limit, level_count};
 
 use block_parts::boot::{counter_level, raise_autostarted};
 use masked_code::emit::emit;
@@ -29,7 +29,7 @@ use std::alloc::{AllocError, Global};
 /// The block of boot. It stores no zero to a pending byte and loads none.
 pub fn boot(alloc: Global, config: &Config, levels: &Levels, map: &Map) -> Result<Block, NoMemory>
     requires range { InRange config.now }
-    requires levels { levels.now.top < 32 }
+    requires levels { levels.now.top < level_count }
     ensures at { IfOk result (λ block. block.at ≡ boot_base) }
     ensures marks { IfOk result (λ block. block.marks ≡ []) }
     ensures size { IfOk result (λ block. length block.code ≡ boot_length config.now.tasks (length config.now.counters)) }
