@@ -6,6 +6,7 @@ use Rattle.sloth_base.specs.declared.config.Config.{Config}
 use Rattle.sloth_base.specs.declared.config.TaskDecl.{TaskDecl}
 use Rattle.sloth_base.specs.declared.refusal.Code.TheVariants.{A5, A6, A7}
 use Rattle.sloth_base.specs.declared.refusal.Refusal.{Refusal}
+use Rattle.sloth_base.specs.Limits.{name_limit}
 use Rattle.least_fault.specs.Search.{Somewhere}
 use Rattle.asm_lines.specs.declared.source_line.SourceLine.{SourceLine}
 use Rattle.asm_lines.specs.declared.source_line.SourceLine.TheVariants.{Statement}
@@ -17,7 +18,7 @@ use Rattle.asm_scopes.specs.Scopes.{scope_of, has_unknown}
 
 -- more than 64 bytes
 abbrev pub is_long : List ℕ → Bool
-is_long name = nat_lt 64 (length name)
+is_long name = nat_lt name_limit (length name)
 
 -- a name above 64 bytes is written here
 abbrev pub writes_long : Option (List ℕ) → Bool

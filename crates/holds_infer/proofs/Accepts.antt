@@ -23,6 +23,7 @@ use Rattle.least_fault.proofs.Nowhere.{case_false}
 use Rattle.std.specs.List.{flat_map}
 use Rattle.std.proofs.lemmas.List.Elements.{All-append, All-map}
 use Rattle.sloth_base.specs.Named.{no_function}
+use Rattle.sloth_base.specs.Limits.{name_limit}
 use Rattle.code_rules.specs.AppRange.{IsResource, AppInRange}
 use Rattle.code_rules.specs.WellFormed.{WellFormed}
 use Rattle.text_pieces.specs.Bytes.{is_name}
@@ -85,7 +86,7 @@ module _ (config : Config) (range : InRange config) where
   short_names [] h = refl
   short_names (r ∷ held) h =
       let s = (name_of_resource r (h 0 r (omega arith))).short in
-      ap (λ b. b || list_any (λ x. writes_long (written_name x)) (map Name (resource_names config held))) (le-ltb 64 (length (resource_name config r)) s)
+      ap (λ b. b || list_any (λ x. writes_long (written_name x)) (map Name (resource_names config held))) (le-ltb name_limit (length (resource_name config r)) s)
       ∙ short_names held (λ k d l. h (suc k) d (omega (arith, l)))
 
   module _ (scope : Scope) (named : scope.resources ≡ config.resources) (schedules : scope.has_scheduler ≡ config.res_scheduler) where

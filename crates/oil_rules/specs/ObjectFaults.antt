@@ -4,7 +4,7 @@ use Rattle.std.specs.List.{list_any}
 use Rattle.std.specs.Str.{bytes_eq}
 use Rattle.sloth_base.specs.declared.refusal.Code.TheVariants.{O7, O9, O11, O12, O14}
 use Rattle.sloth_base.specs.declared.refusal.Refusal.{Refusal}
-use Rattle.sloth_base.specs.Limits.{task_limit, counter_limit, alarm_limit, resource_limit, event_limit}
+use Rattle.sloth_base.specs.Limits.{task_limit, counter_limit, alarm_limit, resource_limit, event_limit, name_limit}
 use Rattle.oil_parse.specs.declared.tree.OilObject.{OilObject}
 use Rattle.oil_table.specs.Cases.{Case}
 use Rattle.oil_table.specs.Table.{is_nowhere, place_of}
@@ -64,7 +64,7 @@ is_clock_above front object = comes_behind (codes "COUNTER") counter_limit front
 abbrev pub is_above : List OilObject → OilObject → Bool
 is_above front object =
     comes_behind (codes "TASK") task_limit front object || (comes_behind (codes "RESOURCE") resource_limit front object
-    || (comes_behind (codes "EVENT") event_limit front object || (is_clock_above front object || nat_lt 64 (length object.name))))
+    || (comes_behind (codes "EVENT") event_limit front object || (is_clock_above front object || nat_lt name_limit (length object.name))))
 
 -- O7: an object of no kind. It is judged no further.
 abbrev pub KindFault : OilObject → Refusal → Type 0

@@ -11,7 +11,7 @@ use oil_parse::tree::OilObject;
 use oil_table::object_limits::{comes_behind, is_clock_more};
 use oil_table::table::{is_nowhere, place_of};
 use oil_table::{declares, is_of_kind, is_used};
-use sloth_base::limits::{EVENT_LIMIT, RESOURCE_LIMIT, TASK_LIMIT};
+use sloth_base::limits::{EVENT_LIMIT, NAME_LIMIT, RESOURCE_LIMIT, TASK_LIMIT};
 use sloth_base::refusal::{Code, Part, Refusal};
 use text_pieces::bytes::same;
 
@@ -102,7 +102,7 @@ fn is_above(front: &Front, object: &OilObject) -> bool
         || comes_behind(b"RESOURCE", RESOURCE_LIMIT, front.resources(), object)
         || comes_behind(b"EVENT", EVENT_LIMIT, front.events(), object)
         || is_clock_above(front, object)
-        || 64 < object.name.bytes().len()
+        || NAME_LIMIT < object.name.bytes().len()
 }
 
 /// O7: an object of no kind.

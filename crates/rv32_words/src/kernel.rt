@@ -1,7 +1,7 @@
 //! Configurations of one task, its levels and its task code, and the map of its kernel.
 ghost use Rattle.std.specs.Prelude.{◌≡◌, ◌<◌, ◌≤◌, ◌++◌, ℕ, All, IfOk, OnOk, length, slice_index, ◌∷◌, []};
 ghost use Rattle.sloth_base.specs.ConfigRange.{InRange};
-ghost use Rattle.sloth_base.specs.Limits.{level_count};
+ghost use Rattle.sloth_base.specs.Limits.{level_count, name_limit};
 ghost use Rattle.code_lengths.specs.Bodies.{IsBodyPlace};
 ghost use Rattle.prologue_gen.specs.Places.{IsStackTop};
 ghost use Rattle.rv32_words.specs.Alone.{alone, main_task, go_event, clock_counter, sleeping_alarm, clock_alarms};
@@ -160,7 +160,7 @@ fn add_alarm(
     name: &[u8],
     action: Action,
 ) -> Result<(), NoMemory>
-    requires { (1 ≤ length name.now) × (length name.now ≤ 64) }
+    requires { (1 ≤ length name.now) × (length name.now ≤ name_limit) }
     ensures { OnOk result (alarms.new.items ≡ alarms.old.items ++ sleeping_alarm name.now action ∷ []) }
 {
     let alarm = alarm(alloc, name, action)?;
@@ -170,7 +170,7 @@ fn add_alarm(
 
 // An alarm of the counter, which doesn't start by itself.
 fn alarm(alloc: Global, name: &[u8], action: Action) -> Result<AlarmDecl, NoMemory>
-    requires { (1 ≤ length name.now) × (length name.now ≤ 64) }
+    requires { (1 ≤ length name.now) × (length name.now ≤ name_limit) }
     ensures { IfOk result (λ alarm. alarm ≡ sleeping_alarm name.now action) }
 {
     Ok(AlarmDecl {

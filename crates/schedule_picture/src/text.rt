@@ -1,7 +1,7 @@
 //! The text of a picture.
 ghost use Rattle.std.specs.Prelude.{◌≡◌, ◌≤◌, ◌<◌, ◌+◌, ◌*◌, ◌++◌, IfOk, OnOk, All, length};
 ghost use Rattle.sloth_base.specs.ImageRange.{InFormat};
-ghost use Rattle.sloth_base.specs.Limits.{task_limit};
+ghost use Rattle.sloth_base.specs.Limits.{task_limit, name_limit};
 ghost use Rattle.lane_drawing.specs.Bars.{IsInside};
 ghost use Rattle.lane_drawing.specs.Drawing.{is_above};
 ghost use Rattle.lane_drawing.specs.Scale.{IsScale};
@@ -31,10 +31,10 @@ pub struct Drawn<'a> {
 // The length of the longest name, and at least that of `kernel`.
 #[tactic(auto, using(crate::proofs::Drawing::no_names, crate::proofs::Drawing::one_name_more))]
 fn longest_name(names: &[Name]) -> usize
-    requires { All (λ name. length name ≤ 64) names.now }
+    requires { All (λ name. length name ≤ name_limit) names.now }
     ensures is { result ≡ longest_of names.now (length names.now) }
     ensures some { 6 ≤ result }
-    ensures short { result ≤ 64 }
+    ensures short { result ≤ name_limit }
 {
     let mut longest = 6;
     for i in 0..names.len() {

@@ -8,7 +8,7 @@ use Rattle.sloth_base.specs.declared.image.Mark.{Mark}
 use Rattle.sloth_base.specs.declared.image.MarkKind.{MarkKind}
 use Rattle.sloth_base.specs.declared.image.MarkKind.TheVariants as kind
 use Rattle.sloth_base.specs.MemoryMap.{memory_base}
-use Rattle.sloth_base.specs.Limits.{task_limit, counter_limit}
+use Rattle.sloth_base.specs.Limits.{task_limit, counter_limit, name_limit}
 
 -- a letter or `_`
 abbrev pub begins_word : ℕ → Bool
@@ -26,7 +26,7 @@ IsWord (first ∷ rest) = IsTrue (begins_word first) × AllPass continues_word r
 -- a word of at most 64 bytes
 pub record IsName (bytes : List ℕ) : Type 0 where
   pub word : IsWord bytes
-  pub short : length bytes ≤ 64
+  pub short : length bytes ≤ name_limit
 
 -- names that differ from one another
 pub record AreNames (names : List (List ℕ)) : Type 0 where

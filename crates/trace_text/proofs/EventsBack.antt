@@ -20,6 +20,7 @@ use Rattle.line_words.specs.EventNumbers.{IsNameNumber, IsNumberOrNone, HasNumbe
 use Rattle.trace_text.specs.EventLines.{IsLineOf, counted_line}
 use Rattle.trace_text.specs.EventsRead.{◌>>=◌, first_word, other_words, number, place, place_or_none, run_in, call_in, left_in, more_in, is_single, of_task, admission_of, admit_in, tick_in, named_in, event_in, stamped_in, word_of}
 use Rattle.sloth_base.specs.ServiceCodes.{service_named}
+use Rattle.sloth_base.specs.Limits.{name_limit}
 use Rattle.line_words.specs.EventWords.{name_of, event_text, single_in}
 use Rattle.trace_text.proofs.Digits.{decimal_lacks, number_back}
 
@@ -105,9 +106,9 @@ module _ (names : List (List ℕ)) (named : AreNames names) where
   number_lacks t = ⊎_elim (λ lt. name_lacks (name_of names t) (is_name t lt)) (λ ge. ap (is_byte_of 32) (past t ge)) (cases_lt t (length names))
 
   -- a name or `-` is short
-  pub short_names : (k : ℕ) → length (name_of names k) ≤ 64
+  pub short_names : (k : ℕ) → length (name_of names k) ≤ name_limit
   short_names k =
-      ⊎_elim (λ lt. (is_name k lt).short) (λ ge. subst (λ (t : List ℕ). length t ≤ 64) (sym (past k ge)) (omega arith)) (cases_lt k (length names))
+      ⊎_elim (λ lt. (is_name k lt).short) (λ ge. subst (λ (t : List ℕ). length t ≤ name_limit) (sym (past k ge)) (omega arith)) (cases_lt k (length names))
 
 service_lacks : (s : Service) → is_byte_of 32 (service_name s) ≡ false
 unfolding is_byte_of

@@ -1,7 +1,7 @@
 //! The declarations of signals.
 ghost use Rattle.std.specs.Prelude.{◌≡◌, ◌≤◌, ◌++◌, IfOk, OnOk, All, length};
 ghost use Rattle.sloth_base.specs.ImageRange.{InFormat, IsName};
-ghost use Rattle.sloth_base.specs.Limits.{task_limit};
+ghost use Rattle.sloth_base.specs.Limits.{task_limit, name_limit};
 ghost use Rattle.wave_text.specs.Header.{scope_name, width_digit, variable_line, variable_lines, scope_line, scope_text, header};
 
 use crate::signals::{Scope, Width, first_code, width_of};
@@ -36,7 +36,7 @@ fn width_digit(width: Width) -> &'static [u8]
 // The line that declares a signal.
 #[tactic(auto, unfolding(crate::specs::Header::variable_line))]
 fn variable_line(width: Width, code: u8, name: &Name) -> LineText
-    requires { length name.now ≤ 64 }
+    requires { length name.now ≤ name_limit }
     ensures { result ≡ variable_line width code name.now }
 {
     let mut line = LineText::new();
