@@ -7,6 +7,7 @@ use Rattle.std.proofs.lemmas.Bool.{eqb-false, ltb-false, cases_lt, or_parts}
 use Rattle.std.proofs.lemmas.List.Elements.{All-nil, All-cons, All-head, All-tail, All-take}
 use Rattle.sloth_base.specs.declared.refusal.Code.TheVariants.{A5, A6}
 use Rattle.sloth_base.specs.declared.refusal.Part.TheVariants.{Src}
+use Rattle.sloth_base.specs.Limits.{body_limit}
 use Rattle.least_fault.specs.Order.{NoFault}
 use Rattle.least_fault.proofs.Nowhere.{nowhere, case_false}
 use Rattle.asm_lines.specs.declared.source_line.SourceLine.{SourceLine}
@@ -61,21 +62,21 @@ module _ (scope : Scope) (bodies : List BodyText)
   not_great : (i : ℕ) → i < length bodies → is_too_great (length (take i bodies)) (body_at bodies i).header ≡ false
   not_great i h = case_false Src (is_too_great (length (take i bodies)) (body_at bodies i).header) (body_at bodies i).line A6 (λ r x. none i h r (inl (inr (inl x))))
 
-  pub few_bodies : length bodies ≤ 64
+  pub few_bodies : length bodies ≤ body_limit
   few_bodies = ⊎_elim
-      (λ l. absurd (let t = length-take 64 bodies in eqb-false (length (take 64 bodies)) 64 (or_parts (length (take 64 bodies) == 64) _ (not_great 64 l)).0 (omega (arith, t, l))))
+      (λ l. absurd (let t = length-take body_limit bodies in eqb-false (length (take body_limit bodies)) body_limit (or_parts (length (take body_limit bodies) == body_limit) _ (not_great body_limit l)).0 (omega (arith, t, l))))
       (λ l. l)
-      (cases_lt 64 (length bodies))
+      (cases_lt body_limit (length bodies))
 
   pub few_words : (i : ℕ) → i < length bodies → number_of (body_at bodies i).header ≤ 32
   few_words i h =
       let header = (body_at bodies i).header in
-      ltb-false 32 (number_of header) (or_parts (nat_lt 32 (number_of header)) (has_long header) (or_parts (length (take i bodies) == 64) _ (not_great i h)).1).0
+      ltb-false 32 (number_of header) (or_parts (nat_lt 32 (number_of header)) (has_long header) (or_parts (length (take i bodies) == body_limit) _ (not_great i h)).1).0
 
   pub short_name : (i : ℕ) → i < length bodies → has_long (body_at bodies i).header ≡ false
   short_name i h =
       let header = (body_at bodies i).header in
-      (or_parts (nat_lt 32 (number_of header)) (has_long header) (or_parts (length (take i bodies) == 64) _ (not_great i h)).1).1
+      (or_parts (nat_lt 32 (number_of header)) (has_long header) (or_parts (length (take i bodies) == body_limit) _ (not_great i h)).1).1
 
   -- ---- lines
 

@@ -4,6 +4,7 @@ ghost use Rattle.image_file.specs.ImageText.{kind_number};
 ghost use Rattle.image_file.specs.Reading.{MarkStands, NoMark, MarksStand, MarksFail};
 ghost use Rattle.sloth_base.specs.ImageRange.{AreFields, IsMark, AreAscending};
 ghost use Rattle.sloth_base.specs.declared.image.MarkKind.{MarkKind as KindOfMark};
+ghost use Rattle.sloth_base.specs.Limits.{body_limit};
 
 use crate::fault::{ImageError, ImageFault};
 pub use crate::mark_services::service_limit;
@@ -24,7 +25,7 @@ pub fn read_marks(
 ) -> Result<Vec<Mark>, ImageError>
     requires short { count ≤ 16384 }
     requires within { at + count * 12 ≤ length bytes.now }
-    requires few { funcs ≤ 64 }
+    requires few { funcs ≤ body_limit }
     requires fits { size ≤ 2097152 }
     ensures read { IfOk result (λ marks. MarksStand bytes.now at services funcs size marks.items) }
     ensures counted { IfOk result (λ marks. length marks.items ≡ count) }
@@ -40,7 +41,7 @@ pub fn read_marks(
 // The mark that stands at `at`.
 fn mark_at(bytes: &[u8], at: usize, services: u8, funcs: usize, size: usize) -> Option<Mark>
     requires within { at + 12 ≤ length bytes.now }
-    requires few { funcs ≤ 64 }
+    requires few { funcs ≤ body_limit }
     requires fits { size ≤ 2097152 }
     ensures some { IfSome result (λ mark. MarkStands bytes.now at services funcs size mark) }
     ensures none { IfNone result (NoMark bytes.now at services funcs size) }

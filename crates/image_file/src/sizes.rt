@@ -2,7 +2,7 @@
 ghost use Rattle.std.specs.Prelude.{◌≡◌, Decides};
 ghost use Rattle.image_file.specs.Limits.{SizesFit, header_size};
 
-use sloth_base::limits::{COUNTER_LIMIT, TASK_LIMIT};
+use sloth_base::limits::{BODY_LIMIT, COUNTER_LIMIT, TASK_LIMIT};
 
 /// The numbers of tasks, functions, counters, bytes of memory and marks.
 #[derive(Clone, Copy)]
@@ -27,7 +27,7 @@ impl Sizes {
         ensures { Decides result (SizesFit self.now) }
     {
         self.tasks <= TASK_LIMIT
-            && self.funcs <= 64
+            && self.funcs <= BODY_LIMIT
             && self.counters <= COUNTER_LIMIT
             && self.memory <= 2_097_152
             && self.memory % 4 == 0

@@ -26,7 +26,7 @@ use Rattle.sloth_base.specs.declared.event.Event.TheVariants as event
 use Rattle.sloth_base.specs.declared.service.Service.{Service}
 use Rattle.sloth_base.specs.declared.service.Service.TheVariants as service
 use Rattle.sloth_base.specs.Named.{function, no_function, body_of, declaration, counter_declaration, undeclared_counter, alarm_declaration, undeclared_alarm}
-use Rattle.sloth_base.specs.Limits.{task_limit, ceiling_count}
+use Rattle.sloth_base.specs.Limits.{task_limit, ceiling_count, body_limit}
 use Rattle.code_rules.specs.AppRange.{IsOp}
 use Rattle.code_rules.specs.Code.{is_in}
 use Rattle.osek_scheduler.specs.declared.state.TaskState.{TaskState}
@@ -275,7 +275,7 @@ module _ {config : Config} {app : App} {s : System} (sound : IsSound config app 
         kept-besides get p.other (with_change t p.change s) t a b
         ∙ ap get (get_or-set_same s.tasks t (changed_task p.change (task s t)) sleeping_task (in_tasks t lt))
 
-    few_frames : length (changed_task p.change (task s t)).frames ≤ 64
+    few_frames : length (changed_task p.change (task s t)).frames ≤ body_limit
     few_frames =
         let own = tidy config app w (settled_state (planned_system t p s)) t behind lt in
         let most = at_most (map (λ x. x.func) (task (settled_state (planned_system t p s)) t).frames) (length app.funcs) own.frames_differ
@@ -323,7 +323,7 @@ module _ {config : Config} {app : App} {s : System} (sound : IsSound config app 
         from_some (plan (Some v) change.MoveOn (other.Store y wd offset v)) q found.1 (moves t, (ltb-true _ _ both.0, leb-true _ _ both.1))
 
     item-room : (o : Op) (f : Func) (frame : Frame) (q : Plan) → slice_get k.frames 0 ≡ Some frame
-        → item_plan app o f frame (length k.frames) k.registers s.symbols ≡ Some q → length (changed_task q.change k).frames ≤ 64 → Roomy q
+        → item_plan app o f frame (length k.frames) k.registers s.symbols ≡ Some q → length (changed_task q.change k).frames ≤ body_limit → Roomy q
     item-room (op.Alu kind rd a b) f frame q at e deep = from_some _ q e (moves t, tt)
     item-room (op.AluImm kind rd a n) f frame q at e deep = from_some _ q e (moves t, tt)
     item-room (op.Lui rd n) f frame q at e deep = from_some _ q e (moves t, tt)
@@ -348,7 +348,7 @@ module _ {config : Config} {app : App} {s : System} (sound : IsSound config app 
         let make = λ (called : Func). plan (Some 0) (change.Invoke g called.frame_words) other.Nothing in
         let found = on_some_from (slice_get app.funcs g) _ q e in
         let same = same_Some (make found.0) q found.2 in
-        let long = subst (λ (p : Plan). length (changed_task p.change k).frames ≤ 64) (sym same) deep in
+        let long = subst (λ (p : Plan). length (changed_task p.change k).frames ≤ body_limit) (sym same) deep in
         subst Roomy same ((omega (arith, long), words-of g found.0 found.1), tt)
     item-room op.Return f frame q at e deep =
         let found = if_true_some (ltb 1 (length k.frames)) _ q e in

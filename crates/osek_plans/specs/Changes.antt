@@ -1,6 +1,6 @@
 -- The room of a task for its changes.
 use Rattle.std.specs.Prelude.{◌<◌, ◌≤◌, length}
-use Rattle.sloth_base.specs.Limits.{ceiling_count}
+use Rattle.sloth_base.specs.Limits.{ceiling_count, body_limit}
 use Rattle.osek_scheduler.specs.State.{Task}
 use Rattle.osek_scheduler.specs.declared.change.TaskChange.{TaskChange}
 use Rattle.osek_scheduler.specs.declared.change.TaskChange.TheVariants as change
@@ -27,5 +27,5 @@ Allows (change.Write rd value) k = CanMove k.frames
 Allows (change.GoTo item) k = Unit {0}
 Allows change.MoveOn k = CanMove k.frames
 Allows (change.StoreWord word value) k = CanMove k.frames × HasWord word k.frames
-Allows (change.Invoke func words) k = (length k.frames < 64) × (words ≤ 32)
+Allows (change.Invoke func words) k = (length k.frames < body_limit) × (words ≤ 32)
 Allows change.Return k = CanMove (outer_frames k.frames)

@@ -8,7 +8,7 @@ use Rattle.sloth_base.specs.declared.image.Mark.{Mark}
 use Rattle.sloth_base.specs.declared.image.MarkKind.{MarkKind}
 use Rattle.sloth_base.specs.declared.image.MarkKind.TheVariants as kind
 use Rattle.sloth_base.specs.MemoryMap.{memory_base}
-use Rattle.sloth_base.specs.Limits.{task_limit, counter_limit, name_limit}
+use Rattle.sloth_base.specs.Limits.{task_limit, counter_limit, name_limit, body_limit}
 
 -- a letter or `_`
 abbrev pub begins_word : ℕ → Bool
@@ -63,7 +63,7 @@ AreAscending marks = IsStrictlyIncreasing (map (λ mark. mark.address) marks)
 -- the image is in the range of the format
 pub record InFormat (image : Image) : Type 0 where
   pub few_tasks : length image.tasks ≤ task_limit
-  pub few_functions : length image.funcs ≤ 64
+  pub few_functions : length image.funcs ≤ body_limit
   pub few_counters : length image.counters ≤ counter_limit
   pub tasks : AreNames image.tasks
   pub functions : AreNames image.funcs

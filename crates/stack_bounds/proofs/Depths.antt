@@ -6,6 +6,7 @@ use Rattle.sloth_base.specs.declared.app.Func.{Func}
 use Rattle.sloth_base.specs.declared.app.Op.{Op}
 use Rattle.sloth_base.specs.declared.app.Op.TheVariants as op
 use Rattle.sloth_base.specs.Named.{no_item}
+use Rattle.sloth_base.specs.Limits.{body_limit}
 use Rattle.call_graph.specs.Tables.{func_of, bytes_called, most_called, calls_to_depth, table_entry, IsTable, IsKnown, IsSmall, AreCallable}
 use Rattle.stack_bounds.proofs.Below.{max_below-le, max_below-same}
 
@@ -29,7 +30,7 @@ module _ (funcs : List Func) where
       (get_or (func_of funcs f).items i no_item).op (callable.callees f i l inside)) in
       omega (arith, bound)
 
-  pub table_small : (depth : ℕ) (table : List ℕ) → AreCallable funcs → depth ≤ 64 → IsTable funcs depth table → IsSmall funcs table
+  pub table_small : (depth : ℕ) (table : List ℕ) → AreCallable funcs → depth ≤ body_limit → IsTable funcs depth table → IsSmall funcs table
   table_small depth table callable few is = record {
     count = is.count;
     small = λ f. ⊎_elim
