@@ -6,7 +6,7 @@ use Rattle.sloth_base.specs.declared.config.Config.{Config}
 use Rattle.sloth_base.specs.declared.config.TaskDecl.{TaskDecl}
 use Rattle.sloth_base.specs.declared.refusal.Code.TheVariants.{A5, A6, A7}
 use Rattle.sloth_base.specs.declared.refusal.Refusal.{Refusal}
-use Rattle.sloth_base.specs.Limits.{name_limit, body_limit}
+use Rattle.sloth_base.specs.Limits.{name_limit, body_limit, item_limit}
 use Rattle.least_fault.specs.Search.{Somewhere}
 use Rattle.asm_lines.specs.declared.source_line.SourceLine.{SourceLine}
 use Rattle.asm_lines.specs.declared.source_line.SourceLine.TheVariants.{Statement}
@@ -77,7 +77,7 @@ is_misnamed scope labels earlier l = (is_label l && list_any (bytes_eq (name_of 
 
 -- the 4,097th item, or a long name
 abbrev pub is_beyond : ℕ → SourceLine → Bool
-is_beyond items l = (is_item l && (items == 4096)) || has_long l
+is_beyond items l = (is_item l && (items == item_limit)) || has_long l
 
 -- A5 and A6 of line n, in a body with these labels, behind labels of these earlier names and so many items of all bodies
 abbrev pub InnerFault : Scope → List (List ℕ) → List (List ℕ) → ℕ → ℕ → SourceLine → Refusal → Type 0

@@ -9,7 +9,7 @@ use crate::limits::{count_item, count_items, count_label, has_long};
 use asm_lines::SourceLine;
 use asm_scopes::{Body, Scope, is_item, is_label, is_task, label_names, name_of, number_of};
 use least_fault::{merge, when};
-use sloth_base::limits::BODY_LIMIT;
+use sloth_base::limits::{BODY_LIMIT, ITEM_LIMIT};
 use sloth_base::memory::NoMemory;
 use sloth_base::refusal::{Code, Part, Refusal};
 use std::alloc::Global;
@@ -17,9 +17,6 @@ use text_pieces::names::Names;
 
 /// How many words a frame may have.
 const FRAME_WORDS: u32 = 32;
-
-/// How many items all bodies may have.
-const ITEMS: usize = 4096;
 
 fn is_too_great(count: usize, header: &SourceLine) -> bool
     ensures { result ≡ is_too_great count header.now }
@@ -55,7 +52,7 @@ fn is_misnamed(scope: &Scope, labels: &Names, count: usize, line: &SourceLine) -
 fn is_beyond(items: usize, line: &SourceLine) -> bool
     ensures { result ≡ is_beyond items line.now }
 {
-    (is_item(line) && items == ITEMS) || has_long(line)
+    (is_item(line) && items == ITEM_LIMIT) || has_long(line)
 }
 
 // The least fault of a line behind the first `count` labels.

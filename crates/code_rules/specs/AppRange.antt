@@ -18,7 +18,7 @@ use Rattle.sloth_base.specs.ConfigRange.{no_event}
 use Rattle.sloth_base.specs.ImageRange.{AreNames}
 use Rattle.sloth_base.specs.Named.{function, IsBodyOf}
 use Rattle.sloth_base.specs.ServiceCodes.{object_kind, has_mask}
-use Rattle.sloth_base.specs.Limits.{body_limit}
+use Rattle.sloth_base.specs.Limits.{body_limit, item_limit}
 
 -- ---- operands
 
@@ -149,7 +149,7 @@ pub record HasBodies (config : Config) (app : App) : Type 0 where
 -- the most of each that task code may have
 pub record IsWithinLimits (app : App) : Type 0 where
   pub few_bodies : length app.funcs ≤ body_limit
-  pub few_items : sum (map (λ f. length f.items) app.funcs) ≤ 4096
+  pub few_items : sum (map (λ f. length f.items) app.funcs) ≤ item_limit
   pub few_symbols : length app.symbols ≤ 256
   pub few_bytes : sum (map (λ y. length y.bytes) app.symbols) ≤ 32768
 

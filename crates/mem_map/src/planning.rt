@@ -8,7 +8,7 @@ ghost use Rattle.mem_map.specs.Stacks.{HasStacks};
 ghost use Rattle.mem_map.specs.Plan.{MayPlan, HasAddresses, idle_at, prologues_at, ticks_at, tick_starts, services_at, items_at, code_end, symbol_bytes};
 ghost use Rattle.mem_map.specs.Starts.{code_byte_count};
 ghost use Rattle.sloth_base.specs.Owners.{first_counter_line, counter_line};
-ghost use Rattle.sloth_base.specs.Limits.{task_limit, counter_limit};
+ghost use Rattle.sloth_base.specs.Limits.{task_limit, counter_limit, item_limit};
 ghost use Rattle.mem_map.specs.Planned.{IsPlanned};
 
 use crate::addresses::{handlers, place_services};
@@ -89,7 +89,7 @@ fn plan_code(alloc: Global, lengths: &CodeLengths) -> Result<Code, AllocError>
 
 // The number of items before those of each function.
 fn plan_first(alloc: Global, app: &App) -> Result<Pieces, AllocError>
-    requires few { All (λ f. length f.items ≤ 4096) app.now.funcs }
+    requires few { All (λ f. length f.items ≤ item_limit) app.now.funcs }
     requires fits { end_of 0 (map (λ f. length f.items) app.now.funcs) < 4294967296 }
     ensures { IfOk result (λ pieces. pieces.starts ≡ starts 0 (map (λ f. length f.items) app.now.funcs)) }
 {
