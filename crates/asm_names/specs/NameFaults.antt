@@ -6,7 +6,7 @@ use Rattle.sloth_base.specs.declared.config.Config.{Config}
 use Rattle.sloth_base.specs.declared.config.TaskDecl.{TaskDecl}
 use Rattle.sloth_base.specs.declared.refusal.Code.TheVariants.{A5, A6, A7}
 use Rattle.sloth_base.specs.declared.refusal.Refusal.{Refusal}
-use Rattle.sloth_base.specs.Limits.{name_limit, body_limit, item_limit, symbol_limit}
+use Rattle.sloth_base.specs.Limits.{name_limit, body_limit, item_limit, symbol_limit, data_limit}
 use Rattle.least_fault.specs.Search.{Somewhere}
 use Rattle.asm_lines.specs.declared.source_line.SourceLine.{SourceLine}
 use Rattle.asm_lines.specs.declared.source_line.SourceLine.TheVariants.{Statement}
@@ -42,7 +42,7 @@ is_taken earlier l = is_data l && (list_any (bytes_eq (name_of l)) earlier || by
 
 -- the 257th symbol, one that brings the sum of sizes above 32,768 bytes, or one of a long name
 abbrev pub is_too_much : ℕ → ℕ → SourceLine → Bool
-is_too_much count bytes l = is_data l && ((count == symbol_limit) || (nat_lt 32768 (bytes + number_of l) || has_long l))
+is_too_much count bytes l = is_data l && ((count == symbol_limit) || (nat_lt data_limit (bytes + number_of l) || has_long l))
 
 -- A5 and A6 of a `data` on line n, behind so many symbols of these names, which have so many bytes
 abbrev pub SymbolFault : List (List ℕ) → ℕ → ℕ → ℕ → SourceLine → Refusal → Type 0

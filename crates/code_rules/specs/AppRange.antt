@@ -18,7 +18,7 @@ use Rattle.sloth_base.specs.ConfigRange.{no_event}
 use Rattle.sloth_base.specs.ImageRange.{AreNames}
 use Rattle.sloth_base.specs.Named.{function, IsBodyOf}
 use Rattle.sloth_base.specs.ServiceCodes.{object_kind, has_mask}
-use Rattle.sloth_base.specs.Limits.{body_limit, item_limit, symbol_limit}
+use Rattle.sloth_base.specs.Limits.{body_limit, item_limit, symbol_limit, data_limit}
 
 -- ---- operands
 
@@ -151,7 +151,7 @@ pub record IsWithinLimits (app : App) : Type 0 where
   pub few_bodies : length app.funcs ≤ body_limit
   pub few_items : sum (map (λ f. length f.items) app.funcs) ≤ item_limit
   pub few_symbols : length app.symbols ≤ symbol_limit
-  pub few_bytes : sum (map (λ y. length y.bytes) app.symbols) ≤ 32768
+  pub few_bytes : sum (map (λ y. length y.bytes) app.symbols) ≤ data_limit
 
 -- the task code is in range of the configuration
 pub record AppInRange (config : Config) (app : App) : Type 0 where

@@ -14,7 +14,7 @@ use Rattle.sloth_region.specs.declared.map.Map.{Map}
 use Rattle.sloth_region.specs.Region.{FollowWithin}
 use Rattle.std.proofs.lemmas.Bool.{cases_lt}
 use Rattle.sloth_base.specs.declared.places.Bounds.{Bounds}
-use Rattle.sloth_base.specs.Limits.{task_limit, counter_limit, item_limit}
+use Rattle.sloth_base.specs.Limits.{task_limit, counter_limit, item_limit, data_limit}
 use Rattle.mem_map.specs.Starts.{end_of, starts}
 use Rattle.mem_map.specs.Run.{extents_of, AreClose}
 use Rattle.mem_map.specs.declared.all_lengths.CodeLengths.{CodeLengths}
@@ -37,7 +37,7 @@ module _ (config : Config) (app : App) (lengths : CodeLengths) (bounds : Bounds)
   items_sum : sum_by (λ (f : Func). length f.items) app.funcs ≤ item_limit
   items_sum = let s = sum-map (λ (f : Func). length f.items) app.funcs in let h = may.in_range.limits.few_items in omega (arith, s, h)
 
-  symbols_sum : sum_by (λ (y : Symbol). length y.bytes) app.symbols ≤ 32768
+  symbols_sum : sum_by (λ (y : Symbol). length y.bytes) app.symbols ≤ data_limit
   symbols_sum = let s = sum-map (λ (y : Symbol). length y.bytes) app.symbols in let h = may.in_range.limits.few_bytes in omega (arith, s, h)
 
   -- the items of each function
@@ -45,7 +45,7 @@ module _ (config : Config) (app : App) (lengths : CodeLengths) (bounds : Bounds)
   counts_few = λ k d l. let o = get_or-le-sum_by (λ (f : Func). length f.items) app.funcs k d l in let h = items_sum in omega (arith, h, o)
 
   -- the bytes of each symbol
-  pub symbols_few : All (λ (y : Symbol). length y.bytes ≤ 32768) app.symbols
+  pub symbols_few : All (λ (y : Symbol). length y.bytes ≤ data_limit) app.symbols
   symbols_few = λ k d l. let o = get_or-le-sum_by (λ (y : Symbol). length y.bytes) app.symbols k d l in let h = symbols_sum in omega (arith, h, o)
 
   sizes_are : All IsSize lengths.items

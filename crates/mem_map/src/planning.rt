@@ -8,7 +8,7 @@ ghost use Rattle.mem_map.specs.Stacks.{HasStacks};
 ghost use Rattle.mem_map.specs.Plan.{MayPlan, HasAddresses, idle_at, prologues_at, ticks_at, tick_starts, services_at, items_at, code_end, symbol_bytes};
 ghost use Rattle.mem_map.specs.Starts.{code_byte_count};
 ghost use Rattle.sloth_base.specs.Owners.{first_counter_line, counter_line};
-ghost use Rattle.sloth_base.specs.Limits.{task_limit, counter_limit, item_limit};
+ghost use Rattle.sloth_base.specs.Limits.{task_limit, counter_limit, item_limit, data_limit};
 ghost use Rattle.mem_map.specs.Planned.{IsPlanned};
 
 use crate::addresses::{handlers, place_services};
@@ -99,7 +99,7 @@ fn plan_first(alloc: Global, app: &App) -> Result<Pieces, AllocError>
 
 // The addresses of the symbols, the first at `from`.
 fn plan_symbols(alloc: Global, from: u32, app: &App) -> Result<Pieces, AllocError>
-    requires few { All (λ y. length y.bytes ≤ 32768) app.now.symbols }
+    requires few { All (λ y. length y.bytes ≤ data_limit) app.now.symbols }
     requires fits { end_of from (map symbol_bytes app.now.symbols) < 4294967296 }
     ensures starts { IfOk result (λ pieces. pieces.starts ≡ starts from (map symbol_bytes app.now.symbols)) }
     ensures end { IfOk result (λ pieces. pieces.end ≡ end_of from (map symbol_bytes app.now.symbols)) }
