@@ -11,6 +11,7 @@ use Rattle.sloth_base.specs.declared.service.Service.TheVariants as service
 use Rattle.sloth_base.specs.Arithmetic.{size_of}
 use Rattle.sloth_base.specs.Named.{declaration, item_of, label_of, symbol_size}
 use Rattle.sloth_base.specs.ConfigRange.{scheduler_number}
+use Rattle.sloth_base.specs.Limits.{mask_limit}
 use Rattle.code_rules.specs.AppRange.{AreOperands}
 use Rattle.code_rules.specs.Code.{is_followed, way, is_in, is_last}
 use Rattle.call_graph.specs.declared.ranking.Ranks.{Ranks}
@@ -36,8 +37,8 @@ is_uneven _ = false
 
 -- V4
 abbrev pub masks_past : App → Op → Bool
-masks_past app (op.LoadAt w rd y index mask) = nat_lt 32767 mask || nat_lt (symbol_size app y) (mask + size_of w)
-masks_past app (op.StoreAt w rs y index mask) = nat_lt 32767 mask || nat_lt (symbol_size app y) (mask + size_of w)
+masks_past app (op.LoadAt w rd y index mask) = nat_lt mask_limit mask || nat_lt (symbol_size app y) (mask + size_of w)
+masks_past app (op.StoreAt w rs y index mask) = nat_lt mask_limit mask || nat_lt (symbol_size app y) (mask + size_of w)
 masks_past app _ = false
 
 -- the label of this number stands behind the last item

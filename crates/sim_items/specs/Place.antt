@@ -19,6 +19,7 @@ use Rattle.observe.specs.Observe.{View, mark_at}
 use Rattle.osek_scheduler.specs.State.{Frame, System, task}
 use Rattle.sloth_base.specs.Named.{function, operation, label_of, symbol_size}
 use Rattle.sloth_base.specs.MemoryMap.{memory_base}
+use Rattle.sloth_base.specs.Limits.{mask_limit}
 use Rattle.sim_relation.specs.Bounds.{AreBelow}
 use Rattle.sim_relation.specs.Build.{Build}
 use Rattle.sim_relation.specs.Position.{thread_of, AreFrames, InExpansion, IsCalling, IsReturning}
@@ -106,7 +107,7 @@ pub record IsAccess (app : App) (w : Width) (symbol offset : ℕ) : Type 0 where
 pub record IsMasked (app : App) (w : Width) (symbol mask : ℕ) : Type 0 where
   pub inside : mask + size_of w ≤ symbol_size app symbol
   pub aligned : mask % size_of w ≡ 0
-  pub few : mask ≤ 32767
+  pub few : mask ≤ mask_limit
 
 -- An item behind which the next one follows. It computes on registers and numbers, or moves a word of its frame or a number of a
 -- symbol, at a place that its code names or at an index under a mask.
