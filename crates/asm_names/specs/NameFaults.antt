@@ -6,7 +6,7 @@ use Rattle.sloth_base.specs.declared.config.Config.{Config}
 use Rattle.sloth_base.specs.declared.config.TaskDecl.{TaskDecl}
 use Rattle.sloth_base.specs.declared.refusal.Code.TheVariants.{A5, A6, A7}
 use Rattle.sloth_base.specs.declared.refusal.Refusal.{Refusal}
-use Rattle.sloth_base.specs.Limits.{name_limit, body_limit, item_limit, symbol_limit, data_limit}
+use Rattle.sloth_base.specs.Limits.{name_limit, body_limit, item_limit, symbol_limit, data_limit, frame_limit}
 use Rattle.least_fault.specs.Search.{Somewhere}
 use Rattle.asm_lines.specs.declared.source_line.SourceLine.{SourceLine}
 use Rattle.asm_lines.specs.declared.source_line.SourceLine.TheVariants.{Statement}
@@ -56,7 +56,7 @@ DataFault front l r = SymbolFault (symbol_names front) (count_by is_data front) 
 
 -- the 65th body, a frame above 32 words, or a long name
 abbrev pub is_too_great : ℕ → SourceLine → Bool
-is_too_great count header = (count == body_limit) || (nat_lt 32 (number_of header) || has_long header)
+is_too_great count header = (count == body_limit) || (nat_lt frame_limit (number_of header) || has_long header)
 
 -- the body of a task that the configuration has not
 abbrev pub is_strange : Scope → SourceLine → Bool

@@ -9,19 +9,16 @@ use crate::limits::{count_item, count_items, count_label, has_long};
 use asm_lines::SourceLine;
 use asm_scopes::{Body, Scope, is_item, is_label, is_task, label_names, name_of, number_of};
 use least_fault::{merge, when};
-use sloth_base::limits::{BODY_LIMIT, ITEM_LIMIT};
+use sloth_base::limits::{BODY_LIMIT, FRAME_LIMIT, ITEM_LIMIT};
 use sloth_base::memory::NoMemory;
 use sloth_base::refusal::{Code, Part, Refusal};
 use std::alloc::Global;
 use text_pieces::names::Names;
 
-/// How many words a frame may have.
-const FRAME_WORDS: u32 = 32;
-
 fn is_too_great(count: usize, header: &SourceLine) -> bool
     ensures { result ≡ is_too_great count header.now }
 {
-    count == BODY_LIMIT || number_of(header) > FRAME_WORDS || has_long(header)
+    count == BODY_LIMIT || number_of(header) > FRAME_LIMIT as u32 || has_long(header)
 }
 
 fn is_strange(scope: &Scope, header: &SourceLine) -> bool

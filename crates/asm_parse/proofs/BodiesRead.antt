@@ -7,7 +7,7 @@ use Rattle.std.proofs.lemmas.Bool.{eqb-false, ltb-false, cases_lt, or_parts}
 use Rattle.std.proofs.lemmas.List.Elements.{All-nil, All-cons, All-head, All-tail, All-take}
 use Rattle.sloth_base.specs.declared.refusal.Code.TheVariants.{A5, A6}
 use Rattle.sloth_base.specs.declared.refusal.Part.TheVariants.{Src}
-use Rattle.sloth_base.specs.Limits.{body_limit, item_limit}
+use Rattle.sloth_base.specs.Limits.{body_limit, item_limit, frame_limit}
 use Rattle.least_fault.specs.Order.{NoFault}
 use Rattle.least_fault.proofs.Nowhere.{nowhere, case_false}
 use Rattle.asm_lines.specs.declared.source_line.SourceLine.{SourceLine}
@@ -71,12 +71,12 @@ module _ (scope : Scope) (bodies : List BodyText)
   pub few_words : (i : ℕ) → i < length bodies → number_of (body_at bodies i).header ≤ 32
   few_words i h =
       let header = (body_at bodies i).header in
-      ltb-false 32 (number_of header) (or_parts (nat_lt 32 (number_of header)) (has_long header) (or_parts (length (take i bodies) == body_limit) _ (not_great i h)).1).0
+      ltb-false frame_limit (number_of header) (or_parts (nat_lt frame_limit (number_of header)) (has_long header) (or_parts (length (take i bodies) == body_limit) _ (not_great i h)).1).0
 
   pub short_name : (i : ℕ) → i < length bodies → has_long (body_at bodies i).header ≡ false
   short_name i h =
       let header = (body_at bodies i).header in
-      (or_parts (nat_lt 32 (number_of header)) (has_long header) (or_parts (length (take i bodies) == body_limit) _ (not_great i h)).1).1
+      (or_parts (nat_lt frame_limit (number_of header)) (has_long header) (or_parts (length (take i bodies) == body_limit) _ (not_great i h)).1).1
 
   -- ---- lines
 

@@ -18,7 +18,7 @@ use Rattle.sloth_base.specs.ConfigRange.{no_event}
 use Rattle.sloth_base.specs.ImageRange.{AreNames}
 use Rattle.sloth_base.specs.Named.{function, IsBodyOf}
 use Rattle.sloth_base.specs.ServiceCodes.{object_kind, has_mask}
-use Rattle.sloth_base.specs.Limits.{body_limit, item_limit, symbol_limit, data_limit}
+use Rattle.sloth_base.specs.Limits.{body_limit, item_limit, symbol_limit, data_limit, frame_limit}
 
 -- ---- operands
 
@@ -135,7 +135,7 @@ pub record IsPlaced (config : Config) (f : Func) (l : Label) : Type 0 where
 
 -- what a body may say
 pub record IsBody (config : Config) (app : App) (f : Func) : Type 0 where
-  pub frame : f.frame_words ≤ 32
+  pub frame : f.frame_words ≤ frame_limit
   pub label_names : AreNames (map (λ l. l.name) f.labels)
   pub labels : All (IsPlaced config f) f.labels
   pub items : All (λ item. IsOp config app f item.op) f.items

@@ -26,7 +26,7 @@ use Rattle.sloth_base.specs.declared.event.Event.TheVariants as event
 use Rattle.sloth_base.specs.declared.service.Service.{Service}
 use Rattle.sloth_base.specs.declared.service.Service.TheVariants as service
 use Rattle.sloth_base.specs.Named.{function, no_function, body_of, declaration, counter_declaration, undeclared_counter, alarm_declaration, undeclared_alarm}
-use Rattle.sloth_base.specs.Limits.{task_limit, ceiling_count, body_limit}
+use Rattle.sloth_base.specs.Limits.{task_limit, ceiling_count, body_limit, frame_limit}
 use Rattle.code_rules.specs.AppRange.{IsOp}
 use Rattle.code_rules.specs.Code.{is_in}
 use Rattle.osek_scheduler.specs.declared.state.TaskState.{TaskState}
@@ -252,9 +252,9 @@ module _ {config : Config} {app : App} {s : System} (sound : IsSound config app 
     clocked = clocked;
   }
 
-  words-of : (f : ℕ) (found : Func) → slice_get app.funcs f ≡ Some found → found.frame_words ≤ 32
+  words-of : (f : ℕ) (found : Func) → slice_get app.funcs f ≡ Some found → found.frame_words ≤ frame_limit
   words-of f found e =
-      subst (λ (g : Func). g.frame_words ≤ 32) (get_or_from_slice_get app.funcs f found no_function e)
+      subst (λ (g : Func). g.frame_words ≤ frame_limit) (get_or_from_slice_get app.funcs f found no_function e)
       (w.in_range.bodies f no_function (slice_get_within app.funcs f found e)).frame
 
   -- the system has each task of the configuration
@@ -425,7 +425,7 @@ module _ {config : Config} {app : App} {s : System} (sound : IsSound config app 
       let words = words-of body found.0 found.1 in
       room-of t lt (make found.0) p found.2 (by (depth == 0) body non found.0 words t)
     where
-      by : (b : Bool) (body : ℕ) (non : Bool) (f : Func) → f.frame_words ≤ 32 → (t : ℕ)
+      by : (b : Bool) (body : ℕ) (non : Bool) (f : Func) → f.frame_words ≤ frame_limit → (t : ℕ)
           → Allows (cond b (change.Start body f.frame_words non) (change.Resume non)) (task s t) × Unit {0}
       by true body non f h t = (h, tt)
       by false body non f h t = (tt, tt)

@@ -7,7 +7,7 @@ use Rattle.sloth_base.specs.Machine.{Core, State}
 use Rattle.sloth_base.specs.Arithmetic.{plus}
 use Rattle.sloth_base.specs.Status.{E_OK}
 use Rattle.sloth_base.specs.MemoryMap.{memory_base}
-use Rattle.sloth_base.specs.Limits.{task_limit, level_count}
+use Rattle.sloth_base.specs.Limits.{task_limit, level_count, frame_limit}
 use Rattle.sloth_region.specs.Layout.{cur, active, resume, below_word, idle_context, context_bytes, controller_base}
 use Rattle.rv32_instr.specs.declared.InstrKind.{InstrKind}
 use Rattle.rv32_instr.specs.Ram.{word_at, with_word, with_words}
@@ -233,7 +233,7 @@ module _ (from to task level place own : ℕ) (c : Core) (rest : List InstrKind)
 length-code : (task level frame words first : ℕ) → length (code task level frame words first) ≡ words + 108
 length-code task level frame words first = let e = length-starts frame words first in omega arith
 
-module _ (task level first frame words : ℕ) (is_task : task < task_limit) (low_level : level < level_count) (first_fits : first < 2 ^ 32) (few : words ≤ 32) (offset place : ℕ) (c : Core) where
+module _ (task level first frame words : ℕ) (is_task : task < task_limit) (low_level : level < level_count) (first_fits : first < 2 ^ 32) (few : words ≤ frame_limit) (offset place : ℕ) (c : Core) where
   abbrev whole : List InstrKind
   whole = code task level (memory_base + frame) words first
 
@@ -301,7 +301,7 @@ module _ (task level first frame words : ℕ) (is_task : task < task_limit) (low
       (λ o e. resumed_owe offset to task level place own c (starts (memory_base + frame) words first) kept o (memory_base + place) 1 (omega (arith, small, e))))
 
 -- so the whole code does one of the two
-pub enters_or_resumes : (task level first frame words : ℕ) → task < task_limit → level < level_count → first < 2 ^ 32 → words ≤ 32
+pub enters_or_resumes : (task level first frame words : ℕ) → task < task_limit → level < level_count → first < 2 ^ 32 → words ≤ frame_limit
     → EntersOrResumes task level first frame words (code task level (memory_base + frame) words first)
 enters_or_resumes task level first frame words a b d f =
     let long = length-code task level (memory_base + frame) words first in

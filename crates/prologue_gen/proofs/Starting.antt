@@ -9,7 +9,7 @@ use Rattle.sloth_region.specs.Layout.{controller_base}
 use Rattle.rv32_instr.specs.Ram.{with_words}
 use Rattle.sloth_base.specs.Arithmetic.{hi}
 use Rattle.sloth_base.specs.MemoryMap.{memory_base}
-use Rattle.sloth_base.specs.Limits.{task_limit, level_count}
+use Rattle.sloth_base.specs.Limits.{task_limit, level_count, frame_limit}
 use Rattle.masked_code.specs.Place.{offset_state}
 use Rattle.masked_code.specs.Masked.{Masked, WithArrivals}
 use Rattle.masked_code.specs.Owes.{◌▸◌, writes, accesses, Owes}
@@ -136,7 +136,7 @@ length-code : (task level frame words first : ℕ) → length (code task level f
 length-code task level frame words first = let e = length-starts frame words first in omega arith
 
 module _ (task level first frame words : ℕ) (is_task : task < task_limit) (low_level : level < level_count) (first_fits : first < 2 ^ 32) (first_aligned : first % 4 ≡ 0)
-    (few : words ≤ 32) (offset place : ℕ) (c : Core) (h : MayEnter offset task place frame words (code task level (memory_base + frame) words first) c) where
+    (few : words ≤ frame_limit) (offset place : ℕ) (c : Core) (h : MayEnter offset task place frame words (code task level (memory_base + frame) words first) c) where
   abbrev whole : List InstrKind
   whole = code task level (memory_base + frame) words first
 
@@ -160,7 +160,7 @@ module _ (task level first frame words : ℕ) (is_task : task < task_limit) (low
       (subst (λ x. Owes offset to offset whole 0 E (offset_state (vector task) x) x) (based_is c can.registers can.zero h.bases) all))
 
 -- for each task, level, first instruction and frame
-pub enters : (task level first frame words : ℕ) → task < task_limit → level < level_count → first < 2 ^ 32 → words ≤ 32 → Enters task level first frame words (code task level (memory_base + frame) words first)
+pub enters : (task level first frame words : ℕ) → task < task_limit → level < level_count → first < 2 ^ 32 → words ≤ frame_limit → Enters task level first frame words (code task level (memory_base + frame) words first)
 enters task level first frame words a b d f =
     let long = length-code task level (memory_base + frame) words first in
     record { size = omega arith; runs = λ offset place core e h. runs_it task level first frame words a b d e f offset place core h }

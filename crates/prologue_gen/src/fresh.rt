@@ -1,6 +1,6 @@
 //! The parts of a prologue: what was preempted is saved, and the task starts anew.
 ghost use Rattle.std.specs.Prelude.{◌≡◌, ◌<◌, ◌≤◌, ◌++◌, OnOk};
-ghost use Rattle.sloth_base.specs.Limits.{task_limit, level_count};
+ghost use Rattle.sloth_base.specs.Limits.{task_limit, level_count, frame_limit};
 ghost use Rattle.prologue_gen.specs.Pieces.{context_saving_code, csr_saving_code, words_saving_code, active_marking_code, beginning_code, fresh_start_code};
 
 use block_parts::prologues::ask_preempted;
@@ -89,7 +89,7 @@ pub fn start_anew(
     words: u32,
     first: u32,
 ) -> Result<(), AllocError>
-    requires { words ≤ 32 }
+    requires { words ≤ frame_limit }
     ensures { OnOk result (code.new.items ≡ code.old.items ++ fresh_start_code frame words first) }
 {
     begin(code, frame, first)?;

@@ -1,7 +1,7 @@
 //! Configurations of one task, its levels and its task code, and the map of its kernel.
 ghost use Rattle.std.specs.Prelude.{◌≡◌, ◌<◌, ◌≤◌, ◌++◌, ℕ, All, IfOk, OnOk, length, slice_index, ◌∷◌, []};
 ghost use Rattle.sloth_base.specs.ConfigRange.{InRange};
-ghost use Rattle.sloth_base.specs.Limits.{level_count, name_limit};
+ghost use Rattle.sloth_base.specs.Limits.{level_count, name_limit, frame_limit};
 ghost use Rattle.code_lengths.specs.Bodies.{IsBodyPlace};
 ghost use Rattle.prologue_gen.specs.Places.{IsStackTop};
 ghost use Rattle.rv32_words.specs.Alone.{alone, main_task, go_event, clock_counter, sleeping_alarm, clock_alarms};
@@ -198,9 +198,9 @@ fn alone(alloc: Global, tasks: Vec<TaskDecl>, events: Vec<EventDecl>) -> Config
 
 /// Its body, with a frame of so many words.
 pub fn app(alloc: Global, frame_words: u32) -> Result<App, NoMemory>
-    requires { frame_words ≤ 32 }
+    requires { frame_words ≤ frame_limit }
     ensures body { IfOk result (λ app. IsBodyPlace app.funcs 0 0) }
-    ensures frames { IfOk result (λ app. All (λ func. func.frame_words ≤ 32) app.funcs) }
+    ensures frames { IfOk result (λ app. All (λ func. func.frame_words ≤ frame_limit) app.funcs) }
     ensures one { IfOk result (λ app. length app.funcs ≡ 1) }
 {
     let main = Func {

@@ -6,7 +6,7 @@ ghost use Rattle.std.specs.Prelude.{ℕ, ◌≡◌, ◌<◌, ◌≤◌, All, len
 ghost use Rattle.alarm_gen.specs.Block.{HasAlarmBlock};
 ghost use Rattle.event_gen.specs.Block.{HasEventBlock as HasEventBlock};
 ghost use Rattle.sloth_base.specs.ConfigRange.{InRange};
-ghost use Rattle.sloth_base.specs.Limits.{level_count};
+ghost use Rattle.sloth_base.specs.Limits.{level_count, frame_limit};
 ghost use Rattle.prologue_gen.specs.Places.{IsStackTop};
 ghost use Rattle.service_gen.specs.Block.{HasBlock};
 ghost use Rattle.vector_gen.specs.Vectors.{AreInReach};
@@ -127,7 +127,7 @@ fn list_prologue(
     levels: &Levels,
     map: &Map,
 ) -> anyhow::Result<()>
-    requires frame { frame_words ≤ 32 }
+    requires frame { frame_words ≤ frame_limit }
     requires levels { (levels.now.top < level_count) × ((t : ℕ) → slice_index levels.now.task t < level_count) }
     requires tops { (length map.now.tops ≡ 1) × All IsStackTop map.now.tops }
     requires items { (length map.now.places.first ≡ 1) × All (λ i. i < length map.now.places.items) map.now.places.first }
@@ -145,7 +145,7 @@ fn prologue_code(
     map: &Map,
 ) -> Result<Block, NoMemory>
     requires one { length config.now.tasks ≡ 1 }
-    requires frame { frame_words ≤ 32 }
+    requires frame { frame_words ≤ frame_limit }
     requires levels { (levels.now.top < level_count) × ((t : ℕ) → slice_index levels.now.task t < level_count) }
     requires tops { (length map.now.tops ≡ 1) × All IsStackTop map.now.tops }
     requires items { (length map.now.places.first ≡ 1) × All (λ i. i < length map.now.places.items) map.now.places.first }
@@ -162,7 +162,7 @@ fn list_prologue_of(
     map: &Map,
 ) -> anyhow::Result<()>
     requires one { length config.now.tasks ≡ 1 }
-    requires frame { frame_words ≤ 32 }
+    requires frame { frame_words ≤ frame_limit }
     requires levels { (levels.now.top < level_count) × ((t : ℕ) → slice_index levels.now.task t < level_count) }
     requires tops { (length map.now.tops ≡ 1) × All IsStackTop map.now.tops }
     requires items { (length map.now.places.first ≡ 1) × All (λ i. i < length map.now.places.items) map.now.places.first }
