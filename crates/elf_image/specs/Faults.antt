@@ -4,7 +4,7 @@ use Rattle.std.specs.List.{flat_map}
 use Rattle.sloth_base.specs.ImageRange.{IsMark, AreAscending, service_limit}
 use Rattle.sloth_base.specs.declared.image.Mark.{Mark}
 use Rattle.sloth_base.specs.declared.image.Image.{Image}
-use Rattle.sloth_base.specs.Limits.{task_limit, counter_limit, body_limit}
+use Rattle.sloth_base.specs.Limits.{task_limit, counter_limit, body_limit, mark_limit}
 use Rattle.image_file.specs.Fields.{four_bytes}
 use Rattle.image_file.specs.ImageText.{mark_bytes, name_bytes}
 use Rattle.image_file.specs.Parts.{AreRightNames}
@@ -64,7 +64,7 @@ pub record IsWithin (d : Description) : Type 0 where
   pub few_tasks : length d.tasks ≤ task_limit
   pub few_functions : length d.funcs ≤ body_limit
   pub few_counters : length d.counters ≤ counter_limit
-  pub few_marks : d.count ≤ 16384
+  pub few_marks : d.count ≤ mark_limit
   pub twelve_each : length d.marks ≡ d.count * 12
 
 -- its bytes

@@ -1,6 +1,6 @@
 -- The limits of the numbers of a header.
 use Rattle.std.specs.Prelude.{◌≡◌, ◌≤◌, ◌%◌, ℕ, zero, suc}
-use Rattle.sloth_base.specs.Limits.{task_limit, counter_limit, body_limit}
+use Rattle.sloth_base.specs.Limits.{task_limit, counter_limit, body_limit, mark_limit}
 use Rattle.image_file.specs.declared.sizes.Sizes.{Sizes}
 
 -- these numbers are within the limits
@@ -10,7 +10,7 @@ pub record SizesFit (sizes : Sizes) : Type 0 where
   pub few_counters : sizes.counters ≤ counter_limit
   pub memory_fits : sizes.memory ≤ 2097152
   pub whole_words : sizes.memory % 4 ≡ 0
-  pub few_marks : sizes.marks ≤ 16384
+  pub few_marks : sizes.marks ≤ mark_limit
 
 -- the length of the header of a file with so many counters
 abbrev pub header_size : ℕ → ℕ

@@ -4,7 +4,7 @@ ghost use Rattle.image_file.specs.ImageText.{kind_number};
 ghost use Rattle.image_file.specs.Reading.{MarkStands, NoMark, MarksStand, MarksFail};
 ghost use Rattle.sloth_base.specs.ImageRange.{AreFields, IsMark, AreAscending};
 ghost use Rattle.sloth_base.specs.declared.image.MarkKind.{MarkKind as KindOfMark};
-ghost use Rattle.sloth_base.specs.Limits.{body_limit};
+ghost use Rattle.sloth_base.specs.Limits.{body_limit, mark_limit};
 
 use crate::fault::{ImageError, ImageFault};
 pub use crate::mark_services::service_limit;
@@ -23,7 +23,7 @@ pub fn read_marks(
     funcs: usize,
     size: usize,
 ) -> Result<Vec<Mark>, ImageError>
-    requires short { count ≤ 16384 }
+    requires short { count ≤ mark_limit }
     requires within { at + count * 12 ≤ length bytes.now }
     requires few { funcs ≤ body_limit }
     requires fits { size ≤ 2097152 }

@@ -2,7 +2,7 @@
 ghost use Rattle.std.specs.Prelude.{◌≡◌, Decides};
 ghost use Rattle.image_file.specs.Limits.{SizesFit, header_size};
 
-use sloth_base::limits::{BODY_LIMIT, COUNTER_LIMIT, TASK_LIMIT};
+use sloth_base::limits::{BODY_LIMIT, COUNTER_LIMIT, MARK_LIMIT, TASK_LIMIT};
 
 /// The numbers of tasks, functions, counters, bytes of memory and marks.
 #[derive(Clone, Copy)]
@@ -31,6 +31,6 @@ impl Sizes {
             && self.counters <= COUNTER_LIMIT
             && self.memory <= 2_097_152
             && self.memory % 4 == 0
-            && self.marks <= 16_384
+            && self.marks <= MARK_LIMIT
     }
 }
