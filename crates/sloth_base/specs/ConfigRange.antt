@@ -9,7 +9,7 @@ use Rattle.sloth_base.specs.declared.config.AlarmDecl.{AlarmDecl}
 use Rattle.sloth_base.specs.declared.config.Config.{Config}
 use Rattle.sloth_base.specs.ImageRange.{AreNames, AreApart}
 use Rattle.sloth_base.specs.Named.{declaration, counter_declaration}
-use Rattle.sloth_base.specs.Limits.{task_limit, counter_limit, alarm_limit, resource_limit, event_limit}
+use Rattle.sloth_base.specs.Limits.{task_limit, counter_limit, alarm_limit, resource_limit, event_limit, priority_limit}
 
 -- "RES_SCHEDULER"
 abbrev pub res_scheduler_name : List ℕ
@@ -27,7 +27,7 @@ IsUnionOf (event ∷ events) mask =
 
 -- a task of a configuration with these resources and events
 pub record IsTask (config : Config) (task : TaskDecl) : Type 0 where
-  pub priority : task.priority ≤ 65535
+  pub priority : task.priority ≤ priority_limit
   -- each is a RESOURCE object, or RES_SCHEDULER where that resource exists
   pub resources : All (λ r. (r < length config.resources) ⊎ ((r ≡ scheduler_number) × IsTrue config.res_scheduler)) task.resources
   pub events : IsUnionOf config.events task.events
