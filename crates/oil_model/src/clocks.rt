@@ -6,8 +6,9 @@ ghost use Rattle.oil_model.specs.Clocks.{declared_counter, counters_of, number_o
 use oil_alarms::{first_block, first_in, number_in};
 use oil_events::{EventTable, mask_of_value};
 use oil_parse::tree::{OilAttr, OilObject, OilValue};
-use oil_table::{GREATEST_VALUE, first_is, first_number, first_use, is_of_kind, names_of};
+use oil_table::{first_is, first_number, first_use, is_of_kind, names_of};
 use sloth_base::config::{Action, AlarmDecl, CounterDecl};
+use sloth_base::limits::TICK_LIMIT;
 use sloth_base::memory::NoMemory;
 use sloth_base::name::Name;
 use sloth_base::numbers::TaskId;
@@ -28,7 +29,7 @@ fn declared_counter(alloc: Global, object: &OilObject) -> Result<CounterDecl, No
     let attrs = object.attrs.items();
     Ok(CounterDecl {
         name: Name::new(alloc, object.name.bytes())?,
-        max: first_number(attrs, b"MAXALLOWEDVALUE").unwrap_or(GREATEST_VALUE),
+        max: first_number(attrs, b"MAXALLOWEDVALUE").unwrap_or(TICK_LIMIT),
         min_cycle: first_number(attrs, b"MINCYCLE").unwrap_or(1),
     })
 }

@@ -9,7 +9,7 @@ use Rattle.sloth_base.specs.declared.config.AlarmDecl.{AlarmDecl}
 use Rattle.sloth_base.specs.declared.config.Config.{Config}
 use Rattle.sloth_base.specs.ImageRange.{AreNames, AreApart}
 use Rattle.sloth_base.specs.Named.{declaration, counter_declaration}
-use Rattle.sloth_base.specs.Limits.{task_limit, counter_limit, alarm_limit, resource_limit, event_limit, priority_limit}
+use Rattle.sloth_base.specs.Limits.{task_limit, counter_limit, alarm_limit, resource_limit, event_limit, priority_limit, tick_limit}
 
 -- "RES_SCHEDULER"
 abbrev pub res_scheduler_name : List ℕ
@@ -35,8 +35,8 @@ pub record IsTask (config : Config) (task : TaskDecl) : Type 0 where
 
 -- the limits of a counter
 pub record IsCounter (counter : CounterDecl) : Type 0 where
-  pub max : (1 ≤ counter.max) × (counter.max ≤ 2147483647)
-  pub min_cycle : (1 ≤ counter.min_cycle) × (counter.min_cycle ≤ 2147483647)
+  pub max : (1 ≤ counter.max) × (counter.max ≤ tick_limit)
+  pub min_cycle : (1 ≤ counter.min_cycle) × (counter.min_cycle ≤ tick_limit)
 
 -- what stands in the place of an event that is not there
 abbrev pub no_event : EventDecl
