@@ -8,6 +8,7 @@ use Rattle.sloth_base.specs.declared.refusal.Refusal.{Refusal}
 use Rattle.sloth_base.specs.Arrivals.{AreArrivals}
 use Rattle.sloth_base.specs.ImageRange.{InFormat}
 use Rattle.sloth_base.specs.Owners.{owners_in}
+use Rattle.sloth_base.specs.Limits.{file_limit}
 use Rattle.sloth_commands.specs.CheckedRuns.{RunsAreChecked}
 use Rattle.rv32_expand.specs.InPlace.{ItemsInPlace}
 use Rattle.osek_blocking.specs.Protocol.{KeepsCeilingProtocol}
@@ -33,7 +34,6 @@ use Rattle.tool_answers.specs.declared.answer.Outcome.{Outcome}
 use Rattle.tool_answers.specs.declared.answer.TraceFault.{TraceFault}
 use Rattle.trace_check.specs.Inputs.{names_of, IsRefusal}
 use Rattle.trace_check.specs.Verdicts.{counter_names}
-use Rattle.sloth_commands.specs.Inputs.{input_limit}
 use Rattle.trace_check.specs.Inputs.{AreRead}
 use Rattle.tool_answers.specs.Statuses.{tool_status}
 use Rattle.sloth_commands.specs.ToolFiles.{IsToolAnswer}
@@ -79,13 +79,13 @@ pub record AreInputs (files : Files) (c : Building) (oil src arr : List ℕ) : T
   pub oil_read : Holds files c.oil oil
   pub src_read : Holds files c.src src
   pub arr_read : HoldsArrivals files c.run arr
-  pub oil_short : length oil ≤ input_limit
-  pub src_short : length src ≤ input_limit
-  pub arr_short : length arr ≤ input_limit
+  pub oil_short : length oil ≤ file_limit
+  pub src_short : length src ≤ file_limit
+  pub arr_short : length arr ≤ file_limit
 
 -- a file of at most 4 MiB is there, where the store tells its files
 abbrev pub IsReadable : Files → List ℕ → Type 0
-IsReadable files name = (bytes : List ℕ) × Holds files name bytes × (length bytes ≤ input_limit)
+IsReadable files name = (bytes : List ℕ) × Holds files name bytes × (length bytes ≤ file_limit)
 
 -- the first of these files that is not read is so; those before it are readable
 abbrev pub FirstUnread : Files → (List ℕ → Type 0) → List (List ℕ) → Type 0
@@ -98,7 +98,7 @@ IsFailedRead old new c = FirstUnread old (IsMissing old new) (inputs_of c)
 
 -- the first input that is not read is longer than 4 MiB
 abbrev pub IsLongRead : Files → Files → Command → Type 0
-IsLongRead old new c = FirstUnread old (λ name. IsTooLong old new name input_limit) (inputs_of c)
+IsLongRead old new c = FirstUnread old (λ name. IsTooLong old new name file_limit) (inputs_of c)
 
 -- ---- what stands after an answer
 

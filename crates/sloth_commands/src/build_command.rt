@@ -3,12 +3,12 @@ ghost use Rattle.std.specs.Prelude.{◌≤◌, IfOk, IfErr, OnOk, length};
 ghost use Rattle.sloth_base.specs.Arrivals.{AreArrivals};
 ghost use Rattle.sloth_base.specs.Owners.{owners_in, owners_named};
 ghost use Rattle.sloth_base.specs.ImageRange.{InFormat};
+ghost use Rattle.sloth_base.specs.Limits.{file_limit};
 ghost use Rattle.sloth_io.specs.Store.{KeepsFiles};
 ghost use Rattle.image_file.specs.ImageText.{image_bytes};
 ghost use Rattle.sloth_source.specs.Texts.{AreAccepted};
 ghost use Rattle.command_line.specs.Command.{Builds, IsInLimit};
 ghost use Rattle.command_line.specs.Words.{building_of, run_of};
-ghost use Rattle.sloth_commands.specs.Inputs.{input_limit};
 ghost use Rattle.trace_check.specs.Inputs.{AreRead};
 ghost use Rattle.command_line.specs.LastLine.{built_line};
 ghost use Rattle.sloth_runner.specs.Runner.{IsFresh, image_of, given_arrivals, run_text};
@@ -47,7 +47,7 @@ fn fetch_arrivals<F: Store>(
     run: &Option<RunWords>,
 ) -> Result<Vec<u8>, Failure>
     ensures ok { IfOk result (λ bytes. HoldsArrivals (F.seen files.old) (run_of run.now) bytes.items) }
-    ensures short { IfOk result (λ bytes. length bytes.items ≤ input_limit) }
+    ensures short { IfOk result (λ bytes. length bytes.items ≤ file_limit) }
     ensures err { IfErr result (λ failure.
         ReadFailed failure (F.seen files.old) (F.seen files.new) (arrivals_named (run_of run.now))) }
     ensures keeps { KeepsFiles (F.seen files.old) (F.seen files.new) }
@@ -84,9 +84,9 @@ pub struct Judged {
 
 // Judges the inputs, and builds the image.
 fn judge_texts(alloc: Global, inputs: &Inputs) -> Result<Judged, Failure>
-    requires oil { length inputs.now.oil.items ≤ input_limit }
-    requires src { length inputs.now.src.items ≤ input_limit }
-    requires arr { length inputs.now.arr.items ≤ input_limit }
+    requires oil { length inputs.now.oil.items ≤ file_limit }
+    requires src { length inputs.now.src.items ≤ file_limit }
+    requires arr { length inputs.now.arr.items ≤ file_limit }
     ensures accepted { IfOk result (λ judged. AreAccepted inputs.now.oil.items inputs.now.src.items judged.built.config judged.built.app) }
     ensures image { IfOk result (λ judged. IsBuiltImage judged.built.config judged.built.app judged.built.image) }
     ensures read { IfOk result (λ judged.
@@ -106,9 +106,9 @@ fn judge_texts(alloc: Global, inputs: &Inputs) -> Result<Judged, Failure>
 
 /// Judges the inputs, and builds the image.
 pub fn judge(alloc: Global, inputs: Inputs) -> Result<Judged, Failure>
-    requires oil { length inputs.oil.items ≤ input_limit }
-    requires src { length inputs.src.items ≤ input_limit }
-    requires arr { length inputs.arr.items ≤ input_limit }
+    requires oil { length inputs.oil.items ≤ file_limit }
+    requires src { length inputs.src.items ≤ file_limit }
+    requires arr { length inputs.arr.items ≤ file_limit }
     ensures accepted { IfOk result (λ judged. AreAccepted inputs.oil.items inputs.src.items judged.built.config judged.built.app) }
     ensures image { IfOk result (λ judged. IsBuiltImage judged.built.config judged.built.app judged.built.image) }
     ensures read { IfOk result (λ judged.

@@ -3,12 +3,12 @@ ghost use Rattle.std.specs.Prelude.{◌≡◌, ◌≤◌, IfOk, IfErr, OnOk, OnE
 ghost use Rattle.sloth_base.specs.Arrivals.{AreArrivals};
 ghost use Rattle.sloth_base.specs.Owners.{owners_named};
 ghost use Rattle.sloth_base.specs.ImageRange.{InFormat};
+ghost use Rattle.sloth_base.specs.Limits.{file_limit};
 ghost use Rattle.sloth_io.specs.Sink.{output_with, GainsPart};
 ghost use Rattle.sloth_io.specs.Store.{KeepsFiles};
 ghost use Rattle.image_file.specs.ImageText.{ImageText};
 ghost use Rattle.command_line.specs.Command.{Executes, Lists};
 ghost use Rattle.command_line.specs.Words.{execution_of};
-ghost use Rattle.sloth_commands.specs.Inputs.{input_limit};
 ghost use Rattle.trace_check.specs.Inputs.{AreRead};
 ghost use Rattle.sloth_commands.specs.ImageFiles.{AreExecInputs, end_line, exec_text};
 ghost use Rattle.sloth_commands.specs.ImageAnswers.{end_status};
@@ -56,7 +56,7 @@ fn read_inputs<F: Store>(alloc: Global, files: &mut F, e: &ExecWords) -> Result<
 
 // Judges the inputs of a run, the image before its arrivals.
 fn load(alloc: Global, inputs: ExecInputs) -> Result<RunInputs, Failure>
-    requires { length inputs.arr.items ≤ input_limit }
+    requires { length inputs.arr.items ≤ file_limit }
     ensures image { IfOk result (λ loaded. ImageText inputs.file.items loaded.image) }
     ensures read { IfOk result (λ loaded. AreRead loaded.image.tasks loaded.image.counters inputs.arr.items loaded.arrivals.items) }
     ensures in_range { IfOk result (λ loaded. AreArrivals (owners_named loaded.image) loaded.arrivals.items) }

@@ -3,6 +3,7 @@ ghost use Rattle.std.specs.Prelude.{◌≤◌, ℕ, List, IfOk, length};
 ghost use Rattle.sloth_base.specs.Arrivals.{AreArrivals};
 ghost use Rattle.sloth_base.specs.ImageRange.{InFormat};
 ghost use Rattle.sloth_base.specs.Owners.{owners_named};
+ghost use Rattle.sloth_base.specs.Limits.{file_limit};
 ghost use Rattle.command_line.specs.Tools.{IsWindow};
 ghost use Rattle.tool_commands.specs.PictureAnswers.{IsPictureAnswer};
 ghost use Rattle.tool_commands.specs.RunAnswers.{AreRunInputs};
@@ -45,7 +46,7 @@ pub fn picture(
     arr: &[u8],
     window: Window,
 ) -> Result<ToolAnswer, NoMemory>
-    requires arr { length arr.now ≤ 4194304 }
+    requires arr { length arr.now ≤ file_limit }
     requires window { IsWindow 1000000 100000 window }
     ensures { IfOk result (λ answer. IsPictureAnswer img.now arr.now window answer) }
 {

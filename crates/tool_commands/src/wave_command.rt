@@ -3,6 +3,7 @@ ghost use Rattle.std.specs.Prelude.{◌≤◌, ℕ, List, IfOk, length};
 ghost use Rattle.sloth_base.specs.Arrivals.{AreArrivals};
 ghost use Rattle.sloth_base.specs.ImageRange.{InFormat};
 ghost use Rattle.sloth_base.specs.Owners.{owners_named};
+ghost use Rattle.sloth_base.specs.Limits.{file_limit};
 ghost use Rattle.tool_commands.specs.RunAnswers.{AreRunInputs};
 ghost use Rattle.tool_commands.specs.WaveAnswers.{IsWaveAnswer};
 
@@ -31,7 +32,7 @@ fn waves_of(alloc: Global, run: &RunInputs, n: u32) -> Result<ToolAnswer, NoMemo
 
 /// The waves of n instructions of the run of an image file with arrivals.
 pub fn wave(alloc: Global, img: &[u8], arr: &[u8], n: u32) -> Result<ToolAnswer, NoMemory>
-    requires arr { length arr.now ≤ 4194304 }
+    requires arr { length arr.now ≤ file_limit }
     requires n { n ≤ 1000000 }
     ensures { IfOk result (λ answer. IsWaveAnswer img.now arr.now n answer) }
 {
