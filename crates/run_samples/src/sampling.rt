@@ -3,6 +3,7 @@ ghost use Rattle.std.specs.Prelude.{◌≡◌, ◌<◌, ◌+◌, OnOk, IfOk, IfE
 ghost use Rattle.sloth_base.specs.ImageRange.{InFormat};
 ghost use Rattle.sloth_base.specs.Arrivals.{AreArrivals};
 ghost use Rattle.sloth_base.specs.Owners.{owners_named};
+ghost use Rattle.sloth_base.specs.Limits.{count_limit};
 ghost use Rattle.run_samples.specs.Samples.{AreSampledLevels, IsSample, IsSampling, StopsAt, sampled_image, sampled_arrivals, sampled_count};
 
 use sloth_base::event::Arrival;
@@ -51,7 +52,7 @@ impl<'a> Sampler<'a> {
 
     /// The sample of the next count, whose instruction is then executed, unless the machine stops at it.
     pub fn next(&mut self) -> Result<Sample, Halt>
-        requires few { sampled_count self.old < 1000000 }
+        requires few { sampled_count self.old < count_limit }
         requires sampling { IsSampling self.old }
         ensures sample { IfOk result (IsSample (sampled_image self.old) (sampled_arrivals self.old) (sampled_count self.old)) }
         ensures stops { IfErr result (StopsAt (sampled_image self.old) (sampled_arrivals self.old) (sampled_count self.old)) }

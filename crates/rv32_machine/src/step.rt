@@ -2,6 +2,7 @@
 ghost use Rattle.std.specs.Prelude.{◌≡◌, ◌<◌, ◌+◌, ◌%◌, OnOk, OnErr, IfOk, IfErr, true, false, slice_index};
 ghost use Rattle.std.specs.Option.{ForSome};
 ghost use Rattle.sloth_base.specs.Take.{take, entry_state, execution_state, line_to_take};
+ghost use Rattle.sloth_base.specs.Limits.{count_limit};
 ghost use Rattle.rv32_instr.specs.Memory.{in_ram};
 ghost use Rattle.rv32_instr.specs.Ram.{word_at};
 ghost use Rattle.rv32_instr.specs.Execute.{Going, Stopped, step, touched, touched_line_by, pending_line, word_at_pc};
@@ -84,7 +85,7 @@ impl<B: Bus> Machine<B> {
 
     /// One step: at most one line is taken, then one instruction is executed. A stop changes nothing.
     pub fn step(&mut self) -> Result<Step, Stop>
-        requires { self.old.count < 1000000 }
+        requires { self.old.count < count_limit }
         ensures ok { IfOk result (λ shown. advance self.old.count (state B.memory self.old) ≡ Goes shown (state B.memory self.new)) }
         ensures err { IfErr result (λ stop. advance self.old.count (state B.memory self.old) ≡ Halts stop) }
         ensures same { OnErr result (state B.memory self.new ≡ state B.memory self.old) }
@@ -104,7 +105,7 @@ impl<B: Bus> Machine<B> {
     /// The same, written into a record that is lent. A stop leaves any record there.
     #[inline(always)]
     pub fn step_into(&mut self, shown: &mut Step) -> Result<(), Stop>
-        requires { self.old.count < 1000000 }
+        requires { self.old.count < count_limit }
         ensures ok { OnOk result (advance self.old.count (state B.memory self.old) ≡ Goes shown.new (state B.memory self.new)) }
         ensures err { IfErr result (λ stop. advance self.old.count (state B.memory self.old) ≡ Halts stop) }
         ensures same { OnErr result (state B.memory self.new ≡ state B.memory self.old) }

@@ -1,7 +1,7 @@
 //! The text of a picture.
 ghost use Rattle.std.specs.Prelude.{◌≡◌, ◌≤◌, ◌<◌, ◌+◌, ◌*◌, ◌++◌, IfOk, OnOk, All, length};
 ghost use Rattle.sloth_base.specs.ImageRange.{InFormat};
-ghost use Rattle.sloth_base.specs.Limits.{task_limit, name_limit};
+ghost use Rattle.sloth_base.specs.Limits.{task_limit, name_limit, picture_limit, count_limit};
 ghost use Rattle.lane_drawing.specs.Bars.{IsInside};
 ghost use Rattle.lane_drawing.specs.Drawing.{is_above};
 ghost use Rattle.lane_drawing.specs.Scale.{IsScale};
@@ -47,8 +47,8 @@ fn longest_name(names: &[Name]) -> usize
 pub fn scale_of(image: &Image, from: u32, to: u32) -> Scale
     requires format { InFormat image.now }
     requires ordered { from ≤ to }
-    requires short { to ≤ from + 100000 }
-    requires few { to ≤ 1000000 }
+    requires short { to ≤ from + picture_limit }
+    requires few { to ≤ count_limit }
     ensures is { result ≡ scale_of image.now from to }
     ensures scale { IsScale result }
 {

@@ -2,7 +2,7 @@
 use Rattle.std.specs.Prelude.{ℕ, List}
 use Rattle.sloth_base.specs.declared.event.Arrival.{Arrival}
 use Rattle.sloth_base.specs.declared.image.Image.{Image}
-use Rattle.sloth_base.specs.Limits.{task_limit}
+use Rattle.sloth_base.specs.Limits.{task_limit, count_limit}
 use Rattle.app_gen.specs.Load.{arrivals}
 use Rattle.app_gen.specs.Oil.{oil_text}
 use Rattle.app_gen.specs.Source.{source_text}
@@ -23,4 +23,4 @@ sample_arrivals seed = arrivals seed task_limit
 
 -- what is put: the summary of what is observed of the image's run of 1,000,000 instructions with these arrivals
 unfoldable pub sample_text : Image → List Arrival → List ℕ
-sample_text image arrivals = summary_text (counts_of (events_of image arrivals 1000000))
+sample_text image arrivals = summary_text (counts_of (events_of image arrivals count_limit))

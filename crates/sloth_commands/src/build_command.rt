@@ -3,7 +3,7 @@ ghost use Rattle.std.specs.Prelude.{◌≤◌, IfOk, IfErr, OnOk, length};
 ghost use Rattle.sloth_base.specs.Arrivals.{AreArrivals};
 ghost use Rattle.sloth_base.specs.Owners.{owners_in, owners_named};
 ghost use Rattle.sloth_base.specs.ImageRange.{InFormat};
-ghost use Rattle.sloth_base.specs.Limits.{file_limit};
+ghost use Rattle.sloth_base.specs.Limits.{file_limit, count_limit};
 ghost use Rattle.sloth_io.specs.Store.{KeepsFiles};
 ghost use Rattle.image_file.specs.ImageText.{image_bytes};
 ghost use Rattle.sloth_source.specs.Texts.{AreAccepted};
@@ -147,7 +147,7 @@ fn write_and_run<F: Store, S: Sink>(
     runner: &mut Runner,
 ) -> Result<(), Failure>
     requires fresh { IsFresh runner.old }
-    requires few { run.now.n ≤ 1000000 }
+    requires few { run.now.n ≤ count_limit }
     ensures written { OnOk result (IsWritten (F.seen files.old) (F.seen files.new) img.now bytes.now) }
     ensures text { OnOk result (Took (S.seen out.old) (S.seen out.new)
         (run_text (image_of runner.old) (given_arrivals runner.old) run.now.form run.now.n)) }
@@ -173,7 +173,7 @@ fn perform_run<F: Store, S: Sink>(
 ) -> Result<(), Failure>
     requires format { InFormat image.now }
     requires arrivals { AreArrivals (owners_named image.now) arrivals.now }
-    requires few { run.now.n ≤ 1000000 }
+    requires few { run.now.n ≤ count_limit }
     ensures written { OnOk result (IsWritten (F.seen files.old) (F.seen files.new) img.now bytes.now) }
     ensures text { OnOk result (Took (S.seen out.old) (S.seen out.new) (run_text image.now arrivals.now run.now.form run.now.n)) }
     ensures err { IfErr result (λ failure.

@@ -20,7 +20,7 @@ use app_gen::sample;
 use image_file::write_image;
 use sloth_base::event::Arrival;
 use sloth_base::image::Image;
-use sloth_base::limits::TASK_LIMIT;
+use sloth_base::limits::{COUNT_LIMIT, TASK_LIMIT};
 use sloth_base::list::List;
 use sloth_build::Built;
 use sloth_io::sink::{Sink, SinkFault};
@@ -29,9 +29,6 @@ use sloth_runner::runner::Runner;
 use sloth_runner::summary::put_summary;
 use std::alloc::Global;
 use tool_answers::Status;
-
-/// The number of instructions that are run.
-const INSTRUCTIONS: u32 = 1_000_000;
 
 // What is built of generated texts, and the arrivals.
 #[derive(Drop)]
@@ -60,7 +57,7 @@ fn show<S: Sink>(runner: &mut Runner, out: &mut S) -> Result<(), SinkFault>
     ensures ok { OnOk result (S.seen out.new ≡ output_with (S.seen out.old) (sample_text (image_of runner.old) (given_arrivals runner.old))) }
     ensures err { OnErr result (GainsPart (S.seen out.old) (S.seen out.new) (sample_text (image_of runner.old) (given_arrivals runner.old))) }
 {
-    let tally = runner.tally(INSTRUCTIONS);
+    let tally = runner.tally(COUNT_LIMIT);
     put_summary(&tally.counts, out)
 }
 

@@ -1,6 +1,6 @@
 //! The states of the tasks at a count of a run.
 ghost use Rattle.std.specs.Prelude.{◌≡◌, ◌<◌, ◌≤◌, length};
-ghost use Rattle.sloth_base.specs.Limits.{task_limit};
+ghost use Rattle.sloth_base.specs.Limits.{task_limit, count_limit};
 ghost use Rattle.sloth_runner.specs.Moments.{sloth_state};
 ghost use Rattle.sloth_runner.specs.Sight.{sight_at, pending_counters_in, interrupts_in, task_levels};
 
@@ -89,7 +89,7 @@ impl<'a> Runner<'a> {
     /// Runs k + 1 instructions, and tells the states of the tasks at the last count that finds interrupts open.
     pub fn state_at(&mut self, k: u32) -> Sight
         requires fresh { IsFresh self.old }
-        requires few { k < 1000000 }
+        requires few { k < count_limit }
         ensures { IsSight (image_of self.old) (given_arrivals self.old) k result }
     {
         let n = instructions_through(k);
