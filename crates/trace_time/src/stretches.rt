@@ -6,12 +6,13 @@ ghost use Rattle.sloth_base.specs.Limits.{counter_limit};
 ghost use Rattle.trace_time.specs.Timed.{HasFewAlarms};
 
 use sloth_base::config::Config;
+use sloth_base::limits::{ALARM_INSTRUCTIONS, BOOT_INSTRUCTIONS, STRETCH_INSTRUCTIONS};
 
 /// The most instructions of boot.
 pub fn boot_limit(_config: &Config) -> u32
     ensures { result ≡ stretch_limit _config.now Boots }
 {
-    400
+    BOOT_INSTRUCTIONS
 }
 
 // How many alarms a counter has.
@@ -46,5 +47,5 @@ pub fn longest_stretch(config: &Config) -> u32
     requires { HasFewAlarms config.now }
     ensures { result ≡ longest_stretch config.now }
 {
-    160 + 40 * most_alarms(config) as u32
+    STRETCH_INSTRUCTIONS + ALARM_INSTRUCTIONS * most_alarms(config) as u32
 }
