@@ -7,7 +7,7 @@ use Rattle.std.proofs.lemmas.List.{length-set, get_or-set_other}
 use Rattle.std.proofs.lemmas.Nat.Bits.{shr_and_one}
 use Rattle.sloth_base.specs.Machine.{Core, State}
 use Rattle.sloth_base.specs.Arithmetic.{left_shift, right_shift, hi}
-use Rattle.sloth_base.specs.MemoryMap.{memory_base}
+use Rattle.sloth_base.specs.MemoryMap.{memory_base, memory_bytes}
 use Rattle.sloth_region.specs.Layout.{active, events, wait, alarm_left, alarm_cycle, controller_base}
 use Rattle.rv32_instr.specs.declared.InstrKind.{InstrKind}
 use Rattle.rv32_instr.specs.Ram.{word_at, with_word}
@@ -44,8 +44,8 @@ module _ (from to : ℕ) (low : 1024 ≤ from) (E : List ℕ → State → State
   -- what is owed of code behind which the machine is as this one is after a change
   abbrev pub Leads : List InstrKind → List InstrKind → Ground → Ground → Type 0
   Leads code rest c d =
-      (o x1 flags : ℕ) → o + 4 * length (code ++ rest) ≤ 0x20_0000 → KnowsAll target flags c → length c.pending ≡ 32
-      → ((o2 y1 now : ℕ) → o2 + 4 * length rest ≤ 0x20_0000 → KnowsAll target now d → length d.pending ≡ 32
+      (o x1 flags : ℕ) → o + 4 * length (code ++ rest) ≤ memory_bytes → KnowsAll target flags c → length c.pending ≡ 32
+      → ((o2 y1 now : ℕ) → o2 + 4 * length rest ≤ memory_bytes → KnowsAll target now d → length d.pending ≡ 32
       → Owes from to o2 rest 0 E start (mach d y1 now))
       → Owes from to o (code ++ rest) 0 E start (mach c x1 flags)
 
@@ -96,9 +96,9 @@ module _ (from to : ℕ) (low : 1024 ≤ from) (E : List ℕ → State → State
       knows_d flags k = knows_ram target flags c d.ram (λ u h. events_active c.ram t v u) k
 
     -- behind its new events, at the look at those that it awaits
-    awaits : (c : Ground) (s : is_suspended_task t c ≡ false) (o flags : ℕ) → o + 4 * length (awaited_events_test t ++ (waking_code t ++ (basing_code ++ rest))) ≤ 0x20_0000
+    awaits : (c : Ground) (s : is_suspended_task t c ≡ false) (o flags : ℕ) → o + 4 * length (awaited_events_test t ++ (waking_code t ++ (basing_code ++ rest))) ≤ memory_bytes
         → bit_at flags t ≡ 1 → KnowsAll target flags c → length c.pending ≡ 32
-        → ((o2 y1 now : ℕ) → o2 + 4 * length rest ≤ 0x20_0000 → KnowsAll target now (action_ground (Set t mask) c) → length (action_ground (Set t mask) c).pending ≡ 32
+        → ((o2 y1 now : ℕ) → o2 + 4 * length rest ≤ memory_bytes → KnowsAll target now (action_ground (Set t mask) c) → length (action_ground (Set t mask) c).pending ≡ 32
         → Owes from to o2 rest 0 E start (mach (action_ground (Set t mask) c) y1 now))
         → Owes from to o (awaited_events_test t ++ (waking_code t ++ (basing_code ++ rest))) 0 E start (mach (d c s) (v c s) flags)
     awaits c s o flags fits one knows long go =
@@ -303,7 +303,7 @@ module _ (from to : ℕ) (low : 1024 ≤ from) (E : List ℕ → State → State
       let e = append_assoc (alarm_code alarm) (alarms_code later) rest in
       subst (λ code. Owes from to o code 0 E start (mach c x1 flags)) (sym e)
       (alarm_owes alarm is.0 (λ u h. covered u (first_target u (sets_events_of u alarm.action) (is_target u later) h)) (alarms_code later ++ rest) c
-      o x1 flags (subst (λ code. o + 4 * length code ≤ 0x20_0000) e fits) knows long
+      o x1 flags (subst (λ code. o + 4 * length code ≤ memory_bytes) e fits) knows long
       (λ o2 y1 now fits2 knows2 long2.
       alarms_owe later is.1 (λ u h. covered u (second_target u (sets_events_of u alarm.action) (is_target u later) h)) rest (alarm_ground alarm c)
       o2 y1 now fits2 knows2 long2 go))

@@ -7,7 +7,7 @@ use Rattle.std.proofs.lemmas.Bool.{cases_eq, eq-eqb, ne_eqb, or_left, or_right}
 use Rattle.sloth_base.specs.Machine.{Core, State}
 use Rattle.sloth_base.specs.Arrive.{arrive}
 use Rattle.sloth_base.specs.Arithmetic.{left_shift}
-use Rattle.sloth_base.specs.MemoryMap.{memory_base}
+use Rattle.sloth_base.specs.MemoryMap.{memory_base, memory_bytes}
 use Rattle.sloth_region.specs.Layout.{active, controller_base}
 use Rattle.rv32_instr.specs.declared.InstrKind.{InstrKind}
 use Rattle.rv32_instr.specs.Ram.{word_at}
@@ -78,9 +78,9 @@ module _ (from to : ℕ) (rest : List InstrKind) (base : Core) (c : Ground) (x2 
   -- what is owed of code that looks at these tasks
   abbrev pub Looks : (ℕ → Bool) → List ℕ → List InstrKind → Type 1
   Looks target ts code =
-      (E : List ℕ → State → State → Type 0) (o x1 x4 flags : ℕ) (p : List ℕ) → o + 4 * length (code ++ rest) ≤ 0x20_0000
+      (E : List ℕ → State → State → Type 0) (o x1 x4 flags : ℕ) (p : List ℕ) → o + 4 * length (code ++ rest) ≤ memory_bytes
       → AllByRecursion (AreTaskBits (record c { pending = p })) ts → length p ≡ 32 → ((u : ℕ) → target u ≡ true → bit_at flags u ≡ 0)
-      → ((o2 y1 y4 now : ℕ) (q : List ℕ) → o2 + 4 * length rest ≤ 0x20_0000 → Looked target flags now p q → Owes from to o2 rest 0 (λ u. E (ts ++ u)) (st q) (mach y1 y4 now q))
+      → ((o2 y1 y4 now : ℕ) (q : List ℕ) → o2 + 4 * length rest ≤ memory_bytes → Looked target flags now p q → Owes from to o2 rest 0 (λ u. E (ts ++ u)) (st q) (mach y1 y4 now q))
       → Owes from to o (code ++ rest) 0 E (st p) (mach x1 x4 flags p)
 
   none : Looks (λ u. false) [] []

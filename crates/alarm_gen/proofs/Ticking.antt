@@ -7,7 +7,7 @@ use Rattle.std.proofs.lemmas.List.{append-nil}
 use Rattle.std.proofs.lemmas.Nat.Bits.{bit_at-zero}
 use Rattle.sloth_base.specs.Machine.{Core, State}
 use Rattle.sloth_base.specs.Arithmetic.{sum32, hi}
-use Rattle.sloth_base.specs.MemoryMap.{memory_base}
+use Rattle.sloth_base.specs.MemoryMap.{memory_base, memory_bytes}
 use Rattle.sloth_base.specs.Owners.{counter_line}
 use Rattle.sloth_base.specs.Limits.{counter_limit}
 use Rattle.sloth_region.specs.Layout.{active, counter_value, controller_base}
@@ -99,7 +99,7 @@ module _ (counter max : ℕ) (alarms : List NumberedAlarm) (small : counter < co
     kept = λ i past. others x1 x2 controller_base memory_base (get_or c.registers 1 0) x2 controller_base memory_base tail i past;
   }
 
-  rest_owe : (o x1 x3 : ℕ) → o + 4 * length behind_count ≤ 0x20_0000
+  rest_owe : (o x1 x3 : ℕ) → o + 4 * length behind_count ≤ memory_bytes
       → Owes offset to o behind_count 0 (Ticked counter max alarms) first (mach (grown c.pending) x1 x3)
   rest_owe o x1 x3 fits =
       writes 0 refl

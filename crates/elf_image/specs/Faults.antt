@@ -5,6 +5,7 @@ use Rattle.sloth_base.specs.ImageRange.{IsMark, AreAscending, service_limit}
 use Rattle.sloth_base.specs.declared.image.Mark.{Mark}
 use Rattle.sloth_base.specs.declared.image.Image.{Image}
 use Rattle.sloth_base.specs.Limits.{task_limit, counter_limit, body_limit, mark_limit}
+use Rattle.sloth_base.specs.MemoryMap.{memory_bytes}
 use Rattle.image_file.specs.Fields.{four_bytes}
 use Rattle.image_file.specs.ImageText.{mark_bytes, name_bytes}
 use Rattle.image_file.specs.Parts.{AreRightNames}
@@ -25,7 +26,7 @@ pub record HasElfHeader (file : List ℕ) : Type 0 where
 
 -- so many bytes of memory, whole words
 pub record IsMemorySize (size : ℕ) : Type 0 where
-  pub fits : size ≤ 2097152
+  pub fits : size ≤ memory_bytes
   pub whole_words : size % 4 ≡ 0
 
 -- its first program header is that of so many bytes of memory

@@ -3,6 +3,7 @@ ghost use Rattle.std.specs.Prelude.{◌≡◌, Decides};
 ghost use Rattle.image_file.specs.Limits.{SizesFit, header_size};
 
 use sloth_base::limits::{BODY_LIMIT, COUNTER_LIMIT, MARK_LIMIT, TASK_LIMIT};
+use sloth_base::memory_map::MEMORY_BYTES;
 
 /// The numbers of tasks, functions, counters, bytes of memory and marks.
 #[derive(Clone, Copy)]
@@ -29,7 +30,7 @@ impl Sizes {
         self.tasks <= TASK_LIMIT
             && self.funcs <= BODY_LIMIT
             && self.counters <= COUNTER_LIMIT
-            && self.memory <= 2_097_152
+            && self.memory <= MEMORY_BYTES
             && self.memory % 4 == 0
             && self.marks <= MARK_LIMIT
     }

@@ -6,12 +6,7 @@ ghost use Rattle.machine_memory.specs.Place.{IsPlace, bare_memory};
 
 use rv32_instr::Bad;
 use sloth_base::app::Width;
-
-/// The first address of RAM.
-const RAM: u32 = 0x8000_0000;
-
-/// The address behind RAM.
-const RAM_END: u32 = 0x8020_0000;
+use sloth_base::memory_map::{MEMORY_BASE, MEMORY_END};
 
 /// The first address of the controller.
 const CONTROLLER: u32 = 0x1000_0000;
@@ -48,8 +43,8 @@ pub fn locate(address: u32, width: Width, controller: bool) -> Result<Place, Bad
     if address % size != 0 {
         return Err(Bad::Misaligned);
     }
-    if RAM <= address && address <= RAM_END - size {
-        return Ok(Place::Ram(address - RAM));
+    if MEMORY_BASE <= address && address <= MEMORY_END - size {
+        return Ok(Place::Ram(address - MEMORY_BASE));
     }
     if controller && size == 1 && CONTROLLER <= address && address < CONTROLLER + CONTROLLER_SIZE {
         return Ok(Place::Controller(address - CONTROLLER));

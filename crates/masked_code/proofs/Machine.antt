@@ -5,7 +5,7 @@ use Rattle.std.proofs.lemmas.Bool.{le-leb, and_from, eq-eqb, lt-ltb, lt-leb, le-
 use Rattle.sloth_base.specs.declared.app.Width.TheVariants as width
 use Rattle.sloth_base.specs.Machine.{Core}
 use Rattle.sloth_base.specs.Lines.{controller_byte, with_controller_byte, flag_of}
-use Rattle.sloth_base.specs.MemoryMap.{memory_base, memory_end}
+use Rattle.sloth_base.specs.MemoryMap.{memory_base, memory_end, memory_bytes}
 use Rattle.rv32_instr.specs.declared.InstrKind.{InstrKind}
 use Rattle.rv32_instr.specs.Encode.{Encode}
 use Rattle.rv32_instr.specs.Table.{Decode}
@@ -17,7 +17,7 @@ use Rattle.masked_code.specs.Place.{offset_state}
 
 -- an instruction stands at an offset
 abbrev pub Here : List ℕ → ℕ → InstrKind → Type 0
-Here ram o kind = (Decode (word_at ram o) ≡ Some kind) × (o + 4 ≤ 0x20_0000)
+Here ram o kind = (Decode (word_at ram o) ≡ Some kind) × (o + 4 ≤ memory_bytes)
 
 -- addresses of RAM, and those that are none
 pub in_ram_at : (a n : ℕ) → memory_base ≤ a → a + n ≤ memory_end → in_ram a n ≡ true
@@ -46,7 +46,7 @@ touched_at o c kind h =
     rw (e, h)
 
 -- the instruction behind it is next
-pub next_at : (o : ℕ) (c : Core) → o + 4 ≤ 0x20_0000 → goes_on (memory_base + o) c ≡ Going (offset_state (o + 4) c)
+pub next_at : (o : ℕ) (c : Core) → o + 4 ≤ memory_bytes → goes_on (memory_base + o) c ≡ Going (offset_state (o + 4) c)
 next_at o c h =
     let e : (memory_base + o + 4) % 4294967296 ≡ memory_base + (o + 4) = omega arith in
     ap (λ p. Going (record { pc = p; core = c })) e
@@ -58,7 +58,7 @@ jump_at o c al =
     rw (eq-eqb ((memory_base + o) % 4) 0 g)
 
 -- words of RAM
-pub word_allowed : (c : Core) (place : ℕ) → place % 4 ≡ 0 → place + 4 ≤ 0x20_0000 → refusal (memory_of c) (memory_base + place) width.Word ≡ None
+pub word_allowed : (c : Core) (place : ℕ) → place % 4 ≡ 0 → place + 4 ≤ memory_bytes → refusal (memory_of c) (memory_base + place) width.Word ≡ None
 unfolding refusal
 word_allowed c place al h =
     let g : (memory_base + place) % 4 ≡ 0 = omega arith in

@@ -3,7 +3,7 @@ use Rattle.std.specs.Prelude.{ℕ, zero, suc, ◌+◌, ◌*◌, ◌%◌, ◌≡�
 use Rattle.sloth_base.specs.declared.app.Width.TheVariants as width
 use Rattle.sloth_base.specs.Machine.{Core, State}
 use Rattle.sloth_base.specs.Arithmetic.{sum32}
-use Rattle.sloth_base.specs.MemoryMap.{memory_base}
+use Rattle.sloth_base.specs.MemoryMap.{memory_base, memory_bytes}
 use Rattle.sloth_base.specs.Lines.{flag_of}
 use Rattle.sloth_base.specs.Arrive.{core_arrive, state_arrive}
 use Rattle.sloth_region.specs.Layout.{controller_base, pending_byte, enabled_byte, level_byte}
@@ -36,7 +36,7 @@ IsAt address (Level line) = (address ≡ controller_base + level_byte line) × (
 pub record IsWordAt (address offset : ℕ) : Type 0 where
   pub is : address ≡ memory_base + offset
   pub aligned : offset % 4 ≡ 0
-  pub inside : offset + 4 ≤ 0x20_0000
+  pub inside : offset + 4 ≤ memory_bytes
 
 -- a word apart from the bytes from `from` up to `to`
 abbrev pub IsApart : ℕ → ℕ → ℕ → Type 0

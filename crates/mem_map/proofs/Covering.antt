@@ -17,6 +17,7 @@ use Rattle.sloth_base.specs.declared.places.Places.{Places}
 use Rattle.sloth_base.specs.declared.service.Service.{Service}
 use Rattle.sloth_base.specs.declared.service.Service.TheVariants as service
 use Rattle.sloth_base.specs.Blocks.{block_count, block_number}
+use Rattle.sloth_base.specs.MemoryMap.{vectors_base, memory_end}
 use Rattle.code_rules.specs.AppRange.{AppInRange, AreOperands, IsOp}
 use Rattle.code_rules.proofs.Objects.{object_number}
 use Rattle.expansion_parts.specs.Expansion.{item_address, block_address, is_long}
@@ -65,11 +66,11 @@ pub record ArePlaced (app : App) (sizes services : List ℕ) (places : Places) (
   pub symbols : places.symbols ≡ starts symbols_from (map symbol_bytes app.symbols)
   pub blocks : places.blocks ≡ starts services_from (map code_byte_count services)
   pub full : length services ≡ block_count
-  pub above : 0x8000_0400 ≤ services_from
+  pub above : vectors_base ≤ services_from
   pub services_to : end_of services_from (map code_byte_count services) ≤ items_from
   pub items_to : end_of items_from (map code_byte_count sizes) ≤ symbols_from
   pub near : symbols_from ≤ 0x8010_0370
-  pub symbols_to : end_of symbols_from (map symbol_bytes app.symbols) < 0x8020_0000
+  pub symbols_to : end_of symbols_from (map symbol_bytes app.symbols) < memory_end
   pub services_aligned : services_from % 4 ≡ 0
   pub items_aligned : items_from % 4 ≡ 0
   pub symbols_aligned : symbols_from % 4 ≡ 0
@@ -170,7 +171,7 @@ module _ (config : Config) (app : App) (sizes services : List ℕ) (places : Pla
   -- each thing that an instruction names has an address that fits into it
   pub covers : Covers app places
   covers = record {
-    low = 0x8000_0400;
+    low = vectors_base;
     items = λ func index item.
         let h = item_inside func index item in
         let low = h.above in

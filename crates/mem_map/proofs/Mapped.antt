@@ -9,6 +9,7 @@ use Rattle.sloth_region.specs.declared.map.Map.{Map}
 use Rattle.sloth_region.specs.Region.{AreApartWithin}
 use Rattle.sloth_base.specs.declared.places.Bounds.{Bounds}
 use Rattle.sloth_base.specs.Limits.{task_limit}
+use Rattle.sloth_base.specs.MemoryMap.{vectors_base, memory_end, words_base}
 use Rattle.mem_map.specs.declared.all_lengths.CodeLengths.{CodeLengths}
 use Rattle.mem_map.specs.Starts.{starts, end_of}
 use Rattle.mem_map.specs.Zones.{code_zone, data_zone, all_stacks, HasZones}
@@ -28,8 +29,8 @@ module _ (config : Config) (app : App) (lengths : CodeLengths) (bounds : Bounds)
   pub record HasExtents (code data_extent : Extent) (code_to data_to : ℕ) : Type 0 where
     pub all : List Extent
     pub extents : plan.extents ≡ plan.words ∷ code ∷ data_extent ∷ all
-    pub code_is : code ≡ record { base = 0x8000_0400; len = code_to - 0x8000_0400 }
-    pub data_is : data_extent ≡ record { base = 0x8000_0400 + (code_to - 0x8000_0400); len = data_to + 4 - code_to }
+    pub code_is : code ≡ record { base = vectors_base; len = code_to - vectors_base }
+    pub data_is : data_extent ≡ record { base = vectors_base + (code_to - vectors_base); len = data_to + 4 - code_to }
     pub code_end_is : code_to ≡ end
     pub data_end_is : data_to ≡ end_of code_to (map symbol_bytes app.symbols)
 
@@ -92,7 +93,7 @@ module _ (config : Config) (app : App) (lengths : CodeLengths) (bounds : Bounds)
     all_stacks_are = ap (λ (l : List Extent). drop 3 l) has.extents
 
     -- so it has its zones
-    pub zoned : HasAddresses config app lengths plan → plan.words ≡ record { base = 0x8000_0004; len = 1020 } → AreApartWithin 0x8000_0004 0x8020_0000 plan.extents
+    pub zoned : HasAddresses config app lengths plan → plan.words ≡ record { base = words_base; len = 1020 } → AreApartWithin words_base memory_end plan.extents
         → HasZones plan config
     zoned at words apart = record {
       extents =

@@ -15,6 +15,7 @@ use Rattle.sloth_region.specs.Region.{FollowWithin}
 use Rattle.std.proofs.lemmas.Bool.{cases_lt}
 use Rattle.sloth_base.specs.declared.places.Bounds.{Bounds}
 use Rattle.sloth_base.specs.Limits.{task_limit, counter_limit, item_limit, data_limit}
+use Rattle.sloth_base.specs.MemoryMap.{vectors_base, memory_bytes}
 use Rattle.mem_map.specs.Starts.{end_of, starts}
 use Rattle.mem_map.specs.Run.{extents_of, AreClose}
 use Rattle.mem_map.specs.declared.all_lengths.CodeLengths.{CodeLengths}
@@ -145,11 +146,11 @@ module _ (config : Config) (app : App) (lengths : CodeLengths) (bounds : Bounds)
 
   -- where the code and the symbols end
   pub record AreEnds (code_to data_to : ℕ) : Type 0 where
-    pub some : 0x8000_0400 < code_to
+    pub some : vectors_base < code_to
     pub below : code_to ≤ data_to
     pub fits : data_to + 4 < 4294967296
-    pub even : (code_to - 0x8000_0400) % 4 ≡ 0
-    pub room : 1024 + (code_to - 0x8000_0400) + 3 + (data_to + 4 - code_to) + 3 + 983490 ≤ 0x20_0000
+    pub even : (code_to - vectors_base) % 4 ≡ 0
+    pub room : 1024 + (code_to - vectors_base) + 3 + (data_to + 4 - code_to) + 3 + 983490 ≤ memory_bytes
 
   -- those of the code and of the symbols are so
   pub ends_are : (code_to data_to : ℕ) → code_to ≡ code_end lengths → data_to ≡ end_of code_to (map symbol_bytes app.symbols) → AreEnds code_to data_to
@@ -266,7 +267,7 @@ module _ (config : Config) (app : App) (lengths : CodeLengths) (bounds : Bounds)
         (cases_lt line n)
 
     -- the extents of the code follow one another
-    pub code_follows : FollowWithin 0x8000_0400 (code_end lengths) (code_extents plan n lengths)
+    pub code_follows : FollowWithin vectors_base (code_end lengths) (code_extents plan n lengths)
     code_follows =
         let e = at.idle in
         let some = may.code.boot.0 in
@@ -284,7 +285,7 @@ module _ (config : Config) (app : App) (lengths : CodeLengths) (bounds : Bounds)
         (omega arith, omega arith, (omega arith, omega (arith, some), (omega (arith, e), omega arith, behind)))
 
     -- there is no hole in the code
-    pub code_close : AreClose 0x8000_0400 (code_end lengths) (code_extents plan n lengths)
+    pub code_close : AreClose vectors_base (code_end lengths) (code_extents plan n lengths)
     code_close =
         let e = at.idle in
         let end : ℕ = code_end lengths in

@@ -6,7 +6,7 @@ use Rattle.std.proofs.lemmas.List.{get_or-set_same, get_or-set_other, length-set
 use Rattle.sloth_base.specs.Machine.{Core, State}
 use Rattle.sloth_base.specs.Arithmetic.{plus}
 use Rattle.sloth_base.specs.Status.{E_OK}
-use Rattle.sloth_base.specs.MemoryMap.{memory_base}
+use Rattle.sloth_base.specs.MemoryMap.{memory_base, memory_bytes}
 use Rattle.sloth_base.specs.Limits.{task_limit, level_count, frame_limit}
 use Rattle.sloth_region.specs.Layout.{cur, active, resume, below_word, idle_context, context_bytes, controller_base}
 use Rattle.rv32_instr.specs.declared.InstrKind.{InstrKind}
@@ -81,7 +81,7 @@ module _ (from to task level first place frame words : ℕ) (c : Core) (is_task 
   start = offset_state (vector task) (based c)
 
   -- what is owed of the question whether a context is kept, where none is: the task starts anew
-  pub fresh_owe : (o x1 : ℕ) → o ≤ 0x20_0000
+  pub fresh_owe : (o x1 : ℕ) → o ≤ memory_bytes
       → ((o' : ℕ) → Owes from to o' (starts (memory_base + frame) words first) 0 E start (entered task level place c 0 1))
       → Owes from to o (either task (memory_base + frame) words first) 0 E start (entered task level place c x1 1)
   fresh_owe o x1 small go =
@@ -100,11 +100,11 @@ pub record IsKept (from task level place own : ℕ) (c : Core) : Type 0 where
   pub masked : c.mie ≡ false
   pub previous : c.mpie ≡ true
   pub past : idle_context ≤ place
-  pub inside : place + context_bytes ≤ 0x20_0000
+  pub inside : place + context_bytes ≤ memory_bytes
   pub is : word_at c.ram (resume task) ≡ memory_base + own
   pub aligned : own % 4 ≡ 0
   pub own_past : 1024 ≤ own
-  pub own_inside : own + context_bytes ≤ 0x20_0000
+  pub own_inside : own + context_bytes ≤ memory_bytes
   pub apart : (own + context_bytes ≤ place) ⊎ (place + context_bytes ≤ own)
   pub returns : word_at c.ram own % 4 ≡ 0
   pub low : 1024 ≤ from
@@ -199,7 +199,7 @@ module _ (from to task level place own : ℕ) (c : Core) (rest : List InstrKind)
       writes E_OK (ap (λ z. plus z (pos E_OK)) zero_there)
       ▸ done
 
-  own_fits : own + 4 * (5 + 27) ≤ 0x20_0000
+  own_fits : own + 4 * (5 + 27) ≤ memory_bytes
   own_fits = omega arith
 
   restored_owe : (o : ℕ) → Owes from to o (restoring_code 27 5 1 ++ (wait_answer_code ++ rest)) 0 R begun stored
@@ -220,7 +220,7 @@ module _ (from to task level place own : ℕ) (c : Core) (rest : List InstrKind)
   not_zero e = absurd (omega arith)
 
   -- what is owed of the question where one is: the task goes on
-  pub resumed_owe : (o x1 x2 : ℕ) → o ≤ 0x20_0000 → Owes from to o (asks_first task rest) 0 R begun (entered task level place c x1 x2)
+  pub resumed_owe : (o x1 x2 : ℕ) → o ≤ memory_bytes → Owes from to o (asks_first task rest) 0 R begun (entered task level place c x1 x2)
   resumed_owe o x1 x2 small =
       loads (resume task) (record { is = omega arith; aligned = omega arith; inside = omega arith }) at_own (kept_word (based c) task place is_kept.is_task is_kept.past ∙ is_kept.is)
       ▸ record {
@@ -256,7 +256,7 @@ module _ (task level first frame words : ℕ) (is_task : task < task_limit) (low
       (omega arith)
       (subst (λ x. Owes offset to offset whole 0 E (offset_state (vector task) x) x) (based_is c can.registers can.zero bases) all))
 
-  small_offset : CanRun offset whole c → offset + 168 ≤ 0x20_0000
+  small_offset : CanRun offset whole c → offset + 168 ≤ memory_bytes
   small_offset can =
       let long = length-code task level (memory_base + frame) words first in
       let fits = can.inside in

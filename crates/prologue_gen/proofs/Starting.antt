@@ -8,7 +8,7 @@ use Rattle.rv32_instr.specs.declared.InstrKind.TheVariants.{Mret}
 use Rattle.sloth_region.specs.Layout.{controller_base}
 use Rattle.rv32_instr.specs.Ram.{with_words}
 use Rattle.sloth_base.specs.Arithmetic.{hi}
-use Rattle.sloth_base.specs.MemoryMap.{memory_base}
+use Rattle.sloth_base.specs.MemoryMap.{memory_base, memory_bytes}
 use Rattle.sloth_base.specs.Limits.{task_limit, level_count, frame_limit}
 use Rattle.masked_code.specs.Place.{offset_state}
 use Rattle.masked_code.specs.Masked.{Masked, WithArrivals}
@@ -38,7 +38,7 @@ code task level frame words first = enters_first task level (starts frame words 
 
 module _ (from to task level first place frame words : ℕ) (c : Core) (low_level : level < level_count) (first_fits : first < 2 ^ 32)
     (first_aligned : first % 4 ≡ 0) (masked : c.mie ≡ false) (previous : c.mpie ≡ true) (frame_aligned : frame % 4 ≡ 0)
-    (frame_inside : frame + 4 * words ≤ 0x20_0000) (frame_apart : (frame + 4 * words ≤ from) ⊎ (to ≤ frame)) where
+    (frame_inside : frame + 4 * words ≤ memory_bytes) (frame_apart : (frame + 4 * words ≤ from) ⊎ (to ≤ frame)) where
   abbrev sp : ℕ
   sp = memory_base + frame
 
@@ -103,7 +103,7 @@ module _ (from to task level first place frame words : ℕ) (c : Core) (low_leve
       (record stored { ram = with_words ram8 (frame + 4 * 0) (replicate words 0) })
   cleared_owe o = clears_owes from to (Entered task level first place frame words) start (Mret ∷ []) 25 5 o (o + 100) (record stored { ram = with_words ram8 (frame + 4 * 0) (replicate words 0) }) refl (lit≤ tt) refl done
 
-  frame_fits : frame + 4 * (0 + words) ≤ 0x20_0000
+  frame_fits : frame + 4 * (0 + words) ≤ memory_bytes
   frame_fits = omega arith
 
   frame_clear : (frame + 4 * (0 + words) ≤ from) ⊎ (to ≤ frame)

@@ -8,7 +8,7 @@ use Rattle.rv32_instr.specs.declared.InstrKind.{InstrKind}
 use Rattle.rv32_instr.specs.declared.InstrKind.TheVariants.{Jal}
 use Rattle.rv32_instr.specs.Ram.{word_at, with_word}
 use Rattle.sloth_base.specs.Arithmetic.{plus}
-use Rattle.sloth_base.specs.MemoryMap.{memory_base}
+use Rattle.sloth_base.specs.MemoryMap.{memory_base, memory_bytes}
 use Rattle.masked_code.specs.Masked.{Masked, WithArrivals}
 use Rattle.masked_code.specs.Place.{offset_state, InPlace}
 use Rattle.masked_code.specs.Kernel.{CanRun, HoldBases, LeftAs}
@@ -32,12 +32,12 @@ pub record MayResume (offset task place own : ℕ) (code : List InstrKind) (core
   pub x2 : slice_index core.registers 2 ≡ memory_base + (place + context_bytes)
   pub aligned : place % 4 ≡ 0
   pub behind : idle_context ≤ place
-  pub inside : place + context_bytes ≤ 0x20_0000
+  pub inside : place + context_bytes ≤ memory_bytes
   pub apart : IsApartFrom offset (length code) place context_bytes
   pub resumes : word_at core.ram (resume task) ≡ memory_base + own
   pub own_aligned : own % 4 ≡ 0
   pub own_behind : 1024 ≤ own
-  pub own_inside : own + context_bytes ≤ 0x20_0000
+  pub own_inside : own + context_bytes ≤ memory_bytes
   pub own_apart : (own + context_bytes ≤ place) ⊎ (place + context_bytes ≤ own)
   pub returns : word_at core.ram own % 4 ≡ 0
 

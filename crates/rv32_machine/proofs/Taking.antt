@@ -4,6 +4,7 @@ use Rattle.sloth_base.specs.declared.app.Width.TheVariants as width
 use Rattle.std.proofs.lemmas.Bool.Decides.{nat_tests}
 use Rattle.sloth_base.specs.Lines.{controller_byte, with_controller_byte}
 use Rattle.sloth_base.specs.Take.{take}
+use Rattle.sloth_base.specs.MemoryMap.{memory_base}
 use Rattle.rv32_machine.specs.declared.machine.Hart.{Hart}
 use Rattle.rv32_machine.specs.State.{state_of, pending_memory}
 use Rattle.rv32_instr.specs.Ram.{word_at}
@@ -55,10 +56,10 @@ restored before hart old new line e p =
     ∙ ap (λ b. state_of before (record old { lines = record old.lines { pending = b } })) (put_back old.lines.pending line p)
 
 -- the word at 0x80000000 may always be loaded
-pub cur_loads : (memory : Memory) → refusal memory 0x8000_0000 width.Word ≡ None
+pub cur_loads : (memory : Memory) → refusal memory memory_base width.Word ≡ None
 unfolding refusal
 cur_loads memory = refl
 
-pub cur_loaded : (memory : Memory) → loaded_number memory 0x8000_0000 width.Word ≡ word_at memory.ram 0
+pub cur_loaded : (memory : Memory) → loaded_number memory memory_base width.Word ≡ word_at memory.ram 0
 unfolding loaded_number
 cur_loaded memory = refl

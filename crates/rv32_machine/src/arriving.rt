@@ -7,6 +7,7 @@ use crate::machine::{Hart, Machine};
 use machine_memory::SlothBus;
 use sloth_base::image::Image;
 use sloth_base::memory::NoMemory;
+use sloth_base::memory_map::BOOT_BASE;
 use sloth_base::numbers::Line;
 use std::alloc::Global;
 
@@ -23,7 +24,7 @@ impl Machine<SlothBus> {
         let bus = SlothBus::new(alloc, image)?;
         Ok(Machine {
             hart: Hart {
-                pc: 0x8000_0480,
+                pc: BOOT_BASE,
                 registers: [0; 32],
                 mie: false,
                 mpie: false,

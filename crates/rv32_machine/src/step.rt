@@ -14,11 +14,9 @@ use crate::machine::{Hart, Machine};
 use machine_memory::{Bus, vector};
 use rv32_instr::{Effect, Stop, decode};
 use sloth_base::app::Width;
+use sloth_base::memory_map::MEMORY_BASE;
 use sloth_base::numbers::Line;
 use sloth_base::step::Step;
-
-/// The word that tells which task runs.
-const CUR: u32 = 0x8000_0000;
 
 /// The first pending byte, and the first level byte, of the controller.
 const PENDING: u32 = 0x1000_0000;
@@ -164,7 +162,7 @@ impl<B: Bus> Machine<B> {
         ensures hart { self.new.hart ≡ self.old.hart }
         ensures count { self.new.count ≡ self.old.count }
     {
-        match self.bus.load(CUR, Width::Word) {
+        match self.bus.load(MEMORY_BASE, Width::Word) {
             Ok(word) => word,
             Err(_) => unreachable!(),
         }

@@ -6,7 +6,7 @@ use Rattle.sloth_base.specs.Machine.{Core, State}
 use Rattle.sloth_base.specs.Arithmetic.{plus, one_if, left_shift}
 use Rattle.sloth_base.specs.Arrive.{arrive}
 use Rattle.sloth_base.specs.Status.{E_OK}
-use Rattle.sloth_base.specs.MemoryMap.{memory_base}
+use Rattle.sloth_base.specs.MemoryMap.{memory_base, memory_bytes}
 use Rattle.sloth_base.specs.Limits.{task_limit}
 use Rattle.sloth_region.specs.Layout.{cur, active, controller_base}
 use Rattle.rv32_instr.specs.declared.InstrKind.{InstrKind}
@@ -90,7 +90,7 @@ module _ (offset task own : ℕ) (c : Core) (h : MayTellState offset task own (m
       (cases_eq q 0)
 
   -- the task is not Active
-  resting_owe : (o : ℕ) → o + 12 ≤ 0x20_0000 → word ≡ 0 → Owes offset (offset + 4 + 64) o (waiting_task_test task ++ (resting_telling_code task ++ back_code)) 0 (StateTold task own) (st c.pending) (record (masked (based c)) { registers = 0 ∷ word ∷ x2 ∷ controller_base ∷ memory_base ∷ set tail 5 E_OK; pending = c.pending })
+  resting_owe : (o : ℕ) → o + 12 ≤ memory_bytes → word ≡ 0 → Owes offset (offset + 4 + 64) o (waiting_task_test task ++ (resting_telling_code task ++ back_code)) 0 (StateTold task own) (st c.pending) (record (masked (based c)) { registers = 0 ∷ word ∷ x2 ∷ controller_base ∷ memory_base ∷ set tail 5 E_OK; pending = c.pending })
   resting_owe o low a =
       let long = h.goes_back.can_run.lines in
       let below = line in

@@ -23,6 +23,7 @@ use Rattle.expansion_parts.specs.Expansion.{item_address}
 use Rattle.observe.specs.Observe.{View}
 use Rattle.osek_scheduler.specs.State.{Frame, System, task}
 use Rattle.sloth_base.specs.Named.{declaration, body_of}
+use Rattle.sloth_base.specs.MemoryMap.{memory_base, vectors_base, memory_bytes}
 use Rattle.osek_scheduler.specs.Priority.{is_active}
 use Rattle.osek_scheduler.specs.Services as services
 use Rattle.osek_scheduler.specs.Steps.{OsekStep, settled_state}
@@ -97,7 +98,7 @@ module _ (b : Build) (view : View) (arrivals : List Arrival) (setting : IsSettin
         (law : (last : State) → Effect [] (take t now) last → OsekStep b.config b.app (event.Enter t) found after × Stands b last after) where
       at_vector : offset_state (vector t) core ≡ execution_state now
       at_vector =
-          let e : 0x8000_0000 + vector t ≡ 0x8000_0400 + 4 * t = omega arith in
+          let e : memory_base + vector t ≡ vectors_base + 4 * t = omega arith in
           ap (λ p. record { pc = p; core = core }) e ∙ sym (ap (λ o. entry_state o now) taken)
 
       route : Entering arrivals most count state Effect
@@ -155,7 +156,7 @@ module _ (b : Build) (view : View) (arrivals : List Arrival) (setting : IsSettin
 
     -- ---- the prologue
 
-    spot_is : (place : ℕ) × (slice_index now.core.registers 2 ≡ 0x8000_0000 + (place + 128))
+    spot_is : (place : ℕ) × (slice_index now.core.registers 2 ≡ memory_base + (place + 128))
     spot_is = stored_at b now found k.stack k.running
 
     abbrev place : ℕ
@@ -194,7 +195,7 @@ module _ (b : Build) (view : View) (arrivals : List Arrival) (setting : IsSettin
 
       -- ---- anew
 
-      frame_room : (b.low t ≤ frame) × (frame + 4 * words ≡ b.top t) × (b.top t ≤ 2097152) × (frame % 4 ≡ 0) × (b.low t < b.top t)
+      frame_room : (b.low t ≤ frame) × (frame + 4 * words ≡ b.top t) × (b.top t ≤ memory_bytes) × (frame % 4 ≡ 0) × (b.low t < b.top t)
       frame_room =
           let g = first_room b fits t declared in let z = fits.to t declared in (omega arith, omega arith, omega arith, omega arith, omega arith)
 

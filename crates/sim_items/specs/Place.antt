@@ -18,7 +18,7 @@ use Rattle.rv32_expand.specs.InPlace.{item_mark, last_address}
 use Rattle.observe.specs.Observe.{View, mark_at}
 use Rattle.osek_scheduler.specs.State.{Frame, System, task}
 use Rattle.sloth_base.specs.Named.{function, operation, label_of, symbol_size}
-use Rattle.sloth_base.specs.MemoryMap.{memory_base}
+use Rattle.sloth_base.specs.MemoryMap.{memory_base, memory_bytes}
 use Rattle.sloth_base.specs.Limits.{mask_limit}
 use Rattle.sim_relation.specs.Bounds.{AreBelow}
 use Rattle.sim_relation.specs.Build.{Build}
@@ -64,7 +64,7 @@ pub record InReturn (b : Build) (state : State) (s : System) (t : ℕ) : Type 0 
 pub record HasInstruction (b : Build) (address : ℕ) (kind : InstrKind) : Type 0 where
   pub offset : ℕ
   pub is : address ≡ memory_base + offset
-  pub to : offset + 4 ≤ 0x20_0000
+  pub to : offset + 4 ≤ memory_bytes
   pub is_code : (i : ℕ) → offset ≤ i → i < offset + 4 → b.is_code i ≡ true
   pub word : word_at b.memory offset ≡ Encode kind
   pub in_range : InRange kind

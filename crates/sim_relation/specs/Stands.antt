@@ -12,6 +12,7 @@ use Rattle.sloth_base.specs.PriorityLevels.{level_of}
 use Rattle.sloth_base.specs.Owners.{line_kind, owners_in}
 use Rattle.sloth_base.specs.declared.lines.LineKind.TheVariants as line_of
 use Rattle.sloth_base.specs.Limits.{ceiling_count}
+use Rattle.sloth_base.specs.MemoryMap.{memory_bytes}
 use Rattle.sim_relation.specs.Build.{Build}
 use Rattle.sim_relation.specs.Context.{RunsFirst}
 use Rattle.sim_relation.specs.ServiceWords.{AreServiceWords}
@@ -100,7 +101,7 @@ pub record IsFixed (b : Build) (core : Core) : Type 0 where
   pub pending : length core.pending ≡ 32
   pub enabled : length core.enabled ≡ 32
   pub levels : length core.levels ≡ 32
-  pub ram : length core.ram ≡ 0x20_0000
+  pub ram : length core.ram ≡ memory_bytes
   pub code : (i : ℕ) → b.is_code i ≡ true → slice_index core.ram i ≡ slice_index b.memory i
 
 -- the machine stands as the system says

@@ -10,6 +10,7 @@ use Rattle.sloth_base.specs.declared.config.CounterDecl.{CounterDecl}
 use Rattle.sloth_base.specs.declared.service.Service.{Service}
 use Rattle.sloth_base.specs.declared.service.Service.TheVariants as service
 use Rattle.sloth_base.specs.Limits.{alarm_limit}
+use Rattle.sloth_base.specs.MemoryMap.{memory_bytes}
 use Rattle.sloth_region.specs.Layout.{cur, counter_value, alarm_left, alarm_cycle}
 use Rattle.rv32_instr.specs.Ram.{word_at, with_word}
 use Rattle.masked_code.proofs.Words.{word_at-same, length-with_word, get_or-with_word}
@@ -55,7 +56,7 @@ absolute_no d start c n =
     (cases_lt d.max start)
 
 -- both words of an alarm are written
-set_alone : (ram : List ℕ) (a left cycle : ℕ) → a < alarm_limit → left < 2 ^ 32 → cycle < 2 ^ 32 → length ram ≡ 0x20_0000
+set_alone : (ram : List ℕ) (a left cycle : ℕ) → a < alarm_limit → left < 2 ^ 32 → cycle < 2 ^ 32 → length ram ≡ memory_bytes
     → AlarmAlone a left cycle ram (with_word (with_word ram (alarm_left a) left) (alarm_cycle a) cycle)
 set_alone ram a left cycle few small word long =
     let mid : List ℕ = with_word ram (alarm_left a) left in

@@ -17,6 +17,7 @@ use Rattle.sloth_base.specs.declared.event.Event.TheVariants as event
 use Rattle.sloth_base.specs.declared.lines.LineKind.TheVariants as line_of
 use Rattle.sloth_base.specs.declared.step.Step.{Step}
 use Rattle.sloth_base.specs.Limits.{task_limit, counter_limit}
+use Rattle.sloth_base.specs.MemoryMap.{memory_base, vectors_base}
 use Rattle.sloth_base.proofs.Owners.{kind_of_counter, tasks_owned}
 use Rattle.sloth_base.proofs.Stretches.{counter_entry_limit, counter_touches}
 use Rattle.rv32_instr.specs.Execute.{touched}
@@ -166,7 +167,7 @@ module _ (b : Build) (view : View) (arrivals : List Arrival) (setting : IsSettin
 
   at_vector : offset_state (vector line) core ≡ execution_state now
   at_vector =
-      let e : 0x8000_0000 + vector line ≡ 0x8000_0400 + 4 * line = omega arith in
+      let e : memory_base + vector line ≡ vectors_base + 4 * line = omega arith in
       ap (λ p. record { pc = p; core = core }) e ∙ sym (ap (λ o. entry_state o now) taken)
 
   abbrev most : ℕ

@@ -7,7 +7,7 @@ use Rattle.sloth_base.specs.declared.image.Image.{Image}
 use Rattle.sloth_base.specs.declared.image.Mark.{Mark}
 use Rattle.sloth_base.specs.declared.image.MarkKind.{MarkKind}
 use Rattle.sloth_base.specs.declared.image.MarkKind.TheVariants as kind
-use Rattle.sloth_base.specs.MemoryMap.{memory_base}
+use Rattle.sloth_base.specs.MemoryMap.{memory_base, memory_bytes}
 use Rattle.sloth_base.specs.Limits.{task_limit, counter_limit, name_limit, body_limit, mark_limit}
 
 -- a letter or `_`
@@ -70,7 +70,7 @@ pub record InFormat (image : Image) : Type 0 where
   pub counters : AreNames image.counters
   -- no counter has a task's name
   pub counters_apart : AreApart image.counters image.tasks
-  pub memory_fits : length image.memory ≤ 2097152
+  pub memory_fits : length image.memory ≤ memory_bytes
   pub whole_words : length image.memory % 4 ≡ 0
   pub few_marks : length image.marks ≤ mark_limit
   pub marks : All (IsMark (service_limit (length image.counters)) (length image.funcs) (length image.memory)) image.marks

@@ -3,6 +3,7 @@
 
 ghost use Rattle.std.specs.Prelude.{◌≡◌, ◌≤◌, ◌<◌, ◌+◌, ◌%◌};
 ghost use Rattle.sloth_base.specs.Limits.{task_limit};
+ghost use Rattle.sloth_base.specs.MemoryMap.{memory_bytes};
 ghost use Rattle.rv32_instr.specs.Ram.{word_at};
 ghost use Rattle.sloth_inspect.specs.States.{state_in, states_in, running_number_in, pending_lines_in, levels_in};
 
@@ -17,7 +18,7 @@ use sloth_region::layout::{CUR, active, wait};
 // The word at an offset in RAM.
 fn word(bus: &mut SlothBus, offset: u32) -> u32
     requires aligned { offset % 4 ≡ 0 }
-    requires inside { offset + 4 ≤ 2097152 }
+    requires inside { offset + 4 ≤ memory_bytes }
     ensures is { result ≡ word_at bus.old.ram offset }
     ensures same { bus.new ≡ bus.old }
 {
