@@ -7,8 +7,8 @@ use Rattle.std.proofs.lemmas.List.{length-set, get_or-set_other}
 use Rattle.std.proofs.lemmas.Nat.Bits.{shr_and_one}
 use Rattle.sloth_base.specs.Machine.{Core, State}
 use Rattle.sloth_base.specs.Arithmetic.{left_shift, right_shift, hi}
-use Rattle.sloth_base.specs.MemoryMap.{memory_base, memory_bytes}
-use Rattle.sloth_region.specs.Layout.{active, events, wait, alarm_left, alarm_cycle, controller_base}
+use Rattle.sloth_base.specs.MemoryMap.{memory_base, memory_bytes, controller_base}
+use Rattle.sloth_region.specs.Layout.{active, events, wait, alarm_left, alarm_cycle}
 use Rattle.rv32_instr.specs.declared.InstrKind.{InstrKind}
 use Rattle.rv32_instr.specs.Ram.{word_at, with_word}
 use Rattle.masked_code.specs.Owes.{◌▸◌, writes, loads, stores, raises, sets_enabled, Owes}

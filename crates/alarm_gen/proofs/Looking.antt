@@ -7,8 +7,8 @@ use Rattle.std.proofs.lemmas.Bool.{cases_eq, eq-eqb, ne_eqb, or_left, or_right}
 use Rattle.sloth_base.specs.Machine.{Core, State}
 use Rattle.sloth_base.specs.Arrive.{arrive}
 use Rattle.sloth_base.specs.Arithmetic.{left_shift}
-use Rattle.sloth_base.specs.MemoryMap.{memory_base, memory_bytes}
-use Rattle.sloth_region.specs.Layout.{active, controller_base}
+use Rattle.sloth_base.specs.MemoryMap.{memory_base, memory_bytes, controller_base}
+use Rattle.sloth_region.specs.Layout.{active}
 use Rattle.rv32_instr.specs.declared.InstrKind.{InstrKind}
 use Rattle.rv32_instr.specs.Ram.{word_at}
 use Rattle.masked_code.specs.Owes.{◌▸◌, writes, loads, loads_byte, Owes, Pending, Enabled}

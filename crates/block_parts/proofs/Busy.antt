@@ -5,9 +5,9 @@ use Rattle.std.proofs.lemmas.Bool.{cases_Bool}
 use Rattle.sloth_base.specs.Machine.{Core, State}
 use Rattle.sloth_base.specs.Arithmetic.{one_if}
 use Rattle.sloth_base.specs.Arrive.{arrive}
-use Rattle.sloth_base.specs.MemoryMap.{memory_base}
+use Rattle.sloth_base.specs.MemoryMap.{memory_base, controller_base}
 use Rattle.sloth_base.specs.Limits.{task_limit}
-use Rattle.sloth_region.specs.Layout.{active, controller_base}
+use Rattle.sloth_region.specs.Layout.{active}
 use Rattle.rv32_instr.specs.declared.InstrKind.{InstrKind}
 use Rattle.rv32_instr.specs.Ram.{word_at}
 use Rattle.masked_code.specs.Owes.{◌▸◌, writes, loads, loads_byte, AreOfLine, Owes, Pending, Enabled}

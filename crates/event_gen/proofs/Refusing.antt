@@ -2,9 +2,8 @@
 use Rattle.std.proofs.Common.{◌≡◌, ℕ, ◌+◌, ◌*◌, ◌≤◌, List, [], ◌∷◌, ◌++◌, length, get_or, refl, ap, ⊎_elim}
 use Rattle.std.specs.Prelude.{true, false, not, eqb, set, slice_index}
 use Rattle.sloth_base.specs.Machine.{Core, State}
-use Rattle.sloth_base.specs.MemoryMap.{memory_base, memory_bytes}
+use Rattle.sloth_base.specs.MemoryMap.{memory_base, memory_bytes, controller_base}
 use Rattle.sloth_base.specs.Status.{E_OS_STATE}
-use Rattle.sloth_region.specs.Layout.{controller_base}
 use Rattle.rv32_instr.specs.declared.InstrKind.{InstrKind}
 use Rattle.masked_code.specs.Owes.{◌▸◌, writes, Owes}
 use Rattle.masked_code.specs.Place.{offset_state}

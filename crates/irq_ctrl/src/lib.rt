@@ -3,6 +3,7 @@
 
 ghost use Rattle.std.specs.Prelude.{◌≡◌, ◌<◌, ◌==◌, slice_set, slice_index};
 ghost use Rattle.std.specs.Option.{ForSome};
+ghost use Rattle.sloth_base.specs.MemoryMap.{controller_bytes};
 
 mod line_bytes;
 
@@ -55,7 +56,7 @@ impl Controller {
 
     /// The byte at an offset: pending bytes from 0 on, enable bytes from 32 on, level bytes from 64 on.
     pub fn load(&self, offset: u32) -> u8
-        requires { offset < 96 }
+        requires { offset < controller_bytes }
         ensures { result ≡ controller_byte self.now offset }
     {
         self.bytes.load(offset)
@@ -63,7 +64,7 @@ impl Controller {
 
     /// Writes the byte at an offset. A pending or enable byte keeps 1 for a value that isn't zero.
     pub fn store(&mut self, offset: u32, value: u8)
-        requires { offset < 96 }
+        requires { offset < controller_bytes }
         ensures { self.new ≡ with_controller_byte self.old offset value }
     {
         self.bytes.store(offset, value);

@@ -1,6 +1,7 @@
 //! The pending, enable and level bytes of 32 lines.
 ghost use Rattle.std.specs.Prelude.{◌≡◌, ◌<◌, ◌==◌, slice_set, slice_index};
 ghost use Rattle.std.specs.Option.{ForSome};
+ghost use Rattle.sloth_base.specs.MemoryMap.{controller_bytes};
 
 use sloth_base::numbers::Line;
 use std::marker::Model;
@@ -49,7 +50,7 @@ impl LineBytes {
     /// The byte at an offset: pending bytes from 0 on, enable bytes from 32 on, level bytes from 64 on.
     #[tactic(auto, using(std::proofs::lemmas::Bool::Decides::nat_tests), unfolding(sloth_base::specs::Lines::controller_byte))]
     pub fn load(&self, offset: u32) -> u8
-        requires { offset < 96 }
+        requires { offset < controller_bytes }
         ensures { result ≡ controller_byte self.now offset }
     {
         let place = offset as usize;
@@ -65,7 +66,7 @@ impl LineBytes {
     /// Writes the byte at an offset. A pending or enable byte keeps 1 for a value that isn't zero.
     #[tactic(auto, using(std::proofs::lemmas::Bool::Decides::nat_tests), unfolding(sloth_base::specs::Lines::with_controller_byte))]
     pub fn store(&mut self, offset: u32, value: u8)
-        requires { offset < 96 }
+        requires { offset < controller_bytes }
         ensures { self.new ≡ with_controller_byte self.old offset value }
     {
         let place = offset as usize;

@@ -4,8 +4,8 @@ use Rattle.std.specs.Prelude.{false, true, pos}
 use Rattle.std.proofs.lemmas.Bool.{ne_eqb}
 use Rattle.sloth_base.specs.Arithmetic.{plus}
 use Rattle.sloth_base.specs.Machine.{Core, State}
-use Rattle.sloth_base.specs.MemoryMap.{memory_base, memory_bytes}
-use Rattle.sloth_region.specs.Layout.{cur, below_word, context_bytes, context_level, context_cur, context_below, controller_base}
+use Rattle.sloth_base.specs.MemoryMap.{memory_base, memory_bytes, controller_base}
+use Rattle.sloth_region.specs.Layout.{cur, below_word, context_bytes, context_level, context_cur, context_below}
 use Rattle.rv32_instr.specs.declared.InstrKind.TheVariants.{Mret}
 use Rattle.rv32_instr.specs.Ram.{word_at, with_word}
 use Rattle.masked_code.specs.Owes.{◌▸◌, writes, loads, stores, accesses, Owes}

@@ -3,10 +3,10 @@ use Rattle.std.specs.Prelude.{ℕ, zero, suc, ◌+◌, ◌*◌, ◌%◌, ◌≡�
 use Rattle.sloth_base.specs.declared.app.Width.TheVariants as width
 use Rattle.sloth_base.specs.Machine.{Core, State}
 use Rattle.sloth_base.specs.Arithmetic.{sum32}
-use Rattle.sloth_base.specs.MemoryMap.{memory_base, memory_bytes}
+use Rattle.sloth_base.specs.MemoryMap.{memory_base, memory_bytes, controller_base}
 use Rattle.sloth_base.specs.Lines.{flag_of}
 use Rattle.sloth_base.specs.Arrive.{core_arrive, state_arrive}
-use Rattle.sloth_region.specs.Layout.{controller_base, pending_byte, enabled_byte, level_byte}
+use Rattle.sloth_region.specs.Layout.{pending_byte, enabled_byte, level_byte}
 use Rattle.rv32_instr.specs.declared.effect.Change.{Change}
 use Rattle.rv32_instr.specs.declared.effect.Effect.{Effect}
 use Rattle.rv32_instr.specs.declared.effect.Effect.TheVariants.{Nothing, Write, Branch, Jump, Load, Store, Csr, Environment, Return}

@@ -2,11 +2,11 @@
 use Rattle.std.proofs.Common.{◌≡◌, ℕ, ◌+◌, ◌*◌, ◌%◌, ◌<◌, ◌≤◌, ◌⊎◌, List, ◌∷◌, ◌++◌, get_or, refl, ◌∙◌, subst, arith, inl, lit≤}
 use Rattle.std.specs.Prelude.{Bool, false, true, pos, neg_ℤ, eqb}
 use Rattle.sloth_base.specs.Machine.{Core, State}
-use Rattle.sloth_region.specs.Layout.{cur, active, below_word, idle_context, context_bytes, context_pc, context_level, context_cur, context_below, controller_base}
+use Rattle.sloth_region.specs.Layout.{cur, active, below_word, idle_context, context_bytes, context_pc, context_level, context_cur, context_below}
 use Rattle.rv32_instr.specs.declared.InstrKind.{InstrKind}
 use Rattle.rv32_instr.specs.Ram.{word_at, with_word, with_words}
 use Rattle.sloth_base.specs.Arithmetic.{plus}
-use Rattle.sloth_base.specs.MemoryMap.{memory_base, memory_bytes}
+use Rattle.sloth_base.specs.MemoryMap.{memory_base, memory_bytes, controller_base}
 use Rattle.sloth_base.specs.Limits.{task_limit}
 use Rattle.masked_code.specs.Owes.{◌▸◌, writes, loads, stores, accesses, IsWordAt, IsApart, Owes}
 use Rattle.masked_code.specs.Pieces.{saving_code}

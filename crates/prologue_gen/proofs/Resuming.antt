@@ -6,9 +6,9 @@ use Rattle.std.proofs.lemmas.List.{get_or-set_same, get_or-set_other, length-set
 use Rattle.sloth_base.specs.Machine.{Core, State}
 use Rattle.sloth_base.specs.Arithmetic.{plus}
 use Rattle.sloth_base.specs.Status.{E_OK}
-use Rattle.sloth_base.specs.MemoryMap.{memory_base, memory_bytes}
+use Rattle.sloth_base.specs.MemoryMap.{memory_base, memory_bytes, controller_base}
 use Rattle.sloth_base.specs.Limits.{task_limit, level_count, frame_limit}
-use Rattle.sloth_region.specs.Layout.{cur, active, resume, below_word, idle_context, context_bytes, controller_base}
+use Rattle.sloth_region.specs.Layout.{cur, active, resume, below_word, idle_context, context_bytes}
 use Rattle.rv32_instr.specs.declared.InstrKind.{InstrKind}
 use Rattle.rv32_instr.specs.Ram.{word_at, with_word, with_words}
 use Rattle.masked_code.specs.Place.{offset_state, InPlace}

@@ -7,7 +7,7 @@ use Rattle.sloth_base.specs.Lines.{Lines, lines_of, controller_byte, with_contro
 use Rattle.rv32_instr.specs.declared.stop.Bad.{Bad}
 use Rattle.rv32_instr.specs.declared.stop.Bad.TheVariants as bad
 use Rattle.sloth_base.specs.Arithmetic.{sign_extension, size_of}
-use Rattle.sloth_base.specs.MemoryMap.{memory_base, memory_end}
+use Rattle.sloth_base.specs.MemoryMap.{memory_base, memory_end, controller_base, controller_bytes}
 use Rattle.rv32_instr.specs.Ram.{half_at, word_at, with_byte, with_half, with_word}
 
 -- what an access sees
@@ -37,7 +37,7 @@ in_ram address size = nat_le memory_base address && nat_le (address + size) memo
 
 -- an address is one of the controller's bytes
 abbrev pub in_controller : ℕ → Bool
-in_controller address = nat_le 0x1000_0000 address && nat_lt address 0x1000_0060
+in_controller address = nat_le controller_base address && nat_lt address (controller_base + controller_bytes)
 
 -- why an access is refused; the controller has byte accesses alone
 unfoldable pub refusal : Memory → ℕ → Width → Option Bad
@@ -52,7 +52,7 @@ refusal memory address width =
 abbrev pub loaded_byte : Memory → ℕ → ℕ
 loaded_byte memory address =
     if in_ram address 1 then slice_index memory.ram (address - memory_base)
-    else controller_byte memory.lines (address - 0x1000_0000)
+    else controller_byte memory.lines (address - controller_base)
 
 -- the word that a load of this width gives
 unfoldable pub loaded_number : Memory → ℕ → Width → ℕ
@@ -66,7 +66,7 @@ loaded_number memory address width.HalfU = half_at memory.ram (address - memory_
 abbrev pub stored_byte : Memory → ℕ → ℕ → Memory
 stored_byte memory address value =
     if in_ram address 1 then record memory { ram = with_byte memory.ram (address - memory_base) value }
-    else record memory { lines = with_controller_byte memory.lines (address - 0x1000_0000) (value % 256) }
+    else record memory { lines = with_controller_byte memory.lines (address - controller_base) (value % 256) }
 
 -- the memory after a store of this width
 unfoldable pub stored_memory : Memory → ℕ → Width → ℕ → Memory

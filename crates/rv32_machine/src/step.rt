@@ -14,14 +14,12 @@ use crate::machine::{Hart, Machine};
 use machine_memory::{Bus, vector};
 use rv32_instr::{Effect, Stop, decode};
 use sloth_base::app::Width;
-use sloth_base::memory_map::MEMORY_BASE;
+use sloth_base::memory_map::{CONTROLLER_BASE, LEVELS_OFFSET, MEMORY_BASE};
 use sloth_base::numbers::Line;
 use sloth_base::step::Step;
 
-/// The first pending byte, and the first level byte, of the controller.
-const PENDING: u32 = 0x1000_0000;
-
-const LEVELS: u32 = 0x1000_0040;
+/// The first level byte of the controller.
+const LEVELS: u32 = CONTROLLER_BASE + LEVELS_OFFSET as u32;
 
 /// The record of a step before one is written into it.
 pub fn blank_step() -> Step
@@ -71,8 +69,8 @@ fn pending_line(address: u32) -> Option<Line>
     ensures is { result ≡ pending_line address }
     ensures in_range { ForSome result (λ line. line < 32) }
 {
-    if PENDING <= address && address < PENDING + 32 {
-        Some(Line((address - PENDING) as u8))
+    if CONTROLLER_BASE <= address && address < CONTROLLER_BASE + 32 {
+        Some(Line((address - CONTROLLER_BASE) as u8))
     } else {
         None
     }
@@ -265,7 +263,7 @@ impl<B: Bus> Machine<B> {
         ensures count { self.new.count ≡ self.old.count }
     {
         self.hart = before;
-        match self.bus.store(PENDING + u32::from(line.0), Width::Byte, 1) {
+        match self.bus.store(CONTROLLER_BASE + u32::from(line.0), Width::Byte, 1) {
             Ok(()) => {}
             Err(_) => unreachable!(),
         }

@@ -3,9 +3,9 @@ use Rattle.std.proofs.Common.{◌≡◌, ℕ, ◌+◌, ◌*◌, ◌%◌, ◌<◌
 use Rattle.std.specs.Prelude.{set}
 use Rattle.sloth_base.specs.Machine.{Core, State}
 use Rattle.sloth_base.specs.Arrive.{arrive, state_arrive}
-use Rattle.sloth_base.specs.MemoryMap.{memory_base}
+use Rattle.sloth_base.specs.MemoryMap.{memory_base, controller_base}
 use Rattle.sloth_base.specs.Limits.{task_limit}
-use Rattle.sloth_region.specs.Layout.{cur, active, events, below_word, idle_context, context_level, context_cur, context_below, controller_base}
+use Rattle.sloth_region.specs.Layout.{cur, active, events, below_word, idle_context, context_level, context_cur, context_below}
 use Rattle.rv32_instr.specs.declared.InstrKind.{InstrKind}
 use Rattle.rv32_instr.specs.Ram.{word_at, with_word}
 use Rattle.masked_code.specs.Owes.{◌▸◌, writes, loads, stores, clears, AreOfLine, Owes}

@@ -6,9 +6,9 @@ use Rattle.sloth_base.specs.Machine.{Core, State}
 use Rattle.sloth_base.specs.Arithmetic.{plus, one_if, left_shift}
 use Rattle.sloth_base.specs.Arrive.{arrive}
 use Rattle.sloth_base.specs.Status.{E_OK}
-use Rattle.sloth_base.specs.MemoryMap.{memory_base, memory_bytes}
+use Rattle.sloth_base.specs.MemoryMap.{memory_base, memory_bytes, controller_base}
 use Rattle.sloth_base.specs.Limits.{task_limit}
-use Rattle.sloth_region.specs.Layout.{cur, active, controller_base}
+use Rattle.sloth_region.specs.Layout.{cur, active}
 use Rattle.rv32_instr.specs.declared.InstrKind.{InstrKind}
 use Rattle.rv32_instr.specs.Ram.{word_at}
 use Rattle.masked_code.specs.Place.{offset_state}

@@ -10,7 +10,7 @@ use Rattle.sloth_base.specs.Machine.{Core, State}
 use Rattle.sloth_base.specs.Lines.{Lines, controller_byte, with_controller_byte, flag_of}
 use Rattle.sloth_base.specs.Arrive.{state_arrive}
 use Rattle.sloth_base.specs.Take.{line_to_take, entry_state, execution_state}
-use Rattle.sloth_base.specs.MemoryMap.{memory_base}
+use Rattle.sloth_base.specs.MemoryMap.{memory_base, controller_base}
 use Rattle.rv32_instr.specs.declared.csr.TheConstants.{MSTATUS, MSCRATCH, MEPC, ILEVEL, PLEVEL}
 use Rattle.rv32_instr.specs.declared.stop.Bad.{Bad}
 use Rattle.rv32_instr.specs.declared.stop.Bad.TheVariants as bad
@@ -66,7 +66,7 @@ unfolding controller_byte
 controller_fits m offset h = pick_below 256 _ _ _ (h.pending offset) (pick_below 256 _ _ _ (h.enabled (offset - 32)) (h.levels (offset - 64)))
 
 byte_fits : (m : Memory) (address : ℕ) → MemoryBounded m → loaded_byte m address < 256
-byte_fits m address h = pick_below 256 _ _ _ (h.bytes (address - memory_base)) (controller_fits m (address - 0x1000_0000) h)
+byte_fits m address h = pick_below 256 _ _ _ (h.bytes (address - memory_base)) (controller_fits m (address - controller_base) h)
 
 half_fits : (ram : List ℕ) (offset : ℕ) → AreBelow 256 ram → half_at ram offset < 65536
 unfolding half_at
@@ -116,7 +116,7 @@ line_fits m offset value h l =
 
 stored_byte_fits : (m : Memory) (address value : ℕ) → MemoryBounded m → MemoryBounded (stored_byte m address value)
 stored_byte_fits m address value h =
-    pick_memory _ _ _ (ram_fits m _ h (written_below m.ram (address - memory_base) value h.bytes)) (line_fits m (address - 0x1000_0000) (value % 256) h (omega arith))
+    pick_memory _ _ _ (ram_fits m _ h (written_below m.ram (address - memory_base) value h.bytes)) (line_fits m (address - controller_base) (value % 256) h (omega arith))
 
 stored_fits : (m : Memory) (address : ℕ) (w : Width) (value : ℕ) → MemoryBounded m → MemoryBounded (stored_memory m address w value)
 unfolding stored_memory

@@ -71,10 +71,6 @@ context_below = 12
 abbrev pub words_high : ℕ
 words_high = 0x8_0000
 
--- The address of the controller, and its bits 31 to 12.
-abbrev pub controller_base : ℕ
-controller_base = 0x1000_0000
-
 -- bits 31 to 12 of that address
 abbrev pub controller_high : ℕ
 controller_high = 0x1_0000
