@@ -7,7 +7,7 @@ use Rattle.std.proofs.lemmas.List.{length-set, get_or-set_other}
 use Rattle.std.proofs.lemmas.Nat.Bits.{shr_and_one}
 use Rattle.sloth_base.specs.Machine.{Core, State}
 use Rattle.sloth_base.specs.Arithmetic.{left_shift, right_shift, hi}
-use Rattle.sloth_base.specs.MemoryMap.{memory_base, memory_bytes, controller_base}
+use Rattle.sloth_base.specs.MemoryMap.{memory_base, memory_bytes, controller_base, line_count}
 use Rattle.sloth_region.specs.Layout.{active, events, wait, alarm_left, alarm_cycle}
 use Rattle.rv32_instr.specs.declared.InstrKind.{InstrKind}
 use Rattle.rv32_instr.specs.Ram.{word_at, with_word}
@@ -44,8 +44,8 @@ module _ (from to : ℕ) (low : 1024 ≤ from) (E : List ℕ → State → State
   -- what is owed of code behind which the machine is as this one is after a change
   abbrev pub Leads : List InstrKind → List InstrKind → Ground → Ground → Type 0
   Leads code rest c d =
-      (o x1 flags : ℕ) → o + 4 * length (code ++ rest) ≤ memory_bytes → KnowsAll target flags c → length c.pending ≡ 32
-      → ((o2 y1 now : ℕ) → o2 + 4 * length rest ≤ memory_bytes → KnowsAll target now d → length d.pending ≡ 32
+      (o x1 flags : ℕ) → o + 4 * length (code ++ rest) ≤ memory_bytes → KnowsAll target flags c → length c.pending ≡ line_count
+      → ((o2 y1 now : ℕ) → o2 + 4 * length rest ≤ memory_bytes → KnowsAll target now d → length d.pending ≡ line_count
       → Owes from to o2 rest 0 E start (mach d y1 now))
       → Owes from to o (code ++ rest) 0 E start (mach c x1 flags)
 
@@ -97,8 +97,8 @@ module _ (from to : ℕ) (low : 1024 ≤ from) (E : List ℕ → State → State
 
     -- behind its new events, at the look at those that it awaits
     awaits : (c : Ground) (s : is_suspended_task t c ≡ false) (o flags : ℕ) → o + 4 * length (awaited_events_test t ++ (waking_code t ++ (basing_code ++ rest))) ≤ memory_bytes
-        → bit_at flags t ≡ 1 → KnowsAll target flags c → length c.pending ≡ 32
-        → ((o2 y1 now : ℕ) → o2 + 4 * length rest ≤ memory_bytes → KnowsAll target now (action_ground (Set t mask) c) → length (action_ground (Set t mask) c).pending ≡ 32
+        → bit_at flags t ≡ 1 → KnowsAll target flags c → length c.pending ≡ line_count
+        → ((o2 y1 now : ℕ) → o2 + 4 * length rest ≤ memory_bytes → KnowsAll target now (action_ground (Set t mask) c) → length (action_ground (Set t mask) c).pending ≡ line_count
         → Owes from to o2 rest 0 E start (mach (action_ground (Set t mask) c) y1 now))
         → Owes from to o (awaited_events_test t ++ (waking_code t ++ (basing_code ++ rest))) 0 E start (mach (d c s) (v c s) flags)
     awaits c s o flags fits one knows long go =

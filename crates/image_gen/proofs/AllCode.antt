@@ -34,7 +34,7 @@ use Rattle.service_blocks.specs.Calls.{ServesCall}
 use Rattle.service_gen.specs.Schedule.{way_back}
 use Rattle.sloth_base.specs.Arithmetic.{sum32}
 use Rattle.sloth_base.specs.Blocks.{block_number, block_code, block_object}
-use Rattle.sloth_base.specs.MemoryMap.{vectors_base, boot_base}
+use Rattle.sloth_base.specs.MemoryMap.{vectors_base, boot_base, line_count}
 use Rattle.vector_gen.specs.Boot.{Boots}
 use Rattle.vector_gen.specs.Idle.{Idles, idle_mark}
 use Rattle.vector_gen.specs.Vectors.{AreJumps}
@@ -165,7 +165,7 @@ pub record IsMade (address : ℕ) (marks : List Mark) (Effect : List InstrKind �
 -- All blocks of an image, each made as it should be: the vectors, boot, the idle loop, a prologue for each task, a tick for each counter, the
 -- services that are called, and the items.
 pub record AreMade (config : Config) (app : App) (levels : Levels) (map : Map) (vectors boot idle : Block) (starts counted served own : List Block) : Type 0 where
-  pub vectors_made : IsMade vectors_base [] (AreJumps 32 map.handlers) vectors
+  pub vectors_made : IsMade vectors_base [] (AreJumps line_count map.handlers) vectors
   pub boot_made : IsMade boot_base [] (Boots config.tasks (length config.counters) levels.task levels.top map.idle) boot
   pub idle_made : IsMade map.idle (idle_mark map.idle ∷ []) Idles idle
   pub count : length starts ≡ length config.tasks

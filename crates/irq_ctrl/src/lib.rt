@@ -3,7 +3,7 @@
 
 ghost use Rattle.std.specs.Prelude.{◌≡◌, ◌<◌, ◌==◌, slice_set, slice_index};
 ghost use Rattle.std.specs.Option.{ForSome};
-ghost use Rattle.sloth_base.specs.MemoryMap.{controller_bytes};
+ghost use Rattle.sloth_base.specs.MemoryMap.{controller_bytes, line_count};
 
 mod line_bytes;
 
@@ -47,7 +47,7 @@ impl Controller {
 
     /// The line's pending byte becomes 1.
     pub fn arrive(&mut self, line: Line)
-        requires { line < 32 }
+        requires { line < line_count }
         ensures { self.new ≡ record self.old { pending = slice_set self.old.pending line 1 } }
     {
         self.bytes.arrive(line);
@@ -77,14 +77,14 @@ impl Controller {
     pub fn choose(&self, level: u8) -> Option<Line>
         ensures is { result ≡ choose_line self.now level }
         ensures chosen { IsChosen self.now level result }
-        ensures in_range { ForSome result (λ line. line < 32) }
+        ensures in_range { ForSome result (λ line. line < line_count) }
     {
         self.first_above(level)
     }
 
     /// The line is no longer pending.
     pub fn take(&mut self, line: Line)
-        requires { line < 32 }
+        requires { line < line_count }
         ensures { self.new ≡ without_pending line self.old }
     {
         self.bytes.take(line);
@@ -93,7 +93,7 @@ impl Controller {
 
     /// Whether the line is pending.
     pub fn is_pending(&self, line: Line) -> bool
-        requires { line < 32 }
+        requires { line < line_count }
         ensures { result ≡ (slice_index self.now.pending line == 1) }
     {
         self.bytes.is_pending(line)
@@ -101,7 +101,7 @@ impl Controller {
 
     /// Whether the line is enabled.
     pub fn is_enabled(&self, line: Line) -> bool
-        requires { line < 32 }
+        requires { line < line_count }
         ensures { result ≡ (slice_index self.now.enabled line == 1) }
     {
         self.bytes.is_enabled(line)

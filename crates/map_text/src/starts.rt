@@ -8,7 +8,7 @@ ghost use Rattle.map_text.specs.Rows.{address_behind_code, code_places, numbered
 
 use crate::piece_rows::{Kind, Start, tick_count};
 use sloth_base::config::Config;
-use sloth_base::lines::COUNTER_LINE;
+use sloth_base::lines::FIRST_COUNTER_LINE;
 use sloth_base::memory_map::{BOOT_BASE, MEMORY_BASE, VECTORS_BASE};
 use sloth_region::extent::Extent;
 use sloth_region::map::Map;
@@ -109,7 +109,7 @@ fn ticks(map: &Map, counters: usize) -> &[u32]
     requires { counters ≤ counter_limit }
     ensures { result.now ≡ take counters (drop first_counter_line map.now.handlers) }
 {
-    let first = usize::from(COUNTER_LINE);
+    let first = usize::from(FIRST_COUNTER_LINE);
     &map.handlers[first..first + counters]
 }
 

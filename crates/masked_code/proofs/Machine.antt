@@ -5,7 +5,7 @@ use Rattle.std.proofs.lemmas.Bool.{le-leb, and_from, eq-eqb, lt-ltb, lt-leb, le-
 use Rattle.sloth_base.specs.declared.app.Width.TheVariants as width
 use Rattle.sloth_base.specs.Machine.{Core}
 use Rattle.sloth_base.specs.Lines.{controller_byte, with_controller_byte, flag_of}
-use Rattle.sloth_base.specs.MemoryMap.{memory_base, memory_end, memory_bytes, controller_base, controller_bytes}
+use Rattle.sloth_base.specs.MemoryMap.{memory_base, memory_end, memory_bytes, controller_base, controller_bytes, line_count}
 use Rattle.rv32_instr.specs.declared.InstrKind.{InstrKind}
 use Rattle.rv32_instr.specs.Encode.{Encode}
 use Rattle.rv32_instr.specs.Table.{Decode}
@@ -92,20 +92,20 @@ store_allowed c k there h =
     rw (eq-eqb ((controller_base + k) % 1) 0 g, not_ram (controller_base + k) 1 (omega arith), there, line_in k h)
 
 -- loads of the three bytes of a line
-pub pending_loaded : (c : Core) (l : ℕ) → l < 32 → loaded_number (memory_of c) (controller_base + l) width.ByteU ≡ get_or c.pending l 0
+pub pending_loaded : (c : Core) (l : ℕ) → l < line_count → loaded_number (memory_of c) (controller_base + l) width.ByteU ≡ get_or c.pending l 0
 unfolding loaded_number controller_byte
 pending_loaded c l h =
     let e : controller_base + l - controller_base ≡ l = omega arith in
     rw (not_ram (controller_base + l) 1 (omega arith), e, lt-ltb l 32 h)
 
-pub enabled_loaded : (c : Core) (l : ℕ) → l < 32 → loaded_number (memory_of c) (controller_base + (32 + l)) width.ByteU ≡ get_or c.enabled l 0
+pub enabled_loaded : (c : Core) (l : ℕ) → l < line_count → loaded_number (memory_of c) (controller_base + (32 + l)) width.ByteU ≡ get_or c.enabled l 0
 unfolding loaded_number controller_byte
 enabled_loaded c l h =
     let e : controller_base + (32 + l) - controller_base ≡ 32 + l = omega arith in
     let f : 32 + l - 32 ≡ l = omega arith in
     rw (not_ram (controller_base + (32 + l)) 1 (omega arith), e, le-ltb (32 + l) 32 (omega arith), lt-ltb (32 + l) 64 (omega arith), f)
 
-pub level_loaded : (c : Core) (l : ℕ) → l < 32 → loaded_number (memory_of c) (controller_base + (64 + l)) width.ByteU ≡ get_or c.levels l 0
+pub level_loaded : (c : Core) (l : ℕ) → l < line_count → loaded_number (memory_of c) (controller_base + (64 + l)) width.ByteU ≡ get_or c.levels l 0
 unfolding loaded_number controller_byte
 level_loaded c l h =
     let e : controller_base + (64 + l) - controller_base ≡ 64 + l = omega arith in
@@ -113,20 +113,20 @@ level_loaded c l h =
     rw (not_ram (controller_base + (64 + l)) 1 (omega arith), e, le-ltb (64 + l) 32 (omega arith), le-ltb (64 + l) 64 (omega arith), f)
 
 -- stores to them: a flag for what is not 0, and of a level its low byte
-pub pending_stored : (c : Core) (l v : ℕ) → l < 32 → with_memory c (stored_memory (memory_of c) (controller_base + l) width.Byte v) ≡ record c { pending = set c.pending l (flag_of (v % 256)) }
+pub pending_stored : (c : Core) (l v : ℕ) → l < line_count → with_memory c (stored_memory (memory_of c) (controller_base + l) width.Byte v) ≡ record c { pending = set c.pending l (flag_of (v % 256)) }
 unfolding stored_memory with_controller_byte
 pending_stored c l v h =
     let e : controller_base + l - controller_base ≡ l = omega arith in
     rw (not_ram (controller_base + l) 1 (omega arith), e, lt-ltb l 32 h)
 
-pub enabled_stored : (c : Core) (l v : ℕ) → l < 32 → with_memory c (stored_memory (memory_of c) (controller_base + (32 + l)) width.Byte v) ≡ record c { enabled = set c.enabled l (flag_of (v % 256)) }
+pub enabled_stored : (c : Core) (l v : ℕ) → l < line_count → with_memory c (stored_memory (memory_of c) (controller_base + (32 + l)) width.Byte v) ≡ record c { enabled = set c.enabled l (flag_of (v % 256)) }
 unfolding stored_memory with_controller_byte
 enabled_stored c l v h =
     let e : controller_base + (32 + l) - controller_base ≡ 32 + l = omega arith in
     let f : 32 + l - 32 ≡ l = omega arith in
     rw (not_ram (controller_base + (32 + l)) 1 (omega arith), e, le-ltb (32 + l) 32 (omega arith), lt-ltb (32 + l) 64 (omega arith), f)
 
-pub level_stored : (c : Core) (l v : ℕ) → l < 32 → with_memory c (stored_memory (memory_of c) (controller_base + (64 + l)) width.Byte v) ≡ record c { levels = set c.levels l (v % 256) }
+pub level_stored : (c : Core) (l v : ℕ) → l < line_count → with_memory c (stored_memory (memory_of c) (controller_base + (64 + l)) width.Byte v) ≡ record c { levels = set c.levels l (v % 256) }
 unfolding stored_memory with_controller_byte
 level_stored c l v h =
     let e : controller_base + (64 + l) - controller_base ≡ 64 + l = omega arith in

@@ -20,7 +20,7 @@ use Rattle.masked_code.proofs.Machine.{word_allowed, word_loaded, word_stored, b
 -- ---- which line an address is the pending byte of
 
 -- the first 32 bytes of the controller
-pub a_line : (l : ℕ) → l < 32 → pending_line (controller_base + l) ≡ Some l
+pub a_line : (l : ℕ) → l < line_count → pending_line (controller_base + l) ≡ Some l
 a_line l h =
     let e : controller_base + l - controller_base ≡ l = omega arith in
     ap (λ b. cond b (Some (controller_base + l - controller_base)) None) (and_from _ _ (le-leb controller_base (controller_base + l) (omega arith)) (lt-ltb (controller_base + l) (controller_base + line_count) (omega arith)))

@@ -10,7 +10,7 @@ use Rattle.rv32_instr.specs.Range.{InRange}
 use Rattle.rv32_instr.specs.Table.{Decode}
 use Rattle.rv32_instr.proofs.Table.{decode_encode}
 use Rattle.sloth_base.specs.Arithmetic.{plus}
-use Rattle.sloth_base.specs.MemoryMap.{memory_base, memory_bytes}
+use Rattle.sloth_base.specs.MemoryMap.{memory_base, memory_bytes, line_count}
 use Rattle.rv32_instr.specs.Execute.{Going, step, touched, touched_line_by, jumps, perform, mstatus_of, with_csr, goes_on}
 use Rattle.masked_code.specs.Trace.{Trace, touched_lines, early_arrivals, late_arrivals}
 use Rattle.masked_code.specs.Masked.{OnGoing, Masked, WithArrivals, FromOpening}
@@ -38,7 +38,7 @@ few code n h = let l = longest_le code 0 in omega (arith, h, l)
 pub record IsEntered (o : ℕ) (code : List InstrKind) (c : Core) : Type 0 where
   pub masked : c.mie ≡ false
   pub there : c.controller ≡ true
-  pub lines : length c.pending ≡ 32
+  pub lines : length c.pending ≡ line_count
   pub aligned : o % 4 ≡ 0
   pub fits : o + 4 * length code ≤ memory_bytes
   pub placed : InPlace c.ram o code
@@ -65,7 +65,7 @@ masks o c code h p = step_at o c masking (p.0, h) ∙ ap (goes_on (memory_base +
 -- what holds of the state as a service is called
 pub record IsOpened (o : ℕ) (code : List InstrKind) (c : Core) : Type 0 where
   pub there : c.controller ≡ true
-  pub lines : length c.pending ≡ 32
+  pub lines : length c.pending ≡ line_count
   pub aligned : o % 4 ≡ 0
   pub fits : o + 4 + 4 * length code ≤ memory_bytes
   pub placed : InPlace c.ram o (masking ∷ code)

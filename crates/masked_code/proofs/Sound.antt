@@ -6,7 +6,7 @@ use Rattle.sloth_base.specs.declared.app.Width.TheVariants as width
 use Rattle.sloth_base.specs.Machine.{Core, State}
 use Rattle.sloth_base.specs.Lines.{flag_of}
 use Rattle.sloth_base.specs.Arrive.{core_arrive, state_arrive}
-use Rattle.sloth_base.specs.MemoryMap.{memory_base, memory_bytes}
+use Rattle.sloth_base.specs.MemoryMap.{memory_base, memory_bytes, line_count}
 use Rattle.rv32_instr.specs.declared.effect.Effect.{Effect}
 use Rattle.rv32_instr.specs.declared.effect.Effect.TheVariants.{Nothing, Write, Branch, Jump, Load, Store, Csr, Environment, Return}
 use Rattle.rv32_instr.specs.declared.InstrKind.{InstrKind}
@@ -50,7 +50,7 @@ module _ (from to : ℕ) (ram : List ℕ) (inside : to ≤ memory_bytes) where
   pub record Inside (c : Core) : Type 0 where
     pub masked : c.mie ≡ false
     pub there : c.controller ≡ true
-    pub lines : length c.pending ≡ 32
+    pub lines : length c.pending ≡ line_count
     pub same : Agree from to ram c.ram
 
   with_register_inside : (c : Core) (rd v : ℕ) → Inside c → Inside (with_register c rd v)

@@ -3,7 +3,7 @@ use Rattle.std.specs.Prelude.{ℕ, zero, suc, ◌+◌, ◌*◌, ◌%◌, ◌≡�
 use Rattle.sloth_base.specs.declared.app.Width.TheVariants as width
 use Rattle.sloth_base.specs.Machine.{Core, State}
 use Rattle.sloth_base.specs.Arithmetic.{sum32}
-use Rattle.sloth_base.specs.MemoryMap.{memory_base, memory_bytes, controller_base}
+use Rattle.sloth_base.specs.MemoryMap.{memory_base, memory_bytes, controller_base, line_count}
 use Rattle.sloth_base.specs.Lines.{flag_of}
 use Rattle.sloth_base.specs.Arrive.{core_arrive, state_arrive}
 use Rattle.sloth_region.specs.Layout.{pending_byte, enabled_byte, level_byte}
@@ -28,9 +28,9 @@ pub data LineByte : Type 0 where
 
 -- the address of a line's byte
 abbrev pub IsAt : ℕ → LineByte → Type 0
-IsAt address (Pending line) = (address ≡ controller_base + pending_byte line) × (line < 32)
-IsAt address (Enabled line) = (address ≡ controller_base + enabled_byte line) × (line < 32)
-IsAt address (Level line) = (address ≡ controller_base + level_byte line) × (line < 32)
+IsAt address (Pending line) = (address ≡ controller_base + pending_byte line) × (line < line_count)
+IsAt address (Enabled line) = (address ≡ controller_base + enabled_byte line) × (line < line_count)
+IsAt address (Level line) = (address ≡ controller_base + level_byte line) × (line < line_count)
 
 -- a word of RAM, given by its offset
 pub record IsWordAt (address offset : ℕ) : Type 0 where

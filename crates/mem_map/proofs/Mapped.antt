@@ -9,7 +9,7 @@ use Rattle.sloth_region.specs.declared.map.Map.{Map}
 use Rattle.sloth_region.specs.Region.{AreApartWithin}
 use Rattle.sloth_base.specs.declared.places.Bounds.{Bounds}
 use Rattle.sloth_base.specs.Limits.{task_limit}
-use Rattle.sloth_base.specs.MemoryMap.{vectors_base, memory_end, words_base}
+use Rattle.sloth_base.specs.MemoryMap.{vectors_base, memory_end, words_base, line_count}
 use Rattle.mem_map.specs.declared.all_lengths.CodeLengths.{CodeLengths}
 use Rattle.mem_map.specs.Starts.{starts, end_of}
 use Rattle.mem_map.specs.Zones.{code_zone, data_zone, all_stacks, HasZones}
@@ -45,10 +45,10 @@ module _ (config : Config) (app : App) (lengths : CodeLengths) (bounds : Bounds)
     ends = ap (λ (from : ℕ). end_of from (map symbol_bytes app.symbols)) has.code_end_is
 
     -- what the calls give
-    pub addressed : plan.idle ≡ idle_at lengths → length plan.handlers ≡ 32
+    pub addressed : plan.idle ≡ idle_at lengths → length plan.handlers ≡ line_count
         → take (length lengths.prologues) plan.handlers ≡ starts (prologues_at lengths) (map code_byte_count lengths.prologues)
         → ((c : ℕ) → c < length lengths.ticks → slice_index plan.handlers (counter_line c) ≡ get_or (tick_starts lengths) c 0)
-        → ((line : ℕ) → length lengths.prologues ≤ line → line < 32 → (line < first_counter_line) ⊎ (counter_line (length lengths.ticks) ≤ line)
+        → ((line : ℕ) → length lengths.prologues ≤ line → line < line_count → (line < first_counter_line) ⊎ (counter_line (length lengths.ticks) ≤ line)
         → slice_index plan.handlers line ≡ plan.idle)
         → plan.places.blocks ≡ starts (services_at lengths) (map code_byte_count lengths.services)
         → plan.places.items ≡ starts (items_at lengths) (map code_byte_count lengths.items)

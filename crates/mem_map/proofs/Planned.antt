@@ -8,14 +8,14 @@ use Rattle.sloth_base.specs.declared.app.App.{App}
 use Rattle.sloth_base.specs.declared.app.Func.{Func}
 use Rattle.sloth_base.specs.declared.app.Symbol.{Symbol}
 use Rattle.sloth_base.specs.declared.config.Config.{Config}
-use Rattle.sloth_base.specs.Owners.{counter_line}
+use Rattle.sloth_base.specs.Owners.{counter_line, first_counter_line}
 use Rattle.sloth_region.specs.declared.extent.Extent.{Extent}
 use Rattle.sloth_region.specs.declared.map.Map.{Map}
 use Rattle.sloth_region.specs.Region.{FollowWithin}
 use Rattle.std.proofs.lemmas.Bool.{cases_lt}
 use Rattle.sloth_base.specs.declared.places.Bounds.{Bounds}
 use Rattle.sloth_base.specs.Limits.{task_limit, counter_limit, item_limit, data_limit}
-use Rattle.sloth_base.specs.MemoryMap.{vectors_base, memory_bytes}
+use Rattle.sloth_base.specs.MemoryMap.{vectors_base, memory_bytes, line_count}
 use Rattle.mem_map.specs.Starts.{end_of, starts}
 use Rattle.mem_map.specs.Run.{extents_of, AreClose}
 use Rattle.mem_map.specs.declared.all_lengths.CodeLengths.{CodeLengths}
@@ -244,7 +244,7 @@ module _ (config : Config) (app : App) (lengths : CodeLengths) (bounds : Bounds)
         (omega (arith, is, four), omega (arith, is, low, first), omega (arith, is, high, short, mid, items))
 
     -- a vector word can jump to the code of each line
-    pub reach : (line : ℕ) → line < 32 → IsInVectorReach (slice_index plan.handlers line)
+    pub reach : (line : ℕ) → line < line_count → IsInVectorReach (slice_index plan.handlers line)
     reach line h =
         let few = may.code.boot.1 in
         let e = at.idle in
@@ -257,13 +257,13 @@ module _ (config : Config) (app : App) (lengths : CodeLengths) (bounds : Bounds)
         (λ (l : line < n). start_near line l)
         (λ (l : n ≤ line). ⊎_elim
         (λ (m : line < task_limit). idle l (inl m))
-        (λ (m : 30 ≤ line). ⊎_elim
-        (λ (f : line - 30 < counters).
-        let same : counter_line (line - 30) ≡ line = omega (arith, m) in
-        subst (λ k. IsInVectorReach (slice_index plan.handlers k)) same (tick_near (line - 30) f))
-        (λ (f : counters ≤ line - 30). idle l (inr (omega (arith, m, f))))
-        (cases_lt (line - 30) counters))
-        (cases_lt line 30))
+        (λ (m : first_counter_line ≤ line). ⊎_elim
+        (λ (f : line - first_counter_line < counters).
+        let same : counter_line (line - first_counter_line) ≡ line = omega (arith, m) in
+        subst (λ k. IsInVectorReach (slice_index plan.handlers k)) same (tick_near (line - first_counter_line) f))
+        (λ (f : counters ≤ line - first_counter_line). idle l (inr (omega (arith, m, f))))
+        (cases_lt (line - first_counter_line) counters))
+        (cases_lt line first_counter_line))
         (cases_lt line n)
 
     -- the extents of the code follow one another

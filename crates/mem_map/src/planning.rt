@@ -9,6 +9,7 @@ ghost use Rattle.mem_map.specs.Plan.{MayPlan, HasAddresses, idle_at, prologues_a
 ghost use Rattle.mem_map.specs.Starts.{code_byte_count};
 ghost use Rattle.sloth_base.specs.Owners.{first_counter_line, counter_line};
 ghost use Rattle.sloth_base.specs.Limits.{task_limit, counter_limit, item_limit, data_limit};
+ghost use Rattle.sloth_base.specs.MemoryMap.{line_count};
 ghost use Rattle.mem_map.specs.Planned.{IsPlanned};
 
 use crate::addresses::{handlers, place_services};
@@ -21,7 +22,7 @@ use sloth_base::app::App;
 use sloth_base::config::Config;
 use sloth_base::list::List;
 use sloth_base::memory::NoMemory;
-use sloth_base::memory_map::{BOOT_BASE, VECTORS_BASE};
+use sloth_base::memory_map::{BOOT_BASE, LINE_COUNT, VECTORS_BASE};
 use sloth_base::places::{BLOCK_COUNT, Bounds, Places};
 use sloth_region::map::Map;
 use stack_bounds::offsets;
@@ -34,7 +35,7 @@ const WORD: u32 = 4;
 #[derive(Drop)]
 struct Code {
     idle: u32,
-    handlers: [u32; 32],
+    handlers: [u32; LINE_COUNT],
     services: [u32; BLOCK_COUNT],
     items: List<u32>,
     end: u32,
@@ -61,12 +62,12 @@ fn plan_code(alloc: Global, lengths: &CodeLengths) -> Result<Code, AllocError>
     requires fits { (ticks_at lengths.now < 4294967296) × (services_at lengths.now < 4294967296) × (items_at lengths.now < 4294967296)
         × (code_end lengths.now < 4294967296) }
     ensures idle { IfOk result (λ code. code.idle ≡ idle_at lengths.now) }
-    ensures lines { IfOk result (λ code. length code.handlers ≡ 32) }
+    ensures lines { IfOk result (λ code. length code.handlers ≡ line_count) }
     ensures prologues { IfOk result (λ code. take (length lengths.now.prologues) code.handlers
         ≡ starts (prologues_at lengths.now) (map code_byte_count lengths.now.prologues)) }
     ensures ticks { IfOk result (λ code. (c : ℕ) → c < length lengths.now.ticks → slice_index code.handlers (counter_line c)
         ≡ get_or (tick_starts lengths.now) c 0) }
-    ensures unused { IfOk result (λ code. (line : ℕ) → length lengths.now.prologues ≤ line → line < 32
+    ensures unused { IfOk result (λ code. (line : ℕ) → length lengths.now.prologues ≤ line → line < line_count
         → (line < first_counter_line) ⊎ (counter_line (length lengths.now.ticks) ≤ line) → slice_index code.handlers line ≡ code.idle) }
     ensures services { IfOk result (λ code. code.services ≡ starts (services_at lengths.now) (map code_byte_count lengths.now.services)) }
     ensures items { IfOk result (λ code. code.items ≡ starts (items_at lengths.now) (map code_byte_count lengths.now.items)) }

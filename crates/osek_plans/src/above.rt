@@ -2,15 +2,14 @@
 ghost use Rattle.std.specs.Prelude.{◌≡◌, ◌<◌, ◌≤◌, ◌*◌, ◌%◌, ◌^◌, ℕ, bit_or, cond, length};
 ghost use Rattle.std.specs.Int.{bit_at};
 ghost use Rattle.sloth_base.specs.Limits.{task_limit, counter_limit};
+ghost use Rattle.sloth_base.specs.MemoryMap.{line_count};
 ghost use Rattle.osek_scheduler.specs.Priority.{rank};
 ghost use Rattle.osek_plans.specs.Above.{is_above, is_line_above};
 
 use crate::priority::{is_ready, rank};
 use crate::store::Store;
 use sloth_base::config::Config;
-
-/// The line of the first counter; the others follow it.
-const FIRST_COUNTER_LINE: u32 = 30;
+use sloth_base::lines::FIRST_COUNTER_LINE;
 
 // Whether a task is Ready and has a greater rank than another, whose rank is given.
 fn is_above(config: &Config, store: &Store, rank_of_task: u64, task: usize, other: usize) -> bool
@@ -24,7 +23,7 @@ fn is_above(config: &Config, store: &Store, rank_of_task: u64, task: usize, othe
 
 // A row of lines with one more.
 fn with_line(row: u32, line: u32) -> u32
-    requires { line < 32 }
+    requires { line < line_count }
     ensures { result ≡ bit_or row (1 * 2 ^ line % 2 ^ 32) }
 {
     row | 1 << line
@@ -59,7 +58,7 @@ pub fn lines_above(config: &Config, store: &Store, task: u32) -> u32
     let mut row = tasks_above(config, store, task);
     for counter in 0..config.counters.items().len() {
         if store.counter(counter).due {
-            row = with_line(row, FIRST_COUNTER_LINE + counter as u32);
+            row = with_line(row, u32::from(FIRST_COUNTER_LINE) + counter as u32);
         }
     }
     row

@@ -4,7 +4,7 @@ use Rattle.sloth_base.specs.declared.app.Width.TheVariants as width
 use Rattle.std.proofs.lemmas.Bool.Decides.{nat_tests}
 use Rattle.sloth_base.specs.Lines.{controller_byte, with_controller_byte}
 use Rattle.sloth_base.specs.Take.{take}
-use Rattle.sloth_base.specs.MemoryMap.{memory_base, controller_base, levels_offset}
+use Rattle.sloth_base.specs.MemoryMap.{memory_base, controller_base, levels_offset, line_count}
 use Rattle.rv32_machine.specs.declared.machine.Hart.{Hart}
 use Rattle.rv32_machine.specs.State.{state_of, pending_memory}
 use Rattle.rv32_instr.specs.Ram.{word_at}
@@ -18,13 +18,13 @@ put_back (byte ∷ bytes) (suc place) h = ap (λ bs. byte ∷ bs) (put_back byte
 
 -- the level byte of a line
 pub level_loads
-    : (memory : Memory) (line n : ℕ) → n ≡ line → line < 32 → memory.controller ≡ true
+    : (memory : Memory) (line n : ℕ) → n ≡ line → line < line_count → memory.controller ≡ true
     → refusal memory (controller_base + levels_offset + n) width.ByteU ≡ None
 unfolding refusal
 level_loads memory line n e h t = grind (arith, nat_tests)
 
 pub level_loaded
-    : (memory : Memory) (line n : ℕ) → n ≡ line → line < 32
+    : (memory : Memory) (line n : ℕ) → n ≡ line → line < line_count
     → loaded_number memory (controller_base + levels_offset + n) width.ByteU ≡ slice_index memory.lines.levels line
 unfolding loaded_number controller_byte
 level_loaded memory line n e h =
@@ -33,13 +33,13 @@ level_loaded memory line n e h =
 
 -- the pending byte of a line, set
 pub pending_stores
-    : (memory : Memory) (line n : ℕ) → n ≡ line → line < 32 → memory.controller ≡ true
+    : (memory : Memory) (line n : ℕ) → n ≡ line → line < line_count → memory.controller ≡ true
     → refusal memory (controller_base + n) width.Byte ≡ None
 unfolding refusal
 pending_stores memory line n e h t = grind (arith, nat_tests)
 
 pub pending_stored
-    : (memory : Memory) (line n : ℕ) → n ≡ line → line < 32
+    : (memory : Memory) (line n : ℕ) → n ≡ line → line < line_count
     → stored_memory memory (controller_base + n) width.Byte 1 ≡ pending_memory line memory
 unfolding stored_memory with_controller_byte
 pending_stored memory line n e h =

@@ -12,6 +12,7 @@ use sloth_base::config::{Action, AlarmDecl, Config, CounterDecl, EventDecl, Task
 use sloth_base::limits::{CEILING_COUNT, TASK_LIMIT};
 use sloth_base::list::List;
 use sloth_base::memory::NoMemory;
+use sloth_base::memory_map::LINE_COUNT;
 use sloth_base::name::Name;
 use sloth_base::numbers::TaskId;
 use sloth_base::places::{BLOCK_COUNT, Levels, Places};
@@ -281,7 +282,7 @@ pub fn map(alloc: Global) -> Result<Map, NoMemory>
 {
     let places = places(alloc)?;
     let areas = areas(alloc)?;
-    let mut handlers = [IDLE; 32];
+    let mut handlers = [IDLE; LINE_COUNT];
     handlers[0] = 0x800f_fffc;
     Ok(Map {
         extents: List::from_vec(areas.extents),

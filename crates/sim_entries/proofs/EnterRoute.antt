@@ -23,7 +23,7 @@ use Rattle.expansion_parts.specs.Expansion.{item_address}
 use Rattle.observe.specs.Observe.{View}
 use Rattle.osek_scheduler.specs.State.{Frame, System, task}
 use Rattle.sloth_base.specs.Named.{declaration, body_of}
-use Rattle.sloth_base.specs.MemoryMap.{memory_base, vectors_base, memory_bytes}
+use Rattle.sloth_base.specs.MemoryMap.{memory_base, vectors_base, memory_bytes, line_count}
 use Rattle.osek_scheduler.specs.Priority.{is_active}
 use Rattle.osek_scheduler.specs.Services as services
 use Rattle.osek_scheduler.specs.Steps.{OsekStep, settled_state}
@@ -65,7 +65,7 @@ none_touched (Some line) rest h = cc
 
 module _ (b : Build) (view : View) (arrivals : List Arrival) (setting : IsSetting (setting_of b view arrivals)) (fits : Fits b) (count : ℕ) (late_count : 0 < count)
     (state : State) (s : System) (stands : Stands b state s) where
-  few : length b.config.tasks ≤ 32
+  few : length b.config.tasks ≤ line_count
   few = let f = fits.few_tasks in omega arith
 
   abbrev now : State

@@ -15,7 +15,7 @@ use Rattle.osek_scheduler.specs.declared.state.TaskState.TheVariants as mode
 use Rattle.osek_scheduler.specs.State.{Frame, Task, System, HasBody, task, with_task}
 use Rattle.sloth_base.specs.Named.{declaration}
 use Rattle.sloth_base.specs.Limits.{task_limit}
-use Rattle.sloth_base.specs.MemoryMap.{memory_base}
+use Rattle.sloth_base.specs.MemoryMap.{memory_base, line_count}
 use Rattle.osek_scheduler.specs.Priority.{is_active}
 use Rattle.osek_scheduler.specs.Services.{started_task, entered_state}
 use Rattle.osek_scheduler.specs.Steps.{OsekStep, settled_state}
@@ -41,7 +41,7 @@ module _ (b : Build) (state end : State) (s : System) (t place own : ℕ) (fits 
     (declared : t < length b.config.tasks) (e : choose state.core ≡ Some t) (some : (task s t).frames ≢ []) (has_body : HasBody b.app t)
     (x2 : slice_index state.core.registers 2 ≡ memory_base + (place + 128)) (link : word_at state.core.ram (resume t) ≡ memory_base + own)
     (effect : EntersBehindWait b t place own state end) where
-  few : length b.config.tasks ≤ 32
+  few : length b.config.tasks ≤ line_count
   few = let f = fits.few_tasks in omega arith
 
   few30 : t < task_limit

@@ -17,7 +17,7 @@ use Rattle.masked_code.specs.Place.{offset_state, InPlace}
 use Rattle.expansion_parts.specs.Expansion.{item_address, expansion}
 use Rattle.sloth_base.specs.Named.{operation, function}
 use Rattle.sloth_base.specs.declared.lines.Owners.{Owners}
-use Rattle.sloth_base.specs.MemoryMap.{memory_base, memory_bytes}
+use Rattle.sloth_base.specs.MemoryMap.{memory_base, memory_bytes, line_count}
 use Rattle.rv32_expand.specs.InPlace.{result_register, item_mark, mark_of, last_address}
 use Rattle.observe.specs.Observe.{View, mark_at, running_task, outside_events, events_of_kind}
 use Rattle.osek_scheduler.specs.State.{System}
@@ -51,7 +51,7 @@ module _ (b : Build) (view : View) (arrivals : List Arrival) (progress : State �
   abbrev pub given : Setting
   given = setting_of b view arrivals
 
-  pub few : length b.config.tasks ≤ 32
+  pub few : length b.config.tasks ≤ line_count
   few = let f = here.fits.few_tasks in omega arith
 
   pub now : Stands b n s1

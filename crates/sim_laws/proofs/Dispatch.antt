@@ -92,7 +92,7 @@ use Rattle.service_gen.specs.TerminateTask.{Terminates}
 use Rattle.sloth_base.specs.declared.places.Levels.{Levels}
 use Rattle.sloth_base.specs.declared.service.Service.{Service}
 use Rattle.sloth_base.specs.declared.service.Service.TheVariants as service
-use Rattle.sloth_base.specs.MemoryMap.{memory_base}
+use Rattle.sloth_base.specs.MemoryMap.{memory_base, line_count}
 
 -- ---- calls of well-formed task code
 
@@ -156,7 +156,7 @@ module _ (b : Build) (image : Image) (kernel : Kernel b image) where
     abbrev s1 : System
     s1 = with_admits (lines_at arrivals count) s
 
-    few : length b.config.tasks ≤ 32
+    few : length b.config.tasks ≤ line_count
     few = let f = kernel.fits.few_tasks in omega arith
 
     abbrev Goes : Type 0

@@ -17,6 +17,7 @@ use Rattle.rv32_expand.proofs.InRangeOf.{frame_of}
 use Rattle.expansion_parts.specs.Expansion.{item_address, is_long, expansion}
 use Rattle.sloth_base.specs.Named.{operation}
 use Rattle.sloth_base.specs.Limits.{count_limit}
+use Rattle.sloth_base.specs.MemoryMap.{line_count}
 use Rattle.observe.specs.Observe.{View, view_of_image}
 use Rattle.osek_scheduler.specs.State.{Frame, System, task, opening}
 use Rattle.osek_scheduler.specs.Runs.{Leads}
@@ -90,7 +91,7 @@ module _ (b : Build) (image : Image) (kernel : Kernel b image) where
   abbrev view : View
   view = view_of_image image
 
-  few : length b.config.tasks ≤ 32
+  few : length b.config.tasks ≤ line_count
   few = let f = kernel.fits.few_tasks in omega arith
 
   few_instructions : (func item : ℕ) → length (expansion b.app b.places func item) ≤ 40

@@ -11,7 +11,7 @@ use Rattle.code_rules.specs.WellFormed.{WellFormed}
 use Rattle.stack_bounds.specs.Bounds.{MayMeet}
 use Rattle.sloth_base.specs.Named.{body_of}
 use Rattle.sloth_base.specs.Named.{function}
-use Rattle.sloth_base.specs.MemoryMap.{memory_base}
+use Rattle.sloth_base.specs.MemoryMap.{memory_base, line_count}
 use Rattle.sloth_base.specs.Limits.{frame_limit}
 use Rattle.prio_levels.specs.Levels.{AreLevels}
 use Rattle.vector_gen.specs.Boot.{Boots}
@@ -62,7 +62,7 @@ pub record IsGenerated (b : Build) (image : Image) (levels : Levels) (map : Map)
   pub is_image : IsImage b image
   pub bytes : AreBelow 256 image.memory
   pub vectors : List InstrKind
-  pub jumps : AreJumps 32 map.handlers vectors
+  pub jumps : AreJumps line_count map.handlers vectors
   pub vectors_placed : IsPlaced b 0x400 vectors
   pub boot : List InstrKind
   pub boots : Boots b.config.tasks (length b.config.counters) levels.task levels.top map.idle boot

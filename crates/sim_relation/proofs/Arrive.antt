@@ -9,6 +9,7 @@ use Rattle.rv32_instr.specs.Ram.{word_at}
 use Rattle.sloth_base.specs.Arrive.{state_arrive}
 use Rattle.sloth_base.specs.Owners.{first_counter_line, counter_line, owners_in, AreOwned}
 use Rattle.sloth_base.specs.Limits.{task_limit}
+use Rattle.sloth_base.specs.MemoryMap.{line_count}
 use Rattle.sloth_base.proofs.Owners.{IsCounterLine, owned_cases}
 use Rattle.osek_scheduler.specs.declared.state.Counter.{Counter}
 use Rattle.osek_scheduler.specs.declared.state.TaskState.{TaskState}
@@ -85,7 +86,7 @@ arrived_machine b state s k l = record {
   bases = k.fixed.bases;
 }
 
-module _ (b : Build) (state : State) (s : System) (l : ℕ) (k : Stands b state s) (inside : l < length b.config.tasks) (few : length b.config.tasks ≤ 32) where
+module _ (b : Build) (state : State) (s : System) (l : ℕ) (k : Stands b state s) (inside : l < length b.config.tasks) (few : length b.config.tasks ≤ line_count) where
   abbrev now : State
   now = state_arrive (l ∷ []) state
 

@@ -12,7 +12,7 @@ use Rattle.sloth_base.specs.PriorityLevels.{level_of}
 use Rattle.sloth_base.specs.Owners.{line_kind, owners_in}
 use Rattle.sloth_base.specs.declared.lines.LineKind.TheVariants as line_of
 use Rattle.sloth_base.specs.Limits.{ceiling_count}
-use Rattle.sloth_base.specs.MemoryMap.{memory_bytes}
+use Rattle.sloth_base.specs.MemoryMap.{memory_bytes, line_count}
 use Rattle.sim_relation.specs.Build.{Build}
 use Rattle.sim_relation.specs.Context.{RunsFirst}
 use Rattle.sim_relation.specs.ServiceWords.{AreServiceWords}
@@ -98,9 +98,9 @@ pub record IsFixed (b : Build) (core : Core) : Type 0 where
   pub controller : core.controller ≡ true
   pub registers : length core.registers ≡ 32
   pub zero : slice_index core.registers 0 ≡ 0
-  pub pending : length core.pending ≡ 32
-  pub enabled : length core.enabled ≡ 32
-  pub levels : length core.levels ≡ 32
+  pub pending : length core.pending ≡ line_count
+  pub enabled : length core.enabled ≡ line_count
+  pub levels : length core.levels ≡ line_count
   pub ram : length core.ram ≡ memory_bytes
   pub code : (i : ℕ) → b.is_code i ≡ true → slice_index core.ram i ≡ slice_index b.memory i
 

@@ -8,6 +8,7 @@ use Rattle.sloth_base.specs.declared.config.Action.{Action}
 use Rattle.sloth_base.specs.declared.config.Action.TheVariants.{Activate, Set}
 use Rattle.sloth_base.specs.Machine.{State}
 use Rattle.sloth_base.specs.Limits.{task_limit}
+use Rattle.sloth_base.specs.MemoryMap.{line_count}
 use Rattle.sloth_region.specs.Layout.{active, events, wait}
 use Rattle.rv32_instr.specs.Ram.{word_at, with_word}
 use Rattle.masked_code.proofs.Words.{word_at-same, get_or-with_word, length-with_word, word_below}
@@ -52,7 +53,7 @@ module _ (b : Build) (end : State) (fits : Fits b) where
   abbrev pub at : Ground → State
   at g = record { pc = end.pc; core = core_with_ground end.core g }
 
-  few_32 : length b.config.tasks ≤ 32
+  few_32 : length b.config.tasks ≤ line_count
   few_32 = let f = fits.few_tasks in omega arith
 
   -- the system stands there

@@ -16,7 +16,7 @@ pub enum LineKind {
 }
 
 /// The line of the first counter; the others follow it.
-pub const COUNTER_LINE: u8 = TASK_LIMIT as u8;
+pub const FIRST_COUNTER_LINE: u8 = TASK_LIMIT as u8;
 
 /// The owners of lines: so many tasks, and so many counters.
 #[derive(Clone, Copy, Debug, PartialEq, Eq)]
@@ -32,8 +32,8 @@ impl Owners {
     {
         if usize::from(line.0) < self.tasks {
             LineKind::Task(u32::from(line.0))
-        } else if COUNTER_LINE <= line.0 && usize::from(line.0 - COUNTER_LINE) < self.counters {
-            LineKind::Counter(u32::from(line.0 - COUNTER_LINE))
+        } else if FIRST_COUNTER_LINE <= line.0 && usize::from(line.0 - FIRST_COUNTER_LINE) < self.counters {
+            LineKind::Counter(u32::from(line.0 - FIRST_COUNTER_LINE))
         } else {
             LineKind::Unused
         }

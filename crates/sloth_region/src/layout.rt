@@ -2,7 +2,10 @@
 ghost use Rattle.std.specs.Prelude.{◌≡◌, ◌<◌, ◌≤◌, pos};
 ghost use Rattle.sloth_base.specs.Limits.{task_limit, counter_limit, alarm_limit};
 ghost use Rattle.sloth_base.specs.ConfigRange.{scheduler_number};
+ghost use Rattle.sloth_base.specs.MemoryMap.{line_count};
 ghost use Rattle.sloth_region.specs.Layout.{active, events, wait, counter_value, alarm_left, alarm_cycle, resume, saved_level, pending_byte, enabled_byte, level_byte};
+
+use sloth_base::memory_map::{ENABLED_OFFSET, LEVELS_OFFSET};
 
 /// Bits 31 to 12 of the address of the service words.
 pub const WORDS_HIGH: u32 = 0x8_0000;
@@ -102,7 +105,7 @@ pub fn saved(resource: u8) -> i32
 
 /// Whether a line is pending.
 pub fn pending_byte(line: u8) -> i32
-    requires { line < 32 }
+    requires { line < line_count }
     ensures { result ≡ pos (pending_byte line) }
 {
     line as i32
@@ -110,16 +113,16 @@ pub fn pending_byte(line: u8) -> i32
 
 /// Whether a line is enabled.
 pub fn enabled_byte(line: u8) -> i32
-    requires { line < 32 }
+    requires { line < line_count }
     ensures { result ≡ pos (enabled_byte line) }
 {
-    32 + line as i32
+    ENABLED_OFFSET as i32 + line as i32
 }
 
 /// The level of a line.
 pub fn level_byte(line: u8) -> i32
-    requires { line < 32 }
+    requires { line < line_count }
     ensures { result ≡ pos (level_byte line) }
 {
-    64 + line as i32
+    LEVELS_OFFSET as i32 + line as i32
 }

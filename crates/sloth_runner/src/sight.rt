@@ -9,7 +9,7 @@ use crate::looks::{instructions_through, look};
 use crate::runner::Runner;
 use rv32_machine::{SlothBus, Stop};
 use sloth_base::limits::{COUNTER_LIMIT, TASK_LIMIT};
-use sloth_base::lines::COUNTER_LINE;
+use sloth_base::lines::FIRST_COUNTER_LINE;
 use sloth_base::numbers::Line;
 use sloth_inspect::{levels, pending};
 
@@ -42,8 +42,8 @@ fn counters_pending(bus: &SlothBus) -> [bool; COUNTER_LIMIT]
     ensures { result ≡ pending_counters_in bus.now }
 {
     [
-        bus.is_pending(Line(COUNTER_LINE)),
-        bus.is_pending(Line(COUNTER_LINE + 1)),
+        bus.is_pending(Line(FIRST_COUNTER_LINE)),
+        bus.is_pending(Line(FIRST_COUNTER_LINE + 1)),
     ]
 }
 

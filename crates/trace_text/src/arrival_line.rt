@@ -10,8 +10,8 @@ ghost use Rattle.trace_text.specs.ArrivalsText.{last_moment, is_outside, is_t1, 
 
 use least_fault::{merge, when};
 use sloth_base::event::Arrival;
-use sloth_base::limits::{ARRIVAL_LIMIT, COUNT_LIMIT};
-use sloth_base::lines::COUNTER_LINE;
+use sloth_base::limits::{ARRIVAL_LIMIT, COUNT_LIMIT, TASK_LIMIT};
+use sloth_base::lines::FIRST_COUNTER_LINE;
 use sloth_base::name::Name;
 use sloth_base::numbers::Line;
 use sloth_base::refusal::{Code, Part, Refusal};
@@ -22,7 +22,7 @@ use text_pieces::numerals::value;
 const LINES: usize = 256;
 
 /// How many of them may be counters'.
-const COUNTER_LINES: usize = 226;
+const COUNTER_LINES: usize = LINES - TASK_LIMIT;
 
 // Empty, or a comment.
 fn is_comment(line: &[u8]) -> bool
@@ -91,7 +91,7 @@ fn named_line(tasks: &[Name], counters: &[Name], line: &[u8]) -> Option<u8>
         return Some(task as u8);
     }
     match named_among(COUNTER_LINES, counters, line) {
-        Some(counter) => Some(COUNTER_LINE + counter as u8),
+        Some(counter) => Some(FIRST_COUNTER_LINE + counter as u8),
         None => None,
     }
 }

@@ -1,6 +1,6 @@
 //! Boot: the levels and enable bytes of the lines of tasks and counters, and the first activations.
 ghost use Rattle.std.specs.Prelude.{ℕ, ◌^◌, slice_index, ◌≡◌, ◌++◌, [], ◌<◌, ◌≤◌, IfOk, OnOk, length};
-ghost use Rattle.sloth_base.specs.MemoryMap.{boot_base};
+ghost use Rattle.sloth_base.specs.MemoryMap.{boot_base, line_count};
 ghost use Rattle.sloth_base.specs.ConfigRange.{InRange};
 ghost use Rattle.code_lengths.specs.CodeLengths.{boot_length};
 ghost use Rattle.vector_gen.specs.Boot.{register_code, line_start_code, lines_code, counters_code, finishing_code, Boots};
@@ -15,7 +15,7 @@ use rv32_instr::csr::{MEPC, MPIE, MSTATUS};
 use rv32_instr::{Block, Instr};
 use sloth_base::config::{Config, CounterDecl, TaskDecl};
 use sloth_base::limits::TASK_LIMIT;
-use sloth_base::lines::COUNTER_LINE;
+use sloth_base::lines::FIRST_COUNTER_LINE;
 use sloth_base::list::List;
 use sloth_base::memory::NoMemory;
 use sloth_base::memory_map::BOOT_BASE;
@@ -57,7 +57,7 @@ fn begin(code: &mut Vec<Instr>) -> Result<(), AllocError>
 
 /// A line gets its level and is enabled, and is raised where its task is autostarted.
 fn start(code: &mut Vec<Instr>, line: u8, level: u8, autostart: bool) -> Result<(), AllocError>
-    requires { line < 32 }
+    requires { line < line_count }
     ensures { OnOk result (code.new.items ≡ code.old.items ++ line_start_code line level autostart) }
 {
     let enabled = [
@@ -92,7 +92,7 @@ fn start_counters(
     ensures byte { level < 256 }
 {
     for i in 0..counters.len() {
-        start(code, COUNTER_LINE + i as u8, level, false)?;
+        start(code, FIRST_COUNTER_LINE + i as u8, level, false)?;
     }
     Ok(())
 }

@@ -14,6 +14,7 @@ use Rattle.osek_scheduler.specs.declared.state.TaskState.TheVariants as mode
 use Rattle.osek_scheduler.specs.State.{Task, System, task, sleeping_task, opening}
 use Rattle.sloth_base.specs.Named.{declaration}
 use Rattle.sloth_base.specs.Limits.{task_limit}
+use Rattle.sloth_base.specs.MemoryMap.{line_count}
 use Rattle.osek_scheduler.specs.Services.{if_suspended, activated_state, started_task}
 use Rattle.osek_scheduler.specs.Steps.{OsekStep, admitted_state}
 use Rattle.osek_scheduler.specs.Runs.{Leads, ReadySince}
@@ -349,7 +350,7 @@ module _ (config : Config) (app : App) where
       }
 
   -- before the first event no task has been Ready since an admit
-  pub no_moments : (moments : List ℕ) → length moments ≡ 32 → ((u : ℕ) → get_or moments u 0 ≡ 0) → KeepsMoments config app [] (opening config app) moments
+  pub no_moments : (moments : List ℕ) → length moments ≡ line_count → ((u : ℕ) → get_or moments u 0 ≡ 0) → KeepsMoments config app [] (opening config app) moments
   no_moments moments count zeros = record {
     leads = refl;
     count = count;
