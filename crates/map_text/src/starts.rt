@@ -9,13 +9,10 @@ ghost use Rattle.map_text.specs.Rows.{address_behind_code, code_places, numbered
 use crate::piece_rows::{Kind, Start, tick_count};
 use sloth_base::config::Config;
 use sloth_base::lines::FIRST_COUNTER_LINE;
-use sloth_base::memory_map::{BOOT_BASE, MEMORY_BASE, VECTORS_BASE};
+use sloth_base::memory_map::{BOOT_BASE, MEMORY_BASE, VECTORS_BASE, WORD};
 use sloth_region::extent::Extent;
 use sloth_region::map::Map;
 use std::alloc::{AllocError, Global};
-
-/// The bytes behind the last symbol.
-const WORD: u32 = 4;
 
 /// The place of the zone of code among the extents of a map.
 const CODE: usize = 1;

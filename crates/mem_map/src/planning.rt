@@ -22,14 +22,11 @@ use sloth_base::app::App;
 use sloth_base::config::Config;
 use sloth_base::list::List;
 use sloth_base::memory::NoMemory;
-use sloth_base::memory_map::{BOOT_BASE, LINE_COUNT, VECTORS_BASE};
+use sloth_base::memory_map::{BOOT_BASE, LINE_COUNT, VECTORS_BASE, WORD};
 use sloth_base::places::{BLOCK_COUNT, Bounds, Places};
 use sloth_region::map::Map;
 use stack_bounds::offsets;
 use std::alloc::{AllocError, Global};
-
-/// The bytes of an instruction, and those behind the last symbol.
-const WORD: u32 = 4;
 
 /// The addresses of all code behind boot, and the address behind the last item.
 #[derive(Drop)]

@@ -9,7 +9,7 @@ ghost use Rattle.mem_map.specs.Zones.{data_zone};
 use crate::placing::{place_all, put};
 use sloth_base::list::List;
 use sloth_base::memory::NoMemory;
-use sloth_base::memory_map::{MEMORY_END, WORDS_BASE};
+use sloth_base::memory_map::{MEMORY_END, WORD, WORDS_BASE};
 use sloth_region::extent::Extent;
 use sloth_region::map::Map;
 use sloth_region::region::Region;
@@ -19,9 +19,8 @@ use std::alloc::Global;
 const RAM_LEN: u32 = MEMORY_END - WORDS_BASE;
 /// The bytes of the service words.
 const WORDS_LEN: u32 = 1020;
-/// Words begin at multiples of 4, stacks at multiples of 16.
-const WORD: u32 = 4;
 
+/// Stacks begin at multiples of 16, words at multiples of 4.
 const STACK: u32 = 16;
 
 /// The place of the zone of data among the extents of a map.
