@@ -26,7 +26,9 @@ fn is_too_much(count: usize, bytes: usize, line: &SourceLine) -> bool
     ensures { result ≡ is_too_much count bytes line.now }
 {
     is_data(line)
-        && (count == SYMBOL_LIMIT || bytes + number_of(line) as usize > DATA_LIMIT || has_long(line))
+        && (count == SYMBOL_LIMIT
+            || bytes + number_of(line) as usize > DATA_LIMIT
+            || has_long(line))
 }
 
 // The least fault of a line behind the first `count` symbols.

@@ -18,6 +18,9 @@ pub const PROGRAM_HEADER: usize = 32;
 /// The length of all headers, behind which the memory stands.
 pub const HEADERS: usize = 116;
 
+/// The bytes that memory has in the machine.
+const MEMORY: u32 = MEMORY_BYTES as u32;
+
 /// The ELF header: an executable of 32 bits, low byte first, for RISC-V, with two program headers.
 #[tactic(auto, unfolding(crate::specs::ElfText::elf_header, image_file::specs::Fields::four_bytes, image_file::specs::Fields::two_bytes))]
 pub fn elf_header() -> [u8; 52]
@@ -47,7 +50,7 @@ pub fn put_load_header(file: &mut Vec<u8>, size: u32) -> Result<(), NoMemory>
 {
     put_words(
         file,
-        &[1, 116, MEMORY_BASE, MEMORY_BASE, size, MEMORY_BYTES as u32, 7, 4],
+        &[1, 116, MEMORY_BASE, MEMORY_BASE, size, MEMORY, 7, 4],
     )
 }
 

@@ -40,7 +40,11 @@ pub fn locate(address: u32, width: Width, controller: bool) -> Result<Place, Bad
     if MEMORY_BASE <= address && address <= MEMORY_END - size {
         return Ok(Place::Ram(address - MEMORY_BASE));
     }
-    if controller && size == 1 && CONTROLLER_BASE <= address && address < CONTROLLER_BASE + CONTROLLER_BYTES {
+    if controller
+        && size == 1
+        && CONTROLLER_BASE <= address
+        && address < CONTROLLER_BASE + CONTROLLER_BYTES
+    {
         return Ok(Place::Controller(address - CONTROLLER_BASE));
     }
     Err(Bad::Access)

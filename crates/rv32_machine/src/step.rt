@@ -264,7 +264,10 @@ impl<B: Bus> Machine<B> {
         ensures count { self.new.count ≡ self.old.count }
     {
         self.hart = before;
-        match self.bus.store(CONTROLLER_BASE + u32::from(line.0), Width::Byte, 1) {
+        match self
+            .bus
+            .store(CONTROLLER_BASE + u32::from(line.0), Width::Byte, 1)
+        {
             Ok(()) => {}
             Err(_) => unreachable!(),
         }

@@ -32,7 +32,9 @@ impl Owners {
     {
         if usize::from(line.0) < self.tasks {
             LineKind::Task(u32::from(line.0))
-        } else if FIRST_COUNTER_LINE <= line.0 && usize::from(line.0 - FIRST_COUNTER_LINE) < self.counters {
+        } else if FIRST_COUNTER_LINE <= line.0
+            && usize::from(line.0 - FIRST_COUNTER_LINE) < self.counters
+        {
             LineKind::Counter(u32::from(line.0 - FIRST_COUNTER_LINE))
         } else {
             LineKind::Unused

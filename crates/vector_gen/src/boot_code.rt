@@ -70,7 +70,11 @@ fn start(code: &mut Vec<Instr>, line: u8, level: u8, autostart: bool) -> Result<
 }
 
 /// All tasks' lines.
-fn start_all(code: &mut Vec<Instr>, tasks: &[TaskDecl], levels: [u8; TASK_LIMIT]) -> Result<(), AllocError>
+fn start_all(
+    code: &mut Vec<Instr>,
+    tasks: &[TaskDecl],
+    levels: [u8; TASK_LIMIT],
+) -> Result<(), AllocError>
     requires { length tasks.now ≤ task_limit }
     ensures added { OnOk result (code.new.items ≡ code.old.items ++ lines_code 0 tasks.now levels) }
     ensures bytes { (line : ℕ) → slice_index levels line < 256 }

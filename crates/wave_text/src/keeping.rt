@@ -37,7 +37,11 @@ fn same_pending(tasks: usize, one: &[bool; TASK_LIMIT], other: &[bool; TASK_LIMI
 }
 
 // Whether the same lines of counters are pending.
-fn same_counters(counters: usize, one: &[bool; COUNTER_LIMIT], other: &[bool; COUNTER_LIMIT]) -> bool
+fn same_counters(
+    counters: usize,
+    one: &[bool; COUNTER_LIMIT],
+    other: &[bool; COUNTER_LIMIT],
+) -> bool
     requires { counters ≤ counter_limit }
     ensures { IsTrue result → (t : ℕ) → t < counters → get_or one.now t false ≡ get_or other.now t false }
 {

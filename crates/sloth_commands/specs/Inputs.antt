@@ -1,4 +1,0 @@
--- What commands read.
-use Rattle.std.specs.Prelude.{ℕ}
-use Rattle.trace_check.specs.Inputs.{AreRead}
-
