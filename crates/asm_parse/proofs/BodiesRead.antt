@@ -68,7 +68,7 @@ module _ (scope : Scope) (bodies : List BodyText)
       (λ l. l)
       (cases_lt body_limit (length bodies))
 
-  pub few_words : (i : ℕ) → i < length bodies → number_of (body_at bodies i).header ≤ 32
+  pub few_words : (i : ℕ) → i < length bodies → number_of (body_at bodies i).header ≤ frame_limit
   few_words i h =
       let header = (body_at bodies i).header in
       ltb-false frame_limit (number_of header) (or_parts (nat_lt frame_limit (number_of header)) (has_long header) (or_parts (length (take i bodies) == body_limit) _ (not_great i h)).1).0

@@ -21,7 +21,7 @@ pub fn start_level(decl: &TaskDecl, task: TaskId, levels: &Levels) -> u8
     requires exists { task < task_limit }
     requires levels { (levels.now.top < level_count) × ((t : ℕ) → slice_index levels.now.task t < level_count) }
     ensures is { result ≡ (if decl.now.non then levels.now.top else slice_index levels.now.task task) }
-    ensures low { result < 32 }
+    ensures low { result < level_count }
 {
     if decl.non {
         levels.top

@@ -5,7 +5,7 @@ use Rattle.std.proofs.lemmas.Bool.{eq-eqb, cases_eq, ne_eqb}
 use Rattle.sloth_base.specs.Machine.{Core, State}
 use Rattle.sloth_base.specs.Arrive.{arrive}
 use Rattle.sloth_base.specs.Status.{E_OK, E_OS_STATE}
-use Rattle.sloth_base.specs.MemoryMap.{memory_base, memory_bytes, controller_base}
+use Rattle.sloth_base.specs.MemoryMap.{memory_base, memory_bytes, controller_base, line_count}
 use Rattle.sloth_region.specs.Layout.{active, events, wait}
 use Rattle.rv32_instr.specs.declared.InstrKind.{InstrKind}
 use Rattle.rv32_instr.specs.Ram.{word_at, with_word}
@@ -74,7 +74,7 @@ module _ (offset task : ℕ) (c : Core) (h : MaySet offset task (masking ∷ bod
       (record (masked (based c)) { registers = 0 ∷ grown ∷ x2 ∷ controller_base ∷ memory_base ∷ set tail 5 E_OS_STATE; pending = p; ram = ram })
   asked_owe o p small not_suspended =
       let few = h.is_task in
-      let line : task < 32 = omega arith in
+      let line : task < line_count = omega arith in
       let v = bit_and grown waits_for in
       loads (wait task) (record { is = omega arith; aligned = omega arith; inside = omega arith }) waits_for (word_at-other c.ram (events task) grown (wait task) (inr (omega arith)))
       ▸ writes v refl

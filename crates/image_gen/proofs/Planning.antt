@@ -27,7 +27,7 @@ small_levels config levels few long are within t =
     (λ (g : length config.tasks ≤ t).
     ⊎_elim
     (λ (l : t < task_limit). let z = are.tasks.no_task t g l in omega (arith, z))
-    (λ (h : 30 ≤ t). let z = beyond levels.task t (omega (arith, long, h)) in omega (arith, z))
+    (λ (h : task_limit ≤ t). let z = beyond levels.task t (omega (arith, long, h)) in omega (arith, z))
     (cases_lt t task_limit))
     (cases_lt t (length config.tasks))
 

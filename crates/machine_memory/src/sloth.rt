@@ -12,6 +12,7 @@ use rv32_instr::Bad;
 use sloth_base::app::Width;
 use sloth_base::image::Image;
 use sloth_base::memory::NoMemory;
+use sloth_base::memory_map::LEVELS_OFFSET;
 use sloth_base::numbers::Line;
 use std::alloc::Global;
 use std::marker::Model;
@@ -75,7 +76,8 @@ impl SlothBus {
         requires { line < line_count }
         ensures { result ≡ slice_index self.now.lines.levels line }
     {
-        self.controller.load(64 + u32::from(line.0))
+        self.controller
+            .load(LEVELS_OFFSET as u32 + u32::from(line.0))
     }
 }
 

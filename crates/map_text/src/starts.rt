@@ -2,6 +2,7 @@
 ghost use Rattle.std.specs.Prelude.{◌≡◌, ◌<◌, ◌≤◌, ◌+◌, ◌++◌, ◌∷◌, [], IfOk, OnOk, drop, get_or, take};
 ghost use Rattle.sloth_base.specs.Owners.{first_counter_line};
 ghost use Rattle.sloth_base.specs.Limits.{counter_limit};
+ghost use Rattle.sloth_base.specs.MemoryMap.{line_count};
 ghost use Rattle.mem_map.specs.StackParts.{no_extent};
 ghost use Rattle.map_text.specs.Listable.{IsListable};
 ghost use Rattle.map_text.specs.Rows.{address_behind_code, code_places, numbered_starts, single_start, starts_of};
@@ -95,7 +96,7 @@ fn push_numbered(starts: &mut Vec<Start>, kind: Kind, addresses: &[u32]) -> Resu
 
 // The addresses of the prologues of so many tasks.
 fn prologues(map: &Map, tasks: usize) -> &[u32]
-    requires { tasks ≤ 32 }
+    requires { tasks ≤ line_count }
     ensures { result.now ≡ take tasks map.now.handlers }
 {
     &map.handlers[..tasks]

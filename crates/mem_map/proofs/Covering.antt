@@ -18,6 +18,7 @@ use Rattle.sloth_base.specs.declared.service.Service.{Service}
 use Rattle.sloth_base.specs.declared.service.Service.TheVariants as service
 use Rattle.sloth_base.specs.Blocks.{block_count, block_number}
 use Rattle.sloth_base.specs.MemoryMap.{vectors_base, memory_end}
+use Rattle.sloth_base.specs.Limits.{resource_limit}
 use Rattle.code_rules.specs.AppRange.{AppInRange, AreOperands, IsOp}
 use Rattle.code_rules.proofs.Objects.{object_number}
 use Rattle.expansion_parts.specs.Expansion.{item_address, block_address, is_long}
@@ -32,7 +33,7 @@ use Rattle.mem_map.proofs.Starts.{stands, next, starts_aligned, length_starts, e
 
 -- ---- objects of services
 
-object_few : (config : Config) (s : Service) (object mask : ℕ) → InRange config → AreOperands config s object mask → object ≤ 32
+object_few : (config : Config) (s : Service) (object mask : ℕ) → InRange config → AreOperands config s object mask → object ≤ resource_limit
 object_few config s object mask range h = object_number_few (object_kind s) object (object_number config range (object_kind s) object h.0)
 
 code_few : (s : Service) → code_of s ≤ 15

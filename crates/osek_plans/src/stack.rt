@@ -26,7 +26,7 @@ impl Model for Stack {
 
     ghost view = { λ s. reverse s.frames.items };
 
-    ghost invariant = { λ s. (vec_len s.frames ≤ body_limit) × (64 ≤ vec_capacity s.frames) };
+    ghost invariant = { λ s. (vec_len s.frames ≤ body_limit) × (body_limit ≤ vec_capacity s.frames) };
 }
 
 impl Stack {

@@ -177,7 +177,7 @@ module _ (config : Config) (app : App) (w : Facts config app) (t : ℕ) (k : Tas
       few : length config.resources ≤ resource_limit
       few = w.in_range.configuration.few_resources
 
-      at : (b : Bool) → (q == 32) ≡ b → cond b config.res_scheduler (ltb q (length config.resources)) ≡ true → is_resource config q ≡ true
+      at : (b : Bool) → (q == scheduler_number) ≡ b → cond b config.res_scheduler (ltb q (length config.resources)) ≡ true → is_resource config q ≡ true
       at b e found = subst (λ c. cond c config.res_scheduler (ltb q (length config.resources)) ≡ true) (sym e) found
 
       by : (q ≡ scheduler_number) ⊎ (q ≡ scheduler_number → ⊥) → IsResource config q → is_resource config q ≡ true

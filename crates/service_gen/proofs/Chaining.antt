@@ -5,7 +5,7 @@ use Rattle.std.proofs.lemmas.Bool.{cases_eq, eq-eqb, ne_eqb}
 use Rattle.sloth_base.specs.Machine.{Core, State}
 use Rattle.sloth_base.specs.Arrive.{arrive, state_arrive}
 use Rattle.sloth_base.specs.Status.{E_OS_LIMIT}
-use Rattle.sloth_base.specs.MemoryMap.{memory_base, memory_bytes, controller_base}
+use Rattle.sloth_base.specs.MemoryMap.{memory_base, memory_bytes, controller_base, line_count}
 use Rattle.sloth_region.specs.Layout.{cur, active}
 use Rattle.rv32_instr.specs.declared.InstrKind.{InstrKind}
 use Rattle.rv32_instr.specs.declared.InstrKind.TheVariants.{Addi}
@@ -41,7 +41,7 @@ module _ (offset task own place : ℕ) (c : Core) (h : MayChain offset task own 
   inside : offset + 252 ≤ memory_bytes
   inside = let f = h.goes_back.can_run.inside in omega arith
 
-  line : task < 32
+  line : task < line_count
   line = let s = h.is_task in omega arith
 
   abbrev st : List ℕ → State

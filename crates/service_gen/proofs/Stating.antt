@@ -6,7 +6,7 @@ use Rattle.sloth_base.specs.Machine.{Core, State}
 use Rattle.sloth_base.specs.Arithmetic.{plus, one_if, left_shift}
 use Rattle.sloth_base.specs.Arrive.{arrive}
 use Rattle.sloth_base.specs.Status.{E_OK}
-use Rattle.sloth_base.specs.MemoryMap.{memory_base, memory_bytes, controller_base}
+use Rattle.sloth_base.specs.MemoryMap.{memory_base, memory_bytes, controller_base, line_count}
 use Rattle.sloth_base.specs.Limits.{task_limit}
 use Rattle.sloth_region.specs.Layout.{cur, active}
 use Rattle.rv32_instr.specs.declared.InstrKind.{InstrKind}
@@ -51,7 +51,7 @@ told_other task own x y ne =
     (cases_lt 0 (apart own task))
 
 module _ (offset task own : ℕ) (c : Core) (h : MayTellState offset task own (masking ∷ body task) c) where
-  line : task < 32
+  line : task < line_count
   line = let s = h.is_task in omega arith
 
   abbrev st : List ℕ → State

@@ -58,7 +58,7 @@ module _ (from to : ℕ) (E : List ℕ → State → State → Type 0) (start : 
       ▸ go (o + 4)
   raises_owe false line o code c h go three four = go o
 
-  starts_owe : (tasks : List TaskDecl) (line o x1 : ℕ) (code : List InstrKind) (c : Core) → line + length tasks ≤ 32
+  starts_owe : (tasks : List TaskDecl) (line o x1 : ℕ) (code : List InstrKind) (c : Core) → line + length tasks ≤ line_count
       → ((o' x1' : ℕ) → Owes from to o' code 0 E start (with_x1 x1' (record c { levels = levels_with line tasks levels c.levels; enabled = enabled_with line tasks c.enabled; pending = pending_with line tasks c.pending })))
       → Owes from to o (lines_code line tasks levels ++ code) 0 E start (with_x1 x1 c)
   starts_owe [] line o x1 code c h go = go o x1
@@ -80,7 +80,7 @@ module _ (from to : ℕ) (E : List ℕ → State → State → Type 0) (start : 
       ▸ sets_level line (omega arith, omega arith)
       ▸ subst (λ b. Owes from to o2 (Sb 3 4 (pos (enabled_byte line)) ∷ ((line_code line task.autostart ++ lines_code (suc line) tasks levels) ++ code)) 0 E start (with_x1 v (record c { levels = set c.levels line b }))) (sym e) levelled
 
-  counters_owe : (count line v o x1 : ℕ) (code : List InstrKind) (c : Core) → line + count ≤ 32 → v < 256
+  counters_owe : (count line v o x1 : ℕ) (code : List InstrKind) (c : Core) → line + count ≤ line_count → v < 256
       → ((o' x1' : ℕ) → Owes from to o' code 0 E start (with_x1 x1' (record c { levels = filled count line v c.levels; enabled = filled count line 1 c.enabled })))
       → Owes from to o (counters_code count line v ++ code) 0 E start (with_x1 x1 c)
   counters_owe zero line v o x1 code c h byte go = go o x1

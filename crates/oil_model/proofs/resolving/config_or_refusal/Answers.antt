@@ -6,6 +6,7 @@ use Rattle.sloth_base.specs.declared.refusal.Refusal.{Refusal}
 use Rattle.sloth_base.specs.ConfigRange.{InRange}
 use Rattle.sloth_base.specs.ImageRange.{IsWord}
 use Rattle.sloth_base.specs.Limits.{resource_limit}
+use Rattle.sloth_base.specs.MemoryMap.{line_count}
 use Rattle.least_fault.specs.Search.{Finds}
 use Rattle.oil_parse.specs.declared.tree.OilObject.{OilObject}
 use Rattle.oil_parse.specs.Words.{IsObjectOfWords}
@@ -29,7 +30,7 @@ config_of-requires-clause-few_tasks c =
     let none = subst (λ (o : Option Refusal). Finds (ModelFault tree) o) c.in_default.is c.in_ok-refusal.ensures in
     let n = number_of_names tree none (codes "TASK") in
     let few = few_tasks tree none in
-    subst (λ (x : List OilObject). length (names_of (codes "TASK") x) ≤ 32) (sym c.items.ensures) (omega (arith, n, few))
+    subst (λ (x : List OilObject). length (names_of (codes "TASK") x) ≤ line_count) (sym c.items.ensures) (omega (arith, n, few))
 
 pub config_of-requires-clause-few_counters : goal.config_of-requires-clause-few_counters
 config_of-requires-clause-few_counters c =
@@ -37,7 +38,7 @@ config_of-requires-clause-few_counters c =
     let none = subst (λ (o : Option Refusal). Finds (ModelFault tree) o) c.in_default.is c.in_ok-refusal.ensures in
     let n = number_of_names tree none (codes "COUNTER") in
     let few = few_counters tree none in
-    subst (λ (x : List OilObject). length (names_of (codes "COUNTER") x) ≤ 32) (sym c.items.ensures) (omega (arith, n, few))
+    subst (λ (x : List OilObject). length (names_of (codes "COUNTER") x) ≤ line_count) (sym c.items.ensures) (omega (arith, n, few))
 
 pub returns-clause-in_range : goal.returns-clause-in_range
 returns-clause-in_range c =
