@@ -4,6 +4,7 @@ use Rattle.sloth_base.specs.declared.service.Service.TheVariants as service
 use Rattle.sloth_base.specs.Machine.{Core, State}
 use Rattle.sloth_base.specs.Status.{E_OK, E_OS_STATE, E_OS_VALUE}
 use Rattle.sloth_base.specs.Ticks.{ticks_to}
+use Rattle.sloth_base.specs.Limits.{counter_limit}
 use Rattle.sloth_region.specs.Layout.{counter_value, alarm_left, alarm_cycle}
 use Rattle.rv32_instr.specs.declared.InstrKind.{InstrKind}
 use Rattle.rv32_instr.specs.Ram.{word_at, with_word}
@@ -77,7 +78,7 @@ SetsRelative alarm max least code =
 -- the code can run; the counter's value is at most the greatest, and the value that is to come is a word
 pub record MaySetAbsolute (offset alarm counter max : ℕ) (code : List InstrKind) (core : Core) : Type 0 where
   pub may_use : MayUse offset alarm code core
-  pub is_counter : counter < 2
+  pub is_counter : counter < counter_limit
   pub is_word : first_operand core < 2 ^ 32
   pub value : word_at core.ram (counter_value counter) ≤ max
 

@@ -29,7 +29,7 @@ use crate::alarms::alarms_of;
 use block_parts::marks::opening;
 use rv32_instr::{Block, Instr};
 use sloth_base::config::Config;
-use sloth_base::lines::COUNTER_LINE;
+use sloth_base::lines::FIRST_COUNTER_LINE;
 use sloth_base::list::List;
 use sloth_base::memory::NoMemory;
 use sloth_base::places::{Levels, block_number};
@@ -57,7 +57,7 @@ pub fn tick(
     let max = config.counters.items()[counter as usize].max;
     let code = tick_code::code(alloc, counter as u8, max, &alarms)?;
     Ok(Block {
-        at: map.handlers[usize::from(COUNTER_LINE) + counter as usize],
+        at: map.handlers[usize::from(FIRST_COUNTER_LINE) + counter as usize],
         code: List::from_vec(code),
         marks: List::from_vec(Vec::new(alloc)),
     })

@@ -13,6 +13,8 @@ use Rattle.sloth_base.specs.declared.service.Service.{Service}
 use Rattle.sloth_base.specs.declared.service.Service.TheVariants as service
 use Rattle.sloth_base.specs.Arithmetic.{size_of}
 use Rattle.sloth_base.specs.Named.{item_of, label_of, symbol_size}
+use Rattle.sloth_base.specs.ConfigRange.{scheduler_number}
+use Rattle.sloth_base.specs.Limits.{mask_limit}
 use Rattle.code_rules.specs.AppRange.{AppInRange, IsOp}
 use Rattle.code_rules.specs.Code.{is_followed, way, Ends, Pauses, is_in, is_last}
 use Rattle.code_rules.specs.WellFormed.{AccessesPast, IsUneven, MasksPast, RunsOut, ReleasesOther, TakesHeld, LeavesHolding, LeavesWrongly}
@@ -58,8 +60,8 @@ Decides-is_uneven (op.LoadAt w rd y index mask) = differs_decides (mask % size_o
 Decides-is_uneven (op.StoreAt w rs y index mask) = differs_decides (mask % size_of w) 0
 Decides-is_uneven _ = none
 
-mask_decides : (app : App) (mask y w : ℕ) → Decides (nat_lt 32767 mask || nat_lt (symbol_size app y) (mask + w)) ((32767 < mask) ⊎ (symbol_size app y < mask + w))
-mask_decides app mask y w = Decides-or (nat_lt 32767 mask) (nat_lt (symbol_size app y) (mask + w)) (Decides-ltb 32767 mask) (Decides-ltb (symbol_size app y) (mask + w))
+mask_decides : (app : App) (mask y w : ℕ) → Decides (nat_lt mask_limit mask || nat_lt (symbol_size app y) (mask + w)) ((mask_limit < mask) ⊎ (symbol_size app y < mask + w))
+mask_decides app mask y w = Decides-or (nat_lt mask_limit mask) (nat_lt (symbol_size app y) (mask + w)) (Decides-ltb mask_limit mask) (Decides-ltb (symbol_size app y) (mask + w))
 
 pub Decides-masks_past : (app : App) (o : Op) → Decides (masks_past app o) (MasksPast app o)
 Decides-masks_past app (op.LoadAt w rd y index mask) = mask_decides app mask y (size_of w)

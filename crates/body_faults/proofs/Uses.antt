@@ -4,6 +4,7 @@ use Rattle.std.specs.Prelude.{◌==◌, bit_and}
 use Rattle.std.specs.Bool.{Decides}
 use Rattle.std.proofs.lemmas.Bool.{and_parts, and_from}
 use Rattle.std.proofs.lemmas.Bool.Decides.{Decides-and, Decides-not}
+use Rattle.sloth_base.specs.ConfigRange.{scheduler_number}
 use Rattle.sloth_base.specs.declared.config.Config.{Config}
 use Rattle.sloth_base.specs.declared.app.App.{App}
 use Rattle.sloth_base.specs.declared.app.Op.{Op}
@@ -37,9 +38,9 @@ module _ (config : Config) (app : App) (in_range : AppInRange config app) where
   Decides-lacks : (t mask : ℕ) → Decides (lacks config t mask) (¬ (HasEvents (declaration config t) mask))
   Decides-lacks t mask = differs_decides (bit_and mask (declaration config t).events) mask
 
-  Decides-is_unlisted : (f users r : ℕ) → ((t : ℕ) → Decides (is_member users t) (TaskReaches app t f)) → Decides (not (r == 32) && is_unlisted config users r) (IsUnlisted config app f r)
+  Decides-is_unlisted : (f users r : ℕ) → ((t : ℕ) → Decides (is_member users t) (TaskReaches app t f)) → Decides (not (r == scheduler_number) && is_unlisted config users r) (IsUnlisted config app f r)
   Decides-is_unlisted f users r reach =
-      Decides-and (not (r == 32)) (is_unlisted config users r) (differs_decides r 32)
+      Decides-and (not (r == scheduler_number)) (is_unlisted config users r) (differs_decides r 32)
       (some_user f users (λ t. not (is_in r (declaration config t).resources)) (λ t. ¬ (Lists (declaration config t) r)) reach
       (λ t. Decides-not (is_in r (declaration config t).resources) (itself (is_in r (declaration config t).resources))))
 

@@ -9,6 +9,7 @@ use Rattle.sloth_base.specs.declared.service.Service.{Service}
 use Rattle.sloth_base.specs.declared.service.Service.TheVariants as service
 use Rattle.sloth_base.specs.Arithmetic.{size_of}
 use Rattle.sloth_base.specs.Named.{item_of, label_of, symbol_size}
+use Rattle.sloth_base.specs.Limits.{mask_limit}
 use Rattle.code_rules.specs.Code.{is_followed, way, is_in, is_last}
 use Rattle.call_graph.specs.declared.ranking.Ranks.{Ranks}
 use Rattle.call_graph.specs.Bits.{is_member}
@@ -32,8 +33,8 @@ is_uneven _ = false
 
 -- V4
 abbrev pub masks_past : App → Op → Bool
-masks_past app (op.LoadAt w rd y index mask) = nat_lt 32767 mask || nat_lt (symbol_size app y) (mask + size_of w)
-masks_past app (op.StoreAt w rs y index mask) = nat_lt 32767 mask || nat_lt (symbol_size app y) (mask + size_of w)
+masks_past app (op.LoadAt w rd y index mask) = nat_lt mask_limit mask || nat_lt (symbol_size app y) (mask + size_of w)
+masks_past app (op.StoreAt w rs y index mask) = nat_lt mask_limit mask || nat_lt (symbol_size app y) (mask + size_of w)
 masks_past app _ = false
 
 -- the label of this number stands behind the last item

@@ -21,15 +21,13 @@ use call_graph::ranking::Ranks;
 use itoa::Buffer;
 use sloth_base::app::App;
 use sloth_base::config::{Config, TaskDecl};
+use sloth_base::limits::ITEM_COUNTS;
 use sloth_base::memory::NoMemory;
 use sloth_base::refusal::BuildError;
 use sloth_source::{Ranked, read_ranked};
 use std::alloc::Global;
 use task_verify::verified::Verified;
 use task_verify::verify;
-
-/// The most counts of an item: 40 of its own, and 160 of the generated code behind it.
-const ITEM_COUNTS: u32 = 200;
 
 // A bound in items and in counts.
 fn bound_text(alloc: Global, bound: Bound) -> Result<Vec<u8>, NoMemory>

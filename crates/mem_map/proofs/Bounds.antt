@@ -14,6 +14,7 @@ use Rattle.sloth_base.specs.declared.service.ObjectKind.TheVariants as object
 use Rattle.sloth_base.specs.declared.service.Service.{Service}
 use Rattle.sloth_base.specs.Blocks.{block_count, block_service, block_object}
 use Rattle.sloth_base.specs.ServiceCodes.{object_kind, IsObjectNumber}
+use Rattle.sloth_base.specs.Limits.{task_limit, alarm_limit, resource_limit}
 use Rattle.code_rules.specs.AppRange.{AppInRange}
 use Rattle.rv32_expand.specs.InPlace.{IsItem}
 use Rattle.rv32_expand.specs.Sizes.{AreItemSizes, items_before}
@@ -116,9 +117,9 @@ one_if false = 0
 -- the number is that of an object of the kind
 abbrev is_object : ObjectKind → ℕ → Bool
 is_object object.Nothing o = o == 0
-is_object object.Task o = nat_lt o 30
-is_object object.Resource o = nat_le o 32
-is_object object.Alarm o = nat_lt o 32
+is_object object.Task o = nat_lt o task_limit
+is_object object.Resource o = nat_le o resource_limit
+is_object object.Alarm o = nat_lt o alarm_limit
 
 -- the service may have the object
 abbrev may_have : Option Service → ℕ → Bool
@@ -136,9 +137,9 @@ all_allowed = refl
 
 has_object : (kind : ObjectKind) (o : ℕ) → IsObjectNumber kind o → is_object kind o ≡ true
 has_object object.Nothing o h = eq-eqb o 0 h
-has_object object.Task o h = lt-ltb o 30 h
-has_object object.Resource o h = le-leb o 32 h
-has_object object.Alarm o h = lt-ltb o 32 h
+has_object object.Task o h = lt-ltb o task_limit h
+has_object object.Resource o h = le-leb o resource_limit h
+has_object object.Alarm o h = lt-ltb o alarm_limit h
 
 is_one : (k : ℕ) → IsServicePlace k → one_if (may_have (block_service k) (block_object k)) ≡ 1
 unfolding one_if

@@ -19,5 +19,5 @@ pub use objects::{
     declares, first_is, first_number, first_use, has_scheduler, is_of_kind, is_use, is_used,
     number_of,
 };
-pub use table::{Attribute, GREATEST_VALUE, Place, attribute_of, block_place, is_single, is_word};
+pub use table::{Attribute, Place, attribute_of, block_place, is_single, is_word};
 pub use uses::{EarlierUses, is_second};

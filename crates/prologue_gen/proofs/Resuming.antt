@@ -6,8 +6,9 @@ use Rattle.std.proofs.lemmas.List.{get_or-set_same, get_or-set_other, length-set
 use Rattle.sloth_base.specs.Machine.{Core, State}
 use Rattle.sloth_base.specs.Arithmetic.{plus}
 use Rattle.sloth_base.specs.Status.{E_OK}
-use Rattle.sloth_base.specs.MemoryMap.{memory_base}
-use Rattle.sloth_region.specs.Layout.{cur, active, resume, below_word, idle_context, context_bytes, controller_base}
+use Rattle.sloth_base.specs.MemoryMap.{memory_base, memory_bytes, controller_base}
+use Rattle.sloth_base.specs.Limits.{task_limit, level_count, frame_limit}
+use Rattle.sloth_region.specs.Layout.{cur, active, resume, below_word, idle_context, context_bytes}
 use Rattle.rv32_instr.specs.declared.InstrKind.{InstrKind}
 use Rattle.rv32_instr.specs.Ram.{word_at, with_word, with_words}
 use Rattle.masked_code.specs.Place.{offset_state, InPlace}
@@ -68,11 +69,11 @@ entry_keeps c task place p far past below activity =
     ∙ word_at-others ws c.ram (place + 4 * 5) p (grind (arith, far, few))
 
 -- the resume word stands apart from it
-kept_word : (c : Core) (task place : ℕ) → task < 30 → idle_context ≤ place → word_at (with_entry c task place) (resume task) ≡ word_at c.ram (resume task)
+kept_word : (c : Core) (task place : ℕ) → task < task_limit → idle_context ≤ place → word_at (with_entry c task place) (resume task) ≡ word_at c.ram (resume task)
 kept_word c task place is_task past = entry_keeps c task place (resume task) (inl (omega arith)) (omega arith) (inr (omega arith)) (inr (omega arith))
 
 -- no context is kept: the task starts anew
-module _ (from to task level first place frame words : ℕ) (c : Core) (is_task : task < 30) (past : idle_context ≤ place) (none : word_at c.ram (resume task) ≡ 0) where
+module _ (from to task level first place frame words : ℕ) (c : Core) (is_task : task < task_limit) (past : idle_context ≤ place) (none : word_at c.ram (resume task) ≡ 0) where
   abbrev E : List ℕ → State → State → Type 0
   E = Entered task level first place frame words
 
@@ -80,7 +81,7 @@ module _ (from to task level first place frame words : ℕ) (c : Core) (is_task 
   start = offset_state (vector task) (based c)
 
   -- what is owed of the question whether a context is kept, where none is: the task starts anew
-  pub fresh_owe : (o x1 : ℕ) → o ≤ 0x20_0000
+  pub fresh_owe : (o x1 : ℕ) → o ≤ memory_bytes
       → ((o' : ℕ) → Owes from to o' (starts (memory_base + frame) words first) 0 E start (entered task level place c 0 1))
       → Owes from to o (either task (memory_base + frame) words first) 0 E start (entered task level place c x1 1)
   fresh_owe o x1 small go =
@@ -94,16 +95,16 @@ module _ (from to task level first place frame words : ℕ) (c : Core) (is_task 
 
 -- what a task that goes on behind a wait needs: the word of its context names one at `own`, apart from that of what it preempts
 pub record IsKept (from task level place own : ℕ) (c : Core) : Type 0 where
-  pub is_task : task < 30
-  pub low_level : level < 32
+  pub is_task : task < task_limit
+  pub low_level : level < level_count
   pub masked : c.mie ≡ false
   pub previous : c.mpie ≡ true
   pub past : idle_context ≤ place
-  pub inside : place + context_bytes ≤ 0x20_0000
+  pub inside : place + context_bytes ≤ memory_bytes
   pub is : word_at c.ram (resume task) ≡ memory_base + own
   pub aligned : own % 4 ≡ 0
   pub own_past : 1024 ≤ own
-  pub own_inside : own + context_bytes ≤ 0x20_0000
+  pub own_inside : own + context_bytes ≤ memory_bytes
   pub apart : (own + context_bytes ≤ place) ⊎ (place + context_bytes ≤ own)
   pub returns : word_at c.ram own % 4 ≡ 0
   pub low : 1024 ≤ from
@@ -198,7 +199,7 @@ module _ (from to task level place own : ℕ) (c : Core) (rest : List InstrKind)
       writes E_OK (ap (λ z. plus z (pos E_OK)) zero_there)
       ▸ done
 
-  own_fits : own + 4 * (5 + 27) ≤ 0x20_0000
+  own_fits : own + 4 * (5 + 27) ≤ memory_bytes
   own_fits = omega arith
 
   restored_owe : (o : ℕ) → Owes from to o (restoring_code 27 5 1 ++ (wait_answer_code ++ rest)) 0 R begun stored
@@ -219,7 +220,7 @@ module _ (from to task level place own : ℕ) (c : Core) (rest : List InstrKind)
   not_zero e = absurd (omega arith)
 
   -- what is owed of the question where one is: the task goes on
-  pub resumed_owe : (o x1 x2 : ℕ) → o ≤ 0x20_0000 → Owes from to o (asks_first task rest) 0 R begun (entered task level place c x1 x2)
+  pub resumed_owe : (o x1 x2 : ℕ) → o ≤ memory_bytes → Owes from to o (asks_first task rest) 0 R begun (entered task level place c x1 x2)
   resumed_owe o x1 x2 small =
       loads (resume task) (record { is = omega arith; aligned = omega arith; inside = omega arith }) at_own (kept_word (based c) task place is_kept.is_task is_kept.past ∙ is_kept.is)
       ▸ record {
@@ -232,7 +233,7 @@ module _ (from to task level place own : ℕ) (c : Core) (rest : List InstrKind)
 length-code : (task level frame words first : ℕ) → length (code task level frame words first) ≡ words + 108
 length-code task level frame words first = let e = length-starts frame words first in omega arith
 
-module _ (task level first frame words : ℕ) (is_task : task < 30) (low_level : level < 32) (first_fits : first < 2 ^ 32) (few : words ≤ 32) (offset place : ℕ) (c : Core) where
+module _ (task level first frame words : ℕ) (is_task : task < task_limit) (low_level : level < level_count) (first_fits : first < 2 ^ 32) (few : words ≤ frame_limit) (offset place : ℕ) (c : Core) where
   abbrev whole : List InstrKind
   whole = code task level (memory_base + frame) words first
 
@@ -255,7 +256,7 @@ module _ (task level first frame words : ℕ) (is_task : task < 30) (low_level :
       (omega arith)
       (subst (λ x. Owes offset to offset whole 0 E (offset_state (vector task) x) x) (based_is c can.registers can.zero bases) all))
 
-  small_offset : CanRun offset whole c → offset + 168 ≤ 0x20_0000
+  small_offset : CanRun offset whole c → offset + 168 ≤ memory_bytes
   small_offset can =
       let long = length-code task level (memory_base + frame) words first in
       let fits = can.inside in
@@ -300,7 +301,7 @@ module _ (task level first frame words : ℕ) (is_task : task < 30) (low_level :
       (λ o e. resumed_owe offset to task level place own c (starts (memory_base + frame) words first) kept o (memory_base + place) 1 (omega (arith, small, e))))
 
 -- so the whole code does one of the two
-pub enters_or_resumes : (task level first frame words : ℕ) → task < 30 → level < 32 → first < 2 ^ 32 → words ≤ 32
+pub enters_or_resumes : (task level first frame words : ℕ) → task < task_limit → level < level_count → first < 2 ^ 32 → words ≤ frame_limit
     → EntersOrResumes task level first frame words (code task level (memory_base + frame) words first)
 enters_or_resumes task level first frame words a b d f =
     let long = length-code task level (memory_base + frame) words first in

@@ -5,10 +5,10 @@ use Rattle.std.proofs.lemmas.List.{get_or-set_other}
 use Rattle.sloth_base.specs.Machine.{Core, State}
 use Rattle.rv32_instr.specs.declared.InstrKind.{InstrKind}
 use Rattle.rv32_instr.specs.declared.InstrKind.TheVariants.{Mret}
-use Rattle.sloth_region.specs.Layout.{controller_base}
 use Rattle.rv32_instr.specs.Ram.{with_words}
 use Rattle.sloth_base.specs.Arithmetic.{hi}
-use Rattle.sloth_base.specs.MemoryMap.{memory_base}
+use Rattle.sloth_base.specs.MemoryMap.{memory_base, memory_bytes, controller_base}
+use Rattle.sloth_base.specs.Limits.{task_limit, level_count, frame_limit}
 use Rattle.masked_code.specs.Place.{offset_state}
 use Rattle.masked_code.specs.Masked.{Masked, WithArrivals}
 use Rattle.masked_code.specs.Owes.{◌▸◌, writes, accesses, Owes}
@@ -35,9 +35,9 @@ starts frame words first = beginning_code frame first ++ last words
 abbrev pub code : ℕ → ℕ → ℕ → ℕ → ℕ → List InstrKind
 code task level frame words first = enters_first task level (starts frame words first)
 
-module _ (from to task level first place frame words : ℕ) (c : Core) (low_level : level < 32) (first_fits : first < 2 ^ 32)
+module _ (from to task level first place frame words : ℕ) (c : Core) (low_level : level < level_count) (first_fits : first < 2 ^ 32)
     (first_aligned : first % 4 ≡ 0) (masked : c.mie ≡ false) (previous : c.mpie ≡ true) (frame_aligned : frame % 4 ≡ 0)
-    (frame_inside : frame + 4 * words ≤ 0x20_0000) (frame_apart : (frame + 4 * words ≤ from) ⊎ (to ≤ frame)) where
+    (frame_inside : frame + 4 * words ≤ memory_bytes) (frame_apart : (frame + 4 * words ≤ from) ⊎ (to ≤ frame)) where
   abbrev sp : ℕ
   sp = memory_base + frame
 
@@ -102,7 +102,7 @@ module _ (from to task level first place frame words : ℕ) (c : Core) (low_leve
       (record stored { ram = with_words ram8 (frame + 4 * 0) (replicate words 0) })
   cleared_owe o = clears_owes from to (Entered task level first place frame words) start (Mret ∷ []) 25 5 o (o + 100) (record stored { ram = with_words ram8 (frame + 4 * 0) (replicate words 0) }) refl (lit≤ tt) refl done
 
-  frame_fits : frame + 4 * (0 + words) ≤ 0x20_0000
+  frame_fits : frame + 4 * (0 + words) ≤ memory_bytes
   frame_fits = omega arith
 
   frame_clear : (frame + 4 * (0 + words) ≤ from) ⊎ (to ≤ frame)
@@ -134,8 +134,8 @@ length-starts frame words first =
 length-code : (task level frame words first : ℕ) → length (code task level frame words first) ≡ words + 73
 length-code task level frame words first = let e = length-starts frame words first in omega arith
 
-module _ (task level first frame words : ℕ) (is_task : task < 30) (low_level : level < 32) (first_fits : first < 2 ^ 32) (first_aligned : first % 4 ≡ 0)
-    (few : words ≤ 32) (offset place : ℕ) (c : Core) (h : MayEnter offset task place frame words (code task level (memory_base + frame) words first) c) where
+module _ (task level first frame words : ℕ) (is_task : task < task_limit) (low_level : level < level_count) (first_fits : first < 2 ^ 32) (first_aligned : first % 4 ≡ 0)
+    (few : words ≤ frame_limit) (offset place : ℕ) (c : Core) (h : MayEnter offset task place frame words (code task level (memory_base + frame) words first) c) where
   abbrev whole : List InstrKind
   whole = code task level (memory_base + frame) words first
 
@@ -159,7 +159,7 @@ module _ (task level first frame words : ℕ) (is_task : task < 30) (low_level :
       (subst (λ x. Owes offset to offset whole 0 E (offset_state (vector task) x) x) (based_is c can.registers can.zero h.taken.bases) all))
 
 -- for each task, level, first instruction and frame
-pub enters : (task level first frame words : ℕ) → task < 30 → level < 32 → first < 2 ^ 32 → words ≤ 32 → Enters task level first frame words (code task level (memory_base + frame) words first)
+pub enters : (task level first frame words : ℕ) → task < task_limit → level < level_count → first < 2 ^ 32 → words ≤ frame_limit → Enters task level first frame words (code task level (memory_base + frame) words first)
 enters task level first frame words a b d f =
     let long = length-code task level (memory_base + frame) words first in
     record { size = omega arith; runs = λ offset place core e h. runs_it task level first frame words a b d e f offset place core h }

@@ -6,7 +6,7 @@ use Rattle.code_lengths.specs.CodeLengths.{prologue_length}
 use Rattle.sloth_region.specs.Layout.{cur, active, resume, below_word, context_bytes}
 use Rattle.rv32_instr.specs.declared.InstrKind.{InstrKind}
 use Rattle.rv32_instr.specs.Ram.{word_at, with_word}
-use Rattle.sloth_base.specs.MemoryMap.{memory_base}
+use Rattle.sloth_base.specs.MemoryMap.{memory_base, memory_bytes}
 use Rattle.masked_code.specs.Masked.{Masked, WithArrivals}
 use Rattle.masked_code.specs.Place.{offset_state}
 use Rattle.masked_code.specs.Kernel.{LeftAs}
@@ -24,7 +24,7 @@ pub record MayResume (offset task place own : ℕ) (code : List InstrKind) (core
   pub resumes : word_at core.ram (resume task) ≡ memory_base + own
   pub own_aligned : own % 4 ≡ 0
   pub own_behind : 1024 ≤ own
-  pub own_inside : own + context_bytes ≤ 0x20_0000
+  pub own_inside : own + context_bytes ≤ memory_bytes
   pub own_apart : (own + context_bytes ≤ place) ⊎ (place + context_bytes ≤ own)
   pub returns : word_at core.ram own % 4 ≡ 0
 

@@ -12,6 +12,7 @@ use Rattle.sloth_base.specs.declared.event.Event.TheVariants as event
 use Rattle.sloth_base.specs.declared.event.Stamped.{Stamped}
 use Rattle.sloth_base.specs.Events.{admitted_line, is_boot}
 use Rattle.sloth_base.specs.Stretches.{Boots, stretch_limit, longest_stretch}
+use Rattle.sloth_base.specs.Limits.{item_counts}
 use Rattle.code_rules.specs.WellFormed.{WellFormed}
 use Rattle.osek_scheduler.specs.State.{System, opening}
 use Rattle.osek_scheduler.specs.InTime.{IsOrdered, StandsBefore, is_admit}
@@ -25,7 +26,7 @@ use Rattle.osek_valid.proofs.Steps.{step_valid, opening_valid}
 use Rattle.osek_blocking.specs.Blocking.{is_entry_of, events_up_to_entry}
 use Rattle.osek_blocking.proofs.Ordering.{step_ordered, opening_ordered, leads_ordered}
 use Rattle.osek_blocking.proofs.Once.{block_once}
-use Rattle.raised_sections.specs.Pace.{item_counts, entry_counts, event_counts, takes_line, last_count, IsPaced}
+use Rattle.raised_sections.specs.Pace.{entry_counts, event_counts, takes_line, last_count, IsPaced}
 use Rattle.sim_induction.proofs.Events.{each_both}
 use Rattle.raised_sections.proofs.Counts.{behind_paced}
 use Rattle.raised_sections.proofs.Placed.{step_placed, opening_placed}

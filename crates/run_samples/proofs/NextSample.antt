@@ -7,6 +7,7 @@ use Rattle.sloth_base.specs.declared.image.Image.{Image}
 use Rattle.sloth_base.specs.declared.step.Step.{Step}
 use Rattle.sloth_base.specs.Machine.{State}
 use Rattle.sloth_base.specs.Take.{execution_state}
+use Rattle.sloth_base.specs.Limits.{task_limit}
 use Rattle.rv32_machine.specs.Start.{start}
 use Rattle.rv32_machine.specs.Advance.{Goes, Halts}
 use Rattle.rv32_machine.proofs.Runs.{stop_halts}
@@ -83,7 +84,7 @@ module _ (s : Sampler) (a c : Runner) (seen last : Option Seen) (interrupts : In
       let count : count_of q ≡ k + 1 = executed.count ∙ ap (λ n. n + 1) looked.count in
       let R : Image → Type 0 = λ i. HasRun q i (count_of q) in
       let N : ℕ → Type 0 = λ n. HasRun q image n in
-      let F : Image → Type 0 = λ i. length i.tasks ≤ 30 in
+      let F : Image → Type 0 = λ i. length i.tasks ≤ task_limit in
       let L : ℕ → Type 0 = λ n. IsLast image A n last in
       let B : List Arrival → Type 0 = λ xs. IsLast image xs (count_of q) last in
       let I : Image → Type 0 = λ i. IsLast i (given_arrivals q) (count_of q) last in

@@ -2,6 +2,7 @@
 ghost use Rattle.std.specs.Prelude.{◌≡◌, ◌<◌, [], ◌∷◌, IfOk};
 ghost use Rattle.sloth_base.specs.Arrive.{state_arrive};
 ghost use Rattle.sloth_base.specs.ImageRange.{InFormat};
+ghost use Rattle.sloth_base.specs.MemoryMap.{line_count};
 
 use crate::machine::Machine;
 use machine_memory::SlothBus;
@@ -25,7 +26,7 @@ impl Machine<SlothBus> {
 
     /// The line's pending byte becomes 1.
     pub fn arrive(&mut self, line: Line)
-        requires { line < 32 }
+        requires { line < line_count }
         ensures state { state (λ bus. bus) self.new ≡ state_arrive (line ∷ []) (state (λ bus. bus) self.old) }
         ensures count { self.new.count ≡ self.old.count }
     {

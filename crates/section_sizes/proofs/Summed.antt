@@ -7,12 +7,12 @@ use Rattle.sloth_base.specs.declared.app.App.{App}
 use Rattle.sloth_base.specs.declared.app.Op.{Op}
 use Rattle.sloth_base.specs.declared.app.Op.TheVariants as op
 use Rattle.sloth_base.specs.Named.{function, operation}
+use Rattle.sloth_base.specs.Limits.{size_limit}
 use Rattle.code_rules.specs.Code.{IsItem, Calls}
 use Rattle.call_graph.specs.Tables.{max_below}
 use Rattle.stack_bounds.proofs.Below.{max_below-at, max_below-some, last_or_before}
 use Rattle.bound_rules.specs.declared.bodies.Body.{Body}
 use Rattle.bound_rules.specs.declared.sizes.Summary.{Summary}
-use Rattle.section_sizes.specs.Trails.{MOST}
 use Rattle.section_sizes.specs.Parts.{is_raised, called_level, level_behind, ReachesItem, reaches_first, ReachesCall, EntersRaised, CountsBack, CountsOn, CountsOut, CountsWithin, out_here, out_behind, within_here, within_called, within_behind}
 use Rattle.bound_rules.specs.Items.{reaches_level}
 use Rattle.section_sizes.specs.Computed.{joined, KnownBody, known_body_of, known_raised, callee, endless_call, calls_endless, called_most, most_at, most_of, joined_both, called_out, out_at, out_of}
@@ -192,15 +192,15 @@ module _ (config : Config) (app : App) (level : Option ℕ) (f : ℕ) (there : f
 
     module _ (m : Measures config app level f) (z : Sizes config app level f m) where
       abbrev AttainsWithin : ℕ → Type 0
-      AttainsWithin size = (n : ℕ) × CountsWithin config app level f n × (min MOST n ≡ size)
+      AttainsWithin size = (n : ℕ) × CountsWithin config app level f n × (min size_limit n ≡ size)
 
       abbrev AttainsOut : ℕ → Type 0
-      AttainsOut size = (n : ℕ) × CountsOut config app level f n × (min MOST n ≡ size)
+      AttainsOut size = (n : ℕ) × CountsOut config app level f n × (min size_limit n ≡ size)
 
       abbrev N : ℕ
       N = length (function app f).items
 
-      on_small : (i n : ℕ) → ReachesItem app f i → CountsOn config app level f i n → min MOST n ≤ get_or z.on i 0
+      on_small : (i n : ℕ) → ReachesItem app f i → CountsOn config app level f i n → min size_limit n ≤ get_or z.on i 0
       on_small i n r part = on_none config app level f i n m z r part
 
       begins : (i n : ℕ) → CountsOn config app level f i n → i < N
@@ -225,17 +225,17 @@ module _ (config : Config) (app : App) (level : Option ℕ) (f : ℕ) (there : f
           at : (i : ℕ) → i < N → most_at K z.on i ≤ most_of K z.on
           at i lt = max_below-at N (most_at K z.on) i lt
 
-          here : (i n : ℕ) → ReachesItem app f i → CountsOn config app level f i n → min MOST n ≤ most_of K z.on
+          here : (i n : ℕ) → ReachesItem app f i → CountsOn config app level f i n → min size_limit n ≤ most_of K z.on
           here i n r part = let le = on_small i n r part in let more = at i (begins i n part) in omega (arith, le, more)
 
-          called : (i g n : ℕ) → ReachesCall app f i g → CountsWithin config app (Level i) g n → min MOST n ≤ most_of K z.on
+          called : (i g n : ℕ) → ReachesCall app f i g → CountsWithin config app (Level i) g n → min size_limit n ≤ most_of K z.on
           called i g n c part =
               let le = (exact i g c).most.none_larger n part in
               let more = at i c.item.inside in
               let is = called_most_is i g c in
               omega (arith, le, more, is)
 
-          behind : (i g n q : ℕ) → ReachesCall app f i g → CountsOut config app (Level i) g n → CountsOn config app level f (i + 1) q → min MOST (n + q) ≤ most_of K z.on
+          behind : (i g n q : ℕ) → ReachesCall app f i g → CountsOut config app (Level i) g n → CountsOn config app level f (i + 1) q → min size_limit (n + q) ≤ most_of K z.on
           behind i g n q c out part =
               let le = (exact i g c).out.none_larger n out in
               let rest = on_small (i + 1) q (reached_after config app level f i g n c out) part in
@@ -243,10 +243,10 @@ module _ (config : Config) (app : App) (level : Option ℕ) (f : ℕ) (there : f
               let is = called_most_is i g c in
               omega (arith, le, rest, more, is)
 
-          larger : (n : ℕ) → CountsWithin config app level f n → min MOST n ≤ most_of K z.on
+          larger : (n : ℕ) → CountsWithin config app level f n → min size_limit n ≤ most_of K z.on
           larger n w = cases_of level f n refl refl w
             where
-              cases_of : (l : Option ℕ) (h n : ℕ) → l ≡ level → h ≡ f → CountsWithin config app l h n → min MOST n ≤ most_of K z.on
+              cases_of : (l : Option ℕ) (h n : ℕ) → l ≡ level → h ≡ f → CountsWithin config app l h n → min size_limit n ≤ most_of K z.on
               cases_of l h n e d (within_here a b i q r part) =
                   here i q (subst (λ v. ReachesItem app v i) d r) (subst (λ v. CountsOn config app level v i q) d (subst (λ v. CountsOn config app v b i q) e part))
               cases_of l h n e d (within_called a b i g q c part) =
@@ -320,7 +320,7 @@ module _ (config : Config) (app : App) (level : Option ℕ) (f : ℕ) (there : f
           at : (i : ℕ) → i < N → out_at K z.back i ≤ out_of K z.back
           at i lt = max_below-at N (out_at K z.back) i lt
 
-          here : (i n : ℕ) → ReachesItem app f i → CountsBack config app level f i n → min MOST n ≤ out_of K z.back
+          here : (i n : ℕ) → ReachesItem app f i → CountsBack config app level f i n → min size_limit n ≤ out_of K z.back
           here i n r part =
               let le = back_none config app level f i n m z r part in
               let more = at i (back_begins config app level f i n part).item.inside in
@@ -330,7 +330,7 @@ module _ (config : Config) (app : App) (level : Option ℕ) (f : ℕ) (there : f
           both_is a b p q =
               ap (λ c. cond (c && ltb 0 b) (joined a b) 0) (lt-ltb 0 a p) ∙ ap (λ c. cond c (joined a b) 0) (lt-ltb 0 b q)
 
-          behind : (i g n q : ℕ) → ReachesCall app f i g → CountsOut config app (Level i) g n → CountsBack config app level f (i + 1) q → min MOST (n + q) ≤ out_of K z.back
+          behind : (i g n q : ℕ) → ReachesCall app f i g → CountsOut config app (Level i) g n → CountsBack config app level f (i + 1) q → min size_limit (n + q) ≤ out_of K z.back
           behind i g n q c out part =
               let le = (exact i g c).out.none_larger n out in
               let some = out_some (Level i) g n out in
@@ -344,10 +344,10 @@ module _ (config : Config) (app : App) (level : Option ℕ) (f : ℕ) (there : f
               out_some l g n (out_here k a j m r b) = back_some config app k a j m b
               out_some l g n (out_behind k a j h m q c inner b) = let p = back_some config app k a (j + 1) q b in omega (arith, p)
 
-          larger : (n : ℕ) → CountsOut config app level f n → min MOST n ≤ out_of K z.back
+          larger : (n : ℕ) → CountsOut config app level f n → min size_limit n ≤ out_of K z.back
           larger n w = cases_of level f n refl refl w
             where
-              cases_of : (l : Option ℕ) (h n : ℕ) → l ≡ level → h ≡ f → CountsOut config app l h n → min MOST n ≤ out_of K z.back
+              cases_of : (l : Option ℕ) (h n : ℕ) → l ≡ level → h ≡ f → CountsOut config app l h n → min size_limit n ≤ out_of K z.back
               cases_of l h n e d (out_here a b i q r part) =
                   here i q (subst (λ v. ReachesItem app v i) d r) (subst (λ v. CountsBack config app level v i q) d (subst (λ v. CountsBack config app v b i q) e part))
               cases_of l h n e d (out_behind a b i g q s c out part) =

@@ -12,7 +12,7 @@ use Rattle.sloth_base.specs.Take.{take, line_to_take, entry_state, execution_sta
 use Rattle.sloth_base.specs.Owners.{owners_in, IsOwned}
 use Rattle.sloth_base.specs.Stretches.{Takes, later_beginning, stretch_limit}
 use Rattle.sloth_base.specs.declared.lines.Owners.{Owners}
-use Rattle.sloth_base.proofs.Stretches.{task_limit}
+use Rattle.sloth_base.proofs.Stretches.{task_entry_limit}
 use Rattle.rv32_instr.specs.Execute.{touched}
 use Rattle.rv32_machine.specs.Run.{state_with_arrivals}
 use Rattle.masked_code.specs.Kernel.{CanRun}
@@ -23,6 +23,7 @@ use Rattle.expansion_parts.specs.Expansion.{item_address}
 use Rattle.observe.specs.Observe.{View}
 use Rattle.osek_scheduler.specs.State.{Frame, System, task}
 use Rattle.sloth_base.specs.Named.{declaration, body_of}
+use Rattle.sloth_base.specs.MemoryMap.{memory_base, vectors_base, memory_bytes, line_count}
 use Rattle.osek_scheduler.specs.Priority.{is_active}
 use Rattle.osek_scheduler.specs.Services as services
 use Rattle.osek_scheduler.specs.Steps.{OsekStep, settled_state}
@@ -64,7 +65,7 @@ none_touched (Some line) rest h = cc
 
 module _ (b : Build) (view : View) (arrivals : List Arrival) (setting : IsSetting (setting_of b view arrivals)) (fits : Fits b) (count : ℕ) (late_count : 0 < count)
     (state : State) (s : System) (stands : Stands b state s) where
-  few : length b.config.tasks ≤ 32
+  few : length b.config.tasks ≤ line_count
   few = let f = fits.few_tasks in omega arith
 
   abbrev now : State
@@ -97,7 +98,7 @@ module _ (b : Build) (view : View) (arrivals : List Arrival) (setting : IsSettin
         (law : (last : State) → Effect [] (take t now) last → OsekStep b.config b.app (event.Enter t) found after × Stands b last after) where
       at_vector : offset_state (vector t) core ≡ execution_state now
       at_vector =
-          let e : 0x8000_0000 + vector t ≡ 0x8000_0400 + 4 * t = omega arith in
+          let e : memory_base + vector t ≡ vectors_base + 4 * t = omega arith in
           ap (λ p. record { pc = p; core = core }) e ∙ sym (ap (λ o. entry_state o now) taken)
 
       route : Entering arrivals most count state Effect
@@ -155,7 +156,7 @@ module _ (b : Build) (view : View) (arrivals : List Arrival) (setting : IsSettin
 
     -- ---- the prologue
 
-    spot_is : (place : ℕ) × (slice_index now.core.registers 2 ≡ 0x8000_0000 + (place + 128))
+    spot_is : (place : ℕ) × (slice_index now.core.registers 2 ≡ memory_base + (place + 128))
     spot_is = stored_at b now found k.stack k.running
 
     abbrev place : ℕ
@@ -178,7 +179,7 @@ module _ (b : Build) (view : View) (arrivals : List Arrival) (setting : IsSettin
       sizes = kinds.size (declaration b.config t).extended t (start_level b t) first frame words prologue.code prologue.enters
 
       short : suc (108 + words) ≤ stretch_limit b.config (Takes t)
-      short = let w = prologue.few_words in let l = task_limit b.config t declared in omega arith
+      short = let w = prologue.few_words in let l = task_entry_limit b.config t declared in omega arith
 
       can_run : CanRun prologue.offset prologue.code core
       can_run = record {
@@ -210,7 +211,7 @@ module _ (b : Build) (view : View) (arrivals : List Arrival) (setting : IsSettin
 
       -- ---- anew
 
-      frame_room : (b.low t ≤ frame) × (frame + 4 * words ≡ b.top t) × (b.top t ≤ 2097152) × (frame % 4 ≡ 0) × (b.low t < b.top t)
+      frame_room : (b.low t ≤ frame) × (frame + 4 * words ≡ b.top t) × (b.top t ≤ memory_bytes) × (frame % 4 ≡ 0) × (b.low t < b.top t)
       frame_room =
           let g = first_room b fits t declared in let z = fits.to t declared in (omega arith, omega arith, omega arith, omega arith, omega arith)
 

@@ -12,6 +12,7 @@ use Rattle.sloth_base.specs.declared.app.Op.TheVariants as op
 use Rattle.sloth_base.specs.declared.app.Width.{Width}
 use Rattle.sloth_base.specs.declared.app.Width.TheVariants as width
 use Rattle.code_rules.specs.AppRange.{IsRegister}
+use Rattle.sloth_base.specs.MemoryMap.{memory_base}
 use Rattle.rv32_instr.specs.declared.InstrKind.{InstrKind}
 use Rattle.rv32_instr.specs.declared.InstrKind.TheVariants.{Lui, Addi, Lw, Sw}
 use Rattle.rv32_instr.specs.declared.effect.Effect.TheVariants.{Write}
@@ -245,7 +246,7 @@ module _ (b : Build) (state : State) (s : System) (t : ℕ) (fits : Fits b) (k :
       → length before ≡ at.here.done → Reaches number y offset → AreOwn (registers_of o)
       → execution b.app o own.registers frame at.outer s.symbols ≡ load_meaning w rd y offset own.registers frame at.outer s.symbols → result_register o ≡ rd → Here o
   loads_into o before w rd y offset number is_own inside expands last reaches named means shown =
-      let place = symbol_address b.places y - 0x8000_0000 + offset in
+      let place = symbol_address b.places y - memory_base + offset in
       let spot = symbol.spot b fits state.core.ram s.symbols k.data_stands numbers.sizes w y offset inside (plus (slice_index x 31) number) reaches in
       let value = symbol.load_means b fits state.core.ram s.symbols k.data_stands numbers.sizes w y offset inside in
       writes_register o before (load w rd 31 number) rd (loaded_word w (get_or s.symbols y []) offset) is_own expands last
@@ -259,7 +260,7 @@ module _ (b : Build) (state : State) (s : System) (t : ℕ) (fits : Fits b) (k :
       → length before ≡ at.here.done → Reaches number y offset → AreOwn (registers_of o)
       → execution b.app o own.registers frame at.outer s.symbols ≡ store_meaning w rs y offset own.registers frame at.outer s.symbols → result_register o ≡ rs → Here o
   stores_from o before w rs y offset number is_own inside expands last reaches named means shown =
-      let place = symbol_address b.places y - 0x8000_0000 + offset in
+      let place = symbol_address b.places y - memory_base + offset in
       let spot = symbol.spot b fits state.core.ram s.symbols k.data_stands numbers.sizes w y offset inside (plus (slice_index x 31) number) reaches in
       let bytes = get_or s.symbols y [] in
       let value = slice_index x rs in

@@ -10,6 +10,7 @@ use Rattle.sloth_base.specs.declared.app.Op.TheVariants as op
 use Rattle.sloth_base.specs.declared.app.Width.TheVariants as width
 use Rattle.sloth_base.specs.declared.event.Arrival.{Arrival}
 use Rattle.sloth_base.specs.declared.image.MarkKind.TheVariants as mark_kind
+use Rattle.sloth_base.specs.MemoryMap.{memory_bytes, memory_base}
 use Rattle.rv32_instr.specs.declared.InstrKind.{InstrKind}
 use Rattle.rv32_instr.specs.declared.InstrKind.TheVariants.{Lw, Addi, Jalr}
 use Rattle.rv32_instr.specs.Encode.{Encode}
@@ -122,17 +123,17 @@ module _ (b : Build) (view : View) (arrivals : List Arrival) (count : ℕ) (stat
   abbrev core_now : Core
   core_now = record n.core { registers = set x 31 link }
 
-  performs : (offset word : ℕ) → offset + 4 ≤ 0x20_0000
-      → perform (effect (loads_link words) (0x8000_0000 + offset) x) word (0x8000_0000 + offset) n.core ≡ Going (offset_state (offset + 4 * 1) core_now)
+  performs : (offset word : ℕ) → offset + 4 ≤ memory_bytes
+      → perform (effect (loads_link words) (memory_base + offset) x) word (memory_base + offset) n.core ≡ Going (offset_state (offset + 4 * 1) core_now)
   performs offset word l =
-      load_at n.core width.Word 31 2 (pos (4 * words)) spot word (0x8000_0000 + offset) link_spot
-      ∙ ap (λ v. goes_on (0x8000_0000 + offset) (record n.core { registers = set x 31 v })) (sym (word_number n.core.ram spot) ∙ outer_at.0)
+      load_at n.core width.Word 31 2 (pos (4 * words)) spot word (memory_base + offset) link_spot
+      ∙ ap (λ v. goes_on (memory_base + offset) (record n.core { registers = set x 31 v })) (sym (word_number n.core.ram spot) ∙ outer_at.0)
       ∙ next_at offset core_now l
 
   quiet : (pc : ℕ) → touched_line_by (effect (loads_link words) pc x) ≡ None
   quiet pc = load_at_quiet n.core width.Word 31 2 (pos (4 * words)) spot pc link_spot
 
-  passes : (offset : ℕ) → 0x8000_0000 + offset ≡ address + 4 → Passes b n (offset_state offset core_now) s1 t
+  passes : (offset : ℕ) → memory_base + offset ≡ address + 4 → Passes b n (offset_state offset core_now) s1 t
   passes offset e =
       let f = now.fixed in
       registers_pass b n s1 t now offset (set x 31 link) (length-set x 31 link) (λ i l z. get_or-set_other x 31 i link 0 (λ q. omega arith)) item.place
@@ -219,25 +220,25 @@ module _ (b : Build) (view : View) (arrivals : List Arrival) (count : ℕ) (stat
     up_below : up ≤ b.top t
     up_below = let l = outer_below b ram r.rest (up + 4 * length r.caller.words) (b.top t) caller_stands.2 in omega arith
 
-    raised : plus (slice_index y 2) (pos (4 + 4 * size)) ≡ 0x8000_0000 + up
+    raised : plus (slice_index y 2) (pos (4 + 4 * size)) ≡ memory_base + up
     raised = let e = item.context.x2 in let l = up_below in let top = (here.fits.to t is_active.declared).0 in omega arith
 
     abbrev core_raised : Core
-    core_raised = record m.core { registers = set y 2 (0x8000_0000 + up) }
+    core_raised = record m.core { registers = set y 2 (memory_base + up) }
 
-    raise_performs : (offset word : ℕ) → offset + 4 ≤ 0x20_0000
-        → perform (effect (raises size) (0x8000_0000 + offset) y) word (0x8000_0000 + offset) m.core ≡ Going (offset_state (offset + 4 * 1) core_raised)
+    raise_performs : (offset word : ℕ) → offset + 4 ≤ memory_bytes
+        → perform (effect (raises size) (memory_base + offset) y) word (memory_base + offset) m.core ≡ Going (offset_state (offset + 4 * 1) core_raised)
     unfolding perform
-    raise_performs offset word l = ap (λ v. goes_on (0x8000_0000 + offset) (record m.core { registers = set y 2 v })) raised ∙ next_at offset core_raised l
+    raise_performs offset word l = ap (λ v. goes_on (memory_base + offset) (record m.core { registers = set y 2 v })) raised ∙ next_at offset core_raised l
 
     raise_quiet : (pc : ℕ) → touched_line_by (effect (raises size) pc y) ≡ None
     unfolding touched_line_by
     raise_quiet pc = refl
 
-    raise_passes : (offset : ℕ) → 0x8000_0000 + offset ≡ from + 8 → Passes b m (offset_state offset core_raised) s2 t
+    raise_passes : (offset : ℕ) → memory_base + offset ≡ from + 8 → Passes b m (offset_state offset core_raised) s2 t
     raise_passes offset e =
         let f = stands.fixed in
-        let value = 0x8000_0000 + up in
+        let value = memory_base + up in
         registers_pass b m s2 t stands offset (set y 2 value) (length-set y 2 value) (λ i l z. get_or-set_other y 2 i value 0 z) up
         (get_or-set_same y 2 value 0 (let l = f.registers in omega arith))
         (record {
@@ -315,8 +316,8 @@ module _ (b : Build) (view : View) (arrivals : List Arrival) (count : ℕ) (stat
       outside.committed_outside b view arrivals (progress_in b) count state s here t item.current item.frame.func item.frame.item
       (turns b m s2 t here.fits stands item.current (outside.top_here b view arrivals (progress_in b) count state s here t item.current) r.free item.frame item.outer item.frames item.inside
       item.place item.context behind_call r.rest back.more frames meant (ap result_register back.is)
-      (code.stepped b view m s2 here.fits stands item.frame.func item.frame.item back.placed 2 at_pc before goes_back [] expansion_is refl next (jump_performs (Encode goes_back) (0x8000_0000 + offset)))
-      (code.untouched b view m s2 here.fits stands item.frame.func item.frame.item back.placed 2 at_pc before goes_back [] expansion_is refl (jump_quiet (0x8000_0000 + offset))))
+      (code.stepped b view m s2 here.fits stands item.frame.func item.frame.item back.placed 2 at_pc before goes_back [] expansion_is refl next (jump_performs (Encode goes_back) (memory_base + offset)))
+      (code.untouched b view m s2 here.fits stands item.frame.func item.frame.item back.placed 2 at_pc before goes_back [] expansion_is refl (jump_quiet (memory_base + offset))))
       back.placed (outside.last_at b view arrivals (progress_in b) count state s here item.frame.func item.frame.item 2 at_pc (omega arith))
       (λ address. return_mark b item.frame.func item.frame.item address (operation b.app item.frame.func item.frame.item) back.is)
 

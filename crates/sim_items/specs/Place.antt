@@ -17,7 +17,8 @@ use Rattle.rv32_expand.specs.InPlace.{item_mark, last_address}
 use Rattle.observe.specs.Observe.{View, mark_at}
 use Rattle.osek_scheduler.specs.State.{Frame, System, task}
 use Rattle.sloth_base.specs.Named.{function, operation, label_of, symbol_size}
-use Rattle.sloth_base.specs.MemoryMap.{memory_base}
+use Rattle.sloth_base.specs.MemoryMap.{memory_base, memory_bytes}
+use Rattle.sloth_base.specs.Limits.{mask_limit}
 use Rattle.sim_relation.specs.Bounds.{AreBelow}
 use Rattle.sim_relation.specs.Build.{Build}
 use Rattle.sim_relation.specs.Position.{thread_of, AreFrames, InExpansion, IsCalling, IsReturning}
@@ -62,7 +63,7 @@ pub record InReturn (b : Build) (state : State) (s : System) (t : ℕ) : Type 0 
 pub record HasInstruction (b : Build) (address : ℕ) (kind : InstrKind) : Type 0 where
   pub offset : ℕ
   pub is : address ≡ memory_base + offset
-  pub to : offset + 4 ≤ 0x20_0000
+  pub to : offset + 4 ≤ memory_bytes
   pub is_code : (i : ℕ) → offset ≤ i → i < offset + 4 → b.is_code i ≡ true
   pub word : word_at b.memory offset ≡ Encode kind
   pub in_range : InRange kind
@@ -89,7 +90,7 @@ pub record IsAccess (app : App) (w : Width) (symbol offset : ℕ) : Type 0 where
 pub record IsMasked (app : App) (w : Width) (symbol mask : ℕ) : Type 0 where
   pub inside : mask + size_of w ≤ symbol_size app symbol
   pub aligned : mask % size_of w ≡ 0
-  pub few : mask ≤ 32767
+  pub few : mask ≤ mask_limit
 
 -- An item behind which the next one follows. It computes on registers and numbers, or moves a word of its frame or a number of a
 -- symbol, at a place that its code names or at an index under a mask.

@@ -10,6 +10,7 @@ use Rattle.sloth_base.specs.declared.app.Op.TheVariants as op
 use Rattle.sloth_base.specs.declared.app.Width.{Width}
 use Rattle.sloth_base.specs.declared.refusal.Code.TheVariants as code
 use Rattle.code_rules.specs.AppRange.{IsOp}
+use Rattle.sloth_base.specs.Limits.{mask_limit}
 use Rattle.code_rules.specs.Code.{IsItem, is_followed}
 use Rattle.code_rules.specs.WellFormed as rule
 use Rattle.code_rules.specs.WellFormed.{WellFormed, at_item}
@@ -57,10 +58,10 @@ module _ (b : Build) (view : View) (func item : ℕ) (w : WellFormed b.config b.
       by (inl e) = e
       by (inr e) = absurd (h e)
 
-  few : (mask : ℕ) → ¬ (32767 < mask) → mask ≤ 32767
-  few mask h = by (cases_lt 32767 mask)
+  few : (mask : ℕ) → ¬ (mask_limit < mask) → mask ≤ mask_limit
+  few mask h = by (cases_lt mask_limit mask)
     where
-      by : (32767 < mask) ⊎ (mask ≤ 32767) → mask ≤ 32767
+      by : (mask_limit < mask) ⊎ (mask ≤ mask_limit) → mask ≤ mask_limit
       by (inl l) = absurd (h l)
       by (inr l) = l
 

@@ -8,6 +8,8 @@ use Rattle.sloth_region.specs.Layout.{counter_value}
 use Rattle.rv32_instr.specs.Ram.{word_at}
 use Rattle.sloth_base.specs.Arrive.{state_arrive}
 use Rattle.sloth_base.specs.Owners.{first_counter_line, counter_line, owners_in, AreOwned}
+use Rattle.sloth_base.specs.Limits.{task_limit}
+use Rattle.sloth_base.specs.MemoryMap.{line_count}
 use Rattle.sloth_base.proofs.Owners.{IsCounterLine, owned_cases}
 use Rattle.osek_scheduler.specs.declared.state.Counter.{Counter}
 use Rattle.osek_scheduler.specs.declared.state.TaskState.{TaskState}
@@ -74,7 +76,7 @@ arrived_machine : (b : Build) (state : State) (s : System) → Stands b state s 
 arrived_machine b state s k l =
     changed_machine b state k.fixed state.pc state.core.ram (set state.core.pending l 1) state.core.enabled refl (length-set state.core.pending l 1) refl
 
-module _ (b : Build) (state : State) (s : System) (l : ℕ) (k : Stands b state s) (inside : l < length b.config.tasks) (few : length b.config.tasks ≤ 32) where
+module _ (b : Build) (state : State) (s : System) (l : ℕ) (k : Stands b state s) (inside : l < length b.config.tasks) (few : length b.config.tasks ≤ line_count) where
   abbrev now : State
   now = state_arrive (l ∷ []) state
 
@@ -227,7 +229,7 @@ module _ (b : Build) (state : State) (s : System) (c : ℕ) (k : Stands b state 
       })
 
 -- Arrivals at a count that finds MIE 1 are the admits of their tasks, and make their counters due.
-pub stands_arrived : (b : Build) (lines : List ℕ) (state : State) (s : System) → length b.config.tasks ≤ 30 → AreOwned (owners_in b.config) lines
+pub stands_arrived : (b : Build) (lines : List ℕ) (state : State) (s : System) → length b.config.tasks ≤ task_limit → AreOwned (owners_in b.config) lines
     → Stands b state s → Stands b (state_arrive lines state) (with_admits lines s)
 stands_arrived b [] state s few h k = k
 stands_arrived b (l ∷ lines) state s few h k =

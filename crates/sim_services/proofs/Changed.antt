@@ -3,6 +3,7 @@ use Rattle.std.proofs.Common.{◌≡◌, ℕ, ◌^◌, ◌<◌, List, length, re
 use Rattle.std.specs.Prelude.{◌≢◌, slice_index}
 use Rattle.sloth_base.specs.Machine.{State}
 use Rattle.sloth_base.specs.declared.service.Service.{Service}
+use Rattle.sloth_base.specs.Limits.{task_limit}
 use Rattle.sloth_region.specs.Layout.{cur, events, wait}
 use Rattle.rv32_instr.specs.Ram.{word_at, with_word}
 use Rattle.masked_code.proofs.Words.{word_at-same, get_or-with_word, length-with_word}
@@ -66,7 +67,7 @@ module _ (b : Build) (state : State) (s : System) (t : ℕ) (called : Task) (ser
   current = ap (λ r. word_at r cur) back.left.ram ∙ word_other state.core.ram (events u) word cur (omega arith) (omega arith) (λ e. omega arith)
 
   module _ (m : TaskState) (now : ℕ) (c : Changes b state s u m now word pending enabled) where
-    few : u < 30
+    few : u < task_limit
     few = let g = fits.few_tasks in let h = c.declared in omega arith
 
     change : TaskChange b middle end answer u m now

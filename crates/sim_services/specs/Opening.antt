@@ -16,6 +16,7 @@ use Rattle.sloth_base.specs.ServiceCodes.{service_of}
 use Rattle.osek_scheduler.specs.State.{Frame, Task, System, task}
 use Rattle.sloth_base.specs.Named.{function}
 use Rattle.sloth_base.specs.MemoryMap.{memory_base}
+use Rattle.sloth_base.specs.Limits.{task_limit}
 use Rattle.code_rules.specs.Code.{is_in}
 use Rattle.sim_relation.specs.Bounds.{AreBelow}
 use Rattle.sim_relation.specs.Build.{Build}
@@ -66,5 +67,5 @@ pub record CanServe (offset : ℕ) (code : List InstrKind) (t place : ℕ) (core
   pub goes_back : CanGoBack offset code core
   pub level : core.ilevel < 256
   pub current : word_at core.ram cur ≡ t + 1
-  pub is_task : t < 30
+  pub is_task : t < task_limit
   pub below : IsBelow place core

@@ -7,6 +7,8 @@ use Rattle.std.proofs.lemmas.Nat.{or_of_32}
 use Rattle.sloth_base.specs.declared.config.Action.{Action}
 use Rattle.sloth_base.specs.declared.config.Action.TheVariants.{Activate, Set}
 use Rattle.sloth_base.specs.Machine.{State}
+use Rattle.sloth_base.specs.Limits.{task_limit}
+use Rattle.sloth_base.specs.MemoryMap.{line_count}
 use Rattle.sloth_region.specs.Layout.{active, events, wait}
 use Rattle.rv32_instr.specs.Ram.{word_at, with_word}
 use Rattle.masked_code.proofs.Words.{word_at-same, get_or-with_word, length-with_word, word_below}
@@ -52,7 +54,7 @@ module _ (b : Build) (end : State) (fits : Fits b) where
   abbrev pub at : Ground → State
   at g = record { pc = end.pc; core = core_with_ground end.core g }
 
-  few_32 : length b.config.tasks ≤ 32
+  few_32 : length b.config.tasks ≤ line_count
   few_32 = let f = fits.few_tasks in omega arith
 
   -- the system stands there
@@ -79,7 +81,7 @@ module _ (b : Build) (end : State) (fits : Fits b) where
     abbrev k : Stands b (at g) (settled_state s)
     k = h.stands
 
-    few : t < 30
+    few : t < task_limit
     few = let f = fits.few_tasks in omega arith
 
     abbrev now : ℕ

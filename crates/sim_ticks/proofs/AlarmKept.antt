@@ -3,6 +3,7 @@ use Rattle.std.proofs.Common.{◌≡◌, ℕ, ◌%◌, ◌<◌, ◌≤◌, List,
 use Rattle.std.specs.Prelude.{◌≢◌, slice_index}
 use Rattle.sloth_base.specs.Machine.{State}
 use Rattle.sloth_base.specs.declared.service.Service.{Service}
+use Rattle.sloth_base.specs.Limits.{alarm_limit}
 use Rattle.sloth_region.specs.Layout.{idle_context, below_word, counter_value, alarm_left, alarm_cycle}
 use Rattle.rv32_instr.specs.Ram.{word_at}
 use Rattle.block_parts.specs.Back.{WentBack, a0}
@@ -42,7 +43,7 @@ module _ (b : Build) (state : State) (s : System) (t : ℕ) (own : Task) (served
       behind_as_before b state s t own served is fits followed end ram state.core.pending state.core.enabled state.core.ram end.core.pending end.core.enabled
       back refl back.left.pending back.left.enabled status status_is
 
-  few : a < 32
+  few : a < alarm_limit
   few = let f = fits.few_alarms in omega (arith, there, f)
 
   other : (p : ℕ) → p % 4 ≡ 0 → p ≢ alarm_left a → p ≢ alarm_cycle a → word_at end.core.ram p ≡ word_at state.core.ram p

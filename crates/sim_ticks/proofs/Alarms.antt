@@ -7,6 +7,7 @@ use Rattle.std.proofs.lemmas.List.{set-get_or}
 use Rattle.sloth_base.specs.declared.config.Action.{Action}
 use Rattle.sloth_base.specs.declared.config.AlarmDecl.{AlarmDecl}
 use Rattle.sloth_base.specs.Machine.{State}
+use Rattle.sloth_base.specs.Limits.{alarm_limit}
 use Rattle.sloth_region.specs.Layout.{alarm_left, alarm_cycle, counter_value, below_word}
 use Rattle.rv32_instr.specs.Ram.{word_at}
 use Rattle.masked_code.proofs.Words.{word_below}
@@ -65,7 +66,7 @@ module _ (b : Build) (end : State) (fits : Fits b) where
     cycle_is : cycle ≡ (alarm s a).cycle
     cycle_is = h.stands.clock.cycles a there
 
-    is_alarm : a < 32
+    is_alarm : a < alarm_limit
     is_alarm = let f = fits.few_alarms in omega (arith, there, f)
 
     v_small : v < 2 ^ 32

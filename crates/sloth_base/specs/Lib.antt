@@ -1,3 +1,4 @@
+pub mod Limits
 pub mod Machine
 pub mod Arrivals
 pub mod ImageRange

@@ -16,6 +16,7 @@ pub mod copy;
 pub mod declared_names;
 pub mod event;
 pub mod image;
+pub mod limits;
 pub mod lines;
 pub mod list;
 pub mod memory;

@@ -1,5 +1,6 @@
 //! Numbers that name things. Contracts see each as its number.
 
+use crate::limits::RESOURCE_LIMIT;
 use std::marker::Model;
 
 /// A task: its place among the TASK objects of the configuration, from 0. Its interrupt line has the same number.
@@ -17,7 +18,7 @@ impl Model for TaskId {
 }
 
 /// The number of the resource RES_SCHEDULER, behind those of RESOURCE objects.
-pub const RES_SCHEDULER: u32 = 32;
+pub const RES_SCHEDULER: u32 = RESOURCE_LIMIT as u32;
 
 /// A resource: its place among the RESOURCE objects of the configuration, from 0, or `RES_SCHEDULER`.
 #[derive(Clone, Copy, Debug, PartialEq, Eq)]

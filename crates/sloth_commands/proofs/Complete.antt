@@ -9,6 +9,7 @@ use Rattle.least_fault.specs.Order.{NoFault}
 use Rattle.trace_text.specs.ArrivalsText.{arrivals_in, ArrivalsFault}
 use Rattle.sloth_base.specs.declared.image.Image.{Image}
 use Rattle.sloth_base.specs.declared.refusal.Refusal.{Refusal}
+use Rattle.sloth_base.specs.Limits.{file_limit}
 use Rattle.sloth_io.specs.Counts.{Rose, Stays}
 use Rattle.sloth_io.specs.Sink.{Output, HasNoSpace}
 use Rattle.sloth_io.specs.Store.{Files, Holds, IsMissing, IsTooLong, IsUnwritten}
@@ -18,7 +19,6 @@ use Rattle.sloth_source.proofs.Unique.{one_meaning}
 use Rattle.command_line.specs.LastLine.{refusal_line}
 use Rattle.command_line.specs.Command.{Command, Building, Run, Builds, Uses, IsCommand, IsNoTool, NoCommand}
 use Rattle.command_line.specs.Tools.{ToolUse}
-use Rattle.sloth_commands.specs.Inputs.{input_limit}
 use Rattle.trace_check.specs.Inputs.{AreRead}
 use Rattle.sloth_commands.specs.ImageFiles.{IsNoImage}
 use Rattle.tool_answers.specs.declared.status.Status.{Status}
@@ -46,14 +46,14 @@ told-arrivals files None one other tells h i = h ∙ sym i
 told-arrivals files (Some run) one other tells h i = told files run.arr one other tells h i
 
 -- of inputs that are there, none is the first that is not read
-no-arrivals : (P : List ℕ → Type 0) (old : Files) (run : Option Run) (arr : List ℕ) → HoldsArrivals old run arr → length arr ≤ input_limit
-    → ((name bytes : List ℕ) → Holds old name bytes → length bytes ≤ input_limit → P name → ⊥) → FirstUnread old P (arrivals_named run) → ⊥
+no-arrivals : (P : List ℕ → Type 0) (old : Files) (run : Option Run) (arr : List ℕ) → HoldsArrivals old run arr → length arr ≤ file_limit
+    → ((name bytes : List ℕ) → Holds old name bytes → length bytes ≤ file_limit → P name → ⊥) → FirstUnread old P (arrivals_named run) → ⊥
 no-arrivals P old None arr holds short f h = h
 no-arrivals P old (Some run) arr holds short f (inl h) = f run.arr arr holds short h
 no-arrivals P old (Some run) arr holds short f (inr h) = h.1
 
 none-unread : (P : List ℕ → Type 0) (old : Files) (c : Building) (oil src arr : List ℕ) → AreInputs old c oil src arr
-    → ((name bytes : List ℕ) → Holds old name bytes → length bytes ≤ input_limit → P name → ⊥) → FirstUnread old P (inputs_of (Builds c)) → ⊥
+    → ((name bytes : List ℕ) → Holds old name bytes → length bytes ≤ file_limit → P name → ⊥) → FirstUnread old P (inputs_of (Builds c)) → ⊥
 none-unread P old c oil src arr i f (inl h) = f c.oil oil i.oil_read i.oil_short h
 none-unread P old c oil src arr i f (inr h) = behind h.1
   where
@@ -68,13 +68,13 @@ not-missing old new name bytes tells (inr sure) holds (inl h) = let a : IsTrue o
 not-missing old new name bytes tells works holds (inr h) = let a = holds tells in let b = h.1 in cc
 
 -- and not too long, where it is short enough
-pub not-long : (old new : Files) (name bytes : List ℕ) → IsTrue old.tells → Holds old name bytes → length bytes ≤ input_limit
-    → IsTooLong old new name input_limit → ⊥
+pub not-long : (old new : Files) (name bytes : List ℕ) → IsTrue old.tells → Holds old name bytes → length bytes ≤ file_limit
+    → IsTooLong old new name file_limit → ⊥
 not-long old new name bytes tells holds short h =
     let long = h.1 tells in
     let same : bytes ≡ long.0 = told old name bytes long.0 tells holds (λ yes. long.1) in
-    let m : length bytes ≤ 4194304 = short in
-    let k : 4194304 < length bytes = subst (λ x. 4194304 < length x) (sym same) long.2 in omega (arith, m, k)
+    let m : length bytes ≤ file_limit = short in
+    let k : file_limit < length bytes = subst (λ x. file_limit < length x) (sym same) long.2 in omega (arith, m, k)
 
 no-failed-read : (old new : Files) (c : Building) (oil src arr : List ℕ) → AreThere old c oil src arr → ReadsWork old new → IsFailedRead old new (Builds c) → ⊥
 no-failed-read old new c oil src arr there works =
@@ -82,7 +82,7 @@ no-failed-read old new c oil src arr there works =
 
 no-long-read : (old new : Files) (c : Building) (oil src arr : List ℕ) → AreThere old c oil src arr → IsLongRead old new (Builds c) → ⊥
 no-long-read old new c oil src arr there =
-    none-unread (λ name. IsTooLong old new name input_limit) old c oil src arr there.inputs
+    none-unread (λ name. IsTooLong old new name file_limit) old c oil src arr there.inputs
     (λ name bytes holds short. not-long old new name bytes there.tells holds short)
 
 one-verdict : (old : Files) (c : Building) (config : Config) (app : App) (arrivals : List Arrival) (oil src arr : List ℕ) (r : Refusal)

@@ -15,6 +15,7 @@ use Rattle.sloth_base.specs.declared.event.Event.{Event}
 use Rattle.sloth_base.specs.declared.event.Event.TheVariants as event
 use Rattle.sloth_base.specs.declared.event.Stamped.{Stamped}
 use Rattle.sloth_base.specs.Events.{named_task}
+use Rattle.sloth_base.specs.Limits.{count_limit}
 use Rattle.osek_scheduler.specs.State.{System, opening}
 use Rattle.osek_scheduler.specs.Steps.{OsekStep}
 use Rattle.osek_scheduler.specs.Runs.{Follows}
@@ -84,7 +85,7 @@ module _ (config : Config) (app : App) (in_range : AppInRange config app) where
       let at = counter_place c step.1.declared in record { word = at.word; names = inl at.inside }
   numbers_of e s next step value = numbered (named_task e) (task_declared config app e s next step)
 
-  lines_of_run : (n : ℕ) → n ≤ 1000000 → (past events : List Stamped) (s end : System) → Follows config app past s events end → All (IsStamped n) events
+  lines_of_run : (n : ℕ) → n ≤ count_limit → (past events : List Stamped) (s end : System) → Follows config app past s events end → All (IsStamped n) events
       → AllByRecursion HasValueAt events → All (HasLine (task_names config) (function_names app) (counter_names config)) events
   lines_of_run n few past [] s end h stamped values = λ k d l. absurd (omega (arith, l))
   lines_of_run n few past (e ∷ events) s end h stamped values =

@@ -3,12 +3,12 @@ ghost use Rattle.std.specs.Prelude.{◌≤◌, IfOk, IfErr, OnOk, length};
 ghost use Rattle.sloth_base.specs.Arrivals.{AreArrivals};
 ghost use Rattle.sloth_base.specs.Owners.{owners_in, owners_named};
 ghost use Rattle.sloth_base.specs.ImageRange.{InFormat};
+ghost use Rattle.sloth_base.specs.Limits.{file_limit, count_limit};
 ghost use Rattle.sloth_io.specs.Store.{KeepsFiles};
 ghost use Rattle.image_file.specs.ImageText.{image_bytes};
 ghost use Rattle.sloth_source.specs.Texts.{AreAccepted};
 ghost use Rattle.command_line.specs.Command.{Builds, IsInLimit};
 ghost use Rattle.command_line.specs.Words.{building_of, run_of};
-ghost use Rattle.sloth_commands.specs.Inputs.{input_limit};
 ghost use Rattle.trace_check.specs.Inputs.{AreRead};
 ghost use Rattle.command_line.specs.LastLine.{built_line};
 ghost use Rattle.sloth_runner.specs.Runner.{IsFresh, image_of, given_arrivals, run_text};
@@ -46,7 +46,7 @@ fn fetch_arrivals<F: Store>(
     run: &Option<RunWords>,
 ) -> Result<Vec<u8>, Failure>
     ensures ok { IfOk result (λ bytes. HoldsArrivals (F.seen files.old) (run_of run.now) bytes.items) }
-    ensures short { IfOk result (λ bytes. length bytes.items ≤ input_limit) }
+    ensures short { IfOk result (λ bytes. length bytes.items ≤ file_limit) }
     ensures err { IfErr result (λ failure.
         ReadFailed failure (F.seen files.old) (F.seen files.new) (arrivals_named (run_of run.now))) }
     ensures keeps { KeepsFiles (F.seen files.old) (F.seen files.new) }
@@ -83,9 +83,9 @@ pub struct Judged {
 
 /// Judges the inputs, and builds the image.
 pub fn judge(alloc: Global, inputs: &Inputs) -> Result<Judged, Failure>
-    requires oil { length inputs.now.oil.items ≤ input_limit }
-    requires src { length inputs.now.src.items ≤ input_limit }
-    requires arr { length inputs.now.arr.items ≤ input_limit }
+    requires oil { length inputs.now.oil.items ≤ file_limit }
+    requires src { length inputs.now.src.items ≤ file_limit }
+    requires arr { length inputs.now.arr.items ≤ file_limit }
     ensures accepted { IfOk result (λ judged. AreAccepted inputs.now.oil.items inputs.now.src.items judged.built.config judged.built.app) }
     ensures image { IfOk result (λ judged. IsBuiltImage judged.built.config judged.built.app judged.built.image) }
     ensures read { IfOk result (λ judged.
@@ -131,7 +131,7 @@ fn write_and_run<F: Store, S: Sink>(
     runner: &mut Runner,
 ) -> Result<(), Failure>
     requires fresh { IsFresh runner.old }
-    requires few { run.now.n ≤ 1000000 }
+    requires few { run.now.n ≤ count_limit }
     ensures written { OnOk result (IsWritten (F.seen files.old) (F.seen files.new) img.now bytes.now) }
     ensures text { OnOk result (Took (S.seen out.old) (S.seen out.new)
         (run_text (image_of runner.old) (given_arrivals runner.old) run.now.form run.now.n)) }
@@ -157,7 +157,7 @@ fn perform_run<F: Store, S: Sink>(
 ) -> Result<(), Failure>
     requires format { InFormat image.now }
     requires arrivals { AreArrivals (owners_named image.now) arrivals.now }
-    requires few { run.now.n ≤ 1000000 }
+    requires few { run.now.n ≤ count_limit }
     ensures written { OnOk result (IsWritten (F.seen files.old) (F.seen files.new) img.now bytes.now) }
     ensures text { OnOk result (Took (S.seen out.old) (S.seen out.new) (run_text image.now arrivals.now run.now.form run.now.n)) }
     ensures err { IfErr result (λ failure.

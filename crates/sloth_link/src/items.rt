@@ -1,6 +1,7 @@
 //! The items of task code, each as a block of its own.
 ghost use Rattle.std.specs.Prelude.{◌≡◌, ◌<◌, ◌++◌, ◌∷◌, [], IfOk, OnOk, length};
 ghost use Rattle.sloth_base.specs.Named.{function, item_of};
+ghost use Rattle.sloth_base.specs.Limits.{body_limit};
 ghost use Rattle.rv32_expand.specs.InPlace.{IsItem};
 ghost use Rattle.rv32_expand.specs.Sizes.{AgreeWithSizes, Covers, IsVerified};
 ghost use Rattle.sloth_link.specs.Items.{item_block, items_of, item_blocks};
@@ -38,7 +39,7 @@ fn one(
     places: &Places,
 ) -> Result<Block, NoMemory>
     requires verified { IsVerified app.now }
-    requires few { func < 64 }
+    requires few { func < body_limit }
     requires is_item { IsItem app.now func index }
     requires is { item.now ≡ item_of (function app.now func) index }
     requires covers { Covers app.now places.now }

@@ -3,6 +3,7 @@ ghost use Rattle.std.specs.Prelude.{◌≡◌, ◌<◌, ◌≤◌, ◌+◌, ◌+
 ghost use Rattle.std.specs.List.Sorted.{IsPermutation, IsStrictlyIncreasing};
 ghost use Rattle.std.specs.Vec.{vec_len};
 ghost use Rattle.sloth_base.specs.MemoryMap.{vectors_base};
+ghost use Rattle.sloth_base.specs.Limits.{alarm_limit};
 ghost use Rattle.rv32_instr.specs.Range.{InRange};
 ghost use Rattle.rv32_expand.specs.InPlace.{ItemsInPlace};
 ghost use Rattle.mem_map.specs.Zones.{data_zone};
@@ -138,7 +139,7 @@ fn memory_size(map: &Map) -> usize
 
 // The words of the alarms, and the bytes of the symbols.
 fn all_data(alloc: Global, config: &Config, app: &App, map: &Map) -> Result<Vec<Datum>, NoMemory>
-    requires few { length config.now.alarms ≤ 32 }
+    requires few { length config.now.alarms ≤ alarm_limit }
     requires symbols { length map.now.places.symbols ≡ length app.now.symbols }
     ensures { IfOk result (λ all. all.items ≡ all_data config.now app.now map.now) }
 {

@@ -10,6 +10,8 @@ use Rattle.sloth_base.specs.declared.event.Stamped.{Stamped}
 use Rattle.sloth_base.specs.declared.step.Step.{Step}
 use Rattle.sloth_base.specs.Owners.{owners_named, IsOwned}
 use Rattle.sloth_base.specs.declared.lines.Owners.{Owners}
+use Rattle.sloth_base.specs.Limits.{task_limit, counter_limit}
+use Rattle.sloth_base.specs.MemoryMap.{line_count}
 use Rattle.sloth_base.proofs.Owners.{owned_below}
 use Rattle.observe.specs.Observe.{observe, view_of_image}
 use Rattle.observe.specs.Progress.{Fed, remaining, view_of, arrivals_of, expected_count, arrivals_from, arrivals_due, arrivals_behind}
@@ -157,10 +159,10 @@ running-behind r p q st a image arrivals hands view same expected none machine c
     running-at q (count_of r + 1) (subst P (sym image) (done-more r p q st a arrivals hands view same expected none ran))
 
 pub lines-drop : (n : ℕ) (A : List Arrival) → AreLines A → AreLines (drop n A)
-lines-drop n A h = All-drop (λ (a : Arrival). a.line < 32) n A h
+lines-drop n A h = All-drop (λ (a : Arrival). a.line < line_count) n A h
 
 -- lines that have owners are lines of the controller
-pub controller-lines : (owners : Owners) (A : List Arrival) → owners.tasks ≤ 30 → owners.counters ≤ 2 → All (λ (a : Arrival). IsOwned owners a.line) A → AreLines A
+pub controller-lines : (owners : Owners) (A : List Arrival) → owners.tasks ≤ task_limit → owners.counters ≤ counter_limit → All (λ (a : Arrival). IsOwned owners a.line) A → AreLines A
 controller-lines owners A few counters h k d l = owned_below owners _ few counters (h k d l)
 
 -- an observer that was fed nothing

@@ -3,6 +3,7 @@ ghost use Rattle.std.specs.Prelude.{◌≡◌, ◌<◌, ◌≤◌, ◌∷◌, []
 ghost use Rattle.sloth_base.specs.ImageRange.{InFormat};
 ghost use Rattle.sloth_base.specs.Arrivals.{AreArrivals};
 ghost use Rattle.sloth_base.specs.Owners.{owners_named};
+ghost use Rattle.sloth_base.specs.Limits.{count_limit};
 ghost use Rattle.sloth_io.specs.Sink.{output_with, GainsPart};
 ghost use Rattle.trace_text.specs.Texts.{ends_idle, is_idle};
 ghost use Rattle.observe.specs.Progress.{remaining, view_of, arrivals_of, expected_count, arrivals_due};
@@ -157,7 +158,7 @@ impl<'a> Runner<'a> {
     // One instruction, unless the machine stops at it. Its record is kept.
     #[inline(always)]
     fn record(&mut self) -> Result<(), Halt>
-        requires few { count_of self.old < 1000000 }
+        requires few { count_of self.old < count_limit }
         ensures ok { OnOk result (HasExecuted self.old self.new self.new.shown) }
         ensures err { IfErr result (HaltsAt self.old) }
         ensures coming { self.new.coming.now ≡ self.old.coming.now }
@@ -175,7 +176,7 @@ impl<'a> Runner<'a> {
 
     /// One instruction, unless the machine stops at it.
     pub fn execute(&mut self) -> Result<Step, Halt>
-        requires few { count_of self.old < 1000000 }
+        requires few { count_of self.old < count_limit }
         ensures ok { IfOk result (HasExecuted self.old self.new) }
         ensures err { IfErr result (HaltsAt self.old) }
         ensures coming { self.new.coming.now ≡ self.old.coming.now }
@@ -191,7 +192,7 @@ impl<'a> Runner<'a> {
     // One instruction, unless the machine stops at it. Its finished events are left with the observer.
     #[inline(always)]
     pub(crate) fn advance(&mut self) -> Option<RunEnd>
-        requires few { count_of self.old < 1000000 }
+        requires few { count_of self.old < count_limit }
         requires running { IsRunning self.old }
         ensures went { IfNone result (Advanced self.old self.new) }
         ensures halted { IfSome result (HaltsWith self.old) }
@@ -217,7 +218,7 @@ impl<'a> Runner<'a> {
         printer: &mut Printer,
         out: &mut S,
     ) -> Result<Option<RunEnd>, SinkFault>
-        requires few { count_of self.old < 1000000 }
+        requires few { count_of self.old < count_limit }
         requires running { IsRunning self.old }
         requires printer { printer.old.image.now ≡ image_of self.old }
         ensures went { IfOk result (λ end. IfNone end
@@ -240,7 +241,7 @@ impl<'a> Runner<'a> {
     /// Runs n instructions, at most 1,000,000, and puts the line of each event.
     pub fn run<S: Sink>(&mut self, n: u32, form: Form, out: &mut S) -> Result<RunEnd, SinkFault>
         requires fresh { IsFresh self.old }
-        requires few { n ≤ 1000000 }
+        requires few { n ≤ count_limit }
         ensures text { OnOk result (S.seen out.new ≡ output_with (S.seen out.old) (run_text (image_of self.old) (given_arrivals self.old) form n)) }
         ensures end { IfOk result (λ end. end ≡ run_end (image_of self.old) (given_arrivals self.old) n) }
         ensures broke { OnErr result

@@ -15,6 +15,7 @@ use Rattle.sloth_base.specs.declared.event.Stamped.{Stamped}
 use Rattle.sloth_base.specs.Events.{admitted_line}
 use Rattle.sloth_base.specs.ConfigRange.{InRange}
 use Rattle.sloth_base.specs.Owners.{IsOwned, owners_in}
+use Rattle.sloth_base.specs.Limits.{counter_limit}
 use Rattle.sloth_base.proofs.Owners.{IsCounterLine, owned_cases}
 use Rattle.osek_scheduler.specs.InTime.{InTime}
 use Rattle.line_words.specs.EventNumbers.{HasNumbers}
@@ -26,18 +27,18 @@ use Rattle.walked_events.specs.Walk.{StraysAt, IsWalked, WalksOrStrays, Walk}
 use Rattle.walked_events.proofs.TraceText.{reads_all}
 
 -- the admissions of events that have lines are of numbers of 32 bits
-line_small : (tasks functions counters : ℕ) → counters ≤ 2 → (e : Event) → HasNumbers tasks functions counters e → IsSmall (admitted_line e)
+line_small : (tasks functions counters : ℕ) → counters ≤ counter_limit → (e : Event) → HasNumbers tasks functions counters e → IsSmall (admitted_line e)
 line_small tasks functions counters few (event.Admit t) h = h.word
 line_small tasks functions counters few (event.Due c) h = let inside = h.inside in omega (arith, inside, few)
 line_small tasks functions counters few e h = tt
 
-pub lines_small : (tasks functions counters : List (List ℕ)) → length counters ≤ 2 → (events : List Stamped) → All (HasLine tasks functions counters) events
+pub lines_small : (tasks functions counters : List (List ℕ)) → length counters ≤ counter_limit → (events : List Stamped) → All (HasLine tasks functions counters) events
     → AreSmall events
 lines_small tasks functions counters few events h k d l =
     line_small (length tasks) (length functions) (length counters) few (get_or events k d).event (h k d l).numbers
 
 -- the names of the counters are few
-pub few_names : (config : Config) → length config.counters ≤ 2 → length (counter_names config) ≤ 2
+pub few_names : (config : Config) → length config.counters ≤ counter_limit → length (counter_names config) ≤ counter_limit
 few_names config few = let long = length-map config.counters (λ (c : CounterDecl). c.name) in omega (arith, long, few)
 
 -- ---- names that were made, in the place of those of the configuration and its task code

@@ -5,6 +5,7 @@ use Rattle.std.proofs.lemmas.Bool.{le-ltb, cases_lt, false≢true}
 use Rattle.std.proofs.lemmas.List.Sums.{list_all-from_AllPass}
 use Rattle.std.proofs.lemmas.Option.{slice_get-get_or, slice_get_past}
 use Rattle.std.proofs.lemmas.Slice.Eq.{bytes_eq-Decides}
+use Rattle.sloth_base.specs.Limits.{name_limit}
 use Rattle.sloth_base.specs.ImageRange.{AreNames, IsName, IsWord, begins_word, continues_word}
 use Rattle.sloth_base.specs.declared.event.Event.{Event}
 use Rattle.sloth_base.specs.declared.event.Event.TheVariants as event
@@ -104,9 +105,9 @@ module _ (names : List (List ℕ)) (named : AreNames names) where
   number_lacks t = ⊎_elim (λ lt. name_lacks (name_of names t) (is_name t lt)) (λ ge. ap (is_byte_of 32) (past t ge)) (cases_lt t (length names))
 
   -- a name or `-` is short
-  pub short_names : (k : ℕ) → length (name_of names k) ≤ 64
+  pub short_names : (k : ℕ) → length (name_of names k) ≤ name_limit
   short_names k =
-      ⊎_elim (λ lt. (is_name k lt).short) (λ ge. subst (λ (t : List ℕ). length t ≤ 64) (sym (past k ge)) (omega arith)) (cases_lt k (length names))
+      ⊎_elim (λ lt. (is_name k lt).short) (λ ge. subst (λ (t : List ℕ). length t ≤ name_limit) (sym (past k ge)) (omega arith)) (cases_lt k (length names))
 
 service_lacks : (s : Service) → is_byte_of 32 (service_name s) ≡ false
 unfolding is_byte_of

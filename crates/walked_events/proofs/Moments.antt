@@ -13,6 +13,8 @@ use Rattle.osek_scheduler.specs.declared.state.TaskState.{TaskState}
 use Rattle.osek_scheduler.specs.declared.state.TaskState.TheVariants as mode
 use Rattle.osek_scheduler.specs.State.{Task, System, task, sleeping_task, opening}
 use Rattle.sloth_base.specs.Named.{declaration}
+use Rattle.sloth_base.specs.Limits.{task_limit}
+use Rattle.sloth_base.specs.MemoryMap.{line_count}
 use Rattle.osek_scheduler.specs.Services.{if_suspended, activated_state, started_task}
 use Rattle.osek_scheduler.specs.Steps.{OsekStep, admitted_state}
 use Rattle.osek_scheduler.specs.Runs.{Leads, ReadySince}
@@ -216,7 +218,7 @@ module _ (config : Config) (app : App) where
     stays_ready (event.Back t) f u r n = f.moves.stays.ready u (λ same. not_both (task s t).state (subst (IsReady s) same r) f.was) r
     stays_ready e f u r n = f.ready u r
 
-  module _ (past : List Stamped) (s : System) (moments : List ℕ) (keeps : KeepsMoments config app past s moments) (few : length config.tasks ≤ 30) where
+  module _ (past : List Stamped) (s : System) (moments : List ℕ) (keeps : KeepsMoments config app past s moments) (few : length config.tasks ≤ task_limit) where
     ordered : Ordered config s
     ordered = leads_ordered config app past (opening config app) s (opening_ordered config app) keeps.leads
 
@@ -328,7 +330,7 @@ module _ (config : Config) (app : App) where
       }
 
   -- before the first event no task has been Ready since an admit
-  pub no_moments : (moments : List ℕ) → length moments ≡ 32 → ((u : ℕ) → get_or moments u 0 ≡ 0) → KeepsMoments config app [] (opening config app) moments
+  pub no_moments : (moments : List ℕ) → length moments ≡ line_count → ((u : ℕ) → get_or moments u 0 ≡ 0) → KeepsMoments config app [] (opening config app) moments
   no_moments moments count zeros = record {
     leads = refl;
     count = count;

@@ -22,7 +22,9 @@ use Rattle.osek_scheduler.specs.Next.{all_below}
 use Rattle.osek_scheduler.specs.Runs.{Follows, ReadySince, OsekRun, PassesOver, PassesOverArrivals}
 use Rattle.osek_scheduler.proofs.Tests.{Decides-is_ready, Decides-is_active}
 use Rattle.osek_scheduler.proofs.Leading.{follows_leads, one_end}
-use Rattle.sloth_base.specs.Owners.{is_counter_line, owners_in}
+use Rattle.sloth_base.specs.Owners.{is_counter_line, owners_in, first_counter_line}
+use Rattle.sloth_base.specs.Limits.{task_limit}
+use Rattle.sloth_base.specs.MemoryMap.{line_count}
 use Rattle.osek_plans.specs.Above.{is_above, is_due_line, is_line_above}
 use Rattle.walked_events.specs.Moments.{KeepsMoments, all_later}
 use Rattle.walked_events.specs.Walk.{Walk, Walks, WalksOrStrays, StraysAt, Stops, IsWalked, task_passes, event_passes}
@@ -33,7 +35,7 @@ one_bit b = cond b 1 0
 
 -- ---- what is passed over
 
-module _ (config : Config) (app : App) (past : List Stamped) (s : System) (moments : List ℕ) (keeps : KeepsMoments config app past s moments) (few : length config.tasks ≤ 30) where
+module _ (config : Config) (app : App) (past : List Stamped) (s : System) (moments : List ℕ) (keeps : KeepsMoments config app past s moments) (few : length config.tasks ≤ task_limit) where
   abbrev IsAbove : ℕ → ℕ → Type 0
   IsAbove t u = (u < length config.tasks) × (((task s u).state ≡ mode.Ready) × (rank config s t < rank config s u))
 
@@ -51,7 +53,7 @@ module _ (config : Config) (app : App) (past : List Stamped) (s : System) (momen
   abbrev Later : ℕ → ℕ → ℕ → Type 0
   Later t k u = (¬ (IsLineAbove t u)) ⊎ (k < get_or moments u 0)
 
-  Decides-all_later : (t k : ℕ) → Decides (all_later (is_line_above config s t) moments k) ((u : ℕ) → u < 32 → Later t k u)
+  Decides-all_later : (t k : ℕ) → Decides (all_later (is_line_above config s t) moments k) ((u : ℕ) → u < line_count → Later t k u)
   unfolding all_later
   Decides-all_later t k =
       Decides-below_and (λ u. not (is_line_above config s t u) || ltb k (get_or moments u 0)) (Later t k)
@@ -68,9 +70,9 @@ module _ (config : Config) (app : App) (past : List Stamped) (s : System) (momen
   -- where a task runs, no counter is due
   no_due_line : NoTicks config s → (u : ℕ) → is_due_line config s u ≡ true → ⊥
   no_due_line quiet u e =
-      let due = and_parts (is_counter_line (owners_in config) u) (counter s (u - 30)).due e in
-      let line = and_parts (leb 30 u) (ltb (u - 30) (length config.counters)) due.0 in
-      true≢false (sym due.1 ∙ quiet (u - 30) (ltb-true (u - 30) (length config.counters) line.1))
+      let due = and_parts (is_counter_line (owners_in config) u) (counter s (u - first_counter_line)).due e in
+      let line = and_parts (leb first_counter_line u) (ltb (u - first_counter_line) (length config.counters)) due.0 in
+      true≢false (sym due.1 ∙ quiet (u - first_counter_line) (ltb-true (u - first_counter_line) (length config.counters) line.1))
 
   pub passes_is : (t k : ℕ) → NoTicks config s → PassesOver config app past s t k → all_later (is_line_above config s t) moments k ≡ true
   passes_is t k quiet h = (Decides-all_later t k).1 (λ u _. by u (is_line_above config s t u) refl)
@@ -207,8 +209,8 @@ walks_here config app events None walk none h = h
 walks_here config app events (Some k) walk none h = absurd cc
 
 -- before the first event
-pub walked_none : (config : Config) (app : App) (walk : Walk) → length config.tasks ≤ 30 → walk.machine ≡ record { config = config; app = app; system = opening config app }
-    → length walk.moments ≡ 32 → ((u : ℕ) → get_or walk.moments u 0 ≡ 0) → IsWalked config app [] walk
+pub walked_none : (config : Config) (app : App) (walk : Walk) → length config.tasks ≤ task_limit → walk.machine ≡ record { config = config; app = app; system = opening config app }
+    → length walk.moments ≡ line_count → ((u : ℕ) → get_or walk.moments u 0 ≡ 0) → IsWalked config app [] walk
 walked_none config app walk few is count zeros = record {
   few = few;
   config_is = ap (λ (m : Machine). m.config) is;

@@ -9,13 +9,15 @@ use Rattle.mem_map.specs.Sections.{marks_of}
 use Rattle.image_gen.specs.Gathered.{IsImageOf, MayGenerate}
 use Rattle.image_gen.proofs.Formed.{in_format}
 use Rattle.image_gen.proofs.Linking.{linked_image, sound, shows}
+use Rattle.sloth_base.specs.Limits.{task_limit}
+use Rattle.sloth_base.specs.Limits.{task_limit}
 use Rattle.image_gen.proofs.Planning.{may_generate}
 use Rattle.image_gen.proofs.image.image.Goals.{In_ok-image}
 use Rattle.image_gen.proofs.image.image.Goals as goal
 
 pub gather-requires : goal.gather-requires
 gather-requires c =
-    let long : length c.assign-levels.result.task ≡ 30 = search rules in
+    let long : length c.assign-levels.result.task ≡ task_limit = search rules in
     may_generate c.args.config.now c.args.app.now c.args.bounds.now c.requires c.assign-levels.result c.in_ok-map.map c.assign-levels.ensures.levels long
     c.assign-levels.ensures.within c.in_ok-map.ensures
 
@@ -42,7 +44,7 @@ is_image c may =
 
 pub returns : goal.returns
 returns c =
-    let long : length c.assign-levels.result.task ≡ 30 = search rules in
+    let long : length c.assign-levels.result.task ≡ task_limit = search rules in
     let may =
     may_generate c.args.config.now c.args.app.now c.args.bounds.now c.requires c.assign-levels.result c.in_ok-map.map c.assign-levels.ensures.levels long
     c.assign-levels.ensures.within c.in_ok-map.ensures in
