@@ -9,7 +9,7 @@ use Rattle.sloth_base.specs.MemoryMap.{memory_base}
 use Rattle.sloth_region.specs.Layout.{active, controller_base}
 use Rattle.rv32_instr.specs.declared.InstrKind.{InstrKind}
 use Rattle.rv32_instr.specs.Ram.{word_at}
-use Rattle.masked_code.specs.Owes.{◌▸◌, writes, loads, loads_byte, AreOfLine, Owes, Pending, Enabled}
+use Rattle.masked_code.proofs.Owes.{◌▸◌, writes, loads, loads_byte, AreOfLine, Owes, Pending, Enabled}
 use Rattle.masked_code.proofs.Arrivals.{has, byte_after}
 use Rattle.masked_code.specs.Place.{offset_state}
 use Rattle.masked_code.proofs.Leave.{behind}

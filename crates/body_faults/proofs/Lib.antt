@@ -5,3 +5,4 @@ pub mod Tests
 pub mod Labelled
 pub mod Parts
 pub mod Tested
+pub mod EmptyBodies

@@ -13,7 +13,8 @@ use Rattle.osek_scheduler.specs.declared.state.TaskState.TheVariants as mode
 use Rattle.osek_scheduler.specs.State.{Task, System, sleeping_task, task, opening}
 use Rattle.code_rules.specs.Code.{is_in}
 use Rattle.osek_scheduler.specs.Priority.{IsTop}
-use Rattle.osek_scheduler.specs.Services.{activated_state, started_task, Outcome, GoesOn, Leaves, IsAfter}
+use Rattle.osek_scheduler.specs.Services.{activated_state, started_task, Outcome, GoesOn, Leaves}
+use Rattle.osek_scheduler.proofs.ServiceStates.{IsAfter}
 use Rattle.osek_scheduler.specs.Steps.{admitted_state, ServesCall, OsekStep}
 use Rattle.osek_scheduler.specs.Runs.{Leads}
 use Rattle.osek_valid.specs.Apart.{IsActive, TasksAreApart}

@@ -29,7 +29,7 @@ use Rattle.raised_sections.specs.Pace.{item_counts, entry_counts, event_counts, 
 use Rattle.sim_induction.proofs.Events.{each_both}
 use Rattle.raised_sections.proofs.Counts.{behind_paced}
 use Rattle.raised_sections.proofs.Placed.{frame_effect, step_placed, opening_placed, leads_placed}
-use Rattle.run_bounds.specs.PacedRun.{LastsBriefly, BeginsWithBoot, IsPacedRun}
+use Rattle.run_bounds.proofs.PacedRun.{LastsBriefly, BeginsWithBoot, IsPacedRun}
 use Rattle.run_bounds.specs.Latency.{any_stretch, running_limit, is_tick, tick_counts, latency_with_ticks, EntersBefore, EntersInTime}
 use Rattle.run_bounds.proofs.Turns.{Awaits, is_outside}
 use Rattle.run_bounds.proofs.Waiting.{waiting, IsOnTheWay, waits_at_most, on_the_way}

@@ -4,3 +4,4 @@ pub mod Turns
 pub mod Waiting
 pub mod Entering
 pub mod Runs
+pub mod PacedRun

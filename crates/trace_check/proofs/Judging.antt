@@ -19,7 +19,8 @@ use Rattle.sloth_base.proofs.Owners.{IsCounterLine, owned_cases}
 use Rattle.osek_scheduler.specs.InTime.{InTime}
 use Rattle.line_words.specs.EventNumbers.{HasNumbers}
 use Rattle.trace_time.specs.Counts.{AreSmall, IsSmall}
-use Rattle.walked_events.specs.TraceText.{BeginsWithNone, HasLine, HasRead, IsFirstBad, Shows}
+use Rattle.walked_events.specs.TraceText.{BeginsWithNone, HasLine, IsFirstBad, Shows}
+use Rattle.walked_events.proofs.ReadEvents.{HasRead}
 use Rattle.trace_check.specs.Begun.{AreNamesOf}
 use Rattle.trace_check.specs.Verdicts.{counter_names, func_names, task_names}
 use Rattle.trace_check.specs.declared.verdict.Names.{Names}

@@ -1,3 +1,4 @@
 pub mod Moments
 pub mod Walking
 pub mod TraceText
+pub mod ReadEvents

@@ -23,7 +23,8 @@ use Rattle.sloth_base.specs.ServiceCodes.{service_name}
 use Rattle.line_words.specs.EventWords.{name_of, event_text}
 use Rattle.trace_text.proofs.Digits.{writes}
 use Rattle.trace_text.proofs.EventsBack.{stamped_back}
-use Rattle.walked_events.specs.TraceText.{text_of, HasLine, Shows, IsFirstBad, Begins, BeginsWithNone, HasRead}
+use Rattle.walked_events.specs.TraceText.{text_of, HasLine, Shows, IsFirstBad, Begins, BeginsWithNone}
+use Rattle.walked_events.proofs.ReadEvents.{HasRead}
 
 -- ---- no LF stands in a line
 
