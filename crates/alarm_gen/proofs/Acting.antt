@@ -11,7 +11,7 @@ use Rattle.sloth_base.specs.MemoryMap.{memory_base, memory_bytes, controller_bas
 use Rattle.sloth_region.specs.Layout.{active, events, wait, alarm_left, alarm_cycle}
 use Rattle.rv32_instr.specs.declared.InstrKind.{InstrKind}
 use Rattle.rv32_instr.specs.Ram.{word_at, with_word}
-use Rattle.masked_code.specs.Owes.{◌▸◌, writes, loads, stores, raises, sets_enabled, Owes}
+use Rattle.masked_code.proofs.Owes.{◌▸◌, writes, loads, stores, raises, sets_enabled, Owes}
 use Rattle.masked_code.proofs.Words.{word_at-other}
 use Rattle.masked_code.proofs.Parts.{hi_lo}
 use Rattle.masked_code.proofs.Leave.{behind}

@@ -11,7 +11,7 @@ use Rattle.sloth_base.specs.MemoryMap.{memory_base, memory_bytes, controller_bas
 use Rattle.sloth_region.specs.Layout.{active}
 use Rattle.rv32_instr.specs.declared.InstrKind.{InstrKind}
 use Rattle.rv32_instr.specs.Ram.{word_at}
-use Rattle.masked_code.specs.Owes.{◌▸◌, writes, loads, loads_byte, Owes, Pending, Enabled}
+use Rattle.masked_code.proofs.Owes.{◌▸◌, writes, loads, loads_byte, Owes, Pending, Enabled}
 use Rattle.masked_code.proofs.Arrivals.{length-arrive, other_bytes}
 use Rattle.masked_code.proofs.Leave.{behind}
 use Rattle.block_parts.proofs.Busy.{bit_arrives}

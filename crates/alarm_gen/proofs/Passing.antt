@@ -2,7 +2,7 @@
 use Rattle.std.proofs.Common.{◌≡◌, ℕ, zero, suc, ◌+◌, ◌*◌, List, [], ◌∷◌, ◌++◌, length, subst, arith}
 use Rattle.sloth_base.specs.Machine.{Core, State}
 use Rattle.rv32_instr.specs.declared.InstrKind.{InstrKind}
-use Rattle.masked_code.specs.Owes.{Owes}
+use Rattle.masked_code.proofs.Owes.{Owes}
 
 module _ (from to : ℕ) (E : List ℕ → State → State → Type 0) (start : State) where
   -- what is owed behind it is all

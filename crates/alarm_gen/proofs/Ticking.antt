@@ -14,7 +14,7 @@ use Rattle.sloth_region.specs.Layout.{active, counter_value}
 use Rattle.rv32_instr.specs.declared.InstrKind.{InstrKind}
 use Rattle.rv32_instr.specs.Ram.{word_at, with_word}
 use Rattle.masked_code.specs.Masked.{Masked, WithArrivals}
-use Rattle.masked_code.specs.Owes.{◌▸◌, writes, loads, stores, Owes}
+use Rattle.masked_code.proofs.Owes.{◌▸◌, writes, loads, stores, Owes}
 use Rattle.masked_code.specs.Place.{offset_state}
 use Rattle.masked_code.proofs.Leave.{behind}
 use Rattle.masked_code.proofs.Parts.{hi_lo}

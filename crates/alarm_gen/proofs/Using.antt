@@ -10,7 +10,7 @@ use Rattle.rv32_instr.specs.Ram.{with_word}
 use Rattle.masked_code.specs.Place.{offset_state}
 use Rattle.masked_code.specs.Masked.{FromOpening}
 use Rattle.masked_code.specs.Kernel.{masking}
-use Rattle.masked_code.specs.Owes.{◌▸◌, writes, loads, stores, Owes}
+use Rattle.masked_code.proofs.Owes.{◌▸◌, writes, loads, stores, Owes}
 use Rattle.masked_code.proofs.Spread.{based}
 use Rattle.masked_code.proofs.Routines.{masked}
 use Rattle.masked_code.proofs.Leave.{behind}

@@ -10,7 +10,7 @@ use Rattle.sloth_base.specs.Limits.{task_limit}
 use Rattle.sloth_region.specs.Layout.{active}
 use Rattle.rv32_instr.specs.declared.InstrKind.{InstrKind}
 use Rattle.rv32_instr.specs.Ram.{word_at}
-use Rattle.masked_code.specs.Owes.{◌▸◌, writes, loads, loads_byte, AreOfLine, Owes, Pending, Enabled}
+use Rattle.masked_code.proofs.Owes.{◌▸◌, writes, loads, loads_byte, AreOfLine, Owes, Pending, Enabled}
 use Rattle.masked_code.proofs.Arrivals.{has, byte_after}
 use Rattle.masked_code.specs.Place.{offset_state}
 use Rattle.masked_code.proofs.Leave.{behind}

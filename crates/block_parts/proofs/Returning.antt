@@ -6,7 +6,7 @@ use Rattle.sloth_base.specs.Machine.{Core, State}
 use Rattle.sloth_base.specs.MemoryMap.{memory_base, controller_base}
 use Rattle.rv32_instr.specs.declared.InstrKind.{InstrKind}
 use Rattle.masked_code.specs.Place.{offset_state}
-use Rattle.masked_code.specs.Owes.{◌▸◌, accesses, Owes}
+use Rattle.masked_code.proofs.Owes.{◌▸◌, accesses, Owes}
 use Rattle.masked_code.proofs.Spread.{based, spread_from, others}
 use Rattle.masked_code.proofs.Routines.{masked}
 use Rattle.block_parts.specs.Back.{CanGoBack, WentBack, a0, a1}

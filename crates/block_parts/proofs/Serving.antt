@@ -4,7 +4,7 @@ use Rattle.sloth_base.specs.Machine.{Core, State}
 use Rattle.rv32_instr.specs.declared.InstrKind.{InstrKind}
 use Rattle.masked_code.specs.Kernel.{CanRun, HoldBases, masking}
 use Rattle.masked_code.specs.Masked.{FromOpening}
-use Rattle.masked_code.specs.Owes.{Owes}
+use Rattle.masked_code.proofs.Owes.{Owes}
 use Rattle.masked_code.specs.Place.{offset_state}
 use Rattle.masked_code.proofs.Longest.{longest, longest_le}
 use Rattle.masked_code.proofs.Spread.{based, based_is}

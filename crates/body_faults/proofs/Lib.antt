@@ -6,3 +6,4 @@ pub mod Uses
 pub mod Labelled
 pub mod Parts
 pub mod Tested
+pub mod EmptyBodies

@@ -11,7 +11,8 @@ use Rattle.sloth_base.specs.declared.refusal.Refusal.{Refusal}
 use Rattle.sloth_base.specs.Named.{function, item_of, label_of}
 use Rattle.code_rules.specs.Code.{held_list_fallen_into, is_fallen_into, held_list_entering, is_entered}
 use Rattle.code_rules.specs.WellFormed.{Breaks, accesses_past, is_uneven, masks_past, runs_out, is_unreached, holds_other, releases_other, takes_held, leaves_holding, leaves_wrongly, uses_undeclared, Differs, falling_in, at_begin, BodyFault, at_header, at_label, at_item, fault_at_line}
-use Rattle.body_faults.specs.Cases.{EmptyFault, LabelFaults, ItemFaults, PlacesFault, FallFault}
+use Rattle.body_faults.specs.Cases.{LabelFaults, ItemFaults, PlacesFault, FallFault}
+use Rattle.body_faults.proofs.EmptyBodies.{EmptyFault}
 use Rattle.body_faults.specs.Labels.{last_label_below, list_of, ArePlaced}
 use Rattle.body_faults.proofs.Labelled.{is_first, first_is, entering_is, entered_is}
 

@@ -88,10 +88,6 @@ PlaceFault app f i r = FallFault f i r ⊎ HeldFaultAt app f i r
 abbrev pub PlacesFault : App → Func → Refusal → Type 0
 PlacesFault app f r = ((i : ℕ) × (i < length f.items) × PlaceFault app f i r) ⊎ FallFault f (length f.items) r
 
--- V5 of a body without items
-abbrev pub EmptyFault : Func → Refusal → Type 0
-EmptyFault f r = Case (length f.items ≡ 0) f.line code.V5 r
-
 -- what is known of the items of a body
 abbrev pub AreOps : Config → App → Func → Type 0
 AreOps config app f = (i : ℕ) → i < length f.items → IsOp config app f (item_of f i).op

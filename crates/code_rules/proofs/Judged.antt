@@ -4,7 +4,8 @@ use Rattle.std.proofs.lemmas.Bool.{cases_eq}
 use Rattle.std.specs.Bool.{Decides}
 use Rattle.sloth_base.specs.declared.refusal.Code.{Code}
 use Rattle.sloth_base.specs.declared.refusal.Refusal.{Refusal}
-use Rattle.least_fault.specs.Search.{KeepsLeast, Finds, merge, when}
+use Rattle.least_fault.specs.Search.{Finds, merge, when}
+use Rattle.least_fault.proofs.Searching.{KeepsLeast}
 use Rattle.least_fault.proofs.Kept.{kept_start, kept_on, kept_merge, kept_finds, finds_when}
 use Rattle.code_rules.specs.WellFormed.{fault_at_line}
 

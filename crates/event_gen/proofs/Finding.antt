@@ -6,7 +6,7 @@ use Rattle.sloth_base.specs.Limits.{task_limit}
 use Rattle.sloth_region.specs.Layout.{cur}
 use Rattle.rv32_instr.specs.declared.InstrKind.{InstrKind}
 use Rattle.rv32_instr.specs.Ram.{word_at}
-use Rattle.masked_code.specs.Owes.{◌▸◌, writes, loads, Owes}
+use Rattle.masked_code.proofs.Owes.{◌▸◌, writes, loads, Owes}
 use Rattle.masked_code.proofs.Leave.{behind}
 use Rattle.event_gen.specs.Pieces.{own_finding_code}
 

@@ -11,7 +11,7 @@ use Rattle.rv32_instr.specs.Ram.{word_at}
 use Rattle.masked_code.specs.Place.{offset_state}
 use Rattle.masked_code.specs.Masked.{FromOpening}
 use Rattle.masked_code.specs.Kernel.{masking}
-use Rattle.masked_code.specs.Owes.{◌▸◌, writes, loads, Owes}
+use Rattle.masked_code.proofs.Owes.{◌▸◌, writes, loads, Owes}
 use Rattle.masked_code.proofs.Spread.{based, spread_from}
 use Rattle.masked_code.proofs.Routines.{masked}
 use Rattle.masked_code.proofs.Leave.{behind}

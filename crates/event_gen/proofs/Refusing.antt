@@ -5,7 +5,7 @@ use Rattle.sloth_base.specs.Machine.{Core, State}
 use Rattle.sloth_base.specs.MemoryMap.{memory_base, memory_bytes, controller_base}
 use Rattle.sloth_base.specs.Status.{E_OS_STATE}
 use Rattle.rv32_instr.specs.declared.InstrKind.{InstrKind}
-use Rattle.masked_code.specs.Owes.{◌▸◌, writes, Owes}
+use Rattle.masked_code.proofs.Owes.{◌▸◌, writes, Owes}
 use Rattle.masked_code.specs.Place.{offset_state}
 use Rattle.masked_code.proofs.Leave.{behind}
 use Rattle.masked_code.proofs.Routines.{masked}

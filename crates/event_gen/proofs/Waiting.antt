@@ -13,8 +13,9 @@ use Rattle.rv32_instr.specs.Ram.{word_at, with_word, with_words}
 use Rattle.masked_code.specs.Place.{offset_state}
 use Rattle.masked_code.specs.Masked.{FromOpening}
 use Rattle.masked_code.specs.Pieces.{saving_code, registers_from}
-use Rattle.masked_code.specs.Kernel.{IsBelow, HasLeft, leaving_code, masking}
-use Rattle.masked_code.specs.Owes.{◌▸◌, writes, loads, stores, sets_enabled, IsApart, Owes}
+use Rattle.masked_code.specs.Kernel.{IsBelow, leaving_code, masking}
+use Rattle.masked_code.proofs.Resumption.{HasLeft}
+use Rattle.masked_code.proofs.Owes.{◌▸◌, writes, loads, stores, sets_enabled, IsApart, Owes}
 use Rattle.masked_code.proofs.Words.{word_at-other, word_at-others}
 use Rattle.masked_code.proofs.Spread.{based, spread_from}
 use Rattle.masked_code.proofs.Runs.{saves_owes}

@@ -1,3 +1,4 @@
 pub mod Counts
 pub mod Growth
 pub mod Passing
+pub mod PassTo

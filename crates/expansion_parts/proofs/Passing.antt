@@ -8,7 +8,8 @@ use Rattle.std.proofs.lemmas.Bool.{or_cases, or_parts, not-true}
 use Rattle.sloth_base.specs.declared.app.App.{App}
 use Rattle.sloth_base.specs.declared.app.Func.{Func}
 use Rattle.expansion_parts.specs.Long.{Set, IsBranchTo, IsNear, Suffices, IsInSet}
-use Rattle.expansion_parts.specs.Passes.{set_in_list, short_count, AreItemLengths, TellsFar, IsPassTo, IsPass, AreShortest}
+use Rattle.expansion_parts.specs.Passes.{set_in_list, short_count, AreItemLengths, TellsFar, IsPass, AreShortest}
+use Rattle.expansion_parts.proofs.PassTo.{IsPassTo}
 use Rattle.expansion_parts.proofs.Growth.{near-stays}
 
 module _ (app : App) (body : Func) (old : List Bool) where

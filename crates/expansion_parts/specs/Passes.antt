@@ -1,9 +1,8 @@
 -- What one pass over a body does to the set of long branches, in the form of a list.
-use Rattle.std.specs.Prelude.{ℕ, ◌+◌, ◌*◌, ◌<◌, ◌≤◌, ◌≡◌, Bool, true, false, cond, List, length, get_or, take, sum_by}
-use Rattle.sloth_base.specs.Named.{function}
+use Rattle.std.specs.Prelude.{ℕ, ◌+◌, ◌*◌, ◌<◌, ◌≤◌, ◌≡◌, Bool, true, false, cond, List, length, get_or, sum_by}
+use Rattle.sloth_base.specs.Named.{function, label_of}
 use Rattle.sloth_base.specs.declared.app.App.{App}
 use Rattle.sloth_base.specs.declared.app.Func.{Func}
-use Rattle.sloth_base.specs.Named.{label_of}
 use Rattle.sloth_base.specs.Limits.{item_limit, frame_limit}
 use Rattle.expansion_parts.specs.Long.{Set, size_at, place, IsBranchTo, IsNear, Suffices, IsInSet, AreLongBranches}
 
@@ -36,14 +35,6 @@ pub record AreItemLengths (app : App) (body : Func) (long : Set) (lengths : List
 pub record TellsFar (app : App) (body : Func) (long : Set) (index : ℕ) (far : Bool) : Type 0 where
   pub yes : far ≡ true → (target : ℕ) × IsBranchTo body index target × (long index ≡ false) × ¬ (IsNear app body long index target)
   pub no : far ≡ false → (target : ℕ) → IsBranchTo body index target → long index ≡ false → IsNear app body long index target
-
--- the pass before an item
-pub record IsPassTo (app : App) (body : Func) (old : List Bool) (index : ℕ) (new : List Bool) (changed : Bool) : Type 0 where
-  pub count : length new ≡ index
-  pub forced : (other : Set) → Suffices app body other → IsInSet body (set_in_list old) other
-      → (k target : ℕ) → k < index → IsBranchTo body k target → set_in_list new k ≡ true → other k ≡ true
-  pub near : changed ≡ false → (k : ℕ) → k < index → (target : ℕ) → IsBranchTo body k target → set_in_list old k ≡ false → IsNear app body (set_in_list old) k target
-  pub fewer : short_count new + cond changed 1 0 ≤ sum_by (λ b. cond b 0 1) (take index old)
 
 -- a whole pass
 pub record IsPass (app : App) (body : Func) (old new : List Bool) (changed : Bool) : Type 0 where

@@ -1,13 +1,12 @@
 -- The text with the lists that keep the rules is accepted.
 use Rattle.std.proofs.Common.{◌≡◌, ℕ, suc, ◌+◌, ◌<◌, Bool, true, false, not, ◌&&◌, ◌||◌, inl, inr, List, [], ◌∷◌, ◌++◌, length, map, get_or, cond, Some, refl, sym, ap, ◌∙◌, subst, arith, ⊎_elim}
 use Rattle.std.specs.Prelude.{◌==◌, All, codes}
-use Rattle.std.specs.List.{list_any, list_all}
+use Rattle.std.specs.List.{list_any, list_all, flat_map}
 use Rattle.std.specs.Str.{bytes_eq}
 use Rattle.std.proofs.lemmas.Bool.{false≢true, eqb-true, cases_lt, le-ltb}
 use Rattle.std.proofs.lemmas.List.{get_or_past}
-use Rattle.std.proofs.lemmas.List.Sums.{list_all-from_AllPass, AllPass-from_list_all}
+use Rattle.std.proofs.lemmas.List.Sums.{list_all-from_AllPass, AllPass-from_list_all, fold-append}
 use Rattle.std.proofs.lemmas.List.Folds.{list_any_at}
-use Rattle.std.proofs.lemmas.List.Sums.{fold-append}
 use Rattle.std.proofs.lemmas.Slice.Eq.{bytes_eq-Decides}
 use Rattle.sloth_base.specs.ConfigRange.{InRange, res_scheduler_name, scheduler_number}
 use Rattle.sloth_base.specs.ImageRange.{IsWord, IsName, begins_word, continues_word}
@@ -20,7 +19,6 @@ use Rattle.sloth_base.specs.declared.refusal.Part.TheVariants.{Src}
 use Rattle.least_fault.specs.Order.{NoFault}
 use Rattle.least_fault.specs.Search.{SomeFrom}
 use Rattle.least_fault.proofs.Nowhere.{case_false}
-use Rattle.std.specs.List.{flat_map}
 use Rattle.std.proofs.lemmas.List.Elements.{All-append, All-map}
 use Rattle.sloth_base.specs.Named.{no_function}
 use Rattle.sloth_base.specs.Limits.{name_limit}
@@ -47,7 +45,8 @@ use Rattle.asm_parse.proofs.LinesRead.{all_read}
 use Rattle.sloth_source.specs.SourceText.{HasApp, SourceText}
 use Rattle.held_lists.specs.Filling.{bare_app, SameButLists}
 use Rattle.label_lists.specs.LabelLines.{resource_name, resource_names}
-use Rattle.holds_infer.specs.Relabel.{func_holds, all_holds, relabeled_lines, AreInPlace}
+use Rattle.holds_infer.specs.Relabel.{func_holds, all_holds, relabeled_lines}
+use Rattle.holds_infer.proofs.InPlace.{AreInPlace}
 use Rattle.holds_infer.specs.FilledText.{filled_text}
 use Rattle.held_lists.proofs.Spreading.{all_none}
 use Rattle.holds_infer.proofs.Written.{AreWritten}

@@ -6,3 +6,4 @@ pub mod Faultless
 pub mod Accepts
 pub mod Loops
 pub mod OneSource
+pub mod InPlace

@@ -1,5 +1,5 @@
 -- Lines of task source with other lists at their labels.
-use Rattle.std.specs.Prelude.{ℕ, ◌≡◌, Bool, false, if◌then◌else◌, List, [], ◌∷◌, map}
+use Rattle.std.specs.Prelude.{ℕ, if◌then◌else◌, List, [], ◌∷◌, map}
 use Rattle.std.specs.List.{flat_map}
 use Rattle.sloth_base.specs.declared.config.Config.{Config}
 use Rattle.sloth_base.specs.declared.app.App.{App}
@@ -8,7 +8,6 @@ use Rattle.asm_lines.specs.declared.operands.Operand.TheVariants.{Name}
 use Rattle.asm_lines.specs.declared.source_line.SourceLine.{SourceLine}
 use Rattle.asm_lines.specs.declared.source_line.SourceLine.TheVariants.{Statement}
 use Rattle.statement_forms.specs.declared.forms.Mnemonic.TheVariants as mnemonic
-use Rattle.asm_lines.specs.Faults.{is_a1, after_line}
 use Rattle.asm_scopes.specs.Said.{is_label, name_of}
 use Rattle.label_lists.specs.LabelLines.{resource_names}
 
@@ -45,8 +44,3 @@ relabeled_lines config lists (line ∷ lines) =
     if is_label line
     then label_statement (name_of line) (resource_names config (first_list lists)) ∷ relabeled_lines config (other_lists lists) lines
     else line ∷ relabeled_lines config lists lines
-
--- the lines stand where they may: inside a body what belongs there, and outside what belongs there
-abbrev pub AreInPlace : Bool → List SourceLine → Type 0
-AreInPlace inside [] = Unit {0}
-AreInPlace inside (line ∷ lines) = (is_a1 inside line ≡ false) × AreInPlace (after_line inside line) lines

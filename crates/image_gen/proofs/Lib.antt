@@ -9,3 +9,4 @@ pub mod Linking
 pub mod Formed
 pub mod Planning
 pub mod Places
+pub mod ImageOf

@@ -1,6 +1,5 @@
 -- What the code of an image is generated from, and the blocks of that code.
 use Rattle.std.specs.Prelude.{ℕ, ◌%◌, ◌<◌, ◌≤◌, ◌≡◌, List, length, All, slice_index}
-use Rattle.std.specs.List.Sorted.{IsPermutation, IsStrictlyIncreasing}
 use Rattle.sloth_base.specs.ImageRange.{AreFields, service_limit}
 use Rattle.sloth_base.specs.Named.{declaration}
 use Rattle.sloth_base.specs.declared.app.App.{App}
@@ -18,14 +17,10 @@ use Rattle.rv32_instr.specs.declared.block.Block.{Block}
 use Rattle.rv32_expand.specs.InPlace.{IsBodyName}
 use Rattle.mem_map.specs.Plan.{code_end, code_extents}
 use Rattle.mem_map.specs.Planned.{IsPlanned}
-use Rattle.sim_relation.specs.Bounds.{AreBelow}
-use Rattle.sloth_link.specs.declared.datum.Datum.{Datum}
 use Rattle.sloth_link.specs.Image.{all_blocks}
 use Rattle.sloth_link.specs.Items.{MarksAreOfItems}
-use Rattle.mem_map.specs.Sections.{addresses, marks_of}
 use Rattle.sim_image.specs.Generated.{HasCode, HasItemBlocks}
-use Rattle.sim_image.specs.Rooms.{FitRooms, FollowClosely, HasOwnMarks}
-use Rattle.sim_image.specs.Standing.{IsLinkedIn}
+use Rattle.sim_image.specs.Rooms.{FitRooms, FollowClosely}
 
 -- Well-formed task code with its levels, and its map by the bytes of stack that its tasks may need. The body of each task has the task's name.
 pub record MayGenerate (config : Config) (app : App) (levels : Levels) (map : Map) : Type 0 where
@@ -57,24 +52,6 @@ pub record IsGathered (config : Config) (app : App) (levels : Levels) (map : Map
   pub close : FollowClosely vectors_base (code_end planned.lengths) (all_blocks app map blocks)
   pub few : length (all_blocks app map blocks) ≤ 8192
   pub format : All (MarksInFormat config app) (all_blocks app map blocks)
-
--- these bytes and marks are those blocks and the data of the task code, linked
-pub record IsImageOf (config : Config) (app : App) (levels : Levels) (map : Map) (memory : List ℕ) (marks : List Mark) : Type 0 where
-  pub size : ℕ
-  pub blocks : List Block
-  pub symbols : List Datum
-  pub bounds : Bounds
-  pub linked : IsLinkedIn map config app bounds size blocks symbols memory
-  pub has_code : HasCode config app levels map blocks
-  pub has_items : HasItemBlocks config app map.places blocks
-  pub whole_words : size % 4 ≡ 0
-  pub few : length blocks ≤ 8192
-  pub few_marks : All (λ b. length b.marks ≤ 2) blocks
-  pub format : All (MarksInFormat config app) blocks
-  pub own_marks : All HasOwnMarks blocks
-  pub marks_are : IsPermutation (marks_of blocks) marks
-  pub ascending : IsStrictlyIncreasing (addresses marks)
-  pub bytes : AreBelow 256 memory
 
 -- ---- what is built
 

@@ -1,11 +1,11 @@
 -- A running least is the least of the whole set.
-use Rattle.std.proofs.Common.{◌≡◌, ℕ, ◌<◌, ◌≤◌, Bool, true, false, cond, ltb, Option, Some, None, ◌⊎◌, inl, inr, ⊎_elim, refl, ap, sym, ◌∙◌, subst, arith}
+use Rattle.std.proofs.Common.{◌≡◌, ℕ, ◌<◌, ◌≤◌, Bool, true, false, cond, ltb, Option, Some, None, ◌⊎◌, inl, inr, ⊎_elim, refl, ap, sym, ◌∙◌, subst, arith, List, [], ◌∷◌, ◌++◌, take, drop, get_or, length, ◌+◌, add-one, suc}
 use Rattle.std.proofs.lemmas.Bool.Decides.{eqb_tells, leb_tells}
 use Rattle.std.proofs.lemmas.Bool.{cases_lt, lt-ltb, le-ltb}
 use Rattle.sloth_base.specs.declared.refusal.Refusal.{Refusal}
 use Rattle.least_fault.specs.Order.{number, Precedes, is_before, IsLeast, NoFault}
-use Rattle.least_fault.specs.Search.{lesser, IsBeaten, KeepsLeast, Finds, merge, when, SomeFrom, Somewhere}
-use Rattle.std.proofs.Common.{List, [], ◌∷◌, ◌++◌, take, drop, get_or, length, ◌+◌, add-one, suc}
+use Rattle.least_fault.specs.Search.{lesser, Finds, merge, when, SomeFrom, Somewhere}
+use Rattle.least_fault.proofs.Searching.{IsBeaten, KeepsLeast}
 use Rattle.std.proofs.Math.Seq.{drop-cons, take-suc}
 use Rattle.std.proofs.Math.ListN.{drop_of_length-le}
 

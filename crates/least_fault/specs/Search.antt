@@ -1,7 +1,7 @@
 -- Searches for the least fault, in whatever order the faults are met.
-use Rattle.std.specs.Prelude.{◌≡◌, Bool, if◌then◌else◌, Option, Some, None, ◌⊎◌, List, [], ◌∷◌, ◌++◌}
+use Rattle.std.specs.Prelude.{Bool, if◌then◌else◌, Option, Some, None, ◌⊎◌, List, [], ◌∷◌, ◌++◌}
 use Rattle.sloth_base.specs.declared.refusal.Refusal.{Refusal}
-use Rattle.least_fault.specs.Order.{Precedes, is_before, IsLeast, NoFault}
+use Rattle.least_fault.specs.Order.{is_before, IsLeast, NoFault}
 
 -- the lesser of the least refusal so far and one more; the earlier found where neither is less
 unfoldable pub lesser : Option Refusal → Refusal → Refusal
@@ -30,14 +30,3 @@ SomeFrom P front (x ∷ xs) r = P front x r ⊎ SomeFrom P (front ++ x ∷ []) x
 -- P holds of an element of xs, with those before it.
 abbrev pub Somewhere : {X : Type 0} → (List X → X → Refusal → Type 0) → List X → Refusal → Type 0
 Somewhere P xs r = SomeFrom P [] xs r
-
--- the least so far stands no later than r
-abbrev pub IsBeaten : Option Refusal → Refusal → Type 0
-IsBeaten None r = ⊥
-IsBeaten (Some m) r = Precedes m r
-
--- Of the faults F those of G are still to be met; the least of the others is kept.
-pub record KeepsLeast (F G : Refusal → Type 0) (o : Option Refusal) : Type 0 where
-  pub own : (m : Refusal) → o ≡ Some m → F m
-  pub to_come : (r : Refusal) → G r → F r
-  pub all : (r : Refusal) → F r → G r ⊎ IsBeaten o r

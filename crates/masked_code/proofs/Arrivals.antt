@@ -5,7 +5,7 @@ use Rattle.std.proofs.lemmas.Bool.{cases_eq, eq-eqb, ne_eqb, cases_Bool}
 use Rattle.std.proofs.lemmas.List.{length-set, get_or-set_same, get_or-set_other, ext_get_or, set_comm}
 use Rattle.std.proofs.Math.Bool.{or-false, and-false}
 use Rattle.sloth_base.specs.Arrive.{arrive}
-use Rattle.masked_code.specs.Owes.{AreOfLine}
+use Rattle.masked_code.proofs.Owes.{AreOfLine}
 use Rattle.masked_code.specs.Trace.{Trace, is_touched_line, touched_lines_of, untouched_lines_of, early_arrivals, late_arrivals}
 
 -- lines that arrive behind others

@@ -8,9 +8,11 @@ use Rattle.sloth_base.specs.MemoryMap.{memory_base, memory_bytes, controller_bas
 use Rattle.sloth_region.specs.Layout.{cur, below_word, context_bytes, context_level, context_cur, context_below}
 use Rattle.rv32_instr.specs.declared.InstrKind.TheVariants.{Mret}
 use Rattle.rv32_instr.specs.Ram.{word_at, with_word}
-use Rattle.masked_code.specs.Owes.{◌▸◌, writes, loads, stores, accesses, Owes}
-use Rattle.masked_code.specs.Kernel.{HoldBases, IsBelow, idle_loop_test, leaving_code, HasLeft}
-use Rattle.masked_code.specs.Pieces.{restoring_code, restored_registers}
+use Rattle.masked_code.proofs.Owes.{◌▸◌, writes, loads, stores, accesses, Owes}
+use Rattle.masked_code.specs.Kernel.{HoldBases, IsBelow, idle_loop_test, leaving_code}
+use Rattle.masked_code.proofs.Resumption.{HasLeft}
+use Rattle.masked_code.specs.Pieces.{restoring_code}
+use Rattle.masked_code.proofs.RegisterCode.{restored_registers}
 use Rattle.masked_code.proofs.Words.{word_at-other}
 use Rattle.masked_code.proofs.Runs.{restores_owes, length-restored, restored_other, restored_at}
 

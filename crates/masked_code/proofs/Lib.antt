@@ -11,3 +11,6 @@ pub mod Runs
 pub mod OneMore
 pub mod Parts
 pub mod Leave
+pub mod Resumption
+pub mod RegisterCode
+pub mod Owes

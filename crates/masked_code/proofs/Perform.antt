@@ -14,7 +14,7 @@ use Rattle.rv32_instr.specs.declared.effect.Effect.TheVariants.{Load, Store}
 use Rattle.rv32_instr.specs.Ram.{word_at, with_word}
 use Rattle.rv32_instr.specs.Memory.{memory_of, with_memory, refusal, loaded_number, stored_memory}
 use Rattle.rv32_instr.specs.Execute.{perform, touched_line_by, pending_line, goes_on, unless_refused, with_register, with_csr, changed_core}
-use Rattle.masked_code.specs.Owes.{IsWordAt, Pending, Enabled, Level, IsAt}
+use Rattle.masked_code.proofs.Owes.{IsWordAt, Pending, Enabled, Level, IsAt}
 use Rattle.masked_code.proofs.Machine.{word_allowed, word_loaded, word_stored, byte_allowed, store_allowed, pending_loaded, enabled_loaded, level_loaded, pending_stored, enabled_stored, level_stored}
 
 -- ---- which line an address is the pending byte of

@@ -15,7 +15,7 @@ use Rattle.rv32_instr.specs.Execute.{Going, step, touched, touched_line_by, jump
 use Rattle.masked_code.specs.Trace.{Trace, touched_lines, early_arrivals, late_arrivals}
 use Rattle.masked_code.specs.Masked.{OnGoing, Masked, WithArrivals, FromOpening}
 use Rattle.masked_code.specs.Place.{offset_state, InPlace, AreWritten}
-use Rattle.masked_code.specs.Owes.{Owes}
+use Rattle.masked_code.proofs.Owes.{Owes}
 use Rattle.masked_code.specs.Kernel.{masking}
 use Rattle.masked_code.proofs.Arrivals.{taken_early, left_late, taken, left}
 use Rattle.masked_code.proofs.Longest.{longest, longest_le}

@@ -7,8 +7,9 @@ use Rattle.sloth_base.specs.Machine.{Core, State}
 use Rattle.sloth_base.specs.MemoryMap.{memory_base, memory_bytes}
 use Rattle.rv32_instr.specs.declared.InstrKind.{InstrKind}
 use Rattle.rv32_instr.specs.Ram.{word_at, with_word, with_words}
-use Rattle.masked_code.specs.Owes.{◌▸◌, writes, loads, stores, Owes}
-use Rattle.masked_code.specs.Pieces.{saving_code, restoring_code, clearing_code, words_clearing_code, registers_from, restored_registers, cleared_registers}
+use Rattle.masked_code.proofs.Owes.{◌▸◌, writes, loads, stores, Owes}
+use Rattle.masked_code.specs.Pieces.{saving_code, restoring_code, clearing_code, words_clearing_code, registers_from}
+use Rattle.masked_code.proofs.RegisterCode.{restored_registers, cleared_registers}
 
 -- they are as many as the words
 pub length-clears_words : (n k b : ℕ) → length (words_clearing_code n k b) ≡ n

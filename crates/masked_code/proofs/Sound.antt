@@ -18,7 +18,7 @@ use Rattle.rv32_instr.specs.Execute.{Next, Going, step, touched, perform, touche
 use Rattle.masked_code.specs.Trace.{Trace, touched_lines}
 use Rattle.masked_code.specs.Masked.{OnGoing, Masked}
 use Rattle.masked_code.specs.Place.{offset_state, InPlace}
-use Rattle.masked_code.specs.Owes.{◌▸◌, IsApart, Pending, Enabled, Level, Raised, Cleared, Switched, Levelled, Ways, OwesOne, Owes}
+use Rattle.masked_code.proofs.Owes.{◌▸◌, IsApart, Pending, Enabled, Level, Raised, Cleared, Switched, Levelled, Ways, OwesOne, Owes}
 use Rattle.masked_code.proofs.Arrivals.{arrive-append, arrive-set, length-arrive, of_line, not_line, are_of, parted, found_of_line, stored_parted, taken, left}
 use Rattle.masked_code.proofs.Words.{get_or-with_word, word_at-agree}
 use Rattle.masked_code.proofs.Longest.{longest, LeavesFew, leaves_few}

@@ -1,12 +1,12 @@
 -- The code that ends a stretch by going back to what runs below, and the state that this leaves.
-use Rattle.std.specs.Prelude.{ℕ, ◌+◌, ◌*◌, ◌%◌, ◌≡◌, ◌≢◌, ◌<◌, ◌≤◌, true, pos, List, [], ◌∷◌, ◌++◌, length, slice_index}
-use Rattle.sloth_base.specs.Machine.{Core, State}
+use Rattle.std.specs.Prelude.{ℕ, ◌+◌, ◌*◌, ◌%◌, ◌≡◌, ◌<◌, ◌≤◌, true, pos, List, [], ◌∷◌, ◌++◌, length, slice_index}
+use Rattle.sloth_base.specs.Machine.{Core}
 use Rattle.sloth_base.specs.MemoryMap.{memory_base, memory_bytes, controller_base, line_count}
 use Rattle.sloth_region.specs.Layout.{cur, below_word, idle_context, context_bytes, context_pc, context_level, context_cur, context_below}
 use Rattle.rv32_instr.specs.declared.csr.TheConstants.{MSTATUS, MEPC, PLEVEL}
 use Rattle.rv32_instr.specs.declared.InstrKind.{InstrKind}
 use Rattle.rv32_instr.specs.declared.InstrKind.TheVariants.{Addi, Beq, Lw, Sw, Csrrw, Csrrci, Mret}
-use Rattle.rv32_instr.specs.Ram.{word_at, with_word}
+use Rattle.rv32_instr.specs.Ram.{word_at}
 use Rattle.masked_code.specs.Place.{InPlace}
 use Rattle.masked_code.specs.Pieces.{past, restoring_code}
 
@@ -69,19 +69,3 @@ pub record LeftAs (core end : Core) : Type 0 where
   pub ram : end.ram ≡ core.ram
   pub scratch : end.mscratch ≡ core.mscratch
   pub controller : end.controller ≡ core.controller
-
--- the core in which what is below runs, by the words of its context
-abbrev pub resumed_core : ℕ → Core → Core
-resumed_core place core =
-    record core {
-      ilevel = word_at core.ram (place + context_level);
-      ram = with_word (with_word core.ram cur (word_at core.ram (place + context_cur))) below_word (word_at core.ram (place + context_below));
-    }
-
--- The state after it, where MPIE was 1: all is as the context says. Of the idle loop it says nothing of x5 to x31.
-pub record HasLeft (place : ℕ) (core : Core) (end : State) : Type 0 where
-  pub left : LeftAs (resumed_core place core) end.core
-  pub pc : end.pc ≡ word_at core.ram place
-  pub x2 : slice_index end.core.registers 2 ≡ memory_base + (place + context_bytes)
-  pub loaded : word_at core.ram (place + context_cur) ≢ 0 → (i : ℕ) → 5 ≤ i → i < 32
-      → slice_index end.core.registers i ≡ word_at core.ram (place + 4 * i)

@@ -1,8 +1,7 @@
 -- Runs of instructions over registers one after the other, and what they leave.
-use Rattle.std.specs.Prelude.{ℕ, zero, suc, ◌+◌, ◌*◌, ℤ, pos, List, [], ◌∷◌, length, slice_index, slice_set}
+use Rattle.std.specs.Prelude.{ℕ, zero, suc, ◌+◌, ◌*◌, ℤ, pos, List, [], ◌∷◌, length, slice_index}
 use Rattle.rv32_instr.specs.declared.InstrKind.{InstrKind}
 use Rattle.rv32_instr.specs.declared.InstrKind.TheVariants.{Sw, Lw, Addi}
-use Rattle.rv32_instr.specs.Ram.{word_at}
 
 -- how far a branch goes that passes this code
 abbrev pub past : List InstrKind → ℤ
@@ -32,14 +31,3 @@ words_clearing_code (suc count) number base = Sw base 0 (pos (4 * number)) ∷ w
 abbrev pub registers_from : ℕ → ℕ → List ℕ → List ℕ
 registers_from zero first registers = []
 registers_from (suc count) first registers = slice_index registers first ∷ registers_from count (suc first) registers
-
--- the registers with these loaded, from the context at an offset in RAM
-abbrev pub restored_registers : ℕ → ℕ → List ℕ → ℕ → List ℕ → List ℕ
-restored_registers zero first ram place registers = registers
-restored_registers (suc count) first ram place registers =
-    restored_registers count (suc first) ram place (slice_set registers first (word_at ram (place + 4 * first)))
-
--- the registers with so many of them 0, from this one on
-abbrev pub cleared_registers : ℕ → ℕ → List ℕ → List ℕ
-cleared_registers zero first registers = registers
-cleared_registers (suc count) first registers = cleared_registers count (suc first) (slice_set registers first 0)

@@ -16,3 +16,4 @@ pub mod Growing
 pub mod Ends
 pub mod CodeBytes
 pub mod Marked
+pub mod StackCount

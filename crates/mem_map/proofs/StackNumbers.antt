@@ -3,7 +3,7 @@ use Rattle.std.proofs.Common.{◌≡◌, ◌≢◌, ℕ, zero, suc, ◌+◌, ◌
 use Rattle.std.proofs.lemmas.Bool.{cases_Bool, cases_lt, cond-true, cond-false, eqb-true, eqb-false}
 use Rattle.sloth_base.specs.declared.config.TaskDecl.{TaskDecl}
 use Rattle.mem_map.specs.StackParts.{is_extended, own_before, first_own, stack_number}
-use Rattle.mem_map.specs.Stacks.{stack_count}
+use Rattle.mem_map.proofs.StackCount.{stack_count}
 
 module _ (tasks : List TaskDecl) where
   abbrev n : ℕ

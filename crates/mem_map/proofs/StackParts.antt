@@ -17,10 +17,10 @@ use Rattle.stack_bounds.specs.Bounds.{IsBasic, MayBePreempted, MayMeet, bytes_of
 use Rattle.stack_bounds.specs.Bounds.MayMeet.{waits, meets_waiting, is_over, is_under}
 use Rattle.mem_map.specs.Run.{run}
 use Rattle.mem_map.specs.Zones.{data_zone, stack_of, all_stacks}
-use Rattle.mem_map.specs.StackParts.{no_extent}
+use Rattle.mem_map.specs.StackParts.{no_extent, is_extended, first_own, stack_number, HasStack}
 use Rattle.mem_map.specs.Plan.{AreNeeds}
-use Rattle.mem_map.specs.StackParts.{is_extended, first_own, stack_number, HasStack}
-use Rattle.mem_map.specs.Stacks.{stack_count, shared_length, AreStackLengths, AreStacksBefore, top_of, address_behind_data, PartsApart, HasStacks}
+use Rattle.mem_map.specs.Stacks.{shared_length, AreStackLengths, AreStacksBefore, top_of, address_behind_data, PartsApart, HasStacks}
+use Rattle.mem_map.proofs.StackCount.{stack_count}
 use Rattle.mem_map.proofs.StackNumbers.{number_own, number_shared, number_below, shares, differ, has_basic, found}
 
 clash : {X : Type 0} → true ≡ false → X

@@ -9,16 +9,9 @@ use Rattle.sloth_region.specs.declared.extent.Extent.{Extent}
 use Rattle.sloth_region.specs.declared.map.Map.{Map}
 use Rattle.sloth_region.specs.Region.{aligned, IsBelow}
 use Rattle.stack_bounds.specs.Bounds.{IsBasic, MayBePreempted, MayMeet, bytes_of}
-use Rattle.mem_map.specs.StackParts.{is_extended, own_before, first_own, stack_number, HasStack}
+use Rattle.mem_map.specs.StackParts.{is_extended, own_before, first_own, stack_number, no_extent}
 use Rattle.mem_map.specs.Zones.{data_zone, stack_of, all_stacks}
-use Rattle.mem_map.specs.StackParts.{no_extent}
 use Rattle.mem_map.specs.Run.{room_for, run}
-
--- ---- how many there are
-
--- how many stacks there are
-abbrev pub stack_count : List TaskDecl → ℕ
-stack_count tasks = first_own tasks + own_before tasks (length tasks)
 
 -- ---- lengths
 

@@ -9,7 +9,8 @@ use Rattle.sloth_base.specs.declared.refusal.BuildError.TheVariants.{Refused, Me
 use Rattle.sloth_base.specs.declared.refusal.Part.TheVariants.{Oil}
 use Rattle.sloth_base.specs.declared.refusal.Code.TheVariants as code
 use Rattle.least_fault.specs.Order.{IsLeast, NoFault, ErrorIs}
-use Rattle.least_fault.specs.Search.{lesser, KeepsLeast}
+use Rattle.least_fault.specs.Search.{lesser}
+use Rattle.least_fault.proofs.Searching.{KeepsLeast}
 use Rattle.least_fault.proofs.Kept.{kept_on, kept_found, kept_none, kept_least, least_same}
 use Rattle.oil_lex.specs.declared.kinds.TokenKind.{TokenKind}
 use Rattle.oil_lex.specs.declared.kinds.TokenKind.TheVariants as token
@@ -22,9 +23,8 @@ use Rattle.oil_parse.specs.declared.machine.Construct.{Construct}
 use Rattle.oil_parse.specs.declared.machine.Construct.TheVariants.{Head, Section, Object, Attr, File}
 use Rattle.oil_parse.specs.declared.machine.Expect.{Expect}
 use Rattle.oil_parse.specs.declared.machine.Expect.TheVariants.{Start, VersionIs, VersionText, Ending, Describing, Closing, Body, SectionName, SectionOpen, Inside, CpuWord, CpuName, CpuOpen, Objects, ObjectName, ObjectTail, Attrs, AttrIs, AttrValue, AttrTail, Done}
-use Rattle.oil_parse.specs.Shapes.{shape}
+use Rattle.oil_parse.specs.Shapes.{shape, shape_by}
 use Rattle.oil_parse.specs.declared.parser.Parser.{Parser}
-use Rattle.oil_parse.specs.Shapes.{shape_by}
 use Rattle.oil_parse.specs.declared.tree.OilTree.{OilTree}
 use Rattle.oil_parse.specs.Grammar.{IsFile}
 use Rattle.oil_parse.specs.Faults.{GrammarFault}

@@ -12,7 +12,8 @@ use Rattle.osek_scheduler.specs.declared.state.TaskState.TheVariants as mode
 use Rattle.osek_scheduler.specs.State.{Task, System, sleeping_task, task}
 use Rattle.code_rules.specs.Code.{is_in}
 use Rattle.osek_scheduler.specs.Priority.{IsTop}
-use Rattle.osek_scheduler.specs.Services.{activated_state, started_task, Outcome, GoesOn, Leaves, IsAfter}
+use Rattle.osek_scheduler.specs.Services.{activated_state, started_task, Outcome, GoesOn, Leaves}
+use Rattle.osek_scheduler.proofs.ServiceStates.{IsAfter}
 use Rattle.osek_scheduler.specs.Steps.{admitted_state, ServesCall, OsekStep}
 use Rattle.osek_valid.specs.Apart.{IsActive, TasksAreApart}
 use Rattle.osek_valid.proofs.Apart.{Same, Acts, admit_calm, enter_acts, run_acts, call_acts, left_acts, back_acts}

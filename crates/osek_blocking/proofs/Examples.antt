@@ -10,7 +10,8 @@ use Rattle.sloth_base.specs.declared.event.Stamped.{Stamped}
 use Rattle.sloth_base.specs.declared.service.Service.TheVariants as service
 use Rattle.osek_scheduler.specs.State.{System, task, opening}
 use Rattle.code_rules.specs.Code.{is_in}
-use Rattle.osek_scheduler.specs.Next.{system_after, is_ready}
+use Rattle.osek_scheduler.specs.Next.{is_ready}
+use Rattle.osek_scheduler.proofs.SystemAfter.{system_after}
 use Rattle.osek_scheduler.proofs.Examples.{full, system, body, code, serve, accepts}
 use Rattle.osek_scheduler.proofs.Next.{step_of}
 use Rattle.osek_valid.specs.Apart.{priority_of, static_priority}

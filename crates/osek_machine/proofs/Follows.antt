@@ -24,7 +24,8 @@ use Rattle.osek_scheduler.specs.State.{Frame, Task, System, sleeping_task, task,
 use Rattle.osek_scheduler.specs.Priority.{is_active}
 use Rattle.osek_scheduler.specs.Meaning.{ItemMeaning, execution, accessed_bytes, loaded_word, bytes_after_store, register, going_on_frame, write_meaning, is_own, registers_of, on_some, if_true}
 use Rattle.osek_scheduler.specs.Services.{if_suspended, is_there, woken_state, with_events, set_events, Outcome, started_task}
-use Rattle.osek_scheduler.specs.Outcomes.{shown_outcome, Decision, Does, IfSuspended, If, plan_in, outcome_of, OnPlans, decision, outcome}
+use Rattle.osek_scheduler.specs.Outcomes.{shown_outcome, Decision, Does, IfSuspended, If, plan_in, outcome_of, decision, outcome, plan}
+use Rattle.osek_scheduler.proofs.AllPlans.{OnPlans}
 use Rattle.osek_scheduler.specs.Outcomes as one_by_one
 use Rattle.osek_scheduler.proofs.Outcomes.{on_tested}
 use Rattle.osek_scheduler.specs.declared.change.TaskChange.{TaskChange}
@@ -34,10 +35,8 @@ use Rattle.osek_scheduler.specs.Next.{is_ready, is_top, is_position, operation_o
 use Rattle.osek_scheduler.specs.declared.change.TaskChange.TheVariants as change
 use Rattle.osek_scheduler.specs.declared.plan.Other.TheVariants as other
 use Rattle.osek_scheduler.specs.declared.plan.Plan.{Plan}
-use Rattle.osek_scheduler.specs.Changes.{changed_task, woken_task_state}
-use Rattle.osek_scheduler.specs.Changes.{with_change}
+use Rattle.osek_scheduler.specs.Changes.{changed_task, woken_task_state, with_change}
 use Rattle.osek_plans.specs.Plans.{with_other, planned_system, write_plan, service_plan, item_plan, item_behind, is_inside}
-use Rattle.osek_scheduler.specs.Outcomes.{plan}
 use Rattle.osek_plans.specs.Running.{next_operation, own_operation, run_plan, call_in, call_plan, serving_plan, running_plan, entry_change, entry_plan, back_plan}
 use Rattle.osek_plans.specs.Steps.{answer_plan, leave_plan, followed_state}
 

@@ -35,7 +35,8 @@ use Rattle.osek_scheduler.specs.State.{Frame, Task, System, sleeping_task, task,
 use Rattle.osek_scheduler.specs.Priority.{is_active}
 use Rattle.osek_scheduler.specs.Meaning.{is_own, registers_of, on_some, if_true, register}
 use Rattle.osek_scheduler.specs.Services.{is_task, is_alarm, is_there}
-use Rattle.osek_scheduler.specs.Outcomes.{OnPlans, all_plans, decision}
+use Rattle.osek_scheduler.specs.Outcomes.{decision, plan}
+use Rattle.osek_scheduler.proofs.AllPlans.{OnPlans, all_plans}
 use Rattle.osek_scheduler.proofs.Outcomes.{on_tested, on_taken}
 use Rattle.osek_scheduler.specs.declared.change.TaskChange.{TaskChange}
 use Rattle.osek_scheduler.specs.Steps.{settled_state}
@@ -53,12 +54,9 @@ use Rattle.osek_scheduler.specs.declared.plan.Other.TheVariants as other
 use Rattle.osek_scheduler.specs.declared.plan.Plan.{Plan}
 use Rattle.osek_plans.specs.Clocked.{NamesTask, IsClocked}
 use Rattle.osek_plans.specs.Frames.{CanMove, HasWord}
-use Rattle.osek_scheduler.specs.Changes.{outer_frames}
-use Rattle.osek_scheduler.specs.Changes.{changed_task}
+use Rattle.osek_scheduler.specs.Changes.{outer_frames, changed_task, with_change}
 use Rattle.osek_plans.specs.Changes.{Allows}
-use Rattle.osek_scheduler.specs.Changes.{with_change}
 use Rattle.osek_plans.specs.Plans.{with_other, planned_system, write_plan, service_plan, item_plan, item_behind, load_of, is_inside, HasOther, HasPlanRoom}
-use Rattle.osek_scheduler.specs.Outcomes.{plan}
 use Rattle.osek_plans.specs.Running.{IsComputed, own_operation, run_plan, call_in, call_plan, serving_plan, running_plan, entry_change, entry_plan, back_plan}
 use Rattle.osek_plans.specs.Steps.{answer_plan, leave_plan, followed_state, IsRead}
 use Rattle.osek_machine.specs.Steps.{IsSound}

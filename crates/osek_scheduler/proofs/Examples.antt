@@ -19,7 +19,7 @@ use Rattle.sloth_base.specs.declared.event.Event.TheVariants as event
 use Rattle.sloth_base.specs.declared.service.Service.{Service}
 use Rattle.sloth_base.specs.declared.service.Service.TheVariants as service
 use Rattle.osek_scheduler.specs.State.{opening}
-use Rattle.osek_scheduler.specs.Next.{system_after}
+use Rattle.osek_scheduler.proofs.SystemAfter.{system_after}
 
 -- a task that is preemptable, of this priority
 abbrev pub full : (priority : ℕ) (autostart : Bool) (resources : List ℕ) (events : ℕ) → TaskDecl

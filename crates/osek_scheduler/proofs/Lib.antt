@@ -4,3 +4,6 @@ pub mod Leading
 pub mod Examples
 pub mod Outcomes
 pub mod Ticking
+pub mod SystemAfter
+pub mod AllPlans
+pub mod ServiceStates

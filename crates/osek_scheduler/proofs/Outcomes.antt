@@ -8,9 +8,11 @@ use Rattle.osek_scheduler.specs.declared.state.Alarm.{Alarm}
 use Rattle.osek_scheduler.specs.declared.state.TaskState.{TaskState}
 use Rattle.osek_scheduler.specs.declared.state.TaskState.TheVariants as mode
 use Rattle.osek_scheduler.specs.State.{Task, System, task, with_task, with_alarm}
-use Rattle.osek_scheduler.specs.Services.{if_suspended, activated_state, woken_state, with_events, set_events, Outcome, IsAfter}
+use Rattle.osek_scheduler.specs.Services.{if_suspended, activated_state, woken_state, with_events, set_events, Outcome}
+use Rattle.osek_scheduler.proofs.ServiceStates.{IsAfter}
 use Rattle.osek_scheduler.specs.Changes.{changed_task, with_change}
-use Rattle.osek_scheduler.specs.Outcomes.{with_other, planned_system, shown_outcome, Decision, Does, IfSuspended, If, plan_in, outcome_of, OnPlans, all_plans}
+use Rattle.osek_scheduler.specs.Outcomes.{with_other, planned_system, shown_outcome, Decision, Does, IfSuspended, If, plan_in, outcome_of}
+use Rattle.osek_scheduler.proofs.AllPlans.{OnPlans, all_plans}
 
 pub by_suspended : {X : Type 0} (m : TaskState) (first second : X) (P : X → Type 0) → (m ≡ mode.Suspended → P first) → ((m ≡ mode.Suspended → ⊥) → P second)
     → P (if_suspended m first second)

@@ -11,8 +11,7 @@ use Rattle.sloth_base.specs.declared.service.Service.{Service}
 use Rattle.osek_scheduler.specs.declared.state.TaskState.{TaskState}
 use Rattle.osek_scheduler.specs.declared.state.TaskState.TheVariants as mode
 use Rattle.osek_scheduler.specs.State.{Frame, Task, System, task, with_task, counter}
-use Rattle.sloth_base.specs.Named.{declaration, body_of}
-use Rattle.sloth_base.specs.Named.{function, operation}
+use Rattle.sloth_base.specs.Named.{declaration, body_of, function, operation}
 use Rattle.osek_scheduler.specs.Priority.{rank, is_active}
 use Rattle.code_rules.specs.Code.{is_in}
 use Rattle.osek_scheduler.specs.Meaning.{ItemMeaning, meaning, on_some, if_true}
@@ -135,8 +134,3 @@ next_state config app event.Idle s =
 next_state config app (event.Due c) s = if_true (s.booted && ltb c (length config.counters)) (Some (due_state c s))
 next_state config app (event.Tick c) s = if_true (s.booted && is_next_tick config s c) (Some (settled_state (ticked_state config c s)))
 next_state config app event.Stray s = None
-
--- the state after events without their counts, where each has a next state
-abbrev pub system_after : Config → App → List Event → System → Option System
-system_after config app [] s = Some s
-system_after config app (e ∷ events) s = on_some (next_state config app e s) (system_after config app events)

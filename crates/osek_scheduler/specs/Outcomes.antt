@@ -1,5 +1,5 @@
 -- What each service does: a plan, and then its changes (OSEK OS 2.2.3, sections 13.2 and 13.4 to 13.6).
-use Rattle.std.specs.Prelude.{ℕ, ◌≡◌, ◌==◌, ◌&&◌, Bool, true, false, cond, [], get_or, set, bit_and, Option, Some, None}
+use Rattle.std.specs.Prelude.{ℕ, ◌==◌, Bool, cond, [], get_or, set, bit_and, Option, Some, None}
 use Rattle.sloth_base.specs.Status.{E_OK, E_OS_LIMIT, E_OS_NOFUNC, E_OS_STATE, E_OS_VALUE}
 use Rattle.sloth_base.specs.declared.config.Config.{Config}
 use Rattle.sloth_base.specs.declared.service.Service.{Service}
@@ -9,7 +9,6 @@ use Rattle.osek_scheduler.specs.declared.change.TaskChange.TheVariants as change
 use Rattle.osek_scheduler.specs.declared.plan.Other.{Other}
 use Rattle.osek_scheduler.specs.declared.plan.Other.TheVariants as other
 use Rattle.osek_scheduler.specs.declared.plan.Plan.{Plan}
-use Rattle.osek_scheduler.specs.declared.state.TaskState.TheVariants as mode
 use Rattle.sloth_base.specs.Named.{alarm_declaration, counter_of}
 use Rattle.sloth_base.specs.Ticks.{ticks_to}
 use Rattle.osek_scheduler.specs.State.{System, task, counter, alarm, with_alarm}
@@ -57,19 +56,6 @@ abbrev pub outcome_of : ℕ → System → Decision → Outcome
 outcome_of t s (Does p) = shown_outcome p.answer (planned_system t p s)
 outcome_of t s (IfSuspended u first second) = if_suspended (task s u).state (outcome_of t s first) (outcome_of t s second)
 outcome_of t s (If test first second) = cond test (outcome_of t s first) (outcome_of t s second)
-
--- a fact on each plan that may be taken in a state
-abbrev pub OnPlans : System → (Plan → Type 0) → Decision → Type 0
-OnPlans s P (Does p) = P p
-OnPlans s P (IfSuspended t first second) =
-    ((task s t).state ≡ mode.Suspended → OnPlans s P first) × (((task s t).state ≡ mode.Suspended → ⊥) → OnPlans s P second)
-OnPlans s P (If test first second) = (test ≡ true → OnPlans s P first) × (test ≡ false → OnPlans s P second)
-
--- a test of all plans
-abbrev pub all_plans : (Plan → Bool) → Decision → Bool
-all_plans test (Does p) = test p
-all_plans test (IfSuspended t first second) = all_plans test first && all_plans test second
-all_plans test (If b first second) = all_plans test first && all_plans test second
 
 -- ---- services
 

@@ -13,13 +13,11 @@ use Rattle.sloth_base.specs.declared.service.Service.TheVariants as service
 use Rattle.sloth_base.specs.ServiceCodes.{is_service, object_kind}
 use Rattle.sloth_base.specs.Status.{E_OK}
 use Rattle.sloth_base.specs.ConfigRange.{scheduler_number}
-use Rattle.sloth_base.specs.Named.{counter_declaration}
+use Rattle.sloth_base.specs.Named.{counter_declaration, declaration, body_of}
 use Rattle.code_rules.specs.Code.{is_last}
-use Rattle.code_rules.specs.Code.{without_last}
 use Rattle.osek_scheduler.specs.declared.state.TaskState.{TaskState}
 use Rattle.osek_scheduler.specs.declared.state.TaskState.TheVariants as mode
 use Rattle.osek_scheduler.specs.State.{Frame, Task, System, task, with_task, counter, with_counter, alarm, with_alarm, zero_registers, entry_frame}
-use Rattle.sloth_base.specs.Named.{declaration, body_of}
 use Rattle.osek_scheduler.specs.Meaning.{going_on_frame}
 
 -- the first where the task is Suspended, else the second
@@ -51,18 +49,6 @@ answered_task status t = record t { registers = set t.registers 5 status; frames
 -- E_OK in a0 and a value in a1, x11
 abbrev pub answered_task_with : ℕ → Task → Task
 answered_task_with value t = record t { registers = set (set t.registers 5 E_OK) 6 value; frames = moved_frames t.frames }
-
--- the system after its caller went on with a status
-abbrev pub answered_state : ℕ → ℕ → System → System
-answered_state status t s = with_task s t (answered_task status (task s t))
-
--- the system after its caller went on with E_OK and a value
-abbrev pub answered_state_with : ℕ → ℕ → System → System
-answered_state_with value t s = with_task s t (answered_task_with value (task s t))
-
--- the caller ends; what it leaves is clear for its next activation
-abbrev pub ended_state : ℕ → System → System
-ended_state t s = with_task s t (record (task s t) { state = mode.Suspended; registers = zero_registers; frames = []; events = 0; raised = false })
 
 -- the caller waits for one of these events, and gives its internal resource back
 abbrev pub waiting_task : ℕ → Task → Task
@@ -150,11 +136,6 @@ state_number caller t (mode.Waiting mask) = 1
 pub data Outcome : Type 0 where
   GoesOn : (status : ℕ) → System → Outcome
   Leaves : System → Outcome
-
--- a fact on the system behind an outcome
-abbrev pub IsAfter : (System → Type 0) → Outcome → Type 0
-IsAfter P (GoesOn status after) = P after
-IsAfter P (Leaves after) = P after
 
 -- ---- entries
 

@@ -15,7 +15,8 @@ use Rattle.sloth_base.specs.Named.{declaration}
 use Rattle.sloth_base.specs.Events.{named_task}
 use Rattle.code_rules.specs.Code.{is_in}
 use Rattle.osek_scheduler.specs.Priority.{is_active, rank, IsTop}
-use Rattle.osek_scheduler.specs.Services.{activated_state, with_events, Outcome, GoesOn, Leaves, IsAfter, started_task, ticked_state}
+use Rattle.osek_scheduler.specs.Services.{activated_state, with_events, Outcome, GoesOn, Leaves, started_task, ticked_state}
+use Rattle.osek_scheduler.proofs.ServiceStates.{IsAfter}
 use Rattle.osek_scheduler.specs.Outcomes.{decision, outcome}
 use Rattle.osek_scheduler.proofs.Outcomes.{by_suspended, KeptByOthers, outcome_keeps_all}
 use Rattle.osek_scheduler.proofs.Ticking.{parts_kept, ticked_keeps}

@@ -16,8 +16,10 @@ use Rattle.osek_scheduler.specs.declared.state.TaskState.TheVariants as mode
 use Rattle.osek_scheduler.specs.State.{Frame, Task, System, sleeping_task, task, with_task, alarm, zero_registers}
 use Rattle.sloth_base.specs.Named.{declaration, undeclared_task}
 use Rattle.sloth_base.specs.Status.{E_OK, E_OS_LIMIT, E_OS_NOFUNC, E_OS_STATE, E_OS_VALUE}
-use Rattle.osek_scheduler.specs.Services.{activated_state, answered_task, answered_task_with, answered_state, answered_state_with, ended_state, waiting_task, woken_state, with_events, set_events, moved_frames, Outcome, IsAfter, state_number}
-use Rattle.osek_scheduler.specs.Outcomes.{planned_system, shown_outcome, OnPlans, alarm_setting_decision, decision, outcome}
+use Rattle.osek_scheduler.specs.Services.{activated_state, answered_task, answered_task_with, waiting_task, woken_state, with_events, set_events, moved_frames, Outcome, state_number}
+use Rattle.osek_scheduler.proofs.ServiceStates.{answered_state, answered_state_with, ended_state, IsAfter}
+use Rattle.osek_scheduler.specs.Outcomes.{planned_system, shown_outcome, alarm_setting_decision, decision, outcome}
+use Rattle.osek_scheduler.proofs.AllPlans.{OnPlans}
 use Rattle.osek_scheduler.proofs.Outcomes.{on_outcome}
 use Rattle.osek_scheduler.specs.Steps.{ServesCall}
 use Rattle.code_rules.specs.Code.{service_op, is_followed, held_after, Pauses, Ends, is_in, without_last}

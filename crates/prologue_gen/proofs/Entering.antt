@@ -8,7 +8,7 @@ use Rattle.rv32_instr.specs.Ram.{word_at, with_word, with_words}
 use Rattle.sloth_base.specs.Arithmetic.{plus}
 use Rattle.sloth_base.specs.MemoryMap.{memory_base, memory_bytes, controller_base}
 use Rattle.sloth_base.specs.Limits.{task_limit}
-use Rattle.masked_code.specs.Owes.{◌▸◌, writes, loads, stores, accesses, IsWordAt, IsApart, Owes}
+use Rattle.masked_code.proofs.Owes.{◌▸◌, writes, loads, stores, accesses, IsWordAt, IsApart, Owes}
 use Rattle.masked_code.specs.Pieces.{saving_code}
 use Rattle.masked_code.proofs.Words.{word_at-other, word_at-others}
 use Rattle.masked_code.proofs.Spread.{based, spread_from}

@@ -15,8 +15,9 @@ use Rattle.masked_code.specs.Place.{offset_state, InPlace}
 use Rattle.masked_code.specs.Kernel.{CanRun, HoldBases}
 use Rattle.rv32_instr.specs.declared.InstrKind.TheVariants.{Jal}
 use Rattle.masked_code.specs.Masked.{Masked, WithArrivals}
-use Rattle.masked_code.specs.Owes.{◌▸◌, writes, loads, stores, accesses, Owes}
-use Rattle.masked_code.specs.Pieces.{restoring_code, restored_registers}
+use Rattle.masked_code.proofs.Owes.{◌▸◌, writes, loads, stores, accesses, Owes}
+use Rattle.masked_code.specs.Pieces.{restoring_code}
+use Rattle.masked_code.proofs.RegisterCode.{restored_registers}
 use Rattle.masked_code.proofs.Words.{word_at-other, word_at-others}
 use Rattle.masked_code.proofs.Spread.{based, based_is, spread_from}
 use Rattle.masked_code.proofs.Runs.{restores_owes, length-restored, restored_other, restored_at}

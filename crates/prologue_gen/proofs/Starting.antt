@@ -11,8 +11,9 @@ use Rattle.sloth_base.specs.MemoryMap.{memory_base, memory_bytes, controller_bas
 use Rattle.sloth_base.specs.Limits.{task_limit, level_count, frame_limit}
 use Rattle.masked_code.specs.Place.{offset_state}
 use Rattle.masked_code.specs.Masked.{Masked, WithArrivals}
-use Rattle.masked_code.specs.Owes.{◌▸◌, writes, accesses, Owes}
-use Rattle.masked_code.specs.Pieces.{clearing_code, words_clearing_code, cleared_registers}
+use Rattle.masked_code.proofs.Owes.{◌▸◌, writes, accesses, Owes}
+use Rattle.masked_code.specs.Pieces.{clearing_code, words_clearing_code}
+use Rattle.masked_code.proofs.RegisterCode.{cleared_registers}
 use Rattle.masked_code.proofs.Parts.{hi_lo}
 use Rattle.masked_code.proofs.Spread.{based, based_is, spread_from, others}
 use Rattle.masked_code.proofs.Runs.{clears_owes, clears_words_owes, length-clears_words, length-cleared, cleared_at, cleared_other}

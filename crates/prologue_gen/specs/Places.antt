@@ -1,5 +1,5 @@
 -- What a prologue needs of the configuration, the task code and the map.
-use Rattle.std.specs.Prelude.{ℕ, Bool, ◌+◌, ◌-◌, ◌*◌, ◌≡◌, ◌≤◌, false, true, if◌then◌else◌, Some, List, slice_index, slice_index_or}
+use Rattle.std.specs.Prelude.{ℕ, Bool, ◌+◌, ◌-◌, ◌*◌, ◌≡◌, ◌≤◌, false, true, if◌then◌else◌, Some, List, slice_index}
 use Rattle.std.specs.List.{slice_get}
 use Rattle.sloth_base.specs.declared.app.App.{App}
 use Rattle.sloth_base.specs.declared.app.Func.{Func}
@@ -13,10 +13,6 @@ use Rattle.sloth_region.specs.Layout.{context_bytes}
 use Rattle.rv32_instr.specs.declared.InstrKind.{InstrKind}
 use Rattle.prologue_gen.specs.Fresh.{Enters}
 use Rattle.prologue_gen.specs.Resumed.{EntersOrResumes}
-
--- the task has no events, so it never waits
-abbrev pub IsBasic : List TaskDecl → ℕ → Type 0
-IsBasic tasks task = (d : TaskDecl) → (slice_index_or tasks task d).extended ≡ false
 
 -- the level at which a task starts to run: one that is not preempted starts at the highest
 abbrev pub start_level : TaskDecl → ℕ → Levels → ℕ

@@ -13,7 +13,7 @@ use Rattle.sloth_base.specs.Owners.{line_kind}
 use Rattle.observe.specs.Observe.{View, stamp, admission, arrival_event}
 use Rattle.osek_scheduler.specs.InTime.{is_admit}
 use Rattle.raised_sections.specs.Pace.{event_counts, last_count, IsPaced}
-use Rattle.run_bounds.specs.PacedRun.{LastsBriefly, BeginsWithBoot}
+use Rattle.run_bounds.proofs.PacedRun.{LastsBriefly, BeginsWithBoot}
 
 -- the events keep the pace behind count `at`, and the last of them ends at this one
 pub record Continues (config : Config) (at : ℕ) (events : List Stamped) (to : ℕ) : Type 0 where

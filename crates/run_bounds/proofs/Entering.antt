@@ -31,7 +31,7 @@ use Rattle.sim_induction.proofs.Events.{each_both}
 use Rattle.raised_sections.proofs.Counts.{behind_paced}
 use Rattle.raised_sections.proofs.Placed.{step_placed, opening_placed}
 use Rattle.raised_sections.proofs.FrameEffects.{frame_effect, leads_placed}
-use Rattle.run_bounds.specs.PacedRun.{LastsBriefly, BeginsWithBoot, IsPacedRun}
+use Rattle.run_bounds.proofs.PacedRun.{LastsBriefly, BeginsWithBoot, IsPacedRun}
 use Rattle.run_bounds.specs.Latency.{any_stretch, running_limit, is_tick, tick_counts, latency_with_ticks, EntersBefore, EntersInTime}
 use Rattle.run_bounds.proofs.Awaiting.{Awaits, is_outside}
 use Rattle.run_bounds.proofs.Waiting.{waiting, IsOnTheWay, waits_at_most, on_the_way}

@@ -5,3 +5,4 @@ pub mod Turns
 pub mod Waiting
 pub mod Entering
 pub mod Runs
+pub mod PacedRun

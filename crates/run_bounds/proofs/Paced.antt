@@ -29,7 +29,7 @@ use Rattle.observe.specs.Observe.{View, NO_TASK, NO_COUNTER, running_task, servi
 use Rattle.sim_induction.specs.Short.{AreShort, IsShortPiece, passed_count, passed_length, HasShortGaps}
 use Rattle.sim_induction.proofs.Shown.{stretch_long}
 use Rattle.raised_sections.specs.Pace.{entry_counts, event_counts, takes_line}
-use Rattle.run_bounds.specs.PacedRun.{LastsBriefly}
+use Rattle.run_bounds.proofs.PacedRun.{LastsBriefly}
 use Rattle.run_bounds.proofs.Continuing.{Continues, nothing, joined, admissions, one_event}
 
 module _ (config : Config) (view : View) (arrivals : List Arrival) where

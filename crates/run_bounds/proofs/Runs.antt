@@ -26,7 +26,7 @@ use Rattle.sim_induction.specs.Sound.{IsSoundRun, events_of}
 use Rattle.raised_sections.specs.Pace.{entry_counts, last_count}
 use Rattle.raised_sections.proofs.KeptBounds.{keeps_bounds}
 use Rattle.raised_sections.proofs.Counts.{keeps_counts}
-use Rattle.run_bounds.specs.PacedRun.{BeginsWithBoot, IsPacedRun}
+use Rattle.run_bounds.proofs.PacedRun.{BeginsWithBoot, IsPacedRun}
 use Rattle.run_bounds.specs.BlockingBounds.{KeepsBlockingBounds}
 use Rattle.run_bounds.proofs.Entering.{enters_in_time}
 use Rattle.run_bounds.proofs.Continuing.{Continues, nothing, joined, admissions, admissions_alone}

@@ -1,3 +1,2 @@
-pub mod PacedRun
 pub mod Latency
 pub mod BlockingBounds

@@ -1,5 +1,5 @@
 -- One instruction of the machine: what it leaves, or why it stops, which changes nothing.
-use Rattle.std.specs.Prelude.{ℕ, zero, suc, ◌+◌, ◌-◌, ◌/◌, ◌%◌, ◌^◌, Option, Some, None, true, if◌then◌else◌, ◌==◌, ◌&&◌, nat_le, nat_lt, bit_and, bit_or, slice_index, slice_set}
+use Rattle.std.specs.Prelude.{ℕ, zero, suc, ◌+◌, ◌-◌, ◌/◌, ◌%◌, ◌^◌, Option, Some, None, true, if◌then◌else◌, ◌==◌, ◌&&◌, nat_le, nat_lt, bit_and, bit_or, slice_set}
 use Rattle.sloth_base.specs.Machine.{Core, State}
 use Rattle.rv32_instr.specs.declared.stop.Bad.{Bad}
 use Rattle.rv32_instr.specs.declared.stop.Bad.TheVariants as bad
@@ -23,10 +23,6 @@ use Rattle.sloth_base.specs.MemoryMap.{memory_base, controller_base, line_count}
 pub data Next : Type 0 where
   Going : State → Next
   Stopped : Stop → Next
-
--- a register by its number
-abbrev pub register_of : Core → ℕ → ℕ
-register_of core number = slice_index core.registers number
 
 -- a register's new value; x0 stays zero
 abbrev pub with_register : Core → ℕ → ℕ → Core

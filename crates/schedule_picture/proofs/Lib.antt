@@ -2,3 +2,4 @@ pub mod Drawing
 pub mod Every
 pub mod OnePicture
 pub mod Sampling
+pub mod Shown

@@ -9,7 +9,7 @@ use Rattle.run_samples.specs.declared.sampling.Sample.{Sample}
 use Rattle.run_samples.specs.declared.sampling.Sampler.{Sampler}
 use Rattle.run_samples.specs.Samples.{AreSamples, IsSampling, sampled_image, sampled_arrivals, sampled_count}
 use Rattle.lane_drawing.specs.Bars.{AreBars}
-use Rattle.lane_drawing.specs.Strips.{Lane, IsStrip, empty_lane}
+use Rattle.lane_drawing.specs.Strips.{Lane, empty_lane}
 use Rattle.schedule_picture.specs.Looks.{look_at}
 
 -- it has given these, the first of a run of an image with arrivals
@@ -25,15 +25,6 @@ pub record HasGivenFirst (image : Image) (arrivals : List Arrival) (count : ℕ)
   pub samples : List Sample
   pub counted : length samples ≡ count
   pub given : HasGiven image arrivals samples sampler
-
--- and strips stand behind what they show from a count on
-pub record HasShown (image : Image) (arrivals : List Arrival) (from count : ℕ) (sampler : Sampler) (strips : List Lane) : Type 0 where
-  pub samples : List Sample
-  pub counted : length samples ≡ count
-  pub given : HasGiven image arrivals samples sampler
-  pub lanes : length strips ≡ length image.tasks + 1
-  pub are_strips : (lane : ℕ) → lane ≤ length image.tasks
-      → IsStrip (look_at (length image.tasks) samples lane) from count (get_or strips lane empty_lane)
 
 -- and strips whose bars are those of what they show from a count to below another
 pub record HasBars (image : Image) (arrivals : List Arrival) (from to : ℕ) (sampler : Sampler) (strips : List Lane) : Type 0 where

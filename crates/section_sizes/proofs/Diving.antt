@@ -8,7 +8,8 @@ use Rattle.std.proofs.lemmas.List.Folds.{list_any-append}
 use Rattle.std.proofs.lemmas.List.Sums.{sum_by-set}
 use Rattle.code_rules.specs.Code.{is_in}
 use Rattle.section_sizes.specs.declared.graph.Ways.{Ways}
-use Rattle.section_sizes.specs.Graph.{ways_of, Goes, AreInside, IsLoop, IsOrder, unseen_way, first_of, unseen_of, is_open, leads_to_open, unseen_count, LeadsOn, IsChain, HasMark, IsSearching, KeepsSeen}
+use Rattle.section_sizes.specs.Graph.{ways_of, Goes, AreInside, IsLoop, IsOrder, unseen_way, first_of, unseen_of, is_open, leads_to_open, LeadsOn, IsChain, HasMark, IsSearching, KeepsSeen}
+use Rattle.section_sizes.proofs.Unseen.{unseen_count}
 
 -- ---- members
 

@@ -16,3 +16,7 @@ pub mod Bodily
 pub mod Counting
 mod Small
 mod Filling
+pub mod CallOrdering
+pub mod KnownRaised
+pub mod Unseen
+pub mod OrderSummaries

@@ -9,7 +9,8 @@ use Rattle.code_rules.specs.Code.{is_in, Calls}
 use Rattle.call_graph.specs.declared.ranking.Ranks.{Ranks}
 use Rattle.call_graph.specs.Ranks.{RanksOf}
 use Rattle.section_sizes.specs.Graph.{HasMark}
-use Rattle.section_sizes.specs.CallOrder.{IsCallOrder, IsLeastRank, lesser_of, lesser, IsOrdering}
+use Rattle.section_sizes.specs.CallOrder.{IsCallOrder, IsLeastRank, lesser_of, lesser}
+use Rattle.section_sizes.proofs.CallOrdering.{IsOrdering}
 use Rattle.section_sizes.proofs.Diving.{at_end, in_front, front_or_end, has_more, has_now, has_before}
 
 module _ (ranks : List ℕ) (done : List Bool) (n : ℕ) where

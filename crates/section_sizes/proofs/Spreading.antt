@@ -4,7 +4,8 @@ use Rattle.std.proofs.lemmas.Bool.{cases_eq, cases_lt, false≢true}
 use Rattle.std.proofs.lemmas.List.{get_or_past, length-set, length-append}
 use Rattle.code_rules.specs.Code.{is_in}
 use Rattle.section_sizes.specs.declared.graph.Ways.{Ways}
-use Rattle.section_sizes.specs.Graph.{Goes, AreInside, HasMark, unseen_of, unseen_count}
+use Rattle.section_sizes.specs.Graph.{Goes, AreInside, HasMark, unseen_of}
+use Rattle.section_sizes.proofs.Unseen.{unseen_count}
 use Rattle.section_sizes.specs.Search.{IsReachable, reachable_first, reachable_on, IsSpreading}
 use Rattle.section_sizes.proofs.Diving.{at_end, in_front, front_or_end, has_more, has_now, has_before, fewer, unseen_is, all_seen}
 

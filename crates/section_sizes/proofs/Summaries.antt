@@ -8,7 +8,8 @@ use Rattle.code_rules.specs.Code.{Calls, is_in}
 use Rattle.bound_rules.specs.declared.sizes.Summary.{Summary}
 use Rattle.section_sizes.specs.CallOrder.{IsCallOrder}
 use Rattle.bound_rules.specs.Summaries.{summary_of, unknown, IsCountedUp}
-use Rattle.section_sizes.specs.Known.{IsSummary, AreSummaries, AreSummariesOf}
+use Rattle.section_sizes.specs.Known.{IsSummary, AreSummaries}
+use Rattle.section_sizes.proofs.OrderSummaries.{AreSummariesOf}
 use Rattle.section_sizes.proofs.Ordering.{member, one_more}
 
 unknown_small : IsCountedUp unknown

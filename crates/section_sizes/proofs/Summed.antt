@@ -15,7 +15,8 @@ use Rattle.bound_rules.specs.declared.bodies.Body.{Body}
 use Rattle.bound_rules.specs.declared.sizes.Summary.{Summary}
 use Rattle.section_sizes.specs.Parts.{is_raised, called_level, level_behind, ReachesItem, reaches_first, ReachesCall, EntersRaised, CountsBack, CountsOn, CountsOut, CountsWithin, out_here, out_behind, within_here, within_called, within_behind}
 use Rattle.bound_rules.specs.Items.{reaches_level}
-use Rattle.section_sizes.specs.Computed.{joined, KnownBody, known_body_of, known_raised, callee, endless_call, calls_endless, called_most, most_at, most_of, joined_both, called_out, out_at, out_of}
+use Rattle.section_sizes.specs.Computed.{joined, KnownBody, known_body_of, callee, endless_call, calls_endless, called_most, most_at, most_of, joined_both, called_out, out_at, out_of}
+use Rattle.section_sizes.proofs.KnownRaised.{known_raised}
 use Rattle.bound_rules.specs.Summaries.{summary_of}
 use Rattle.section_sizes.specs.Known.{IsKnownBody, IsGreatestPart, HasLimit, IsExact, IsEndless, IsSummary}
 use Rattle.section_sizes.proofs.Counting.{any_is, none_is}

@@ -23,10 +23,3 @@ lesser_of ranks (Some g) f = cond (leb (get_or ranks g 0) (get_or ranks f 0)) (S
 -- the same, where the function is not done
 abbrev pub lesser : (ranks : List ℕ) (done : List Bool) → Option ℕ → ℕ → Option ℕ
 lesser ranks done best f = cond (get_or done f false) best (lesser_of ranks best f)
-
--- the functions of the order are those that are done, each behind those that it calls
-pub record IsOrdering (app : App) (done : List Bool) (order : List ℕ) : Type 0 where
-  pub count : length done ≡ length app.funcs
-  pub listed : (f : ℕ) → HasMark done f → is_in f order ≡ true
-  pub ordered : (f : ℕ) → is_in f order ≡ true → (f < length app.funcs) × HasMark done f
-  pub behind : (k g : ℕ) → k < length order → Calls app (get_or order k 0) g → is_in g (take k order) ≡ true

@@ -93,10 +93,6 @@ known_body_of func body level whole own = record { func = func; body = body; lev
 abbrev pub is_alive : Body → Option ℕ → ℕ → Bool
 is_alive body level i = get_or body.reached i false && reaches_level level (get_or body.ceilings i 0)
 
--- the task is raised before item i
-abbrev pub known_raised : KnownBody → ℕ → Bool
-known_raised k i = reaches_level k.level (get_or k.body.ceilings i 0)
-
 -- the summary of a function that is called at item i
 abbrev pub callee : KnownBody → (i g : ℕ) → Summary
 callee k i g = callee_of k.body k.level k.whole k.own i g

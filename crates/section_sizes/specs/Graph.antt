@@ -1,5 +1,5 @@
 -- Nodes with two ways on at most, and a search of them in depth.
-use Rattle.std.specs.Prelude.{ℕ, ◌<◌, ◌≡◌, ◌⊎◌, not, Bool, true, false, ◌||◌, cond, List, [], ◌∷◌, length, Option, Some, None, get_or, take, count_by}
+use Rattle.std.specs.Prelude.{ℕ, ◌<◌, ◌≡◌, ◌⊎◌, not, Bool, true, false, ◌||◌, cond, List, [], ◌∷◌, length, Option, Some, None, get_or, take}
 use Rattle.code_rules.specs.Code.{is_in}
 use Rattle.section_sizes.specs.declared.graph.Ways.{Ways}
 use Rattle.section_sizes.specs.declared.graph.Found.{Found}
@@ -64,10 +64,6 @@ is_open done (Some j) = not (get_or done j false)
 -- node i leads to one that is not done
 abbrev pub leads_to_open : List Ways → List Bool → ℕ → Bool
 leads_to_open ways done i = is_open done (ways_of ways i).next || is_open done (ways_of ways i).jump
-
--- how many nodes are not seen yet
-abbrev pub unseen_count : List Bool → ℕ
-unseen_count seen = count_by not seen
 
 -- node i leads to the first of these, if there is one
 abbrev pub LeadsOn : List Ways → ℕ → List ℕ → Type 0

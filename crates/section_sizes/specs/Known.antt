@@ -1,10 +1,10 @@
 -- What is known of bodies, and when the summary of a function is right.
-use Rattle.std.specs.Prelude.{ℕ, ◌<◌, ◌≤◌, ◌≡◌, ◌↔◌, min, MatchBool, Decides, Bool, true, false, List, [], length, get_or, Option}
+use Rattle.std.specs.Prelude.{ℕ, ◌<◌, ◌≤◌, ◌≡◌, ◌↔◌, min, MatchBool, Decides, Bool, false, List, [], length, get_or, Option}
 use Rattle.sloth_base.specs.declared.config.Config.{Config}
 use Rattle.sloth_base.specs.declared.app.App.{App}
 use Rattle.sloth_base.specs.Named.{function}
 use Rattle.sloth_base.specs.Limits.{size_limit}
-use Rattle.code_rules.specs.Code.{Calls, is_in}
+use Rattle.code_rules.specs.Code.{Calls}
 use Rattle.bound_rules.specs.declared.bodies.Body.{Body}
 use Rattle.bound_rules.specs.declared.sizes.Summary.{Summary}
 use Rattle.section_sizes.specs.Graph.{HasMark}
@@ -69,9 +69,3 @@ pub record AreSummaries (config : Config) (app : App) (level : Option ℕ) (tabl
   pub count : length table ≡ length app.funcs
   pub small : AreCountedUp table
   pub each : (f : ℕ) → f < length app.funcs → IsSummary config app level f (summary_of table f)
-
--- the summaries of those functions that are among these
-pub record AreSummariesOf (config : Config) (app : App) (level : Option ℕ) (funcs : List ℕ) (table : List Summary) : Type 0 where
-  pub count : length table ≡ length app.funcs
-  pub small : AreCountedUp table
-  pub each : (f : ℕ) → is_in f funcs ≡ true → IsSummary config app level f (summary_of table f)

@@ -8,7 +8,7 @@ use Rattle.sloth_base.specs.Arithmetic.{left_shift}
 use Rattle.masked_code.specs.Place.{offset_state}
 use Rattle.masked_code.specs.Masked.{FromOpening}
 use Rattle.masked_code.specs.Kernel.{masking}
-use Rattle.masked_code.specs.Owes.{◌▸◌, writes, raises, Owes}
+use Rattle.masked_code.proofs.Owes.{◌▸◌, writes, raises, Owes}
 use Rattle.masked_code.proofs.Spread.{based}
 use Rattle.masked_code.proofs.Routines.{masked}
 use Rattle.block_parts.proofs.Busy.{Finds, looks_owe}

@@ -12,7 +12,7 @@ use Rattle.rv32_instr.specs.declared.InstrKind.TheVariants.{Addi}
 use Rattle.rv32_instr.specs.Ram.{word_at}
 use Rattle.masked_code.specs.Place.{offset_state}
 use Rattle.masked_code.specs.Masked.{FromOpening}
-use Rattle.masked_code.specs.Owes.{◌▸◌, writes, loads, raises, AreOfLine, Owes}
+use Rattle.masked_code.proofs.Owes.{◌▸◌, writes, loads, raises, AreOfLine, Owes}
 use Rattle.masked_code.specs.Kernel.{leaving_code, masking}
 use Rattle.masked_code.proofs.Arrivals.{other_bytes}
 use Rattle.masked_code.proofs.Spread.{based, spread_from}

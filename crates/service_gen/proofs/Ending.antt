@@ -8,8 +8,9 @@ use Rattle.sloth_base.specs.Limits.{task_limit}
 use Rattle.sloth_region.specs.Layout.{cur, active, events, below_word, idle_context, context_level, context_cur, context_below}
 use Rattle.rv32_instr.specs.declared.InstrKind.{InstrKind}
 use Rattle.rv32_instr.specs.Ram.{word_at, with_word}
-use Rattle.masked_code.specs.Owes.{◌▸◌, writes, loads, stores, clears, AreOfLine, Owes}
-use Rattle.masked_code.specs.Kernel.{IsBelow, HasLeft}
+use Rattle.masked_code.proofs.Owes.{◌▸◌, writes, loads, stores, clears, AreOfLine, Owes}
+use Rattle.masked_code.specs.Kernel.{IsBelow}
+use Rattle.masked_code.proofs.Resumption.{HasLeft}
 use Rattle.masked_code.proofs.Words.{word_at-other}
 use Rattle.masked_code.proofs.Leave.{behind}
 use Rattle.block_parts.specs.Pieces.{ending_code}

@@ -11,7 +11,7 @@ use Rattle.rv32_instr.specs.Ram.{with_word}
 use Rattle.masked_code.specs.Place.{offset_state}
 use Rattle.masked_code.specs.Masked.{FromOpening}
 use Rattle.masked_code.specs.Kernel.{masking}
-use Rattle.masked_code.specs.Owes.{◌▸◌, writes, stores, accesses, Owes}
+use Rattle.masked_code.proofs.Owes.{◌▸◌, writes, stores, accesses, Owes}
 use Rattle.masked_code.proofs.Spread.{based, spread_from}
 use Rattle.masked_code.proofs.Routines.{masked}
 use Rattle.block_parts.specs.Back.{WentBack, a0}

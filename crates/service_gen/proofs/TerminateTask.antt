@@ -7,7 +7,7 @@ use Rattle.sloth_base.specs.MemoryMap.{memory_base}
 use Rattle.rv32_instr.specs.declared.InstrKind.{InstrKind}
 use Rattle.masked_code.specs.Place.{offset_state}
 use Rattle.masked_code.specs.Masked.{FromOpening}
-use Rattle.masked_code.specs.Owes.{Owes}
+use Rattle.masked_code.proofs.Owes.{Owes}
 use Rattle.masked_code.specs.Kernel.{leaving_code, masking}
 use Rattle.masked_code.proofs.Spread.{based, spread_from}
 use Rattle.masked_code.proofs.Routines.{masked}

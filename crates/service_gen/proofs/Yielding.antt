@@ -12,7 +12,7 @@ use Rattle.rv32_instr.specs.declared.csr.TheConstants.{MEPC, PLEVEL}
 use Rattle.masked_code.specs.Place.{offset_state, InPlace}
 use Rattle.masked_code.specs.Masked.{FromOpening}
 use Rattle.masked_code.specs.Kernel.{CanRun, masking}
-use Rattle.masked_code.specs.Owes.{◌▸◌, writes, loads, loads_byte, accesses, Owes, Level}
+use Rattle.masked_code.proofs.Owes.{◌▸◌, writes, loads, loads_byte, accesses, Owes, Level}
 use Rattle.masked_code.proofs.Spread.{based, spread_from, others}
 use Rattle.masked_code.proofs.Routines.{masked}
 use Rattle.block_parts.proofs.Landing.{lands}

@@ -12,7 +12,7 @@ use Rattle.sim_relation.specs.Position.{thread_of}
 use Rattle.sim_relation.specs.Context.{RunsFirst}
 use Rattle.sim_relation.specs.ServiceWords.{AreServiceWords}
 use Rattle.sim_relation.specs.Stands.{Stands}
-use Rattle.sim_relation.specs.Framing.{SamePart}
+use Rattle.sim_relation.proofs.Alike.{SamePart}
 use Rattle.sim_relation.specs.Moves.{WholeMachine}
 use Rattle.sim_relation.proofs.Aside.{timed_system, aside}
 use Rattle.sim_relation.proofs.Contexts.{context_same, chain_kept, data_kept}

@@ -19,7 +19,8 @@ use Rattle.sim_relation.specs.Position.{Thread, thread_of, thread_at}
 use Rattle.sim_relation.specs.Context.{IsContext, IsSaved, IsContextChain, RunsFirst, Resumes}
 use Rattle.sim_relation.specs.ServiceWords.{AreServiceWords, base_priority}
 use Rattle.sim_relation.specs.Stands.{Stands, IsActive, AreFalling}
-use Rattle.sim_relation.specs.Framing.{Agree, SamePart}
+use Rattle.sim_relation.specs.Framing.{Agree}
+use Rattle.sim_relation.proofs.Alike.{SamePart}
 use Rattle.sim_relation.specs.Changes.{changed_task, system_with_task_state, TaskChange}
 use Rattle.sim_relation.proofs.ClockKept.{clock_kept}
 use Rattle.sim_relation.proofs.Contexts.{context_same, chain_kept, data_kept}

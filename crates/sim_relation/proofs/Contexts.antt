@@ -10,7 +10,8 @@ use Rattle.sim_relation.specs.Build.{Build}
 use Rattle.sim_relation.specs.Position.{Thread, thread_at}
 use Rattle.sim_relation.specs.Context.{IsContext, IsSaved, IsContextChain}
 use Rattle.sim_relation.specs.DataStands.{DataStands}
-use Rattle.sim_relation.specs.Framing.{Agree, IdleKept, SameThread, SamePart}
+use Rattle.sim_relation.specs.Framing.{Agree, IdleKept}
+use Rattle.sim_relation.proofs.Alike.{SameThread, SamePart}
 use Rattle.std.specs.List.{AllByRecursion}
 use Rattle.sim_relation.proofs.Framing.{word_kept, position_kept, position_below}
 

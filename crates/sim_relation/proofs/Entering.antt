@@ -22,7 +22,8 @@ use Rattle.sim_relation.specs.Position.{thread_of, thread_at}
 use Rattle.sim_relation.specs.Context.{IsContext, IsContextChain, RunsFirst, RunsTask}
 use Rattle.sim_relation.specs.ServiceWords.{AreServiceWords, AreHeldWords, IsWaitWord, active_word}
 use Rattle.sim_relation.specs.Stands.{Stands, AreFalling, AreLineBytes, IsAlive, IsTidyTask}
-use Rattle.sim_relation.specs.Framing.{Agree, NamedKept, SameThread, SamePart}
+use Rattle.sim_relation.specs.Framing.{Agree, NamedKept}
+use Rattle.sim_relation.proofs.Alike.{SameThread, SamePart}
 use Rattle.sim_relation.specs.Entry.{TaskEntry}
 use Rattle.sim_relation.specs.Moves.{WholeMachine}
 use Rattle.sim_relation.proofs.ClockKept.{clock_named}

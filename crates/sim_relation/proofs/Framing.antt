@@ -10,7 +10,8 @@ use Rattle.sloth_base.specs.Named.{operation, function}
 use Rattle.osek_scheduler.specs.State.{Frame, Task}
 use Rattle.sim_relation.specs.Build.{Build}
 use Rattle.sim_relation.specs.Position.{Thread, AreWords, AreOuterFrames, AreFrames, HasIndexed, HasFarIndexed, HasAddress, HasTarget, HasScratch, InExpansion, AtBlock, IsStanding, IsOwing, IsCalling, IsReturning, IsPosition}
-use Rattle.sim_relation.specs.Framing.{Agree, SamePlace}
+use Rattle.sim_relation.specs.Framing.{Agree}
+use Rattle.sim_relation.proofs.Alike.{SamePlace}
 
 -- a word is the same where the bytes around it are
 pub word_kept : (old new : List ℕ) (from to place : ℕ) → Agree old new from to → from ≤ place → place + 4 ≤ to → word_at new place ≡ word_at old place

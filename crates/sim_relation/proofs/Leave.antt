@@ -15,7 +15,8 @@ use Rattle.sim_relation.specs.Build.{Build}
 use Rattle.sim_relation.specs.Position.{thread_of, thread_at}
 use Rattle.sim_relation.specs.Context.{IsContext, IsContextChain, RunsFirst}
 use Rattle.sim_relation.specs.Stands.{AreActive}
-use Rattle.sim_relation.specs.Framing.{IdleKept, SamePart, HasLeftFor}
+use Rattle.sim_relation.specs.Framing.{IdleKept, HasLeftFor}
+use Rattle.sim_relation.proofs.Alike.{SamePart}
 use Rattle.sim_relation.proofs.Contexts.{context_same, context_below, chain_kept}
 use Rattle.sim_relation.proofs.Parts.{each_from, falling_kept}
 use Rattle.sim_relation.proofs.Tops.{falling_tail, is_in-head, is_in-tail}

@@ -10,7 +10,7 @@ use Rattle.osek_scheduler.specs.Steps.{settled_state}
 use Rattle.sim_relation.specs.Build.{Build, Fits}
 use Rattle.sim_relation.specs.Context.{IsContextChain, RunsFirst, RunsTask}
 use Rattle.sim_relation.specs.Stands.{Stands, IsActive, AreActive}
-use Rattle.sim_relation.specs.Framing.{SamePart}
+use Rattle.sim_relation.proofs.Alike.{SamePart}
 use Rattle.sim_relation.specs.Moves.{TaskLeave}
 use Rattle.sim_relation.proofs.ClockKept.{clock_named}
 use Rattle.sim_relation.proofs.Contexts.{data_kept}

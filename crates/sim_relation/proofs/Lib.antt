@@ -28,3 +28,4 @@ pub mod Codes
 pub mod SavedRegisters
 pub mod Placed
 pub mod Machines
+pub mod Alike

@@ -19,7 +19,8 @@ use Rattle.sim_relation.specs.Position.{thread_of}
 use Rattle.sim_relation.specs.Context.{RunsFirst, IsRested, Resumes}
 use Rattle.sim_relation.specs.ServiceWords.{AreServiceWords, AreHeldWords, IsWaitWord, base_priority}
 use Rattle.sim_relation.specs.Stands.{IsActive, AreFalling, AreLineBytes}
-use Rattle.sim_relation.specs.Framing.{Agree, SamePart}
+use Rattle.sim_relation.specs.Framing.{Agree}
+use Rattle.sim_relation.proofs.Alike.{SamePart}
 use Rattle.std.specs.List.{AllByRecursion}
 use Rattle.sim_relation.proofs.Framing.{word_kept, frames_kept, frames_below}
 use Rattle.sim_relation.proofs.Contexts.{context_same, chain_kept}

@@ -16,7 +16,8 @@ use Rattle.sim_relation.specs.ServiceWords.{AreServiceWords}
 use Rattle.sim_relation.specs.ClockStands.{ClockStands}
 use Rattle.sim_relation.specs.DataStands.{DataStands}
 use Rattle.sim_relation.specs.Stands.{Stands, AreFalling, AreActive, AreLineBytes, IsAlive, AreApart, IsTidyTask, IsFixed}
-use Rattle.sim_relation.specs.Framing.{Agree, NamedKept, SamePart}
+use Rattle.sim_relation.specs.Framing.{Agree, NamedKept}
+use Rattle.sim_relation.proofs.Alike.{SamePart}
 use Rattle.sim_relation.specs.Moves.{changed_system, moved_system, WholeMachine, OthersKept}
 use Rattle.sim_relation.proofs.ClockKept.{line_stands, no_task}
 use Rattle.sim_relation.proofs.Parts.{other_task, by_task, line_same, service_kept}

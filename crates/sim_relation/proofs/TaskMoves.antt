@@ -12,7 +12,7 @@ use Rattle.sim_relation.specs.Build.{Build}
 use Rattle.sim_relation.specs.Position.{thread_of}
 use Rattle.sim_relation.specs.Context.{IsContext, RunsFirst, RunsTask}
 use Rattle.sim_relation.specs.Stands.{Stands, IsActive, AreFalling, AreActive, AreLineBytes}
-use Rattle.sim_relation.specs.Framing.{SamePart}
+use Rattle.sim_relation.proofs.Alike.{SamePart}
 use Rattle.sim_relation.specs.Moves.{moved_system, TaskMove}
 use Rattle.sim_relation.proofs.Contexts.{chain_kept}
 use Rattle.sim_relation.proofs.Parts.{this_task, by_task, falling_kept, each_from, line_same, line_active}

@@ -4,9 +4,6 @@ use Rattle.sloth_base.specs.Machine.{State}
 use Rattle.sloth_base.specs.MemoryMap.{memory_base}
 use Rattle.sloth_region.specs.Layout.{cur, below_word, active, events, wait, resume, idle_context, context_bytes}
 use Rattle.rv32_instr.specs.Ram.{word_at}
-use Rattle.osek_scheduler.specs.State.{System, task}
-use Rattle.sim_relation.specs.Build.{Build}
-use Rattle.sim_relation.specs.Position.{Thread}
 
 -- the bytes from `from` up to `to` are the same
 abbrev pub Agree : List ℕ → List ℕ → (from to : ℕ) → Type 0
@@ -20,23 +17,6 @@ IdleKept old new = Agree old new idle_context (idle_context + 12)
 abbrev pub NamedKept : List ℕ → List ℕ → ℕ → Type 0
 NamedKept old new t = (p : ℕ) → p + 4 ≤ idle_context → p % 4 ≡ 0 → p ≢ cur → p ≢ below_word → p ≢ active t → p ≢ events t → p ≢ wait t → p ≢ resume t
     → word_at new p ≡ word_at old p
-
--- the same pc, x2 and x5 to x31
-pub record SameThread (old new : Thread) : Type 0 where
-  pub pc : new.pc ≡ old.pc
-  pub x2 : new.x2 ≡ old.x2
-  pub x : (i : ℕ) → 5 ≤ i → i < 32 → new.x i ≡ old.x i
-
--- the same pc, x30 and x31: all that a position says of a thread
-pub record SamePlace (old new : Thread) : Type 0 where
-  pub pc : new.pc ≡ old.pc
-  pub x30 : new.x 30 ≡ old.x 30
-  pub x31 : new.x 31 ≡ old.x 31
-
--- a task has the same part in both: its record, and the bytes of its stack
-pub record SamePart (b : Build) (old new : List ℕ) (s next : System) (t : ℕ) : Type 0 where
-  pub tasks : task next t ≡ task s t
-  pub bytes : Agree old new (b.low t) (b.top t)
 
 -- What going back to the context at `place` does, beside what else the routine writes: `old` is the RAM before, `new` the RAM
 -- afterwards.

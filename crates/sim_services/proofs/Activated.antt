@@ -15,7 +15,8 @@ use Rattle.block_parts.specs.Looks.{LooksSuspended}
 use Rattle.block_parts.specs.Back.{a0}
 use Rattle.osek_scheduler.specs.declared.state.TaskState.TheVariants as mode
 use Rattle.osek_scheduler.specs.State.{Task, System, task}
-use Rattle.osek_scheduler.specs.Services.{activated_state, answered_task, answered_state, is_there, GoesOn}
+use Rattle.osek_scheduler.specs.Services.{activated_state, answered_task, is_there, GoesOn}
+use Rattle.osek_scheduler.proofs.ServiceStates.{answered_state}
 use Rattle.osek_scheduler.specs.Outcomes.{outcome}
 use Rattle.osek_scheduler.specs.Steps.{settled_state}
 use Rattle.sim_relation.specs.Build.{Build, Fits}

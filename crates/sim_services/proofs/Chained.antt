@@ -14,7 +14,8 @@ use Rattle.block_parts.specs.Looks.{LooksSuspended}
 use Rattle.service_gen.specs.ChainTask.{HasChained, HasNotChained, Chained}
 use Rattle.osek_scheduler.specs.declared.state.TaskState.TheVariants as mode
 use Rattle.osek_scheduler.specs.State.{Task, System, task, zero_registers}
-use Rattle.osek_scheduler.specs.Services.{if_suspended, activated_state, answered_state, ended_state, is_there, Outcome, GoesOn, Leaves}
+use Rattle.osek_scheduler.specs.Services.{if_suspended, activated_state, is_there, Outcome, GoesOn, Leaves}
+use Rattle.osek_scheduler.proofs.ServiceStates.{answered_state, ended_state}
 use Rattle.osek_scheduler.specs.Outcomes.{outcome}
 use Rattle.osek_scheduler.specs.Steps.{settled_state}
 use Rattle.sim_relation.specs.Build.{Build, Fits}

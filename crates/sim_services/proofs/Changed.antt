@@ -12,7 +12,8 @@ use Rattle.osek_scheduler.specs.declared.state.TaskState.{TaskState}
 use Rattle.osek_scheduler.specs.declared.state.TaskState.TheVariants as mode
 use Rattle.osek_scheduler.specs.State.{Task, System, task}
 use Rattle.osek_scheduler.specs.Priority.{is_active}
-use Rattle.osek_scheduler.specs.Services.{answered_task, answered_state}
+use Rattle.osek_scheduler.specs.Services.{answered_task}
+use Rattle.osek_scheduler.proofs.ServiceStates.{answered_state}
 use Rattle.osek_scheduler.specs.Steps.{settled_state}
 use Rattle.sim_relation.specs.Build.{Build, Fits}
 use Rattle.sim_relation.specs.Changes.{system_with_task_state, TaskChange}

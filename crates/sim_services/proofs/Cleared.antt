@@ -13,7 +13,8 @@ use Rattle.expansion_parts.specs.Expansion.{mask_of}
 use Rattle.masked_code.proofs.Words.{word_below}
 use Rattle.event_gen.specs.ClearEvent.{EventsCleared, mask_register}
 use Rattle.osek_scheduler.specs.State.{Task, System, task, with_task}
-use Rattle.osek_scheduler.specs.Services.{answered_task, answered_state, is_there}
+use Rattle.osek_scheduler.specs.Services.{answered_task, is_there}
+use Rattle.osek_scheduler.proofs.ServiceStates.{answered_state}
 use Rattle.osek_scheduler.specs.Steps.{settled_state}
 use Rattle.sim_relation.specs.Build.{Build, Fits}
 use Rattle.sim_relation.specs.Changes.{system_with_task_state}

@@ -12,7 +12,7 @@ use Rattle.service_gen.specs.TerminateTask.{Terminated}
 use Rattle.osek_scheduler.specs.declared.state.TaskState.TheVariants as mode
 use Rattle.osek_scheduler.specs.State.{Task, System, task, zero_registers}
 use Rattle.osek_scheduler.specs.Priority.{is_active}
-use Rattle.osek_scheduler.specs.Services.{ended_state}
+use Rattle.osek_scheduler.proofs.ServiceStates.{ended_state}
 use Rattle.osek_scheduler.specs.Steps.{settled_state}
 use Rattle.sim_induction.proofs.Passing.{not_suspended}
 use Rattle.sim_relation.specs.Build.{Build, Fits}

@@ -8,7 +8,8 @@ use Rattle.sloth_base.specs.Status.{E_OK, E_OS_STATE}
 use Rattle.sloth_base.specs.declared.service.Service.TheVariants as service
 use Rattle.event_gen.specs.GetEvent.{HasNotTold, HasTold, EventsTold}
 use Rattle.osek_scheduler.specs.State.{Task, System, task}
-use Rattle.osek_scheduler.specs.Services.{answered_state, answered_state_with, is_there, GoesOn}
+use Rattle.osek_scheduler.specs.Services.{is_there, GoesOn}
+use Rattle.osek_scheduler.proofs.ServiceStates.{answered_state, answered_state_with}
 use Rattle.osek_scheduler.specs.Outcomes.{outcome}
 use Rattle.sim_relation.specs.Build.{Build, Fits}
 use Rattle.sim_relation.specs.Stands.{Stands}

@@ -14,7 +14,8 @@ use Rattle.masked_code.specs.Kernel.{LeftAs}
 use Rattle.block_parts.specs.Back.{WentBack, a0, a1}
 use Rattle.osek_scheduler.specs.State.{Frame, Task, System, task}
 use Rattle.osek_scheduler.specs.Meaning.{going_on_frame}
-use Rattle.osek_scheduler.specs.Services.{moved_frames, is_there, Outcome, GoesOn, Leaves, answered_state, answered_state_with}
+use Rattle.osek_scheduler.specs.Services.{moved_frames, is_there, Outcome, GoesOn, Leaves}
+use Rattle.osek_scheduler.proofs.ServiceStates.{answered_state, answered_state_with}
 use Rattle.osek_scheduler.specs.Outcomes.{outcome}
 use Rattle.osek_scheduler.specs.Steps.{OsekStep, ServesCall, settled_state}
 use Rattle.sim_induction.proofs.Stretched.{shows_call, shows_left}

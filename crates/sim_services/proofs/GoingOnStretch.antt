@@ -28,8 +28,10 @@ use Rattle.sim_relation.specs.Build.{Build, Fits}
 use Rattle.sim_relation.specs.Placed.{setting_of}
 use Rattle.sim_relation.specs.Stands.{Stands}
 use Rattle.sim_services.specs.ServiceSteps.{MayGoOn}
-use Rattle.sim_services.specs.Opening.{AtOpening, IsFollowed, CanServe}
-use Rattle.sim_services.specs.Served.{IsServed, Answers, TouchesTasks}
+use Rattle.sim_services.specs.Opening.{AtOpening, IsFollowed}
+use Rattle.sim_services.proofs.Servable.{CanServe}
+use Rattle.sim_services.specs.Served.{IsServed, Answers}
+use Rattle.sim_services.proofs.ServiceLaws.{TouchesTasks}
 use Rattle.sim_services.specs.Stretch.{OpensChainTask, OpensGetResource, OpensGoingOn, Stretches}
 use Rattle.sim_services.proofs.Activated.{activates}
 use Rattle.sim_services.proofs.Chained.{chain_answers}

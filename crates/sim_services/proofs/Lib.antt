@@ -27,3 +27,5 @@ pub mod Stretches
 pub mod WaitRam
 pub mod Waiting
 pub mod WaitStretch
+pub mod Servable
+pub mod ServiceLaws

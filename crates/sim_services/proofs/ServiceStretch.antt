@@ -42,8 +42,10 @@ use Rattle.sim_relation.proofs.Choice.{running_top}
 use Rattle.sim_relation.proofs.Levels.{level_of-few}
 use Rattle.sim_relation.proofs.Placed.{placed_in, code_behind, first_by_word}
 use Rattle.sim_relation.proofs.Tops.{falling_head}
-use Rattle.sim_services.specs.Opening.{AtOpening, OpensService, CanServe}
-use Rattle.sim_services.specs.Served.{IsServed, Answers, ServiceLaw, TouchesTasks}
+use Rattle.sim_services.specs.Opening.{AtOpening, OpensService}
+use Rattle.sim_services.proofs.Servable.{CanServe}
+use Rattle.sim_services.specs.Served.{IsServed, Answers}
+use Rattle.sim_services.proofs.ServiceLaws.{ServiceLaw, TouchesTasks}
 use Rattle.sim_services.specs.Stretch.{Stretches}
 
 module _ (b : Build) (view : View) (arrivals : List Arrival) (count : ℕ) (state : State) (s : System) (t : ℕ) (served : Service) (Contract : ℕ → List InstrKind → Type 0)

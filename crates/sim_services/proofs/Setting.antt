@@ -19,7 +19,8 @@ use Rattle.event_gen.specs.SetEvent.{with_mask, HasNotSet, HasSet, HasWoken, Eve
 use Rattle.osek_scheduler.specs.declared.state.TaskState.{TaskState}
 use Rattle.osek_scheduler.specs.declared.state.TaskState.TheVariants as mode
 use Rattle.osek_scheduler.specs.State.{Task, System, task}
-use Rattle.osek_scheduler.specs.Services.{answered_task, answered_state, is_there, GoesOn, set_events, with_events, woken_state}
+use Rattle.osek_scheduler.specs.Services.{answered_task, is_there, GoesOn, set_events, with_events, woken_state}
+use Rattle.osek_scheduler.proofs.ServiceStates.{answered_state}
 use Rattle.osek_scheduler.specs.Outcomes.{outcome}
 use Rattle.osek_scheduler.specs.Steps.{settled_state}
 use Rattle.sim_relation.specs.Build.{Build, Fits}

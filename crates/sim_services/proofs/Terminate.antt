@@ -6,7 +6,7 @@ use Rattle.sloth_base.specs.declared.service.Service.TheVariants as service
 use Rattle.sloth_base.specs.Machine.{State}
 use Rattle.service_gen.specs.TerminateTask.{Terminated}
 use Rattle.osek_scheduler.specs.State.{Task, System}
-use Rattle.osek_scheduler.specs.Services.{ended_state}
+use Rattle.osek_scheduler.proofs.ServiceStates.{ended_state}
 use Rattle.sim_relation.specs.Build.{Build, Fits}
 use Rattle.sim_services.specs.Served.{Answers}
 use Rattle.sim_services.specs.ServiceSteps.{MayEnd}

@@ -5,7 +5,7 @@ use Rattle.service_gen.specs.ChainTask.{Chained, HasChained, HasNotChained}
 use Rattle.service_gen.specs.GetTaskState.{IsStateNumber, StateTold}
 use Rattle.service_gen.specs.GetTaskState.IsStateNumber.{running, preempted, waiting, ready, suspended}
 use Rattle.sim_relation.specs.Build.{Build}
-use Rattle.sim_services.specs.Served.{TouchesTasks}
+use Rattle.sim_services.proofs.ServiceLaws.{TouchesTasks}
 
 module _ (b : Build) where
   -- a service that touches no line

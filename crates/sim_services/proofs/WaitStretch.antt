@@ -23,7 +23,7 @@ use Rattle.sim_relation.proofs.Contexts.{context_below}
 use Rattle.sim_relation.proofs.Placed.{first_by_word}
 use Rattle.sim_relation.proofs.Tops.{falling_head, is_in-head, below_other}
 use Rattle.sim_relation.proofs.Codes.{code_apart}
-use Rattle.sim_services.specs.Opening.{CanServe}
+use Rattle.sim_services.proofs.Servable.{CanServe}
 use Rattle.sim_services.specs.Stretch.{Stretches}
 use Rattle.sim_services.proofs.GoingOnStretch.{going_on_stretches}
 use Rattle.sim_services.proofs.ServiceStretch.{k}

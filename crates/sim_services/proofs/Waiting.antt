@@ -19,7 +19,8 @@ use Rattle.event_gen.specs.WaitEvent.{set_of, HasNotWaited, HasWaited, Waited}
 use Rattle.osek_scheduler.specs.declared.state.TaskState.TheVariants as mode
 use Rattle.osek_scheduler.specs.State.{Frame, Task, System, task, with_task}
 use Rattle.osek_scheduler.specs.Meaning.{going_on_frame}
-use Rattle.osek_scheduler.specs.Services.{GoesOn, Leaves, waiting_task, moved_frames, answered_state, is_there}
+use Rattle.osek_scheduler.specs.Services.{GoesOn, Leaves, waiting_task, moved_frames, is_there}
+use Rattle.osek_scheduler.proofs.ServiceStates.{answered_state}
 use Rattle.osek_scheduler.specs.Steps.{settled_state}
 use Rattle.sim_relation.specs.Build.{Build, Fits}
 use Rattle.sim_relation.specs.Position.{AreFrames, thread_of}

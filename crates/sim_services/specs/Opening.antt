@@ -4,13 +4,11 @@ use Rattle.sloth_base.specs.declared.image.Mark.{Mark}
 use Rattle.sloth_base.specs.declared.image.MarkKind.TheVariants as kind
 use Rattle.sloth_base.specs.declared.service.Service.{Service}
 use Rattle.sloth_base.specs.Choose.{choose}
-use Rattle.sloth_base.specs.Machine.{Core, State}
+use Rattle.sloth_base.specs.Machine.{State}
 use Rattle.sloth_region.specs.Layout.{cur}
 use Rattle.rv32_instr.specs.declared.InstrKind.{InstrKind}
 use Rattle.rv32_instr.specs.Ram.{word_at}
-use Rattle.masked_code.specs.Kernel.{IsBelow}
 use Rattle.expansion_parts.specs.Expansion.{item_address, block_address, expansion}
-use Rattle.block_parts.specs.Back.{CanGoBack}
 use Rattle.observe.specs.Observe.{View, mark_at}
 use Rattle.sloth_base.specs.ServiceCodes.{service_of}
 use Rattle.osek_scheduler.specs.State.{Frame, Task, System, task}
@@ -60,12 +58,3 @@ pub record OpensService (b : Build) (view : View) (state : State) (s : System) (
 pub record IsFollowed (b : Build) (func item : ℕ) : Type 0 where
   pub more : item + 1 < length (function b.app func).items
   pub adjacent : item_address b.places func (item + 1) ≡ item_address b.places func item + 4 * length (expansion b.app b.places func item)
-
--- What the contracts of service blocks ask of the machine there: the code at an offset can run and go back to the running task,
--- below which the context at `place` is the next.
-pub record CanServe (offset : ℕ) (code : List InstrKind) (t place : ℕ) (core : Core) : Type 0 where
-  pub goes_back : CanGoBack offset code core
-  pub level : core.ilevel < 256
-  pub current : word_at core.ram cur ≡ t + 1
-  pub is_task : t < task_limit
-  pub below : IsBelow place core

@@ -1,9 +1,7 @@
 -- What is asked of each service: its law, said without arrivals.
 use Rattle.std.specs.Prelude.{ℕ, ◌≡◌, List, [], ◌∷◌, Contains}
 use Rattle.sloth_base.specs.declared.service.Service.{Service}
-use Rattle.sloth_base.specs.Arrive.{state_arrive}
 use Rattle.sloth_base.specs.Machine.{State}
-use Rattle.sloth_base.specs.Owners.{owners_in, AreTasks}
 use Rattle.osek_scheduler.specs.State.{Task, System, task}
 use Rattle.osek_scheduler.specs.Priority.{IsTop}
 use Rattle.osek_scheduler.specs.Steps.{OsekStep}
@@ -31,13 +29,3 @@ pub record Answers (b : Build) (s : System) (t : ℕ) (served : Service) (touche
   pub after : System
   pub step_is : OsekStep b.config b.app (served_event t served end) s after
   pub stands : Stands b end after
-
--- code with this effect touches the lines of tasks alone
-abbrev pub TouchesTasks : Build → (List ℕ → State → State → Type 0) → Type 0
-TouchesTasks b Effect = (touched : List ℕ) (start end : State) → Effect touched start end → AreTasks (owners_in b.config) touched
-
--- A service's own law: where the task is served from this state on, with any early arrivals, the effect is the answer.
-abbrev pub ServiceLaw : Build → State → ℕ → Task → Service → (List ℕ → State → State → Type 0) → Type 0
-ServiceLaw b state t own served Effect =
-    (lines touched : List ℕ) (s : System) (end : State) → IsServed b (state_arrive lines state) s t own served
-    → Effect touched (state_arrive lines state) end → Answers b s t served touched end

@@ -8,7 +8,7 @@ use Rattle.sloth_region.specs.Layout.{idle_context, below_word, counter_value, a
 use Rattle.rv32_instr.specs.Ram.{word_at}
 use Rattle.block_parts.specs.Back.{WentBack, a0}
 use Rattle.osek_scheduler.specs.State.{Task, System, with_alarm}
-use Rattle.osek_scheduler.specs.Services.{answered_state}
+use Rattle.osek_scheduler.proofs.ServiceStates.{answered_state}
 use Rattle.osek_scheduler.specs.Steps.{settled_state}
 use Rattle.sim_relation.specs.Build.{Build, Fits}
 use Rattle.sim_relation.specs.Stands.{Stands}

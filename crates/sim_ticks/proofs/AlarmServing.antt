@@ -21,7 +21,8 @@ use Rattle.alarm_gen.specs.GetAlarm.{HasToldLeft, AlarmTold}
 use Rattle.alarm_gen.specs.SetAlarm.{CycleFits, TicksFit, AlarmValueFits, first_operand, second_operand, ticks_until, HasAlarm, HasNoFit, HasAlarmSet, AlarmSet}
 use Rattle.osek_scheduler.specs.declared.state.Alarm.{Alarm}
 use Rattle.osek_scheduler.specs.State.{Task, System, task, counter, alarm, with_alarm}
-use Rattle.osek_scheduler.specs.Services.{answered_state, answered_state_with, is_in_use, allows_cycle, allows_relative, allows_absolute, is_there, Outcome, GoesOn}
+use Rattle.osek_scheduler.specs.Services.{is_in_use, allows_cycle, allows_relative, allows_absolute, is_there, Outcome, GoesOn}
+use Rattle.osek_scheduler.proofs.ServiceStates.{answered_state, answered_state_with}
 use Rattle.osek_scheduler.specs.Outcomes.{outcome}
 use Rattle.sim_relation.specs.Build.{Build, Fits}
 use Rattle.sim_relation.specs.Stands.{Stands}

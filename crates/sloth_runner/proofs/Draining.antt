@@ -12,7 +12,7 @@ use Rattle.trace_text.proofs.Appends.{text_after-append}
 use Rattle.observe.specs.declared.observing.Observer.{Observer}
 use Rattle.observe.specs.Progress.{Fed, remaining, view_of, arrivals_of, expected_count}
 use Rattle.sloth_runner.proofs.Handing.{handing-init, handing-more}
-use Rattle.sloth_runner.specs.Runner.{Draining}
+use Rattle.sloth_runner.proofs.RunInvariants.{Draining}
 
 pub draining-init : (image : Image) (form : Form) (idle : Bool) (o : Observer) (t : Output) → Draining image form idle o idle o t t
 draining-init image form idle o t = record {

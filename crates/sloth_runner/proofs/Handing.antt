@@ -8,7 +8,8 @@ use Rattle.sloth_base.specs.declared.step.Step.{Step}
 use Rattle.sloth_base.specs.declared.event.Stamped.{Stamped}
 use Rattle.observe.specs.declared.observing.Observer.{Observer}
 use Rattle.observe.specs.Progress.{Fed, remaining, view_of, arrivals_of, expected_count}
-use Rattle.sloth_runner.specs.Moments.{HandsOut, HandingOut}
+use Rattle.sloth_runner.specs.Moments.{HandsOut}
+use Rattle.sloth_runner.proofs.RunInvariants.{HandingOut}
 
 pub handing-init : (o : Observer) → HandingOut o o
 handing-init o = record { view = refl; arrivals = refl; expected = refl; fed = λ steps events f. (events, f, refl) }

@@ -17,7 +17,8 @@ use Rattle.rv32_machine.specs.Advance.{Halts}
 use Rattle.rv32_machine.specs.Run.{Moment, moment, state_with_arrivals, run, run_from, steps_of, state_after}
 use Rattle.rv32_machine.proofs.Runs.{run_halts, stop_halts, stop_none, run_front}
 use Rattle.sim_induction.specs.Sound.{events_of}
-use Rattle.sloth_runner.specs.Runner.{Ran, Running, IsFresh, IsRunning, Went, Broke, HaltsWith, Adds, image_of, given_arrivals, count_of, run_steps, run_text, run_end, end_of}
+use Rattle.sloth_runner.specs.Runner.{IsFresh, IsRunning, Went, Broke, HaltsWith, Adds, image_of, given_arrivals, count_of, run_steps, run_text, run_end, end_of}
+use Rattle.sloth_runner.proofs.RunInvariants.{Ran, Running}
 use Rattle.sloth_runner.specs.Moments.{sloth_state}
 use Rattle.sloth_runner.specs.declared.runner.Runner.{Runner}
 use Rattle.sloth_runner.specs.declared.runner.Printer.{Printer}

@@ -18,7 +18,8 @@ use Rattle.sloth_runner.specs.declared.runner.RunEnd.TheVariants as ends
 use Rattle.sloth_runner.specs.declared.looks.Seen.{Seen}
 use Rattle.sloth_runner.specs.declared.sight.Sight.{Sight}
 use Rattle.sloth_runner.specs.declared.sight.Sight.TheVariants as sights
-use Rattle.sloth_runner.specs.Sight.{task_states, running_task, AreMasked, IsSeen, IsSight, IsLast, sight_at, sight_of}
+use Rattle.sloth_runner.specs.Sight.{task_states, running_task, AreMasked, IsSeen, IsSight, IsLast, sight_at}
+use Rattle.sloth_runner.proofs.WholeRuns.{sight_of}
 
 module _ (image : Image) (A : List Arrival) where
   -- ---- one count more

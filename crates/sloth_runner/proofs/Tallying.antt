@@ -15,7 +15,8 @@ use Rattle.trace_text.specs.Summary.{count_of_kind, counts_of}
 use Rattle.observe.specs.Progress.{remaining}
 use Rattle.sim_induction.specs.Sound.{events_of}
 use Rattle.sloth_runner.specs.Moments.{counts_with_one, counts_with}
-use Rattle.sloth_runner.specs.Runner.{Advanced, Adds, Ran, image_of, given_arrivals, count_of}
+use Rattle.sloth_runner.specs.Runner.{Advanced, Adds, image_of, given_arrivals, count_of}
+use Rattle.sloth_runner.proofs.RunInvariants.{Ran}
 use Rattle.sloth_runner.specs.declared.runner.Runner.{Runner}
 use Rattle.sloth_runner.proofs.Running.{adds-at}
 use Rattle.sloth_runner.proofs.Turning.{advanced-adds}

@@ -1,5 +1,5 @@
 -- What a runner does with its machine and its observer at a moment of a run.
-use Rattle.std.specs.Prelude.{ℕ, ◌≡◌, ◌+◌, ◌<◌, List, All, [], ◌∷◌, ◌++◌, slice_index, slice_set, Option, Some, None, if◌then◌else◌}
+use Rattle.std.specs.Prelude.{ℕ, ◌+◌, ◌<◌, List, All, [], ◌∷◌, ◌++◌, slice_index, slice_set, Option, Some, None, if◌then◌else◌}
 use Rattle.sloth_base.specs.Machine.{State}
 use Rattle.sloth_base.specs.declared.event.Arrival.{Arrival}
 use Rattle.sloth_base.specs.declared.event.Stamped.{Stamped}
@@ -10,7 +10,7 @@ use Rattle.rv32_machine.specs.State.{state}
 use Rattle.rv32_machine.specs.declared.machine.Machine.{Machine}
 use Rattle.machine_memory.specs.declared.sloth.SlothBus.{SlothBus}
 use Rattle.sloth_inspect.specs.States.{states_in, running_number_in}
-use Rattle.observe.specs.Progress.{Fed, remaining, view_of, arrivals_of, expected_count}
+use Rattle.observe.specs.Progress.{Fed, remaining}
 use Rattle.observe.specs.declared.observing.Observer.{Observer}
 use Rattle.line_words.specs.EventWords.{kind_of}
 use Rattle.sloth_runner.specs.declared.looks.Seen.{Seen}
@@ -35,14 +35,6 @@ seen_at tasks count now =
 -- all finished events were handed out
 abbrev pub HandsOut : Observer → Observer → Type 0
 HandsOut old new = (steps : List Step) (events : List Stamped) → Fed old steps events → Fed new steps (events ++ remaining old)
-
--- on the way from one observer to another some of them were handed out
-pub record HandingOut (o0 o : Observer) : Type 0 where
-  pub view : view_of o ≡ view_of o0
-  pub arrivals : arrivals_of o ≡ arrivals_of o0
-  pub expected : expected_count o ≡ expected_count o0
-  pub fed : (steps : List Step) (events : List Stamped) → Fed o0 steps events
-      → (front : List Stamped) × Fed o steps front × (front ++ remaining o ≡ events ++ remaining o0)
 
 -- these numbers of events of each kind, with one event more
 abbrev pub counts_with_one : List ℕ → Stamped → List ℕ

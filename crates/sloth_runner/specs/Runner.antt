@@ -1,5 +1,5 @@
 -- A runner, between two instructions of its run.
-use Rattle.std.specs.Prelude.{ℕ, ◌≡◌, ◌+◌, List, [], ◌∷◌, ◌++◌, Option, Some, None, Bool, false}
+use Rattle.std.specs.Prelude.{ℕ, ◌≡◌, ◌+◌, List, [], ◌∷◌, ◌++◌, Option, Some, None}
 use Rattle.sloth_base.specs.ImageRange.{InFormat}
 use Rattle.sloth_base.specs.Arrivals.{AreArrivals}
 use Rattle.sloth_base.specs.declared.image.Image.{Image}
@@ -11,16 +11,14 @@ use Rattle.trace_text.specs.Texts.{text_after, text_in, ends_idle}
 use Rattle.trace_text.specs.declared.printing.Form.{Form}
 use Rattle.observe.specs.Observe.{view_of_image}
 use Rattle.observe.specs.Progress.{Fed, remaining, view_of, arrivals_of, expected_count, arrivals_from, arrivals_behind}
-use Rattle.observe.specs.declared.observing.Observer.{Observer}
 use Rattle.sim_induction.specs.Sound.{events_of}
 use Rattle.rv32_machine.specs.Start.{start}
 use Rattle.rv32_machine.specs.Advance.{Goes, Halts, advance}
-use Rattle.machine_memory.specs.declared.sloth.SlothBus.{SlothBus}
 use Rattle.sloth_base.specs.Take.{execution_state}
 use Rattle.sloth_base.specs.Owners.{owners_named}
 use Rattle.rv32_instr.specs.declared.stop.Stop.{Stop}
 use Rattle.rv32_machine.specs.Run.{Stopping, moment, state_with_arrivals, run, steps_of, state_after, stop_of}
-use Rattle.sloth_runner.specs.Moments.{AreLines, HandingOut, HandsOut, sloth_state}
+use Rattle.sloth_runner.specs.Moments.{AreLines, sloth_state}
 use Rattle.sloth_runner.specs.declared.runner.Halt.{Halt}
 use Rattle.sloth_runner.specs.declared.runner.Printer.{Printer}
 use Rattle.sloth_runner.specs.declared.runner.Runner.{Runner}
@@ -51,14 +49,6 @@ run_end image arrivals n = end_of (stop_of n arrivals (start image))
 -- the lines that a printer puts of these events
 abbrev pub lines_of : Printer → List Stamped → List ℕ
 lines_of printer events = text_after printer.image.now printer.form printer.after_idle events
-
--- and their lines were put
-pub record Draining (image : Image) (form : Form) (idle : Bool) (o0 : Observer) (last : Bool) (o : Observer) (t0 t : Output) : Type 0 where
-  pub done : List ℕ
-  pub taken : t ≡ output_with t0 done
-  pub text : text_after image form idle (remaining o0) ≡ done ++ text_after image form last (remaining o)
-  pub ends : ends_idle idle (remaining o0) ≡ ends_idle last (remaining o)
-  pub hands : HandingOut o0 o
 
 -- ---- a runner
 
@@ -149,18 +139,3 @@ pub record Broke (old : Runner) (before : Printer) (t u : Output) : Type 0 where
 abbrev pub HaltsWith : Runner → RunEnd → Type 0
 HaltsWith old end = (stop : Stop) × (moment (given_arrivals old) (count_of old) (sloth_state old.machine) ≡ Halts stop)
     × (end ≡ ends.Stopped (execution_state (state_with_arrivals (given_arrivals old) (count_of old) (sloth_state old.machine))).pc stop)
-
--- k instructions were done since the runner was fresh
-pub record Ran (r0 r : Runner) (k : ℕ) : Type 0 where
-  pub running : IsRunning r
-  pub count : count_of r ≡ k
-  pub image : image_of r ≡ image_of r0
-  pub arrivals : given_arrivals r ≡ given_arrivals r0
-
--- and the lines of their events were put
-pub record Running (r0 r : Runner) (form : Form) (printer : Printer) (t0 t : Output) (k : ℕ) : Type 0 where
-  pub ran : Ran r0 r k
-  pub taken : t ≡ output_with t0 (run_text (image_of r0) (given_arrivals r0) form k)
-  pub idle : printer.after_idle ≡ ends_idle false (events_of (image_of r0) (given_arrivals r0) k)
-  pub form_is : printer.form ≡ form
-  pub printed : printer.image.now ≡ image_of r0

@@ -78,8 +78,3 @@ sight_at image count state =
 abbrev pub IsLast : Image → List Arrival → ℕ → Option Seen → Type 0
 IsLast image arrivals below None = AreMasked image arrivals 0 below
 IsLast image arrivals below (Some seen) = IsSeen image arrivals below seen
-
--- what a run shows that does not stop, of what was seen last
-abbrev pub sight_of : Option Seen → Sight
-sight_of None = sights.Booting
-sight_of (Some seen) = sights.At seen

@@ -20,9 +20,10 @@ use Rattle.sloth_base.proofs.Owners.{IsCounterLine, owned_cases}
 use Rattle.osek_scheduler.specs.InTime.{InTime}
 use Rattle.line_words.specs.EventNumbers.{HasNumbers}
 use Rattle.trace_time.specs.Counts.{AreSmall, IsSmall}
-use Rattle.walked_events.specs.TraceText.{BeginsWithNone, HasLine, HasRead, IsFirstBad, Shows}
+use Rattle.walked_events.specs.TraceText.{BeginsWithNone, HasLine, IsFirstBad, Shows}
 use Rattle.sloth_base.specs.DeclaredNames.{AreNamesOf, task_names, counter_names, function_names}
 use Rattle.sloth_base.specs.declared.declared_names.DeclaredNames.{DeclaredNames}
+use Rattle.walked_events.proofs.ReadEvents.{HasRead}
 use Rattle.walked_events.specs.Walk.{StraysAt, IsWalked, WalksOrStrays, Walk}
 use Rattle.walked_events.proofs.TraceText.{reads_all}
 

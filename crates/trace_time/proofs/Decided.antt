@@ -13,8 +13,10 @@ use Rattle.sloth_base.specs.declared.event.Arrival.{Arrival}
 use Rattle.sloth_base.specs.declared.event.Stamped.{Stamped}
 use Rattle.sloth_base.specs.Events.{admitted_line}
 use Rattle.osek_scheduler.specs.InTime.{InTime, AdmitsAll, LeavesOut, others, longest_cut_off_stretch}
-use Rattle.trace_time.specs.Scan.{Scan, scan_start, scan_after_events, MayFollow, FollowsScan}
-use Rattle.trace_time.specs.Counts.{AreSmall, Ending, SameCounts, admit_numbers, arrival_number, may_leave, last_moment, times}
+use Rattle.trace_time.specs.Scan.{Scan, scan_start, scan_after_events}
+use Rattle.trace_time.proofs.ScanOrder.{MayFollow, FollowsScan}
+use Rattle.trace_time.specs.Counts.{AreSmall, SameCounts, admit_numbers, arrival_number, may_leave, last_moment, times}
+use Rattle.trace_time.proofs.Endings.{Ending}
 use Rattle.trace_time.specs.Timed.{KeptPass, is_late, NeverInTime, TimedBy}
 use Rattle.trace_time.proofs.Counts.{counts_permuted, same_rising, rises}
 use Rattle.trace_time.proofs.Scan.{scan_sound, scan_complete, scan_ends}

@@ -5,3 +5,5 @@ pub mod Counts
 pub mod Tail
 pub mod Longer
 pub mod Decided
+pub mod ScanOrder
+pub mod Endings

@@ -6,7 +6,7 @@ use Rattle.std.proofs.lemmas.List.Elements.{All-cons, All-head, All-tail}
 use Rattle.sloth_base.specs.declared.event.Arrival.{Arrival}
 use Rattle.sloth_base.specs.declared.event.Stamped.{Stamped}
 use Rattle.osek_scheduler.specs.InTime.{is_admit, IsSubsequence, KeepsOrder}
-use Rattle.trace_time.specs.Scan.{key_of, arrival_key, front_admits, KeepsBehind, Keeps}
+use Rattle.trace_time.proofs.ScanOrder.{key_of, arrival_key, front_admits, KeepsBehind, Keeps}
 use Rattle.trace_time.proofs.Subsequences.{sub_tail, sub_front}
 
 abbrev AreAdmits : List Stamped → Type 0

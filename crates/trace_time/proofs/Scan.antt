@@ -13,7 +13,8 @@ use Rattle.osek_scheduler.specs.Meaning.{on_some}
 use Rattle.osek_scheduler.proofs.Tests.{if_true_some, if_true_is, on_some_from}
 use Rattle.sloth_base.specs.Events.{admitted_line, is_single}
 use Rattle.osek_scheduler.specs.InTime.{is_admit, Spans, IsStamped, StandsBefore, IsOrdered, IsSubsequence, others}
-use Rattle.trace_time.specs.Scan.{Scan, behind_first, from_moment, is_stamped, scan_after_admit, scan_after_other, scan_after_line, scan_after_event, scan_after_events, key_of, arrival_key, front_admits, KeepsBehind, Keeps, FollowsScan, MayFollow}
+use Rattle.trace_time.specs.Scan.{Scan, behind_first, from_moment, is_stamped, scan_after_admit, scan_after_other, scan_after_line, scan_after_event, scan_after_events}
+use Rattle.trace_time.proofs.ScanOrder.{key_of, arrival_key, front_admits, KeepsBehind, Keeps, FollowsScan, MayFollow}
 use Rattle.trace_time.proofs.Subsequences.{found_right, found_left, AreFrom, trim_right, trim_left}
 
 -- ---- stamps

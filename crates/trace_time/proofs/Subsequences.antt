@@ -5,7 +5,8 @@ use Rattle.std.proofs.lemmas.Bool.{and_parts, and_from, eqb-true, eq-eqb, true�
 use Rattle.std.proofs.lemmas.Option.{same_Some}
 use Rattle.sloth_base.specs.declared.event.Arrival.{Arrival}
 use Rattle.osek_scheduler.specs.InTime.{IsSubsequence}
-use Rattle.trace_time.specs.Scan.{behind_first, from_moment, arrival_key}
+use Rattle.trace_time.specs.Scan.{behind_first, from_moment}
+use Rattle.trace_time.proofs.ScanOrder.{arrival_key}
 
 abbrev Key : Type 0
 Key = ℕ × Option ℕ

@@ -13,7 +13,8 @@ use Rattle.sloth_base.specs.declared.event.Arrival.{Arrival}
 use Rattle.sloth_base.specs.declared.event.Stamped.{Stamped}
 use Rattle.sloth_base.specs.Events.{admitted_line}
 use Rattle.osek_scheduler.specs.InTime.{admits_at, arrivals_at, AdmitsAll, LeavesOut, IsStamped, longest_cut_off_stretch, others}
-use Rattle.trace_time.specs.Counts.{number_at, arrival_number, with_admit, admit_numbers, times, SameCounts, last_moment, may_leave, Ending, IsSmall, AreSmall}
+use Rattle.trace_time.specs.Counts.{number_at, arrival_number, with_admit, admit_numbers, times, SameCounts, last_moment, may_leave, IsSmall, AreSmall}
+use Rattle.trace_time.proofs.Endings.{Ending}
 use Rattle.trace_time.proofs.Counts.{same_length}
 
 -- ---- counts of numbers are counts of admits and of arrivals

@@ -14,7 +14,7 @@ use Rattle.sloth_base.specs.MemoryMap.{memory_base, controller_base, line_count}
 use Rattle.sloth_base.specs.Limits.{task_limit, counter_limit}
 use Rattle.masked_code.specs.Place.{offset_state}
 use Rattle.masked_code.specs.Masked.{Masked, WithArrivals}
-use Rattle.masked_code.specs.Owes.{◌▸◌, writes, raises, sets_enabled, sets_level, accesses, Owes}
+use Rattle.masked_code.proofs.Owes.{◌▸◌, writes, raises, sets_enabled, sets_level, accesses, Owes}
 use Rattle.masked_code.proofs.Parts.{hi_lo}
 use Rattle.masked_code.proofs.Spread.{spread, spread_is, spread_from, others}
 use Rattle.masked_code.proofs.Routines.{handles}

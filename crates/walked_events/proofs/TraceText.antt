@@ -17,8 +17,9 @@ use Rattle.line_words.specs.EventNumbers.{HasNumbers}
 use Rattle.trace_text.specs.EventLines.{IsLineOf, counted_line}
 use Rattle.line_words.specs.EventWords.{name_of, event_text}
 use Rattle.trace_text.proofs.EventsBack.{stamped_back}
-use Rattle.walked_events.specs.TraceText.{text_of, HasLine, Shows, IsFirstBad, Begins, BeginsWithNone, HasRead}
+use Rattle.walked_events.specs.TraceText.{text_of, HasLine, Shows, IsFirstBad, Begins, BeginsWithNone}
 use Rattle.walked_events.proofs.OneLine.{number_lacks, fixed, named_lacks, and, task_lacks}
+use Rattle.walked_events.proofs.ReadEvents.{HasRead}
 
 module _ (tasks functions counters : List (List ℕ)) (named : AreNames tasks) (called : AreNames functions) (counted : AreNames counters) (apart : AreApart counters tasks) where
   -- ---- no LF stands in a line

@@ -1,5 +1,5 @@
 -- What a text in the counted form shows, and its first line that shows nothing.
-use Rattle.std.specs.Prelude.{ℕ, ◌+◌, ◌≤◌, ◌≡◌, ◌≢◌, List, [], ◌∷◌, ◌++◌, length, All}
+use Rattle.std.specs.Prelude.{ℕ, ◌+◌, ◌≡◌, ◌≢◌, List, [], ◌∷◌, ◌++◌, length, All}
 use Rattle.sloth_base.specs.declared.event.Stamped.{Stamped}
 use Rattle.asm_lines.specs.Operands.{behind}
 use Rattle.trace_text.specs.EventLines.{IsLineOf, counted_line}
@@ -38,9 +38,3 @@ pub record IsFirstBad (tasks functions counters : List (List ℕ)) (text : List 
 pub record Begins (tasks functions counters : List (List ℕ)) (text : List ℕ) (e : Stamped) : Type 0 where
   pub line : HasLine tasks functions counters e
   pub is : text ≡ counted_line tasks functions counters e ++ 10 ∷ behind 10 text
-
--- these events were read, and this is left of the text
-pub record HasRead (tasks functions counters : List (List ℕ)) (text : List ℕ) (events : List Stamped) (rest : List ℕ) : Type 0 where
-  pub lines : All (HasLine tasks functions counters) events
-  pub is : text ≡ text_of tasks functions counters events ++ rest
-  pub few : length events + length rest ≤ length text

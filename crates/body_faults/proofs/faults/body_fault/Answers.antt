@@ -9,7 +9,8 @@ use Rattle.least_fault.proofs.Kept.{both_are, finds_same}
 use Rattle.sloth_base.specs.Named.{no_function, no_label}
 use Rattle.code_rules.specs.WellFormed.{BodyFault}
 use Rattle.body_faults.proofs.Tested.{tested}
-use Rattle.body_faults.specs.Cases.{EmptyFault, LabelFaults, ItemFaults, PlacesFault}
+use Rattle.body_faults.specs.Cases.{LabelFaults, ItemFaults, PlacesFault}
+use Rattle.body_faults.proofs.EmptyBodies.{EmptyFault}
 use Rattle.body_faults.proofs.Parts.{Parts, to_parts, from_parts}
 use Rattle.body_faults.proofs.faults.body_fault.Goals as goal
 

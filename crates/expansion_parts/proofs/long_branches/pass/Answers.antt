@@ -1,7 +1,8 @@
 use Rattle.std.proofs.Common.{◌≡◌, ℕ, ◌+◌, Bool, List, [], ◌∷◌, ◌++◌, length, subst, arith}
 use Rattle.std.specs.Prelude.{◌||◌}
 use Rattle.std.proofs.lemmas.Grind.{common_steps}
-use Rattle.expansion_parts.specs.Passes.{set_in_list, IsPassTo}
+use Rattle.expansion_parts.specs.Passes.{set_in_list}
+use Rattle.expansion_parts.proofs.PassTo.{IsPassTo}
 use Rattle.expansion_parts.proofs.Passing.{goes_on, ends}
 use Rattle.expansion_parts.proofs.long_branches.pass.Goals as goal
 

@@ -1,4 +1,4 @@
-use Rattle.expansion_parts.specs.Passes.{IsPassTo}
+use Rattle.expansion_parts.proofs.PassTo.{IsPassTo}
 use Rattle.expansion_parts.proofs.long_branches.pass.Given as goal
 
 abbrev pub invariant-loop-index : goal.invariant-loop-index

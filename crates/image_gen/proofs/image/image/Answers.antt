@@ -6,7 +6,8 @@ use Rattle.rv32_instr.specs.declared.block.Block.{Block}
 use Rattle.sloth_link.specs.Image.{MayLink, all_blocks, all_data, memory_size}
 use Rattle.sloth_link.specs.Linked.{AreLinked, BlockStands, sections_of}
 use Rattle.mem_map.specs.Sections.{marks_of}
-use Rattle.image_gen.specs.Gathered.{IsImageOf, MayGenerate}
+use Rattle.image_gen.specs.Gathered.{MayGenerate}
+use Rattle.image_gen.proofs.ImageOf.{IsImageOf}
 use Rattle.image_gen.proofs.Formed.{in_format}
 use Rattle.image_gen.proofs.Linking.{linked_image, sound, shows}
 use Rattle.sloth_base.specs.Limits.{task_limit}

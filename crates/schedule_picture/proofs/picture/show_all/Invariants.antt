@@ -1,5 +1,5 @@
 use Rattle.run_samples.specs.Samples.{sampled_image, sampled_arrivals}
-use Rattle.schedule_picture.specs.Samples.{HasShown}
+use Rattle.schedule_picture.proofs.Shown.{HasShown}
 use Rattle.schedule_picture.proofs.picture.show_all.Given as goal
 
 abbrev pub invariant-loop-count : goal.invariant-loop-count

@@ -1,5 +1,6 @@
 use Rattle.std.proofs.Common.{◌+◌, ◌*◌, length}
-use Rattle.section_sizes.specs.Graph.{IsSearching, KeepsSeen, unseen_count}
+use Rattle.section_sizes.specs.Graph.{IsSearching, KeepsSeen}
+use Rattle.section_sizes.proofs.Unseen.{unseen_count}
 use Rattle.section_sizes.proofs.graph.dive.Given as goal
 
 abbrev pub invariant-loop-from : goal.invariant-loop-from

@@ -1,5 +1,5 @@
 use Rattle.std.proofs.Common.{take, Some}
-use Rattle.section_sizes.specs.Known.{AreSummariesOf}
+use Rattle.section_sizes.proofs.OrderSummaries.{AreSummariesOf}
 use Rattle.section_sizes.proofs.levels.own_summaries.Given as goal
 
 abbrev pub invariant-loop-number : goal.invariant-loop-number

@@ -1,7 +1,8 @@
 use Rattle.std.proofs.Common.{◌≡◌, ◌∙◌, ◌++◌, ℕ, Bool, true, List, length, set, take, drop, Some, ap, sym, subst, arith}
 use Rattle.std.proofs.lemmas.List.{length-set}
 use Rattle.std.proofs.Math.Seq.{take-append_seam}
-use Rattle.section_sizes.specs.CallOrder.{IsOrdering, IsLeastRank}
+use Rattle.section_sizes.specs.CallOrder.{IsLeastRank}
+use Rattle.section_sizes.proofs.CallOrdering.{IsOrdering}
 use Rattle.section_sizes.proofs.Ranking.{one_more}
 use Rattle.section_sizes.proofs.order.callees_first.Goals as goal
 

@@ -1,5 +1,5 @@
-use Rattle.section_sizes.specs.Graph.{unseen_count}
-use Rattle.section_sizes.specs.CallOrder.{IsOrdering}
+use Rattle.section_sizes.proofs.Unseen.{unseen_count}
+use Rattle.section_sizes.proofs.CallOrdering.{IsOrdering}
 use Rattle.section_sizes.proofs.order.callees_first.Given as goal
 
 abbrev pub invariant-loop-func : goal.invariant-loop-func

@@ -1,5 +1,5 @@
 use Rattle.std.proofs.Common.{◌+◌, ◌*◌, length}
-use Rattle.section_sizes.specs.Graph.{unseen_count}
+use Rattle.section_sizes.proofs.Unseen.{unseen_count}
 use Rattle.section_sizes.specs.Search.{IsSpreading}
 use Rattle.section_sizes.proofs.reach.spread.Given as goal
 

@@ -1,7 +1,8 @@
 use Rattle.std.proofs.Common.{◌≡◌, ◌+◌, ◌<◌, ◌^◌, length}
 use Rattle.std.specs.List.{All}
 use Rattle.observe.specs.Progress.{remaining}
-use Rattle.sloth_runner.specs.Moments.{HandingOut, counts_with}
+use Rattle.sloth_runner.specs.Moments.{counts_with}
+use Rattle.sloth_runner.proofs.RunInvariants.{HandingOut}
 use Rattle.sloth_runner.proofs.counting.count_events.Given as goal
 
 abbrev pub invariant-loop-event : goal.invariant-loop-event

@@ -1,6 +1,6 @@
 use Rattle.std.proofs.Common.{◌≡◌, length}
 use Rattle.observe.specs.Progress.{remaining}
-use Rattle.sloth_runner.specs.Runner.{Draining}
+use Rattle.sloth_runner.proofs.RunInvariants.{Draining}
 use Rattle.sloth_runner.proofs.runner.Printer.drain.Given as goal
 
 abbrev pub invariant-loop-event : goal.invariant-loop-event

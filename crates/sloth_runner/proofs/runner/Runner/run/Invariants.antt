@@ -1,5 +1,6 @@
 use Rattle.std.proofs.Common.{◌≤◌, ◌-◌}
-use Rattle.sloth_runner.specs.Runner.{Running, count_of}
+use Rattle.sloth_runner.specs.Runner.{count_of}
+use Rattle.sloth_runner.proofs.RunInvariants.{Running}
 use Rattle.sloth_runner.proofs.runner.Runner.run.Given as goal
 
 abbrev pub invariant-loop-self : goal.invariant-loop-self

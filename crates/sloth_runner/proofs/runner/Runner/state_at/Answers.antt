@@ -10,7 +10,8 @@ use Rattle.sloth_runner.specs.declared.runner.Runner.{Runner}
 use Rattle.sloth_runner.specs.declared.looks.Seen.{Seen}
 use Rattle.sloth_runner.specs.Runner.{HasRun, HasArrived, HasExecuted, image_of, given_arrivals, count_of}
 use Rattle.sloth_runner.specs.Moments.{sloth_state}
-use Rattle.sloth_runner.specs.Sight.{IsLast, IsSight, sight_at, sight_of}
+use Rattle.sloth_runner.specs.Sight.{IsLast, IsSight, sight_at}
+use Rattle.sloth_runner.proofs.WholeRuns.{sight_of}
 use Rattle.sloth_runner.proofs.Turning.{moment-is, machine-more}
 use Rattle.sloth_runner.proofs.Sighted.{last-behind, sight-stopped, sight-behind}
 use Rattle.sloth_runner.proofs.runner.Runner.state_at.Goals as goal

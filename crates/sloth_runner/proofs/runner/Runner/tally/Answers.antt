@@ -3,7 +3,8 @@ use Rattle.std.specs.List.{All}
 use Rattle.observe.specs.Progress.{remaining}
 use Rattle.sim_induction.specs.Sound.{events_of}
 use Rattle.trace_text.specs.Summary.{counts_of}
-use Rattle.sloth_runner.specs.Runner.{Advanced, Ran, image_of, given_arrivals, count_of, run_end}
+use Rattle.sloth_runner.specs.Runner.{Advanced, image_of, given_arrivals, count_of, run_end}
+use Rattle.sloth_runner.proofs.RunInvariants.{Ran}
 use Rattle.sloth_runner.specs.Moments.{counts_with}
 use Rattle.sloth_runner.specs.declared.runner.Runner.{Runner}
 use Rattle.sloth_runner.proofs.Running.{ran-more, stopped-events, stopped-end, whole-end, nothing-yet}

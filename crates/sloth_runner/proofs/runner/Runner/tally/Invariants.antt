@@ -1,7 +1,8 @@
 use Rattle.std.proofs.Common.{◌≡◌, ◌≤◌, ◌-◌}
 use Rattle.sim_induction.specs.Sound.{events_of}
 use Rattle.trace_text.specs.Summary.{counts_of}
-use Rattle.sloth_runner.specs.Runner.{Ran, image_of, given_arrivals, count_of}
+use Rattle.sloth_runner.specs.Runner.{image_of, given_arrivals, count_of}
+use Rattle.sloth_runner.proofs.RunInvariants.{Ran}
 use Rattle.sloth_runner.proofs.runner.Runner.tally.Given as goal
 
 abbrev pub invariant-loop-self : goal.invariant-loop-self

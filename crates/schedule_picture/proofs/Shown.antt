@@ -1,0 +1,18 @@
+-- What the lanes of a picture have shown.
+use Rattle.std.specs.Prelude.{ℕ, ◌≡◌, ◌≤◌, ◌+◌, List, length, get_or}
+use Rattle.sloth_base.specs.declared.event.Arrival.{Arrival}
+use Rattle.sloth_base.specs.declared.image.Image.{Image}
+use Rattle.run_samples.specs.declared.sampling.Sample.{Sample}
+use Rattle.run_samples.specs.declared.sampling.Sampler.{Sampler}
+use Rattle.lane_drawing.specs.Strips.{Lane, IsStrip, empty_lane}
+use Rattle.schedule_picture.specs.Looks.{look_at}
+use Rattle.schedule_picture.specs.Samples.{HasGiven}
+
+-- and strips stand behind what they show from a count on
+pub record HasShown (image : Image) (arrivals : List Arrival) (from count : ℕ) (sampler : Sampler) (strips : List Lane) : Type 0 where
+  pub samples : List Sample
+  pub counted : length samples ≡ count
+  pub given : HasGiven image arrivals samples sampler
+  pub lanes : length strips ≡ length image.tasks + 1
+  pub are_strips : (lane : ℕ) → lane ≤ length image.tasks
+      → IsStrip (look_at (length image.tasks) samples lane) from count (get_or strips lane empty_lane)
