@@ -1,5 +1,5 @@
 //! The names in an image.
-ghost use Rattle.std.specs.Prelude.{◌≡◌, ◌++◌, ◌∷◌, [], IfOk, OnOk};
+ghost use Rattle.std.specs.Prelude.{◌≡◌, IfOk};
 ghost use Rattle.sloth_link.specs.Names.{task_names, counter_names, function_names};
 
 use sloth_base::app::App;
@@ -7,17 +7,8 @@ use sloth_base::config::Config;
 use sloth_base::list::List;
 use sloth_base::memory::NoMemory;
 use sloth_base::name::Name;
-use std::alloc::{AllocError, Global};
-
-// One more name.
-fn push(names: &mut Vec<Name>, name: Name) -> Result<(), NoMemory>
-    ensures { OnOk result (names.new.items ≡ names.old.items ++ name ∷ []) }
-{
-    match names.push(name) {
-        Ok(()) => Ok(()),
-        Err(failed) => Err(AllocError::from(failed).into()),
-    }
-}
+use std::alloc::Global;
+use text_pieces::growth::push;
 
 /// The name of each task.
 pub fn task_names(alloc: Global, config: &Config) -> Result<List<Name>, NoMemory>
