@@ -19,9 +19,9 @@ use Rattle.sloth_base.specs.MemoryMap.{vectors_base, memory_bytes, line_count}
 use Rattle.mem_map.specs.Starts.{end_of, starts}
 use Rattle.mem_map.specs.Run.{extents_of, AreClose}
 use Rattle.mem_map.specs.declared.all_lengths.CodeLengths.{CodeLengths}
-use Rattle.mem_map.specs.Plan.{MayPlan, HasAddresses, IsInVectorReach, prologues_at, ticks_at, tick_starts, services_at, items_at, code_end, data_end, symbol_bytes, some_extents, code_extents, data_extents}
+use Rattle.mem_map.specs.Plan.{MayPlan, HasAddresses, IsSmallPrologue, IsSmallTick, IsInVectorReach, prologues_at, ticks_at, tick_starts, services_at, items_at, code_end, data_end, symbol_bytes, some_extents, code_extents, data_extents}
 use Rattle.mem_map.specs.Starts.{code_byte_count}
-use Rattle.mem_map.proofs.Bounds.{sizes_few, before_all, items_end, prologues_end, ticks_end, symbols_end, services_end, IsSize}
+use Rattle.mem_map.proofs.Bounds.{sizes_few, before_all, pieces_end, symbols_end, services_end, IsSize}
 use Rattle.mem_map.proofs.Covering.{ArePlaced, code_bytes_aligned}
 use Rattle.mem_map.proofs.Starts.{stands, end_above, end_aligned, starts_aligned, length_starts, follow_from, extents_follow, extents_before, some_follow, extents_close, close_before, some_close}
 
@@ -71,13 +71,13 @@ module _ (config : Config) (app : App) (lengths : CodeLengths) (bounds : Bounds)
 
   ticks_short : services_at lengths ≤ ticks_at lengths + 8792
   ticks_short =
-      let e = ticks_end (ticks_at lengths) lengths.ticks may.code.ticks_fit in
+      let e = pieces_end 1099 IsSmallTick (λ n h. h.1) (ticks_at lengths) lengths.ticks may.code.ticks_fit in
       let f = few_ticks in
       omega (arith, e, f)
 
   prologues_short : ticks_at lengths ≤ prologues_at lengths + 17280
   prologues_short =
-      let e = prologues_end (prologues_at lengths) lengths.prologues may.code.prologues_fit in
+      let e = pieces_end 144 IsSmallPrologue (λ n h. h.1) (prologues_at lengths) lengths.prologues may.code.prologues_fit in
       let f = few_starts in
       omega (arith, e, f)
 
@@ -88,7 +88,7 @@ module _ (config : Config) (app : App) (lengths : CodeLengths) (bounds : Bounds)
   -- how long the items
   pub items_short : code_end lengths ≤ items_at lengths + 589824
   items_short =
-      let e = items_end (items_at lengths) lengths.items sizes_are in
+      let e = pieces_end 36 IsSize (λ n h. h.1) (items_at lengths) lengths.items sizes_are in
       let c = may.code.items.count in
       let b = before_all app.funcs in
       let s = items_sum in

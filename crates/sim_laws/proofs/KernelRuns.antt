@@ -71,7 +71,7 @@ passed_small address count pc l =
 zero_below : (bound n : ℕ) → 0 < bound → AreBelow bound (replicate n 0)
 zero_below bound n h i = let z = zero_at n i in omega arith
 
-start_bounded : (image : Image) → AreBelow 256 image.memory → IsBounded (start image)
+pub start_bounded : (image : Image) → AreBelow 256 image.memory → IsBounded (start image)
 start_bounded image bytes = record {
   pc = omega arith;
   core = record {
