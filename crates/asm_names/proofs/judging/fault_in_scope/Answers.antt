@@ -12,7 +12,7 @@ use Rattle.asm_scopes.specs.Bodies.{BodyText, bodies_of}
 use Rattle.asm_scopes.specs.Scopes.{scope_of}
 use Rattle.asm_names.specs.NameFaults.{lacks_body, DataFault, BodyFault}
 use Rattle.asm_scopes.proofs.Short.{few_bodies, short_bodies, EndsBefore}
-use Rattle.asm_names.proofs.judging.judge.Goals as goal
+use Rattle.asm_names.proofs.judging.fault_in_scope.Goals as goal
 
 pub body_faults-requires-clause-few : goal.body_faults-requires-clause-few
 body_faults-requires-clause-few c =
