@@ -15,9 +15,11 @@ use Rattle.code_rules.specs.Code.{IsItem, service_op}
 use Rattle.stack_bounds.specs.Bounds.{ReachesSchedule}
 use Rattle.osek_scheduler.specs.declared.state.TaskState.TheVariants as mode
 use Rattle.osek_scheduler.specs.State.{Frame, Task, System, task, with_task}
-use Rattle.osek_scheduler.specs.Services.{activated_state, with_events, Outcome, GoesOn, Leaves, IsAfter, started_task}
+use Rattle.osek_scheduler.specs.Services.{activated_state, with_events, Outcome, GoesOn, Leaves, started_task}
 use Rattle.osek_scheduler.specs.Changes.{changed_task, with_change}
-use Rattle.osek_scheduler.specs.Outcomes.{OnPlans, all_plans, decision, outcome}
+use Rattle.osek_scheduler.specs.Outcomes.{decision, outcome}
+use Rattle.osek_scheduler.proofs.ServiceStates.{IsAfter}
+use Rattle.osek_scheduler.proofs.AllPlans.{OnPlans, all_plans}
 use Rattle.osek_scheduler.specs.declared.change.TaskChange.{TaskChange}
 use Rattle.osek_scheduler.specs.declared.change.TaskChange.TheVariants as change
 use Rattle.osek_scheduler.specs.declared.plan.Plan.{Plan}
