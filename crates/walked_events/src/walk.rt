@@ -53,7 +53,7 @@ fn is_later(row: u32, line: u32, moment: u32, count: u32) -> bool
 fn all_later(row: u32, moments: &[u32; LINE_COUNT], count: u32) -> bool
     ensures { result ≡ all_later (λ u. bit_at row u == 1) moments.now count }
 {
-    for line in 0..LINES {
+    for line in 0..LINE_COUNT {
         if !is_later(row, line as u32, moments[line], count) {
             return false;
         }
