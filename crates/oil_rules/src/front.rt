@@ -7,11 +7,11 @@ ghost use Rattle.oil_rules.specs.Fronts.{priority_of};
 
 use indexmap::IndexSet;
 use oil_parse::tree::OilObject;
+use oil_table::sets::insert;
 use oil_table::{first_number, is_of_kind};
 use sloth_base::memory::NoMemory;
 use std::alloc::Global;
 use std::marker::Model;
-use text_pieces::growth::insert;
 
 /// The objects before one: their kinds and names, the priorities of the tasks, and how many there are of a kind.
 #[derive(Drop)]

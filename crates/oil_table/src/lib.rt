@@ -10,6 +10,7 @@ pub mod alarm_limits;
 pub mod numbers;
 pub mod object_limits;
 pub mod objects;
+pub mod sets;
 pub mod table;
 pub mod uses;
 

@@ -4,13 +4,13 @@ ghost use Rattle.std.specs.List.{list_any};
 ghost use Rattle.oil_table.specs.Objects.{is_use_at};
 ghost use Rattle.oil_table.specs.Uses.{is_second};
 
+use crate::sets::insert;
 use crate::table::{Attribute, is_single};
 use indexmap::IndexSet;
 use oil_parse::tree::OilAttr;
 use sloth_base::memory::NoMemory;
 use std::alloc::Global;
 use std::marker::Model;
-use text_pieces::growth::insert;
 
 /// The attributes before one, with the names of those at one depth: 0 is an object's own block, 1 a block behind a value there.
 #[derive(Drop)]

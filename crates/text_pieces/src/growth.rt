@@ -1,11 +1,8 @@
-//! Lists and sets that grow.
+//! Lists that grow.
 ghost use Rattle.std.specs.Prelude.{◌≡◌, [], ◌∷◌, ◌++◌, OnOk};
-ghost use Rattle.indexmap.specs.IndexSet.{insert_key};
 
-use indexmap::IndexSet;
 use sloth_base::memory::NoMemory;
 use std::alloc::AllocError;
-use std::hash::Hash;
 
 /// One more item, at the end.
 pub fn push<T: Drop>(list: &mut Vec<T>, item: T) -> Result<(), NoMemory>
@@ -13,16 +10,6 @@ pub fn push<T: Drop>(list: &mut Vec<T>, item: T) -> Result<(), NoMemory>
 {
     match list.push(item) {
         Ok(()) => Ok(()),
-        Err(failed) => Err(AllocError::from(failed).into()),
-    }
-}
-
-/// One more key, if it isn't among them.
-pub fn insert<T: Eq + Hash + Drop>(set: &mut IndexSet<T>, key: T) -> Result<(), NoMemory>
-    ensures { OnOk result (set.new.keys ≡ insert_key T.eq set.old.keys key) }
-{
-    match set.insert(key) {
-        Ok(_) => Ok(()),
         Err(failed) => Err(AllocError::from(failed).into()),
     }
 }
