@@ -40,7 +40,7 @@ module _ (config : Config) (app : App) (in_range : AppInRange config app) where
 
   Decides-is_unlisted : (f users r : ℕ) → ((t : ℕ) → Decides (is_member users t) (TaskReaches app t f)) → Decides (not (r == scheduler_number) && is_unlisted config users r) (IsUnlisted config app f r)
   Decides-is_unlisted f users r reach =
-      Decides-and (not (r == scheduler_number)) (is_unlisted config users r) (differs_decides r 32)
+      Decides-and (not (r == scheduler_number)) (is_unlisted config users r) (differs_decides r scheduler_number)
       (some_user f users (λ t. not (is_in r (declaration config t).resources)) (λ t. ¬ (Lists (declaration config t) r)) reach
       (λ t. Decides-not (is_in r (declaration config t).resources) (itself (is_in r (declaration config t).resources))))
 

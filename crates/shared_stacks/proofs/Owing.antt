@@ -7,8 +7,6 @@ use Rattle.sloth_base.specs.declared.event.Event.{Event}
 use Rattle.sloth_base.specs.declared.event.Event.TheVariants as event
 use Rattle.stack_bounds.specs.Bounds.{ReachesSchedule}
 use Rattle.osek_scheduler.specs.State.{System, opening}
-use Rattle.osek_scheduler.proofs.ServiceStates.{IsAfter}
-use Rattle.osek_scheduler.proofs.AllPlans.{OnPlans, all_plans}
 use Rattle.osek_scheduler.proofs.Ticking.{parts_kept, ticked_keeps}
 use Rattle.osek_scheduler.specs.Steps.{OsekStep}
 use Rattle.osek_valid.specs.Valid.{IsValid}
