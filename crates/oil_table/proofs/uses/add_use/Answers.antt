@@ -15,4 +15,4 @@ returns c = λ name.
     ∙ any_insert (λ (x : Bor (List ℕ)). bytes_eq x.now name) (λ (x : Bor (List ℕ)) y. bytes_eq x.now y.now) k
     (λ y h. ap (λ (x : List ℕ). bytes_eq x name) (sym ((bytes_eq-Decides k.now y.now).0 h))) c.args.names.now.keys
     ∙ ap (λ (x : List ℕ). list_any (λ y. bytes_eq y.now name) c.args.names.now.keys || bytes_eq x name) c.bytes.ensures
-    ∙ ap (λ n. list_any (λ y. bytes_eq y.now name) c.args.names.now.keys || ((n == c.args.depth) && bytes_eq a.name name)) (sym c.if-attr-ne-depth.false)
+    ∙ ap (λ n. list_any (λ y. bytes_eq y.now name) c.args.names.now.keys || ((n == c.args.depth) && bytes_eq a.name name)) (sym c.if-attr-depth.false)
