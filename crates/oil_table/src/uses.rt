@@ -62,7 +62,7 @@ impl<'t> EarlierUses<'t> {
     /// One attribute more.
     pub fn with(self, attrs: &'t [OilAttr], attr: &'t OilAttr) -> Result<EarlierUses<'t>, NoMemory>
         requires { attrs.now ≡ self.attrs ++ attr.now ∷ [] }
-        ensures depth { IfOk result (λ uses. uses.depth ≡ self.depth) }
+        ensures depth { IfOk result (λ uses. uses.depth ≡ self.entry.depth) }
         ensures attrs { IfOk result (λ uses. uses.attrs ≡ attrs.now) }
     {
         let EarlierUses {

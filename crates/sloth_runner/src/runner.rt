@@ -137,7 +137,7 @@ impl<'a> Runner<'a> {
         ensures image { image_of self.new ≡ image_of self.old }
         ensures observer { self.new.observer ≡ self.old.observer }
     {
-        let due = passing(self.coming, self.machine.count());
+        let due = passing(self.coming, self.machine.count);
         if due > 0 {
             self.arrive_first(due);
         }
@@ -252,7 +252,7 @@ impl<'a> Runner<'a> {
             form,
             after_idle: false,
         };
-        while self.machine.count() < n {
+        while self.machine.count < n {
             if let Some(end) = self.turn(&mut printer, out)? {
                 return Ok(end);
             }

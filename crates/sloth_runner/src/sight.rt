@@ -58,7 +58,7 @@ impl<'a> Runner<'a> {
         ensures same { self.new ≡ self.old }
     {
         let tasks = self.image.tasks.items().len() as u32;
-        let count = self.machine.count();
+        let count = self.machine.count;
         look(&mut self.machine, count, tasks)
     }
 
@@ -95,7 +95,7 @@ impl<'a> Runner<'a> {
     {
         let n = instructions_through(k);
         let mut last = None;
-        while self.machine.count() < n {
+        while self.machine.count < n {
             self.arrive_now();
             last = self.look().or(last);
             if let Err(halt) = self.execute() {

@@ -26,7 +26,7 @@ impl<'a> Runner<'a> {
         ensures end { result.end ≡ run_end (image_of self.old) (given_arrivals self.old) n }
     {
         let mut counts = [0; KINDS];
-        while self.machine.count() < n {
+        while self.machine.count < n {
             if let Some(end) = self.advance() {
                 return Tally { counts, end };
             }

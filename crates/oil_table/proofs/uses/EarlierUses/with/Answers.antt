@@ -10,6 +10,6 @@ use Rattle.oil_table.proofs.uses.EarlierUses.with.Goals as goal
 pub invariant_of-result : goal.invariant_of-result
 invariant_of-result c = λ name.
     let a = c.args.attr.now in
-    let is = is_use_at c.self.depth name in
+    let is = is_use_at c.self.inside.depth name in
     c.in_ok-add_use.ensures name ∙ ap (λ b. b || is a) (c.self.invariant name ∙ ap (λ (x : EarlierAttrs). list_any is x.attrs) c.self.view_is)
     ∙ sym (any_push is c.args.self.attrs a) ∙ ap (λ (x : List OilAttr). list_any is x) (sym c.requires)
