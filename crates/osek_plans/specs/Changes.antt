@@ -3,7 +3,6 @@ use Rattle.std.specs.Prelude.{◌<◌, ◌≤◌, length}
 use Rattle.osek_scheduler.specs.State.{Task}
 use Rattle.osek_scheduler.specs.declared.change.TaskChange.{TaskChange}
 use Rattle.osek_scheduler.specs.declared.change.TaskChange.TheVariants as change
-use Rattle.osek_scheduler.specs.Changes.{changed_task, entry, woken_task_state, with_change}
 use Rattle.osek_scheduler.specs.Changes.{outer_frames}
 use Rattle.osek_plans.specs.Frames.{CanMove, HasWord}
 

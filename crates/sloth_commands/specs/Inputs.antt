@@ -1,6 +1,5 @@
 -- What commands read.
 use Rattle.std.specs.Prelude.{ℕ}
-use Rattle.trace_check.specs.Inputs.{AreRead}
 
 -- the greatest number of bytes of an input: 4 MiB
 abbrev pub input_limit : ℕ
