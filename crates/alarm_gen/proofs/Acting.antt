@@ -7,8 +7,8 @@ use Rattle.std.proofs.lemmas.List.{length-set, get_or-set_other}
 use Rattle.std.proofs.lemmas.Nat.Bits.{shr_and_one}
 use Rattle.sloth_base.specs.Machine.{Core, State}
 use Rattle.sloth_base.specs.Arithmetic.{left_shift, right_shift, hi}
-use Rattle.sloth_base.specs.MemoryMap.{memory_base}
-use Rattle.sloth_region.specs.Layout.{active, events, wait, alarm_left, alarm_cycle, controller_base}
+use Rattle.sloth_base.specs.MemoryMap.{memory_base, memory_bytes, controller_base, line_count}
+use Rattle.sloth_region.specs.Layout.{active, events, wait, alarm_left, alarm_cycle}
 use Rattle.rv32_instr.specs.declared.InstrKind.{InstrKind}
 use Rattle.rv32_instr.specs.Ram.{word_at, with_word}
 use Rattle.masked_code.proofs.Owes.{◌▸◌, writes, loads, stores, raises, sets_enabled, Owes}
@@ -18,6 +18,7 @@ use Rattle.masked_code.proofs.Leave.{behind}
 use Rattle.block_parts.proofs.Landing.{lands}
 use Rattle.sloth_base.specs.declared.config.Action.{Action}
 use Rattle.sloth_base.specs.declared.config.Action.TheVariants.{Activate, Set}
+use Rattle.sloth_base.specs.Limits.{task_limit, alarm_limit}
 use Rattle.code_lengths.specs.CodeLengths.{sets_events_of}
 use Rattle.alarm_gen.specs.declared.alarms.NumberedAlarm.{NumberedAlarm}
 use Rattle.alarm_gen.specs.Alarms.{IsAction, IsNumbered, AreNumbered, is_target}
@@ -29,7 +30,7 @@ use Rattle.alarm_gen.proofs.Flags.{KnowsAll, knows_ram, knows_raised, added_one,
 
 -- ---- words apart
 
-left_active : (ram : List ℕ) (alarm v task : ℕ) → alarm < 32 → task < 30 → word_at (with_word ram (alarm_left alarm) v) (active task) ≡ word_at ram (active task)
+left_active : (ram : List ℕ) (alarm v task : ℕ) → alarm < alarm_limit → task < task_limit → word_at (with_word ram (alarm_left alarm) v) (active task) ≡ word_at ram (active task)
 left_active ram alarm v task a t = word_at-other ram (alarm_left alarm) v (active task) (inl (omega arith))
 
 events_active : (ram : List ℕ) (t v u : ℕ) → word_at (with_word ram (events t) v) (active u) ≡ word_at ram (active u)
@@ -43,14 +44,14 @@ module _ (from to : ℕ) (low : 1024 ≤ from) (E : List ℕ → State → State
   -- what is owed of code behind which the machine is as this one is after a change
   abbrev pub Leads : List InstrKind → List InstrKind → Ground → Ground → Type 0
   Leads code rest c d =
-      (o x1 flags : ℕ) → o + 4 * length (code ++ rest) ≤ 0x20_0000 → KnowsAll target flags c → length c.pending ≡ 32
-      → ((o2 y1 now : ℕ) → o2 + 4 * length rest ≤ 0x20_0000 → KnowsAll target now d → length d.pending ≡ 32
+      (o x1 flags : ℕ) → o + 4 * length (code ++ rest) ≤ memory_bytes → KnowsAll target flags c → length c.pending ≡ line_count
+      → ((o2 y1 now : ℕ) → o2 + 4 * length rest ≤ memory_bytes → KnowsAll target now d → length d.pending ≡ line_count
       → Owes from to o2 rest 0 E start (mach d y1 now))
       → Owes from to o (code ++ rest) 0 E start (mach c x1 flags)
 
   -- ---- actions
 
-  activate_owes : (rest : List InstrKind) (c : Ground) (t : ℕ) → t < 30 → Leads (action_code (Activate t)) rest c (action_ground (Activate t) c)
+  activate_owes : (rest : List InstrKind) (c : Ground) (t : ℕ) → t < task_limit → Leads (action_code (Activate t)) rest c (action_ground (Activate t) c)
   activate_owes rest c t few o x1 flags fits knows long go =
       let now = bit_or flags (left_shift 1 t) in
       let all = length-append (action_code (Activate t)) rest in
@@ -66,7 +67,7 @@ module _ (from to : ℕ) (low : 1024 ≤ from) (E : List ℕ → State → State
       (λ u n. added_other flags 1 t u (omega arith) (omega arith) n) (λ u n. refl) knows)
       (length-set c.pending t 1 ∙ long)
 
-  module _ (rest : List InstrKind) (t mask : ℕ) (few : t < 30) (word : mask < 2 ^ 32) (set_t : target t ≡ true) where
+  module _ (rest : List InstrKind) (t mask : ℕ) (few : t < task_limit) (word : mask < 2 ^ 32) (set_t : target t ≡ true) where
     -- the task is not Suspended
     module _ (c : Ground) (awake : is_suspended_task t c ≡ false) where
       abbrev v : ℕ
@@ -95,9 +96,9 @@ module _ (from to : ℕ) (low : 1024 ≤ from) (E : List ℕ → State → State
       knows_d flags k = knows_ram target flags c d.ram (λ u h. events_active c.ram t v u) k
 
     -- behind its new events, at the look at those that it awaits
-    awaits : (c : Ground) (s : is_suspended_task t c ≡ false) (o flags : ℕ) → o + 4 * length (awaited_events_test t ++ (waking_code t ++ (basing_code ++ rest))) ≤ 0x20_0000
-        → bit_at flags t ≡ 1 → KnowsAll target flags c → length c.pending ≡ 32
-        → ((o2 y1 now : ℕ) → o2 + 4 * length rest ≤ 0x20_0000 → KnowsAll target now (action_ground (Set t mask) c) → length (action_ground (Set t mask) c).pending ≡ 32
+    awaits : (c : Ground) (s : is_suspended_task t c ≡ false) (o flags : ℕ) → o + 4 * length (awaited_events_test t ++ (waking_code t ++ (basing_code ++ rest))) ≤ memory_bytes
+        → bit_at flags t ≡ 1 → KnowsAll target flags c → length c.pending ≡ line_count
+        → ((o2 y1 now : ℕ) → o2 + 4 * length rest ≤ memory_bytes → KnowsAll target now (action_ground (Set t mask) c) → length (action_ground (Set t mask) c).pending ≡ line_count
         → Owes from to o2 rest 0 E start (mach (action_ground (Set t mask) c) y1 now))
         → Owes from to o (awaited_events_test t ++ (waking_code t ++ (basing_code ++ rest))) 0 E start (mach (d c s) (v c s) flags)
     awaits c s o flags fits one knows long go =
@@ -302,7 +303,7 @@ module _ (from to : ℕ) (low : 1024 ≤ from) (E : List ℕ → State → State
       let e = append_assoc (alarm_code alarm) (alarms_code later) rest in
       subst (λ code. Owes from to o code 0 E start (mach c x1 flags)) (sym e)
       (alarm_owes alarm is.0 (λ u h. covered u (first_target u (sets_events_of u alarm.action) (is_target u later) h)) (alarms_code later ++ rest) c
-      o x1 flags (subst (λ code. o + 4 * length code ≤ 0x20_0000) e fits) knows long
+      o x1 flags (subst (λ code. o + 4 * length code ≤ memory_bytes) e fits) knows long
       (λ o2 y1 now fits2 knows2 long2.
       alarms_owe later is.1 (λ u h. covered u (second_target u (sets_events_of u alarm.action) (is_target u later) h)) rest (alarm_ground alarm c)
       o2 y1 now fits2 knows2 long2 go))

@@ -7,6 +7,7 @@ use Rattle.std.proofs.lemmas.List.{get_or-set_same, get_or-set_other}
 use Rattle.std.proofs.lemmas.Nat.{pow_below}
 use Rattle.std.proofs.lemmas.Nat.Bits.{bit_at_or, bit_at-lt, bit_at-zero, bit_at-pow_same, bit_at-pow_other}
 use Rattle.sloth_base.specs.Arithmetic.{left_shift}
+use Rattle.sloth_base.specs.Limits.{task_limit}
 use Rattle.sloth_region.specs.Layout.{active}
 use Rattle.rv32_instr.specs.Ram.{word_at}
 use Rattle.alarm_gen.specs.Tick.{Ground, is_suspended_task}
@@ -61,7 +62,7 @@ Knows flags core task = bit_at flags task ≡ cond (is_suspended_task task core)
 -- so do those of all of these tasks
 pub record KnowsAll (target : ℕ → Bool) (flags : ℕ) (core : Ground) : Type 0 where
   pub each : (task : ℕ) → target task ≡ true → Knows flags core task
-  pub few : (task : ℕ) → target task ≡ true → task < 30
+  pub few : (task : ℕ) → target task ≡ true → task < task_limit
 
 -- a task is as Suspended as before, where these three stay
 pub suspended_same : (task : ℕ) (c d : Ground) → get_or d.pending task 0 ≡ get_or c.pending task 0 → get_or d.enabled task 0 ≡ get_or c.enabled task 0
@@ -76,7 +77,7 @@ pub suspended_not : (task : ℕ) (d : Ground) → get_or d.pending task 0 ≡ 1 
 suspended_not task d p = ap (λ x. (x == 0) && ((get_or d.enabled task 0 == 1) && (word_at d.ram (active task) == 0))) p
 
 -- knowledge stays where RAM changes beside the words of Active tasks
-pub knows_ram : (target : ℕ → Bool) (flags : ℕ) (c : Ground) (ram : List ℕ) → ((task : ℕ) → task < 30 → word_at ram (active task) ≡ word_at c.ram (active task))
+pub knows_ram : (target : ℕ → Bool) (flags : ℕ) (c : Ground) (ram : List ℕ) → ((task : ℕ) → task < task_limit → word_at ram (active task) ≡ word_at c.ram (active task))
     → KnowsAll target flags c → KnowsAll target flags (record c { ram = ram })
 knows_ram target flags c ram same k = record {
   each = λ task h. k.each task h ∙ ap (λ b. cond b 0 1) (sym (suspended_same task c (record c { ram = ram }) refl refl (same task (k.few task h))));

@@ -7,8 +7,8 @@ use Rattle.std.proofs.lemmas.Bool.{cases_eq, eq-eqb, ne_eqb, or_left, or_right}
 use Rattle.sloth_base.specs.Machine.{Core, State}
 use Rattle.sloth_base.specs.Arrive.{arrive}
 use Rattle.sloth_base.specs.Arithmetic.{left_shift}
-use Rattle.sloth_base.specs.MemoryMap.{memory_base}
-use Rattle.sloth_region.specs.Layout.{active, controller_base}
+use Rattle.sloth_base.specs.MemoryMap.{memory_base, memory_bytes, controller_base, line_count}
+use Rattle.sloth_region.specs.Layout.{active}
 use Rattle.rv32_instr.specs.declared.InstrKind.{InstrKind}
 use Rattle.rv32_instr.specs.Ram.{word_at}
 use Rattle.masked_code.proofs.Owes.{◌▸◌, writes, loads, loads_byte, Owes, Pending, Enabled}
@@ -73,14 +73,14 @@ module _ (from to : ℕ) (rest : List InstrKind) (base : Core) (c : Ground) (x2 
   pub record Looked (target : ℕ → Bool) (flags now : ℕ) (p q : List ℕ) : Type 0 where
     pub knows : KnowsAll target now (record c { pending = q })
     pub other : (u : ℕ) → target u ≡ false → (bit_at now u ≡ bit_at flags u) × (get_or q u 0 ≡ get_or p u 0)
-    pub long : length q ≡ 32
+    pub long : length q ≡ line_count
 
   -- what is owed of code that looks at these tasks
   abbrev pub Looks : (ℕ → Bool) → List ℕ → List InstrKind → Type 1
   Looks target ts code =
-      (E : List ℕ → State → State → Type 0) (o x1 x4 flags : ℕ) (p : List ℕ) → o + 4 * length (code ++ rest) ≤ 0x20_0000
-      → AllByRecursion (AreTaskBits (record c { pending = p })) ts → length p ≡ 32 → ((u : ℕ) → target u ≡ true → bit_at flags u ≡ 0)
-      → ((o2 y1 y4 now : ℕ) (q : List ℕ) → o2 + 4 * length rest ≤ 0x20_0000 → Looked target flags now p q → Owes from to o2 rest 0 (λ u. E (ts ++ u)) (st q) (mach y1 y4 now q))
+      (E : List ℕ → State → State → Type 0) (o x1 x4 flags : ℕ) (p : List ℕ) → o + 4 * length (code ++ rest) ≤ memory_bytes
+      → AllByRecursion (AreTaskBits (record c { pending = p })) ts → length p ≡ line_count → ((u : ℕ) → target u ≡ true → bit_at flags u ≡ 0)
+      → ((o2 y1 y4 now : ℕ) (q : List ℕ) → o2 + 4 * length rest ≤ memory_bytes → Looked target flags now p q → Owes from to o2 rest 0 (λ u. E (ts ++ u)) (st q) (mach y1 y4 now q))
       → Owes from to o (code ++ rest) 0 E (st p) (mach x1 x4 flags p)
 
   none : Looks (λ u. false) [] []
@@ -103,7 +103,7 @@ module _ (from to : ℕ) (rest : List InstrKind) (base : Core) (c : Ground) (x2 
       }))
 
   -- arrivals leave bits
-  told_arrives : (ts lines p : List ℕ) → length p ≡ 32 → AllByRecursion (AreTaskBits (record c { pending = p })) ts
+  told_arrives : (ts lines p : List ℕ) → length p ≡ line_count → AllByRecursion (AreTaskBits (record c { pending = p })) ts
       → AllByRecursion (AreTaskBits (record c { pending = arrive lines p })) ts
   told_arrives [] lines p long h = tt
   told_arrives (t ∷ ts) lines p long h =

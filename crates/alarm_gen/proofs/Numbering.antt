@@ -10,6 +10,7 @@ use Rattle.sloth_base.specs.declared.config.AlarmDecl.{AlarmDecl}
 use Rattle.sloth_base.specs.declared.config.Config.{Config}
 use Rattle.sloth_base.specs.ConfigRange.{InRange, IsAlarm, no_event}
 use Rattle.sloth_base.specs.ConfigRange as range
+use Rattle.sloth_base.specs.Limits.{alarm_limit}
 use Rattle.alarm_gen.specs.declared.alarms.NumberedAlarm.{NumberedAlarm}
 use Rattle.alarm_gen.specs.Alarms.{IsAction, AreNumbered, alarms_from, counter_alarms}
 
@@ -22,7 +23,7 @@ module _ (config : Config) (fits : InRange config) where
       let word = (fits.masks e no_event is.1.1).1 in
       (omega (arith, is.0), subst (λ m. m < 2 ^ 32) (sym is.1.2) word)
 
-  numbered_from : (counter first : ℕ) (alarms : List AlarmDecl) → first + length alarms ≤ 32 → AllByRecursion (IsAlarm config) alarms
+  numbered_from : (counter first : ℕ) (alarms : List AlarmDecl) → first + length alarms ≤ alarm_limit → AllByRecursion (IsAlarm config) alarms
       → AreNumbered (alarms_from counter first alarms)
   numbered_from counter first [] few are = tt
   numbered_from counter first (alarm ∷ later) few are =

@@ -5,8 +5,8 @@ use Rattle.std.proofs.lemmas.Bool.{cases_eq, eq-eqb, ne_eqb, cases_lt, lt-ltb, l
 use Rattle.sloth_base.specs.Machine.{Core, State}
 use Rattle.sloth_base.specs.Status.{E_OK, E_OS_STATE, E_OS_VALUE}
 use Rattle.sloth_base.specs.Arithmetic.{hi, lo, plus, difference32}
-use Rattle.sloth_base.specs.MemoryMap.{memory_base}
-use Rattle.sloth_region.specs.Layout.{counter_value, alarm_left, alarm_cycle, controller_base}
+use Rattle.sloth_base.specs.MemoryMap.{memory_base, memory_bytes, controller_base}
+use Rattle.sloth_region.specs.Layout.{counter_value, alarm_left, alarm_cycle}
 use Rattle.rv32_instr.specs.declared.InstrKind.{InstrKind}
 use Rattle.rv32_instr.specs.declared.InstrKind.TheVariants.{Lui, Addi, Bltu}
 use Rattle.rv32_instr.specs.Ram.{word_at}
@@ -49,7 +49,7 @@ module _ (from to : ℕ) (E : List ℕ → State → State → Type 0) (start : 
 
   module _ (ok rest : List InstrKind) (m : ℕ) (size : length ok ≡ m) (few : m ≤ 12) where
     -- at most the greatest value
-    most_owes : (o x1 : ℕ) → o + 32 ≤ 0x20_0000 → (cycle ≤ max → Owes from to (behind 3 o) (ok ++ rest) 0 E start (mach max))
+    most_owes : (o x1 : ℕ) → o + 32 ≤ memory_bytes → (cycle ≤ max → Owes from to (behind 3 o) (ok ++ rest) 0 E start (mach max))
         → (max < cycle → (o2 : ℕ) → Owes from to o2 rest 0 E start (mach max))
         → Owes from to o (Lui 1 (hi max) ∷ Addi 1 1 (lo max) ∷ Bltu 1 11 (passing_distance m) ∷ (ok ++ rest)) 0 E start (mach x1)
     most_owes o x1 small fits none =
@@ -68,7 +68,7 @@ module _ (from to : ℕ) (E : List ℕ → State → State → Type 0) (start : 
               (cases_lt max cycle);
         }
 
-    cycle_owes : (o x1 : ℕ) → o + 48 ≤ 0x20_0000 → (CycleFits max least cycle → (o2 : ℕ) → o2 + 20 ≤ 0x20_0000 → Owes from to o2 (ok ++ rest) 0 E start (mach max))
+    cycle_owes : (o x1 : ℕ) → o + 48 ≤ memory_bytes → (CycleFits max least cycle → (o2 : ℕ) → o2 + 20 ≤ memory_bytes → Owes from to o2 (ok ++ rest) 0 E start (mach max))
         → ((CycleFits max least cycle → ⊥) → (o2 y1 : ℕ) → Owes from to o2 rest 0 E start (mach y1))
         → Owes from to o (cycle_test max least m ++ (ok ++ rest)) 0 E start (mach x1)
     cycle_owes o x1 small fits none = record {
@@ -173,7 +173,7 @@ module _ (offset alarm max least : ℕ) (max_fits : max < 2 ^ 32) (least_fits : 
   ticks1 = get_or c.registers 10 0
 
   -- the look at the ticks
-  ticks_owe : left1 ≡ 0 → CycleFits max least (get_or c.registers 11 0) → (o : ℕ) → o + 20 ≤ 0x20_0000
+  ticks_owe : left1 ≡ 0 → CycleFits max least (get_or c.registers 11 0) → (o : ℕ) → o + 20 ≤ memory_bytes
       → Owes offset to1 o (ticks_test 5 ++ (setting_code alarm ++ refusing_code)) 0 E1 first1 (mach offset to1 E1 first1 c max least max_fits least_fits max)
   ticks_owe z cycles o small = record {
     passed = 6;
@@ -258,7 +258,7 @@ module _ (offset alarm counter max least : ℕ) (max_fits : max < 2 ^ 31) (least
   to_come = get_or c.registers 10 0
 
   -- the ticks to the value that is to come
-  finds_owe : left2 ≡ 0 → Fits2 (based c) → (o : ℕ) → o + 16 ≤ 0x20_0000
+  finds_owe : left2 ≡ 0 → Fits2 (based c) → (o : ℕ) → o + 16 ≤ memory_bytes
       → Owes offset to2 o (finding_code counter ++ (setting_code alarm ++ refusing_code)) 0 E2 first2 (mach offset to2 E2 first2 c max least max_word least_fits max)
   finds_owe z f o small =
       let is = h.is_counter in
@@ -291,7 +291,7 @@ module _ (offset alarm counter max least : ℕ) (max_fits : max < 2 ^ 31) (least
       }
 
   -- the look at that value
-  value_owe : left2 ≡ 0 → CycleFits max least (get_or c.registers 11 0) → (o : ℕ) → o + 20 ≤ 0x20_0000
+  value_owe : left2 ≡ 0 → CycleFits max least (get_or c.registers 11 0) → (o : ℕ) → o + 20 ≤ memory_bytes
       → Owes offset to2 o (alarm_value_test 11 ++ (finding_code counter ++ (setting_code alarm ++ refusing_code))) 0 E2 first2
       (mach offset to2 E2 first2 c max least max_word least_fits max)
   value_owe z cycles o small = record {

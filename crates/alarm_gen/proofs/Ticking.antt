@@ -7,9 +7,10 @@ use Rattle.std.proofs.lemmas.List.{append-nil}
 use Rattle.std.proofs.lemmas.Nat.Bits.{bit_at-zero}
 use Rattle.sloth_base.specs.Machine.{Core, State}
 use Rattle.sloth_base.specs.Arithmetic.{sum32, hi}
-use Rattle.sloth_base.specs.MemoryMap.{memory_base}
+use Rattle.sloth_base.specs.MemoryMap.{memory_base, memory_bytes, controller_base}
 use Rattle.sloth_base.specs.Owners.{counter_line}
-use Rattle.sloth_region.specs.Layout.{active, counter_value, controller_base}
+use Rattle.sloth_base.specs.Limits.{counter_limit}
+use Rattle.sloth_region.specs.Layout.{active, counter_value}
 use Rattle.rv32_instr.specs.declared.InstrKind.{InstrKind}
 use Rattle.rv32_instr.specs.Ram.{word_at, with_word}
 use Rattle.masked_code.specs.Masked.{Masked, WithArrivals}
@@ -42,7 +43,7 @@ told_counted ram enabled pending counter v (t ∷ tasks) h =
       told_counted ram enabled pending counter v tasks h.1,
     )
 
-module _ (counter max : ℕ) (alarms : List NumberedAlarm) (small : counter < 2) (max_fits : max < 2 ^ 32) (numbered : AreNumbered alarms)
+module _ (counter max : ℕ) (alarms : List NumberedAlarm) (small : counter < counter_limit) (max_fits : max < 2 ^ 32) (numbered : AreNumbered alarms)
     (offset : ℕ) (c : Core) (h : MayTick offset counter alarms (tick_code counter max alarms) c) where
   abbrev to : ℕ
   to = offset + 4 * length (tick_code counter max alarms)
@@ -98,7 +99,7 @@ module _ (counter max : ℕ) (alarms : List NumberedAlarm) (small : counter < 2)
     kept = λ i past. others x1 x2 controller_base memory_base (get_or c.registers 1 0) x2 controller_base memory_base tail i past;
   }
 
-  rest_owe : (o x1 x3 : ℕ) → o + 4 * length behind_count ≤ 0x20_0000
+  rest_owe : (o x1 x3 : ℕ) → o + 4 * length behind_count ≤ memory_bytes
       → Owes offset to o behind_count 0 (Ticked counter max alarms) first (mach (grown c.pending) x1 x3)
   rest_owe o x1 x3 fits =
       writes 0 refl
@@ -160,6 +161,6 @@ module _ (counter max : ℕ) (alarms : List NumberedAlarm) (small : counter < 2)
       (subst (λ x. Owes offset to offset (tick_code counter max alarms) 0 (Ticked counter max alarms) (offset_state v x) x) (based_is c can.registers can.zero h.bases) owes))
 
 -- from the vector word back to what it interrupts, for each counter with its alarms
-pub ticks : (counter max : ℕ) (alarms : List NumberedAlarm) → counter < 2 → max < 2 ^ 32 → AreNumbered alarms
+pub ticks : (counter max : ℕ) (alarms : List NumberedAlarm) → counter < counter_limit → max < 2 ^ 32 → AreNumbered alarms
     → Ticks counter max alarms (tick_code counter max alarms)
 ticks counter max alarms small fits numbered = λ offset core h. runs_it counter max alarms small fits numbered offset core h

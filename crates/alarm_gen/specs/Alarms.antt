@@ -5,6 +5,7 @@ use Rattle.sloth_base.specs.declared.config.Action.{Action}
 use Rattle.sloth_base.specs.declared.config.Action.TheVariants.{Activate, Set}
 use Rattle.sloth_base.specs.declared.config.AlarmDecl.{AlarmDecl}
 use Rattle.sloth_base.specs.declared.config.Config.{Config}
+use Rattle.sloth_base.specs.Limits.{task_limit, alarm_limit}
 use Rattle.code_lengths.specs.CodeLengths.{sets_events_of}
 use Rattle.alarm_gen.specs.declared.alarms.NumberedAlarm.{NumberedAlarm}
 
@@ -23,12 +24,12 @@ counter_alarms config counter = alarms_from counter 0 config.alarms
 
 -- an action names a task, and its events are a word
 abbrev pub IsAction : Action → Type 0
-IsAction (Activate task) = task < 30
-IsAction (Set task mask) = (task < 30) × (mask < 2 ^ 32)
+IsAction (Activate task) = task < task_limit
+IsAction (Set task mask) = (task < task_limit) × (mask < 2 ^ 32)
 
 -- an alarm
 pub record IsNumbered (alarm : NumberedAlarm) : Type 0 where
-  pub number : alarm.number < 32
+  pub number : alarm.number < alarm_limit
   pub action : IsAction alarm.action
 
 -- several

@@ -3,6 +3,7 @@ use Rattle.std.specs.Prelude.{ℕ, ◌≡◌, ◌≢◌, ◌<◌, ◌⊎◌, Lis
 use Rattle.sloth_base.specs.declared.service.Service.TheVariants as service
 use Rattle.sloth_base.specs.Machine.{Core, State}
 use Rattle.sloth_base.specs.Status.{E_OK, E_OS_NOFUNC}
+use Rattle.sloth_base.specs.Limits.{alarm_limit}
 use Rattle.sloth_region.specs.Layout.{alarm_left}
 use Rattle.rv32_instr.specs.declared.InstrKind.{InstrKind}
 use Rattle.rv32_instr.specs.Ram.{word_at, with_word}
@@ -14,7 +15,7 @@ use Rattle.block_parts.specs.Back.{CanGoBack, WentBack, a0}
 -- the code can run
 pub record MayUse (offset alarm : ℕ) (code : List InstrKind) (core : Core) : Type 0 where
   pub goes_back : CanGoBack offset code core
-  pub is_alarm : alarm < 32
+  pub is_alarm : alarm < alarm_limit
 
 -- the ticks that an alarm has left
 abbrev pub left_ticks : ℕ → Core → ℕ

@@ -1,8 +1,10 @@
 -- SetRelAlarm and SetAbsAlarm (OSEK OS 2.2.3, sections 13.6.3.3 and 13.6.3.4).
-use Rattle.std.specs.Prelude.{ℕ, ◌+◌, ◌-◌, ◌^◌, ◌≡◌, ◌≢◌, ◌<◌, ◌≤◌, ◌⊎◌, cond, ltb, List, [], slice_index}
+use Rattle.std.specs.Prelude.{ℕ, ◌^◌, ◌≡◌, ◌≢◌, ◌<◌, ◌≤◌, ◌⊎◌, List, [], slice_index}
 use Rattle.sloth_base.specs.declared.service.Service.TheVariants as service
 use Rattle.sloth_base.specs.Machine.{Core, State}
 use Rattle.sloth_base.specs.Status.{E_OK, E_OS_STATE, E_OS_VALUE}
+use Rattle.sloth_base.specs.Ticks.{ticks_to}
+use Rattle.sloth_base.specs.Limits.{counter_limit}
 use Rattle.sloth_region.specs.Layout.{counter_value, alarm_left, alarm_cycle}
 use Rattle.rv32_instr.specs.declared.InstrKind.{InstrKind}
 use Rattle.rv32_instr.specs.Ram.{word_at, with_word}
@@ -32,11 +34,7 @@ TicksFit max least core = (first_operand core ≢ 0) × (first_operand core ≤ 
 abbrev pub AlarmValueFits : (max least : ℕ) → Core → Type 0
 AlarmValueFits max least core = (first_operand core ≤ max) × CycleFits max least (second_operand core)
 
--- the ticks from a counter's value to the next time that it has the value `to`
-abbrev pub ticks_to : (max value to : ℕ) → ℕ
-ticks_to max value to = cond (ltb value to) (to - value) (to + (max + 1) - value)
-
--- those from the counter's value to the first operand
+-- the ticks from the counter's value to the first operand
 abbrev pub ticks_until : (counter max : ℕ) → Core → ℕ
 ticks_until counter max core = ticks_to max (word_at core.ram (counter_value counter)) (first_operand core)
 
@@ -80,7 +78,7 @@ SetsRelative alarm max least code =
 -- the code can run; the counter's value is at most the greatest, and the value that is to come is a word
 pub record MaySetAbsolute (offset alarm counter max : ℕ) (code : List InstrKind) (core : Core) : Type 0 where
   pub may_use : MayUse offset alarm code core
-  pub is_counter : counter < 2
+  pub is_counter : counter < counter_limit
   pub is_word : first_operand core < 2 ^ 32
   pub value : word_at core.ram (counter_value counter) ≤ max
 

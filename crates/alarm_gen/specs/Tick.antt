@@ -7,6 +7,7 @@ use Rattle.sloth_base.specs.Machine.{Core, State}
 use Rattle.sloth_base.specs.Arithmetic.{plus, sum32}
 use Rattle.sloth_base.specs.MemoryMap.{memory_base}
 use Rattle.sloth_base.specs.Owners.{counter_line}
+use Rattle.sloth_base.specs.Limits.{task_limit}
 use Rattle.sloth_region.specs.Layout.{active, events, wait, counter_value, alarm_left, alarm_cycle}
 use Rattle.rv32_instr.specs.declared.InstrKind.{InstrKind}
 use Rattle.rv32_instr.specs.declared.InstrKind.TheVariants.{Jal}
@@ -108,7 +109,7 @@ vector line = 0x400 + 4 * line
 
 -- what tells of a task are bits
 pub record AreTaskBits (g : Ground) (task : ℕ) : Type 0 where
-  pub is_task : task < 30
+  pub is_task : task < task_limit
   pub active_bit : word_at g.ram (active task) < 2
   pub pending_bit : slice_index g.pending task < 2
   pub enabled_bit : slice_index g.enabled task < 2

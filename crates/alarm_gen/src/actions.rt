@@ -1,5 +1,6 @@
 //! What a tick does with each alarm: it loses a tick, and where it expires it acts.
 ghost use Rattle.std.specs.Prelude.{◌≡◌, ◌<◌, ◌≤◌, ◌++◌, OnOk};
+ghost use Rattle.sloth_base.specs.Limits.{task_limit, alarm_limit};
 ghost use Rattle.alarm_gen.specs.Alarms.{IsAction, IsNumbered, AreNumbered};
 ghost use Rattle.alarm_gen.specs.Pieces.{basing_code, activating_code, event_adding_code, waking_code, action_code, action_size, losing_code, alarm_code, alarms_code};
 ghost use Rattle.block_parts.specs.Ticks.{suspension_test, awaited_events_test};
@@ -38,7 +39,7 @@ fn run(code: &mut Vec<Instr>, alarm: &NumberedAlarm) -> Result<(), AllocError>
 
 /// An alarm in use loses a tick, and starts again where it expires; else on behind the instructions of its action.
 fn lose(code: &mut Vec<Instr>, alarm: u8, size: u32) -> Result<(), AllocError>
-    requires { (alarm < 32) × (size ≤ 17) }
+    requires { (alarm < alarm_limit) × (size ≤ 17) }
     ensures { OnOk result (code.new.items ≡ code.old.items ++ losing_code alarm size) }
 {
     let lost = [
@@ -76,7 +77,7 @@ fn act(code: &mut Vec<Instr>, action: Action) -> Result<(), AllocError>
 
 /// The task's line is raised, and the task isn't Suspended.
 fn activate(code: &mut Vec<Instr>, task: u8) -> Result<(), AllocError>
-    requires { task < 30 }
+    requires { task < task_limit }
     ensures { OnOk result (code.new.items ≡ code.old.items ++ activating_code task) }
 {
     let activated = [
@@ -92,7 +93,7 @@ fn activate(code: &mut Vec<Instr>, task: u8) -> Result<(), AllocError>
 
 /// Events of a task are set.
 fn set(code: &mut Vec<Instr>, task: u8, mask: u32) -> Result<(), AllocError>
-    requires { task < 30 }
+    requires { task < task_limit }
     ensures { OnOk result (code.new.items ≡ code.old.items ++ (suspension_test task ++ (event_adding_code task mask ++ (awaited_events_test task ++ (waking_code task ++ basing_code))))) }
 {
     ask_busy(code, task)?;
@@ -104,7 +105,7 @@ fn set(code: &mut Vec<Instr>, task: u8, mask: u32) -> Result<(), AllocError>
 
 /// The task's events, with those of the mask, stay in x1.
 fn add_events(code: &mut Vec<Instr>, task: u8, mask: u32) -> Result<(), AllocError>
-    requires { task < 30 }
+    requires { task < task_limit }
     ensures { OnOk result (code.new.items ≡ code.old.items ++ event_adding_code task mask) }
 {
     let added = [
@@ -120,7 +121,7 @@ fn add_events(code: &mut Vec<Instr>, task: u8, mask: u32) -> Result<(), AllocErr
 
 /// The task's line is raised and enabled.
 fn wake(code: &mut Vec<Instr>, task: u8) -> Result<(), AllocError>
-    requires { task < 30 }
+    requires { task < task_limit }
     ensures { OnOk result (code.new.items ≡ code.old.items ++ waking_code task) }
 {
     let woken = [

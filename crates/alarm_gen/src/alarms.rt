@@ -1,5 +1,6 @@
 //! The alarms of a counter with their numbers, in order.
 ghost use Rattle.std.specs.Prelude.{◌≡◌, ◌≤◌, ◌++◌, ◌∷◌, [], IfOk, OnOk, length};
+ghost use Rattle.sloth_base.specs.Limits.{alarm_limit};
 ghost use Rattle.alarm_gen.specs.Alarms.{alarms_from};
 
 use sloth_base::config::{Action, AlarmDecl};
@@ -18,7 +19,7 @@ pub fn alarms_of(
     alarms: &[AlarmDecl],
     counter: u32,
 ) -> Result<Vec<NumberedAlarm>, AllocError>
-    requires { length alarms.now ≤ 32 }
+    requires { length alarms.now ≤ alarm_limit }
     ensures { IfOk result (λ found. found.items ≡ alarms_from counter 0 alarms.now) }
 {
     let mut found = Vec::new(alloc);

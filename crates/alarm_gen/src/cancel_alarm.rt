@@ -1,5 +1,6 @@
 //! CancelAlarm: an alarm in use is no longer.
 ghost use Rattle.std.specs.Prelude.{◌≡◌, ◌<◌, ◌++◌, IfOk, OnOk};
+ghost use Rattle.sloth_base.specs.Limits.{alarm_limit};
 ghost use Rattle.alarm_gen.specs.ServicePieces.{cancelling_code};
 ghost use Rattle.alarm_gen.specs.CancelAlarm.{CancelsAlarm};
 
@@ -14,7 +15,7 @@ use std::alloc::{AllocError, Global};
 
 /// The look at the alarm, its end, and the way back.
 pub fn code(alloc: Global, alarm: u8) -> Result<Vec<Instr>, AllocError>
-    requires { alarm < 32 }
+    requires { alarm < alarm_limit }
     ensures { IfOk result (λ code. CancelsAlarm alarm code.items) }
 {
     let mut code = Vec::new(alloc);
@@ -27,7 +28,7 @@ pub fn code(alloc: Global, alarm: u8) -> Result<Vec<Instr>, AllocError>
 
 /// The alarm has no ticks left, with the status E_OK.
 fn cancel(code: &mut Vec<Instr>, alarm: u8) -> Result<(), AllocError>
-    requires { alarm < 32 }
+    requires { alarm < alarm_limit }
     ensures { OnOk result (code.new.items ≡ code.old.items ++ cancelling_code alarm) }
 {
     let cancelled = [sw(ZERO, X4, alarm_left(alarm)), addi(A0, ZERO, E_OK as i32)];

@@ -1,5 +1,6 @@
 //! GetAlarm: the ticks that an alarm in use has left.
 ghost use Rattle.std.specs.Prelude.{◌≡◌, ◌<◌, ◌++◌, IfOk, OnOk};
+ghost use Rattle.sloth_base.specs.Limits.{alarm_limit};
 ghost use Rattle.alarm_gen.specs.ServicePieces.{telling_code};
 ghost use Rattle.alarm_gen.specs.GetAlarm.{TellsAlarm};
 
@@ -14,7 +15,7 @@ use std::alloc::{AllocError, Global};
 
 /// The look at the alarm, its ticks, and the way back.
 pub fn code(alloc: Global, alarm: u8) -> Result<Vec<Instr>, AllocError>
-    requires { alarm < 32 }
+    requires { alarm < alarm_limit }
     ensures { IfOk result (λ code. TellsAlarm alarm code.items) }
 {
     let mut code = Vec::new(alloc);
@@ -27,7 +28,7 @@ pub fn code(alloc: Global, alarm: u8) -> Result<Vec<Instr>, AllocError>
 
 /// a1 := the ticks that the alarm has left, with the status E_OK.
 fn tell(code: &mut Vec<Instr>, alarm: u8) -> Result<(), AllocError>
-    requires { alarm < 32 }
+    requires { alarm < alarm_limit }
     ensures { OnOk result (code.new.items ≡ code.old.items ++ telling_code alarm) }
 {
     let told = [lw(A1, X4, alarm_left(alarm)), addi(A0, ZERO, E_OK as i32)];

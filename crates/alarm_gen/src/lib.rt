@@ -1,4 +1,8 @@
 //! The code of counters and alarms (OSEK OS 2.2.3, sections 9 and 13.6): the ticks of counters, and the services on alarms.
+//!
+//! From the taking of a counter's line, with any arrivals and any number of alarms: the effect of the tick as a fold over its alarms, which lines it
+//! touches, and its length (`tick`; `specs/Tick`, `specs/Alarms`). Of SetRelAlarm, SetAbsAlarm, CancelAlarm and GetAlarm the same as of other
+//! services (`block`; a file of `specs/` for each). Lengths: `code_lengths` (`CodeLengths`); leaving: `masked_code` (`Kernel`).
 #![tactic(auto)]
 
 ghost use Rattle.std.specs.Prelude.{◌≡◌, ◌<◌, [], IfOk, length, slice_index};
@@ -25,7 +29,7 @@ use crate::alarms::alarms_of;
 use block_parts::marks::opening;
 use rv32_instr::{Block, Instr};
 use sloth_base::config::Config;
-use sloth_base::lines::COUNTER_LINE;
+use sloth_base::lines::FIRST_COUNTER_LINE;
 use sloth_base::list::List;
 use sloth_base::memory::NoMemory;
 use sloth_base::places::{Levels, block_number};
@@ -53,7 +57,7 @@ pub fn tick(
     let max = config.counters.items()[counter as usize].max;
     let code = tick_code::code(alloc, counter as u8, max, &alarms)?;
     Ok(Block {
-        at: map.handlers[usize::from(COUNTER_LINE) + counter as usize],
+        at: map.handlers[usize::from(FIRST_COUNTER_LINE) + counter as usize],
         code: List::from_vec(code),
         marks: List::from_vec(Vec::new(alloc)),
     })

@@ -1,5 +1,6 @@
 //! Pieces of code that several services on alarms have. x4 holds the base of memory, a0 and a1 the operands.
 ghost use Rattle.std.specs.Prelude.{◌≡◌, ◌<◌, ◌^◌, ◌++◌, OnOk};
+ghost use Rattle.sloth_base.specs.Limits.{alarm_limit};
 ghost use Rattle.alarm_gen.specs.ServicePieces.{used_alarm_test, unused_alarm_test, least_cycle_test, greatest_value_test, cycle_test, alarm_value_test, setting_code, refusing_code};
 
 use block_parts::pieces::{BACK, go_back};
@@ -28,7 +29,7 @@ pub const REFUSAL: u32 = 1 + BACK;
 
 /// The status of an alarm that isn't in use, and on behind two more where this one isn't.
 pub fn ask_used(code: &mut Vec<Instr>, alarm: u8) -> Result<(), AllocError>
-    requires { alarm < 32 }
+    requires { alarm < alarm_limit }
     ensures { OnOk result (code.new.items ≡ code.old.items ++ used_alarm_test alarm) }
 {
     let asked = [
@@ -41,7 +42,7 @@ pub fn ask_used(code: &mut Vec<Instr>, alarm: u8) -> Result<(), AllocError>
 
 /// On behind so many instructions where the alarm is in use.
 pub fn ask_unused(code: &mut Vec<Instr>, alarm: u8, passed: u32) -> Result<(), AllocError>
-    requires { (alarm < 32) × (passed < 100) }
+    requires { (alarm < alarm_limit) × (passed < 100) }
     ensures { OnOk result (code.new.items ≡ code.old.items ++ unused_alarm_test alarm passed) }
 {
     let asked = [lw(X1, X4, alarm_left(alarm)), bne(X1, ZERO, past(passed))];
@@ -95,7 +96,7 @@ pub fn ask_value(code: &mut Vec<Instr>, passed: u32) -> Result<(), AllocError>
 
 /// The alarm gets the ticks in a0 and the cycle in a1.
 pub fn set(code: &mut Vec<Instr>, alarm: u8) -> Result<(), AllocError>
-    requires { alarm < 32 }
+    requires { alarm < alarm_limit }
     ensures { OnOk result (code.new.items ≡ code.old.items ++ setting_code alarm) }
 {
     let stored = [

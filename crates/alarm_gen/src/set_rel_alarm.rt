@@ -1,5 +1,6 @@
 //! SetRelAlarm: an alarm that is not in use expires after so many ticks, and then by its cycle.
 ghost use Rattle.std.specs.Prelude.{◌≡◌, ◌<◌, ◌++◌, IfOk, OnOk};
+ghost use Rattle.sloth_base.specs.Limits.{alarm_limit};
 ghost use Rattle.alarm_gen.specs.ServicePieces.{ticks_test};
 ghost use Rattle.alarm_gen.specs.SetAlarm.{SetsRelative};
 
@@ -15,7 +16,7 @@ const TICKS: u32 = 1 + VALUE;
 
 /// The looks at the alarm and at the operands, the ticks and the cycle, and the refusals.
 pub fn code(alloc: Global, alarm: u8, max: u32, least: u32) -> Result<Vec<Instr>, AllocError>
-    requires { alarm < 32 }
+    requires { alarm < alarm_limit }
     ensures { IfOk result (λ code. SetsRelative alarm max least code.items) }
 {
     let mut code = Vec::new(alloc);

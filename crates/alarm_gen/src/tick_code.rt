@@ -1,6 +1,7 @@
 //! The tick of a counter: its value grows, and its alarms lose a tick, in order. It runs where the counter's line is taken, saves no register,
 //! and leaves x1 alone with anything.
 ghost use Rattle.std.specs.Prelude.{◌≡◌, ◌<◌, ◌^◌, ◌++◌, IfOk, OnOk};
+ghost use Rattle.sloth_base.specs.Limits.{counter_limit};
 ghost use Rattle.alarm_gen.specs.Alarms.{AreNumbered};
 ghost use Rattle.alarm_gen.specs.Tick.{Ticks};
 ghost use Rattle.alarm_gen.specs.Pieces.{counting_code, look_clearing_code, returning_code, tick_code};
@@ -22,7 +23,7 @@ pub fn code(
     max: u32,
     alarms: &[NumberedAlarm],
 ) -> Result<Vec<Instr>, AllocError>
-    requires { (counter < 2) × AreNumbered alarms.now }
+    requires { (counter < counter_limit) × AreNumbered alarms.now }
     ensures is { IfOk result (λ code. code.items ≡ tick_code counter max alarms.now) }
     ensures effect { IfOk result (λ code. Ticks counter max alarms.now code.items) }
 {
@@ -38,7 +39,7 @@ pub fn code(
 
 /// The counter's value grows by one, or goes from the greatest to 0.
 fn count(code: &mut Vec<Instr>, counter: u8, max: u32) -> Result<(), AllocError>
-    requires { counter < 2 }
+    requires { counter < counter_limit }
     ensures added { OnOk result (code.new.items ≡ code.old.items ++ counting_code counter max) }
     ensures fits { max < 2 ^ 32 }
 {

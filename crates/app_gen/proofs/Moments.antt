@@ -5,6 +5,7 @@ use Rattle.std.proofs.lemmas.List.Elements.{All-nil, All-cons}
 use Rattle.std.proofs.lemmas.List.FromFn.{length-map-range_with_len, map-range_with_len_more}
 use Rattle.sloth_base.specs.Arrivals.{AreArrivals, NeverFalls}
 use Rattle.sloth_base.specs.declared.event.Arrival.{Arrival}
+use Rattle.sloth_base.specs.Limits.{count_limit}
 use Rattle.sloth_base.proofs.Owners.{task_owned}
 use Rattle.app_gen.specs.Load.{gap, moment_before, line_of, arrival, first_arrivals, owners_of}
 
@@ -57,7 +58,7 @@ module _ (x n : ℕ) where
   are_arrivals h count few =
       record {
         few = let l = length-map-range_with_len (arrival x n) 0 count in omega (arith, l, few);
-        moments_in_range = all_of (λ a. a.at ≤ 1000000) 0 count (λ i l. let m = moment_bound x i in let g = gap_short x i in omega (arith, m, g, l, few));
+        moments_in_range = all_of (λ a. a.at ≤ count_limit) 0 count (λ i l. let m = moment_bound x i in let g = gap_short x i in omega (arith, m, g, l, few));
         ordered = let f = at_least x 0 in never_falls 0 count 1 (omega (arith, f));
         lines_owned = λ k d l. task_owned (owners_of n) _ (lines_below h count k d l);
       }

@@ -3,6 +3,7 @@ use Rattle.std.proofs.Common.{◌≡◌, ℕ, zero, suc, ◌+◌, ◌*◌, ◌-�
 use Rattle.std.specs.Prelude.{◌==◌, if◌then◌else◌, decimal, codes}
 use Rattle.std.specs.List.{flat_map, range_with_len}
 use Rattle.std.proofs.lemmas.Fmt.{length-decimal-le}
+use Rattle.sloth_base.specs.Limits.{task_limit, file_limit}
 use Rattle.app_gen.specs.Draws.{draw}
 use Rattle.app_gen.specs.Pieces.{number_behind, has_event}
 use Rattle.app_gen.specs.Oil.{is_non, event_object, resource_object, resource_objects, schedule_of, autostart_of, event_attribute, task_object, oil_text}
@@ -75,7 +76,7 @@ short-resources =
     let c = short-resource 2 (omega arith) in
     let d = short-resource 3 (omega arith) in omega (arith, a, b, c, d, length-append {A = ℕ})
 
-pub short-oil : (n : ℕ) → n ≤ 30 → length (oil_text n) ≤ 4194304
+pub short-oil : (n : ℕ) → n ≤ task_limit → length (oil_text n) ≤ file_limit
 unfolding oil_text
 short-oil n h =
     let events = short-each event_object 0 n (λ i l. short-event i (omega (arith, l, h))) in
@@ -134,13 +135,13 @@ short-body seed i h g =
     let added = short-adds i g in
     let waited = short-waits i (omega (arith, g)) in omega (arith, first, added, waited, length-append {A = ℕ})
 
-short-first : (n : ℕ) → 1 ≤ n → n ≤ 30 → length (first_body n) ≤ 20000
+short-first : (n : ℕ) → 1 ≤ n → n ≤ task_limit → length (first_body n) ≤ 20000
 unfolding first_body
 short-first n h g =
     let others = short-each waking_text 1 (n - 1) (λ j l. short-wakes j (omega (arith, l, g))) in
     let all = length-three (codes "task T0\nlabel loop\n") (flat_map waking_text (range_with_len 1 (n - 1))) (codes "j loop\nend\n") in omega (arith, g, others, all)
 
-pub short-source : (seed n : ℕ) → seed < 2 ^ 32 → 1 ≤ n → n ≤ 30 → length (source_text seed n) ≤ 4194304
+pub short-source : (seed n : ℕ) → seed < 2 ^ 32 → 1 ≤ n → n ≤ task_limit → length (source_text seed n) ≤ file_limit
 unfolding source_text
 short-source seed n f h g =
     let first = short-first n h g in

@@ -1,5 +1,6 @@
 //! The arrivals.
 ghost use Rattle.std.specs.Prelude.{◌≡◌, ◌≤◌, ◌+◌, ◌%◌, IfOk};
+ghost use Rattle.sloth_base.specs.Limits.{task_limit};
 ghost use Rattle.app_gen.specs.Load.{high_bits, first_arrivals};
 
 use crate::draws::Draws;
@@ -28,7 +29,7 @@ fn gap(draw: u32) -> u32
 
 // A line, from a draw.
 fn line(draw: u32, tasks: u32) -> Line
-    requires { (1 ≤ tasks) × (tasks ≤ 30) }
+    requires { (1 ≤ tasks) × (tasks ≤ task_limit) }
     ensures { result ≡ high_bits draw % tasks }
 {
     Line(((draw >> 16) % tasks) as u8)
@@ -36,7 +37,7 @@ fn line(draw: u32, tasks: u32) -> Line
 
 /// The arrivals of an application of so many tasks, with two draws for each.
 pub fn arrivals(alloc: Global, tasks: u32, draws: &mut Draws) -> Result<Vec<Arrival>, NoMemory>
-    requires { (1 ≤ tasks) × (tasks ≤ 30) }
+    requires { (1 ≤ tasks) × (tasks ≤ task_limit) }
     ensures { IfOk result (λ arrivals. arrivals.items ≡ first_arrivals draws.old tasks 1000) }
 {
     let mut arrivals = Vec::new(alloc);

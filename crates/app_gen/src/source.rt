@@ -1,6 +1,7 @@
 //! The task source.
 ghost use Rattle.std.specs.Prelude.{◌≡◌, ◌++◌, ◌<◌, ◌≤◌, ◌-◌, ◌^◌, OnOk, IfOk};
 ghost use Rattle.std.specs.List.{flat_map, range_with_len};
+ghost use Rattle.sloth_base.specs.Limits.{task_limit};
 ghost use Rattle.app_gen.specs.Draws.{draw};
 ghost use Rattle.app_gen.specs.Source.{setting_text, waking_text, first_body, body_head, adding_text, waiting_text, numbered_body, body, source_text};
 
@@ -105,7 +106,7 @@ fn put_body(text: &mut Vec<u8>, task: u32, number: u32) -> Result<(), NoMemory>
 
 // Appends the bodies of all tasks but the first. Each takes a draw.
 fn put_bodies(text: &mut Vec<u8>, tasks: u32, draws: &mut Draws) -> Result<(), NoMemory>
-    requires { (1 ≤ tasks) × (tasks ≤ 30) }
+    requires { (1 ≤ tasks) × (tasks ≤ task_limit) }
     ensures text { OnOk result (text.new.items ≡ text.old.items ++ flat_map (body draws.old) (range_with_len 1 (tasks - 1))) }
     ensures draws { OnOk result (draws.new ≡ draw draws.old (tasks - 1)) }
 {
@@ -118,7 +119,7 @@ fn put_bodies(text: &mut Vec<u8>, tasks: u32, draws: &mut Draws) -> Result<(), N
 /// The task source of an application of so many tasks, which takes a draw for each task but the first.
 #[tactic(auto, unfolding(crate::specs::Source::source_text))]
 pub fn source_text(alloc: Global, tasks: u32, draws: &mut Draws) -> Result<Vec<u8>, NoMemory>
-    requires { (1 ≤ tasks) × (tasks ≤ 30) }
+    requires { (1 ≤ tasks) × (tasks ≤ task_limit) }
     ensures text { IfOk result (λ text. text.items ≡ source_text draws.old tasks) }
     ensures draws { OnOk result (draws.new ≡ draw draws.old (tasks - 1)) }
 {

@@ -8,7 +8,7 @@ ghost use Rattle.asm_items.specs.Apps.{third_bytes, first_bytes, bytes_with, sym
 
 use crate::bodies::func_of;
 use asm_lines::{Operand, SourceLine};
-use asm_scopes::{Body, Scope, is_data, name_of, number_of};
+use asm_scopes::{Body, Scope, is_data, name_of, number_of, scope_of};
 use sloth_base::app::{App, Func, Symbol};
 use sloth_base::config::Config;
 use sloth_base::list::List;
@@ -98,8 +98,8 @@ fn funcs_of(
     Ok(funcs)
 }
 
-/// The task code of these lines.
-pub fn app_of(
+// The task code of these lines, which may use these names.
+fn app_in_scope(
     alloc: Global,
     config: &Config,
     lines: &[SourceLine],
@@ -118,4 +118,20 @@ pub fn app_of(
         funcs: List::from_vec(funcs),
         symbols: List::from_vec(symbols),
     })
+}
+
+/// The task code of these lines.
+pub fn app_of(
+    alloc: Global,
+    config: &Config,
+    lines: &[SourceLine],
+    bodies: &[Body],
+) -> Result<App, NoMemory>
+    requires few { length lines.now < 2 ^ 32 }
+    requires numbered { IsNumbered (scope_of config.now lines.now bodies.now) }
+    requires bodies { bodies.now ≡ bodies_of lines.now }
+    ensures { IfOk result (λ app. app ≡ app_of config.now lines.now) }
+{
+    let scope = scope_of(alloc, config, lines, bodies)?;
+    app_in_scope(alloc, config, lines, bodies, &scope)
 }

@@ -1,4 +1,8 @@
 //! Reads task source line by line: what each line is, and the least fault of the lines.
+//!
+//! The lines of task source whole (61 first words), or the least of A1 to A4 (`read`, `lines_are_parts`, `one_shape`, ..). Defined here:
+//! `specs/Lines`, the table of first words (`specs/Table`), `specs/Faults`, and the same as a drawing, by laws (`specs/Grammar`). Forms of operands:
+//! `statement_forms` (`Forms`).
 #![tactic(auto)]
 
 mod bytes;

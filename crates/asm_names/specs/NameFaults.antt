@@ -6,6 +6,7 @@ use Rattle.sloth_base.specs.declared.config.Config.{Config}
 use Rattle.sloth_base.specs.declared.config.TaskDecl.{TaskDecl}
 use Rattle.sloth_base.specs.declared.refusal.Code.TheVariants.{A5, A6, A7}
 use Rattle.sloth_base.specs.declared.refusal.Refusal.{Refusal}
+use Rattle.sloth_base.specs.Limits.{name_limit, body_limit, item_limit, symbol_limit, data_limit, frame_limit}
 use Rattle.least_fault.specs.Search.{Somewhere}
 use Rattle.asm_lines.specs.declared.source_line.SourceLine.{SourceLine}
 use Rattle.asm_lines.specs.declared.source_line.SourceLine.TheVariants.{Statement}
@@ -17,7 +18,7 @@ use Rattle.asm_scopes.specs.Scopes.{scope_of, has_unknown}
 
 -- more than 64 bytes
 abbrev pub is_long : List ℕ → Bool
-is_long name = nat_lt 64 (length name)
+is_long name = nat_lt name_limit (length name)
 
 -- a name above 64 bytes is written here
 abbrev pub writes_long : Option (List ℕ) → Bool
@@ -41,7 +42,7 @@ is_taken earlier l = is_data l && (list_any (bytes_eq (name_of l)) earlier || by
 
 -- the 257th symbol, one that brings the sum of sizes above 32,768 bytes, or one of a long name
 abbrev pub is_too_much : ℕ → ℕ → SourceLine → Bool
-is_too_much count bytes l = is_data l && ((count == 256) || (nat_lt 32768 (bytes + number_of l) || has_long l))
+is_too_much count bytes l = is_data l && ((count == symbol_limit) || (nat_lt data_limit (bytes + number_of l) || has_long l))
 
 -- A5 and A6 of a `data` on line n, behind so many symbols of these names, which have so many bytes
 abbrev pub SymbolFault : List (List ℕ) → ℕ → ℕ → ℕ → SourceLine → Refusal → Type 0
@@ -55,7 +56,7 @@ DataFault front l r = SymbolFault (symbol_names front) (count_by is_data front) 
 
 -- the 65th body, a frame above 32 words, or a long name
 abbrev pub is_too_great : ℕ → SourceLine → Bool
-is_too_great count header = (count == 64) || (nat_lt 32 (number_of header) || has_long header)
+is_too_great count header = (count == body_limit) || (nat_lt frame_limit (number_of header) || has_long header)
 
 -- the body of a task that the configuration has not
 abbrev pub is_strange : Scope → SourceLine → Bool
@@ -76,7 +77,7 @@ is_misnamed scope labels earlier l = (is_label l && list_any (bytes_eq (name_of 
 
 -- the 4,097th item, or a long name
 abbrev pub is_beyond : ℕ → SourceLine → Bool
-is_beyond items l = (is_item l && (items == 4096)) || has_long l
+is_beyond items l = (is_item l && (items == item_limit)) || has_long l
 
 -- A5 and A6 of line n, in a body with these labels, behind labels of these earlier names and so many items of all bodies
 abbrev pub InnerFault : Scope → List (List ℕ) → List (List ℕ) → ℕ → ℕ → SourceLine → Refusal → Type 0

@@ -9,24 +9,16 @@ use crate::limits::{count_item, count_items, count_label, has_long};
 use asm_lines::SourceLine;
 use asm_scopes::{Body, Scope, is_item, is_label, is_task, label_names, name_of, number_of};
 use least_fault::{merge, when};
+use sloth_base::limits::{BODY_LIMIT, FRAME_LIMIT, ITEM_LIMIT};
 use sloth_base::memory::NoMemory;
 use sloth_base::refusal::{Code, Part, Refusal};
 use std::alloc::Global;
 use text_pieces::names::Names;
 
-/// How many bodies a source may have.
-const BODIES: usize = 64;
-
-/// How many words a frame may have.
-const FRAME_WORDS: u32 = 32;
-
-/// How many items all bodies may have.
-const ITEMS: usize = 4096;
-
 fn is_too_great(count: usize, header: &SourceLine) -> bool
     ensures { result ≡ is_too_great count header.now }
 {
-    count == BODIES || number_of(header) > FRAME_WORDS || has_long(header)
+    count == BODY_LIMIT || number_of(header) > FRAME_LIMIT as u32 || has_long(header)
 }
 
 fn is_strange(scope: &Scope, header: &SourceLine) -> bool
@@ -57,7 +49,7 @@ fn is_misnamed(scope: &Scope, labels: &Names, count: usize, line: &SourceLine) -
 fn is_beyond(items: usize, line: &SourceLine) -> bool
     ensures { result ≡ is_beyond items line.now }
 {
-    (is_item(line) && items == ITEMS) || has_long(line)
+    (is_item(line) && items == ITEM_LIMIT) || has_long(line)
 }
 
 // The least fault of a line behind the first `count` labels.

@@ -8,15 +8,10 @@ use crate::limits::{bytes_of, count_data, has_long};
 use asm_lines::SourceLine;
 use asm_scopes::{is_data, name_of, number_of};
 use least_fault::{merge, when};
+use sloth_base::limits::{DATA_LIMIT, SYMBOL_LIMIT};
 use sloth_base::refusal::{Code, Part, Refusal};
 use text_pieces::bytes::same;
 use text_pieces::names::Names;
-
-/// How many symbols a source may have.
-const SYMBOLS: usize = 256;
-
-/// How many bytes all symbols may have.
-const SYMBOL_BYTES: usize = 32_768;
 
 // Whether a symbol takes the name of one of the first `count`, or `frame`.
 fn is_taken(symbols: &Names, count: usize, line: &SourceLine) -> bool
@@ -31,7 +26,9 @@ fn is_too_much(count: usize, bytes: usize, line: &SourceLine) -> bool
     ensures { result ≡ is_too_much count bytes line.now }
 {
     is_data(line)
-        && (count == SYMBOLS || bytes + number_of(line) as usize > SYMBOL_BYTES || has_long(line))
+        && (count == SYMBOL_LIMIT
+            || bytes + number_of(line) as usize > DATA_LIMIT
+            || has_long(line))
 }
 
 // The least fault of a line behind the first `count` symbols.

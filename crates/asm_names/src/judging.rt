@@ -10,7 +10,7 @@ ghost use Rattle.asm_names.specs.NameFaults.{lacks_body, NameFault};
 use crate::body_faults::body_faults;
 use crate::data_faults::data_faults;
 use asm_lines::SourceLine;
-use asm_scopes::{Body, Scope, task_body_names};
+use asm_scopes::{Body, Scope, scope_of, task_body_names};
 use least_fault::{merge, when};
 use sloth_base::config::{Config, TaskDecl};
 use sloth_base::memory::NoMemory;
@@ -32,9 +32,8 @@ fn lacks_body(alloc: Global, config: &Config, bodies: &[Body]) -> Result<bool, N
     Ok(any_without(&names, config.tasks.items()))
 }
 
-/// The least fault of names and limits in these lines: A5 for a doubled name, or one that nothing of the wanted kind has; A6 for a limit
-/// that is passed; A7 for a task without a body, or a body without its task.
-pub fn judge(
+// The least fault in these lines, which may use these names.
+fn fault_in_scope(
     alloc: Global,
     config: &Config,
     lines: &[SourceLine],
@@ -51,4 +50,20 @@ pub fn judge(
     let lacks = lacks_body(alloc, config, bodies)?;
     let of_tasks = when(lacks, Part::Src, 1, Code::A7);
     Ok(merge(of_data, merge(of_bodies, of_tasks)))
+}
+
+/// The least fault of names and limits in these lines: A5 for a doubled name, or one that nothing of the wanted kind has; A6 for a limit
+/// that is passed; A7 for a task without a body, or a body without its task.
+pub fn judge(
+    alloc: Global,
+    config: &Config,
+    lines: &[SourceLine],
+    bodies: &[Body],
+) -> Result<Option<Refusal>, NoMemory>
+    requires few { length lines.now < 2 ^ 32 }
+    requires bodies { bodies.now ≡ bodies_of lines.now }
+    ensures { IfOk result (λ found. Finds (NameFault config.now lines.now) found) }
+{
+    let scope = scope_of(alloc, config, lines, bodies)?;
+    fault_in_scope(alloc, config, lines, bodies, &scope)
 }

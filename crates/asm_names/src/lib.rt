@@ -1,4 +1,6 @@
 //! The faults of names and of limits in task source.
+//!
+//! `judge` finds the least of A5 to A7, or none (`specs/NameFaults`). Lines and names: `asm_lines` (`Lines`), `asm_scopes` (`Scopes`).
 #![tactic(auto)]
 
 mod body_faults;

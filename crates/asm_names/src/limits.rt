@@ -6,15 +6,13 @@ ghost use Rattle.asm_names.specs.NameFaults.{writes_long, has_long, bytes_of};
 
 use asm_lines::{Operand, SourceLine};
 use asm_scopes::{is_data, is_item, is_label, number_of, written};
-
-/// The bytes that a name may have.
-const NAME_BYTES: usize = 64;
+use sloth_base::limits::NAME_LIMIT;
 
 fn writes_long(operand: &Operand) -> bool
     ensures { result ≡ writes_long (written_name operand.now) }
 {
     match written(operand) {
-        Some(name) => name.len() > NAME_BYTES,
+        Some(name) => name.len() > NAME_LIMIT,
         None => false,
     }
 }

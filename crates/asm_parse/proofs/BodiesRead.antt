@@ -7,6 +7,7 @@ use Rattle.std.proofs.lemmas.Bool.{eqb-false, ltb-false, cases_lt, or_parts}
 use Rattle.std.proofs.lemmas.List.Elements.{All-nil, All-cons, All-head, All-tail, All-take}
 use Rattle.sloth_base.specs.declared.refusal.Code.TheVariants.{A5, A6}
 use Rattle.sloth_base.specs.declared.refusal.Part.TheVariants.{Src}
+use Rattle.sloth_base.specs.Limits.{body_limit, item_limit, frame_limit}
 use Rattle.least_fault.specs.Order.{NoFault}
 use Rattle.least_fault.proofs.Nowhere.{nowhere, case_false}
 use Rattle.asm_lines.specs.declared.source_line.SourceLine.{SourceLine}
@@ -61,21 +62,21 @@ module _ (scope : Scope) (bodies : List BodyText)
   not_great : (i : ℕ) → i < length bodies → is_too_great (length (take i bodies)) (body_at bodies i).header ≡ false
   not_great i h = case_false Src (is_too_great (length (take i bodies)) (body_at bodies i).header) (body_at bodies i).line A6 (λ r x. none i h r (inl (inr (inl x))))
 
-  pub few_bodies : length bodies ≤ 64
+  pub few_bodies : length bodies ≤ body_limit
   few_bodies = ⊎_elim
-      (λ l. absurd (let t = length-take 64 bodies in eqb-false (length (take 64 bodies)) 64 (or_parts (length (take 64 bodies) == 64) _ (not_great 64 l)).0 (omega (arith, t, l))))
+      (λ l. absurd (let t = length-take body_limit bodies in eqb-false (length (take body_limit bodies)) body_limit (or_parts (length (take body_limit bodies) == body_limit) _ (not_great body_limit l)).0 (omega (arith, t, l))))
       (λ l. l)
-      (cases_lt 64 (length bodies))
+      (cases_lt body_limit (length bodies))
 
-  pub few_words : (i : ℕ) → i < length bodies → number_of (body_at bodies i).header ≤ 32
+  pub few_words : (i : ℕ) → i < length bodies → number_of (body_at bodies i).header ≤ frame_limit
   few_words i h =
       let header = (body_at bodies i).header in
-      ltb-false 32 (number_of header) (or_parts (nat_lt 32 (number_of header)) (has_long header) (or_parts (length (take i bodies) == 64) _ (not_great i h)).1).0
+      ltb-false frame_limit (number_of header) (or_parts (nat_lt frame_limit (number_of header)) (has_long header) (or_parts (length (take i bodies) == body_limit) _ (not_great i h)).1).0
 
   pub short_name : (i : ℕ) → i < length bodies → has_long (body_at bodies i).header ≡ false
   short_name i h =
       let header = (body_at bodies i).header in
-      (or_parts (nat_lt 32 (number_of header)) (has_long header) (or_parts (length (take i bodies) == 64) _ (not_great i h)).1).1
+      (or_parts (nat_lt frame_limit (number_of header)) (has_long header) (or_parts (length (take i bodies) == body_limit) _ (not_great i h)).1).1
 
   -- ---- lines
 
@@ -106,7 +107,7 @@ module _ (scope : Scope) (bodies : List BodyText)
 
     pub short_at : (j : ℕ) → j < length body.lines → has_long (line_at body j) ≡ false
     short_at j l =
-        let x = line_at body j in (or_parts (is_item x && (before + count_by is_item (take j body.lines) == 4096)) (has_long x) (not_beyond j l)).1
+        let x = line_at body j in (or_parts (is_item x && (before + count_by is_item (take j body.lines) == item_limit)) (has_long x) (not_beyond j l)).1
 
     pub labels_apart : Apart (label_names body.lines)
     labels_apart = kept_apart is_label name_of body.lines Empty
@@ -115,19 +116,19 @@ module _ (scope : Scope) (bodies : List BodyText)
         let new = list_any (bytes_eq (name_of x)) (label_names (take j body.lines)) in
         ap (λ b. b && new) (sym t) ∙ (or_parts (is_label x && new) (has_unknown scope (label_names body.lines) x) (well_named j l)).0)
 
-    next_item : (j : ℕ) → j < length body.lines → before + count_by is_item (take j body.lines) ≤ 4096
-        → before + count_by is_item (take j body.lines) + cond (is_item (line_at body j)) 1 0 ≤ 4096
+    next_item : (j : ℕ) → j < length body.lines → before + count_by is_item (take j body.lines) ≤ item_limit
+        → before + count_by is_item (take j body.lines) + cond (is_item (line_at body j)) 1 0 ≤ item_limit
     next_item j l few =
-        by (is_item (line_at body j)) (or_parts (is_item (line_at body j) && (before + count_by is_item (take j body.lines) == 4096)) (has_long (line_at body j)) (not_beyond j l)).0
+        by (is_item (line_at body j)) (or_parts (is_item (line_at body j) && (before + count_by is_item (take j body.lines) == item_limit)) (has_long (line_at body j)) (not_beyond j l)).0
       where
-        by : (b : Bool) → (b && (before + count_by is_item (take j body.lines) == 4096)) ≡ false → before + count_by is_item (take j body.lines) + cond b 1 0 ≤ 4096
-        by true e = ⊎_elim (λ t. omega (arith, t)) (λ t. absurd (eqb-false (before + count_by is_item (take j body.lines)) 4096 e (omega (arith, t, few)))) (cases_lt (before + count_by is_item (take j body.lines)) 4096)
+        by : (b : Bool) → (b && (before + count_by is_item (take j body.lines) == item_limit)) ≡ false → before + count_by is_item (take j body.lines) + cond b 1 0 ≤ item_limit
+        by true e = ⊎_elim (λ t. omega (arith, t)) (λ t. absurd (eqb-false (before + count_by is_item (take j body.lines)) item_limit e (omega (arith, t, few)))) (cases_lt (before + count_by is_item (take j body.lines)) item_limit)
         by false e = omega (arith, few)
 
-    more_items : before ≤ 4096 → before + items_in body ≤ 4096
-    more_items = within (λ x. cond (is_item x) 1 0) before 4096 body.lines Empty next_item
+    more_items : before ≤ item_limit → before + items_in body ≤ item_limit
+    more_items = within (λ x. cond (is_item x) 1 0) before item_limit body.lines Empty next_item
 
-  pub few_items : sum_by items_in bodies ≤ 4096
+  pub few_items : sum_by items_in bodies ≤ item_limit
   few_items =
-      let w = within items_in 0 4096 bodies no_body (λ i h few. let m = more_items i h (omega (arith, few)) in omega (arith, m)) (omega arith) in
+      let w = within items_in 0 item_limit bodies no_body (λ i h few. let m = more_items i h (omega (arith, few)) in omega (arith, m)) (omega arith) in
       omega (arith, w)

@@ -6,6 +6,7 @@ use Rattle.std.proofs.lemmas.Bool.{leb-true, ltb-false, le-ltb, not-true, or_cas
 use Rattle.std.proofs.lemmas.Bool.Decides.{leb_tells, eqb_tells}
 use Rattle.std.proofs.lemmas.List.{length-append, length-replicate}
 use Rattle.sloth_base.specs.ImageRange.{IsName}
+use Rattle.sloth_base.specs.Limits.{name_limit}
 use Rattle.asm_lines.specs.declared.operands.Operand.{Operand}
 use Rattle.asm_lines.specs.declared.operands.Operand.TheVariants.{Number, Name, Bytes}
 use Rattle.asm_lines.specs.declared.source_line.SourceLine.{SourceLine}
@@ -52,7 +53,7 @@ declares m os is_name some h s =
     some_of (λ os. AllFit m 0 os → has_long (Statement m os) ≡ false → IsName (first_name os))
     (λ a os h s.
     name_case (λ a. has_long (Statement m (a ∷ os)) ≡ false → IsName (first_name (a ∷ os)))
-    (λ n w s. record { word = w; short = ltb-false 64 (length n) (or_parts (nat_lt 64 (length n)) (list_any (λ x. writes_long (written_name x)) os) s).0 })
+    (λ n w s. record { word = w; short = ltb-false name_limit (length n) (or_parts (nat_lt name_limit (length n)) (list_any (λ x. writes_long (written_name x)) os) s).0 })
     a (subst (λ F. Fits F a) is_name h.0) s)
     os some h s
 

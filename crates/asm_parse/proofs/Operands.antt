@@ -23,6 +23,9 @@ pub register_case : (P : Operand → Type 0) → ((r : ℕ) → IsRegister r →
 register_case P f (Register r) h = f r h
 register_case P f o h = absurd h
 
+pub registers_case : (P : Operand → Operand → Type 0) → ((d r : ℕ) → IsRegister d → IsRegister r → P (Register d) (Register r)) → (a b : Operand) → FitsRegister a → FitsRegister b → P a b
+registers_case P f a b h g = register_case (λ a. P a b) (λ d x. register_case (P (Register d)) (λ r y. f d r x y) b g) a h
+
 pub name_case : (P : Operand → Type 0) → ((n : List ℕ) → IsWord n → P (Name n)) → (o : Operand) → FitsName o → P o
 name_case P f (Name n) h = f n h
 name_case P f o h = absurd h
@@ -76,7 +79,7 @@ module _ (scope : Scope) (labels : List (List ℕ)) (K : Kind) where
   abbrev pub Names : Operand → Type 0
   Names x = (name : List ℕ) × (x ≡ Name name) × (is_named scope labels K name ≡ true)
 
-  names : (x : Operand) → FitsName x → is_lacking scope labels K (written_name x) ≡ false → Names x
+  pub names : (x : Operand) → FitsName x → is_lacking scope labels K (written_name x) ≡ false → Names x
   names x h = name_case (λ x. is_lacking scope labels K (written_name x) ≡ false → Names x) (λ n w e. (n, refl, not-false (is_named scope labels K n) e)) x h
 
   -- Each operand from place i on does, where all of these places are to.

@@ -1,5 +1,5 @@
 -- A statement that was read, whose names are known, is an operation in range.
-use Rattle.std.proofs.Common.{true≢false, ◌≡◌, sym, refl, ⊎_elim, inl, ℕ, ℤ, pos, negsuc, ◌-◌, ◌≤◌, Bool, true, false, List, [], ◌∷◌, length, Some, arith}
+use Rattle.std.proofs.Common.{true≢false, ◌≡◌, sym, subst, refl, ⊎_elim, inl, ℕ, ℤ, pos, negsuc, ◌-◌, ◌≤◌, Bool, true, false, List, [], ◌∷◌, length, Some, arith}
 use Rattle.std.specs.Prelude.{◌==◌, ◌||◌, not, nat_le, nat_lt, int_lt, if◌then◌else◌}
 use Rattle.std.proofs.lemmas.Bool.{eqb-true, leb-true, ltb-false, not-true, or_parts, and_parts}
 use Rattle.std.proofs.lemmas.Bool.Decides.{leb_tells, eqb_tells}
@@ -17,23 +17,24 @@ use Rattle.sloth_base.specs.declared.config.Config.{Config}
 use Rattle.sloth_base.specs.declared.service.Service.{Service}
 use Rattle.sloth_base.specs.declared.service.Service.TheVariants as service
 use Rattle.asm_lines.specs.declared.operands.Operand.{Operand}
-use Rattle.asm_lines.specs.declared.operands.Operand.TheVariants.{Register, Frame, Direct, Indexed}
+use Rattle.asm_lines.specs.declared.operands.Operand.TheVariants.{Register, Number, Name, Frame, Direct, Indexed}
 use Rattle.statement_forms.specs.declared.forms.Mnemonic.{Mnemonic}
 use Rattle.statement_forms.specs.declared.forms.Mnemonic.TheVariants as m
 use Rattle.asm_lines.specs.Numbers.{is_within}
-use Rattle.statement_forms.specs.Forms.{is_operand_count}
+use Rattle.statement_forms.specs.declared.forms.Form.TheVariants as form
+use Rattle.statement_forms.specs.Forms.{is_operand_count, form_of}
 use Rattle.asm_scopes.specs.declared.scope.Kind.TheVariants as kind
 use Rattle.asm_scopes.specs.declared.scope.Scope.{Scope}
-use Rattle.asm_scopes.specs.Said.{is_action}
-use Rattle.asm_scopes.specs.Scopes.{is_named, any_unknown}
+use Rattle.asm_scopes.specs.Said.{is_action, written_name}
+use Rattle.asm_scopes.specs.Scopes.{is_named, is_lacking, any_unknown, kind_of, service_kind}
 use Rattle.asm_items.specs.declared.operations.Access.{Access}
 use Rattle.asm_items.specs.declared.operations.Access.TheVariants.{Load, Store}
-use Rattle.asm_items.specs.Operations.{as_word, as_short, number_of, frame_op, symbol_op, element_op, access_op, op_by}
-use Rattle.code_rules.specs.AppRange.{IsRegister, IsShort, IsAmount, IsStored, IsSymbol, IsOp}
-use Rattle.asm_parse.proofs.Fit.{FitsPlace, FitsWord, AllFit}
+use Rattle.asm_items.specs.Operations.{as_word, as_short, number_of, frame_op, symbol_op, element_op, access_op, op_by, call_of, mask_of}
+use Rattle.code_rules.specs.AppRange.{IsRegister, IsShort, IsAmount, IsNumberOf, IsStored, IsSymbol, IsMask, IsOp}
+use Rattle.asm_parse.proofs.Fit.{Fits, FitsRegister, FitsPlace, FitsWord, AllFit}
 use Rattle.asm_parse.proofs.MnemonicKinds.{HasKind}
 use Rattle.asm_parse.proofs.Known.{IsKnown}
-use Rattle.asm_parse.proofs.Operands.{register_case, name_case, number_case, none_of, one_of, two_of, three_of, some_of, some_two_of, does_exist, all_names}
+use Rattle.asm_parse.proofs.Operands.{register_case, registers_case, name_case, number_case, none_of, one_of, two_of, three_of, some_of, some_two_of, does_exist, names, all_names}
 use Rattle.asm_parse.proofs.MasksRange.{is_mask}
 
 -- ---- numbers
@@ -83,47 +84,41 @@ module _ (config : Config) (app : App) (f : Func) (scope : Scope) (labels : List
 
   alu_range : (k : AluKind) (a b c : Operand) → Ranges (m.Alu k) (a ∷ b ∷ c ∷ [])
   alu_range k a b c h u =
-      register_case (λ a. Ranged (m.Alu k) (a ∷ b ∷ c ∷ []))
-      (λ d x. register_case (λ b. Ranged (m.Alu k) (Register d ∷ b ∷ c ∷ []))
-      (λ r y. register_case (λ c. Ranged (m.Alu k) (Register d ∷ Register r ∷ c ∷ [])) (λ s z. (op.Alu k d r s, refl, (x, y, z))) c h.1.1.0)
-      b h.1.0)
-      a h.0
+      registers_case (λ a b. Ranged (m.Alu k) (a ∷ b ∷ c ∷ []))
+      (λ d r x y. register_case (λ c. Ranged (m.Alu k) (Register d ∷ Register r ∷ c ∷ [])) (λ s z. (op.Alu k d r s, refl, (x, y, z))) c h.1.1.0)
+      a b h.0 h.1.0
+
+  -- an operation on a register and a number from low to high
+  amount_range : (w : Mnemonic) (k : ImmKind) (low high : ℤ) → ((d r : ℕ) (n : ℤ) → op_by config scope labels w (Register d ∷ Register r ∷ Number n ∷ []) ≡ Some (op.AluImm k d r (as_short n)))
+      → ((n : ℤ) → is_within low high n ≡ true → IsNumberOf k (as_short n))
+      → (a b c : Operand) → FitsRegister a → FitsRegister b → Fits (form.Number low high) c → Ranged w (a ∷ b ∷ c ∷ [])
+  amount_range w k low high is are a b c h g e =
+      registers_case (λ a b. Ranged w (a ∷ b ∷ c ∷ []))
+      (λ d r x y. number_case low high (λ c. Ranged w (Register d ∷ Register r ∷ c ∷ [])) (λ n z. (op.AluImm k d r (as_short n), is d r n, (x, y, are n z))) c e)
+      a b h g
 
   imm_range : (k : ImmKind) → HasKind (m.Imm k) → (a b c : Operand) → Ranges (m.Imm k) (a ∷ b ∷ c ∷ [])
-  imm_range k g a b c h u =
-      register_case (λ a. Ranged (m.Imm k) (a ∷ b ∷ c ∷ []))
-      (λ d x. register_case (λ b. Ranged (m.Imm k) (Register d ∷ b ∷ c ∷ []))
-      (λ r y. number_case (negsuc 2047) (pos 2047) (λ c. Ranged (m.Imm k) (Register d ∷ Register r ∷ c ∷ []))
-      (λ n z. (op.AluImm k d r (as_short n), refl, (x, y, g (as_short n) (is_short n)))) c h.1.1.0)
-      b h.1.0)
-      a h.0
+  imm_range k g a b c h u = amount_range (m.Imm k) k (negsuc 2047) (pos 2047) (λ d r n. refl) (λ n z. g (as_short n) (is_short n)) a b c h.0 h.1.0 h.1.1.0
 
   shift_range : (k : ImmKind) → HasKind (m.Shift k) → (a b c : Operand) → Ranges (m.Shift k) (a ∷ b ∷ c ∷ [])
-  shift_range k g a b c h u =
-      register_case (λ a. Ranged (m.Shift k) (a ∷ b ∷ c ∷ []))
-      (λ d x. register_case (λ b. Ranged (m.Shift k) (Register d ∷ b ∷ c ∷ []))
-      (λ r y. number_case (pos 0) (pos 31) (λ c. Ranged (m.Shift k) (Register d ∷ Register r ∷ c ∷ []))
-      (λ n z. (op.AluImm k d r (as_short n), refl, (x, y, g (as_short n) (amount n z)))) c h.1.1.0)
-      b h.1.0)
-      a h.0
+  shift_range k g a b c h u = amount_range (m.Shift k) k (pos 0) (pos 31) (λ d r n. refl) (λ n z. g (as_short n) (amount n z)) a b c h.0 h.1.0 h.1.1.0
+
+  -- a register that gets a number from low to high as a word
+  word_range : (w : Mnemonic) (low high : ℤ) (made : ℕ → ℕ → Op) → ((d : ℕ) (n : ℤ) → op_by config scope labels w (Register d ∷ Number n ∷ []) ≡ Some (made d (as_word n)))
+      → ((d : ℕ) (n : ℤ) → IsRegister d → is_within low high n ≡ true → IsOp config app f (made d (as_word n)))
+      → (a b : Operand) → FitsRegister a → Fits (form.Number low high) b → Ranged w (a ∷ b ∷ [])
+  word_range w low high made is are a b h e =
+      register_case (λ a. Ranged w (a ∷ b ∷ []))
+      (λ d x. number_case low high (λ b. Ranged w (Register d ∷ b ∷ [])) (λ n z. (made d (as_word n), is d n, are d n x z)) b e) a h
 
   lui_range : (a b : Operand) → Ranges m.Lui (a ∷ b ∷ [])
-  lui_range a b h u =
-      register_case (λ a. Ranged m.Lui (a ∷ b ∷ []))
-      (λ d x. number_case (pos 0) (pos 1048575) (λ b. Ranged m.Lui (Register d ∷ b ∷ [])) (λ n z. (op.Lui d (as_word n), refl, (x, upper n z))) b h.1.0)
-      a h.0
+  lui_range a b h u = word_range m.Lui (pos 0) (pos 1048575) op.Lui (λ d n. refl) (λ d n x z. (x, upper n z)) a b h.0 h.1.0
 
   li_range : (a b : Operand) → Ranges m.Li (a ∷ b ∷ [])
-  li_range a b h u =
-      register_case (λ a. Ranged m.Li (a ∷ b ∷ []))
-      (λ d x. number_case (negsuc 2147483647) (pos 4294967295) (λ b. Ranged m.Li (Register d ∷ b ∷ [])) (λ n z. (op.Li d (as_word n), refl, (x, word n))) b h.1.0)
-      a h.0
+  li_range a b h u = word_range m.Li (negsuc 2147483647) (pos 4294967295) op.Li (λ d n. refl) (λ d n x z. (x, word n)) a b h.0 h.1.0
 
   move_range : (a b : Operand) → Ranges m.Move (a ∷ b ∷ [])
-  move_range a b h u =
-      register_case (λ a. Ranged m.Move (a ∷ b ∷ []))
-      (λ d x. register_case (λ b. Ranged m.Move (Register d ∷ b ∷ [])) (λ r y. (op.AluImm Addi d r (pos 0), refl, (x, y, omega arith))) b h.1.0)
-      a h.0
+  move_range a b h u = registers_case (λ a b. Ranged m.Move (a ∷ b ∷ [])) (λ d r x y. (op.AluImm Addi d r (pos 0), refl, (x, y, omega arith))) a b h.0 h.1.0
 
   -- ---- accesses
 
@@ -162,12 +157,12 @@ module _ (config : Config) (app : App) (f : Func) (scope : Scope) (labels : List
       (element_op a w s (number_of scope.symbols name) i k, refl, element_range a w s (number_of scope.symbols name) i k g r (is_symbol name u) h.1 h.2)
   place_range a w s o g r h u = absurd h
 
-  word_range : (a : Access) (s : ℕ) (p : Operand) → HasWidth a width.Word → IsRegister s → FitsWord p
+  place_or_frame : (a : Access) (s : ℕ) (p : Operand) → HasWidth a width.Word → IsRegister s → FitsWord p
       → any_unknown scope labels (m.Load width.Word) 0 (Register s ∷ p ∷ []) ≡ false → Accessed a width.Word (Register s ∷ p ∷ [])
-  word_range a s (Frame k) g r h u = (frame_op a s k, refl, frame_range a s k r h)
-  word_range a s (Direct name k) g r h u = place_range a width.Word s (Direct name k) g r h u
-  word_range a s (Indexed name i k) g r h u = place_range a width.Word s (Indexed name i k) g r h u
-  word_range a s o g r h u = absurd h
+  place_or_frame a s (Frame k) g r h u = (frame_op a s k, refl, frame_range a s k r h)
+  place_or_frame a s (Direct name k) g r h u = place_range a width.Word s (Direct name k) g r h u
+  place_or_frame a s (Indexed name i k) g r h u = place_range a width.Word s (Indexed name i k) g r h u
+  place_or_frame a s o g r h u = absurd h
 
   access_range : (a : Access) (w : Width) → HasWidth a w → (x p : Operand) → AllFit (m.Load w) 0 (x ∷ p ∷ [])
       → any_unknown scope labels (m.Load w) 0 (x ∷ p ∷ []) ≡ false → Accessed a w (x ∷ p ∷ [])
@@ -177,7 +172,7 @@ module _ (config : Config) (app : App) (f : Func) (scope : Scope) (labels : List
           → Accessed a w (Register s ∷ p ∷ [])
       by width.Byte s r g h = place_range a width.Byte s p g r h.0
       by width.Half s r g h = place_range a width.Half s p g r h.0
-      by width.Word s r g h = word_range a s p g r h.0
+      by width.Word s r g h = place_or_frame a s p g r h.0
       by width.ByteU s r g h = place_range a width.ByteU s p g r h.0
       by width.HalfU s r g h = place_range a width.HalfU s p g r h.0
 
@@ -185,62 +180,52 @@ module _ (config : Config) (app : App) (f : Func) (scope : Scope) (labels : List
 
   branch_range : (k : BranchKind) (a b c : Operand) → Ranges (m.Branch k) (a ∷ b ∷ c ∷ [])
   branch_range k a b c h =
-      register_case (λ a. any_unknown scope labels (m.Branch k) 0 (a ∷ b ∷ c ∷ []) ≡ false → Ranged (m.Branch k) (a ∷ b ∷ c ∷ []))
-      (λ d x. register_case (λ b. any_unknown scope labels (m.Branch k) 0 (Register d ∷ b ∷ c ∷ []) ≡ false → Ranged (m.Branch k) (Register d ∷ b ∷ c ∷ []))
-      (λ r y. name_case (λ c. any_unknown scope labels (m.Branch k) 0 (Register d ∷ Register r ∷ c ∷ []) ≡ false → Ranged (m.Branch k) (Register d ∷ Register r ∷ c ∷ []))
+      registers_case (λ a b. any_unknown scope labels (m.Branch k) 0 (a ∷ b ∷ c ∷ []) ≡ false → Ranged (m.Branch k) (a ∷ b ∷ c ∷ []))
+      (λ d r x y. name_case (λ c. any_unknown scope labels (m.Branch k) 0 (Register d ∷ Register r ∷ c ∷ []) ≡ false → Ranged (m.Branch k) (Register d ∷ Register r ∷ c ∷ []))
       (λ n w v. (op.Branch k d r (number_of labels n), refl, (x, y, known.label n (does_exist (is_named scope labels kind.Label n) false v)))) c h.1.1.0)
-      b h.1.0)
-      a h.0
+      a b h.0 h.1.0
+
+  -- a statement of one operand, the name of an object
+  name_range : (w : Mnemonic) → form_of w 0 ≡ form.Name → ((n : List ℕ) → is_named scope labels (kind_of w 0) n ≡ true → Ranged w (Name n ∷ [])) → (a : Operand) → Ranges w (a ∷ [])
+  name_range w form made a h u =
+      let n = names scope labels (kind_of w 0) a (subst (λ F. Fits F a) form h.0) (or_parts (is_lacking scope labels (kind_of w 0) (written_name a)) false u).0 in
+      subst (λ a. Ranged w (a ∷ [])) (sym n.1) (made n.0 n.2)
 
   jump_range : (a : Operand) → Ranges m.Jump (a ∷ [])
-  jump_range a h =
-      name_case (λ a. any_unknown scope labels m.Jump 0 (a ∷ []) ≡ false → Ranged m.Jump (a ∷ []))
-      (λ n w v. (op.Jump (number_of labels n), refl, known.label n (does_exist (is_named scope labels kind.Label n) false v))) a h.0
+  jump_range = name_range m.Jump refl (λ n e. (op.Jump (number_of labels n), refl, known.label n e))
 
   invoke_range : (a : Operand) → Ranges m.Invoke (a ∷ [])
-  invoke_range a h =
-      name_case (λ a. any_unknown scope labels m.Invoke 0 (a ∷ []) ≡ false → Ranged m.Invoke (a ∷ []))
-      (λ n w v. (op.Invoke (number_of scope.functions n), refl, known.function n (does_exist (is_named scope labels kind.Function n) false v))) a h.0
+  invoke_range = name_range m.Invoke refl (λ n e. (op.Invoke (number_of scope.functions n), refl, known.function n e))
 
   -- ---- services
 
   not_first : (j : ℕ) → 1 ≤ j → (if j == 0 then kind.Task else kind.Event) ≡ kind.Event
   not_first j h = ⊎_elim (λ t. absurd (let e = t.1 in omega (arith, e, h))) (λ t. rw t.0 refl) (eqb_tells j 0)
 
+  -- a service of one operand, the name of its object
+  object_range : (s : Service) → ((n : List ℕ) → is_named scope labels (service_kind s 0) n ≡ true → IsOp config app f (op.Serve (call_of config scope s (Name n ∷ []))))
+      → (os : List Operand) → (length os == 1) ≡ true → Ranges (m.Serve s) os
+  object_range s are os t = one_of (Ranges (m.Serve s)) (name_range (m.Serve s) refl (λ n e. (_, refl, are n e))) os (eqb-true (length os) 1 t)
+
+  -- a service of one operand or more, each the name of an event
+  events_range : (s : Service) → ((j : ℕ) → service_kind s j ≡ kind.Event)
+      → ((a : Operand) (os : List Operand) → IsMask config (mask_of config scope (a ∷ os)) → IsOp config app f (op.Serve (call_of config scope s (a ∷ os))))
+      → (os : List Operand) → nat_le 1 (length os) ≡ true → Ranges (m.Serve s) os
+  events_range s all are os t =
+      some_of (Ranges (m.Serve s))
+      (λ a os h u. (_, refl, are a os (is_mask config scope labels known.event a os (all_names scope labels kind.Event (m.Serve s) 0 (a ∷ os) (λ j l. (refl, all j)) h u))))
+      os (leb-true 1 (length os) t)
+
   serve_range : (s : Service) (os : List Operand) → is_operand_count (m.Serve s) (length os) ≡ true → Ranges (m.Serve s) os
   serve_range service.TerminateTask os t h u = (_, refl, (refl, refl))
   serve_range service.Schedule os t h u = (_, refl, (refl, refl))
   serve_range service.GetTaskID os t h u = (_, refl, (refl, refl))
-  serve_range service.ActivateTask os t h u =
-      one_of (Ranges (m.Serve service.ActivateTask))
-      (λ a h. name_case (λ a. any_unknown scope labels (m.Serve service.ActivateTask) 0 (a ∷ []) ≡ false → Ranged (m.Serve service.ActivateTask) (a ∷ []))
-      (λ n w v. (_, refl, (known.task n (does_exist (is_named scope labels kind.Task n) false v), refl))) a h.0)
-      os (eqb-true (length os) 1 t) h u
-  serve_range service.ChainTask os t h u =
-      one_of (Ranges (m.Serve service.ChainTask))
-      (λ a h. name_case (λ a. any_unknown scope labels (m.Serve service.ChainTask) 0 (a ∷ []) ≡ false → Ranged (m.Serve service.ChainTask) (a ∷ []))
-      (λ n w v. (_, refl, (known.task n (does_exist (is_named scope labels kind.Task n) false v), refl))) a h.0)
-      os (eqb-true (length os) 1 t) h u
-  serve_range service.GetTaskState os t h u =
-      one_of (Ranges (m.Serve service.GetTaskState))
-      (λ a h. name_case (λ a. any_unknown scope labels (m.Serve service.GetTaskState) 0 (a ∷ []) ≡ false → Ranged (m.Serve service.GetTaskState) (a ∷ []))
-      (λ n w v. (_, refl, (known.task n (does_exist (is_named scope labels kind.Task n) false v), refl))) a h.0)
-      os (eqb-true (length os) 1 t) h u
-  serve_range service.GetEvent os t h u =
-      one_of (Ranges (m.Serve service.GetEvent))
-      (λ a h. name_case (λ a. any_unknown scope labels (m.Serve service.GetEvent) 0 (a ∷ []) ≡ false → Ranged (m.Serve service.GetEvent) (a ∷ []))
-      (λ n w v. (_, refl, (known.task n (does_exist (is_named scope labels kind.Task n) false v), refl))) a h.0)
-      os (eqb-true (length os) 1 t) h u
-  serve_range service.GetResource os t h u =
-      one_of (Ranges (m.Serve service.GetResource))
-      (λ a h. name_case (λ a. any_unknown scope labels (m.Serve service.GetResource) 0 (a ∷ []) ≡ false → Ranged (m.Serve service.GetResource) (a ∷ []))
-      (λ n w v. (_, refl, (known.resource n (does_exist (is_named scope labels kind.Resource n) false v), refl))) a h.0)
-      os (eqb-true (length os) 1 t) h u
-  serve_range service.ReleaseResource os t h u =
-      one_of (Ranges (m.Serve service.ReleaseResource))
-      (λ a h. name_case (λ a. any_unknown scope labels (m.Serve service.ReleaseResource) 0 (a ∷ []) ≡ false → Ranged (m.Serve service.ReleaseResource) (a ∷ []))
-      (λ n w v. (_, refl, (known.resource n (does_exist (is_named scope labels kind.Resource n) false v), refl))) a h.0)
-      os (eqb-true (length os) 1 t) h u
+  serve_range service.ActivateTask os t h u = object_range service.ActivateTask (λ n e. (known.task n e, refl)) os t h u
+  serve_range service.ChainTask os t h u = object_range service.ChainTask (λ n e. (known.task n e, refl)) os t h u
+  serve_range service.GetTaskState os t h u = object_range service.GetTaskState (λ n e. (known.task n e, refl)) os t h u
+  serve_range service.GetEvent os t h u = object_range service.GetEvent (λ n e. (known.task n e, refl)) os t h u
+  serve_range service.GetResource os t h u = object_range service.GetResource (λ n e. (known.resource n e, refl)) os t h u
+  serve_range service.ReleaseResource os t h u = object_range service.ReleaseResource (λ n e. (known.resource n e, refl)) os t h u
   serve_range service.SetEvent os t h u =
       some_two_of (Ranges (m.Serve service.SetEvent))
       (λ a b os h. name_case (λ a. any_unknown scope labels (m.Serve service.SetEvent) 0 (a ∷ b ∷ os) ≡ false → Ranged (m.Serve service.SetEvent) (a ∷ b ∷ os))
@@ -256,34 +241,12 @@ module _ (config : Config) (app : App) (f : Func) (scope : Scope) (labels : List
       ))
       a h.0)
       os (leb-true 2 (length os) t) h u
-  serve_range service.ClearEvent os t h u =
-      some_of (Ranges (m.Serve service.ClearEvent))
-      (λ a os h u. (_, refl, (refl, is_mask config scope labels known.event a os (all_names scope labels kind.Event (m.Serve service.ClearEvent) 0 (a ∷ os) (λ j l. (refl, refl)) h u))))
-      os (leb-true 1 (length os) t) h u
-  serve_range service.WaitEvent os t h u =
-      some_of (Ranges (m.Serve service.WaitEvent))
-      (λ a os h u. (_, refl, (refl, is_mask config scope labels known.event a os (all_names scope labels kind.Event (m.Serve service.WaitEvent) 0 (a ∷ os) (λ j l. (refl, refl)) h u))))
-      os (leb-true 1 (length os) t) h u
-  serve_range service.SetRelAlarm os t h u =
-      one_of (Ranges (m.Serve service.SetRelAlarm))
-      (λ a h. name_case (λ a. any_unknown scope labels (m.Serve service.SetRelAlarm) 0 (a ∷ []) ≡ false → Ranged (m.Serve service.SetRelAlarm) (a ∷ []))
-      (λ n w v. (_, refl, (known.alarm n (does_exist (is_named scope labels kind.Alarm n) false v), refl))) a h.0)
-      os (eqb-true (length os) 1 t) h u
-  serve_range service.SetAbsAlarm os t h u =
-      one_of (Ranges (m.Serve service.SetAbsAlarm))
-      (λ a h. name_case (λ a. any_unknown scope labels (m.Serve service.SetAbsAlarm) 0 (a ∷ []) ≡ false → Ranged (m.Serve service.SetAbsAlarm) (a ∷ []))
-      (λ n w v. (_, refl, (known.alarm n (does_exist (is_named scope labels kind.Alarm n) false v), refl))) a h.0)
-      os (eqb-true (length os) 1 t) h u
-  serve_range service.CancelAlarm os t h u =
-      one_of (Ranges (m.Serve service.CancelAlarm))
-      (λ a h. name_case (λ a. any_unknown scope labels (m.Serve service.CancelAlarm) 0 (a ∷ []) ≡ false → Ranged (m.Serve service.CancelAlarm) (a ∷ []))
-      (λ n w v. (_, refl, (known.alarm n (does_exist (is_named scope labels kind.Alarm n) false v), refl))) a h.0)
-      os (eqb-true (length os) 1 t) h u
-  serve_range service.GetAlarm os t h u =
-      one_of (Ranges (m.Serve service.GetAlarm))
-      (λ a h. name_case (λ a. any_unknown scope labels (m.Serve service.GetAlarm) 0 (a ∷ []) ≡ false → Ranged (m.Serve service.GetAlarm) (a ∷ []))
-      (λ n w v. (_, refl, (known.alarm n (does_exist (is_named scope labels kind.Alarm n) false v), refl))) a h.0)
-      os (eqb-true (length os) 1 t) h u
+  serve_range service.ClearEvent os t h u = events_range service.ClearEvent (λ j. refl) (λ a os is. (refl, is)) os t h u
+  serve_range service.WaitEvent os t h u = events_range service.WaitEvent (λ j. refl) (λ a os is. (refl, is)) os t h u
+  serve_range service.SetRelAlarm os t h u = object_range service.SetRelAlarm (λ n e. (known.alarm n e, refl)) os t h u
+  serve_range service.SetAbsAlarm os t h u = object_range service.SetAbsAlarm (λ n e. (known.alarm n e, refl)) os t h u
+  serve_range service.CancelAlarm os t h u = object_range service.CancelAlarm (λ n e. (known.alarm n e, refl)) os t h u
+  serve_range service.GetAlarm os t h u = object_range service.GetAlarm (λ n e. (known.alarm n e, refl)) os t h u
 
   -- ---- all
 

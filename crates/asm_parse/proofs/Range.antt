@@ -33,7 +33,8 @@ use Rattle.asm_lines.specs.Faults.{source_lines, TextFault}
 use Rattle.asm_scopes.specs.declared.scope.Scope.{Scope}
 use Rattle.asm_scopes.specs.Said.{is_data, is_label, is_task, name_of, label_names, symbol_names}
 use Rattle.asm_scopes.specs.Bodies.{BodyText, bodies_of, body_name, is_task_body, is_called_body, function_names, called_names, task_body_names}
-use Rattle.asm_scopes.specs.Scopes.{scope_of, task_names, event_names, alarm_names, is_scheduler}
+use Rattle.sloth_base.specs.DeclaredNames.{task_names, event_names, alarm_names}
+use Rattle.asm_scopes.specs.Scopes.{scope_of, is_scheduler}
 use Rattle.asm_names.specs.NameFaults.{has_long, items_in, lacks_body, BodyFault, NameFault}
 use Rattle.asm_items.specs.Operations.{number_of as number_in, resource_number, mask_given, mask_at}
 use Rattle.asm_items.specs.Apps.{func_of, symbol_of, body_task, app_of, labels_from}

@@ -11,6 +11,7 @@ use Rattle.sloth_base.specs.ImageRange.{IsName, AreNames}
 use Rattle.sloth_base.specs.declared.app.Symbol.{Symbol}
 use Rattle.sloth_base.specs.declared.refusal.Code.TheVariants.{A5, A6}
 use Rattle.sloth_base.specs.declared.refusal.Part.TheVariants.{Src}
+use Rattle.sloth_base.specs.Limits.{symbol_limit, data_limit}
 use Rattle.least_fault.specs.Order.{NoFault}
 use Rattle.least_fault.specs.Search.{Somewhere}
 use Rattle.least_fault.proofs.Nowhere.{nowhere, case_false}
@@ -53,13 +54,13 @@ module _ (ls : List SourceLine) (read : All IsRead ls) (none : NoFault (Somewher
 
   -- the test of a `data` alone
   of_data : (i : ℕ) → i < length ls → is_data (at i) ≡ true
-      → ((count_by is_data (take i ls) == 256) || (nat_lt 32768 (sum_by bytes_of (take i ls) + number_of (at i)) || has_long (at i))) ≡ false
+      → ((count_by is_data (take i ls) == symbol_limit) || (nat_lt data_limit (sum_by bytes_of (take i ls) + number_of (at i)) || has_long (at i))) ≡ false
   of_data i h t =
-      ap (λ b. b && ((count_by is_data (take i ls) == 256) || (nat_lt 32768 (sum_by bytes_of (take i ls) + number_of (at i)) || has_long (at i)))) (sym t) ∙ not_much i h
+      ap (λ b. b && ((count_by is_data (take i ls) == symbol_limit) || (nat_lt data_limit (sum_by bytes_of (take i ls) + number_of (at i)) || has_long (at i)))) (sym t) ∙ not_much i h
 
   is_short : (i : ℕ) → i < length ls → is_data (at i) ≡ true → has_long (at i) ≡ false
   is_short i h t =
-      (or_parts (nat_lt 32768 (sum_by bytes_of (take i ls) + number_of (at i))) (has_long (at i)) (or_parts (count_by is_data (take i ls) == 256) _ (of_data i h t)).1).1
+      (or_parts (nat_lt data_limit (sum_by bytes_of (take i ls) + number_of (at i))) (has_long (at i)) (or_parts (count_by is_data (take i ls) == symbol_limit) _ (of_data i h t)).1).1
 
   each : All IsName (symbol_names ls)
   each = All-kept is_data name_of IsName ls (λ i d h. by i d h (read i d h))
@@ -81,26 +82,26 @@ module _ (ls : List SourceLine) (read : All IsRead ls) (none : NoFault (Somewher
 
   -- ---- limits
 
-  pub few_symbols : count_by is_data ls ≤ 256
-  few_symbols = let w = within (λ l. cond (is_data l) 1 0) 0 256 ls Empty (λ i h few. by i h few (is_data (at i)) refl) (omega arith) in omega (arith, w)
+  pub few_symbols : count_by is_data ls ≤ symbol_limit
+  few_symbols = let w = within (λ l. cond (is_data l) 1 0) 0 symbol_limit ls Empty (λ i h few. by i h few (is_data (at i)) refl) (omega arith) in omega (arith, w)
     where
-      by : (i : ℕ) → i < length ls → 0 + count_by is_data (take i ls) ≤ 256 → (b : Bool) → is_data (at i) ≡ b → 0 + count_by is_data (take i ls) + cond (is_data (at i)) 1 0 ≤ 256
+      by : (i : ℕ) → i < length ls → 0 + count_by is_data (take i ls) ≤ symbol_limit → (b : Bool) → is_data (at i) ≡ b → 0 + count_by is_data (take i ls) + cond (is_data (at i)) 1 0 ≤ symbol_limit
       by i h few true t =
-          let n = eqb-false (count_by is_data (take i ls)) 256 (or_parts (count_by is_data (take i ls) == 256) _ (of_data i h t)).0 in
-          rw t (⊎_elim (λ l. omega (arith, l)) (λ l. absurd (n (omega (arith, l, few)))) (cases_lt (count_by is_data (take i ls)) 256))
+          let n = eqb-false (count_by is_data (take i ls)) symbol_limit (or_parts (count_by is_data (take i ls) == symbol_limit) _ (of_data i h t)).0 in
+          rw t (⊎_elim (λ l. omega (arith, l)) (λ l. absurd (n (omega (arith, l, few)))) (cases_lt (count_by is_data (take i ls)) symbol_limit))
       by i h few false t = rw t (omega (arith, few))
 
-  few_bytes_said : sum_by bytes_of ls ≤ 32768
-  few_bytes_said = let w = within bytes_of 0 32768 ls Empty (λ i h few. by i h few (is_data (at i)) refl) (omega arith) in omega (arith, w)
+  few_bytes_said : sum_by bytes_of ls ≤ data_limit
+  few_bytes_said = let w = within bytes_of 0 data_limit ls Empty (λ i h few. by i h few (is_data (at i)) refl) (omega arith) in omega (arith, w)
     where
-      by : (i : ℕ) → i < length ls → 0 + sum_by bytes_of (take i ls) ≤ 32768 → (b : Bool) → is_data (at i) ≡ b → 0 + sum_by bytes_of (take i ls) + bytes_of (at i) ≤ 32768
+      by : (i : ℕ) → i < length ls → 0 + sum_by bytes_of (take i ls) ≤ data_limit → (b : Bool) → is_data (at i) ≡ b → 0 + sum_by bytes_of (take i ls) + bytes_of (at i) ≤ data_limit
       by i h few true t =
-          let n = ltb-false 32768 (sum_by bytes_of (take i ls) + number_of (at i))
-          (or_parts (nat_lt 32768 (sum_by bytes_of (take i ls) + number_of (at i))) (has_long (at i)) (or_parts (count_by is_data (take i ls) == 256) _ (of_data i h t)).1).0 in
+          let n = ltb-false data_limit (sum_by bytes_of (take i ls) + number_of (at i))
+          (or_parts (nat_lt data_limit (sum_by bytes_of (take i ls) + number_of (at i))) (has_long (at i)) (or_parts (count_by is_data (take i ls) == symbol_limit) _ (of_data i h t)).1).0 in
           rw t (omega (arith, n))
       by i h few false t = rw t (omega (arith, few))
 
-  pub few_bytes : sum (map (λ (y : Symbol). length y.bytes) (map symbol_of (filter is_data ls))) ≤ 32768
+  pub few_bytes : sum (map (λ (y : Symbol). length y.bytes) (map symbol_of (filter is_data ls))) ≤ data_limit
   few_bytes =
       let s = sum-map (λ (y : Symbol). length y.bytes) (map symbol_of (filter is_data ls)) in
       let k = sum_kept symbol_of (λ (y : Symbol). length y.bytes) bytes_of is_data ls (λ i d h. long_as_said (get_or ls i d) (read i d h)) in

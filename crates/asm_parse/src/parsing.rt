@@ -6,7 +6,6 @@ ghost use Rattle.sloth_base.specs.declared.app.App.{App};
 ghost use Rattle.least_fault.specs.Order.{ErrorIs, NoFault, IsLeast};
 ghost use Rattle.asm_scopes.specs.Bodies.{bodies_of};
 ghost use Rattle.asm_names.specs.NameFaults.{NameFault};
-ghost use Rattle.asm_scopes.specs.Scopes.{scope_of};
 ghost use Rattle.code_rules.specs.AppRange.{AppInRange};
 ghost use Rattle.asm_items.specs.Apps.{app_of};
 ghost use Rattle.asm_parse.specs.AppTexts.{AppText, SourceTextFault};
@@ -14,36 +13,12 @@ ghost use Rattle.asm_parse.specs.AppTexts.{AppText, SourceTextFault};
 use asm_items::app_of;
 use asm_lines::{SourceLine, read};
 use asm_names::judge;
-use asm_scopes::{Body, Scope, bodies_of, scope_of};
+use asm_scopes::{Body, bodies_of};
 use sloth_base::app::App;
 use sloth_base::config::Config;
 use sloth_base::memory::NoMemory;
 use sloth_base::refusal::{BuildError, Refusal};
 use std::alloc::Global;
-
-// The task code of lines with these bodies, which may use these names, or the least fault of names and limits.
-fn app_in_scope(
-    alloc: Global,
-    config: &Config,
-    lines: &[SourceLine],
-    bodies: &[Body],
-    scope: &Scope,
-) -> Result<Result<App, Refusal>, NoMemory>
-    requires few { length lines.now < 2 ^ 32 }
-    requires config { InRange config.now }
-    requires bodies { bodies.now ≡ bodies_of lines.now }
-    requires scope { scope.now ≡ scope_of config.now lines.now bodies.now }
-    ensures app { IfOk result (λ found. IfOk found (λ app. app ≡ app_of config.now lines.now)) }
-    ensures none { IfOk result (λ found. OnOk found (NoFault (NameFault config.now lines.now))) }
-    ensures refused { IfOk result (λ found. IfErr found (IsLeast (NameFault config.now lines.now))) }
-{
-    let refusal = judge(alloc, config, lines, bodies, scope)?;
-    if let Some(refusal) = refusal {
-        return Ok(Err(refusal));
-    }
-    let app = app_of(alloc, config, lines, bodies, scope)?;
-    Ok(Ok(app))
-}
 
 // The task code of lines with these bodies, or the least fault of names and limits.
 fn app_of_bodies(
@@ -59,8 +34,12 @@ fn app_of_bodies(
     ensures none { IfOk result (λ found. OnOk found (NoFault (NameFault config.now lines.now))) }
     ensures refused { IfOk result (λ found. IfErr found (IsLeast (NameFault config.now lines.now))) }
 {
-    let scope = scope_of(alloc, config, lines, bodies)?;
-    app_in_scope(alloc, config, lines, bodies, &scope)
+    let refusal = judge(alloc, config, lines, bodies)?;
+    if let Some(refusal) = refusal {
+        return Ok(Err(refusal));
+    }
+    let app = app_of(alloc, config, lines, bodies)?;
+    Ok(Ok(app))
 }
 
 // The task code of lines, or the least fault of names and limits.

@@ -1,11 +1,9 @@
 -- What a name may stand for where it is used.
-use Rattle.std.specs.Prelude.{ℕ, ◌+◌, ◌==◌, Bool, true, false, ◌&&◌, ◌||◌, not, if◌then◌else◌, List, [], ◌∷◌, map, codes, Option, Some, None}
+use Rattle.std.specs.Prelude.{ℕ, ◌+◌, ◌==◌, Bool, true, false, ◌&&◌, ◌||◌, not, if◌then◌else◌, List, [], ◌∷◌, codes, Option, Some, None}
 use Rattle.std.specs.List.{list_any}
 use Rattle.std.specs.Str.{bytes_eq}
 use Rattle.sloth_base.specs.declared.config.Config.{Config}
-use Rattle.sloth_base.specs.declared.config.TaskDecl.{TaskDecl}
-use Rattle.sloth_base.specs.declared.config.EventDecl.{EventDecl}
-use Rattle.sloth_base.specs.declared.config.AlarmDecl.{AlarmDecl}
+use Rattle.sloth_base.specs.DeclaredNames.{task_names, event_names, alarm_names}
 use Rattle.sloth_base.specs.ServiceCodes.{object_kind, has_mask}
 use Rattle.sloth_base.specs.declared.service.ObjectKind.{ObjectKind}
 use Rattle.sloth_base.specs.declared.service.ObjectKind.TheVariants as object
@@ -20,18 +18,6 @@ use Rattle.asm_scopes.specs.declared.scope.Kind.TheVariants as kind
 use Rattle.asm_scopes.specs.declared.scope.Scope.{Scope}
 use Rattle.asm_scopes.specs.Said.{written_name, symbol_names}
 use Rattle.asm_scopes.specs.Bodies.{BodyText, function_names, called_names}
-
--- the names of the tasks, in the order of their numbers
-abbrev pub task_names : Config → List (List ℕ)
-task_names config = map (λ (t : TaskDecl). t.name) config.tasks
-
--- the names of the events, in the order of their numbers
-abbrev pub event_names : Config → List (List ℕ)
-event_names config = map (λ (e : EventDecl). e.name) config.events
-
--- the names of the alarms, in the order of their numbers
-abbrev pub alarm_names : Config → List (List ℕ)
-alarm_names config = map (λ (a : AlarmDecl). a.name) config.alarms
 
 -- the names that a source with these lines and bodies may use
 abbrev pub scope_of : Config → List SourceLine → List BodyText → Scope

@@ -7,6 +7,7 @@ use Rattle.sloth_base.specs.declared.config.TaskDecl.{TaskDecl}
 use Rattle.sloth_base.specs.declared.app.App.{App}
 use Rattle.sloth_base.specs.declared.app.Func.{Func}
 use Rattle.sloth_base.specs.Named.{body_of, declaration}
+use Rattle.sloth_base.specs.Limits.{size_limit, count_limit}
 use Rattle.code_rules.specs.WellFormed.{WellFormed}
 use Rattle.osek_scheduler.specs.Priority.{greatest, highest_priority}
 use Rattle.osek_valid.specs.Apart.{static_priority}
@@ -20,7 +21,6 @@ use Rattle.raised_sections.specs.Sections.{size_of_section, IsLower, IsSectionFo
 use Rattle.bound_rules.specs.declared.bound.Bound.{Bound}
 use Rattle.bound_rules.specs.declared.bound.Bound.TheVariants as bound
 use Rattle.bound_rules.specs.declared.sizes.Summary.{Summary}
-use Rattle.section_sizes.specs.Trails.{MOST}
 use Rattle.section_sizes.specs.Parts.{called_level, CountsWithin}
 use Rattle.bound_rules.specs.Summaries.{summary_of}
 use Rattle.section_sizes.specs.Known.{IsExact, IsEndless, IsSummary, AreSummaries}
@@ -120,7 +120,7 @@ module _ (config : Config) (app : App) (w : Facts config app) (h : ℕ) (there :
     abbrev M : ℕ
     M = greatest_sections config.tasks app.funcs whole own P
 
-    none_above : (positions : List Position) → IsSectionFor config app h positions → min MOST (size_of_section app positions) ≤ M
+    none_above : (positions : List Position) → IsSectionFor config app h positions → min size_limit (size_of_section app positions) ≤ M
     none_above [] s = omega arith
     none_above (at ∷ further) s =
         let le = (exact s.task s.lower).most.none_larger (size_of_section app (at ∷ further)) (section_part config app h s.task w s.lower.0 at further s.is_section) in
@@ -128,25 +128,25 @@ module _ (config : Config) (app : App) (w : Facts config app) (h : ℕ) (there :
         let is = ap (λ b. cond b (S s.task).most 0) (is_low s.task s.lower) in
         omega (arith, le, more, is)
 
-    some_section : 0 < M → (positions : List Position) × IsSectionFor config app h positions × (min MOST (size_of_section app positions) ≡ M)
+    some_section : 0 < M → (positions : List Position) × IsSectionFor config app h positions × (min size_limit (size_of_section app positions) ≡ M)
     some_section pos = by (max_below-some (length config.tasks) (greatest_section config.tasks app.funcs whole own P))
       where
         at : (t : ℕ) → t < length config.tasks → 0 < greatest_section config.tasks app.funcs whole own P t
-            → (positions : List Position) × IsSectionFor config app h positions × (min MOST (size_of_section app positions) ≡ greatest_section config.tasks app.funcs whole own P t)
+            → (positions : List Position) × IsSectionFor config app h positions × (min size_limit (size_of_section app positions) ≡ greatest_section config.tasks app.funcs whole own P t)
         at t lt some = lower (is_below config.tasks P t) refl some
           where
             lower : (b : Bool) → is_below config.tasks P t ≡ b → 0 < cond b (S t).most 0
-                → (positions : List Position) × IsSectionFor config app h positions × (min MOST (size_of_section app positions) ≡ cond (is_below config.tasks P t) (S t).most 0)
+                → (positions : List Position) × IsSectionFor config app h positions × (min size_limit (size_of_section app positions) ≡ cond (is_below config.tasks P t) (S t).most 0)
             lower false e some = absurd (omega (arith, some))
             lower true e some =
                 let low = below_is t lt e in
                 let a = (exact t low).most.attained some in
                 let s = section t a.0 low a.1 in
-                (s.0, s.1, ap (min MOST) s.2 ∙ a.2 ∙ sym (ap (λ b. cond b (S t).most 0) e))
+                (s.0, s.1, ap (min size_limit) s.2 ∙ a.2 ∙ sym (ap (λ b. cond b (S t).most 0) e))
 
         by : (max_below (length config.tasks) (greatest_section config.tasks app.funcs whole own P) ≡ 0)
             ⊎ ((t : ℕ) × (t < length config.tasks) × (greatest_section config.tasks app.funcs whole own P t ≡ M))
-            → (positions : List Position) × IsSectionFor config app h positions × (min MOST (size_of_section app positions) ≡ M)
+            → (positions : List Position) × IsSectionFor config app h positions × (min size_limit (size_of_section app positions) ≡ M)
         by (inl none) = absurd (omega (arith, none, pos))
         by (inr one) = let e = one.2 in let s = at one.0 one.1 (omega (arith, e, pos)) in (s.0, s.1, s.2 ∙ e)
 
@@ -154,7 +154,7 @@ module _ (config : Config) (app : App) (w : Facts config app) (h : ℕ) (there :
     empty : (t : ℕ) → IsLower config h t → IsSectionFor config app h []
     empty t low = record { task = t; lower = low; is_section = record { before = []; of_walk = tt; raised = tt; unbroken = tt } }
 
-    items : (t : ℕ) → IsLower config h t → M < 1000000 → IsBound config app h (M + 1)
+    items : (t : ℕ) → IsLower config h t → M < count_limit → IsBound config app h (M + 1)
     items t low lt = subst (IsBound config app h) (let e : suc M ≡ M + 1 = omega arith in e) (above M (greatest_size (cases_eq M 0)))
       where
         none_larger : NoneIsLarger config app h M
@@ -197,7 +197,7 @@ module _ (config : Config) (app : App) (w : Facts config app) (h : ℕ) (there :
     none_beyond most f [] s = omega arith
     none_beyond most f (p ∷ further) s = f s.task (size_of_section app (p ∷ further)) s.lower.0 s.lower (section_part config app h s.task w s.lower.0 p further s.is_section)
 
-    huge : 1000000 ≤ M → ExceedsBound config app h greatest_told_bound
+    huge : count_limit ≤ M → ExceedsBound config app h greatest_told_bound
     huge le =
         let s = some_section (omega (arith, le)) in
         let e = s.2 in
@@ -206,11 +206,11 @@ module _ (config : Config) (app : App) (w : Facts config app) (h : ℕ) (there :
 
     -- what is told where some task is lower
     pub told_is : (t : ℕ) → IsLower config h t → IsTold config app h (told M)
-    told_is t low = by (ltb M 1000000) refl
+    told_is t low = by (ltb M count_limit) refl
       where
-        by : (b : Bool) → ltb M 1000000 ≡ b → IsTold config app h (cond b (bound.Items (M + 1)) bound.Huge)
-        by true e = let lt = ltb-true M 1000000 e in (items t low lt, omega (arith, lt))
-        by false e = huge (ltb-false M 1000000 e)
+        by : (b : Bool) → ltb M count_limit ≡ b → IsTold config app h (cond b (bound.Items (M + 1)) bound.Huge)
+        by true e = let lt = ltb-true M count_limit e in (items t low lt, omega (arith, lt))
+        by false e = huge (ltb-false M count_limit e)
 
 -- what is told where none is
 pub told_none : (config : Config) (app : App) (h : ℕ) → any_below (length config.tasks) (is_below config.tasks (static_priority config h)) ≡ false → IsTold config app h (bound.Items 0)

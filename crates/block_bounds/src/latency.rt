@@ -6,13 +6,8 @@ ghost use Rattle.run_bounds.specs.Latency.{latency};
 ghost use Rattle.block_bounds.specs.Highest.{IsHighestAmong};
 
 use sloth_base::config::{Config, TaskDecl};
+use sloth_base::limits::{ITEM_COUNTS, UNSEEN_COUNTS};
 use trace_time::stretches::longest_stretch;
-
-/// The most counts of an item: 40 of its own, and 160 of the generated code behind it.
-const ITEM_COUNTS: u32 = 200;
-
-/// The most counts of an item that show no event.
-const UNSEEN_COUNTS: u64 = 40;
 
 /// A task of highest priority, if there is a task.
 pub fn highest_among(tasks: &[TaskDecl]) -> Option<usize>
@@ -39,5 +34,5 @@ pub fn latency_of(config: &Config, items: u32) -> u64
 {
     let longest = u64::from(longest_stretch(config));
     let of_items = u64::from(ITEM_COUNTS) * u64::from(items);
-    longest + of_items + (UNSEEN_COUNTS + longest)
+    longest + of_items + (u64::from(UNSEEN_COUNTS) + longest)
 }

@@ -5,8 +5,9 @@ use Rattle.std.proofs.lemmas.Bool.{cases_Bool}
 use Rattle.sloth_base.specs.Machine.{Core, State}
 use Rattle.sloth_base.specs.Arithmetic.{one_if}
 use Rattle.sloth_base.specs.Arrive.{arrive}
-use Rattle.sloth_base.specs.MemoryMap.{memory_base}
-use Rattle.sloth_region.specs.Layout.{active, controller_base}
+use Rattle.sloth_base.specs.MemoryMap.{memory_base, controller_base, line_count}
+use Rattle.sloth_base.specs.Limits.{task_limit}
+use Rattle.sloth_region.specs.Layout.{active}
 use Rattle.rv32_instr.specs.declared.InstrKind.{InstrKind}
 use Rattle.rv32_instr.specs.Ram.{word_at}
 use Rattle.masked_code.proofs.Owes.{◌▸◌, writes, loads, loads_byte, AreOfLine, Owes, Pending, Enabled}
@@ -51,7 +52,7 @@ abbrev pub Finds : ℕ → Core → ℕ → Type 0
 Finds task core v = (LooksSuspended task core × (v ≡ 1)) ⊎ ((LooksSuspended task core → ⊥) × (v ≡ 0))
 
 -- what is owed of the look, which finds v in x1 behind arrivals of the task's line
-module _ (offset to task : ℕ) (E : List ℕ → State → State → Type 0) (rest : List InstrKind) (c : Core) (is_task : task < 30) (lines_32 : length c.pending ≡ 32)
+module _ (offset to task : ℕ) (E : List ℕ → State → State → Type 0) (rest : List InstrKind) (c : Core) (is_task : task < task_limit) (lines_32 : length c.pending ≡ line_count)
     (active_bit : word_at c.ram (active task) < 2) (pending_bit : get_or c.pending task 0 < 2) (enabled_bit : get_or c.enabled task 0 < 2) where
   abbrev x2 : ℕ
   x2 = get_or c.registers 2 0

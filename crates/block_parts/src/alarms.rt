@@ -1,5 +1,6 @@
 //! A piece of the services on alarms. x4 holds the base of memory, a0 and a1 the operands.
 ghost use Rattle.std.specs.Prelude.{◌≡◌, ◌<◌, ◌++◌, OnOk};
+ghost use Rattle.sloth_base.specs.Limits.{counter_limit};
 ghost use Rattle.block_parts.specs.Alarms.{finding_code};
 
 use masked_code::emit::{emit, past};
@@ -10,7 +11,7 @@ use std::alloc::AllocError;
 
 /// a0 := the ticks to the value in a0. x1 holds the greatest value.
 pub fn find_ticks(code: &mut Vec<Instr>, counter: u8) -> Result<(), AllocError>
-    requires { counter < 2 }
+    requires { counter < counter_limit }
     ensures { OnOk result (code.new.items ≡ code.old.items ++ finding_code counter) }
 {
     let found = [

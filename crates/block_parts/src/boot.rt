@@ -1,5 +1,7 @@
 //! Pieces with which an image begins: the raise of an autostarted line, the level of the counters, the word of the idle loop, a vector word.
 ghost use Rattle.std.specs.Prelude.{◌≡◌, ◌<◌, ◌+◌, ◌%◌, ◌^◌, ◌++◌, OnOk};
+ghost use Rattle.sloth_base.specs.Limits.{level_count};
+ghost use Rattle.sloth_base.specs.MemoryMap.{line_count};
 ghost use Rattle.rv32_instr.specs.Range.{InRange};
 ghost use Rattle.block_parts.specs.Boot.{line_code, idle_code, IsJump};
 
@@ -12,7 +14,7 @@ use std::alloc::AllocError;
 
 /// The line is raised where its task is autostarted. x3 holds the controller's address, x4 holds 1.
 pub fn raise_autostarted(code: &mut Vec<Instr>, line: u8, autostart: bool) -> Result<(), AllocError>
-    requires { line < 32 }
+    requires { line < line_count }
     ensures { OnOk result (code.new.items ≡ code.old.items ++ line_code line autostart) }
 {
     if autostart {
@@ -23,7 +25,7 @@ pub fn raise_autostarted(code: &mut Vec<Instr>, line: u8, autostart: bool) -> Re
 
 /// The level of the counters' lines: above that of the highest task.
 pub fn counter_level(levels: &Levels) -> u8
-    requires { levels.now.top < 32 }
+    requires { levels.now.top < level_count }
     ensures { result ≡ levels.now.top + 1 }
 {
     levels.top + 1

@@ -1,5 +1,6 @@
 //! Pieces of the services on events. x3 and x4 hold the addresses of the controller and of memory, x30 the mask.
 ghost use Rattle.std.specs.Prelude.{◌≡◌, ◌<◌, ◌++◌, OnOk};
+ghost use Rattle.sloth_base.specs.Limits.{task_limit};
 ghost use Rattle.block_parts.specs.Events.{refusal_code, events_telling_code, own_clearing_code, awaited_mask_test, keeping_code};
 
 use crate::pieces::OWN_EVENTS;
@@ -35,7 +36,7 @@ pub fn refuse(code: &mut Vec<Instr>, passed: u32) -> Result<(), AllocError>
 
 /// a1 := the task's events, with the status E_OK; where x1 is 1, the task is Suspended, and the status is E_OS_STATE.
 pub fn tell_events(code: &mut Vec<Instr>, task: u8) -> Result<(), AllocError>
-    requires { task < 30 }
+    requires { task < task_limit }
     ensures { OnOk result (code.new.items ≡ code.old.items ++ (refusal_code 2 ++ events_telling_code task)) }
 {
     refuse(code, TELL)?;
@@ -59,7 +60,7 @@ pub fn clear_own(code: &mut Vec<Instr>) -> Result<(), AllocError>
 
 /// The status E_OK, and on behind what wakes the task where it waits for none of the events in x1.
 pub fn ask_awaited(code: &mut Vec<Instr>, task: u8) -> Result<(), AllocError>
-    requires { task < 30 }
+    requires { task < task_limit }
     ensures { OnOk result (code.new.items ≡ code.old.items ++ awaited_mask_test task) }
 {
     let asked = [

@@ -1,5 +1,6 @@
 //! Pieces of code that several services have. x3 and x4 hold the addresses of the controller and of memory.
 ghost use Rattle.std.specs.Prelude.{◌≡◌, ◌<◌, ◌++◌, OnOk};
+ghost use Rattle.sloth_base.specs.Limits.{task_limit};
 ghost use Rattle.block_parts.specs.Pieces.{opening_code, ending_code, looking_code, raising_code, level_back_code, back_code, ok_level_back_code};
 
 use masked_code::emit::{X5, emit};
@@ -54,7 +55,7 @@ pub fn end(code: &mut Vec<Instr>) -> Result<(), AllocError>
 
 /// x1 := 1 where the task is Suspended, else 0. Uses a0.
 pub fn look_at(code: &mut Vec<Instr>, task: u8) -> Result<(), AllocError>
-    requires { task < 30 }
+    requires { task < task_limit }
     ensures { OnOk result (code.new.items ≡ code.old.items ++ looking_code task) }
 {
     let looked_at = [
@@ -69,7 +70,7 @@ pub fn look_at(code: &mut Vec<Instr>, task: u8) -> Result<(), AllocError>
 
 /// The task's pending byte becomes 1.
 pub fn raise(code: &mut Vec<Instr>, task: u8) -> Result<(), AllocError>
-    requires { task < 30 }
+    requires { task < task_limit }
     ensures { OnOk result (code.new.items ≡ code.old.items ++ raising_code task) }
 {
     emit(code, &[addi(X1, ZERO, 1), sb(X1, X3, pending_byte(task))])

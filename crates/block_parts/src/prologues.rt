@@ -1,5 +1,6 @@
 //! Pieces of prologues, and the level of an entry. x4 holds the base of memory.
 ghost use Rattle.std.specs.Prelude.{ℕ, ◌≡◌, ◌<◌, ◌++◌, OnOk, if◌then◌else◌, slice_index};
+ghost use Rattle.sloth_base.specs.Limits.{task_limit, level_count};
 ghost use Rattle.block_parts.specs.Prologues.{preempted_test, own_taking_code};
 
 use masked_code::emit::{emit, past};
@@ -17,10 +18,10 @@ const REGISTERS: u32 = 27;
 
 /// The level at which a task starts to run: one that isn't preempted starts at the highest.
 pub fn start_level(decl: &TaskDecl, task: TaskId, levels: &Levels) -> u8
-    requires exists { task < 30 }
-    requires levels { (levels.now.top < 32) × ((t : ℕ) → slice_index levels.now.task t < 32) }
+    requires exists { task < task_limit }
+    requires levels { (levels.now.top < level_count) × ((t : ℕ) → slice_index levels.now.task t < level_count) }
     ensures is { result ≡ (if decl.now.non then levels.now.top else slice_index levels.now.task task) }
-    ensures low { result < 32 }
+    ensures low { result < level_count }
 {
     if decl.non {
         levels.top
@@ -43,7 +44,7 @@ pub fn ask_preempted(code: &mut Vec<Instr>) -> Result<(), AllocError>
 
 /// No context is kept for the task any more; mepc and x2 are those of its context at x1.
 pub fn take_own(code: &mut Vec<Instr>, task: u32) -> Result<(), AllocError>
-    requires { task < 30 }
+    requires { task < task_limit }
     ensures { OnOk result (code.new.items ≡ code.old.items ++ own_taking_code task) }
 {
     let taken = [

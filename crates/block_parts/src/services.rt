@@ -1,5 +1,7 @@
 //! Pieces of the services on tasks and resources. x3 and x4 hold the addresses of the controller and of memory.
 ghost use Rattle.std.specs.Prelude.{◌≡◌, ◌<◌, ◌≤◌, ◌++◌, OnOk};
+ghost use Rattle.sloth_base.specs.Limits.{task_limit};
+ghost use Rattle.sloth_base.specs.ConfigRange.{scheduler_number};
 ghost use Rattle.block_parts.specs.Services.{own_task_code, taking_code, resting_telling_code, releasing_code, level_code};
 
 use crate::pieces::{BACK, LOOK, go_on};
@@ -23,7 +25,7 @@ const OWN_LEVEL: i32 = 63;
 
 /// ChainTask goes on behind the refusal where the task is the caller.
 pub fn ask(code: &mut Vec<Instr>, task: u8) -> Result<(), AllocError>
-    requires { task < 30 }
+    requires { task < task_limit }
     ensures { OnOk result (code.new.items ≡ code.old.items ++ own_task_code task) }
 {
     let asked = [
@@ -36,7 +38,7 @@ pub fn ask(code: &mut Vec<Instr>, task: u8) -> Result<(), AllocError>
 
 /// The ceiling is the level for `mret`, and the one that runs, which plevel held, is saved; where that is greater, it stays.
 pub fn take(code: &mut Vec<Instr>, resource: u8, ceiling: u8) -> Result<(), AllocError>
-    requires { resource ≤ 32 }
+    requires { resource ≤ scheduler_number }
     ensures { OnOk result (code.new.items ≡ code.old.items ++ taking_code resource ceiling) }
 {
     let taken = [
@@ -51,7 +53,7 @@ pub fn take(code: &mut Vec<Instr>, resource: u8, ceiling: u8) -> Result<(), Allo
 
 /// To the level that was saved for the resource, with the status E_OK.
 pub fn release(code: &mut Vec<Instr>, resource: u8) -> Result<(), AllocError>
-    requires { resource ≤ 32 }
+    requires { resource ≤ scheduler_number }
     ensures { OnOk result (code.new.items ≡ code.old.items ++ releasing_code resource) }
 {
     emit(code, &[lw(X1, X4, saved(resource))])?;
@@ -60,7 +62,7 @@ pub fn release(code: &mut Vec<Instr>, resource: u8) -> Result<(), AllocError>
 
 /// a1 := 3 where the task is Suspended, and 2 where it is Ready, whose pending byte is 1.
 pub fn tell_resting(code: &mut Vec<Instr>, task: u8) -> Result<(), AllocError>
-    requires { task < 30 }
+    requires { task < task_limit }
     ensures { OnOk result (code.new.items ≡ code.old.items ++ resting_telling_code task) }
 {
     let told = [lbu(X1, X3, pending_byte(task)), xori(A1, X1, SUSPENDED)];

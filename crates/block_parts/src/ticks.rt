@@ -1,5 +1,6 @@
 //! Pieces of a tick. x4 holds the base of memory, and bit T of x3 says whether task T is not Suspended.
 ghost use Rattle.std.specs.Prelude.{◌≡◌, ◌<◌, ◌^◌, ◌++◌, [], OnOk, cond};
+ghost use Rattle.sloth_base.specs.Limits.{task_limit, alarm_limit};
 ghost use Rattle.block_parts.specs.Ticks.{greatest_test, look_code, suspension_test, awaited_events_test, restarting_code};
 
 use masked_code::emit::{emit, past};
@@ -37,7 +38,7 @@ pub fn ask_greatest(code: &mut Vec<Instr>, max: u32) -> Result<(), AllocError>
 
 /// The task's bit becomes 1 where the task isn't Suspended, unless a later alarm looks at it.
 pub fn look_unless_later(code: &mut Vec<Instr>, task: u8, later: bool) -> Result<(), AllocError>
-    requires { task < 30 }
+    requires { task < task_limit }
     ensures { OnOk result (code.new.items ≡ code.old.items ++ cond later [] (look_code task)) }
 {
     if later {
@@ -48,7 +49,7 @@ pub fn look_unless_later(code: &mut Vec<Instr>, task: u8, later: bool) -> Result
 
 /// The task's bit becomes 1 where the task isn't Suspended.
 fn look(code: &mut Vec<Instr>, task: u8) -> Result<(), AllocError>
-    requires { task < 30 }
+    requires { task < task_limit }
     ensures { OnOk result (code.new.items ≡ code.old.items ++ look_code task) }
 {
     let looked = [
@@ -68,7 +69,7 @@ fn look(code: &mut Vec<Instr>, task: u8) -> Result<(), AllocError>
 
 /// On behind the alarm where the task is Suspended.
 pub fn ask_busy(code: &mut Vec<Instr>, task: u8) -> Result<(), AllocError>
-    requires { task < 30 }
+    requires { task < task_limit }
     ensures { OnOk result (code.new.items ≡ code.old.items ++ suspension_test task) }
 {
     let asked = [
@@ -81,7 +82,7 @@ pub fn ask_busy(code: &mut Vec<Instr>, task: u8) -> Result<(), AllocError>
 
 /// On behind what wakes the task where it waits for none of the events in x1.
 pub fn ask_awaited(code: &mut Vec<Instr>, task: u8) -> Result<(), AllocError>
-    requires { task < 30 }
+    requires { task < task_limit }
     ensures { OnOk result (code.new.items ≡ code.old.items ++ awaited_events_test task) }
 {
     let asked = [
@@ -94,7 +95,7 @@ pub fn ask_awaited(code: &mut Vec<Instr>, task: u8) -> Result<(), AllocError>
 
 /// The alarm starts again with its cycle.
 pub fn start_again(code: &mut Vec<Instr>, alarm: u8) -> Result<(), AllocError>
-    requires { alarm < 32 }
+    requires { alarm < alarm_limit }
     ensures { OnOk result (code.new.items ≡ code.old.items ++ restarting_code alarm) }
 {
     let started = [

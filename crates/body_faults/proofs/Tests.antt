@@ -1,8 +1,8 @@
 -- The tests decide the rules.
 use Rattle.std.proofs.Common.{◌≡◌, ℕ, suc, ◌+◌, ◌%◌, ◌<◌, ◌≤◌, ◌⊎◌, inl, inr, Bool, true, false, ◌||◌, ◌&&◌, not, List, [], ◌∷◌, length, get_or, Option, Some, None, refl, sym, ap, subst, arith}
-use Rattle.std.specs.Prelude.{◌==◌, ◌≢◌, nat_lt, nat_le, is_some, is_none, bit_and}
+use Rattle.std.specs.Prelude.{◌==◌, ◌≢◌, nat_lt, nat_le, is_some, is_none}
 use Rattle.std.specs.Bool.{Decides}
-use Rattle.std.proofs.lemmas.Bool.{true≢false, false≢true, leb-true, le-leb, ne_eqb, and_parts, and_from}
+use Rattle.std.proofs.lemmas.Bool.{true≢false, false≢true, leb-true, le-leb, ne_eqb}
 use Rattle.std.proofs.lemmas.Bool.Decides.{Decides-and, Decides-or, Decides-not, Decides-ltb, Decides-like, Decides-eqb}
 use Rattle.sloth_base.specs.declared.config.Config.{Config}
 use Rattle.sloth_base.specs.declared.app.App.{App}
@@ -12,34 +12,36 @@ use Rattle.sloth_base.specs.declared.app.Op.TheVariants as op
 use Rattle.sloth_base.specs.declared.service.Service.{Service}
 use Rattle.sloth_base.specs.declared.service.Service.TheVariants as service
 use Rattle.sloth_base.specs.Arithmetic.{size_of}
-use Rattle.sloth_base.specs.Named.{declaration, item_of, label_of, symbol_size}
+use Rattle.sloth_base.specs.Named.{item_of, label_of, symbol_size}
+use Rattle.sloth_base.specs.ConfigRange.{scheduler_number}
+use Rattle.sloth_base.specs.Limits.{mask_limit}
 use Rattle.code_rules.specs.AppRange.{AppInRange, IsOp}
-use Rattle.code_rules.specs.Code.{is_followed, way, Ends, Pauses, TaskReaches, is_in, is_last}
-use Rattle.code_rules.specs.WellFormed.{AccessesPast, IsUneven, MasksPast, RunsOut, ReleasesOther, TakesHeld, LeavesHolding, LeavesWrongly, Lists, HasEvents, IsUnlisted, IsLacked, Misuses, UsesUndeclared}
+use Rattle.code_rules.specs.Code.{is_followed, way, Ends, Pauses, is_in, is_last}
+use Rattle.code_rules.specs.WellFormed.{AccessesPast, IsUneven, MasksPast, RunsOut, ReleasesOther, TakesHeld, LeavesHolding, LeavesWrongly}
 use Rattle.call_graph.specs.declared.ranking.Ranks.{Ranks}
 use Rattle.call_graph.specs.Bits.{is_member}
 use Rattle.call_graph.specs.Ranks.{RanksOf}
-use Rattle.call_graph.specs.Reached.{any_below}
 use Rattle.call_graph.specs.Rows.{is_get, is_pausing}
-use Rattle.call_graph.proofs.Itself.{number_found, number_counts, get_is, pausing_is, is_pausing_of}
-use Rattle.body_faults.specs.Tests.{accesses_past, is_uneven, masks_past, leads_out, runs_out, is_ending, is_release, holds_any, releases_other, takes_held, leaves_holding, leaves_wrongly, is_unlisted, lacks, is_lacked, is_misuse, uses_undeclared, OperandsOf}
+use Rattle.call_graph.proofs.Itself.{get_is, pausing_is, is_pausing_of}
+use Rattle.body_faults.specs.Tests.{accesses_past, is_uneven, masks_past, leads_out, runs_out, is_ending, is_release, holds_any, releases_other, takes_held, leaves_holding, leaves_wrongly}
+use Rattle.body_faults.specs.Uses.{OperandsOf}
 use Rattle.body_faults.specs.Ways.{LeadsToLabels}
 use Rattle.body_faults.proofs.Lists.{number_among, among_number}
 
-none : Decides false ⊥
+pub none : Decides false ⊥
 none = (λ e. absurd (false≢true e), λ x. absurd x)
 
-itself : (b : Bool) → Decides b (b ≡ true)
+pub itself : (b : Bool) → Decides b (b ≡ true)
 itself b = (λ e. e, λ e. e)
 
-is_false : (b : Bool) → Decides (not b) (b ≡ false)
+pub is_false : (b : Bool) → Decides (not b) (b ≡ false)
 is_false true = (λ e. absurd (false≢true e), λ e. absurd (true≢false e))
 is_false false = (λ e. refl, λ e. refl)
 
 leb_decides : (a b : ℕ) → Decides (nat_le a b) (a ≤ b)
 leb_decides a b = (leb-true a b, le-leb a b)
 
-differs_decides : (a b : ℕ) → Decides (not (a == b)) (a ≢ b)
+pub differs_decides : (a b : ℕ) → Decides (not (a == b)) (a ≢ b)
 differs_decides a b = Decides-not (a == b) (Decides-eqb a b)
 
 -- ---- accesses
@@ -58,8 +60,8 @@ Decides-is_uneven (op.LoadAt w rd y index mask) = differs_decides (mask % size_o
 Decides-is_uneven (op.StoreAt w rs y index mask) = differs_decides (mask % size_of w) 0
 Decides-is_uneven _ = none
 
-mask_decides : (app : App) (mask y w : ℕ) → Decides (nat_lt 32767 mask || nat_lt (symbol_size app y) (mask + w)) ((32767 < mask) ⊎ (symbol_size app y < mask + w))
-mask_decides app mask y w = Decides-or (nat_lt 32767 mask) (nat_lt (symbol_size app y) (mask + w)) (Decides-ltb 32767 mask) (Decides-ltb (symbol_size app y) (mask + w))
+mask_decides : (app : App) (mask y w : ℕ) → Decides (nat_lt mask_limit mask || nat_lt (symbol_size app y) (mask + w)) ((mask_limit < mask) ⊎ (symbol_size app y < mask + w))
+mask_decides app mask y w = Decides-or (nat_lt mask_limit mask) (nat_lt (symbol_size app y) (mask + w)) (Decides-ltb mask_limit mask) (Decides-ltb (symbol_size app y) (mask + w))
 
 pub Decides-masks_past : (app : App) (o : Op) → Decides (masks_past app o) (MasksPast app o)
 Decides-masks_past app (op.LoadAt w rd y index mask) = mask_decides app mask y (size_of w)
@@ -164,50 +166,6 @@ module _ (config : Config) (app : App) (ranks : Ranks) (in_range : AppInRange co
   Decides-leaves_holding f held (op.Invoke g) is =
       Decides-and (get_or ranks.pauses g false) (holds_any held) (belong.pauses g is.0) (Decides-holds_any held)
   Decides-leaves_holding f held _ is = none
-
--- ---- tasks
-
-module _ (config : Config) (app : App) (in_range : AppInRange config app) where
-  -- where some task that reaches the function fails a test
-  some_user : (f users : ℕ) (test : ℕ → Bool) (P : ℕ → Type 0) → ((t : ℕ) → Decides (is_member users t) (TaskReaches app t f)) → ((t : ℕ) → Decides (test t) (P t))
-      → Decides (any_below (length config.tasks) (λ t. is_member users t && test t)) ((t : ℕ) × TaskReaches app t f × P t)
-  some_user f users test P reach decides = (
-    λ e.
-        let x = number_found (λ t. is_member users t && test t) (length config.tasks) e in
-        let parts = and_parts (is_member users x.0) (test x.0) x.2 in
-        (x.0, (reach x.0).0 parts.0, (decides x.0).0 parts.1),
-    λ x.
-        number_counts (λ t. is_member users t && test t) (length config.tasks) x.0 (in_range.tasks.declared x.0 x.1.0 x.1.1)
-        (and_from (is_member users x.0) (test x.0) ((reach x.0).1 x.1) ((decides x.0).1 x.2)),
-  )
-
-  Decides-lacks : (t mask : ℕ) → Decides (lacks config t mask) (¬ (HasEvents (declaration config t) mask))
-  Decides-lacks t mask = differs_decides (bit_and mask (declaration config t).events) mask
-
-  Decides-is_unlisted : (f users r : ℕ) → ((t : ℕ) → Decides (is_member users t) (TaskReaches app t f)) → Decides (not (r == 32) && is_unlisted config users r) (IsUnlisted config app f r)
-  Decides-is_unlisted f users r reach =
-      Decides-and (not (r == 32)) (is_unlisted config users r) (differs_decides r 32)
-      (some_user f users (λ t. not (is_in r (declaration config t).resources)) (λ t. ¬ (Lists (declaration config t) r)) reach
-      (λ t. Decides-not (is_in r (declaration config t).resources) (itself (is_in r (declaration config t).resources))))
-
-  Decides-is_lacked : (f users mask : ℕ) → ((t : ℕ) → Decides (is_member users t) (TaskReaches app t f)) → Decides (is_lacked config users mask) (IsLacked config app f mask)
-  Decides-is_lacked f users mask reach =
-      some_user f users (λ t. lacks config t mask) (λ t. ¬ (HasEvents (declaration config t) mask)) reach (λ t. Decides-lacks t mask)
-
-  Decides-misuses : (f users : ℕ) (s : Service) (object mask : ℕ) → ((t : ℕ) → Decides (is_member users t) (TaskReaches app t f))
-      → Decides (is_misuse config users s object mask) (Misuses config app f s object mask)
-  Decides-misuses f users service.GetResource r mask reach = Decides-is_unlisted f users r reach
-  Decides-misuses f users service.ReleaseResource r mask reach = Decides-is_unlisted f users r reach
-  Decides-misuses f users service.ClearEvent object mask reach = Decides-is_lacked f users mask reach
-  Decides-misuses f users service.WaitEvent object mask reach = Decides-is_lacked f users mask reach
-  Decides-misuses f users service.SetEvent t mask reach = Decides-lacks t mask
-  Decides-misuses f users service.GetEvent t mask reach = is_false (declaration config t).extended
-  Decides-misuses f users _ object mask reach = none
-
-  pub Decides-uses_undeclared : (f users : ℕ) (o : Op) → ((t : ℕ) → Decides (is_member users t) (TaskReaches app t f))
-      → Decides (uses_undeclared config users o) (UsesUndeclared config app f o)
-  Decides-uses_undeclared f users (op.Serve call) reach = Decides-misuses f users call.service call.object call.mask reach
-  Decides-uses_undeclared f users _ reach = none
 
 -- ---- what is in range
 

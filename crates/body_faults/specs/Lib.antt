@@ -1,4 +1,5 @@
 pub mod Tests
+pub mod Uses
 pub mod Labels
 pub mod Ways
 pub mod Cases

@@ -1,7 +1,6 @@
 -- The rules on one operation as tests.
-use Rattle.std.specs.Prelude.{ℕ, ◌+◌, ◌%◌, ◌==◌, ◌||◌, ◌&&◌, not, nat_lt, nat_le, Bool, true, false, List, length, Option, Some, None, is_some, is_none, get_or, bit_and}
+use Rattle.std.specs.Prelude.{ℕ, ◌+◌, ◌%◌, ◌==◌, ◌||◌, ◌&&◌, not, nat_lt, nat_le, Bool, true, false, List, length, Option, Some, None, is_some, is_none, get_or}
 use Rattle.std.specs.List.{list_any}
-use Rattle.sloth_base.specs.declared.config.Config.{Config}
 use Rattle.sloth_base.specs.declared.app.App.{App}
 use Rattle.sloth_base.specs.declared.app.Func.{Func}
 use Rattle.sloth_base.specs.declared.app.Op.{Op}
@@ -9,14 +8,12 @@ use Rattle.sloth_base.specs.declared.app.Op.TheVariants as op
 use Rattle.sloth_base.specs.declared.service.Service.{Service}
 use Rattle.sloth_base.specs.declared.service.Service.TheVariants as service
 use Rattle.sloth_base.specs.Arithmetic.{size_of}
-use Rattle.sloth_base.specs.Named.{declaration, item_of, label_of, symbol_size}
-use Rattle.sloth_base.specs.ConfigRange.{scheduler_number}
-use Rattle.code_rules.specs.AppRange.{AreOperands}
+use Rattle.sloth_base.specs.Named.{item_of, label_of, symbol_size}
+use Rattle.sloth_base.specs.Limits.{mask_limit}
 use Rattle.code_rules.specs.Code.{is_followed, way, is_in, is_last}
 use Rattle.call_graph.specs.declared.ranking.Ranks.{Ranks}
 use Rattle.call_graph.specs.Bits.{is_member}
 use Rattle.call_graph.specs.Rows.{is_get, is_pausing}
-use Rattle.call_graph.specs.Reached.{any_below}
 
 -- V2
 abbrev pub accesses_past : App → Func → Op → Bool
@@ -36,8 +33,8 @@ is_uneven _ = false
 
 -- V4
 abbrev pub masks_past : App → Op → Bool
-masks_past app (op.LoadAt w rd y index mask) = nat_lt 32767 mask || nat_lt (symbol_size app y) (mask + size_of w)
-masks_past app (op.StoreAt w rs y index mask) = nat_lt 32767 mask || nat_lt (symbol_size app y) (mask + size_of w)
+masks_past app (op.LoadAt w rd y index mask) = nat_lt mask_limit mask || nat_lt (symbol_size app y) (mask + size_of w)
+masks_past app (op.StoreAt w rs y index mask) = nat_lt mask_limit mask || nat_lt (symbol_size app y) (mask + size_of w)
 masks_past app _ = false
 
 -- the label of this number stands behind the last item
@@ -87,35 +84,3 @@ abbrev pub leaves_wrongly : Func → Op → Bool
 leaves_wrongly f (op.Serve call) = is_ending call.service && is_none f.task
 leaves_wrongly f op.Return = is_some f.task
 leaves_wrongly f _ = false
-
--- one of these tasks does not list the resource; lacks one of the events
-abbrev pub is_unlisted : Config → (users r : ℕ) → Bool
-is_unlisted config users r = any_below (length config.tasks) (λ t. is_member users t && not (is_in r (declaration config t).resources))
-
--- task t lacks one of these events
-abbrev pub lacks : Config → (t mask : ℕ) → Bool
-lacks config t mask = not (bit_and mask (declaration config t).events == mask)
-
--- one of these tasks lacks one of these events
-abbrev pub is_lacked : Config → (users mask : ℕ) → Bool
-is_lacked config users mask = any_below (length config.tasks) (λ t. is_member users t && lacks config t mask)
-
--- a service uses what one of these tasks does not declare
-abbrev pub is_misuse : Config → ℕ → Service → (object mask : ℕ) → Bool
-is_misuse config users service.GetResource r mask = not (r == scheduler_number) && is_unlisted config users r
-is_misuse config users service.ReleaseResource r mask = not (r == scheduler_number) && is_unlisted config users r
-is_misuse config users service.ClearEvent object mask = is_lacked config users mask
-is_misuse config users service.WaitEvent object mask = is_lacked config users mask
-is_misuse config users service.SetEvent t mask = lacks config t mask
-is_misuse config users service.GetEvent t mask = not (declaration config t).extended
-is_misuse config users _ object mask = false
-
--- V12, where these tasks reach the item
-abbrev pub uses_undeclared : Config → (users : ℕ) → Op → Bool
-uses_undeclared config users (op.Serve call) = is_misuse config users call.service call.object call.mask
-uses_undeclared config users _ = false
-
--- the operands of a service are in range
-abbrev pub OperandsOf : Config → Op → Type 0
-OperandsOf config (op.Serve call) = AreOperands config call.service call.object call.mask
-OperandsOf config _ = Unit {0}

@@ -5,10 +5,8 @@ ghost use Rattle.sloth_base.specs.Arithmetic.{size_of};
 ghost use Rattle.body_faults.specs.Tests.{accesses_past, is_uneven, masks_past};
 
 use sloth_base::app::{App, Func, Op, Width};
+use sloth_base::limits::MASK_LIMIT;
 use sloth_base::numbers::SymId;
-
-/// The greatest mask.
-const MASK_LIMIT: u32 = 32767;
 
 fn size(width: Width) -> usize
     ensures { result ≡ size_of width }

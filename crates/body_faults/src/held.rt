@@ -1,14 +1,16 @@
 //! V7 to V10: what is held at an item.
-ghost use Rattle.std.specs.Prelude.{◌≡◌, ◌==◌, ◌||◌, get_or, false, Decides, IfOk};
+ghost use Rattle.std.specs.Prelude.{◌≡◌, ◌==◌, ◌<◌, ◌||◌, ℕ, Some, get_or, length, false, Decides, IfOk};
 ghost use Rattle.std.specs.List.{list_any};
 ghost use Rattle.code_rules.specs.Code.{is_in, is_last, held_behind, held_after};
 ghost use Rattle.code_rules.specs.WellFormed.{HoldsOther};
 ghost use Rattle.call_graph.specs.Bits.{is_member};
 ghost use Rattle.call_graph.specs.Rows.{is_get, is_pausing};
+ghost use Rattle.body_faults.specs.Labels.{list_of};
 ghost use Rattle.body_faults.specs.Tests.{is_ending, is_release, holds_any, releases_other, takes_held, leaves_holding};
 ghost use Rattle.body_faults.specs.Ways.{LeadsToLabels};
 
-use crate::tasks::{contains, is_ending};
+use crate::endings::is_ending;
+use crate::tasks::contains;
 use crate::ways::way;
 use call_graph::ranking::Ranks;
 use sloth_base::app::{Call, Func, Op};
@@ -188,4 +190,20 @@ pub fn held_by(alloc: Global, holds: &[ResId]) -> Result<Vec<u32>, NoMemory>
         held.push(resource.0).map_err(|_| NoMemory)?;
     }
     Ok(held)
+}
+
+/// What is held behind the last label of a place.
+pub fn held_at_label(
+    alloc: Global,
+    func: &Func,
+    last: Option<usize>,
+    held: Vec<u32>,
+) -> Result<Vec<u32>, NoMemory>
+    requires { (k : ℕ) → last ≡ Some k → k < length func.now.labels }
+    ensures { IfOk result (λ next. next.items ≡ list_of func.now.labels last held.items) }
+{
+    match last {
+        Some(label) => held_by(alloc, func.labels.items()[label].holds.items()),
+        None => Ok(held),
+    }
 }

@@ -7,8 +7,9 @@ ghost use Rattle.body_faults.specs.Ways.{IsMarked, IsReachedItem};
 ghost use Rattle.body_faults.specs.Cases.{AccessFault, FlowFault, PathFault, ItemFaults, AreOps, AreUsers};
 
 use crate::accesses::{accesses_past, is_uneven, masks_past};
+use crate::endings::leaves_wrongly;
 use crate::reachable::reached;
-use crate::tasks::{leaves_wrongly, uses_undeclared};
+use crate::tasks::uses_undeclared;
 use crate::ways::runs_out;
 use least_fault::{merge, when};
 use sloth_base::app::{App, Func};

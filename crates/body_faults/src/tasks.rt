@@ -1,10 +1,10 @@
-//! V11 and V12: what the tasks that reach an item may do there.
+//! V12: what the tasks that reach an item may use there.
 ghost use Rattle.std.specs.Prelude.{◌≡◌, ◌==◌, ◌<◌, ◌||◌, ◌&&◌, not, length};
 ghost use Rattle.std.specs.List.{list_any};
 ghost use Rattle.code_rules.specs.AppRange.{AreOperands};
 ghost use Rattle.code_rules.specs.Code.{is_in};
 ghost use Rattle.call_graph.specs.Bits.{is_member};
-ghost use Rattle.body_faults.specs.Tests.{is_ending, leaves_wrongly, is_unlisted, lacks, is_lacked, is_misuse, OperandsOf, uses_undeclared};
+ghost use Rattle.body_faults.specs.Uses.{is_unlisted, lacks, is_lacked, is_misuse, OperandsOf, uses_undeclared};
 
 use call_graph::word_bits::has;
 use sloth_base::app::{Call, Func, Op};
@@ -20,24 +20,6 @@ pub fn contains(set: u64, member: usize) -> bool
     ensures { result ≡ is_member set member }
 {
     member < SET_SIZE && has(set, member)
-}
-
-/// A service that ends the caller.
-pub fn is_ending(service: Service) -> bool
-    ensures { result ≡ is_ending service }
-{
-    matches!(service, Service::TerminateTask | Service::ChainTask)
-}
-
-/// V11: an end of the task in the body of a function, a `ret` in that of a task.
-pub fn leaves_wrongly(func: &Func, op: Op) -> bool
-    ensures { result ≡ leaves_wrongly func.now op }
-{
-    match op {
-        Op::Serve(call) => is_ending(call.service) && func.task.is_none(),
-        Op::Return => func.task.is_some(),
-        _ => false,
-    }
 }
 
 fn is_listed(resources: &[ResId], resource: u32) -> bool

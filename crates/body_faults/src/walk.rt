@@ -1,15 +1,15 @@
 //! V7 to V10: a walk over the items of a body with the list of held resources.
-ghost use Rattle.std.specs.Prelude.{◌≡◌, ◌≢◌, ℕ, ◌<◌, ◌≤◌, true, Some, length, Decides, IfOk};
+ghost use Rattle.std.specs.Prelude.{◌≡◌, ◌≢◌, ◌<◌, ◌≤◌, true, length, Decides, IfOk};
 ghost use Rattle.least_fault.specs.Search.{Finds};
 ghost use Rattle.code_rules.specs.AppRange.{AppInRange, IsOp};
 ghost use Rattle.sloth_base.specs.Named.{item_of, label_of};
 ghost use Rattle.code_rules.specs.Code.{held_list_fallen_into, is_fallen_into};
 ghost use Rattle.call_graph.specs.Ranks.{RanksOf};
-ghost use Rattle.body_faults.specs.Labels.{first_label_below, list_of, ArePlaced, AreTables};
+ghost use Rattle.body_faults.specs.Labels.{first_label_below, ArePlaced, AreTables};
 ghost use Rattle.body_faults.specs.Cases.{FallsOther, FallFault, HeldFault, PlacesFault, AreOps};
 
 use crate::held::{
-    held_after, held_by, holds_other, is_held, leaves_holding, releases_other, takes_held,
+    held_after, held_at_label, holds_other, is_held, leaves_holding, releases_other, takes_held,
 };
 use crate::labels::{first_labels, last_labels};
 use crate::ways::falls;
@@ -106,22 +106,6 @@ fn held_fault(
     merge(other, merge(releases, merge(takes, leaves)))
 }
 
-/// What is held behind the last label of a place.
-fn at_label(
-    alloc: Global,
-    func: &Func,
-    last: Option<usize>,
-    held: Vec<u32>,
-) -> Result<Vec<u32>, NoMemory>
-    requires { (k : ℕ) → last ≡ Some k → k < length func.now.labels }
-    ensures { IfOk result (λ next. next.items ≡ list_of func.now.labels last held.items) }
-{
-    match last {
-        Some(label) => held_by(alloc, func.labels.items()[label].holds.items()),
-        None => Ok(held),
-    }
-}
-
 fn walk(
     alloc: Global,
     config: &Config,
@@ -141,7 +125,7 @@ fn walk(
     let mut held = Vec::new(alloc);
     for number in 0..func.items.items().len() {
         let falling = fall_fault(func, number, first[number], &held);
-        let entered = at_label(alloc, func, last[number], held)?;
+        let entered = held_at_label(alloc, func, last[number], held)?;
         let here = held_fault(config, app, ranks, func, number, &entered);
         least = merge(least, merge(falling, here));
         let item = &func.items.items()[number];

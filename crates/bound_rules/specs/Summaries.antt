@@ -1,5 +1,6 @@
 -- The summaries of functions.
 use Rattle.std.specs.Prelude.{ℕ, ◌≤◌, false, List, get_or}
+use Rattle.sloth_base.specs.Limits.{size_limit}
 use Rattle.bound_rules.specs.declared.sizes.Summary.{Summary}
 
 -- a function of which nothing is known
@@ -12,10 +13,10 @@ summary_of table g = get_or table g unknown
 
 -- no size is above the greatest that is counted
 pub record IsCountedUp (s : Summary) : Type 0 where
-  pub on : s.on ≤ 1000001
-  pub back : s.back ≤ 1000001
-  pub most : s.most ≤ 1000001
-  pub out : s.out ≤ 1000001
+  pub on : s.on ≤ size_limit
+  pub back : s.back ≤ size_limit
+  pub most : s.most ≤ size_limit
+  pub out : s.out ≤ size_limit
 
 -- the same of each summary of a table
 abbrev pub AreCountedUp : List Summary → Type 0

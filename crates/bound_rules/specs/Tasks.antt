@@ -3,6 +3,7 @@ use Rattle.std.specs.Prelude.{ℕ, ◌+◌, ltb, cond, List, get_or}
 use Rattle.sloth_base.specs.declared.config.TaskDecl.{TaskDecl}
 use Rattle.sloth_base.specs.declared.app.Func.{Func}
 use Rattle.sloth_base.specs.Named.{undeclared_task, body_of}
+use Rattle.sloth_base.specs.Limits.{count_limit}
 use Rattle.bound_rules.specs.declared.bound.Bound.{Bound}
 use Rattle.bound_rules.specs.declared.bound.Bound.TheVariants as bound
 use Rattle.bound_rules.specs.declared.sizes.Summary.{Summary}
@@ -19,4 +20,4 @@ task_summary tasks funcs whole own t =
 
 -- what is told of a greatest size, counted up to a little more than is told
 abbrev pub told : ℕ → Bound
-told most = cond (ltb most 1000000) (bound.Items (most + 1)) bound.Huge
+told most = cond (ltb most count_limit) (bound.Items (most + 1)) bound.Huge

@@ -6,6 +6,7 @@ ghost use Rattle.bound_rules.specs.Tasks.{task_summary, told};
 use crate::sizes::Summary;
 use sloth_base::app::Func;
 use sloth_base::config::TaskDecl;
+use sloth_base::limits::COUNT_LIMIT;
 use stack_bounds::task_bodies::body_of;
 
 /// How much work of lower tasks may stand between a task's becoming Ready and its entry.
@@ -18,9 +19,6 @@ pub enum Bound {
     /// Without limit.
     Endless,
 }
-
-/// The least size of sections that is told as huge, with the one item of a service that was running.
-const HUGE: u32 = 1_000_000;
 
 /// The summary of a task's body: a task that is not preemptable counts as always raised.
 pub fn task_summary(
@@ -48,7 +46,7 @@ pub fn task_summary(
 pub fn told(most: u32) -> Bound
     ensures { result ≡ told most }
 {
-    if most < HUGE {
+    if most < COUNT_LIMIT {
         Bound::Items(most + 1)
     } else {
         Bound::Huge

@@ -5,6 +5,7 @@ use Rattle.sloth_base.specs.declared.config.TaskDecl.{TaskDecl}
 use Rattle.sloth_base.specs.declared.app.App.{App}
 use Rattle.sloth_base.specs.declared.refusal.BuildError.{BuildError}
 use Rattle.sloth_base.specs.Named.{undeclared_task}
+use Rattle.sloth_base.specs.Limits.{count_limit, item_counts}
 use Rattle.least_fault.specs.Order.{NoFault, ErrorIs}
 use Rattle.code_rules.specs.WellFormed.{RuleFault}
 use Rattle.call_graph.specs.declared.ranking.Ranks.{Ranks}
@@ -32,7 +33,7 @@ RulesErrorIs config app error = ErrorIs (RuleFault config app) error
 
 -- a bound in items is small enough to be told
 abbrev pub IsTellable : Bound → Type 0
-IsTellable (bound.Items n) = n ≤ 1000000
+IsTellable (bound.Items n) = n ≤ count_limit
 IsTellable bound.Huge = Unit {0}
 IsTellable bound.Endless = Unit {0}
 
@@ -42,7 +43,7 @@ AreTellable bounds = (t : ℕ) → t < length bounds → IsTellable (get_or boun
 
 -- a bound in items and in counts, 200 of each item
 abbrev pub bound_text : Bound → List ℕ
-bound_text (bound.Items n) = ((codes " " ++ decimal n) ++ codes " ") ++ decimal (200 * n)
+bound_text (bound.Items n) = ((codes " " ++ decimal n) ++ codes " ") ++ decimal (item_counts * n)
 bound_text bound.Huge = codes " huge"
 bound_text bound.Endless = codes " endless"
 

@@ -8,11 +8,12 @@ use Rattle.sloth_base.specs.declared.event.Stamped.{Stamped}
 use Rattle.sloth_base.specs.declared.image.Image.{Image}
 use Rattle.sloth_base.specs.Events.{is_boot}
 use Rattle.sloth_base.specs.Stretches.{longest_stretch}
+use Rattle.sloth_base.specs.Limits.{item_counts}
 use Rattle.osek_scheduler.specs.State.{System, opening}
 use Rattle.osek_scheduler.specs.InTime.{is_admit}
 use Rattle.osek_scheduler.specs.Runs.{Leads}
 use Rattle.osek_blocking.specs.Blocking.{events_up_to_entry, MakesReady}
-use Rattle.raised_sections.specs.Pace.{item_counts, last_count}
+use Rattle.raised_sections.specs.Pace.{last_count}
 use Rattle.raised_sections.specs.Spent.{spent_counts}
 use Rattle.sim_induction.specs.Sound.{IsSoundRun, events_of}
 use Rattle.run_bounds.specs.Latency.{latency, tick_counts, EntersBefore}

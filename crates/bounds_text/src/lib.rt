@@ -1,4 +1,10 @@
-//! The lines of the command `bounds`, from the texts of a configuration and its task source.
+//! The lines of the command `bounds`, without and with `latency`, from the texts of a configuration and its task source.
+//!
+//! The lines of the bounds of accepted texts, and with `latency` the line of the task of highest priority, or their first refusal (`bounds_text`,
+//! `latency::latency_lines`). In every sound run of an image of the task code each task of which a number is told waits for at most so many items and
+//! 200 counts for each, and from an arrival behind boot the task of the last line is entered within its latency and the counts of the ticks on the
+//! way. Texts have one list of lines of each kind at most (`one_text`, `one_latency_text`). Definitions: `specs/BoundsText`, the last line
+//! `specs/Latency`, what the numbers promise of runs `specs/KeptRuns`. Bounds: `block_bounds` (`Bounds`, `Kept`); latency: `run_bounds` (`Latency`).
 #![tactic(auto)]
 
 ghost use Rattle.std.specs.Prelude.{◌≡◌, ◌<◌, length, IfOk, IfErr};
@@ -15,15 +21,13 @@ use call_graph::ranking::Ranks;
 use itoa::Buffer;
 use sloth_base::app::App;
 use sloth_base::config::{Config, TaskDecl};
+use sloth_base::limits::ITEM_COUNTS;
 use sloth_base::memory::NoMemory;
 use sloth_base::refusal::BuildError;
 use sloth_source::{Ranked, read_ranked};
 use std::alloc::Global;
 use task_verify::verified::Verified;
 use task_verify::verify;
-
-/// The most counts of an item: 40 of its own, and 160 of the generated code behind it.
-const ITEM_COUNTS: u32 = 200;
 
 // A bound in items and in counts.
 fn bound_text(alloc: Global, bound: Bound) -> Result<Vec<u8>, NoMemory>

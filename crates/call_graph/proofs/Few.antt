@@ -5,6 +5,7 @@ use Rattle.sloth_base.specs.declared.app.Op.{Op}
 use Rattle.sloth_base.specs.declared.app.Op.TheVariants as op
 use Rattle.sloth_base.specs.declared.config.Config.{Config}
 use Rattle.sloth_base.specs.Named.{function, no_function, no_item}
+use Rattle.sloth_base.specs.Limits.{ceiling_count}
 use Rattle.code_rules.specs.AppRange.{AppInRange, IsTaskCode, IsOp, IsResource}
 use Rattle.code_rules.specs.Code.{IsItem}
 use Rattle.call_graph.specs.Reached.{AreFew}
@@ -13,7 +14,7 @@ use Rattle.call_graph.proofs.Itself.{Decides-calls, takes_are}
 op_in_range : (config : Config) (app : App) → AppInRange config app → (f i : ℕ) (o : Op) → IsItem app f i o → IsOp config app (function app f) o
 op_in_range config app in_range f i o is = subst (IsOp config app (function app f)) is.is ((in_range.bodies f no_function is.known).items i no_item is.inside)
 
-few_resources : (config : Config) (r : ℕ) → length config.resources < 33 → IsResource config r → r < 64
+few_resources : (config : Config) (r : ℕ) → length config.resources < ceiling_count → IsResource config r → r < 64
 few_resources config r l (inl h) = omega (arith, l, h)
 few_resources config r l (inr h) = let e = h.0 in omega (arith, e)
 

@@ -4,6 +4,7 @@ use Rattle.std.specs.List.{list_any}
 use Rattle.sloth_base.specs.declared.app.Func.{Func}
 use Rattle.sloth_base.specs.Named.{no_function}
 use Rattle.sloth_base.specs.Options.{is_number}
+use Rattle.sloth_base.specs.Limits.{body_limit}
 use Rattle.call_graph.specs.Bits.{is_member}
 use Rattle.call_graph.specs.Rows.{is_call, is_taking, is_pause}
 
@@ -44,7 +45,7 @@ IsOfFew f = (t : ℕ) → f.task ≡ Some t → t < 32
 
 -- the numbers of functions, resources and tasks fit their sets
 pub record AreFew (funcs : List Func) : Type 0 where
-  pub count : length funcs ≤ 64
+  pub count : length funcs ≤ body_limit
   pub calls : (f : ℕ) → f < length funcs → CallsFew (func_of funcs f)
   pub resources : (f : ℕ) → f < length funcs → TakesFew (func_of funcs f)
   pub tasks : (f : ℕ) → f < length funcs → IsOfFew (func_of funcs f)

@@ -6,6 +6,7 @@ use Rattle.sloth_base.specs.declared.app.Op.{Op}
 use Rattle.sloth_base.specs.declared.app.Op.TheVariants as op
 use Rattle.sloth_base.specs.declared.config.TaskDecl.{TaskDecl}
 use Rattle.sloth_base.specs.Named.{no_function, no_item, undeclared_task, body_of}
+use Rattle.sloth_base.specs.Limits.{task_limit, body_limit, frame_limit}
 
 -- the sum of a size over the numbers below n
 abbrev pub sum_below : ℕ → (ℕ → ℕ) → ℕ
@@ -53,8 +54,8 @@ IsKnown funcs _ = Unit {0}
 
 -- few functions, with small frames, that call functions which are there
 pub record AreCallable (funcs : List Func) : Type 0 where
-  pub few : length funcs ≤ 64
-  pub frames : (f : ℕ) → f < length funcs → (func_of funcs f).frame_words ≤ 32
+  pub few : length funcs ≤ body_limit
+  pub frames : (f : ℕ) → f < length funcs → (func_of funcs f).frame_words ≤ frame_limit
   pub callees : (f i : ℕ) → f < length funcs → i < length (func_of funcs f).items → IsKnown funcs (get_or (func_of funcs f).items i no_item).op
 
 -- as many entries as functions, none above that of 64 calls
@@ -107,7 +108,7 @@ pub record AreOffsets (tasks : List TaskDecl) (yielding : List Bool) (bytes offs
 
 -- an entry for each of a few tasks, with bytes that have room in 32 bits together
 pub record AreStacks (tasks : List TaskDecl) (yielding : List Bool) (bytes : List ℕ) : Type 0 where
-  pub few : length tasks ≤ 30
+  pub few : length tasks ≤ task_limit
   pub yielding_count : length yielding ≡ length tasks
   pub bytes_count : length bytes ≡ length tasks
   pub small : (t : ℕ) → get_or bytes t 0 ≤ 8704

@@ -3,9 +3,7 @@ ghost use Rattle.std.specs.Prelude.{◌≡◌};
 ghost use Rattle.call_graph.specs.Tables.{bytes_called, table_entry, IsKnown, IsSmall, AreCallable};
 
 use sloth_base::app::{Func, Op};
-
-/// The bytes of a word, and of a return address.
-const WORD: u32 = 4;
+use sloth_base::memory_map::WORD;
 
 /// The bytes of the call that an operation may be, with the calls that the function then makes by the table.
 pub fn bytes_called(funcs: &[Func], table: &[u32], op: Op) -> u32

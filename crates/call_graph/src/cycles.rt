@@ -1,5 +1,6 @@
 //! V1: functions that lie on a cycle of calls.
 ghost use Rattle.std.specs.Prelude.{◌≡◌, ◌≤◌, length};
+ghost use Rattle.sloth_base.specs.Limits.{body_limit};
 ghost use Rattle.least_fault.specs.Search.{Finds};
 ghost use Rattle.call_graph.specs.Cycles.{RowCycle};
 
@@ -11,7 +12,7 @@ use sloth_base::refusal::{Code, Part, Refusal};
 /// The least function that its own row has, by its header's line.
 pub fn cycle(funcs: &[Func], rows: &[u64]) -> Option<Refusal>
     requires same { length rows.now ≡ length funcs.now }
-    requires few { length funcs.now ≤ 64 }
+    requires few { length funcs.now ≤ body_limit }
     ensures { Finds (RowCycle funcs.now rows.now) result }
 {
     let mut least = None;

@@ -1,5 +1,6 @@
 //! Lists with an entry for each function.
 ghost use Rattle.std.specs.Prelude.{◌≡◌, ℕ, ◌<◌, ◌≤◌, false, length, map, get_or, count_ones, IfOk};
+ghost use Rattle.sloth_base.specs.Limits.{body_limit};
 ghost use Rattle.call_graph.specs.Bits.{is_member};
 ghost use Rattle.call_graph.specs.Rows.{row_has};
 ghost use Rattle.call_graph.specs.Reached.{AreFew, func_of, calls_itself, takes_by, pauses_by, used_by};
@@ -55,7 +56,7 @@ fn resource_sets(alloc: Global, funcs: &[Func], rows: &[u64]) -> Result<List<u64
 
 /// Whether each function reaches a WaitEvent or a Schedule.
 fn pausing_functions(alloc: Global, funcs: &[Func], rows: &[u64]) -> Result<List<bool>, NoMemory>
-    requires { length funcs.now ≤ 64 }
+    requires { length funcs.now ≤ body_limit }
     ensures count { IfOk result (λ list. length list ≡ length rows.now) }
     ensures pauses { IfOk result (λ list. (f : ℕ) → f < length rows.now
         → get_or list f false ≡ pauses_by funcs.now f (get_or rows.now f 0)) }

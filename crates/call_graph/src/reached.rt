@@ -1,6 +1,7 @@
 //! What a function reaches, from its number and its row.
 ghost use Rattle.std.specs.Prelude.{◌≡◌, ℕ, ◌<◌, ◌≤◌, ◌||◌, ◌&&◌, length};
 ghost use Rattle.sloth_base.specs.Options.{is_number};
+ghost use Rattle.sloth_base.specs.Limits.{body_limit};
 ghost use Rattle.call_graph.specs.Bits.{is_member};
 ghost use Rattle.call_graph.specs.Reached.{AreFew, TakesFew, IsOfFew, takes_itself, pauses_itself, reaches_by, takes_by, pauses_by, used_by};
 
@@ -48,7 +49,7 @@ fn pauses_with(pausing: bool, reached: bool, func: &Func) -> bool
 
 /// Whether the function with this number and this row reaches a WaitEvent or a Schedule.
 pub fn pauses_of(funcs: &[Func], from: usize, row: u64) -> bool
-    requires { length funcs.now ≤ 64 }
+    requires { length funcs.now ≤ body_limit }
     ensures { result ≡ pauses_by funcs.now from row }
 {
     let mut pausing = false;

@@ -1,6 +1,7 @@
 //! How many instructions each piece of generated code has.
 ghost use Rattle.std.specs.Prelude.{◌≡◌, ◌<◌, ◌≤◌, ◌*◌, ℕ, All, length};
 ghost use Rattle.sloth_base.specs.Blocks.{block_count};
+ghost use Rattle.sloth_base.specs.Limits.{task_limit, counter_limit, frame_limit};
 ghost use Rattle.code_lengths.specs.Bodies.{IsBodyPlace};
 ghost use Rattle.code_lengths.specs.CodeLengths.{lines_length, boot_length, prologue_length, service_length, block_length, IsPrologueLength};
 
@@ -25,7 +26,7 @@ const EXTENDED: u32 = 108;
 
 /// How many instructions of boot start these tasks.
 fn lines_length(tasks: &[TaskDecl]) -> u32
-    requires { length tasks.now ≤ 30 }
+    requires { length tasks.now ≤ task_limit }
     ensures is { result ≡ lines_length tasks.now }
     ensures short { result ≤ 4 * length tasks.now }
 {
@@ -38,7 +39,7 @@ fn lines_length(tasks: &[TaskDecl]) -> u32
 
 /// How many instructions boot of these tasks and of so many counters has.
 pub fn boot_length(tasks: &[TaskDecl], counters: u32) -> u32
-    requires { (length tasks.now ≤ 30) × (counters ≤ 2) }
+    requires { (length tasks.now ≤ task_limit) × (counters ≤ counter_limit) }
     ensures is { result ≡ boot_length tasks.now counters }
     ensures short { result ≤ 136 }
 {
@@ -47,7 +48,7 @@ pub fn boot_length(tasks: &[TaskDecl], counters: u32) -> u32
 
 /// How many instructions a prologue has, of an extended task or of a basic one, whose body has so many frame words.
 pub fn prologue_length(extended: bool, words: u32) -> u32
-    requires { words ≤ 32 }
+    requires { words ≤ frame_limit }
     ensures is { result ≡ prologue_length extended words }
 {
     if extended {
@@ -61,7 +62,7 @@ pub fn prologue_length(extended: bool, words: u32) -> u32
 pub fn start_length(task: TaskId, config: &Config, app: &App) -> u32
     requires exists { task < length config.now.tasks }
     requires body { (body : ℕ) × IsBodyPlace app.now.funcs task body }
-    requires frames { All (λ func. func.frame_words ≤ 32) app.now.funcs }
+    requires frames { All (λ func. func.frame_words ≤ frame_limit) app.now.funcs }
     ensures { IsPrologueLength task config.now app.now result }
 {
     let body = body_of(app.funcs.items(), task);

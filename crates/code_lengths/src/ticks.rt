@@ -1,5 +1,6 @@
 //! How many instructions the tick of a counter has.
 ghost use Rattle.std.specs.Prelude.{◌≡◌, ◌≤◌, ◌+◌, ◌*◌, ◌==◌, cond, length};
+ghost use Rattle.sloth_base.specs.Limits.{alarm_limit};
 ghost use Rattle.code_lengths.specs.CodeLengths.{sets_events_of, is_looked_at, action_length, tick_length};
 
 use sloth_base::config::{Action, AlarmDecl};
@@ -65,7 +66,7 @@ fn alarm_length(counter: u32, alarm: &AlarmDecl, later: &[AlarmDecl]) -> u32
 
 /// How many instructions, each of one word, the tick of a counter has among these alarms, at most 32: from 11 to 1,099.
 pub fn tick_length(counter: u32, alarms: &[AlarmDecl]) -> u32
-    requires { length alarms.now ≤ 32 }
+    requires { length alarms.now ≤ alarm_limit }
     ensures is { result ≡ tick_length counter alarms.now }
     ensures short { result ≤ 11 + 34 * length alarms.now }
 {

@@ -18,6 +18,7 @@ use Rattle.sloth_base.specs.ConfigRange.{no_event}
 use Rattle.sloth_base.specs.ImageRange.{AreNames}
 use Rattle.sloth_base.specs.Named.{function, IsBodyOf}
 use Rattle.sloth_base.specs.ServiceCodes.{object_kind, has_mask}
+use Rattle.sloth_base.specs.Limits.{body_limit, item_limit, symbol_limit, data_limit, frame_limit}
 
 -- ---- operands
 
@@ -134,7 +135,7 @@ pub record IsPlaced (config : Config) (f : Func) (l : Label) : Type 0 where
 
 -- what a body may say
 pub record IsBody (config : Config) (app : App) (f : Func) : Type 0 where
-  pub frame : f.frame_words ≤ 32
+  pub frame : f.frame_words ≤ frame_limit
   pub label_names : AreNames (map (λ l. l.name) f.labels)
   pub labels : All (IsPlaced config f) f.labels
   pub items : All (λ item. IsOp config app f item.op) f.items
@@ -147,10 +148,10 @@ pub record HasBodies (config : Config) (app : App) : Type 0 where
 
 -- the most of each that task code may have
 pub record IsWithinLimits (app : App) : Type 0 where
-  pub few_bodies : length app.funcs ≤ 64
-  pub few_items : sum (map (λ f. length f.items) app.funcs) ≤ 4096
-  pub few_symbols : length app.symbols ≤ 256
-  pub few_bytes : sum (map (λ y. length y.bytes) app.symbols) ≤ 32768
+  pub few_bodies : length app.funcs ≤ body_limit
+  pub few_items : sum (map (λ f. length f.items) app.funcs) ≤ item_limit
+  pub few_symbols : length app.symbols ≤ symbol_limit
+  pub few_bytes : sum (map (λ y. length y.bytes) app.symbols) ≤ data_limit
 
 -- the task code is in range of the configuration
 pub record AppInRange (config : Config) (app : App) : Type 0 where

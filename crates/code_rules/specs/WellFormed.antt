@@ -18,6 +18,7 @@ use Rattle.code_rules.specs.AppRange.{AppInRange}
 use Rattle.code_rules.specs.Code.{IsCallChain, TaskReaches, Pauses, Ends, ReachesTaking, ReachesPause, way, GoesOn, IsPath, is_in, is_last, held_list_at, is_entered, held_list_entering}
 use Rattle.sloth_base.specs.Arithmetic.{size_of}
 use Rattle.sloth_base.specs.ConfigRange.{scheduler_number}
+use Rattle.sloth_base.specs.Limits.{mask_limit}
 
 -- ---- what an operation does against a rule
 
@@ -39,8 +40,8 @@ IsUneven _ = ⊥
 
 -- V4: a mask above 32,767, or mask plus access size above the symbol's size
 abbrev pub MasksPast : App → Op → Type 0
-MasksPast app (op.LoadAt w rd y index mask) = (32767 < mask) ⊎ (symbol_size app y < mask + size_of w)
-MasksPast app (op.StoreAt w rs y index mask) = (32767 < mask) ⊎ (symbol_size app y < mask + size_of w)
+MasksPast app (op.LoadAt w rd y index mask) = (mask_limit < mask) ⊎ (symbol_size app y < mask + size_of w)
+MasksPast app (op.StoreAt w rs y index mask) = (mask_limit < mask) ⊎ (symbol_size app y < mask + size_of w)
 MasksPast app _ = ⊥
 
 -- V5: an item that can go on past the last item

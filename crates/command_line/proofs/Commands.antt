@@ -7,6 +7,7 @@ use Rattle.trace_text.specs.declared.printing.Form.TheVariants as form
 use Rattle.std.specs.Prelude.{Bool, true, false, ◌||◌}
 use Rattle.std.specs.Str.{bytes_eq}
 use Rattle.std.proofs.lemmas.Bool.{true≢false}
+use Rattle.sloth_base.specs.Limits.{count_limit}
 use Rattle.command_line.specs.declared.tool.Tool.{Tool}
 use Rattle.command_line.specs.declared.tool.Tool.TheVariants as tool
 use Rattle.command_line.specs.Tools.{ToolUse, tool_word, tool_words}
@@ -32,7 +33,7 @@ same-execution : (d e : Execution) → d.img ≡ e.img → d.arr ≡ e.arr → d
 same-execution d e i a n =
     ap (λ x. record { img = x; arr = d.arr; n = d.n }) i ∙ ap (λ x. record { img = e.img; arr = x; n = d.n }) a ∙ ap (λ x. record { img = e.img; arr = e.arr; n = x }) n
 
-same-runs : (o s i p t j : List ℕ) (r q : Run) → words_by o s i (Some r) ≡ words_by p t j (Some q) → r.n ≤ 1000000 → q.n ≤ 1000000 → r ≡ q
+same-runs : (o s i p t j : List ℕ) (r q : Run) → words_by o s i (Some r) ≡ words_by p t j (Some q) → r.n ≤ count_limit → q.n ≤ count_limit → r ≡ q
 same-runs o s i p t j r q e l m =
     let words : word_of r.form ∷ o ∷ s ∷ r.arr ∷ i ∷ decimal r.n ∷ [] ≡ word_of q.form ∷ p ∷ t ∷ q.arr ∷ j ∷ decimal q.n ∷ [] = e in
     let first : word_of r.form ≡ word_of q.form = cc in

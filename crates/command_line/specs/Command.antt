@@ -1,6 +1,7 @@
 -- The words of a command.
 use Rattle.std.specs.Prelude.{ℕ, ◌≡◌, ◌≤◌, List, [], ◌∷◌, map, codes, decimal, string_bytes, String, Option, Some, None}
 use Rattle.std.proofs.Common.{Global}
+use Rattle.sloth_base.specs.Limits.{count_limit}
 use Rattle.trace_text.specs.declared.printing.Form.{Form}
 use Rattle.trace_text.specs.declared.printing.Form.TheVariants as form
 use Rattle.command_line.specs.Tools.{ToolUse, tool_words, IsToolUse}
@@ -54,12 +55,12 @@ spelling (Uses used) = tool_words used
 -- at most so many instructions are run
 abbrev pub IsInLimit : Option Run → Type 0
 IsInLimit None = Unit {0}
-IsInLimit (Some run) = run.n ≤ 1000000
+IsInLimit (Some run) = run.n ≤ count_limit
 
 -- the same of a command; a seed is a word of 32 bits, and a tool has what its row of the table asks for
 abbrev pub KeepsLimit : Command → Type 0
 KeepsLimit (Builds b) = IsInLimit b.run
-KeepsLimit (Executes e) = e.n ≤ 1000000
+KeepsLimit (Executes e) = e.n ≤ count_limit
 KeepsLimit (Lists img) = Unit {0}
 KeepsLimit (Samples seed img) = seed ≤ 4294967295
 KeepsLimit (Uses used) = IsToolUse used

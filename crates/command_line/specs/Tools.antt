@@ -1,5 +1,6 @@
 -- The commands that read files, judge what they hold, and end with one answer: a row for each in each of these tables.
 use Rattle.std.specs.Prelude.{ℕ, ◌≡◌, ◌≤◌, ◌+◌, List, [], ◌∷◌, ◌++◌, length, codes, decimal, Bool, true, false, Option, Some, None, option_to_list}
+use Rattle.sloth_base.specs.Limits.{count_limit, picture_limit}
 use Rattle.command_line.specs.declared.counts.Counts.{Counts}
 use Rattle.command_line.specs.declared.counts.Counts.TheVariants as counts
 use Rattle.command_line.specs.declared.counts.Limit.{Limit}
@@ -53,9 +54,9 @@ counts_limit tool.Elf = None
 counts_limit tool.Unelf = None
 counts_limit tool.Infer = None
 counts_limit tool.At = Some (limit.One 999999)
-counts_limit tool.Wave = Some (limit.One 1000000)
-counts_limit tool.Picture = Some (limit.Window 1000000 100000)
-counts_limit tool.Check = Some (limit.One 1000000)
+counts_limit tool.Wave = Some (limit.One count_limit)
+counts_limit tool.Picture = Some (limit.Window count_limit picture_limit)
+counts_limit tool.Check = Some (limit.One count_limit)
 counts_limit tool.Bounds = None
 counts_limit tool.Latency = None
 counts_limit tool.Map = None

@@ -1,7 +1,9 @@
 //! Words that are numbers.
 ghost use Rattle.std.specs.Prelude.{◌≡◌, ◌≤◌, ℕ, IfSome, IfNone, decimal};
+ghost use Rattle.sloth_base.specs.Limits.{count_limit};
 
 use itoa::Buffer;
+use sloth_base::limits::COUNT_LIMIT;
 
 /// A word of 32 bits in decimal digits, without sign and without a leading zero.
 pub fn number(word: &str) -> Option<u32>
@@ -36,8 +38,8 @@ pub fn number_below(word: &str, limit: u32) -> Option<u32>
 
 /// A number of instructions, in the same form.
 pub fn instructions(word: &str) -> Option<u32>
-    ensures some { IfSome result (λ n. (word.now ≡ decimal n) × (n ≤ 1000000)) }
-    ensures none { IfNone result ((n : ℕ) → n ≤ 1000000 → word.now ≡ decimal n → ⊥) }
+    ensures some { IfSome result (λ n. (word.now ≡ decimal n) × (n ≤ count_limit)) }
+    ensures none { IfNone result ((n : ℕ) → n ≤ count_limit → word.now ≡ decimal n → ⊥) }
 {
-    number_below(word, 1_000_000)
+    number_below(word, COUNT_LIMIT)
 }

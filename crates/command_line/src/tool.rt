@@ -5,9 +5,10 @@ ghost use Rattle.command_line.specs.Tools.{tool_word, input_count, further_word,
 ghost use Rattle.command_line.specs.declared.tool.Tool.{Tool as AnyTool};
 
 use crate::counts::{Counts, Limit};
+use sloth_base::limits::{COUNT_LIMIT, PICTURE_LIMIT};
 
 /// A command that reads files, judges what they hold, and writes one file at most.
-#[derive(Clone, Copy, Debug, PartialEq, Eq)]
+#[derive(Clone, Copy)]
 pub enum Tool {
     /// `elf IMG OUT`: the ELF file of an image file.
     Elf,
@@ -77,13 +78,13 @@ impl Tool {
             Tool::Elf => None,
             Tool::Unelf => None,
             Tool::Infer => None,
-            Tool::At => Some(Limit::One(999_999)),
-            Tool::Wave => Some(Limit::One(1_000_000)),
+            Tool::At => Some(Limit::One(COUNT_LIMIT - 1)),
+            Tool::Wave => Some(Limit::One(COUNT_LIMIT)),
             Tool::Picture => Some(Limit::Window {
-                most: 1_000_000,
-                apart: 100_000,
+                most: COUNT_LIMIT,
+                apart: PICTURE_LIMIT,
             }),
-            Tool::Check => Some(Limit::One(1_000_000)),
+            Tool::Check => Some(Limit::One(COUNT_LIMIT)),
             Tool::Bounds => None,
             Tool::Latency => None,
             Tool::Map => None,

@@ -3,6 +3,7 @@ use Rattle.std.specs.Prelude.{ℕ, ◌<◌, ◌≤◌, List, [], ◌∷◌, ◌+
 use Rattle.sloth_base.specs.Arithmetic.{hi, lo}
 use Rattle.sloth_base.specs.declared.app.Op.{Op}
 use Rattle.sloth_base.specs.declared.app.Op.TheVariants as op
+use Rattle.sloth_base.specs.Limits.{mask_limit}
 use Rattle.rv32_instr.specs.Access.{load, store}
 use Rattle.rv32_instr.specs.declared.InstrKind.{InstrKind}
 use Rattle.rv32_instr.specs.declared.InstrKind.TheVariants.{Lui, Addi, Add, And}
@@ -19,7 +20,7 @@ wide _ address = []
 
 -- the mask has no place in an instruction, and is one that task code may have
 abbrev pub IsWideMask : ℕ → Type 0
-IsWideMask mask = (2048 ≤ mask) × (mask ≤ 32767)
+IsWideMask mask = (2048 ≤ mask) × (mask ≤ mask_limit)
 
 -- an access by an index under such a mask
 abbrev pub IsWide : Op → Type 0

@@ -1,4 +1,4 @@
-//! Accesses to data by an index under a mask from 2,048 on, which has no place in an instruction.
+//! Accesses to data by an index under a mask from 2,048 to 32,767, which has no place in an instruction: six instructions (`wide`, `specs/Wide`).
 #![tactic(auto)]
 
 ghost use Rattle.std.specs.Prelude.{◌≡◌, ◌<◌, ◌++◌, ◌∷◌, []};

@@ -6,6 +6,8 @@ use Rattle.std.proofs.Math.Seq.{take-append_seam}
 use Rattle.sloth_base.specs.ImageRange.{IsMark}
 use Rattle.sloth_base.specs.declared.image.Image.{Image}
 use Rattle.sloth_base.specs.declared.image.Mark.{Mark}
+use Rattle.sloth_base.specs.Limits.{body_limit}
+use Rattle.sloth_base.specs.MemoryMap.{memory_bytes}
 use Rattle.image_file.specs.Fields.{four_bytes}
 use Rattle.image_file.specs.ImageText.{mark_bytes, name_bytes}
 use Rattle.image_file.specs.Limits.{SizesFit}
@@ -191,7 +193,7 @@ read-right file tasks funcs counters at count size memory marks is right =
     }
 
 -- marks that stand at a place are one list
-pub one-marks : (file : List ℕ) (at services funcs size : ℕ) (ms ns : List Mark) → funcs ≤ 64 → size ≤ 2097152 → MarksStand file at services funcs size ms → MarksStand file at services funcs size ns
+pub one-marks : (file : List ℕ) (at services funcs size : ℕ) (ms ns : List Mark) → funcs ≤ body_limit → size ≤ memory_bytes → MarksStand file at services funcs size ms → MarksStand file at services funcs size ns
     → length ms ≡ length ns → ms ≡ ns
 one-marks file at services funcs size ms ns few fits h i same =
     let P : Mark → Type 0 = IsMark services funcs size in

@@ -2,6 +2,7 @@
 use Rattle.std.proofs.Common.{◌≡◌, ◌<◌, ◌+◌, ◌^◌, ℕ, List, [], ◌∷◌, ◌++◌, take, drop, sym, ◌∙◌, ap, arith}
 use Rattle.std.specs.List.{flat_map}
 use Rattle.std.proofs.lemmas.List.{take-append-drop, drop-drop}
+use Rattle.sloth_base.specs.MemoryMap.{memory_bytes, memory_base}
 use Rattle.image_file.specs.Fields.{four_bytes}
 use Rattle.image_file.proofs.Unique.{four}
 use Rattle.elf_image.specs.Faults.{HasLoadHeader, HasNoteHeader}
@@ -20,7 +21,7 @@ fifth file at a b c d n m r s e stands small other =
 pub load-is : (file : List ℕ) (n m : ℕ) (s : List ℕ) → drop 68 file ≡ four_bytes n ++ s → n < 2 ^ 32 → HasLoadHeader file m → n ≡ m
 load-is file n m s stands small has =
     let fits = has.memory.fits in
-    fifth file 52 1 116 0x80000000 0x80000000 n m (2097152 ∷ 7 ∷ 4 ∷ []) s has.header stands small (omega (arith, fits))
+    fifth file 52 1 116 memory_base memory_base n m (memory_bytes ∷ 7 ∷ 4 ∷ []) s has.header stands small (omega (arith, fits))
 
 pub note-is : (file : List ℕ) (size n m : ℕ) (s : List ℕ) → drop 100 file ≡ four_bytes n ++ s → n < 2 ^ 32 → HasNoteHeader file size m → n ≡ m
 note-is file size n m s stands small has =
@@ -38,7 +39,7 @@ pub one-load : (file : List ℕ) (n m : ℕ) → HasLoadHeader file n → HasLoa
 one-load file n m h i =
     let a = h.memory.fits in
     let b = i.memory.fits in
-    fifths 1 116 0x80000000 0x80000000 n 1 116 0x80000000 0x80000000 m (2097152 ∷ 7 ∷ 4 ∷ []) (2097152 ∷ 7 ∷ 4 ∷ []) (omega (arith, a)) (omega (arith, b))
+    fifths 1 116 memory_base memory_base n 1 116 memory_base memory_base m (memory_bytes ∷ 7 ∷ 4 ∷ []) (memory_bytes ∷ 7 ∷ 4 ∷ []) (omega (arith, a)) (omega (arith, b))
     (sym h.header ∙ i.header)
 
 pub one-note : (file : List ℕ) (size n m : ℕ) → HasNoteHeader file size n → HasNoteHeader file size m → n ≡ m

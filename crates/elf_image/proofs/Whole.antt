@@ -7,6 +7,7 @@ use Rattle.std.proofs.lemmas.List.{take-append-drop, drop-drop, length-append, l
 use Rattle.sloth_base.specs.ImageRange.{InFormat, IsName, IsMark, service_limit}
 use Rattle.sloth_base.specs.declared.image.Image.{Image}
 use Rattle.sloth_base.specs.declared.image.Mark.{Mark}
+use Rattle.sloth_base.specs.MemoryMap.{memory_bytes}
 use Rattle.image_file.specs.Fields.{four_bytes, two_bytes}
 use Rattle.image_file.specs.ImageText.{mark_bytes, name_bytes}
 use Rattle.image_file.proofs.RightParts.{length-marks}
@@ -110,7 +111,7 @@ is-elf file size note d marks h has right =
         functions = right.names.of_functions;
         counters = right.names.of_counters;
         counters_apart = right.names.apart;
-        memory_fits = subst (λ x. x ≤ 2097152) memory h.headers.load.memory.fits;
+        memory_fits = subst (λ x. x ≤ memory_bytes) memory h.headers.load.memory.fits;
         whole_words = ap (λ x. x % 4) m ∙ h.headers.load.memory.whole_words;
         few_marks = omega (arith, count, few);
         marks = subst (λ x. All (IsMark (service_limit (length d.counters)) (length d.funcs) x) marks) memory right.each;

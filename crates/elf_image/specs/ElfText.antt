@@ -2,7 +2,7 @@
 -- (System V ABI, chapters 4 and 5: the ELF header, program headers, notes.)
 use Rattle.std.specs.Prelude.{◌≡◌, ◌+◌, ◌-◌, ◌%◌, ℕ, List, [], ◌∷◌, ◌++◌, length, take, codes}
 use Rattle.std.specs.List.{flat_map}
-use Rattle.sloth_base.specs.MemoryMap.{memory_base, boot_base}
+use Rattle.sloth_base.specs.MemoryMap.{memory_base, boot_base, memory_bytes}
 use Rattle.sloth_base.specs.ImageRange.{InFormat}
 use Rattle.sloth_base.specs.declared.image.Image.{Image}
 use Rattle.image_file.specs.Fields.{four_bytes, two_bytes}
@@ -31,7 +31,7 @@ elf_header = elf_magic ++ (elf_class ++ (elf_words ++ elf_sizes))
 -- The program header of the memory, 32 bytes: it is loaded (1) from place 116 of the file to the base of memory, so many bytes of 2,097,152, which may
 -- be read, written and executed (7), aligned to 4.
 abbrev pub load_header : ℕ → List ℕ
-load_header size = flat_map four_bytes (1 ∷ 116 ∷ memory_base ∷ memory_base ∷ size ∷ 2097152 ∷ 7 ∷ 4 ∷ [])
+load_header size = flat_map four_bytes (1 ∷ 116 ∷ memory_base ∷ memory_base ∷ size ∷ memory_bytes ∷ 7 ∷ 4 ∷ [])
 
 -- the program header of the note (4), which stands behind the memory and is read (4), aligned to 4
 abbrev pub note_header : ℕ → ℕ → List ℕ

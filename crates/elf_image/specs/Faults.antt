@@ -4,6 +4,8 @@ use Rattle.std.specs.List.{flat_map}
 use Rattle.sloth_base.specs.ImageRange.{IsMark, AreAscending, service_limit}
 use Rattle.sloth_base.specs.declared.image.Mark.{Mark}
 use Rattle.sloth_base.specs.declared.image.Image.{Image}
+use Rattle.sloth_base.specs.Limits.{task_limit, counter_limit, body_limit, mark_limit}
+use Rattle.sloth_base.specs.MemoryMap.{memory_bytes}
 use Rattle.image_file.specs.Fields.{four_bytes}
 use Rattle.image_file.specs.ImageText.{mark_bytes, name_bytes}
 use Rattle.image_file.specs.Parts.{AreRightNames}
@@ -24,7 +26,7 @@ pub record HasElfHeader (file : List ℕ) : Type 0 where
 
 -- so many bytes of memory, whole words
 pub record IsMemorySize (size : ℕ) : Type 0 where
-  pub fits : size ≤ 2097152
+  pub fits : size ≤ memory_bytes
   pub whole_words : size % 4 ≡ 0
 
 -- its first program header is that of so many bytes of memory
@@ -60,10 +62,10 @@ pub record Description : Type 0 where
 
 -- its numbers keep the limits, and each mark has twelve bytes
 pub record IsWithin (d : Description) : Type 0 where
-  pub few_tasks : length d.tasks ≤ 30
-  pub few_functions : length d.funcs ≤ 64
-  pub few_counters : length d.counters ≤ 2
-  pub few_marks : d.count ≤ 16384
+  pub few_tasks : length d.tasks ≤ task_limit
+  pub few_functions : length d.funcs ≤ body_limit
+  pub few_counters : length d.counters ≤ counter_limit
+  pub few_marks : d.count ≤ mark_limit
   pub twelve_each : length d.marks ≡ d.count * 12
 
 -- its bytes

@@ -5,7 +5,7 @@ ghost use Rattle.image_file.specs.declared.fault.FileError.TheVariants.{Fault};
 use image_file::fault::FileError;
 
 /// A fault of a file, by its code. The first in this order is told.
-#[derive(Clone, Copy, Debug, PartialEq, Eq)]
+#[derive(Clone, Copy)]
 pub enum ElfFault {
     /// The first four bytes are not those of an ELF file.
     E1,

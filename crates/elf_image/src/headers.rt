@@ -1,12 +1,13 @@
 //! The headers of an ELF file, and the numbers of which they are made.
 ghost use Rattle.std.specs.Prelude.{◌≡◌, ◌≤◌, ◌++◌, OnOk};
 ghost use Rattle.std.specs.List.{flat_map};
+ghost use Rattle.sloth_base.specs.MemoryMap.{memory_bytes};
 ghost use Rattle.image_file.specs.Fields.{four_bytes};
 ghost use Rattle.elf_image.specs.ElfText.{elf_header, load_header, note_header};
 
 use image_file::number_fields::put_u32;
 use sloth_base::memory::NoMemory;
-use sloth_base::memory_map::MEMORY_BASE;
+use sloth_base::memory_map::{MEMORY_BASE, MEMORY_BYTES};
 
 /// The length of the ELF header, in bytes.
 pub const ELF_HEADER: usize = 52;
@@ -17,8 +18,8 @@ pub const PROGRAM_HEADER: usize = 32;
 /// The length of all headers, behind which the memory stands.
 pub const HEADERS: usize = 116;
 
-/// The greatest number of bytes of memory.
-pub const MEMORY: u32 = 2_097_152;
+/// The bytes that memory has in the machine.
+const MEMORY: u32 = MEMORY_BYTES as u32;
 
 /// The ELF header: an executable of 32 bits, low byte first, for RISC-V, with two program headers.
 #[tactic(auto, unfolding(crate::specs::ElfText::elf_header, image_file::specs::Fields::four_bytes, image_file::specs::Fields::two_bytes))]
@@ -55,7 +56,7 @@ pub fn put_load_header(file: &mut Vec<u8>, size: u32) -> Result<(), NoMemory>
 
 /// Appends the program header of the note, which has so many bytes and stands behind the memory.
 pub fn put_note_header(file: &mut Vec<u8>, size: u32, note: u32) -> Result<(), NoMemory>
-    requires { size ≤ 2097152 }
+    requires { size ≤ memory_bytes }
     ensures { OnOk result (file.new.items ≡ file.old.items ++ note_header size note) }
 {
     put_words(file, &[4, 116 + size, 0, 0, note, note, 4, 4])

@@ -4,6 +4,7 @@ ghost use Rattle.image_file.specs.Reading.{MarksStand, NamedPartsStand};
 ghost use Rattle.image_file.specs.declared.sizes.Sizes.{Sizes as AnySizes};
 ghost use Rattle.sloth_base.specs.ImageRange.{service_limit};
 ghost use Rattle.sloth_base.specs.declared.image.Image.{Image as ImageOf};
+ghost use Rattle.sloth_base.specs.MemoryMap.{memory_bytes};
 ghost use Rattle.elf_image.specs.ElfText.{ElfText, note_bytes};
 ghost use Rattle.elf_image.specs.Faults.{Fails, IsFirstElfFault};
 ghost use Rattle.elf_image.specs.Reading.{IsFramedAt, PartsMiss, MarksMiss, IsNote, NoteFails, BeginsWith, IsDescription, DescriptionFails, AreRead, AreRightMarks, ContentsFail};
@@ -157,7 +158,7 @@ fn marks_at(
     size: usize,
 ) -> Result<Vec<Mark>, ElfError>
     requires parts { IsDescription file.now outline.now.tasks.items outline.now.funcs.items outline.now.counters.items outline.now.memory outline.now.count }
-    requires fits { size ≤ 2097152 }
+    requires fits { size ≤ memory_bytes }
     ensures read { IfOk result (λ marks.
         MarksStand file.now outline.now.memory (service_limit (length outline.now.counters.items)) (length outline.now.funcs.items) size
         marks.items) }
@@ -189,7 +190,7 @@ fn right_marks(
     size: usize,
 ) -> Result<Vec<Mark>, ElfError>
     requires parts { IsDescription file.now outline.now.tasks.items outline.now.funcs.items outline.now.counters.items outline.now.memory outline.now.count }
-    requires fits { size ≤ 2097152 }
+    requires fits { size ≤ memory_bytes }
     ensures read { IfOk result (λ marks.
         AreRightMarks file.now outline.now.tasks.items outline.now.funcs.items outline.now.counters.items outline.now.memory outline.now.count size
         marks.items) }
@@ -231,7 +232,7 @@ fn read_contents(
     memory: &[u8],
 ) -> Result<Image, ElfError>
     requires parts { IsDescription file.now outline.tasks.items outline.funcs.items outline.counters.items outline.memory outline.count }
-    requires fits { length memory.now ≤ 2097152 }
+    requires fits { length memory.now ≤ memory_bytes }
     ensures read { IfOk result (λ image.
         AreRead file.now outline.tasks.items outline.funcs.items outline.counters.items outline.memory outline.count (length memory.now) image) }
     ensures memory { IfOk result (λ image. image.memory ≡ memory.now) }

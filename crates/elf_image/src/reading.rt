@@ -1,5 +1,6 @@
 //! Reading the headers of an ELF file.
 ghost use Rattle.std.specs.Prelude.{◌≡◌, ◌≤◌, IfOk, IfErr, OnOk, Decides};
+ghost use Rattle.sloth_base.specs.MemoryMap.{memory_bytes};
 ghost use Rattle.elf_image.specs.ElfText.{load_header, note_header};
 ghost use Rattle.elf_image.specs.Faults.{Fails, HasElfHeader, HasElfMagic, HasLoadHeader, HasNoteHeader, IsMemorySize, IsNoteSize};
 
@@ -9,6 +10,7 @@ use crate::headers::{
 };
 use image_file::numbers::u32_at;
 use sloth_base::memory::NoMemory;
+use sloth_base::memory_map::MEMORY_BYTES;
 use std::alloc::Global;
 
 // Whether the file begins as each ELF file does.
@@ -39,7 +41,7 @@ pub fn judge_header(bytes: &[u8]) -> Result<(), ElfError>
 fn is_memory_size(size: u32) -> bool
     ensures { Decides result (IsMemorySize size) }
 {
-    size <= 2_097_152 && size % 4 == 0
+    size <= MEMORY_BYTES as u32 && size % 4 == 0
 }
 
 // A note of so many bytes is whole words, and long enough.
@@ -60,7 +62,7 @@ fn is_load_header(alloc: Global, bytes: &[u8], size: u32) -> Result<bool, NoMemo
 
 // Whether they are that of a note of so many bytes.
 fn is_note_header(alloc: Global, bytes: &[u8], size: u32, note: u32) -> Result<bool, NoMemory>
-    requires { size ≤ 2097152 }
+    requires { size ≤ memory_bytes }
     ensures { IfOk result (λ is. Decides is (bytes.now ≡ note_header size note)) }
 {
     let mut header = Vec::new(alloc);

@@ -1,6 +1,7 @@
 //! Writing an ELF file.
 ghost use Rattle.std.specs.Prelude.{◌≡◌, ◌≤◌, IfOk, length};
 ghost use Rattle.sloth_base.specs.ImageRange.{InFormat};
+ghost use Rattle.sloth_base.specs.MemoryMap.{memory_bytes};
 ghost use Rattle.elf_image.specs.ElfText.{ElfText, description_bytes, file_bytes};
 
 use crate::headers::{elf_header, put_load_header, put_note_header, put_words};
@@ -22,7 +23,7 @@ pub fn write_elf(alloc: Global, image: &Image) -> Result<Vec<u8>, NoMemory>
 
 // The bytes of a file with this memory and this description.
 fn assemble(alloc: Global, memory: &[u8], description: &[u8]) -> Result<Vec<u8>, NoMemory>
-    requires { (length memory.now ≤ 2097152) × (length description.now ≤ 300000) }
+    requires { (length memory.now ≤ memory_bytes) × (length description.now ≤ 300000) }
     ensures { IfOk result (λ file. file.items ≡ file_bytes memory.now description.now) }
 {
     let size = memory.len() as u32;

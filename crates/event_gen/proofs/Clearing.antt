@@ -8,7 +8,8 @@ use Rattle.std.proofs.lemmas.Nat.{and_mask, and_le_r}
 use Rattle.std.proofs.lemmas.Nat.Bits.{bit_at_and, bit_at_or, bit_at_xor, bit_at_ones, bit_at_above, bit_at-lt, bit_at_cat_low, bit_at_cat_high, same_from_bits}
 use Rattle.sloth_base.specs.Machine.{Core}
 use Rattle.sloth_base.specs.Status.{E_OK}
-use Rattle.sloth_region.specs.Layout.{events, controller_base}
+use Rattle.sloth_base.specs.MemoryMap.{controller_base}
+use Rattle.sloth_region.specs.Layout.{events}
 use Rattle.rv32_instr.specs.declared.InstrKind.{InstrKind}
 use Rattle.rv32_instr.specs.Ram.{word_at, with_word}
 use Rattle.masked_code.specs.Place.{offset_state}

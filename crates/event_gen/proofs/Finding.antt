@@ -2,6 +2,7 @@
 use Rattle.std.proofs.Common.{◌≡◌, ℕ, ◌+◌, ◌*◌, ◌<◌, List, ◌∷◌, ◌++◌, refl, arith}
 use Rattle.sloth_base.specs.Machine.{Core, State}
 use Rattle.sloth_base.specs.MemoryMap.{memory_base}
+use Rattle.sloth_base.specs.Limits.{task_limit}
 use Rattle.sloth_region.specs.Layout.{cur}
 use Rattle.rv32_instr.specs.declared.InstrKind.{InstrKind}
 use Rattle.rv32_instr.specs.Ram.{word_at}
@@ -14,7 +15,7 @@ abbrev pub own_end : ℕ → ℕ
 own_end task = memory_base + 12 * (task + 1)
 
 module _ (from to task : ℕ) (E : List ℕ → State → State → Type 0) (start : State) (rest : List InstrKind) (c : Core) (x1 x2 x3 : ℕ) (tail : List ℕ)
-    (is_task : task < 30) (runs : word_at c.ram cur ≡ task + 1) where
+    (is_task : task < task_limit) (runs : word_at c.ram cur ≡ task + 1) where
   -- by x3
   pub finds_by_x3 : (o : ℕ)
       → Owes from to (behind 5 o) rest 0 E start (record c { registers = 0 ∷ own_end task ∷ x2 ∷ 8 * (task + 1) ∷ memory_base ∷ tail })

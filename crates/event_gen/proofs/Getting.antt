@@ -4,8 +4,8 @@ use Rattle.std.specs.Prelude.{set}
 use Rattle.sloth_base.specs.Machine.{Core, State}
 use Rattle.sloth_base.specs.Arrive.{arrive}
 use Rattle.sloth_base.specs.Status.{E_OK}
-use Rattle.sloth_base.specs.MemoryMap.{memory_base}
-use Rattle.sloth_region.specs.Layout.{active, events, controller_base}
+use Rattle.sloth_base.specs.MemoryMap.{memory_base, memory_bytes, controller_base}
+use Rattle.sloth_region.specs.Layout.{active, events}
 use Rattle.rv32_instr.specs.declared.InstrKind.{InstrKind}
 use Rattle.rv32_instr.specs.Ram.{word_at}
 use Rattle.masked_code.specs.Place.{offset_state}
@@ -44,7 +44,7 @@ module _ (offset task : ℕ) (c : Core) (h : MayGet offset task (masking ∷ bod
   told = word_at c.ram (events task)
 
   -- behind the look at the task, which found v
-  looked_owe : (o : ℕ) (p : List ℕ) (v : ℕ) → o + 4 ≤ 0x20_0000 → Finds task (record c { pending = p }) v
+  looked_owe : (o : ℕ) (p : List ℕ) (v : ℕ) → o + 4 ≤ memory_bytes → Finds task (record c { pending = p }) v
       → Owes offset (offset + 4 + 44) o (refusal_code 2 ++ (events_telling_code task ++ back_code)) 0 (λ u. EventsTold task (task ∷ u)) (st p)
       (record (masked (based c)) { registers = 0 ∷ v ∷ x2 ∷ controller_base ∷ memory_base ∷ set tail 5 word; pending = p })
   looked_owe o p v small found =

@@ -2,9 +2,8 @@
 use Rattle.std.proofs.Common.{◌≡◌, ℕ, ◌+◌, ◌*◌, ◌≤◌, List, [], ◌∷◌, ◌++◌, length, get_or, refl, ap, ⊎_elim}
 use Rattle.std.specs.Prelude.{true, false, not, eqb, set, slice_index}
 use Rattle.sloth_base.specs.Machine.{Core, State}
-use Rattle.sloth_base.specs.MemoryMap.{memory_base}
+use Rattle.sloth_base.specs.MemoryMap.{memory_base, memory_bytes, controller_base}
 use Rattle.sloth_base.specs.Status.{E_OS_STATE}
-use Rattle.sloth_region.specs.Layout.{controller_base}
 use Rattle.rv32_instr.specs.declared.InstrKind.{InstrKind}
 use Rattle.masked_code.proofs.Owes.{◌▸◌, writes, Owes}
 use Rattle.masked_code.specs.Place.{offset_state}
@@ -37,7 +36,7 @@ module _ (offset to task : ℕ) (code : List InstrKind) (c : Core) (can : CanGoB
   begun p = offset_state offset (record (based c) { pending = p })
 
   -- the look found v: of a Suspended task the service goes back with its status, of another it goes on with `first`
-  pub refuses_owe : (first : List InstrKind) (o : ℕ) (p : List ℕ) (v x10 : ℕ) → o + 4 ≤ 0x20_0000 → length first ≤ 68 → Finds task (record c { pending = p }) v
+  pub refuses_owe : (first : List InstrKind) (o : ℕ) (p : List ℕ) (v x10 : ℕ) → o + 4 ≤ memory_bytes → length first ≤ 68 → Finds task (record c { pending = p }) v
       → (LooksSuspended task (record c { pending = p }) → (end : State) → slice_index end.core.registers a0 ≡ E_OS_STATE
       → WentBack a0 (record (based c) { pending = p }) (begun p) end → E [] (begun p) end)
       → ((LooksSuspended task (record c { pending = p }) → ⊥) → Owes offset to (behind 2 o) (first ++ back_code) 0 E (begun p)

@@ -5,8 +5,8 @@ use Rattle.std.proofs.lemmas.Bool.{eq-eqb, cases_eq, ne_eqb}
 use Rattle.sloth_base.specs.Machine.{Core, State}
 use Rattle.sloth_base.specs.Arrive.{arrive}
 use Rattle.sloth_base.specs.Status.{E_OK, E_OS_STATE}
-use Rattle.sloth_base.specs.MemoryMap.{memory_base}
-use Rattle.sloth_region.specs.Layout.{active, events, wait, controller_base}
+use Rattle.sloth_base.specs.MemoryMap.{memory_base, memory_bytes, controller_base, line_count}
+use Rattle.sloth_region.specs.Layout.{active, events, wait}
 use Rattle.rv32_instr.specs.declared.InstrKind.{InstrKind}
 use Rattle.rv32_instr.specs.Ram.{word_at, with_word}
 use Rattle.masked_code.specs.Place.{offset_state}
@@ -69,12 +69,12 @@ module _ (offset task : ℕ) (c : Core) (h : MaySet offset task (masking ∷ bod
       }
 
   -- the look at the awaited events
-  asked_owe : (o : ℕ) (p : List ℕ) → o + 12 ≤ 0x20_0000 → (LooksSuspended task (record c { pending = p }) → ⊥)
+  asked_owe : (o : ℕ) (p : List ℕ) → o + 12 ≤ memory_bytes → (LooksSuspended task (record c { pending = p }) → ⊥)
       → Owes offset (offset + 4 + 76) o (awaited_mask_test task ++ (raising_code task ++ (enabling_code task ++ back_code))) 0 (λ u. EventsSet task (task ∷ u)) (st p)
       (record (masked (based c)) { registers = 0 ∷ grown ∷ x2 ∷ controller_base ∷ memory_base ∷ set tail 5 E_OS_STATE; pending = p; ram = ram })
   asked_owe o p small not_suspended =
       let few = h.is_task in
-      let line : task < 32 = omega arith in
+      let line : task < line_count = omega arith in
       let v = bit_and grown waits_for in
       loads (wait task) (record { is = omega arith; aligned = omega arith; inside = omega arith }) waits_for (word_at-other c.ram (events task) grown (wait task) (inr (omega arith)))
       ▸ writes v refl
@@ -119,7 +119,7 @@ module _ (offset task : ℕ) (c : Core) (h : MaySet offset task (masking ∷ bod
   further = refusal_code 10 ++ (passed_code ++ back_code)
 
   -- behind the look, which found v
-  looked_owe : (o : ℕ) (p : List ℕ) (v : ℕ) → o + 40 ≤ 0x20_0000 → Finds task (record c { pending = p }) v
+  looked_owe : (o : ℕ) (p : List ℕ) (v : ℕ) → o + 40 ≤ memory_bytes → Finds task (record c { pending = p }) v
       → Owes offset (offset + 4 + 76) o further 0 (λ u. EventsSet task (task ∷ u)) (st p)
       (record (masked (based c)) { registers = 0 ∷ v ∷ x2 ∷ controller_base ∷ memory_base ∷ set tail 5 word; pending = p })
   looked_owe o p v small found =

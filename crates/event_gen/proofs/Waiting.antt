@@ -5,8 +5,8 @@ use Rattle.std.proofs.lemmas.Bool.{eq-eqb, cases_eq, ne_eqb}
 use Rattle.sloth_base.specs.Machine.{Core, State}
 use Rattle.sloth_base.specs.Arithmetic.{plus}
 use Rattle.sloth_base.specs.Status.{E_OK}
-use Rattle.sloth_base.specs.MemoryMap.{memory_base}
-use Rattle.sloth_region.specs.Layout.{cur, active, events, wait, resume, below_word, idle_context, context_bytes, context_level, context_cur, context_below, controller_base}
+use Rattle.sloth_base.specs.MemoryMap.{memory_base, memory_bytes, controller_base}
+use Rattle.sloth_region.specs.Layout.{cur, active, events, wait, resume, below_word, idle_context, context_bytes, context_level, context_cur, context_below}
 use Rattle.rv32_instr.specs.declared.InstrKind.{InstrKind}
 use Rattle.rv32_instr.specs.declared.InstrKind.TheVariants.{Addi}
 use Rattle.rv32_instr.specs.Ram.{word_at, with_word, with_words}
@@ -73,7 +73,7 @@ module _ (offset task place own : ℕ) (c : Core) (h : MayWait offset task place
   own_apart : (own + 4 * (5 + 27) ≤ offset) ⊎ (end ≤ own)
   own_apart = let a = h.code_apart in grind (arith, a)
 
-  own_fits : own + 4 * (5 + 27) ≤ 0x20_0000
+  own_fits : own + 4 * (5 + 27) ≤ memory_bytes
   own_fits = let f = h.inside in omega arith
 
   own_is : plus sp (neg_ℤ (pos context_bytes)) ≡ at_own
@@ -153,7 +153,7 @@ module _ (offset task place own : ℕ) (c : Core) (h : MayWait offset task place
       }
 
   -- behind the saved registers
-  kept_owe : (o : ℕ) → o + 32 ≤ 0x20_0000 → found ≡ 0
+  kept_owe : (o : ℕ) → o + 32 ≤ memory_bytes → found ≡ 0
       → Owes offset end o saved_then 0 (Waited task place own) st
       (record (masked (based c)) { registers = 0 ∷ at_own ∷ sp ∷ found ∷ memory_base ∷ tail; ram = with_words (rested_ram (based c) task) (own + 4 * 5) (registers_from 27 5 (based c).registers) })
   kept_owe o near none =
@@ -235,7 +235,7 @@ module _ (offset task place own : ℕ) (c : Core) (h : MayWait offset task place
   body_owes : Owes offset end (offset + 4) body 0 (Waited task place own) st (masked (based c))
   body_owes =
       let fits = h.goes_back.can_run.inside in
-      let near : behind 3 (behind 12 (offset + 4)) + 108 + 32 ≤ 0x20_0000 = omega arith in
+      let near : behind 3 (behind 12 (offset + 4)) + 108 + 32 ≤ memory_bytes = omega arith in
       looked_owe (resting_code ++ saved_first saved_then)
       (λ none. rested_owe (saved_first saved_then) (Waited task place own) (behind 12 (offset + 4))
       (saved_owe saved_then (Waited task place own) (behind 2 (behind 12 (offset + 4))) (own_end task) found (rested_ram (based c) task)

@@ -3,6 +3,7 @@ use Rattle.std.specs.Prelude.{ℕ, ◌≡◌, ◌≢◌, ◌<◌, ◌⊎◌, Lis
 use Rattle.sloth_base.specs.declared.service.Service.TheVariants as service
 use Rattle.sloth_base.specs.Machine.{Core, State}
 use Rattle.sloth_base.specs.Status.{E_OK, E_OS_STATE}
+use Rattle.sloth_base.specs.Limits.{task_limit}
 use Rattle.sloth_region.specs.Layout.{active, events, wait}
 use Rattle.rv32_instr.specs.declared.InstrKind.{InstrKind}
 use Rattle.rv32_instr.specs.Ram.{word_at, with_word}
@@ -16,7 +17,7 @@ use Rattle.event_gen.specs.ClearEvent.{mask_register}
 -- the code can run, and what tells of the task are bits
 pub record MaySet (offset task : ℕ) (code : List InstrKind) (core : Core) : Type 0 where
   pub goes_back : CanGoBack offset code core
-  pub is_task : task < 30
+  pub is_task : task < task_limit
   pub active_bit : word_at core.ram (active task) < 2
   pub pending_bit : slice_index core.pending task < 2
   pub enabled_bit : slice_index core.enabled task < 2

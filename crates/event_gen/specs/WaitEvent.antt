@@ -3,7 +3,8 @@ use Rattle.std.specs.Prelude.{ℕ, ◌+◌, ◌*◌, ◌%◌, ◌≡◌, ◌≢�
 use Rattle.sloth_base.specs.declared.service.Service.TheVariants as service
 use Rattle.sloth_base.specs.Machine.{Core, State}
 use Rattle.sloth_base.specs.Status.{E_OK}
-use Rattle.sloth_base.specs.MemoryMap.{memory_base}
+use Rattle.sloth_base.specs.MemoryMap.{memory_base, memory_bytes}
+use Rattle.sloth_base.specs.Limits.{task_limit}
 use Rattle.sloth_region.specs.Layout.{cur, active, events, wait, resume, below_word, idle_context, context_bytes, context_level, context_cur, context_below}
 use Rattle.rv32_instr.specs.declared.InstrKind.{InstrKind}
 use Rattle.rv32_instr.specs.Ram.{word_at, with_word, with_words}
@@ -20,12 +21,12 @@ use Rattle.event_gen.specs.ClearEvent.{mask_register}
 pub record MayWait (offset task place own : ℕ) (code : List InstrKind) (core : Core) : Type 0 where
   pub goes_back : CanGoBack offset code core
   pub runs : word_at core.ram cur ≡ task + 1
-  pub is_task : task < 30
+  pub is_task : task < task_limit
   pub below : IsBelow place core
   pub x2 : slice_index core.registers 2 ≡ memory_base + (own + context_bytes)
   pub aligned : own % 4 ≡ 0
   pub behind : idle_context ≤ own
-  pub inside : own + context_bytes ≤ 0x20_0000
+  pub inside : own + context_bytes ≤ memory_bytes
   pub apart : (own + context_bytes ≤ place) ⊎ (place + context_bytes ≤ own)
   pub code_apart : (own + context_bytes ≤ offset) ⊎ (offset + 4 * length code ≤ own)
 

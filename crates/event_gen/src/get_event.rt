@@ -1,5 +1,6 @@
 //! GetEvent: the events of a task that isn't Suspended.
 ghost use Rattle.std.specs.Prelude.{◌<◌, IfOk};
+ghost use Rattle.sloth_base.specs.Limits.{task_limit};
 ghost use Rattle.event_gen.specs.GetEvent.{TellsEvents};
 
 use block_parts::events::tell_events;
@@ -9,7 +10,7 @@ use std::alloc::{AllocError, Global};
 
 /// The look at the task, its events where it isn't Suspended, and the way back.
 pub fn code(alloc: Global, task: u8) -> Result<Vec<Instr>, AllocError>
-    requires { task < 30 }
+    requires { task < task_limit }
     ensures { IfOk result (λ code. TellsEvents task code.items) }
 {
     let mut code = Vec::new(alloc);

@@ -1,4 +1,7 @@
-//! The code of the operating system services on events (OSEK OS 2.2.3, section 13.5).
+//! The code of the operating system services on events (OSEK OS 2.2.3, section 13.5): SetEvent, ClearEvent, GetEvent, WaitEvent.
+//!
+//! From an opening mark, with any arrivals: the effect within 160 instructions, and the length (`block`; a file of `specs/` for each). The way back,
+//! the look at a task: `block_parts` (`Back`, `Looks`); leaving: `masked_code` (`Kernel`).
 #![tactic(auto)]
 
 ghost use Rattle.std.specs.Prelude.{◌≡◌, IfOk, length};

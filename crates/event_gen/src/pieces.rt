@@ -1,5 +1,6 @@
 //! A piece of code that several services have.
 ghost use Rattle.std.specs.Prelude.{◌≡◌, ◌<◌, ◌++◌, OnOk};
+ghost use Rattle.sloth_base.specs.MemoryMap.{line_count};
 ghost use Rattle.event_gen.specs.Pieces.{own_finding_code};
 
 use masked_code::emit::emit;
@@ -11,7 +12,7 @@ use std::alloc::AllocError;
 
 /// x1 := the place of the running task's words: they stand there and directly before. Uses another register.
 pub fn find_own(code: &mut Vec<Instr>, other: Reg) -> Result<(), AllocError>
-    requires { other < 32 }
+    requires { other < line_count }
     ensures { OnOk result (code.new.items ≡ code.old.items ++ own_finding_code other) }
 {
     let found = [

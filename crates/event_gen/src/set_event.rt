@@ -1,6 +1,7 @@
 //! SetEvent: the events of the mask are set for a task that isn't Suspended, and it becomes Ready where it waits for one of
 //! its set events.
 ghost use Rattle.std.specs.Prelude.{◌≡◌, ◌<◌, ◌++◌, IfOk, OnOk};
+ghost use Rattle.sloth_base.specs.Limits.{task_limit};
 ghost use Rattle.event_gen.specs.Pieces.{mask_adding_code};
 ghost use Rattle.block_parts.specs.Events.{enabling_code};
 ghost use Rattle.event_gen.specs.SetEvent.{SetsEvents};
@@ -21,7 +22,7 @@ const ASK: u32 = 4;
 
 /// The look at the task, its events, its line where one of them is awaited, and the way back.
 pub fn code(alloc: Global, task: u8) -> Result<Vec<Instr>, AllocError>
-    requires { task < 30 }
+    requires { task < task_limit }
     ensures { IfOk result (λ code. SetsEvents task code.items) }
 {
     let mut code = Vec::new(alloc);
@@ -38,7 +39,7 @@ pub fn code(alloc: Global, task: u8) -> Result<Vec<Instr>, AllocError>
 
 /// Adds the events of the mask in x30 to the task's, which stay in x1.
 fn add_events(code: &mut Vec<Instr>, task: u8) -> Result<(), AllocError>
-    requires { task < 30 }
+    requires { task < task_limit }
     ensures { OnOk result (code.new.items ≡ code.old.items ++ mask_adding_code task) }
 {
     let added = [
@@ -51,7 +52,7 @@ fn add_events(code: &mut Vec<Instr>, task: u8) -> Result<(), AllocError>
 
 /// Enables the task's line. x1 holds 1.
 fn enable(code: &mut Vec<Instr>, task: u8) -> Result<(), AllocError>
-    requires { task < 30 }
+    requires { task < task_limit }
     ensures { OnOk result (code.new.items ≡ code.old.items ++ enabling_code task) }
 {
     emit(code, &[sb(X1, X3, enabled_byte(task))])

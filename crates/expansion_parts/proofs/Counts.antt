@@ -11,6 +11,7 @@ use Rattle.sloth_base.specs.declared.app.Width.{Width}
 use Rattle.sloth_base.specs.declared.places.Places.{Places}
 use Rattle.sloth_base.specs.ServiceCodes.{has_mask}
 use Rattle.sloth_base.specs.declared.service.Service.{Service}
+use Rattle.sloth_base.specs.Limits.{frame_limit}
 use Rattle.rv32_instr.specs.declared.InstrKind.{InstrKind}
 use Rattle.rv32_instr.specs.declared.InstrKind.TheVariants.{Auipc, Sw, Jal}
 use Rattle.expansion_parts.specs.Expansion.{number_in, zeros, calls, mask_of, service_jump, distance, item_address, operation_code}
@@ -132,7 +133,7 @@ small : (n : ℕ) → 1 ≤ n → n ≤ 36 → IsFew n
 small n some few = record { some = some; few = few }
 
 -- every item's length is so
-pub size_few : (app : App) → ((func : ℕ) → (function app func).frame_words ≤ 32) → (long : Bool) (o : Op) → IsFew (size app long o)
+pub size_few : (app : App) → ((func : ℕ) → (function app func).frame_words ≤ frame_limit) → (long : Bool) (o : Op) → IsFew (size app long o)
 unfolding size
 size_few app frames long (op.Alu kind rd rs1 rs2) = small 1 (omega arith) (omega arith)
 size_few app frames long (op.AluImm kind rd rs1 number) = small 1 (omega arith) (omega arith)

@@ -10,6 +10,7 @@ use Rattle.sloth_base.specs.declared.app.Item.{Item}
 use Rattle.sloth_base.specs.declared.app.Op.{Op}
 use Rattle.sloth_base.specs.declared.app.Op.TheVariants as op
 use Rattle.sloth_base.specs.Named.{item_of, no_item}
+use Rattle.sloth_base.specs.Limits.{frame_limit}
 use Rattle.expansion_parts.specs.Long.{Set, size, size_at, place, target_of, IsNear, IsInSet}
 use Rattle.expansion_parts.proofs.Counts.{size_few}
 
@@ -70,7 +71,7 @@ module _ (app : App) (body : Func) (long : Set) where
       rw e (let n = place_next (i + k) in let l = place-later i k in omega (arith, n, l))
 
   -- each item before it has at most 36 instructions
-  pub place_few : ((func : ℕ) → (function app func).frame_words ≤ 32) → (i : ℕ) → place app body long i ≤ 36 * i
+  pub place_few : ((func : ℕ) → (function app func).frame_words ≤ frame_limit) → (i : ℕ) → place app body long i ≤ 36 * i
   place_few frames zero = let f = place_first in omega (arith, f)
   place_few frames (suc i) =
       let e : suc i ≡ i + 1 = omega arith in

@@ -3,12 +3,13 @@ use Rattle.std.specs.Prelude.{ℕ, ◌+◌, ◌*◌, ◌<◌, ◌≤◌, ◌≡�
 use Rattle.sloth_base.specs.Named.{function, label_of}
 use Rattle.sloth_base.specs.declared.app.App.{App}
 use Rattle.sloth_base.specs.declared.app.Func.{Func}
+use Rattle.sloth_base.specs.Limits.{item_limit, frame_limit}
 use Rattle.expansion_parts.specs.Long.{Set, size_at, place, IsBranchTo, IsNear, Suffices, IsInSet, AreLongBranches}
 
 -- what is asked of a body: that its words can be counted, and that its labels are in it
 pub record IsSmall (app : App) (body : Func) : Type 0 where
-  pub frames : (func : ℕ) → (function app func).frame_words ≤ 32
-  pub items : length body.items ≤ 4096
+  pub frames : (func : ℕ) → (function app func).frame_words ≤ frame_limit
+  pub items : length body.items ≤ item_limit
   pub labels : (label : ℕ) → (label_of body label).item ≤ length body.items
 
 -- the set in a list

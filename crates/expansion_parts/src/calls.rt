@@ -1,5 +1,6 @@
 //! The instructions of a call.
 ghost use Rattle.std.specs.Prelude.{◌≡◌, ◌≤◌, ◌<◌, ◌+◌, ◌*◌, ◌^◌, ◌∷◌, [], pos};
+ghost use Rattle.sloth_base.specs.Limits.{frame_limit};
 ghost use Rattle.rv32_instr.specs.Range.{IsSigned};
 ghost use Rattle.expansion_parts.specs.Expansion.{distance, calls};
 
@@ -32,7 +33,7 @@ pub fn frame_offset(word: u32) -> i32
 
 /// The call, at `at`, of a function with so many words of frame.
 pub fn call(at: u32, words: u32, target: u32) -> Draft
-    requires few { words ≤ 32 }
+    requires few { words ≤ frame_limit }
     requires at_in { at < 2 ^ 31 + 2 ^ 22 }
     requires near { IsSigned 21 (distance (at + 4 * (words + 3)) target) }
     ensures { result ≡ calls at words target }

@@ -1,6 +1,7 @@
 //! How many instructions an item has.
 ghost use Rattle.std.specs.Prelude.{◌≡◌, ◌≤◌, ℕ, length};
 ghost use Rattle.sloth_base.specs.Named.{function};
+ghost use Rattle.sloth_base.specs.Limits.{frame_limit};
 ghost use Rattle.expansion_parts.specs.Expansion.{mask_of};
 ghost use Rattle.expansion_parts.specs.Long.{size};
 
@@ -32,7 +33,7 @@ pub fn mask_length(service: Service) -> u32
 /// How many instructions an operation has, where a branch is long or not.
 #[tactic(auto, unfolding(crate::specs::Long::size), using(crate::proofs::Counts::size_invoke, crate::proofs::Counts::size_serve, crate::proofs::Counts::size_load_at, crate::proofs::Counts::size_store_at))]
 pub fn size(op: Op, app: &App, long: bool) -> u32
-    requires { (func : ℕ) → (function app.now func).frame_words ≤ 32 }
+    requires { (func : ℕ) → (function app.now func).frame_words ≤ frame_limit }
     ensures is { result ≡ size app.now long op }
     ensures few { result ≤ 36 }
 {

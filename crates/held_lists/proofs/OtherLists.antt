@@ -13,6 +13,7 @@ use Rattle.sloth_base.specs.declared.app.Op.{Op}
 use Rattle.sloth_base.specs.declared.app.Op.TheVariants as op
 use Rattle.sloth_base.specs.ImageRange.{AreNames}
 use Rattle.sloth_base.specs.Named.{no_function, function, no_label, label_of, item_of, IsBodyOf}
+use Rattle.sloth_base.specs.Limits.{body_limit, item_limit, symbol_limit, data_limit, frame_limit}
 use Rattle.code_rules.specs.AppRange.{AppInRange, IsBody, IsOp}
 use Rattle.code_rules.specs.Code.{IsItem, Calls, IsCallChain, Reaches, TaskReaches, ReachesTaking, ReachesPause}
 use Rattle.call_graph.specs.declared.ranking.Ranks.{Ranks}
@@ -123,7 +124,7 @@ module _ (config : Config) (app other : App) (e : SameButLists app other)
       let count = count_same f g same in
       let items = items_same f g same in
       record {
-        frame = subst (λ (x : Func). x.frame_words ≤ 32) same h.frame;
+        frame = subst (λ (x : Func). x.frame_words ≤ frame_limit) same h.frame;
         label_names = subst AreNames (names_of g) (subst (λ (x : Func). AreNames (map (λ (l : Label). l.name) x.labels)) same (subst AreNames (sym (names_of f)) h.label_names));
         labels = λ k d l.
             let m : k < length f.labels = subst (λ (n : ℕ). k < n) (sym count) l in
@@ -144,10 +145,10 @@ module _ (config : Config) (app other : App) (e : SameButLists app other)
   range_there h = record {
     configuration = h.configuration;
     limits = record {
-      few_bodies = subst (λ (n : ℕ). n ≤ 64) (count_functions app other e) h.limits.few_bodies;
-      few_items = subst (λ (ns : List ℕ). sum ns ≤ 4096) (mapped (λ f. length f.items) (λ f. refl)) h.limits.few_items;
-      few_symbols = subst (λ (ys : List Symbol). length ys ≤ 256) symbols_same h.limits.few_symbols;
-      few_bytes = subst (λ (ys : List Symbol). sum (map (λ y. length y.bytes) ys) ≤ 32768) symbols_same h.limits.few_bytes;
+      few_bodies = subst (λ (n : ℕ). n ≤ body_limit) (count_functions app other e) h.limits.few_bodies;
+      few_items = subst (λ (ns : List ℕ). sum ns ≤ item_limit) (mapped (λ f. length f.items) (λ f. refl)) h.limits.few_items;
+      few_symbols = subst (λ (ys : List Symbol). length ys ≤ symbol_limit) symbols_same h.limits.few_symbols;
+      few_bytes = subst (λ (ys : List Symbol). sum (map (λ y. length y.bytes) ys) ≤ data_limit) symbols_same h.limits.few_bytes;
     };
     func_names = subst AreNames (mapped (λ f. f.name) (λ f. refl)) h.func_names;
     symbol_names = subst (λ (ys : List Symbol). AreNames (map (λ y. y.name) ys)) symbols_same h.symbol_names;

@@ -19,7 +19,7 @@ use std::alloc::Global;
 use task_verify::verify;
 
 /// Why no lists were found.
-#[derive(Debug, Drop)]
+#[derive(Drop)]
 pub enum InferError {
     /// No lists keep every rule.
     NoHolds,

@@ -8,7 +8,7 @@ use Rattle.std.proofs.lemmas.List.{get_or_past}
 use Rattle.std.proofs.lemmas.List.Sums.{list_all-from_AllPass, AllPass-from_list_all, fold-append}
 use Rattle.std.proofs.lemmas.List.Folds.{list_any_at}
 use Rattle.std.proofs.lemmas.Slice.Eq.{bytes_eq-Decides}
-use Rattle.sloth_base.specs.ConfigRange.{InRange, res_scheduler_name}
+use Rattle.sloth_base.specs.ConfigRange.{InRange, res_scheduler_name, scheduler_number}
 use Rattle.sloth_base.specs.ImageRange.{IsWord, IsName, begins_word, continues_word}
 use Rattle.sloth_base.specs.declared.config.Config.{Config}
 use Rattle.sloth_base.specs.declared.app.App.{App}
@@ -21,6 +21,7 @@ use Rattle.least_fault.specs.Search.{SomeFrom}
 use Rattle.least_fault.proofs.Nowhere.{case_false}
 use Rattle.std.proofs.lemmas.List.Elements.{All-append, All-map}
 use Rattle.sloth_base.specs.Named.{no_function}
+use Rattle.sloth_base.specs.Limits.{name_limit}
 use Rattle.code_rules.specs.AppRange.{IsResource, AppInRange}
 use Rattle.code_rules.specs.WellFormed.{WellFormed}
 use Rattle.text_pieces.specs.Bytes.{is_name}
@@ -68,9 +69,9 @@ word_name (b ∷ t) h =
 
 module _ (config : Config) (range : InRange config) where
   name_of_resource : (r : ℕ) → IsResource config r → IsName (resource_name config r)
-  name_of_resource r (inl l) = by (r == 32) refl
+  name_of_resource r (inl l) = by (r == scheduler_number) refl
     where
-      by : (c : Bool) → (r == 32) ≡ c → IsName (cond c res_scheduler_name (get_or config.resources r []))
+      by : (c : Bool) → (r == scheduler_number) ≡ c → IsName (cond c res_scheduler_name (get_or config.resources r []))
       by true e = let s = eqb-true r 32 e in let few = range.few_resources in absurd (omega (arith, l, s, few))
       by false e = range.resource_names.each r [] l
   name_of_resource r (inr h) = subst (λ (x : ℕ). IsName (resource_name config x)) (sym h.0) (record { word = (refl, AllPass-from_list_all continues_word (69 ∷ 83 ∷ 95 ∷ 83 ∷ 67 ∷ 72 ∷ 69 ∷ 68 ∷ 85 ∷ 76 ∷ 69 ∷ 82 ∷ []) refl); short = omega arith })
@@ -84,7 +85,7 @@ module _ (config : Config) (range : InRange config) where
   short_names [] h = refl
   short_names (r ∷ held) h =
       let s = (name_of_resource r (h 0 r (omega arith))).short in
-      ap (λ b. b || list_any (λ x. writes_long (written_name x)) (map Name (resource_names config held))) (le-ltb 64 (length (resource_name config r)) s)
+      ap (λ b. b || list_any (λ x. writes_long (written_name x)) (map Name (resource_names config held))) (le-ltb name_limit (length (resource_name config r)) s)
       ∙ short_names held (λ k d l. h (suc k) d (omega (arith, l)))
 
   module _ (scope : Scope) (named : scope.resources ≡ config.resources) (schedules : scope.has_scheduler ≡ config.res_scheduler) where
@@ -97,9 +98,9 @@ module _ (config : Config) (range : InRange config) where
     or_first false b e = absurd (false≢true e)
 
     known_resource : (r : ℕ) → IsResource config r → (is_scheduler scope (resource_name config r) || list_any (bytes_eq (resource_name config r)) scope.resources) ≡ true
-    known_resource r (inl l) = by (r == 32) refl
+    known_resource r (inl l) = by (r == scheduler_number) refl
       where
-        by : (c : Bool) → (r == 32) ≡ c
+        by : (c : Bool) → (r == scheduler_number) ≡ c
             → (is_scheduler scope (cond c res_scheduler_name (get_or config.resources r [])) || list_any (bytes_eq (cond c res_scheduler_name (get_or config.resources r []))) scope.resources) ≡ true
         by true e = let s = eqb-true r 32 e in let few = range.few_resources in absurd (omega (arith, l, s, few))
         by false e =

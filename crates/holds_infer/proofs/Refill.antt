@@ -7,7 +7,7 @@ use Rattle.std.proofs.lemmas.Bool.{false≢true, eqb-true}
 use Rattle.std.proofs.lemmas.List.{length-map, get_or-map, take_at, drop_at}
 use Rattle.std.proofs.lemmas.Slice.Eq.{bytes_eq-Decides}
 use Rattle.text_pieces.proofs.Places.{position_at}
-use Rattle.sloth_base.specs.ConfigRange.{InRange, res_scheduler_name}
+use Rattle.sloth_base.specs.ConfigRange.{InRange, res_scheduler_name, scheduler_number}
 use Rattle.sloth_base.specs.declared.config.Config.{Config}
 use Rattle.sloth_base.specs.declared.app.App.{App}
 use Rattle.sloth_base.specs.declared.app.Func.{Func}
@@ -35,10 +35,10 @@ use Rattle.holds_infer.proofs.Relabels.{relabel_fills, holds_are}
 -- ---- a resource's name is that of its number
 
 module _ (config : Config) (range : InRange config) (scope : Scope) (named : scope.resources ≡ config.resources) (schedules : scope.has_scheduler ≡ config.res_scheduler) where
-  below_32 : (r : ℕ) → r < 32 → (r == 32) ≡ false
-  below_32 r l = by (r == 32) refl
+  below_32 : (r : ℕ) → r < scheduler_number → (r == scheduler_number) ≡ false
+  below_32 r l = by (r == scheduler_number) refl
     where
-      by : (b : Bool) → (r == 32) ≡ b → (r == 32) ≡ false
+      by : (b : Bool) → (r == scheduler_number) ≡ b → (r == scheduler_number) ≡ false
       by true e = let s = eqb-true r 32 e in absurd (omega (arith, l, s))
       by false e = e
 
@@ -64,7 +64,7 @@ module _ (config : Config) (range : InRange config) (scope : Scope) (named : sco
       ∙ ap (λ (ns : List (List ℕ)). number_of ns (get_or config.resources r [])) named
       ∙ ap (λ o. unwrap_or o 0) (position_at config.resources range.resource_names.distinct r [] l)
 
-  scheduler_number : IsTrue config.res_scheduler → resource_number scope (resource_name config 32) ≡ 32
+  scheduler_number : IsTrue config.res_scheduler → resource_number scope (resource_name config scheduler_number) ≡ scheduler_number
   scheduler_number h =
       ap (λ b. cond (b && bytes_eq res_scheduler_name (codes "RES_SCHEDULER")) 32 (number_of scope.resources res_scheduler_name)) (schedules ∙ h)
       ∙ ap (λ b. cond b 32 (number_of scope.resources res_scheduler_name)) ((bytes_eq-Decides res_scheduler_name (codes "RES_SCHEDULER")).1 refl)

@@ -15,7 +15,7 @@ use sloth_source::{Ranked, read_ranked};
 use std::alloc::Global;
 
 /// Why a source was not filled in.
-#[derive(Debug, Drop)]
+#[derive(Drop)]
 pub enum FillError {
     /// The texts have a fault, the rules V2 to V12 aside.
     Refused(Refusal),

@@ -1,15 +1,17 @@
 -- The limits of the numbers of a header.
 use Rattle.std.specs.Prelude.{◌≡◌, ◌≤◌, ◌%◌, ℕ, zero, suc}
+use Rattle.sloth_base.specs.Limits.{task_limit, counter_limit, body_limit, mark_limit}
+use Rattle.sloth_base.specs.MemoryMap.{memory_bytes}
 use Rattle.image_file.specs.declared.sizes.Sizes.{Sizes}
 
 -- these numbers are within the limits
 pub record SizesFit (sizes : Sizes) : Type 0 where
-  pub few_tasks : sizes.tasks ≤ 30
-  pub few_functions : sizes.funcs ≤ 64
-  pub few_counters : sizes.counters ≤ 2
-  pub memory_fits : sizes.memory ≤ 2097152
+  pub few_tasks : sizes.tasks ≤ task_limit
+  pub few_functions : sizes.funcs ≤ body_limit
+  pub few_counters : sizes.counters ≤ counter_limit
+  pub memory_fits : sizes.memory ≤ memory_bytes
   pub whole_words : sizes.memory % 4 ≡ 0
-  pub few_marks : sizes.marks ≤ 16384
+  pub few_marks : sizes.marks ≤ mark_limit
 
 -- the length of the header of a file with so many counters
 abbrev pub header_size : ℕ → ℕ

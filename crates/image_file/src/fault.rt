@@ -6,7 +6,7 @@ use sloth_base::memory::NoMemory;
 use std::alloc::{AllocError, AllocFailed};
 
 /// A fault of a file, by its code. The first in this order is told.
-#[derive(Clone, Copy, Debug, PartialEq, Eq)]
+#[derive(Clone, Copy)]
 pub enum ImageFault {
     /// The first eight bytes are not those of a format.
     I1,
@@ -22,7 +22,7 @@ pub enum ImageFault {
 }
 
 /// Why no image was read: for one of these faults of the file, or for want of memory.
-#[derive(Clone, Copy, Debug, PartialEq, Eq)]
+#[derive(Clone, Copy)]
 pub enum FileError<F> {
     Fault(F),
     Memory,

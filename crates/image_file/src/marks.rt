@@ -4,6 +4,8 @@ ghost use Rattle.image_file.specs.ImageText.{kind_number};
 ghost use Rattle.image_file.specs.Reading.{MarkStands, NoMark, MarksStand, MarksFail};
 ghost use Rattle.sloth_base.specs.ImageRange.{AreFields, IsMark, AreAscending};
 ghost use Rattle.sloth_base.specs.declared.image.MarkKind.{MarkKind as KindOfMark};
+ghost use Rattle.sloth_base.specs.Limits.{body_limit, mark_limit};
+ghost use Rattle.sloth_base.specs.MemoryMap.{memory_bytes};
 
 use crate::fault::{ImageError, ImageFault};
 pub use crate::mark_services::service_limit;
@@ -22,10 +24,10 @@ pub fn read_marks(
     funcs: usize,
     size: usize,
 ) -> Result<Vec<Mark>, ImageError>
-    requires short { count ≤ 16384 }
+    requires short { count ≤ mark_limit }
     requires within { at + count * 12 ≤ length bytes.now }
-    requires few { funcs ≤ 64 }
-    requires fits { size ≤ 2097152 }
+    requires few { funcs ≤ body_limit }
+    requires fits { size ≤ memory_bytes }
     ensures read { IfOk result (λ marks. MarksStand bytes.now at services funcs size marks.items) }
     ensures counted { IfOk result (λ marks. length marks.items ≡ count) }
     ensures failed { IfErr result (λ failure. MarksFail failure bytes.now at count services funcs size) }
@@ -40,8 +42,8 @@ pub fn read_marks(
 // The mark that stands at `at`.
 fn mark_at(bytes: &[u8], at: usize, services: u8, funcs: usize, size: usize) -> Option<Mark>
     requires within { at + 12 ≤ length bytes.now }
-    requires few { funcs ≤ 64 }
-    requires fits { size ≤ 2097152 }
+    requires few { funcs ≤ body_limit }
+    requires fits { size ≤ memory_bytes }
     ensures some { IfSome result (λ mark. MarkStands bytes.now at services funcs size mark) }
     ensures none { IfNone result (NoMark bytes.now at services funcs size) }
 {
@@ -73,7 +75,7 @@ fn kind_of(number: u8) -> Option<MarkKind>
 
 // The mark is on a word of the memory and its fields are in range.
 fn is_mark(mark: &Mark, services: u8, funcs: usize, size: usize) -> bool
-    requires { size ≤ 2097152 }
+    requires { size ≤ memory_bytes }
     ensures { Decides result (IsMark services funcs size mark.now) }
 {
     mark.address % 4 == 0

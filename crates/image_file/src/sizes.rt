@@ -2,6 +2,9 @@
 ghost use Rattle.std.specs.Prelude.{◌≡◌, Decides};
 ghost use Rattle.image_file.specs.Limits.{SizesFit, header_size};
 
+use sloth_base::limits::{BODY_LIMIT, COUNTER_LIMIT, MARK_LIMIT, TASK_LIMIT};
+use sloth_base::memory_map::MEMORY_BYTES;
+
 /// The numbers of tasks, functions, counters, bytes of memory and marks.
 #[derive(Clone, Copy)]
 pub struct Sizes {
@@ -24,11 +27,11 @@ impl Sizes {
     pub fn are_within(&self) -> bool
         ensures { Decides result (SizesFit self.now) }
     {
-        self.tasks <= 30
-            && self.funcs <= 64
-            && self.counters <= 2
-            && self.memory <= 2_097_152
+        self.tasks <= TASK_LIMIT
+            && self.funcs <= BODY_LIMIT
+            && self.counters <= COUNTER_LIMIT
+            && self.memory <= MEMORY_BYTES
             && self.memory % 4 == 0
-            && self.marks <= 16_384
+            && self.marks <= MARK_LIMIT
     }
 }

@@ -34,6 +34,7 @@ use Rattle.service_blocks.specs.Calls.{ServesCall}
 use Rattle.service_gen.specs.Schedule.{way_back}
 use Rattle.sloth_base.specs.Arithmetic.{sum32}
 use Rattle.sloth_base.specs.Blocks.{block_number, block_code, block_object}
+use Rattle.sloth_base.specs.MemoryMap.{vectors_base, boot_base, line_count}
 use Rattle.vector_gen.specs.Boot.{Boots}
 use Rattle.vector_gen.specs.Idle.{Idles, idle_mark}
 use Rattle.vector_gen.specs.Vectors.{AreJumps}
@@ -164,8 +165,8 @@ pub record IsMade (address : ℕ) (marks : List Mark) (Effect : List InstrKind �
 -- All blocks of an image, each made as it should be: the vectors, boot, the idle loop, a prologue for each task, a tick for each counter, the
 -- services that are called, and the items.
 pub record AreMade (config : Config) (app : App) (levels : Levels) (map : Map) (vectors boot idle : Block) (starts counted served own : List Block) : Type 0 where
-  pub vectors_made : IsMade 0x8000_0400 [] (AreJumps 32 map.handlers) vectors
-  pub boot_made : IsMade 0x8000_0480 [] (Boots config.tasks (length config.counters) levels.task levels.top map.idle) boot
+  pub vectors_made : IsMade vectors_base [] (AreJumps line_count map.handlers) vectors
+  pub boot_made : IsMade boot_base [] (Boots config.tasks (length config.counters) levels.task levels.top map.idle) boot
   pub idle_made : IsMade map.idle (idle_mark map.idle ∷ []) Idles idle
   pub count : length starts ≡ length config.tasks
   pub each : Each (IsPrologue config app levels map) starts
@@ -334,8 +335,8 @@ module _ (config : Config) (app : App) (levels : Levels) (map : Map) (may : MayG
       let word = made.idle_made.effect.word in
       let is = may.planned.addresses.idle in
       let even = may.planned.zones.idle_aligned in
-      let first = plain (record { base = 0x8000_0400; len = 128 }) vectors made.vectors_made.at (omega arith) refl (omega (arith, many)) made.vectors_made.marks_are in
-      let second = plain (record { base = 0x8000_0480; len = code_byte_count may.planned.lengths.boot }) boot made.boot_made.at (omega arith) refl (omega (arith, few, told)) made.boot_made.marks_are in
+      let first = plain (record { base = vectors_base; len = 128 }) vectors made.vectors_made.at (omega arith) refl (omega (arith, many)) made.vectors_made.marks_are in
+      let second = plain (record { base = boot_base; len = code_byte_count may.planned.lengths.boot }) boot made.boot_made.at (omega arith) refl (omega (arith, few, told)) made.boot_made.marks_are in
       let third = marked (record { base = map.idle; len = idle_bytes }) idle (idle_mark map.idle) made.idle_made.at (omega (arith, is)) even (omega (arith, word)) made.idle_made.marks_are
       (omega (arith, made.idle_made.at)) (omega (arith, made.idle_made.at, word)) in
       let rest = zip_append FitsRoom _ starts _ (counted ++ (served ++ own)) (prologues_fit config app levels map may starts made.count made.each)
@@ -360,8 +361,8 @@ module _ (config : Config) (app : App) (levels : Levels) (map : Map) (may : MayG
         are_bounds = may.are_bounds;
         planned = may.planned;
         rooms = subst (FitRooms (code_extents map (length config.tasks) may.planned.lengths)) (sym same) rooms;
-        close = subst (FollowClosely 0x8000_0400 (code_end may.planned.lengths)) (sym same)
-            (blocks_follow_closely 0x8000_0400 (code_end may.planned.lengths) (code_extents map (length config.tasks) may.planned.lengths) all may.planned.code_close rooms);
+        close = subst (FollowClosely vectors_base (code_end may.planned.lengths)) (sym same)
+            (blocks_follow_closely vectors_base (code_end may.planned.lengths) (code_extents map (length config.tasks) may.planned.lengths) all may.planned.code_close rooms);
         few = subst (λ (bs : List Block). length bs ≤ 8192) (sym same) few_blocks;
         format = subst (All (MarksInFormat config app)) (sym same) all_format;
       }

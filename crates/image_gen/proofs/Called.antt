@@ -1,5 +1,5 @@
 -- What items call has code that is generated.
-use Rattle.std.proofs.Common.{◌≡◌, ◌<◌, ◌≤◌, ◌==◌, ℕ, Bool, cond, true, false, length, get_or, sym, ap, ◌∙◌, subst, arith}
+use Rattle.std.proofs.Common.{◌≡◌, ◌<◌, ◌==◌, ℕ, Bool, cond, true, false, length, get_or, sym, ap, ◌∙◌, subst, arith}
 use Rattle.std.proofs.lemmas.Bool.{ne_eqb}
 use Rattle.sloth_base.specs.Named.{function, no_function, no_item, operation, undeclared_alarm}
 use Rattle.sloth_base.specs.ConfigRange.{InRange}
@@ -16,6 +16,7 @@ use Rattle.sloth_base.specs.declared.places.Bounds.{Bounds}
 use Rattle.sloth_base.specs.declared.service.Service.{Service}
 use Rattle.sloth_base.specs.declared.service.Service.TheVariants as service
 use Rattle.sloth_base.specs.Blocks.{block_objects, block_number, block_code, block_object}
+use Rattle.sloth_base.specs.Limits.{resource_limit}
 use Rattle.code_rules.specs.AppRange.{IsObject, AreOperands, IsOp}
 use Rattle.code_rules.specs.WellFormed.{WellFormed}
 use Rattle.code_rules.proofs.Objects.{object_number}
@@ -49,7 +50,7 @@ called_with config app well func item call is e =
     has_code config well.in_range.configuration (object_kind call.service) call.object operands.0
 
 -- objects have small numbers
-few_of_kind : (config : Config) → InRange config → (kind : ObjectKind) (number : ℕ) → IsOfKind config kind number → number ≤ 32
+few_of_kind : (config : Config) → InRange config → (kind : ObjectKind) (number : ℕ) → IsOfKind config kind number → number ≤ resource_limit
 few_of_kind config range object.Nothing number h = code_few object.Nothing number h
 few_of_kind config range object.Task number h = code_few object.Task number h
 few_of_kind config range object.Resource number h = code_few object.Resource number h

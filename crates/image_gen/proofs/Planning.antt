@@ -6,6 +6,7 @@ use Rattle.sloth_base.specs.declared.app.App.{App}
 use Rattle.sloth_base.specs.declared.config.Config.{Config}
 use Rattle.sloth_base.specs.declared.places.Bounds.{Bounds}
 use Rattle.sloth_base.specs.declared.places.Levels.{Levels}
+use Rattle.sloth_base.specs.Limits.{task_limit, level_count}
 use Rattle.sloth_region.specs.declared.map.Map.{Map}
 use Rattle.prio_levels.specs.Levels.{AreLevels}
 use Rattle.mem_map.specs.Planned.{IsPlanned}
@@ -17,21 +18,21 @@ beyond [] (suc i) h = refl
 beyond (x ∷ xs) zero h = absurd (omega (arith, h))
 beyond (x ∷ xs) (suc i) h = beyond xs i (omega (arith, h))
 
-small_levels : (config : Config) (levels : Levels) → length config.tasks ≤ 30 → length levels.task ≡ 30 → AreLevels config levels
-    → ((t : ℕ) → t < length config.tasks → (0 < slice_index levels.task t) × (slice_index levels.task t ≤ levels.top)) → (t : ℕ) → slice_index levels.task t < 32
+small_levels : (config : Config) (levels : Levels) → length config.tasks ≤ task_limit → length levels.task ≡ task_limit → AreLevels config levels
+    → ((t : ℕ) → t < length config.tasks → (0 < slice_index levels.task t) × (slice_index levels.task t ≤ levels.top)) → (t : ℕ) → slice_index levels.task t < level_count
 small_levels config levels few long are within t =
     let top = are.top in
     ⊎_elim
     (λ (l : t < length config.tasks). let w = (within t l).1 in omega (arith, w, top, few))
     (λ (g : length config.tasks ≤ t).
     ⊎_elim
-    (λ (l : t < 30). let z = are.tasks.no_task t g l in omega (arith, z))
-    (λ (h : 30 ≤ t). let z = beyond levels.task t (omega (arith, long, h)) in omega (arith, z))
-    (cases_lt t 30))
+    (λ (l : t < task_limit). let z = are.tasks.no_task t g l in omega (arith, z))
+    (λ (h : task_limit ≤ t). let z = beyond levels.task t (omega (arith, long, h)) in omega (arith, z))
+    (cases_lt t task_limit))
     (cases_lt t (length config.tasks))
 
 pub may_generate : (config : Config) (app : App) (bounds : Bounds) → MayBuild config app bounds → (levels : Levels) (map : Map) → AreLevels config levels
-    → length levels.task ≡ 30 → ((t : ℕ) → t < length config.tasks → (0 < slice_index levels.task t) × (slice_index levels.task t ≤ levels.top))
+    → length levels.task ≡ task_limit → ((t : ℕ) → t < length config.tasks → (0 < slice_index levels.task t) × (slice_index levels.task t ≤ levels.top))
     → IsPlanned config app bounds map → MayGenerate config app levels map
 may_generate config app bounds may levels map leveled long within planned =
     let few = may.well_formed.in_range.configuration.few_tasks in

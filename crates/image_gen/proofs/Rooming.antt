@@ -36,6 +36,7 @@ use Rattle.service_gen.specs.Schedule.{way_back}
 use Rattle.masked_code.specs.Kernel.{masking}
 use Rattle.sloth_base.specs.Arithmetic.{sum32}
 use Rattle.sloth_base.specs.Blocks.{block_count, block_code, block_object}
+use Rattle.sloth_base.specs.MemoryMap.{memory_base}
 use Rattle.mem_map.specs.declared.all_lengths.CodeLengths.{CodeLengths}
 use Rattle.mem_map.specs.Starts.{code_byte_count}
 use Rattle.mem_map.specs.Plan.{items_at, prologues_at, ticks_at, tick_starts, services_at, some_extents}
@@ -63,7 +64,7 @@ abbrev pub none : Block
 none = record { at = 0; code = []; marks = [] }
 
 -- a block without marks
-pub plain : (room : Extent) (block : Block) → block.at ≡ room.base → 0x8000_0000 ≤ room.base → room.base % 4 ≡ 0 → 4 * length block.code ≡ room.len → block.marks ≡ []
+pub plain : (room : Extent) (block : Block) → block.at ≡ room.base → memory_base ≤ room.base → room.base % 4 ≡ 0 → 4 * length block.code ≡ room.len → block.marks ≡ []
     → FitsRoom room block
 plain room block at above aligned long is =
     let P : List Mark → Type 0 = λ marks. All (λ (m : Mark). (block.at ≤ m.address) × (m.address < block.at + 4 * length block.code)) marks in
@@ -79,7 +80,7 @@ plain room block at above aligned long is =
     }
 
 -- a block with one mark
-pub marked : (room : Extent) (block : Block) (mark : Mark) → block.at ≡ room.base → 0x8000_0000 ≤ room.base → room.base % 4 ≡ 0 → 4 * length block.code ≡ room.len
+pub marked : (room : Extent) (block : Block) (mark : Mark) → block.at ≡ room.base → memory_base ≤ room.base → room.base % 4 ≡ 0 → 4 * length block.code ≡ room.len
     → block.marks ≡ mark ∷ [] → block.at ≤ mark.address → mark.address < block.at + 4 * length block.code → FitsRoom room block
 marked room block mark at above aligned long is from to =
     let Q : Mark → Type 0 = λ m. (block.at ≤ m.address) × (m.address < block.at + 4 * length block.code) in

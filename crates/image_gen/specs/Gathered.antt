@@ -8,6 +8,7 @@ use Rattle.sloth_base.specs.declared.image.Mark.{Mark}
 use Rattle.sloth_base.specs.declared.places.Bounds.{Bounds}
 use Rattle.sloth_base.specs.declared.places.Levels.{Levels}
 use Rattle.sloth_base.specs.MemoryMap.{vectors_base}
+use Rattle.sloth_base.specs.Limits.{level_count}
 use Rattle.sloth_region.specs.declared.map.Map.{Map}
 use Rattle.code_rules.specs.WellFormed.{WellFormed}
 use Rattle.stack_bounds.specs.Bounds.{AreBounds}
@@ -26,7 +27,7 @@ pub record MayGenerate (config : Config) (app : App) (levels : Levels) (map : Ma
   pub well_formed : WellFormed config app
   pub named : (t : ℕ) → t < length config.tasks → IsBodyName app t (declaration config t).name
   pub are_levels : AreLevels config levels
-  pub small : (levels.top < 32) × ((t : ℕ) → slice_index levels.task t < 32)
+  pub small : (levels.top < level_count) × ((t : ℕ) → slice_index levels.task t < level_count)
   pub bounds : Bounds
   pub are_bounds : AreBounds config app bounds
   pub planned : IsPlanned config app bounds map

@@ -3,6 +3,7 @@ use Rattle.std.specs.Prelude.{ℕ, ◌<◌, ◌≤◌, ◌≡◌, List, [], leng
 use Rattle.sloth_base.specs.declared.app.App.{App}
 use Rattle.sloth_base.specs.declared.config.Config.{Config}
 use Rattle.sloth_base.specs.declared.places.Levels.{Levels}
+use Rattle.sloth_base.specs.Limits.{task_limit, level_count, frame_limit}
 use Rattle.sloth_region.specs.declared.map.Map.{Map}
 use Rattle.rv32_instr.specs.declared.block.Block.{Block}
 use Rattle.code_lengths.specs.Bodies.{IsBodyPlace}
@@ -10,10 +11,10 @@ use Rattle.prologue_gen.specs.Places.{EntersTask, IsStackTop}
 
 -- what the prologue of each task needs
 pub record MayStartTasks (config : Config) (app : App) (levels : Levels) (map : Map) : Type 0 where
-  pub few : length config.tasks ≤ 30
-  pub levels_fit : (levels.top < 32) × ((t : ℕ) → slice_index levels.task t < 32)
+  pub few : length config.tasks ≤ task_limit
+  pub levels_fit : (levels.top < level_count) × ((t : ℕ) → slice_index levels.task t < level_count)
   pub bodies : (t : ℕ) → t < length config.tasks → (body : ℕ) × IsBodyPlace app.funcs t body
-  pub frames : All (λ func. func.frame_words ≤ 32) app.funcs
+  pub frames : All (λ func. func.frame_words ≤ frame_limit) app.funcs
   pub tops : (length map.tops ≡ length config.tasks) × All IsStackTop map.tops
   pub items : (length app.funcs ≤ length map.places.first) × All (λ i. i < length map.places.items) map.places.first
 

@@ -3,7 +3,7 @@ ghost use Rattle.std.specs.Prelude.{IfOk};
 ghost use Rattle.sloth_link.specs.Image.{MayLink};
 ghost use Rattle.image_gen.specs.Gathered.{MayGenerate, IsGathered};
 
-use crate::prologues::{prologues, push};
+use crate::prologues::prologues;
 use crate::services::services;
 use crate::ticks::ticks;
 use mem_map::wanted_blocks;
@@ -14,6 +14,7 @@ use sloth_base::memory::NoMemory;
 use sloth_base::places::Levels;
 use sloth_region::map::Map;
 use std::alloc::Global;
+use text_pieces::growth::push;
 use vector_gen::{boot, idle, vectors};
 
 /// All routines in the order of their addresses: the vector words, boot, the idle loop, the prologue of each task, the tick of each counter,

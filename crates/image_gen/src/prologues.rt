@@ -1,5 +1,5 @@
 //! The prologues of all tasks.
-ghost use Rattle.std.specs.Prelude.{◌≡◌, ◌<◌, ◌++◌, ◌∷◌, [], IfOk, OnOk, length};
+ghost use Rattle.std.specs.Prelude.{◌≡◌, ◌<◌, IfOk, length};
 ghost use Rattle.image_gen.specs.Prologues.{MayStartTasks, IsPrologue, Each};
 
 use prologue_gen::prologue;
@@ -10,17 +10,8 @@ use sloth_base::memory::NoMemory;
 use sloth_base::numbers::TaskId;
 use sloth_base::places::Levels;
 use sloth_region::map::Map;
-use std::alloc::{AllocError, Global};
-
-/// One more block.
-pub fn push(blocks: &mut Vec<Block>, block: Block) -> Result<(), NoMemory>
-    ensures { OnOk result (blocks.new.items ≡ blocks.old.items ++ block ∷ []) }
-{
-    match blocks.push(block) {
-        Ok(()) => Ok(()),
-        Err(failed) => Err(AllocError::from(failed).into()),
-    }
-}
+use std::alloc::Global;
+use text_pieces::growth::push;
 
 // The prologue of one task.
 fn one(

@@ -4,7 +4,6 @@ ghost use Rattle.sloth_base.specs.ConfigRange.{InRange};
 ghost use Rattle.sloth_base.specs.Blocks.{block_count};
 ghost use Rattle.image_gen.specs.Services.{IsServiceNumber, AreServed, IsService, AreServices};
 
-use crate::prologues::push;
 use rv32_instr::Block;
 use service_blocks::block;
 use sloth_base::config::Config;
@@ -12,6 +11,7 @@ use sloth_base::memory::NoMemory;
 use sloth_base::places::{BLOCK_COUNT, Levels, block_object, block_service};
 use sloth_region::map::Map;
 use std::alloc::Global;
+use text_pieces::growth::push;
 
 // The code of a service by its place.
 fn one(

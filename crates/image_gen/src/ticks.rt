@@ -4,7 +4,6 @@ ghost use Rattle.sloth_base.specs.ConfigRange.{InRange};
 ghost use Rattle.image_gen.specs.Prologues.{Each};
 ghost use Rattle.image_gen.specs.Ticks.{IsTickBlock};
 
-use crate::prologues::push;
 use alarm_gen::tick;
 use rv32_instr::Block;
 use sloth_base::config::Config;
@@ -12,6 +11,7 @@ use sloth_base::memory::NoMemory;
 use sloth_base::places::Levels;
 use sloth_region::map::Map;
 use std::alloc::Global;
+use text_pieces::growth::push;
 
 // The tick of one counter.
 fn one(

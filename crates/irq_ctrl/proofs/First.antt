@@ -3,6 +3,7 @@ use Rattle.std.proofs.Common.{◌≡◌, ℕ, ◌<◌, ◌≤◌, arith, Option,
 use Rattle.std.specs.Option.{ForSome}
 use Rattle.sloth_base.specs.Lines.{Lines}
 use Rattle.sloth_base.specs.Choose.{MayTake, IsChosen, choose_line}
+use Rattle.sloth_base.specs.MemoryMap.{line_count}
 use Rattle.sloth_base.proofs.Choosing.{choose_line-is, only_choice}
 
 -- what may be taken at a level may be taken at level 0
@@ -11,7 +12,7 @@ at_zero lines level line m =
     let above = m.is_above in
     record { in_range = m.in_range; is_pending = m.is_pending; is_enabled = m.is_enabled; is_above = omega arith }
 
-pub first_in_range : (lines : Lines) (line : ℕ) → IsChosen lines 0 (Some line) → line < 32
+pub first_in_range : (lines : Lines) (line : ℕ) → IsChosen lines 0 (Some line) → line < line_count
 first_in_range lines line first = first.0.in_range
 
 -- it is the choice at a lower level
@@ -36,7 +37,7 @@ pub none_at_all : (lines : Lines) (level : ℕ) → IsChosen lines 0 None → Is
 none_at_all lines level none = λ other m. none other (at_zero lines level other m)
 
 -- a chosen line is one of 32
-pub chosen_in_range : (lines : Lines) (level : ℕ) (line : Option ℕ) → IsChosen lines level line → ForSome line (λ l. l < 32)
+pub chosen_in_range : (lines : Lines) (level : ℕ) (line : Option ℕ) → IsChosen lines level line → ForSome line (λ l. l < line_count)
 chosen_in_range lines level None chosen = λ l is. absurd cc
 chosen_in_range lines level (Some line) chosen = λ l is. let e : line ≡ l = cc in let lower = chosen.0.in_range in omega (arith, e)
 

@@ -1,8 +1,12 @@
 //! The interrupt controller of the machine: 32 lines, each with a pending, an enable and a level byte.
+//!
+//! It finds the greatest line that may be taken, and has its bytes (`Controller`). What it does is defined in `sloth_base` (`Lines`, `Choose`,
+//! `Take`); the controller as the machine starts in `specs/Fresh`.
 #![tactic(auto)]
 
 ghost use Rattle.std.specs.Prelude.{◌≡◌, ◌<◌, ◌==◌, slice_set, slice_index};
 ghost use Rattle.std.specs.Option.{ForSome};
+ghost use Rattle.sloth_base.specs.MemoryMap.{controller_bytes, line_count};
 
 mod line_bytes;
 
@@ -46,7 +50,7 @@ impl Controller {
 
     /// The line's pending byte becomes 1.
     pub fn arrive(&mut self, line: Line)
-        requires { line < 32 }
+        requires { line < line_count }
         ensures { self.new ≡ record self.old { pending = slice_set self.old.pending line 1 } }
     {
         self.bytes.arrive(line);
@@ -55,7 +59,7 @@ impl Controller {
 
     /// The byte at an offset: pending bytes from 0 on, enable bytes from 32 on, level bytes from 64 on.
     pub fn load(&self, offset: u32) -> u8
-        requires { offset < 96 }
+        requires { offset < controller_bytes }
         ensures { result ≡ controller_byte self.now offset }
     {
         self.bytes.load(offset)
@@ -63,7 +67,7 @@ impl Controller {
 
     /// Writes the byte at an offset. A pending or enable byte keeps 1 for a value that isn't zero.
     pub fn store(&mut self, offset: u32, value: u8)
-        requires { offset < 96 }
+        requires { offset < controller_bytes }
         ensures { self.new ≡ with_controller_byte self.old offset value }
     {
         self.bytes.store(offset, value);
@@ -76,14 +80,14 @@ impl Controller {
     pub fn choose(&self, level: u8) -> Option<Line>
         ensures is { result ≡ choose_line self.now level }
         ensures chosen { IsChosen self.now level result }
-        ensures in_range { ForSome result (λ line. line < 32) }
+        ensures in_range { ForSome result (λ line. line < line_count) }
     {
         self.first_above(level)
     }
 
     /// The line is no longer pending.
     pub fn take(&mut self, line: Line)
-        requires { line < 32 }
+        requires { line < line_count }
         ensures { self.new ≡ without_pending line self.old }
     {
         self.bytes.take(line);
@@ -92,7 +96,7 @@ impl Controller {
 
     /// Whether the line is pending.
     pub fn is_pending(&self, line: Line) -> bool
-        requires { line < 32 }
+        requires { line < line_count }
         ensures { result ≡ (slice_index self.now.pending line == 1) }
     {
         self.bytes.is_pending(line)
@@ -100,7 +104,7 @@ impl Controller {
 
     /// Whether the line is enabled.
     pub fn is_enabled(&self, line: Line) -> bool
-        requires { line < 32 }
+        requires { line < line_count }
         ensures { result ≡ (slice_index self.now.enabled line == 1) }
     {
         self.bytes.is_enabled(line)

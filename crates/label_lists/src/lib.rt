@@ -1,4 +1,8 @@
-//! The held list of a label: that of its place in the body.
+//! The held list of a label, and the parts of its line in task source.
+//!
+//! The list at a place of a body, empty where it has none, and a copy of it at a label's place (`list_at`, `held_list`; `specs/Places`). Of the line:
+//! `, R` for each resource of a list, and its line end, exact in bytes (`write_resources`, `line_end`; `specs/LabelLines`). Lines: `asm_lines`
+//! (`Lines`).
 #![tactic(auto)]
 
 mod line_ends;

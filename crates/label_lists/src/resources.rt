@@ -5,10 +5,7 @@ ghost use Rattle.label_lists.specs.LabelLines.{resource_name, resource_names};
 
 use sloth_base::config::Config;
 use sloth_base::memory::NoMemory;
-use sloth_base::numbers::ResId;
-
-/// The number of RES_SCHEDULER.
-const RES_SCHEDULER: u32 = 32;
+use sloth_base::numbers::{RES_SCHEDULER, ResId};
 
 fn resource_name(config: &Config, resource: ResId) -> &[u8]
     ensures { result.now ≡ resource_name config.now resource }

@@ -1,12 +1,13 @@
 -- Where counts stand in a picture, in hundredths of a pixel, and which of them the axis names.
 use Rattle.std.specs.Prelude.{ℕ, ◌+◌, ◌-◌, ◌*◌, ◌/◌, ◌%◌, ◌≤◌, max, leb, List, [], ◌∷◌, ◌++◌, codes, decimal, if◌then◌else◌}
+use Rattle.sloth_base.specs.Limits.{picture_limit, count_limit}
 use Rattle.lane_drawing.specs.declared.scale.Scale.{Scale}
 
 -- A scale that has its counts in order, 100,000 at most of the first 1,000,000, in a chart that begins 600 pixels from the left at most.
 pub record IsScale (scale : Scale) : Type 0 where
   pub ordered : scale.from ≤ scale.to
-  pub short : scale.to ≤ scale.from + 100000
-  pub within : scale.to ≤ 1000000
+  pub short : scale.to ≤ scale.from + picture_limit
+  pub within : scale.to ≤ count_limit
   pub near : scale.left ≤ 600
   pub far : 12 ≤ scale.left
 

@@ -1,5 +1,6 @@
 //! An arrival in a lane.
 ghost use Rattle.std.specs.Prelude.{◌≡◌, ◌≤◌, length};
+ghost use Rattle.sloth_base.specs.Limits.{name_limit};
 ghost use Rattle.lane_drawing.specs.Scale.{IsScale};
 ghost use Rattle.lane_drawing.specs.Arrivals.{arrival_line};
 
@@ -11,7 +12,7 @@ use trace_text::line_text::LineText;
 #[tactic(auto, unfolding(crate::specs::Arrivals::arrival_line))]
 pub fn arrival_line(scale: Scale, name: &[u8], middle: u32, arrival: Arrival) -> LineText
     requires scale { IsScale scale }
-    requires name { length name.now ≤ 64 }
+    requires name { length name.now ≤ name_limit }
     requires low { 12 ≤ middle }
     requires behind { scale.from ≤ arrival.at }
     requires within { arrival.at ≤ scale.to }

@@ -1,6 +1,7 @@
 //! The lanes of a picture, a line for each bar and mark.
 ghost use Rattle.std.specs.Prelude.{◌≡◌, ◌≤◌, ◌++◌, OnOk, All, length};
 ghost use Rattle.std.specs.List.{flat_map};
+ghost use Rattle.sloth_base.specs.Limits.{name_limit};
 ghost use Rattle.lane_drawing.specs.Bars.{IsInside};
 ghost use Rattle.lane_drawing.specs.Scale.{IsScale};
 ghost use Rattle.lane_drawing.specs.Drawing.{look_class, look_word, look_height, bar_line, lane_line, shown_arrivals, is_shown};
@@ -54,7 +55,7 @@ fn look_height(look: Look) -> u32
 #[tactic(auto, unfolding(crate::specs::Drawing::bar_line))]
 fn bar_line(scale: Scale, name: &[u8], middle: u32, bar: Bar) -> LineText
     requires scale { IsScale scale }
-    requires name { length name.now ≤ 64 }
+    requires name { length name.now ≤ name_limit }
     requires low { 12 ≤ middle }
     requires inside { IsInside scale.from scale.to bar }
     ensures { result ≡ bar_line scale name.now middle bar }
@@ -91,7 +92,7 @@ fn bar_line(scale: Scale, name: &[u8], middle: u32, bar: Bar) -> LineText
 #[tactic(auto, unfolding(crate::specs::Drawing::lane_line))]
 fn lane_line(scale: Scale, name: &[u8], middle: u32) -> LineText
     requires scale { IsScale scale }
-    requires name { length name.now ≤ 64 }
+    requires name { length name.now ≤ name_limit }
     requires low { middle ≤ 2000 }
     ensures { result ≡ lane_line scale name.now middle }
 {
@@ -120,7 +121,7 @@ pub fn push_lane(
     bars: &[Bar],
 ) -> Result<(), NoMemory>
     requires scale { IsScale scale }
-    requires name { length name.now ≤ 64 }
+    requires name { length name.now ≤ name_limit }
     requires high { 12 ≤ middle }
     requires low { middle ≤ 2000 }
     requires inside { All (IsInside scale.from scale.to) bars.now }
@@ -150,7 +151,7 @@ pub fn push_arrivals(
     task: u8,
 ) -> Result<(), NoMemory>
     requires scale { IsScale scale }
-    requires name { length name.now ≤ 64 }
+    requires name { length name.now ≤ name_limit }
     requires high { 12 ≤ middle }
     ensures { OnOk result (text.new.items ≡ text.old.items
         ++ flat_map (arrival_line scale name.now middle) (shown_arrivals scale arrivals.now task)) }

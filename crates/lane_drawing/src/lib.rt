@@ -1,4 +1,9 @@
 //! Lanes of bars over counts, drawn as SVG 1.1.
+//!
+//! Each line of the drawing is as defined (`push_lane`, `push_arrivals`, `push_axis`, `push_head`, `push_legend`; `specs/Drawing`). The bars of a
+//! lane are its longest stretches of counts that show the same, and no others, as its counts come; places in hundredths of a pixel, the axis' step
+//! and multiples, and the line of an arrival are as defined (`Strip`, `Scale`, `push_pixels`, `arrival_line`; `specs/Bars`, `specs/Strips`,
+//! `specs/Scale`, `specs/Arrivals`). A line in its buffer: `line_words`.
 #![tactic(auto)]
 
 pub mod arrivals;

@@ -1,5 +1,6 @@
 //! Where counts stand in a picture.
 ghost use Rattle.std.specs.Prelude.{◌≡◌, ◌≤◌, ◌+◌, ◌++◌, length};
+ghost use Rattle.sloth_base.specs.Limits.{picture_limit, count_limit};
 ghost use Rattle.lane_drawing.specs.Scale.{IsScale, span, place, pixels, axis_step, steps, first_step, first_multiple, last_multiple};
 
 use trace_text::line_text::LineText;
@@ -41,7 +42,7 @@ impl Scale {
         requires { IsScale self }
         ensures is { result ≡ span self }
         ensures some { 1 ≤ result }
-        ensures short { result ≤ 100000 }
+        ensures short { result ≤ picture_limit }
     {
         (self.to - self.from).max(1)
     }
@@ -72,7 +73,7 @@ impl Scale {
     pub fn first_multiple(self) -> u32
         requires { IsScale self }
         ensures is { result ≡ first_multiple self }
-        ensures few { result ≤ 1000000 }
+        ensures few { result ≤ count_limit }
     {
         (self.from + self.axis_step() - 1) / self.axis_step()
     }
@@ -81,7 +82,7 @@ impl Scale {
     pub fn last_multiple(self) -> u32
         requires { IsScale self }
         ensures is { result ≡ last_multiple self }
-        ensures few { result ≤ 1000000 }
+        ensures few { result ≤ count_limit }
     {
         self.to / self.axis_step()
     }

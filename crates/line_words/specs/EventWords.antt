@@ -38,6 +38,14 @@ kind_of event.Idle = 7
 kind_of event.Stray = 8
 kind_of (event.Tick counter) = 9
 
+-- an event that is one word
+unfoldable pub bare_in : List ℕ → Option Event
+bare_in text =
+    if bytes_eq text (codes "boot") then Some event.Boot
+    else if bytes_eq text (codes "idle") then Some event.Idle
+    else if bytes_eq text (codes "stray") then Some event.Stray
+    else None
+
 -- an event of a task alone, by its first word
 unfoldable pub single_in : List ℕ → ℕ → Option Event
 single_in kind task =

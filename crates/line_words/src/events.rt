@@ -1,6 +1,7 @@
 //! The words of events.
 ghost use Rattle.std.specs.Prelude.{◌≡◌, ℕ, ◌+◌, ◌<◌, ◌≤◌, ◌++◌, length, codes, decimal};
 ghost use Rattle.sloth_base.specs.ServiceCodes.{service_name};
+ghost use Rattle.sloth_base.specs.Limits.{name_limit};
 ghost use Rattle.line_words.specs.EventWords.{event_text, kind_of, name_of};
 
 use crate::line_text::LineText;
@@ -29,10 +30,10 @@ pub fn kind_of(event: &Event) -> usize
 
 /// Appends the name of a number, or `-`.
 pub fn push_name(line: &mut LineText, names: &[Name], number: u32)
-    requires short { (k : ℕ) → length (name_of names.now k) ≤ 64 }
-    requires room { length line.old + 64 ≤ 256 }
+    requires short { (k : ℕ) → length (name_of names.now k) ≤ name_limit }
+    requires room { length line.old + name_limit ≤ 256 }
     ensures name { line.new ≡ line.old ++ name_of names.now number }
-    ensures short { length line.new ≤ length line.old + 64 }
+    ensures short { length line.new ≤ length line.old + name_limit }
 {
     match names.get(number as usize) {
         Some(name) => line.push(name.bytes()),
@@ -42,10 +43,10 @@ pub fn push_name(line: &mut LineText, names: &[Name], number: u32)
 
 // Appends a word, and the name of a number.
 fn push_named(line: &mut LineText, word: &[u8], names: &[Name], number: u32)
-    requires short { (k : ℕ) → length (name_of names.now k) ≤ 64 }
-    requires room { length line.old + length word.now + 64 ≤ 256 }
+    requires short { (k : ℕ) → length (name_of names.now k) ≤ name_limit }
+    requires room { length line.old + length word.now + name_limit ≤ 256 }
     ensures named { line.new ≡ line.old ++ (word.now ++ name_of names.now number) }
-    ensures short { length line.new ≤ length line.old + length word.now + 64 }
+    ensures short { length line.new ≤ length line.old + length word.now + name_limit }
 {
     line.push(word);
     push_name(line, names, number);
@@ -79,9 +80,9 @@ pub fn push_event(
     functions: &[Name],
     counters: &[Name],
 )
-    requires tasks { (k : ℕ) → length (name_of tasks.now k) ≤ 64 }
-    requires functions { (k : ℕ) → length (name_of functions.now k) ≤ 64 }
-    requires counters { (k : ℕ) → length (name_of counters.now k) ≤ 64 }
+    requires tasks { (k : ℕ) → length (name_of tasks.now k) ≤ name_limit }
+    requires functions { (k : ℕ) → length (name_of functions.now k) ≤ name_limit }
+    requires counters { (k : ℕ) → length (name_of counters.now k) ≤ name_limit }
     requires room { length line.old + 155 ≤ 256 }
     ensures event { line.new ≡ line.old ++ event_text tasks.now functions.now counters.now event.now }
     ensures short { length line.new ≤ length line.old + 155 }

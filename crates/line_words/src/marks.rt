@@ -1,6 +1,7 @@
 //! The words of marks.
 ghost use Rattle.std.specs.Prelude.{◌≡◌, ℕ, ◌+◌, ◌≤◌, ◌++◌, length, codes, decimal};
 ghost use Rattle.sloth_base.specs.ServiceCodes.{service_of};
+ghost use Rattle.sloth_base.specs.Limits.{name_limit};
 ghost use Rattle.line_words.specs.EventWords.{name_of};
 ghost use Rattle.line_words.specs.MarkWords.{called_text, mark_text};
 
@@ -12,7 +13,7 @@ use sloth_base::service::Service;
 
 /// Appends what a mark says.
 pub fn push_mark(line: &mut LineText, functions: &[Name], mark: &Mark)
-    requires names { (k : ℕ) → length (name_of functions.now k) ≤ 64 }
+    requires names { (k : ℕ) → length (name_of functions.now k) ≤ name_limit }
     requires room { length line.old ≤ 150 }
     ensures mark { line.new ≡ line.old ++ mark_text functions.now mark.now }
     ensures short { length line.new ≤ length line.old + 84 }
@@ -31,7 +32,7 @@ pub fn push_mark(line: &mut LineText, functions: &[Name], mark: &Mark)
 
 // Appends a word, and the function and the item of a mark.
 fn push_place(line: &mut LineText, word: &[u8], functions: &[Name], mark: &Mark)
-    requires names { (k : ℕ) → length (name_of functions.now k) ≤ 64 }
+    requires names { (k : ℕ) → length (name_of functions.now k) ≤ name_limit }
     requires word { length word.now ≤ 9 }
     requires room { length line.old ≤ 150 }
     ensures place { line.new ≡ line.old ++ (word.now ++ name_of functions.now mark.now.b ++ codes " " ++ decimal mark.now.c) }

@@ -1,10 +1,28 @@
 //! Words of events read.
 ghost use Rattle.std.specs.Prelude.{◌≡◌, ℕ, IfSome};
 ghost use Rattle.line_words.specs.EventNumbers.{HasNumbers, IsNumberOrNone};
-ghost use Rattle.line_words.specs.EventWords.{single_in};
+ghost use Rattle.line_words.specs.EventWords.{bare_in, single_in};
 
 use sloth_base::event::Event;
 use text_pieces::bytes::same;
+
+/// An event that is one word.
+#[tactic(auto, unfolding(crate::specs::EventWords::bare_in))]
+pub fn bare_in(text: &[u8]) -> Option<Event>
+    ensures event { result ≡ bare_in text.now }
+    ensures numbers { (tasks functions counters : ℕ) → IfSome result (λ event. HasNumbers tasks functions counters event) }
+{
+    if same(text, b"boot") {
+        return Some(Event::Boot);
+    }
+    if same(text, b"idle") {
+        return Some(Event::Idle);
+    }
+    if same(text, b"stray") {
+        return Some(Event::Stray);
+    }
+    None
+}
 
 /// An event of a task alone, by its first word.
 #[tactic(auto, unfolding(crate::specs::EventWords::single_in))]

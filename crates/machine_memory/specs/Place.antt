@@ -4,6 +4,7 @@ use Rattle.sloth_base.specs.declared.app.Width.{Width}
 use Rattle.sloth_base.specs.declared.app.Width.TheVariants as width
 use Rattle.irq_ctrl.specs.Fresh.{fresh_lines}
 use Rattle.sloth_base.specs.Arithmetic.{size_of}
+use Rattle.sloth_base.specs.MemoryMap.{memory_bytes, memory_base, controller_base, controller_bytes}
 use Rattle.rv32_instr.specs.Ram.{half_at, word_at, with_byte, with_half, with_word}
 use Rattle.rv32_instr.specs.Memory.{Memory, in_ram}
 use Rattle.machine_memory.specs.declared.place.Place.{Place}
@@ -16,9 +17,9 @@ bare_memory controller = record { ram = []; lines = fresh_lines; controller = co
 -- the access at an address goes there
 abbrev pub IsPlace : Bool → ℕ → Width → Place → Type 0
 IsPlace controller address width (place.Ram offset) =
-    (in_ram address (size_of width) ≡ true) × (offset ≡ address - 0x8000_0000) × (offset + size_of width ≤ 2097152)
+    (in_ram address (size_of width) ≡ true) × (offset ≡ address - memory_base) × (offset + size_of width ≤ memory_bytes)
 IsPlace controller address width (place.Controller offset) =
-    (controller ≡ true) × (in_ram address 1 ≡ false) × (size_of width ≡ 1) × (offset ≡ address - 0x1000_0000) × (offset < 96)
+    (controller ≡ true) × (in_ram address 1 ≡ false) × (size_of width ≡ 1) × (offset ≡ address - controller_base) × (offset < controller_bytes)
 
 -- the bytes at an offset in RAM
 abbrev pub bytes_at : List ℕ → ℕ → Width → ℕ

@@ -6,6 +6,7 @@ ghost use Rattle.sloth_base.specs.Take.{without_pending};
 ghost use Rattle.rv32_instr.specs.Memory.{Memory, refusal, loaded_number, stored_memory};
 ghost use Rattle.machine_memory.specs.Choice.{choice};
 ghost use Rattle.sloth_base.specs.declared.app.Width.TheVariants as kind;
+ghost use Rattle.sloth_base.specs.MemoryMap.{line_count};
 
 use rv32_instr::Bad;
 use sloth_base::app::Width;
@@ -32,11 +33,11 @@ pub trait Bus {
     fn choose(&self, level: u8) -> Option<Line>
         ensures is { result ≡ choice (memory self.now) level }
         ensures chosen { IsTrue (memory self.now).controller → IsChosen (memory self.now).lines level result }
-        ensures there { ForSome result (λ line. (line < 32) × ((memory self.now).controller ≡ true)) };
+        ensures there { ForSome result (λ line. (line < line_count) × ((memory self.now).controller ≡ true)) };
 
     /// The line is no longer pending, where there is a controller.
     fn take(&mut self, line: Line)
-        requires { line < 32 }
+        requires { line < line_count }
         ensures there { (memory self.old).controller ≡ true → memory self.new
             ≡ record (memory self.old) { lines = without_pending line (memory self.old).lines } }
         ensures not_there { (memory self.old).controller ≡ false → memory self.new ≡ memory self.old };

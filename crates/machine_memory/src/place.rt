@@ -6,18 +6,7 @@ ghost use Rattle.machine_memory.specs.Place.{IsPlace, bare_memory};
 
 use rv32_instr::Bad;
 use sloth_base::app::Width;
-
-/// The first address of RAM.
-const RAM: u32 = 0x8000_0000;
-
-/// The address behind RAM.
-const RAM_END: u32 = 0x8020_0000;
-
-/// The first address of the controller.
-const CONTROLLER: u32 = 0x1000_0000;
-
-/// The bytes of the controller.
-const CONTROLLER_SIZE: u32 = 96;
+use sloth_base::memory_map::{CONTROLLER_BASE, CONTROLLER_BYTES, MEMORY_BASE, MEMORY_END};
 
 /// An offset in RAM, or in the controller.
 #[derive(Clone, Copy)]
@@ -48,11 +37,15 @@ pub fn locate(address: u32, width: Width, controller: bool) -> Result<Place, Bad
     if address % size != 0 {
         return Err(Bad::Misaligned);
     }
-    if RAM <= address && address <= RAM_END - size {
-        return Ok(Place::Ram(address - RAM));
+    if MEMORY_BASE <= address && address <= MEMORY_END - size {
+        return Ok(Place::Ram(address - MEMORY_BASE));
     }
-    if controller && size == 1 && CONTROLLER <= address && address < CONTROLLER + CONTROLLER_SIZE {
-        return Ok(Place::Controller(address - CONTROLLER));
+    if controller
+        && size == 1
+        && CONTROLLER_BASE <= address
+        && address < CONTROLLER_BASE + CONTROLLER_BYTES
+    {
+        return Ok(Place::Controller(address - CONTROLLER_BASE));
     }
     Err(Bad::Access)
 }

@@ -1,6 +1,7 @@
 //! A bus of RAM and the interrupt controller.
 ghost use Rattle.std.specs.Prelude.{◌≡◌, ◌<◌, ◌==◌, IfOk, slice_set, slice_index};
 ghost use Rattle.sloth_base.specs.ImageRange.{InFormat};
+ghost use Rattle.sloth_base.specs.MemoryMap.{line_count};
 ghost use Rattle.machine_memory.specs.Fresh.{sloth_start};
 
 use crate::bus::Bus;
@@ -11,6 +12,7 @@ use rv32_instr::Bad;
 use sloth_base::app::Width;
 use sloth_base::image::Image;
 use sloth_base::memory::NoMemory;
+use sloth_base::memory_map::LEVELS_OFFSET;
 use sloth_base::numbers::Line;
 use std::alloc::Global;
 use std::marker::Model;
@@ -46,7 +48,7 @@ impl SlothBus {
 
     /// The line's pending byte becomes 1.
     pub fn arrive(&mut self, line: Line)
-        requires { line < 32 }
+        requires { line < line_count }
         ensures { self.new ≡ record self.old { lines = record self.old.lines { pending = slice_set self.old.lines.pending line 1 } } }
     {
         self.controller.arrive(line);
@@ -54,7 +56,7 @@ impl SlothBus {
 
     /// Whether the line is pending.
     pub fn is_pending(&self, line: Line) -> bool
-        requires { line < 32 }
+        requires { line < line_count }
         ensures { result ≡ (slice_index self.now.lines.pending line == 1) }
     {
         self.controller.is_pending(line)
@@ -62,7 +64,7 @@ impl SlothBus {
 
     /// Whether the line is enabled.
     pub fn is_enabled(&self, line: Line) -> bool
-        requires { line < 32 }
+        requires { line < line_count }
         ensures { result ≡ (slice_index self.now.lines.enabled line == 1) }
     {
         self.controller.is_enabled(line)
@@ -71,10 +73,11 @@ impl SlothBus {
     /// The line's level byte, 0 to 255.
     #[tactic(auto, using(std::proofs::lemmas::Bool::Decides::nat_tests), unfolding(sloth_base::specs::Lines::controller_byte))]
     pub fn level_of(&self, line: Line) -> u8
-        requires { line < 32 }
+        requires { line < line_count }
         ensures { result ≡ slice_index self.now.lines.levels line }
     {
-        self.controller.load(64 + u32::from(line.0))
+        self.controller
+            .load(LEVELS_OFFSET as u32 + u32::from(line.0))
     }
 }
 

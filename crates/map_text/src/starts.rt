@@ -1,20 +1,19 @@
 //! Where each piece of code and data begins.
 ghost use Rattle.std.specs.Prelude.{◌≡◌, ◌<◌, ◌≤◌, ◌+◌, ◌++◌, ◌∷◌, [], IfOk, OnOk, drop, get_or, take};
 ghost use Rattle.sloth_base.specs.Owners.{first_counter_line};
+ghost use Rattle.sloth_base.specs.Limits.{counter_limit};
+ghost use Rattle.sloth_base.specs.MemoryMap.{line_count};
 ghost use Rattle.mem_map.specs.StackParts.{no_extent};
 ghost use Rattle.map_text.specs.Listable.{IsListable};
 ghost use Rattle.map_text.specs.Rows.{address_behind_code, code_places, numbered_starts, single_start, starts_of};
 
 use crate::piece_rows::{Kind, Start, tick_count};
 use sloth_base::config::Config;
-use sloth_base::lines::COUNTER_LINE;
-use sloth_base::memory_map::{BOOT_BASE, MEMORY_BASE, VECTORS_BASE};
+use sloth_base::lines::FIRST_COUNTER_LINE;
+use sloth_base::memory_map::{BOOT_BASE, MEMORY_BASE, VECTORS_BASE, WORD};
 use sloth_region::extent::Extent;
 use sloth_region::map::Map;
 use std::alloc::{AllocError, Global};
-
-/// The bytes behind the last symbol.
-const WORD: u32 = 4;
 
 /// The place of the zone of code among the extents of a map.
 const CODE: usize = 1;
@@ -97,7 +96,7 @@ fn push_numbered(starts: &mut Vec<Start>, kind: Kind, addresses: &[u32]) -> Resu
 
 // The addresses of the prologues of so many tasks.
 fn prologues(map: &Map, tasks: usize) -> &[u32]
-    requires { tasks ≤ 32 }
+    requires { tasks ≤ line_count }
     ensures { result.now ≡ take tasks map.now.handlers }
 {
     &map.handlers[..tasks]
@@ -105,10 +104,10 @@ fn prologues(map: &Map, tasks: usize) -> &[u32]
 
 // Those of the ticks of so many counters.
 fn ticks(map: &Map, counters: usize) -> &[u32]
-    requires { counters ≤ 2 }
+    requires { counters ≤ counter_limit }
     ensures { result.now ≡ take counters (drop first_counter_line map.now.handlers) }
 {
-    let first = usize::from(COUNTER_LINE);
+    let first = usize::from(FIRST_COUNTER_LINE);
     &map.handlers[first..first + counters]
 }
 

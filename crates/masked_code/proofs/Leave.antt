@@ -4,8 +4,8 @@ use Rattle.std.specs.Prelude.{false, true, pos}
 use Rattle.std.proofs.lemmas.Bool.{ne_eqb}
 use Rattle.sloth_base.specs.Arithmetic.{plus}
 use Rattle.sloth_base.specs.Machine.{Core, State}
-use Rattle.sloth_base.specs.MemoryMap.{memory_base}
-use Rattle.sloth_region.specs.Layout.{cur, below_word, context_bytes, context_level, context_cur, context_below, controller_base}
+use Rattle.sloth_base.specs.MemoryMap.{memory_base, memory_bytes, controller_base}
+use Rattle.sloth_region.specs.Layout.{cur, below_word, context_bytes, context_level, context_cur, context_below}
 use Rattle.rv32_instr.specs.declared.InstrKind.TheVariants.{Mret}
 use Rattle.rv32_instr.specs.Ram.{word_at, with_word}
 use Rattle.masked_code.proofs.Owes.{◌▸◌, writes, loads, stores, accesses, Owes}
@@ -22,7 +22,7 @@ behind zero o = o
 behind (suc n) o = behind n (o + 4)
 
 -- the address behind a context in RAM
-pub context_end : (place : ℕ) → place + context_bytes ≤ 0x20_0000 → plus (memory_base + place) (pos context_bytes) ≡ memory_base + (place + context_bytes)
+pub context_end : (place : ℕ) → place + context_bytes ≤ memory_bytes → plus (memory_base + place) (pos context_bytes) ≡ memory_base + (place + context_bytes)
 context_end place inside = omega arith
 
 -- where the branch lands
@@ -106,7 +106,7 @@ module _ (from to : ℕ) (E : List ℕ → State → State → Type 0) (start : 
       }
 
   -- what is owed of going back: of the state that it ends in, whatever runs below
-  pub leave_owes : (o : ℕ) → o ≤ 0x20_0000 → ((end : State) → HasLeft place c end → E [] start end)
+  pub leave_owes : (o : ℕ) → o ≤ memory_bytes → ((end : State) → HasLeft place c end → E [] start end)
       → Owes from to o leaving_code 0 E start (record c { registers = 0 ∷ x1 ∷ x2 ∷ controller_base ∷ memory_base ∷ x5 ∷ tail })
   leave_owes o small go =
       let al = b.aligned in

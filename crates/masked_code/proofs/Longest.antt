@@ -3,7 +3,7 @@ use Rattle.std.proofs.Common.{◌≡◌, ℕ, zero, suc, ◌+◌, ◌-◌, ◌*�
 use Rattle.std.specs.Prelude.{ℤ, pos, negsuc, Bool, true, false, max, nat_le}
 use Rattle.std.proofs.lemmas.Bool.{leb-true}
 use Rattle.sloth_base.specs.Arithmetic.{plus}
-use Rattle.sloth_base.specs.MemoryMap.{memory_base}
+use Rattle.sloth_base.specs.MemoryMap.{memory_base, memory_bytes}
 use Rattle.rv32_instr.specs.declared.effect.Effect.{Effect}
 use Rattle.rv32_instr.specs.declared.effect.Effect.TheVariants.{Branch, Jump, Return}
 use Rattle.rv32_instr.specs.declared.InstrKind.{InstrKind}
@@ -20,12 +20,12 @@ pub data Following : Type 0 where
 
 -- of a branch with this number
 abbrev pub past : ℤ → Following
-past (pos n) = cond (nat_le n 2097152) (Past ((n - 4) / 4)) Any
+past (pos n) = cond (nat_le n memory_bytes) (Past ((n - 4) / 4)) Any
 past (negsuc n) = Any
 
 -- of a jump with this number
 abbrev pub only : ℤ → Following
-only (pos n) = cond (nat_le n 2097152) (Only ((n - 4) / 4)) Any
+only (pos n) = cond (nat_le n memory_bytes) (Only ((n - 4) / 4)) Any
 only (negsuc n) = Any
 
 -- by the kind of the instruction
@@ -76,19 +76,19 @@ LeavesFew n o code (Jump rd target) = (passed : ℕ) → target ≡ memory_base 
 LeavesFew n o code Return = Unit {0}
 LeavesFew n o code e = longest code 0 ≤ n
 
-module _ (n o : ℕ) (code : List InstrKind) (inside : o + 4 ≤ 0x20_0000) where
+module _ (n o : ℕ) (code : List InstrKind) (inside : o + 4 ≤ memory_bytes) where
   branch_leaves : (imm : ℤ) (taken : Bool) → suc (most_behind (past imm) (longest code 0) (λ passed. longest code passed) (length code)) ≤ suc n
       → LeavesFew n o code (Branch taken (plus (memory_base + o) imm))
   branch_leaves (negsuc k) taken h =
       let first = longest_le code 0 in
       (omega (arith, h, first), λ passed e. let all = longest_le code passed in omega (arith, h, all))
-  branch_leaves (pos k) taken h = by (nat_le k 2097152) refl h
+  branch_leaves (pos k) taken h = by (nat_le k memory_bytes) refl h
     where
-      by : (b : Bool) → nat_le k 2097152 ≡ b
+      by : (b : Bool) → nat_le k memory_bytes ≡ b
           → suc (most_behind (cond b (Past ((k - 4) / 4)) Any) (longest code 0) (λ passed. longest code passed) (length code)) ≤ suc n
           → LeavesFew n o code (Branch taken (plus (memory_base + o) (pos k)))
       by true small l =
-          let few : k ≤ 2097152 = leb-true k 2097152 small in (
+          let few : k ≤ memory_bytes = leb-true k memory_bytes small in (
             omega (arith, l),
             λ passed e.
                 let is : (k - 4) / 4 ≡ passed = omega arith in
@@ -101,13 +101,13 @@ module _ (n o : ℕ) (code : List InstrKind) (inside : o + 4 ≤ 0x20_0000) wher
   jump_leaves : (rd : ℕ) (imm : ℤ) → suc (most_behind (only imm) (longest code 0) (λ passed. longest code passed) (length code)) ≤ suc n
       → LeavesFew n o code (Jump rd (plus (memory_base + o) imm))
   jump_leaves rd (negsuc k) h = λ passed e. let all = longest_le code passed in omega (arith, h, all)
-  jump_leaves rd (pos k) h = by (nat_le k 2097152) refl h
+  jump_leaves rd (pos k) h = by (nat_le k memory_bytes) refl h
     where
-      by : (b : Bool) → nat_le k 2097152 ≡ b
+      by : (b : Bool) → nat_le k memory_bytes ≡ b
           → suc (most_behind (cond b (Only ((k - 4) / 4)) Any) (longest code 0) (λ passed. longest code passed) (length code)) ≤ suc n
           → LeavesFew n o code (Jump rd (plus (memory_base + o) (pos k)))
       by true small l =
-          let few : k ≤ 2097152 = leb-true k 2097152 small in
+          let few : k ≤ memory_bytes = leb-true k memory_bytes small in
           λ passed e.
           let is : (k - 4) / 4 ≡ passed = omega arith in
           subst (λ p. longest code p ≤ n) is (omega (arith, l))

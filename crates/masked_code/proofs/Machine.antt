@@ -5,7 +5,7 @@ use Rattle.std.proofs.lemmas.Bool.{le-leb, and_from, eq-eqb, lt-ltb, lt-leb, le-
 use Rattle.sloth_base.specs.declared.app.Width.TheVariants as width
 use Rattle.sloth_base.specs.Machine.{Core}
 use Rattle.sloth_base.specs.Lines.{controller_byte, with_controller_byte, flag_of}
-use Rattle.sloth_base.specs.MemoryMap.{memory_base, memory_end}
+use Rattle.sloth_base.specs.MemoryMap.{memory_base, memory_end, memory_bytes, controller_base, controller_bytes, line_count}
 use Rattle.rv32_instr.specs.declared.InstrKind.{InstrKind}
 use Rattle.rv32_instr.specs.Encode.{Encode}
 use Rattle.rv32_instr.specs.Table.{Decode}
@@ -17,7 +17,7 @@ use Rattle.masked_code.specs.Place.{offset_state}
 
 -- an instruction stands at an offset
 abbrev pub Here : List ℕ → ℕ → InstrKind → Type 0
-Here ram o kind = (Decode (word_at ram o) ≡ Some kind) × (o + 4 ≤ 0x20_0000)
+Here ram o kind = (Decode (word_at ram o) ≡ Some kind) × (o + 4 ≤ memory_bytes)
 
 -- addresses of RAM, and those that are none
 pub in_ram_at : (a n : ℕ) → memory_base ≤ a → a + n ≤ memory_end → in_ram a n ≡ true
@@ -27,8 +27,8 @@ pub not_ram : (a n : ℕ) → a < memory_base → in_ram a n ≡ false
 not_ram a n h = and_left _ _ (lt-leb memory_base a h)
 
 -- the bytes of the controller that belong to lines
-pub line_in : (k : ℕ) → k < 96 → in_controller (0x1000_0000 + k) ≡ true
-line_in k h = and_from _ _ (le-leb 0x1000_0000 (0x1000_0000 + k) (omega arith)) (lt-ltb (0x1000_0000 + k) 0x1000_0060 (omega arith))
+pub line_in : (k : ℕ) → k < controller_bytes → in_controller (controller_base + k) ≡ true
+line_in k h = and_from _ _ (le-leb controller_base (controller_base + k) (omega arith)) (lt-ltb (controller_base + k) (controller_base + controller_bytes) (omega arith))
 
 -- a step performs the instruction that stands there
 pub step_at : (o : ℕ) (c : Core) (kind : InstrKind) → Here c.ram o kind → step (offset_state o c) ≡ perform (effect kind (memory_base + o) c.registers) (Encode kind) (memory_base + o) c
@@ -46,7 +46,7 @@ touched_at o c kind h =
     rw (e, h)
 
 -- the instruction behind it is next
-pub next_at : (o : ℕ) (c : Core) → o + 4 ≤ 0x20_0000 → goes_on (memory_base + o) c ≡ Going (offset_state (o + 4) c)
+pub next_at : (o : ℕ) (c : Core) → o + 4 ≤ memory_bytes → goes_on (memory_base + o) c ≡ Going (offset_state (o + 4) c)
 next_at o c h =
     let e : (memory_base + o + 4) % 4294967296 ≡ memory_base + (o + 4) = omega arith in
     ap (λ p. Going (record { pc = p; core = c })) e
@@ -58,7 +58,7 @@ jump_at o c al =
     rw (eq-eqb ((memory_base + o) % 4) 0 g)
 
 -- words of RAM
-pub word_allowed : (c : Core) (place : ℕ) → place % 4 ≡ 0 → place + 4 ≤ 0x20_0000 → refusal (memory_of c) (memory_base + place) width.Word ≡ None
+pub word_allowed : (c : Core) (place : ℕ) → place % 4 ≡ 0 → place + 4 ≤ memory_bytes → refusal (memory_of c) (memory_base + place) width.Word ≡ None
 unfolding refusal
 word_allowed c place al h =
     let g : (memory_base + place) % 4 ≡ 0 = omega arith in
@@ -79,56 +79,56 @@ word_stored c place v =
     ap (λ p. record c { ram = with_word c.ram p v }) e
 
 -- bytes of the controller
-pub byte_allowed : (c : Core) (k : ℕ) → c.controller ≡ true → k < 96 → refusal (memory_of c) (0x1000_0000 + k) width.ByteU ≡ None
+pub byte_allowed : (c : Core) (k : ℕ) → c.controller ≡ true → k < controller_bytes → refusal (memory_of c) (controller_base + k) width.ByteU ≡ None
 unfolding refusal
 byte_allowed c k there h =
-    let g : (0x1000_0000 + k) % 1 ≡ 0 = omega arith in
-    rw (eq-eqb ((0x1000_0000 + k) % 1) 0 g, not_ram (0x1000_0000 + k) 1 (omega arith), there, line_in k h)
+    let g : (controller_base + k) % 1 ≡ 0 = omega arith in
+    rw (eq-eqb ((controller_base + k) % 1) 0 g, not_ram (controller_base + k) 1 (omega arith), there, line_in k h)
 
-pub store_allowed : (c : Core) (k : ℕ) → c.controller ≡ true → k < 96 → refusal (memory_of c) (0x1000_0000 + k) width.Byte ≡ None
+pub store_allowed : (c : Core) (k : ℕ) → c.controller ≡ true → k < controller_bytes → refusal (memory_of c) (controller_base + k) width.Byte ≡ None
 unfolding refusal
 store_allowed c k there h =
-    let g : (0x1000_0000 + k) % 1 ≡ 0 = omega arith in
-    rw (eq-eqb ((0x1000_0000 + k) % 1) 0 g, not_ram (0x1000_0000 + k) 1 (omega arith), there, line_in k h)
+    let g : (controller_base + k) % 1 ≡ 0 = omega arith in
+    rw (eq-eqb ((controller_base + k) % 1) 0 g, not_ram (controller_base + k) 1 (omega arith), there, line_in k h)
 
 -- loads of the three bytes of a line
-pub pending_loaded : (c : Core) (l : ℕ) → l < 32 → loaded_number (memory_of c) (0x1000_0000 + l) width.ByteU ≡ get_or c.pending l 0
+pub pending_loaded : (c : Core) (l : ℕ) → l < line_count → loaded_number (memory_of c) (controller_base + l) width.ByteU ≡ get_or c.pending l 0
 unfolding loaded_number controller_byte
 pending_loaded c l h =
-    let e : 0x1000_0000 + l - 0x1000_0000 ≡ l = omega arith in
-    rw (not_ram (0x1000_0000 + l) 1 (omega arith), e, lt-ltb l 32 h)
+    let e : controller_base + l - controller_base ≡ l = omega arith in
+    rw (not_ram (controller_base + l) 1 (omega arith), e, lt-ltb l 32 h)
 
-pub enabled_loaded : (c : Core) (l : ℕ) → l < 32 → loaded_number (memory_of c) (0x1000_0000 + (32 + l)) width.ByteU ≡ get_or c.enabled l 0
+pub enabled_loaded : (c : Core) (l : ℕ) → l < line_count → loaded_number (memory_of c) (controller_base + (32 + l)) width.ByteU ≡ get_or c.enabled l 0
 unfolding loaded_number controller_byte
 enabled_loaded c l h =
-    let e : 0x1000_0000 + (32 + l) - 0x1000_0000 ≡ 32 + l = omega arith in
+    let e : controller_base + (32 + l) - controller_base ≡ 32 + l = omega arith in
     let f : 32 + l - 32 ≡ l = omega arith in
-    rw (not_ram (0x1000_0000 + (32 + l)) 1 (omega arith), e, le-ltb (32 + l) 32 (omega arith), lt-ltb (32 + l) 64 (omega arith), f)
+    rw (not_ram (controller_base + (32 + l)) 1 (omega arith), e, le-ltb (32 + l) 32 (omega arith), lt-ltb (32 + l) 64 (omega arith), f)
 
-pub level_loaded : (c : Core) (l : ℕ) → l < 32 → loaded_number (memory_of c) (0x1000_0000 + (64 + l)) width.ByteU ≡ get_or c.levels l 0
+pub level_loaded : (c : Core) (l : ℕ) → l < line_count → loaded_number (memory_of c) (controller_base + (64 + l)) width.ByteU ≡ get_or c.levels l 0
 unfolding loaded_number controller_byte
 level_loaded c l h =
-    let e : 0x1000_0000 + (64 + l) - 0x1000_0000 ≡ 64 + l = omega arith in
+    let e : controller_base + (64 + l) - controller_base ≡ 64 + l = omega arith in
     let f : 64 + l - 64 ≡ l = omega arith in
-    rw (not_ram (0x1000_0000 + (64 + l)) 1 (omega arith), e, le-ltb (64 + l) 32 (omega arith), le-ltb (64 + l) 64 (omega arith), f)
+    rw (not_ram (controller_base + (64 + l)) 1 (omega arith), e, le-ltb (64 + l) 32 (omega arith), le-ltb (64 + l) 64 (omega arith), f)
 
 -- stores to them: a flag for what is not 0, and of a level its low byte
-pub pending_stored : (c : Core) (l v : ℕ) → l < 32 → with_memory c (stored_memory (memory_of c) (0x1000_0000 + l) width.Byte v) ≡ record c { pending = set c.pending l (flag_of (v % 256)) }
+pub pending_stored : (c : Core) (l v : ℕ) → l < line_count → with_memory c (stored_memory (memory_of c) (controller_base + l) width.Byte v) ≡ record c { pending = set c.pending l (flag_of (v % 256)) }
 unfolding stored_memory with_controller_byte
 pending_stored c l v h =
-    let e : 0x1000_0000 + l - 0x1000_0000 ≡ l = omega arith in
-    rw (not_ram (0x1000_0000 + l) 1 (omega arith), e, lt-ltb l 32 h)
+    let e : controller_base + l - controller_base ≡ l = omega arith in
+    rw (not_ram (controller_base + l) 1 (omega arith), e, lt-ltb l 32 h)
 
-pub enabled_stored : (c : Core) (l v : ℕ) → l < 32 → with_memory c (stored_memory (memory_of c) (0x1000_0000 + (32 + l)) width.Byte v) ≡ record c { enabled = set c.enabled l (flag_of (v % 256)) }
+pub enabled_stored : (c : Core) (l v : ℕ) → l < line_count → with_memory c (stored_memory (memory_of c) (controller_base + (32 + l)) width.Byte v) ≡ record c { enabled = set c.enabled l (flag_of (v % 256)) }
 unfolding stored_memory with_controller_byte
 enabled_stored c l v h =
-    let e : 0x1000_0000 + (32 + l) - 0x1000_0000 ≡ 32 + l = omega arith in
+    let e : controller_base + (32 + l) - controller_base ≡ 32 + l = omega arith in
     let f : 32 + l - 32 ≡ l = omega arith in
-    rw (not_ram (0x1000_0000 + (32 + l)) 1 (omega arith), e, le-ltb (32 + l) 32 (omega arith), lt-ltb (32 + l) 64 (omega arith), f)
+    rw (not_ram (controller_base + (32 + l)) 1 (omega arith), e, le-ltb (32 + l) 32 (omega arith), lt-ltb (32 + l) 64 (omega arith), f)
 
-pub level_stored : (c : Core) (l v : ℕ) → l < 32 → with_memory c (stored_memory (memory_of c) (0x1000_0000 + (64 + l)) width.Byte v) ≡ record c { levels = set c.levels l (v % 256) }
+pub level_stored : (c : Core) (l v : ℕ) → l < line_count → with_memory c (stored_memory (memory_of c) (controller_base + (64 + l)) width.Byte v) ≡ record c { levels = set c.levels l (v % 256) }
 unfolding stored_memory with_controller_byte
 level_stored c l v h =
-    let e : 0x1000_0000 + (64 + l) - 0x1000_0000 ≡ 64 + l = omega arith in
+    let e : controller_base + (64 + l) - controller_base ≡ 64 + l = omega arith in
     let f : 64 + l - 64 ≡ l = omega arith in
-    rw (not_ram (0x1000_0000 + (64 + l)) 1 (omega arith), e, le-ltb (64 + l) 32 (omega arith), le-ltb (64 + l) 64 (omega arith), f)
+    rw (not_ram (controller_base + (64 + l)) 1 (omega arith), e, le-ltb (64 + l) 32 (omega arith), le-ltb (64 + l) 64 (omega arith), f)

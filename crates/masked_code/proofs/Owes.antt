@@ -3,10 +3,10 @@ use Rattle.std.specs.Prelude.{ℕ, zero, suc, ◌+◌, ◌*◌, ◌%◌, ◌≡�
 use Rattle.sloth_base.specs.declared.app.Width.TheVariants as width
 use Rattle.sloth_base.specs.Machine.{Core, State}
 use Rattle.sloth_base.specs.Arithmetic.{sum32}
-use Rattle.sloth_base.specs.MemoryMap.{memory_base}
+use Rattle.sloth_base.specs.MemoryMap.{memory_base, memory_bytes, controller_base, line_count}
 use Rattle.sloth_base.specs.Lines.{flag_of}
 use Rattle.sloth_base.specs.Arrive.{core_arrive, state_arrive}
-use Rattle.sloth_region.specs.Layout.{controller_base, pending_byte, enabled_byte, level_byte}
+use Rattle.sloth_region.specs.Layout.{pending_byte, enabled_byte, level_byte}
 use Rattle.rv32_instr.specs.declared.effect.Change.{Change}
 use Rattle.rv32_instr.specs.declared.effect.Effect.{Effect}
 use Rattle.rv32_instr.specs.declared.effect.Effect.TheVariants.{Nothing, Write, Branch, Jump, Load, Store, Csr, Environment, Return}
@@ -28,15 +28,15 @@ pub data LineByte : Type 0 where
 
 -- the address of a line's byte
 abbrev pub IsAt : ℕ → LineByte → Type 0
-IsAt address (Pending line) = (address ≡ controller_base + pending_byte line) × (line < 32)
-IsAt address (Enabled line) = (address ≡ controller_base + enabled_byte line) × (line < 32)
-IsAt address (Level line) = (address ≡ controller_base + level_byte line) × (line < 32)
+IsAt address (Pending line) = (address ≡ controller_base + pending_byte line) × (line < line_count)
+IsAt address (Enabled line) = (address ≡ controller_base + enabled_byte line) × (line < line_count)
+IsAt address (Level line) = (address ≡ controller_base + level_byte line) × (line < line_count)
 
 -- a word of RAM, given by its offset
 pub record IsWordAt (address offset : ℕ) : Type 0 where
   pub is : address ≡ memory_base + offset
   pub aligned : offset % 4 ≡ 0
-  pub inside : offset + 4 ≤ 0x20_0000
+  pub inside : offset + 4 ≤ memory_bytes
 
 -- a word apart from the bytes from `from` up to `to`
 abbrev pub IsApart : ℕ → ℕ → ℕ → Type 0

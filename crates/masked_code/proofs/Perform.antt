@@ -6,6 +6,7 @@ use Rattle.sloth_base.specs.declared.app.Width.TheVariants as width
 use Rattle.sloth_base.specs.Machine.{Core}
 use Rattle.sloth_base.specs.Lines.{flag_of}
 use Rattle.sloth_base.specs.Arrive.{core_arrive}
+use Rattle.sloth_base.specs.MemoryMap.{controller_base, line_count, controller_bytes}
 use Rattle.rv32_instr.specs.declared.csr.TheConstants.{MSTATUS, MSCRATCH, MEPC, ILEVEL, PLEVEL}
 use Rattle.rv32_instr.specs.declared.effect.Change.{Change}
 use Rattle.rv32_instr.specs.declared.effect.Change.TheVariants.{Keep, Replace, Set, Clear}
@@ -19,15 +20,15 @@ use Rattle.masked_code.proofs.Machine.{word_allowed, word_loaded, word_stored, b
 -- ---- which line an address is the pending byte of
 
 -- the first 32 bytes of the controller
-pub a_line : (l : ℕ) → l < 32 → pending_line (0x1000_0000 + l) ≡ Some l
+pub a_line : (l : ℕ) → l < line_count → pending_line (controller_base + l) ≡ Some l
 a_line l h =
-    let e : 0x1000_0000 + l - 0x1000_0000 ≡ l = omega arith in
-    ap (λ b. cond b (Some (0x1000_0000 + l - 0x1000_0000)) None) (and_from _ _ (le-leb 0x1000_0000 (0x1000_0000 + l) (omega arith)) (lt-ltb (0x1000_0000 + l) 0x1000_0020 (omega arith)))
+    let e : controller_base + l - controller_base ≡ l = omega arith in
+    ap (λ b. cond b (Some (controller_base + l - controller_base)) None) (and_from _ _ (le-leb controller_base (controller_base + l) (omega arith)) (lt-ltb (controller_base + l) (controller_base + line_count) (omega arith)))
     ∙ ap Some e
 
 -- no byte behind them
-pub no_line : (a : ℕ) → 0x1000_0020 ≤ a → pending_line a ≡ None
-no_line a h = ap (λ b. cond b (Some (a - 0x1000_0000)) None) (and_right _ _ (le-ltb a 0x1000_0020 h))
+pub no_line : (a : ℕ) → controller_base + line_count ≤ a → pending_line a ≡ None
+no_line a h = ap (λ b. cond b (Some (a - controller_base)) None) (and_right _ _ (le-ltb a (controller_base + line_count) h))
 
 -- ---- words of RAM
 
@@ -62,7 +63,7 @@ store_word_quiet address place v w =
 
 -- ---- bytes of the controller
 
-load_byte : (c : Core) (rd address k word pc : ℕ) → c.controller ≡ true → address ≡ 0x1000_0000 + k → k < 96 → perform (Load width.ByteU rd address) word pc c ≡ goes_on pc (with_register c rd (loaded_number (memory_of c) (0x1000_0000 + k) width.ByteU))
+load_byte : (c : Core) (rd address k word pc : ℕ) → c.controller ≡ true → address ≡ controller_base + k → k < controller_bytes → perform (Load width.ByteU rd address) word pc c ≡ goes_on pc (with_register c rd (loaded_number (memory_of c) (controller_base + k) width.ByteU))
 unfolding perform
 load_byte c rd address k word pc there e h =
     ap (λ x. unless_refused (refusal (memory_of c) x width.ByteU) x (goes_on pc (with_register c rd (loaded_number (memory_of c) x width.ByteU)))) e
@@ -90,11 +91,11 @@ unfolding touched_line_by
 load_touches rd address l i = ap pending_line i.0 ∙ a_line l i.1
 
 -- one of an enable byte or a level touches none
-pub load_quiet : (rd address : ℕ) → 0x1000_0020 ≤ address → touched_line_by (Load width.ByteU rd address) ≡ None
+pub load_quiet : (rd address : ℕ) → controller_base + line_count ≤ address → touched_line_by (Load width.ByteU rd address) ≡ None
 unfolding touched_line_by
 load_quiet rd address h = no_line address h
 
-store_byte : (c : Core) (address k v word pc : ℕ) → c.controller ≡ true → address ≡ 0x1000_0000 + k → k < 96 → perform (Store width.Byte address v) word pc c ≡ goes_on pc (with_memory c (stored_memory (memory_of c) (0x1000_0000 + k) width.Byte v))
+store_byte : (c : Core) (address k v word pc : ℕ) → c.controller ≡ true → address ≡ controller_base + k → k < controller_bytes → perform (Store width.Byte address v) word pc c ≡ goes_on pc (with_memory c (stored_memory (memory_of c) (controller_base + k) width.Byte v))
 unfolding perform
 store_byte c address k v word pc there e h =
     ap (λ x. unless_refused (refusal (memory_of c) x width.Byte) x (goes_on pc (with_memory c (stored_memory (memory_of c) x width.Byte v)))) e
@@ -127,7 +128,7 @@ unfolding touched_line_by
 raise_quiet address v ne = ap (λ b. cond b (pending_line address) None) (ne_eqb (v % 256) 0 ne)
 
 -- nor one to an enable byte or a level
-pub store_quiet : (address v : ℕ) → 0x1000_0020 ≤ address → touched_line_by (Store width.Byte address v) ≡ None
+pub store_quiet : (address v : ℕ) → controller_base + line_count ≤ address → touched_line_by (Store width.Byte address v) ≡ None
 unfolding touched_line_by
 store_quiet address v h = ap (λ x. cond (eqb (v % 256) 0) x None) (no_line address h) ∙ both_none (eqb (v % 256) 0)
 

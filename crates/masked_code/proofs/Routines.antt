@@ -10,7 +10,7 @@ use Rattle.rv32_instr.specs.Range.{InRange}
 use Rattle.rv32_instr.specs.Table.{Decode}
 use Rattle.rv32_instr.proofs.Table.{decode_encode}
 use Rattle.sloth_base.specs.Arithmetic.{plus}
-use Rattle.sloth_base.specs.MemoryMap.{memory_base}
+use Rattle.sloth_base.specs.MemoryMap.{memory_base, memory_bytes, line_count}
 use Rattle.rv32_instr.specs.Execute.{Going, step, touched, touched_line_by, jumps, perform, mstatus_of, with_csr, goes_on}
 use Rattle.masked_code.specs.Trace.{Trace, touched_lines, early_arrivals, late_arrivals}
 use Rattle.masked_code.specs.Masked.{OnGoing, Masked, WithArrivals, FromOpening}
@@ -38,9 +38,9 @@ few code n h = let l = longest_le code 0 in omega (arith, h, l)
 pub record IsEntered (o : ℕ) (code : List InstrKind) (c : Core) : Type 0 where
   pub masked : c.mie ≡ false
   pub there : c.controller ≡ true
-  pub lines : length c.pending ≡ 32
+  pub lines : length c.pending ≡ line_count
   pub aligned : o % 4 ≡ 0
-  pub fits : o + 4 * length code ≤ 0x20_0000
+  pub fits : o + 4 * length code ≤ memory_bytes
   pub placed : InPlace c.ram o code
 
 -- what is owed of a handler holds of the stretch from its first instruction on
@@ -58,16 +58,16 @@ mask_bits false true c = refl
 mask_bits false false c = refl
 
 -- `csrrci x0, mstatus, 8` makes MIE 0 and changes nothing else
-pub masks : (o : ℕ) (c : Core) (code : List InstrKind) → o + 4 ≤ 0x20_0000 → InPlace c.ram o (masking ∷ code) → step (offset_state o c) ≡ Going (offset_state (o + 4) (record c { mie = false }))
+pub masks : (o : ℕ) (c : Core) (code : List InstrKind) → o + 4 ≤ memory_bytes → InPlace c.ram o (masking ∷ code) → step (offset_state o c) ≡ Going (offset_state (o + 4) (record c { mie = false }))
 unfolding perform
 masks o c code h p = step_at o c masking (p.0, h) ∙ ap (goes_on (memory_base + o)) (mask_bits c.mie c.mpie c) ∙ next_at o (record c { mie = false }) h
 
 -- what holds of the state as a service is called
 pub record IsOpened (o : ℕ) (code : List InstrKind) (c : Core) : Type 0 where
   pub there : c.controller ≡ true
-  pub lines : length c.pending ≡ 32
+  pub lines : length c.pending ≡ line_count
   pub aligned : o % 4 ≡ 0
-  pub fits : o + 4 + 4 * length code ≤ 0x20_0000
+  pub fits : o + 4 + 4 * length code ≤ memory_bytes
   pub placed : InPlace c.ram o (masking ∷ code)
 
 -- the state behind the masking instruction
@@ -96,7 +96,7 @@ in_place ram o (kind ∷ code) h w =
     (ap Decode w.0 ∙ decode_encode kind (h 0 kind (omega arith)), in_place ram (o + 4) code (λ k d below. h (suc k) d (omega arith)) w.1)
 
 -- a handler behind the jump of a vector word
-pub jumps_in : (v o n : ℕ) (imm : ℤ) (code : List InstrKind) (c : Core) (E : List ℕ → State → State → Type 0) (start : State) → v + 4 ≤ 0x20_0000 → InPlace c.ram v (Jal 0 imm ∷ []) → plus (memory_base + v) imm ≡ memory_base + o → IsEntered o code c → length code ≤ n → Owes o (o + 4 * length code) o code 0 E start c → Masked (suc n) (offset_state v c) (WithArrivals E start)
+pub jumps_in : (v o n : ℕ) (imm : ℤ) (code : List InstrKind) (c : Core) (E : List ℕ → State → State → Type 0) (start : State) → v + 4 ≤ memory_bytes → InPlace c.ram v (Jal 0 imm ∷ []) → plus (memory_base + v) imm ≡ memory_base + o → IsEntered o code c → length code ≤ n → Owes o (o + 4 * length code) o code 0 E start c → Masked (suc n) (offset_state v c) (WithArrivals E start)
 unfolding perform touched_line_by
 jumps_in v o n imm code c E start fit p there e le h =
     let al = e.aligned in

@@ -4,7 +4,7 @@ use Rattle.std.specs.Prelude.{set, replicate}
 use Rattle.std.proofs.lemmas.Bool.{cases_eq}
 use Rattle.std.proofs.lemmas.List.{get_or-set_same, get_or-set_other, length-set}
 use Rattle.sloth_base.specs.Machine.{Core, State}
-use Rattle.sloth_base.specs.MemoryMap.{memory_base}
+use Rattle.sloth_base.specs.MemoryMap.{memory_base, memory_bytes}
 use Rattle.rv32_instr.specs.declared.InstrKind.{InstrKind}
 use Rattle.rv32_instr.specs.Ram.{word_at, with_word, with_words}
 use Rattle.masked_code.proofs.Owes.{◌▸◌, writes, loads, stores, Owes}
@@ -18,7 +18,7 @@ length-clears_words (suc n) k b = ap suc (length-clears_words n (suc k) b)
 
 module _ (from to : ℕ) (E : List ℕ → State → State → Type 0) (start : State) (code : List InstrKind) (place : ℕ) (aligned : place % 4 ≡ 0) where
   -- so many registers are saved
-  pub saves_owes : (n r base o o' : ℕ) (c : Core) → get_or c.registers base 0 ≡ memory_base + place → o' ≡ o + 4 * n → place + 4 * (r + n) ≤ 0x20_0000 → (place + 4 * (r + n) ≤ from) ⊎ (to ≤ place) → Owes from to o' code 0 E start (record c { ram = with_words c.ram (place + 4 * r) (registers_from n r c.registers) }) → Owes from to o (saving_code n r base ++ code) 0 E start c
+  pub saves_owes : (n r base o o' : ℕ) (c : Core) → get_or c.registers base 0 ≡ memory_base + place → o' ≡ o + 4 * n → place + 4 * (r + n) ≤ memory_bytes → (place + 4 * (r + n) ≤ from) ⊎ (to ≤ place) → Owes from to o' code 0 E start (record c { ram = with_words c.ram (place + 4 * r) (registers_from n r c.registers) }) → Owes from to o (saving_code n r base ++ code) 0 E start c
   saves_owes zero r base o o' c e eo fit apart go = let f : o' ≡ o = omega arith in subst (λ x. Owes from to x code 0 E start c) f go
   saves_owes (suc n) r base o o' c e eo fit apart go =
       let p = place + 4 * r in
@@ -30,7 +30,7 @@ module _ (from to : ℕ) (E : List ℕ → State → State → Type 0) (start : 
       (subst (λ x. Owes from to o' code 0 E start (record d { ram = with_words d.ram x (registers_from n (suc r) c.registers) })) f go)
 
   -- so many registers are loaded
-  pub restores_owes : (n r base o o' : ℕ) (c : Core) → get_or c.registers base 0 ≡ memory_base + place → base < r → o' ≡ o + 4 * n → place + 4 * (r + n) ≤ 0x20_0000 → Owes from to o' code 0 E start (record c { registers = restored_registers n r c.ram place c.registers }) → Owes from to o (restoring_code n r base ++ code) 0 E start c
+  pub restores_owes : (n r base o o' : ℕ) (c : Core) → get_or c.registers base 0 ≡ memory_base + place → base < r → o' ≡ o + 4 * n → place + 4 * (r + n) ≤ memory_bytes → Owes from to o' code 0 E start (record c { registers = restored_registers n r c.ram place c.registers }) → Owes from to o (restoring_code n r base ++ code) 0 E start c
   restores_owes zero r base o o' c e b eo fit go = let f : o' ≡ o = omega arith in subst (λ x. Owes from to x code 0 E start c) f go
   restores_owes (suc n) zero base o o' c e b eo fit go = absurd (omega arith)
   restores_owes (suc n) (suc r) base o o' c e b eo fit go =
@@ -42,7 +42,7 @@ module _ (from to : ℕ) (E : List ℕ → State → State → Type 0) (start : 
       ▸ restores_owes n (suc (suc r)) base (o + 4) o' d (kept ∙ e) (omega arith) (omega arith) (omega arith) go
 
   -- so many words become 0
-  pub clears_words_owes : (n k base o o' : ℕ) (c : Core) → get_or c.registers 0 0 ≡ 0 → get_or c.registers base 0 ≡ memory_base + place → o' ≡ o + 4 * n → place + 4 * (k + n) ≤ 0x20_0000 → (place + 4 * (k + n) ≤ from) ⊎ (to ≤ place) → Owes from to o' code 0 E start (record c { ram = with_words c.ram (place + 4 * k) (replicate n 0) }) → Owes from to o (words_clearing_code n k base ++ code) 0 E start c
+  pub clears_words_owes : (n k base o o' : ℕ) (c : Core) → get_or c.registers 0 0 ≡ 0 → get_or c.registers base 0 ≡ memory_base + place → o' ≡ o + 4 * n → place + 4 * (k + n) ≤ memory_bytes → (place + 4 * (k + n) ≤ from) ⊎ (to ≤ place) → Owes from to o' code 0 E start (record c { ram = with_words c.ram (place + 4 * k) (replicate n 0) }) → Owes from to o (words_clearing_code n k base ++ code) 0 E start c
   clears_words_owes zero k base o o' c z e eo fit apart go = let f : o' ≡ o = omega arith in subst (λ x. Owes from to x code 0 E start c) f go
   clears_words_owes (suc n) k base o o' c z e eo fit apart go =
       let p = place + 4 * k in

@@ -6,7 +6,7 @@ use Rattle.sloth_base.specs.declared.app.Width.TheVariants as width
 use Rattle.sloth_base.specs.Machine.{Core, State}
 use Rattle.sloth_base.specs.Lines.{flag_of}
 use Rattle.sloth_base.specs.Arrive.{core_arrive, state_arrive}
-use Rattle.sloth_base.specs.MemoryMap.{memory_base}
+use Rattle.sloth_base.specs.MemoryMap.{memory_base, memory_bytes, line_count}
 use Rattle.rv32_instr.specs.declared.effect.Effect.{Effect}
 use Rattle.rv32_instr.specs.declared.effect.Effect.TheVariants.{Nothing, Write, Branch, Jump, Load, Store, Csr, Environment, Return}
 use Rattle.rv32_instr.specs.declared.InstrKind.{InstrKind}
@@ -45,12 +45,12 @@ touch_before E start m w a l e t x h =
     in
     subst P e (h.0, subst (λ s. E (l ∷ touched_lines t) s h.0) f h.1, h.2)
 
-module _ (from to : ℕ) (ram : List ℕ) (inside : to ≤ 0x20_0000) where
+module _ (from to : ℕ) (ram : List ℕ) (inside : to ≤ memory_bytes) where
   -- the state of a routine whose code is as in `ram`
   pub record Inside (c : Core) : Type 0 where
     pub masked : c.mie ≡ false
     pub there : c.controller ≡ true
-    pub lines : length c.pending ≡ 32
+    pub lines : length c.pending ≡ line_count
     pub same : Agree from to ram c.ram
 
   with_register_inside : (c : Core) (rd v : ℕ) → Inside c → Inside (with_register c rd v)
@@ -206,7 +206,7 @@ module _ (from to : ℕ) (ram : List ℕ) (inside : to ≤ 0x20_0000) where
         masked_here n (state_arrive (w ++ a) last) (λ trace end. Ended E start w ((a, None) ∷ trace) end) (last, h, refl)
 
 -- code whose first `skip` instructions are passed
-module _ (from to : ℕ) (ram : List ℕ) (inside : to ≤ 0x20_0000) where
+module _ (from to : ℕ) (ram : List ℕ) (inside : to ≤ memory_bytes) where
   -- what is owed of code in place holds of the stretch that it runs, whatever arrives before each of its instructions
   pub run : (code : List InstrKind) (skip n o u : ℕ) (c : Core) (w : List ℕ) (E : List ℕ → State → State → Type 0) (start : State) → longest code skip ≤ n → u ≡ o + 4 * skip → o % 4 ≡ 0 → from ≤ o → o + 4 * length code ≤ to → InPlace ram o code → Inside from to ram inside c → Owes from to o code skip E start c → Masked n (offset_state u (core_arrive w c)) (Ended E start w)
   run [] skip n o u c w E start en eu al lo hi p i h = absurd h

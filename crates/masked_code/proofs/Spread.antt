@@ -2,8 +2,7 @@
 use Rattle.std.proofs.Common.{◌≡◌, ℕ, zero, suc, ◌+◌, ◌≤◌, List, [], ◌∷◌, length, get_or, drop, refl, sym, ap, ◌∙◌, arith}
 use Rattle.std.proofs.lemmas.List.{drop_more, drop_all}
 use Rattle.sloth_base.specs.Machine.{Core}
-use Rattle.sloth_base.specs.MemoryMap.{memory_base}
-use Rattle.sloth_region.specs.Layout.{controller_base}
+use Rattle.sloth_base.specs.MemoryMap.{memory_base, controller_base}
 use Rattle.masked_code.specs.Kernel.{HoldBases}
 
 -- the elements from k on, n of them

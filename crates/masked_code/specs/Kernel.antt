@@ -1,8 +1,8 @@
 -- The code that ends a stretch by going back to what runs below, and the state that this leaves.
 use Rattle.std.specs.Prelude.{ℕ, ◌+◌, ◌*◌, ◌%◌, ◌≡◌, ◌<◌, ◌≤◌, true, pos, List, [], ◌∷◌, ◌++◌, length, slice_index}
 use Rattle.sloth_base.specs.Machine.{Core}
-use Rattle.sloth_base.specs.MemoryMap.{memory_base}
-use Rattle.sloth_region.specs.Layout.{cur, below_word, idle_context, context_bytes, context_pc, context_level, context_cur, context_below, controller_base}
+use Rattle.sloth_base.specs.MemoryMap.{memory_base, memory_bytes, controller_base, line_count}
+use Rattle.sloth_region.specs.Layout.{cur, below_word, idle_context, context_bytes, context_pc, context_level, context_cur, context_below}
 use Rattle.rv32_instr.specs.declared.csr.TheConstants.{MSTATUS, MEPC, PLEVEL}
 use Rattle.rv32_instr.specs.declared.InstrKind.{InstrKind}
 use Rattle.rv32_instr.specs.declared.InstrKind.TheVariants.{Addi, Beq, Lw, Sw, Csrrw, Csrrci, Mret}
@@ -19,10 +19,10 @@ pub record CanRun (offset : ℕ) (code : List InstrKind) (core : Core) : Type 0 
   pub controller : core.controller ≡ true
   pub registers : length core.registers ≡ 32
   pub zero : slice_index core.registers 0 ≡ 0
-  pub lines : length core.pending ≡ 32
+  pub lines : length core.pending ≡ line_count
   pub aligned : offset % 4 ≡ 0
   pub behind : 1024 ≤ offset
-  pub inside : offset + 4 * length code ≤ 0x20_0000
+  pub inside : offset + 4 * length code ≤ memory_bytes
   pub placed : InPlace core.ram offset code
 
 -- the context of what runs below stands at this offset
@@ -30,7 +30,7 @@ pub record IsBelow (place : ℕ) (core : Core) : Type 0 where
   pub is : word_at core.ram below_word ≡ memory_base + place
   pub aligned : place % 4 ≡ 0
   pub behind : idle_context ≤ place
-  pub inside : place + context_bytes ≤ 0x20_0000
+  pub inside : place + context_bytes ≤ memory_bytes
   pub returns : word_at core.ram place % 4 ≡ 0
   pub level : word_at core.ram (place + context_level) < 256
 

@@ -1,7 +1,7 @@
 -- How long the code, the data and the stacks are at most.
-use Rattle.std.proofs.Common.{◌≡◌, ◌≢◌, ◌≤◌, ◌<◌, ◌+◌, ◌-◌, ◌*◌, ◌∙◌, ⊎_elim, ℕ, zero, suc, Bool, true, false, List, [], ◌∷◌, Option, Some, None, length, get_or, refl, ap, subst, arith}
+use Rattle.std.proofs.Common.{◌≡◌, ◌≢◌, ◌≤◌, ◌+◌, ◌*◌, ◌∙◌, ℕ, zero, suc, Bool, true, false, List, [], ◌∷◌, Option, Some, None, length, get_or, refl, ap, subst, arith}
 use Rattle.std.specs.Prelude.{◌==◌, nat_lt, nat_le, All, map, sum_by}
-use Rattle.std.proofs.lemmas.Bool.{cases_lt, eq-eqb, lt-ltb, le-leb}
+use Rattle.std.proofs.lemmas.Bool.{eq-eqb, lt-ltb, le-leb}
 use Rattle.std.proofs.lemmas.Grind.{get_or_default_zero}
 use Rattle.std.proofs.lemmas.List.Sums.{sum_by-cons}
 use Rattle.sloth_base.specs.Named.{function, no_function, item_of}
@@ -14,35 +14,19 @@ use Rattle.sloth_base.specs.declared.service.ObjectKind.TheVariants as object
 use Rattle.sloth_base.specs.declared.service.Service.{Service}
 use Rattle.sloth_base.specs.Blocks.{block_count, block_service, block_object}
 use Rattle.sloth_base.specs.ServiceCodes.{object_kind, IsObjectNumber}
+use Rattle.sloth_base.specs.Limits.{task_limit, alarm_limit, resource_limit}
 use Rattle.code_rules.specs.AppRange.{AppInRange}
 use Rattle.rv32_expand.specs.InPlace.{IsItem}
 use Rattle.rv32_expand.specs.Sizes.{AreItemSizes, items_before}
 use Rattle.expansion_parts.proofs.Counts.{size_few}
 use Rattle.rv32_expand.proofs.InRangeOf.{frame_of}
+use Rattle.rv32_expand.proofs.Locating.{locate}
 use Rattle.mem_map.specs.Starts.{end_of}
 use Rattle.mem_map.specs.Wanted.{IsServicePlace}
-use Rattle.mem_map.specs.Plan.{IsSmallPrologue, IsSmallTick, symbol_bytes}
+use Rattle.mem_map.specs.Plan.{symbol_bytes}
 use Rattle.mem_map.specs.Starts.{code_byte_count}
 
 -- ---- sizes of items
-
--- where the length with a number stands
-record IsAt (bodies : List Func) (k : ℕ) (d : Func) : Type 0 where
-  func : ℕ
-  index : ℕ
-  declared : func < length bodies
-  inside : index < length (get_or bodies func d).items
-  is : k ≡ items_before bodies func + index
-
-locate : (bodies : List Func) (k : ℕ) (d : Func) → k < items_before bodies (length bodies) → IsAt bodies k d
-locate [] k d h = absurd (omega (arith, h))
-locate (body ∷ bodies) k d h =
-    ⊎_elim
-    (λ (l : k < length body.items). record { func = 0; index = k; declared = omega arith; inside = l; is = omega arith })
-    (λ (l : length body.items ≤ k). let r = locate bodies (k - length body.items) d (omega (arith, h)) in
-    let e = r.is in let n = r.declared in
-    record { func = suc r.func; index = r.index; declared = omega arith; inside = r.inside; is = omega (arith, e) })
-    (cases_lt k (length body.items))
 
 -- an item has an instruction, and at most 36
 abbrev pub IsSize : ℕ → Type 0
@@ -72,32 +56,14 @@ before_all (body ∷ funcs) =
 
 -- ---- ends
 
--- at most 144 bytes for each item
-pub items_end : (from : ℕ) (sizes : List ℕ) → All IsSize sizes → end_of from (map code_byte_count sizes) ≤ from + 144 * length sizes
-items_end from [] few = omega arith
-items_end from (size ∷ sizes) few =
-    let h = few 0 0 (omega arith) in
-    let most = h.1 in
-    let r = items_end (from + 4 * size) sizes (λ k d l. few (suc k) d (omega (arith, l))) in
-    omega (arith, most, r)
-
--- at most 576 for each prologue
-pub prologues_end : (from : ℕ) (sizes : List ℕ) → All IsSmallPrologue sizes → end_of from (map code_byte_count sizes) ≤ from + 576 * length sizes
-prologues_end from [] few = omega arith
-prologues_end from (size ∷ sizes) few =
-    let h = few 0 0 (omega arith) in
-    let most = h.1 in
-    let r = prologues_end (from + 4 * size) sizes (λ k d l. few (suc k) d (omega (arith, l))) in
-    omega (arith, most, r)
-
--- at most 4,396 for each tick
-pub ticks_end : (from : ℕ) (sizes : List ℕ) → All IsSmallTick sizes → end_of from (map code_byte_count sizes) ≤ from + 4396 * length sizes
-ticks_end from [] few = omega arith
-ticks_end from (size ∷ sizes) few =
-    let h = few 0 0 (omega arith) in
-    let most = h.1 in
-    let r = ticks_end (from + 4 * size) sizes (λ k d l. few (suc k) d (omega (arith, l))) in
-    omega (arith, most, r)
+-- at most so many bytes for each piece of code, where each has so many instructions at most
+pub pieces_end : (most : ℕ) (IsSmall : ℕ → Type 0) → ((size : ℕ) → IsSmall size → size ≤ most) → (from : ℕ) (sizes : List ℕ) → All IsSmall sizes
+    → end_of from (map code_byte_count sizes) ≤ from + length sizes * (4 * most)
+pieces_end most IsSmall below from [] few = omega arith
+pieces_end most IsSmall below from (size ∷ sizes) few =
+    let h = below size (few 0 0 (omega arith)) in
+    let r = pieces_end most IsSmall below (from + 4 * size) sizes (λ k d l. few (suc k) d (omega (arith, l))) in
+    omega (arith, h, r)
 
 -- at most three bytes more than each symbol has
 pub symbols_end : (from : ℕ) (symbols : List Symbol) → end_of from (map symbol_bytes symbols) ≤ from + sum_by (λ (y : Symbol). length y.bytes) symbols + 3 * length symbols
@@ -116,9 +82,9 @@ one_if false = 0
 -- the number is that of an object of the kind
 abbrev is_object : ObjectKind → ℕ → Bool
 is_object object.Nothing o = o == 0
-is_object object.Task o = nat_lt o 30
-is_object object.Resource o = nat_le o 32
-is_object object.Alarm o = nat_lt o 32
+is_object object.Task o = nat_lt o task_limit
+is_object object.Resource o = nat_le o resource_limit
+is_object object.Alarm o = nat_lt o alarm_limit
 
 -- the service may have the object
 abbrev may_have : Option Service → ℕ → Bool
@@ -136,9 +102,9 @@ all_allowed = refl
 
 has_object : (kind : ObjectKind) (o : ℕ) → IsObjectNumber kind o → is_object kind o ≡ true
 has_object object.Nothing o h = eq-eqb o 0 h
-has_object object.Task o h = lt-ltb o 30 h
-has_object object.Resource o h = le-leb o 32 h
-has_object object.Alarm o h = lt-ltb o 32 h
+has_object object.Task o h = lt-ltb o task_limit h
+has_object object.Resource o h = le-leb o resource_limit h
+has_object object.Alarm o h = lt-ltb o alarm_limit h
 
 is_one : (k : ℕ) → IsServicePlace k → one_if (may_have (block_service k) (block_object k)) ≡ 1
 unfolding one_if

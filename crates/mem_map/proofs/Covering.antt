@@ -17,6 +17,8 @@ use Rattle.sloth_base.specs.declared.places.Places.{Places}
 use Rattle.sloth_base.specs.declared.service.Service.{Service}
 use Rattle.sloth_base.specs.declared.service.Service.TheVariants as service
 use Rattle.sloth_base.specs.Blocks.{block_count, block_number}
+use Rattle.sloth_base.specs.MemoryMap.{vectors_base, memory_end}
+use Rattle.sloth_base.specs.Limits.{resource_limit}
 use Rattle.code_rules.specs.AppRange.{AppInRange, AreOperands, IsOp}
 use Rattle.code_rules.proofs.Objects.{object_number}
 use Rattle.expansion_parts.specs.Expansion.{item_address, block_address, is_long}
@@ -31,7 +33,7 @@ use Rattle.mem_map.proofs.Starts.{stands, next, starts_aligned, length_starts, e
 
 -- ---- objects of services
 
-object_few : (config : Config) (s : Service) (object mask : ℕ) → InRange config → AreOperands config s object mask → object ≤ 32
+object_few : (config : Config) (s : Service) (object mask : ℕ) → InRange config → AreOperands config s object mask → object ≤ resource_limit
 object_few config s object mask range h = object_number_few (object_kind s) object (object_number config range (object_kind s) object h.0)
 
 code_few : (s : Service) → code_of s ≤ 15
@@ -65,11 +67,11 @@ pub record ArePlaced (app : App) (sizes services : List ℕ) (places : Places) (
   pub symbols : places.symbols ≡ starts symbols_from (map symbol_bytes app.symbols)
   pub blocks : places.blocks ≡ starts services_from (map code_byte_count services)
   pub full : length services ≡ block_count
-  pub above : 0x8000_0400 ≤ services_from
+  pub above : vectors_base ≤ services_from
   pub services_to : end_of services_from (map code_byte_count services) ≤ items_from
   pub items_to : end_of items_from (map code_byte_count sizes) ≤ symbols_from
   pub near : symbols_from ≤ 0x8010_0370
-  pub symbols_to : end_of symbols_from (map symbol_bytes app.symbols) < 0x8020_0000
+  pub symbols_to : end_of symbols_from (map symbol_bytes app.symbols) < memory_end
   pub services_aligned : services_from % 4 ≡ 0
   pub items_aligned : items_from % 4 ≡ 0
   pub symbols_aligned : symbols_from % 4 ≡ 0
@@ -170,7 +172,7 @@ module _ (config : Config) (app : App) (sizes services : List ℕ) (places : Pla
   -- each thing that an instruction names has an address that fits into it
   pub covers : Covers app places
   covers = record {
-    low = 0x8000_0400;
+    low = vectors_base;
     items = λ func index item.
         let h = item_inside func index item in
         let low = h.above in

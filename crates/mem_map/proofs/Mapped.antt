@@ -8,6 +8,8 @@ use Rattle.sloth_region.specs.declared.extent.Extent.{Extent}
 use Rattle.sloth_region.specs.declared.map.Map.{Map}
 use Rattle.sloth_region.specs.Region.{AreApartWithin}
 use Rattle.sloth_base.specs.declared.places.Bounds.{Bounds}
+use Rattle.sloth_base.specs.Limits.{task_limit}
+use Rattle.sloth_base.specs.MemoryMap.{vectors_base, memory_end, words_base, line_count}
 use Rattle.mem_map.specs.declared.all_lengths.CodeLengths.{CodeLengths}
 use Rattle.mem_map.specs.Starts.{starts, end_of}
 use Rattle.mem_map.specs.Zones.{code_zone, data_zone, all_stacks, HasZones}
@@ -27,8 +29,8 @@ module _ (config : Config) (app : App) (lengths : CodeLengths) (bounds : Bounds)
   pub record HasExtents (code data_extent : Extent) (code_to data_to : ℕ) : Type 0 where
     pub all : List Extent
     pub extents : plan.extents ≡ plan.words ∷ code ∷ data_extent ∷ all
-    pub code_is : code ≡ record { base = 0x8000_0400; len = code_to - 0x8000_0400 }
-    pub data_is : data_extent ≡ record { base = 0x8000_0400 + (code_to - 0x8000_0400); len = data_to + 4 - code_to }
+    pub code_is : code ≡ record { base = vectors_base; len = code_to - vectors_base }
+    pub data_is : data_extent ≡ record { base = vectors_base + (code_to - vectors_base); len = data_to + 4 - code_to }
     pub code_end_is : code_to ≡ end
     pub data_end_is : data_to ≡ end_of code_to (map symbol_bytes app.symbols)
 
@@ -43,10 +45,10 @@ module _ (config : Config) (app : App) (lengths : CodeLengths) (bounds : Bounds)
     ends = ap (λ (from : ℕ). end_of from (map symbol_bytes app.symbols)) has.code_end_is
 
     -- what the calls give
-    pub addressed : plan.idle ≡ idle_at lengths → length plan.handlers ≡ 32
+    pub addressed : plan.idle ≡ idle_at lengths → length plan.handlers ≡ line_count
         → take (length lengths.prologues) plan.handlers ≡ starts (prologues_at lengths) (map code_byte_count lengths.prologues)
         → ((c : ℕ) → c < length lengths.ticks → slice_index plan.handlers (counter_line c) ≡ get_or (tick_starts lengths) c 0)
-        → ((line : ℕ) → length lengths.prologues ≤ line → line < 32 → (line < first_counter_line) ⊎ (counter_line (length lengths.ticks) ≤ line)
+        → ((line : ℕ) → length lengths.prologues ≤ line → line < line_count → (line < first_counter_line) ⊎ (counter_line (length lengths.ticks) ≤ line)
         → slice_index plan.handlers line ≡ plan.idle)
         → plan.places.blocks ≡ starts (services_at lengths) (map code_byte_count lengths.services)
         → plan.places.items ≡ starts (items_at lengths) (map code_byte_count lengths.items)
@@ -75,7 +77,7 @@ module _ (config : Config) (app : App) (lengths : CodeLengths) (bounds : Bounds)
           prologues = ap (λ (k : ℕ). take k plan.handlers) (sym count) ∙ prologues;
           ticks = λ c l. ticks c (omega (arith, l, counters));
           unused = λ line l m other. unused line (omega (arith, l, count)) m
-              (⊎_elim (λ (b : line < 30). inl b) (λ (b : counter_line (length config.counters) ≤ line). inr (omega (arith, b, counters))) other);
+              (⊎_elim (λ (b : line < task_limit). inl b) (λ (b : counter_line (length config.counters) ≤ line). inr (omega (arith, b, counters))) other);
           blocks = blocks;
           items = items;
           first = first;
@@ -91,7 +93,7 @@ module _ (config : Config) (app : App) (lengths : CodeLengths) (bounds : Bounds)
     all_stacks_are = ap (λ (l : List Extent). drop 3 l) has.extents
 
     -- so it has its zones
-    pub zoned : HasAddresses config app lengths plan → plan.words ≡ record { base = 0x8000_0004; len = 1020 } → AreApartWithin 0x8000_0004 0x8020_0000 plan.extents
+    pub zoned : HasAddresses config app lengths plan → plan.words ≡ record { base = words_base; len = 1020 } → AreApartWithin words_base memory_end plan.extents
         → HasZones plan config
     zoned at words apart = record {
       extents =

@@ -13,6 +13,7 @@ use Rattle.sloth_base.specs.declared.config.Config.{Config}
 use Rattle.sloth_base.specs.declared.config.TaskDecl.{TaskDecl}
 use Rattle.sloth_base.specs.declared.places.Bounds.{Bounds}
 use Rattle.sloth_base.specs.declared.places.Places.{Places}
+use Rattle.sloth_base.specs.MemoryMap.{line_count}
 use Rattle.sloth_region.specs.declared.extent.Extent.{Extent}
 use Rattle.sloth_region.specs.declared.map.Map.{Map}
 use Rattle.code_lengths.specs.CodeLengths.{IsPrologueLength, prologue_length}
@@ -104,11 +105,11 @@ module _ (config : Config) (app : App) (range : AppInRange config app) (bounds :
   first = p.addresses.prologues ∙ ap (λ l. starts (prologues_at l) (map code_byte_count l.prologues)) lengths ∙ sym q.addresses.prologues
 
   -- where a line that is neither a task's nor a counter's goes
-  unused : (line : ℕ) → tasks ≤ line → line < 32 → (line < first_counter_line) ⊎ (counter_line (length config.counters) ≤ line) → get_or m.handlers line 0 ≡ get_or n.handlers line 0
+  unused : (line : ℕ) → tasks ≤ line → line < line_count → (line < first_counter_line) ⊎ (counter_line (length config.counters) ≤ line) → get_or m.handlers line 0 ≡ get_or n.handlers line 0
   unused line l below none = p.addresses.unused line l below none ∙ idle ∙ sym (q.addresses.unused line l below none)
 
   -- a line behind the tasks'
-  later : (line : ℕ) → tasks ≤ line → line < 32 → get_or m.handlers line 0 ≡ get_or n.handlers line 0
+  later : (line : ℕ) → tasks ≤ line → line < line_count → get_or m.handlers line 0 ≡ get_or n.handlers line 0
   later line l below =
       ⊎_elim
       (λ (few : line < first_counter_line). unused line l below (inl few))

@@ -8,18 +8,20 @@ use Rattle.sloth_base.specs.declared.app.App.{App}
 use Rattle.sloth_base.specs.declared.app.Func.{Func}
 use Rattle.sloth_base.specs.declared.app.Symbol.{Symbol}
 use Rattle.sloth_base.specs.declared.config.Config.{Config}
-use Rattle.sloth_base.specs.Owners.{counter_line}
+use Rattle.sloth_base.specs.Owners.{counter_line, first_counter_line}
 use Rattle.sloth_region.specs.declared.extent.Extent.{Extent}
 use Rattle.sloth_region.specs.declared.map.Map.{Map}
 use Rattle.sloth_region.specs.Region.{FollowWithin}
 use Rattle.std.proofs.lemmas.Bool.{cases_lt}
 use Rattle.sloth_base.specs.declared.places.Bounds.{Bounds}
+use Rattle.sloth_base.specs.Limits.{task_limit, counter_limit, item_limit, data_limit}
+use Rattle.sloth_base.specs.MemoryMap.{vectors_base, memory_bytes, line_count}
 use Rattle.mem_map.specs.Starts.{end_of, starts}
 use Rattle.mem_map.specs.Run.{extents_of, AreClose}
 use Rattle.mem_map.specs.declared.all_lengths.CodeLengths.{CodeLengths}
-use Rattle.mem_map.specs.Plan.{MayPlan, HasAddresses, IsInVectorReach, prologues_at, ticks_at, tick_starts, services_at, items_at, code_end, data_end, symbol_bytes, some_extents, code_extents, data_extents}
+use Rattle.mem_map.specs.Plan.{MayPlan, HasAddresses, IsSmallPrologue, IsSmallTick, IsInVectorReach, prologues_at, ticks_at, tick_starts, services_at, items_at, code_end, data_end, symbol_bytes, some_extents, code_extents, data_extents}
 use Rattle.mem_map.specs.Starts.{code_byte_count}
-use Rattle.mem_map.proofs.Bounds.{sizes_few, before_all, items_end, prologues_end, ticks_end, symbols_end, services_end, IsSize}
+use Rattle.mem_map.proofs.Bounds.{sizes_few, before_all, pieces_end, symbols_end, services_end, IsSize}
 use Rattle.mem_map.proofs.Covering.{ArePlaced, code_bytes_aligned}
 use Rattle.mem_map.proofs.Starts.{stands, end_above, end_aligned, starts_aligned, length_starts, follow_from, extents_follow, extents_before, some_follow, extents_close, close_before, some_close}
 
@@ -30,21 +32,21 @@ module _ (config : Config) (app : App) (lengths : CodeLengths) (bounds : Bounds)
   n = length config.tasks
 
   -- what is asked of task code limits the tasks
-  pub few_tasks : n ≤ 30
+  pub few_tasks : n ≤ task_limit
   few_tasks = may.in_range.configuration.few_tasks
 
-  items_sum : sum_by (λ (f : Func). length f.items) app.funcs ≤ 4096
+  items_sum : sum_by (λ (f : Func). length f.items) app.funcs ≤ item_limit
   items_sum = let s = sum-map (λ (f : Func). length f.items) app.funcs in let h = may.in_range.limits.few_items in omega (arith, s, h)
 
-  symbols_sum : sum_by (λ (y : Symbol). length y.bytes) app.symbols ≤ 32768
+  symbols_sum : sum_by (λ (y : Symbol). length y.bytes) app.symbols ≤ data_limit
   symbols_sum = let s = sum-map (λ (y : Symbol). length y.bytes) app.symbols in let h = may.in_range.limits.few_bytes in omega (arith, s, h)
 
   -- the items of each function
-  pub counts_few : All (λ (f : Func). length f.items ≤ 4096) app.funcs
+  pub counts_few : All (λ (f : Func). length f.items ≤ item_limit) app.funcs
   counts_few = λ k d l. let o = get_or-le-sum_by (λ (f : Func). length f.items) app.funcs k d l in let h = items_sum in omega (arith, h, o)
 
   -- the bytes of each symbol
-  pub symbols_few : All (λ (y : Symbol). length y.bytes ≤ 32768) app.symbols
+  pub symbols_few : All (λ (y : Symbol). length y.bytes ≤ data_limit) app.symbols
   symbols_few = λ k d l. let o = get_or-le-sum_by (λ (y : Symbol). length y.bytes) app.symbols k d l in let h = symbols_sum in omega (arith, h, o)
 
   sizes_are : All IsSize lengths.items
@@ -61,21 +63,21 @@ module _ (config : Config) (app : App) (lengths : CodeLengths) (bounds : Bounds)
   ticks_small = λ k d l. let s = may.code.ticks_fit k d l in let most = s.1 in omega (arith, most)
 
   -- a prologue for each task, and a tick for each counter
-  pub few_starts : length lengths.prologues ≤ 30
+  pub few_starts : length lengths.prologues ≤ task_limit
   few_starts = let c = may.code.prologues in let f = few_tasks in omega (arith, c, f)
 
-  pub few_ticks : length lengths.ticks ≤ 2
+  pub few_ticks : length lengths.ticks ≤ counter_limit
   few_ticks = let c = may.code.ticks in let f = may.in_range.configuration.few_counters in omega (arith, c, f)
 
   ticks_short : services_at lengths ≤ ticks_at lengths + 8792
   ticks_short =
-      let e = ticks_end (ticks_at lengths) lengths.ticks may.code.ticks_fit in
+      let e = pieces_end 1099 IsSmallTick (λ n h. h.1) (ticks_at lengths) lengths.ticks may.code.ticks_fit in
       let f = few_ticks in
       omega (arith, e, f)
 
   prologues_short : ticks_at lengths ≤ prologues_at lengths + 17280
   prologues_short =
-      let e = prologues_end (prologues_at lengths) lengths.prologues may.code.prologues_fit in
+      let e = pieces_end 144 IsSmallPrologue (λ n h. h.1) (prologues_at lengths) lengths.prologues may.code.prologues_fit in
       let f = few_starts in
       omega (arith, e, f)
 
@@ -86,7 +88,7 @@ module _ (config : Config) (app : App) (lengths : CodeLengths) (bounds : Bounds)
   -- how long the items
   pub items_short : code_end lengths ≤ items_at lengths + 589824
   items_short =
-      let e = items_end (items_at lengths) lengths.items sizes_are in
+      let e = pieces_end 36 IsSize (λ n h. h.1) (items_at lengths) lengths.items sizes_are in
       let c = may.code.items.count in
       let b = before_all app.funcs in
       let s = items_sum in
@@ -144,11 +146,11 @@ module _ (config : Config) (app : App) (lengths : CodeLengths) (bounds : Bounds)
 
   -- where the code and the symbols end
   pub record AreEnds (code_to data_to : ℕ) : Type 0 where
-    pub some : 0x8000_0400 < code_to
+    pub some : vectors_base < code_to
     pub below : code_to ≤ data_to
     pub fits : data_to + 4 < 4294967296
-    pub even : (code_to - 0x8000_0400) % 4 ≡ 0
-    pub room : 1024 + (code_to - 0x8000_0400) + 3 + (data_to + 4 - code_to) + 3 + 983490 ≤ 0x20_0000
+    pub even : (code_to - vectors_base) % 4 ≡ 0
+    pub room : 1024 + (code_to - vectors_base) + 3 + (data_to + 4 - code_to) + 3 + 983490 ≤ memory_bytes
 
   -- those of the code and of the symbols are so
   pub ends_are : (code_to data_to : ℕ) → code_to ≡ code_end lengths → data_to ≡ end_of code_to (map symbol_bytes app.symbols) → AreEnds code_to data_to
@@ -242,30 +244,30 @@ module _ (config : Config) (app : App) (lengths : CodeLengths) (bounds : Bounds)
         (omega (arith, is, four), omega (arith, is, low, first), omega (arith, is, high, short, mid, items))
 
     -- a vector word can jump to the code of each line
-    pub reach : (line : ℕ) → line < 32 → IsInVectorReach (slice_index plan.handlers line)
+    pub reach : (line : ℕ) → line < line_count → IsInVectorReach (slice_index plan.handlers line)
     reach line h =
         let few = may.code.boot.1 in
         let e = at.idle in
         let counters : ℕ = length config.counters in
-        let idle : (l : n ≤ line) (other : (line < 30) ⊎ (counter_line counters ≤ line)) → IsInVectorReach (slice_index plan.handlers line) = λ l other.
+        let idle : (l : n ≤ line) (other : (line < task_limit) ⊎ (counter_line counters ≤ line)) → IsInVectorReach (slice_index plan.handlers line) = λ l other.
         let a = at.unused line l h other in
         (omega (arith, a, e), omega (arith, a, e), omega (arith, a, e, few))
         in
         ⊎_elim
         (λ (l : line < n). start_near line l)
         (λ (l : n ≤ line). ⊎_elim
-        (λ (m : line < 30). idle l (inl m))
-        (λ (m : 30 ≤ line). ⊎_elim
-        (λ (f : line - 30 < counters).
-        let same : counter_line (line - 30) ≡ line = omega (arith, m) in
-        subst (λ k. IsInVectorReach (slice_index plan.handlers k)) same (tick_near (line - 30) f))
-        (λ (f : counters ≤ line - 30). idle l (inr (omega (arith, m, f))))
-        (cases_lt (line - 30) counters))
-        (cases_lt line 30))
+        (λ (m : line < task_limit). idle l (inl m))
+        (λ (m : first_counter_line ≤ line). ⊎_elim
+        (λ (f : line - first_counter_line < counters).
+        let same : counter_line (line - first_counter_line) ≡ line = omega (arith, m) in
+        subst (λ k. IsInVectorReach (slice_index plan.handlers k)) same (tick_near (line - first_counter_line) f))
+        (λ (f : counters ≤ line - first_counter_line). idle l (inr (omega (arith, m, f))))
+        (cases_lt (line - first_counter_line) counters))
+        (cases_lt line first_counter_line))
         (cases_lt line n)
 
     -- the extents of the code follow one another
-    pub code_follows : FollowWithin 0x8000_0400 (code_end lengths) (code_extents plan n lengths)
+    pub code_follows : FollowWithin vectors_base (code_end lengths) (code_extents plan n lengths)
     code_follows =
         let e = at.idle in
         let some = may.code.boot.0 in
@@ -283,7 +285,7 @@ module _ (config : Config) (app : App) (lengths : CodeLengths) (bounds : Bounds)
         (omega arith, omega arith, (omega arith, omega (arith, some), (omega (arith, e), omega arith, behind)))
 
     -- there is no hole in the code
-    pub code_close : AreClose 0x8000_0400 (code_end lengths) (code_extents plan n lengths)
+    pub code_close : AreClose vectors_base (code_end lengths) (code_extents plan n lengths)
     code_close =
         let e = at.idle in
         let end : ℕ = code_end lengths in

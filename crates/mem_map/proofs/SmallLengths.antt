@@ -10,6 +10,7 @@ use Rattle.sloth_base.specs.Named.{no_function}
 use Rattle.sloth_base.specs.declared.app.App.{App}
 use Rattle.sloth_base.specs.declared.app.Func.{Func}
 use Rattle.sloth_base.specs.declared.config.Config.{Config}
+use Rattle.sloth_base.specs.Limits.{frame_limit}
 use Rattle.code_lengths.specs.Bodies.{IsBodyPlace}
 use Rattle.code_lengths.specs.CodeLengths.{tick_length, block_length, IsPrologueLength}
 use Rattle.code_lengths.proofs.Short.{short_lines, short_prologue, short_tick, short_block}
@@ -67,7 +68,7 @@ small_prologue : (config : Config) (app : App) (t size : ℕ) → WellFormed con
 small_prologue config app t size well p =
     let inside = slice_get_within app.funcs p.body p.func p.is_func in
     let its = get_or_from_slice_get app.funcs p.body p.func no_function p.is_func in
-    let words : p.func.frame_words ≤ 32 = subst (λ (f : Func). f.frame_words ≤ 32) its ((well.in_range.bodies p.body no_function inside).frame) in
+    let words : p.func.frame_words ≤ frame_limit = subst (λ (f : Func). f.frame_words ≤ frame_limit) its ((well.in_range.bodies p.body no_function inside).frame) in
     let is = p.is in
     let bound = short_prologue p.decl.extended p.func.frame_words in
     (omega (arith, is, bound.0), omega (arith, is, bound.1, words))

@@ -9,6 +9,7 @@ use Rattle.sloth_base.specs.declared.app.App.{App}
 use Rattle.sloth_base.specs.declared.config.Config.{Config}
 use Rattle.sloth_base.specs.declared.config.TaskDecl.{TaskDecl}
 use Rattle.sloth_base.specs.declared.places.Bounds.{Bounds}
+use Rattle.sloth_base.specs.MemoryMap.{memory_end, words_base}
 use Rattle.sloth_region.specs.declared.extent.Extent.{Extent}
 use Rattle.sloth_region.specs.declared.map.Map.{Map}
 use Rattle.sloth_region.specs.Region.{AreApartWithin, IsBelow}
@@ -57,7 +58,7 @@ module _ (config : Config) (app : App) (bounds : Bounds) (offsets : List ℕ) (n
   -- ---- the stacks, one behind the other
 
   module _ (from : ℕ) (lengths : List ℕ) (all : List Extent) (are : AreStackLengths tasks bounds n lengths) (lens : map (λ (e : Extent). e.len) all ≡ lengths)
-      (apart : AreApartWithin from 0x8020_0000 all) (aligned : All (λ (e : Extent). e.base % 16 ≡ 0) all) where
+      (apart : AreApartWithin from memory_end all) (aligned : All (λ (e : Extent). e.base % 16 ≡ 0) all) where
     count : length all ≡ stack_count tasks
     count = sym (length-map all (λ (e : Extent). e.len)) ∙ ap length lens ∙ are.count
 
@@ -94,7 +95,7 @@ module _ (config : Config) (app : App) (bounds : Bounds) (offsets : List ℕ) (n
         (λ no. let e = shared_len t (l, no) in omega (arith, e))
         (cases_Bool (is_extended tasks t))
 
-    inside : (t : ℕ) → t < n → (from ≤ (own t).base) × ((own t).base + (own t).len ≤ 0x8020_0000)
+    inside : (t : ℕ) → t < n → (from ≤ (own t).base) × ((own t).base + (own t).len ≤ memory_end)
     inside t l = let i = apart.inside (stack_number tasks t) no_extent (there t l) in (i.0, i.2)
 
     -- each task has its stack among these
@@ -226,7 +227,7 @@ pub record ArePlaced (config : Config) (bounds : Bounds) (declared : List TaskDe
   pub code : Extent
   pub data_extent : Extent
   pub extents_are : extents ≡ words ∷ code ∷ data_extent ∷ all
-  pub apart : AreApartWithin 0x8000_0004 0x8020_0000 extents
+  pub apart : AreApartWithin words_base memory_end extents
   pub lens : map (λ (e : Extent). e.len) all ≡ lengths
   pub run_is : all ≡ run 16 (data_extent.base + data_extent.len) lengths
   pub aligned : All (λ (e : Extent). e.base % 16 ≡ 0) all
@@ -236,21 +237,21 @@ module _ (config : Config) (app : App) (bounds : Bounds) (offsets : List ℕ) (n
   are : AreStackLengths config.tasks bounds (length config.tasks) lengths
   are = subst (λ (l : List TaskDecl). AreStackLengths l bounds (length l) lengths) h.declared_is h.are
 
-  apart : AreApartWithin 0x8000_0004 0x8020_0000 all
-  apart = behind_three 0x8000_0004 0x8020_0000 h.words h.code h.data_extent extents all h.extents_are h.apart
+  apart : AreApartWithin words_base memory_end all
+  apart = behind_three words_base memory_end h.words h.code h.data_extent extents all h.extents_are h.apart
 
   -- each task has its stack among those that are placed
   pub fit : (t : ℕ) → t < length declared → HasStack declared slice offsets t
   fit =
       subst (λ (l : List TaskDecl). (t : ℕ) → t < length l → HasStack l slice offsets t) (sym h.declared_is)
       (subst (λ (x : List Extent). (t : ℕ) → t < length config.tasks → HasStack config.tasks x offsets t) (sym slice_is)
-      (has_stack config app bounds offsets needs 0x8000_0004 lengths all are h.lens apart h.aligned))
+      (has_stack config app bounds offsets needs words_base lengths all are h.lens apart h.aligned))
 
   -- so a map with these has the stacks of all tasks
   pub placed : (plan : Map) → AreStacksBefore declared slice offsets (length declared) plan.stacks plan.tops → all_stacks plan ≡ all → data_zone plan ≡ h.data_extent
       → HasStacks config app bounds plan
   placed plan is all_is data_is =
-      has_stacks config app bounds offsets needs 0x8000_0004 lengths all are h.lens apart h.aligned plan
+      has_stacks config app bounds offsets needs words_base lengths all are h.lens apart h.aligned plan
       (subst (λ (x : List Extent). AreStacksBefore config.tasks x offsets (length config.tasks) plan.stacks plan.tops) slice_is
       (subst (λ (l : List TaskDecl). AreStacksBefore l slice offsets (length l) plan.stacks plan.tops) h.declared_is is))
       all_is (h.data_extent.base + h.data_extent.len) h.run_is (ap (λ (e : Extent). e.base + e.len) data_is)

@@ -7,7 +7,7 @@ use Rattle.sloth_base.specs.declared.config.Config.{Config}
 use Rattle.sloth_base.specs.declared.places.Bounds.{Bounds}
 use Rattle.sloth_base.specs.Blocks.{block_count}
 use Rattle.sloth_base.specs.Owners.{first_counter_line, counter_line}
-use Rattle.sloth_base.specs.MemoryMap.{vectors_base, boot_base}
+use Rattle.sloth_base.specs.MemoryMap.{vectors_base, boot_base, line_count}
 use Rattle.mem_map.specs.Wanted.{IsServicePlace}
 use Rattle.sloth_region.specs.declared.extent.Extent.{Extent}
 use Rattle.sloth_region.specs.declared.map.Map.{Map}
@@ -68,12 +68,12 @@ tick_starts lengths = starts (ticks_at lengths) (prelude.map code_byte_count len
 -- the addresses of a map
 pub record HasAddresses (config : Config) (app : App) (lengths : CodeLengths) (map : Map) : Type 0 where
   pub idle : map.idle ≡ idle_at lengths
-  pub lines : length map.handlers ≡ 32
+  pub lines : length map.handlers ≡ line_count
   pub prologues : take (length config.tasks) map.handlers ≡ starts (prologues_at lengths) (prelude.map code_byte_count lengths.prologues)
   pub ticks : (c : ℕ) → c < length config.counters → slice_index map.handlers (counter_line c) ≡ get_or (tick_starts lengths) c 0
   -- a line that is neither a task's nor a counter's goes to the idle loop
   pub unused :
-      (line : ℕ) → length config.tasks ≤ line → line < 32 → (line < first_counter_line) ⊎ (counter_line (length config.counters) ≤ line)
+      (line : ℕ) → length config.tasks ≤ line → line < line_count → (line < first_counter_line) ⊎ (counter_line (length config.counters) ≤ line)
       → slice_index map.handlers line ≡ map.idle
   pub blocks : map.places.blocks ≡ starts (services_at lengths) (prelude.map code_byte_count lengths.services)
   pub items : map.places.items ≡ starts (items_at lengths) (prelude.map code_byte_count lengths.items)

@@ -4,7 +4,7 @@ use Rattle.std.specs.Prelude as prelude
 use Rattle.sloth_base.specs.declared.app.App.{App}
 use Rattle.sloth_base.specs.declared.config.Config.{Config}
 use Rattle.sloth_base.specs.declared.places.Bounds.{Bounds}
-use Rattle.sloth_base.specs.MemoryMap.{vectors_base}
+use Rattle.sloth_base.specs.MemoryMap.{vectors_base, line_count}
 use Rattle.sloth_region.specs.declared.map.Map.{Map}
 use Rattle.sloth_region.specs.Region.{FollowWithin}
 use Rattle.rv32_expand.specs.Sizes.{AgreeWithSizes, Covers}
@@ -24,7 +24,7 @@ pub record IsPlanned (config : Config) (app : App) (bounds : Bounds) (map : Map)
   pub stacks : HasStacks config app bounds map
   pub addresses : HasAddresses config app lengths map
   -- the vector words can jump to their routines, and all code spans less than 1 MiB
-  pub reach : (line : ℕ) → line < 32 → IsInVectorReach (slice_index map.handlers line)
+  pub reach : (line : ℕ) → line < line_count → IsInVectorReach (slice_index map.handlers line)
   pub near : code_end lengths < 0x8010_0400
   -- the extents of all code, and those of the symbols, follow one another without a hole
   pub code_follows : FollowWithin vectors_base (code_end lengths) (code_extents map (length config.tasks) lengths)

@@ -1,7 +1,8 @@
 -- The zones of an image: service words, code, data and the stacks, one behind the other.
 use Rattle.std.specs.Prelude.{ℕ, ◌%◌, ◌≤◌, ◌≡◌, List, ◌∷◌, length, drop, All, slice_index_or}
 use Rattle.sloth_base.specs.declared.config.Config.{Config}
-use Rattle.sloth_base.specs.MemoryMap.{memory_end}
+use Rattle.sloth_base.specs.MemoryMap.{memory_end, words_base}
+use Rattle.sloth_base.specs.Limits.{task_limit}
 use Rattle.sloth_region.specs.declared.extent.Extent.{Extent}
 use Rattle.sloth_region.specs.declared.map.Map.{Map}
 use Rattle.sloth_region.specs.Region.{AreApartWithin}
@@ -26,9 +27,9 @@ all_stacks map = drop 3 map.extents
 -- The zones follow one another in RAM, behind the first word, and all that is executed begins at a multiple of 4.
 pub record HasZones (map : Map) (config : Config) : Type 0 where
   pub extents : map.extents ≡ map.words ∷ code_zone map ∷ data_zone map ∷ all_stacks map
-  pub words : map.words ≡ record { base = 0x8000_0004; len = 1020 }
-  pub apart : AreApartWithin 0x8000_0004 memory_end map.extents
-  pub few_tasks : length config.tasks ≤ 30
+  pub words : map.words ≡ record { base = words_base; len = 1020 }
+  pub apart : AreApartWithin words_base memory_end map.extents
+  pub few_tasks : length config.tasks ≤ task_limit
   pub items_aligned : All (λ address. address % 4 ≡ 0) map.places.items
   pub blocks_aligned : All (λ address. address % 4 ≡ 0) map.places.blocks
   pub idle_aligned : map.idle % 4 ≡ 0

@@ -1,36 +1,36 @@
 //! The addresses of services, each right behind the one before it, and those to which the vector words jump.
 ghost use Rattle.std.specs.Prelude.{ℕ, ◌≡◌, ◌≤◌, ◌<◌, ◌⊎◌, length, map, get_or, slice_index, take};
 ghost use Rattle.sloth_base.specs.Owners.{first_counter_line, counter_line};
+ghost use Rattle.sloth_base.specs.Limits.{task_limit, counter_limit};
+ghost use Rattle.sloth_base.specs.MemoryMap.{line_count};
 ghost use Rattle.mem_map.specs.Starts.{starts, end_of, code_byte_count};
 
-use sloth_base::lines::COUNTER_LINE;
+use sloth_base::lines::FIRST_COUNTER_LINE;
+use sloth_base::memory_map::{LINE_COUNT, WORD};
 use sloth_base::places::BLOCK_COUNT;
 
-/// The bytes of an instruction.
-const WORD: u32 = 4;
-
 // Those of the lines of counters: their ticks. All others go to the idle loop.
-fn with_ticks(idle: u32, ticks: &[u32]) -> [u32; 32]
-    requires { length ticks.now ≤ 2 }
+fn with_ticks(idle: u32, ticks: &[u32]) -> [u32; LINE_COUNT]
+    requires { length ticks.now ≤ counter_limit }
     ensures ticks { (c : ℕ) → c < length ticks.now → slice_index result (counter_line c) ≡ get_or ticks.now c 0 }
-    ensures unused { (line : ℕ) → line < 32 → (line < first_counter_line) ⊎ (counter_line (length ticks.now) ≤ line) → slice_index result line ≡ idle }
-    ensures lines { length result ≡ 32 }
+    ensures unused { (line : ℕ) → line < line_count → (line < first_counter_line) ⊎ (counter_line (length ticks.now) ≤ line) → slice_index result line ≡ idle }
+    ensures lines { length result ≡ line_count }
 {
-    let mut handlers = [idle; 32];
+    let mut handlers = [idle; LINE_COUNT];
     for counter in 0..ticks.len() {
-        handlers[usize::from(COUNTER_LINE) + counter] = ticks[counter];
+        handlers[usize::from(FIRST_COUNTER_LINE) + counter] = ticks[counter];
     }
     handlers
 }
 
 /// The address to which the vector word of each line jumps: the prologue of its task, the tick of its counter, or the idle loop.
-pub fn handlers(idle: u32, prologues: &[u32], ticks: &[u32]) -> [u32; 32]
-    requires { (length prologues.now ≤ 30) × (length ticks.now ≤ 2) }
+pub fn handlers(idle: u32, prologues: &[u32], ticks: &[u32]) -> [u32; LINE_COUNT]
+    requires { (length prologues.now ≤ task_limit) × (length ticks.now ≤ counter_limit) }
     ensures prologues { take (length prologues.now) result ≡ prologues.now }
     ensures ticks { (c : ℕ) → c < length ticks.now → slice_index result (counter_line c) ≡ get_or ticks.now c 0 }
-    ensures unused { (line : ℕ) → length prologues.now ≤ line → line < 32 → (line < first_counter_line) ⊎ (counter_line (length ticks.now) ≤ line)
+    ensures unused { (line : ℕ) → length prologues.now ≤ line → line < line_count → (line < first_counter_line) ⊎ (counter_line (length ticks.now) ≤ line)
         → slice_index result line ≡ idle }
-    ensures lines { length result ≡ 32 }
+    ensures lines { length result ≡ line_count }
 {
     let mut handlers = with_ticks(idle, ticks);
     for task in 0..prologues.len() {

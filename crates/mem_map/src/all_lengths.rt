@@ -3,6 +3,7 @@ ghost use Rattle.std.specs.Prelude.{ℕ, ◌≡◌, ◌<◌, ◌≤◌, IfOk, co
 ghost use Rattle.code_lengths.specs.CodeLengths.{block_length, tick_length, IsPrologueLength};
 ghost use Rattle.code_rules.specs.WellFormed.{WellFormed};
 ghost use Rattle.sloth_base.specs.Blocks.{block_count};
+ghost use Rattle.sloth_base.specs.Limits.{counter_limit, alarm_limit};
 ghost use Rattle.mem_map.specs.Lengths.{AreLengths, wanted_length};
 
 use crate::wanted::wanted_blocks;
@@ -67,7 +68,7 @@ fn prologue_lengths(alloc: Global, config: &Config, app: &App) -> Result<Vec<u32
 
 // The lengths of the ticks.
 fn tick_lengths(alloc: Global, config: &Config) -> Result<Vec<u32>, AllocError>
-    requires { (length config.now.counters ≤ 2) × (length config.now.alarms ≤ 32) }
+    requires { (length config.now.counters ≤ counter_limit) × (length config.now.alarms ≤ alarm_limit) }
     ensures count { IfOk result (λ lengths. length lengths.items ≡ length config.now.counters) }
     ensures each { IfOk result (λ lengths. (c : ℕ) → c < length config.now.counters → get_or lengths.items c 0 ≡ tick_length c config.now.alarms) }
 {

@@ -1,6 +1,7 @@
 //! The mark of an item, and the marks of blocks.
 ghost use Rattle.std.specs.Prelude.{◌≡◌, ◌<◌, ◌++◌, IfOk};
 ghost use Rattle.std.specs.List.Sorted.{IsPermutation, IsStrictlyIncreasing};
+ghost use Rattle.sloth_base.specs.Limits.{body_limit};
 ghost use Rattle.rv32_expand.specs.InPlace.{mark_of, result_register};
 ghost use Rattle.mem_map.specs.Sections.{marks_of, addresses, HaveOwnAddresses};
 
@@ -23,7 +24,7 @@ fn result_register(op: Op) -> u8
 
 /// The mark of an item at an address.
 pub fn mark(op: Op, address: u32, func: u32, index: u32) -> Mark
-    requires { func < 64 }
+    requires { func < body_limit }
     ensures { result ≡ mark_of op address func index }
 {
     let (kind, a) = match op {

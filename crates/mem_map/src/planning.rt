@@ -8,6 +8,8 @@ ghost use Rattle.mem_map.specs.Stacks.{HasStacks};
 ghost use Rattle.mem_map.specs.Plan.{MayPlan, HasAddresses, idle_at, prologues_at, ticks_at, tick_starts, services_at, items_at, code_end, symbol_bytes};
 ghost use Rattle.mem_map.specs.Starts.{code_byte_count};
 ghost use Rattle.sloth_base.specs.Owners.{first_counter_line, counter_line};
+ghost use Rattle.sloth_base.specs.Limits.{task_limit, counter_limit, item_limit, data_limit};
+ghost use Rattle.sloth_base.specs.MemoryMap.{line_count};
 ghost use Rattle.mem_map.specs.Planned.{IsPlanned};
 
 use crate::addresses::{handlers, place_services};
@@ -20,20 +22,17 @@ use sloth_base::app::App;
 use sloth_base::config::Config;
 use sloth_base::list::List;
 use sloth_base::memory::NoMemory;
-use sloth_base::memory_map::{BOOT_BASE, VECTORS_BASE};
+use sloth_base::memory_map::{BOOT_BASE, LINE_COUNT, VECTORS_BASE, WORD};
 use sloth_base::places::{BLOCK_COUNT, Bounds, Places};
 use sloth_region::map::Map;
 use stack_bounds::offsets;
 use std::alloc::{AllocError, Global};
 
-/// The bytes of an instruction, and those behind the last symbol.
-const WORD: u32 = 4;
-
 /// The addresses of all code behind boot, and the address behind the last item.
 #[derive(Drop)]
 struct Code {
     idle: u32,
-    handlers: [u32; 32],
+    handlers: [u32; LINE_COUNT],
     services: [u32; BLOCK_COUNT],
     items: List<u32>,
     end: u32,
@@ -53,19 +52,19 @@ fn place_code(alloc: Global, from: u32, sizes: &[u32]) -> Result<Pieces, AllocEr
 // The addresses of the code behind boot.
 fn plan_code(alloc: Global, lengths: &CodeLengths) -> Result<Code, AllocError>
     requires boot { lengths.now.boot ≤ 136 }
-    requires few { (length lengths.now.prologues ≤ 30) × (length lengths.now.ticks ≤ 2) }
+    requires few { (length lengths.now.prologues ≤ task_limit) × (length lengths.now.ticks ≤ counter_limit) }
     requires prologues { All (λ size. size ≤ 2048) lengths.now.prologues }
     requires ticks { All (λ size. size ≤ 2048) lengths.now.ticks }
     requires items { All (λ size. size ≤ 2048) lengths.now.items }
     requires fits { (ticks_at lengths.now < 4294967296) × (services_at lengths.now < 4294967296) × (items_at lengths.now < 4294967296)
         × (code_end lengths.now < 4294967296) }
     ensures idle { IfOk result (λ code. code.idle ≡ idle_at lengths.now) }
-    ensures lines { IfOk result (λ code. length code.handlers ≡ 32) }
+    ensures lines { IfOk result (λ code. length code.handlers ≡ line_count) }
     ensures prologues { IfOk result (λ code. take (length lengths.now.prologues) code.handlers
         ≡ starts (prologues_at lengths.now) (map code_byte_count lengths.now.prologues)) }
     ensures ticks { IfOk result (λ code. (c : ℕ) → c < length lengths.now.ticks → slice_index code.handlers (counter_line c)
         ≡ get_or (tick_starts lengths.now) c 0) }
-    ensures unused { IfOk result (λ code. (line : ℕ) → length lengths.now.prologues ≤ line → line < 32
+    ensures unused { IfOk result (λ code. (line : ℕ) → length lengths.now.prologues ≤ line → line < line_count
         → (line < first_counter_line) ⊎ (counter_line (length lengths.now.ticks) ≤ line) → slice_index code.handlers line ≡ code.idle) }
     ensures services { IfOk result (λ code. code.services ≡ starts (services_at lengths.now) (map code_byte_count lengths.now.services)) }
     ensures items { IfOk result (λ code. code.items ≡ starts (items_at lengths.now) (map code_byte_count lengths.now.items)) }
@@ -88,7 +87,7 @@ fn plan_code(alloc: Global, lengths: &CodeLengths) -> Result<Code, AllocError>
 
 // The number of items before those of each function.
 fn plan_first(alloc: Global, app: &App) -> Result<Pieces, AllocError>
-    requires few { All (λ f. length f.items ≤ 4096) app.now.funcs }
+    requires few { All (λ f. length f.items ≤ item_limit) app.now.funcs }
     requires fits { end_of 0 (map (λ f. length f.items) app.now.funcs) < 4294967296 }
     ensures { IfOk result (λ pieces. pieces.starts ≡ starts 0 (map (λ f. length f.items) app.now.funcs)) }
 {
@@ -98,7 +97,7 @@ fn plan_first(alloc: Global, app: &App) -> Result<Pieces, AllocError>
 
 // The addresses of the symbols, the first at `from`.
 fn plan_symbols(alloc: Global, from: u32, app: &App) -> Result<Pieces, AllocError>
-    requires few { All (λ y. length y.bytes ≤ 32768) app.now.symbols }
+    requires few { All (λ y. length y.bytes ≤ data_limit) app.now.symbols }
     requires fits { end_of from (map symbol_bytes app.now.symbols) < 4294967296 }
     ensures starts { IfOk result (λ pieces. pieces.starts ≡ starts from (map symbol_bytes app.now.symbols)) }
     ensures end { IfOk result (λ pieces. pieces.end ≡ end_of from (map symbol_bytes app.now.symbols)) }

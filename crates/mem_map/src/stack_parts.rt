@@ -1,5 +1,6 @@
 //! Which stack each task has, and where its part of it ends.
 ghost use Rattle.std.specs.Prelude.{◌≡◌, ◌<◌, ◌≤◌, ◌+◌, length, get_or};
+ghost use Rattle.sloth_base.specs.Limits.{task_limit};
 ghost use Rattle.mem_map.specs.StackParts.{no_extent, own_before, first_own, stack_number, HasStack};
 
 use sloth_base::config::TaskDecl;
@@ -34,7 +35,7 @@ pub fn first_own(tasks: &[TaskDecl]) -> usize
 
 /// The place of a task's stack among the stacks.
 fn stack_number(tasks: &[TaskDecl], task: usize) -> usize
-    requires few { length tasks.now ≤ 30 }
+    requires few { length tasks.now ≤ task_limit }
     requires known { task < length tasks.now }
     ensures { result ≡ stack_number tasks.now task }
 {
@@ -54,7 +55,7 @@ pub struct Part {
 
 /// That of a task, so many bytes below the end of the stack that it has among these.
 pub fn part_of(tasks: &[TaskDecl], all: &[Extent], offsets: &[u32], task: usize) -> Part
-    requires few { length tasks.now ≤ 30 }
+    requires few { length tasks.now ≤ task_limit }
     requires known { task < length tasks.now }
     requires count { length offsets.now ≡ length tasks.now }
     requires fits { HasStack tasks.now all.now offsets.now task }

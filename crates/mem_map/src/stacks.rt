@@ -1,5 +1,6 @@
 //! The stacks of the tasks: how long each is, which of them a task has, and where its part of it ends.
 ghost use Rattle.std.specs.Prelude.{ℕ, ◌≡◌, ◌<◌, ◌≤◌, IfOk, length};
+ghost use Rattle.sloth_base.specs.Limits.{task_limit};
 ghost use Rattle.stack_bounds.specs.Bounds.{bytes_of};
 ghost use Rattle.mem_map.specs.StackParts.{first_own, HasStack};
 ghost use Rattle.mem_map.specs.Stacks.{AreStackLengths, AreStacksBefore};
@@ -67,7 +68,7 @@ pub fn task_parts(
     all: &[Extent],
     offsets: &[u32],
 ) -> Result<Parts, AllocError>
-    requires few { length tasks.now ≤ 30 }
+    requires few { length tasks.now ≤ task_limit }
     requires count { length offsets.now ≡ length tasks.now }
     requires fit { (t : ℕ) → t < length tasks.now → HasStack tasks.now all.now offsets.now t }
     ensures { IfOk result (λ parts. AreStacksBefore tasks.now all.now offsets.now (length tasks.now) parts.stacks parts.tops) }

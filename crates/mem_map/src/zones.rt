@@ -1,6 +1,7 @@
 //! The zones of an image, placed in one region.
 ghost use Rattle.std.specs.Prelude.{◌≡◌, ◌<◌, ◌≤◌, ◌+◌, ◌%◌, ◌∷◌, IfOk, All, length, map};
-ghost use Rattle.sloth_base.specs.MemoryMap.{memory_end, vectors_base};
+ghost use Rattle.sloth_base.specs.MemoryMap.{memory_end, vectors_base, memory_bytes, words_base};
+ghost use Rattle.sloth_base.specs.Limits.{task_limit};
 ghost use Rattle.sloth_region.specs.Region.{AreApartWithin};
 ghost use Rattle.mem_map.specs.Run.{room_for, run};
 ghost use Rattle.mem_map.specs.Zones.{data_zone};
@@ -8,20 +9,18 @@ ghost use Rattle.mem_map.specs.Zones.{data_zone};
 use crate::placing::{place_all, put};
 use sloth_base::list::List;
 use sloth_base::memory::NoMemory;
+use sloth_base::memory_map::{MEMORY_END, WORD, WORDS_BASE};
 use sloth_region::extent::Extent;
 use sloth_region::map::Map;
 use sloth_region::region::Region;
 use std::alloc::Global;
 
-/// The first byte behind the first word of RAM, and how many there are.
-const RAM: u32 = 0x8000_0004;
-
-const RAM_LEN: u32 = 0x001f_fffc;
+/// The bytes behind the first word of RAM.
+const RAM_LEN: u32 = MEMORY_END - WORDS_BASE;
 /// The bytes of the service words.
 const WORDS_LEN: u32 = 1020;
-/// Words begin at multiples of 4, stacks at multiples of 16.
-const WORD: u32 = 4;
 
+/// Stacks begin at multiples of 16, words at multiples of 4.
 const STACK: u32 = 16;
 
 /// The place of the zone of data among the extents of a map.
@@ -55,18 +54,18 @@ pub fn plan_zones(
 ) -> Result<Zones, NoMemory>
     requires some { (1 ≤ code_len) × (1 ≤ data_len) × All (λ len. 1 ≤ len) stack_lens.now }
     requires words { code_len % 4 ≡ 0 }
-    requires few { length stack_lens.now ≤ 30 }
-    requires room { 1024 + code_len + 3 + data_len + 3 + room_for 16 stack_lens.now ≤ 0x200000 }
+    requires few { length stack_lens.now ≤ task_limit }
+    requires room { 1024 + code_len + 3 + data_len + 3 + room_for 16 stack_lens.now ≤ memory_bytes }
     ensures extents { IfOk result (λ zones. zones.extents ≡ zones.words ∷ zones.code ∷ zones.data ∷ zones.stacks) }
-    ensures apart { IfOk result (λ zones. AreApartWithin 0x80000004 memory_end zones.extents) }
-    ensures words { IfOk result (λ zones. zones.words ≡ record { base = 0x80000004; len = 1020 }) }
+    ensures apart { IfOk result (λ zones. AreApartWithin words_base memory_end zones.extents) }
+    ensures words { IfOk result (λ zones. zones.words ≡ record { base = words_base; len = 1020 }) }
     ensures code { IfOk result (λ zones. zones.code ≡ record { base = vectors_base; len = code_len }) }
     ensures data_zone { IfOk result (λ zones. zones.data ≡ record { base = vectors_base + code_len; len = data_len }) }
     ensures stacks { IfOk result (λ zones. map (λ e. e.len) zones.stacks ≡ stack_lens.now) }
     ensures stacks_are { IfOk result (λ zones. zones.stacks ≡ run 16 (zones.data.base + zones.data.len) stack_lens.now) }
     ensures stacks_aligned { IfOk result (λ zones. All (λ e. e.base % 16 ≡ 0) zones.stacks) }
 {
-    let mut region = Region::new(RAM, RAM_LEN);
+    let mut region = Region::new(WORDS_BASE, RAM_LEN);
     let words = put(&mut region, WORDS_LEN, WORD);
     let code = put(&mut region, code_len, WORD);
     let data = put(&mut region, data_len, WORD);

@@ -8,3 +8,4 @@ pub mod Rule
 pub mod Masking
 pub mod Places
 mod Rows
+mod LeavingRows

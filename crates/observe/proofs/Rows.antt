@@ -9,7 +9,7 @@ use Rattle.sloth_base.specs.declared.step.Step.{Step}
 use Rattle.observe.specs.Observe.{View, view_from, stamp, observe}
 
 -- the marks that the runs pass, two tasks and a counter
-abbrev rows : View
+abbrev pub rows : View
 rows = view_from (
     record { address = 100; kind = kind.Item; a = 5; b = 1; c = 2 }
     ∷ record { address = 104; kind = kind.Jump; a = 0; b = 1; c = 3 }
@@ -22,14 +22,14 @@ rows = view_from (
     ) (record { tasks = 2; counters = 1 })
 
 -- a step that takes no line, after which all registers hold 7
-abbrev went : ℕ → ℕ → Bool → Bool → ℕ → ℕ → Option ℕ → Step
+abbrev pub went : ℕ → ℕ → Bool → Bool → ℕ → ℕ → Option ℕ → Step
 went count pc before after cur next touched = record { count = count; pc = pc; entered = None; enabled_before = before; enabled_after = after; cur_before = cur; cur_after = next; touched = touched; regs = replicate 32 7 }
 
 -- the first step behind a line that was taken
-abbrev took : ℕ → ℕ → Bool → Step
+abbrev pub took : ℕ → ℕ → Bool → Step
 took count line after = record { count = count; pc = 500; entered = Some line; enabled_before = true; enabled_after = after; cur_before = 0; cur_after = 0; touched = None; regs = replicate 32 7 }
 
-abbrev arrives : ℕ → ℕ → Arrival
+abbrev pub arrives : ℕ → ℕ → Arrival
 arrives at line = record { at = at; line = line }
 
 -- boot, then one unmasked instruction
@@ -64,21 +64,7 @@ follows-row : observe rows (arrives 11 1 ∷ []) (call ++ took 11 1 true ∷ too
 unfolding observe
 follows-row = refl
 
--- A counter becomes due outside the stretches and inside that of its tick; a line above those of counters' number is a counter's, and one below no task's.
-tick-row : observe rows (arrives 6 30 ∷ arrives 8 30 ∷ []) (went 6 300 true true 0 0 None ∷ took 7 30 false ∷ went 8 600 false true 0 0 None ∷ took 9 31 true ∷ took 10 29 true ∷ [])
-    ≡ stamp 6 6 (event.Due 0) ∷ stamp 6 6 event.Idle ∷ stamp 7 8 (event.Tick 0) ∷ stamp 8 8 (event.Due 0) ∷ stamp 9 9 (event.Tick 4294967295) ∷ stamp 10 10 (event.Enter 4294967295) ∷ []
-unfolding observe
-tick-row = refl
-
 -- the end of the run cuts the stretch off: only the arrival that found MIE 1 shows
 cut-off-row : observe rows (arrives 7 1 ∷ arrives 8 1 ∷ []) (take 3 call) ≡ stamp 7 7 (event.Admit 1) ∷ []
 unfolding observe
 cut-off-row = refl
-
--- a task that leaves, one that comes back, a code that is no service's, and masked code at no opening mark
-other-row : observe rows []
-    (went 7 204 true false 2 2 None ∷ went 8 600 false true 2 1 None ∷ went 9 400 true false 1 1 None ∷ went 10 600 false true 1 1 None ∷ went 11 208 true false 1 1 None ∷ went 12 600 false true 1 1 None
-    ∷ went 13 100 true false 1 1 None ∷ went 14 600 false true 1 1 None ∷ [])
-    ≡ stamp 7 8 (event.Left 1 service.TerminateTask) ∷ stamp 9 10 (event.Back 0) ∷ stamp 11 12 event.Stray ∷ stamp 13 14 event.Stray ∷ []
-unfolding observe
-other-row = refl

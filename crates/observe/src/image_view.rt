@@ -2,7 +2,7 @@
 
 use sloth_base::event::{Event, Stamp, Stamped};
 use sloth_base::image::{Mark, MarkKind};
-use sloth_base::lines::{COUNTER_LINE, LineKind, Owners};
+use sloth_base::lines::{FIRST_COUNTER_LINE, LineKind, Owners};
 use sloth_base::numbers::Line;
 use sloth_base::service::Service;
 use sloth_base::step::Step;
@@ -155,7 +155,7 @@ ghost use Rattle.observe.specs.Observe.{unused_event};
 fn unused_event(line: Line) -> Event
     ensures { result ≡ unused_event line }
 {
-    if line.0 < COUNTER_LINE {
+    if line.0 < FIRST_COUNTER_LINE {
         Event::Enter(u32::MAX)
     } else {
         Event::Tick(u32::MAX)

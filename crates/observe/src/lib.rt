@@ -1,4 +1,8 @@
 //! What is observed of a run: the events of its steps.
+//!
+//! Fed the steps one after the other, an observer tells exactly their events, with arrivals placed by the rule (`Observer::feed`, `next`,
+//! `is_cut_by_the_rule`, `stretches_are_masked`). Pieces of a run: `specs/Pieces`; what is seen: `specs/Observe`; how far the observer is:
+//! `specs/Progress`, `specs/Touched`. Arrivals: `sloth_base` (`Arrivals`).
 #![tactic(auto)]
 
 pub mod image_view;

@@ -1,5 +1,5 @@
 -- The faults in the blocks of an alarm: what its action and its start lack, and what their attributes say wrongly.
-use Rattle.std.specs.Prelude.{◌≡◌, ℕ, Bool, true, false, ◌⊎◌, not, ◌||◌, ◌&&◌, ◌==◌, List, find, codes, Option, Some, None}
+use Rattle.std.specs.Prelude.{◌≡◌, ℕ, Bool, true, false, ◌⊎◌, not, ◌||◌, ◌&&◌, List, find, codes, Option, Some, None}
 use Rattle.std.specs.List.{list_any}
 use Rattle.sloth_base.specs.declared.refusal.Code.TheVariants.{O9, O10, O11, O12}
 use Rattle.sloth_base.specs.declared.refusal.Refusal.{Refusal}
@@ -12,8 +12,9 @@ use Rattle.oil_table.specs.declared.table.Place.{Place}
 use Rattle.oil_table.specs.declared.table.Place.TheVariants as place
 use Rattle.oil_table.specs.declared.table.Attribute.{Attribute}
 use Rattle.oil_table.specs.Cases.{Case}
-use Rattle.oil_table.specs.Table.{attribute_of, is_single, is_word, block_place}
+use Rattle.oil_table.specs.Table.{attribute_of, is_word, block_place}
 use Rattle.oil_table.specs.Objects.{is_of_kind, is_use}
+use Rattle.oil_table.specs.Uses.{is_second}
 use Rattle.oil_table.specs.declared.alarm_limits.Limits.{Limits}
 use Rattle.oil_table.specs.Beyond.{is_beyond}
 use Rattle.oil_alarms.specs.Limits.{object_named, limits_of}
@@ -43,11 +44,6 @@ lacks_part attrs = lacks_behind (codes "ACTION") attrs || lacks_behind (codes "A
 
 -- ---- what is wrong
 
--- a second use in the block of an attribute that may be used once
-abbrev pub is_second_in : Option Attribute → List OilAttr → OilAttr → Bool
-is_second_in None before attr = false
-is_second_in (Some row) before attr = is_single row && ((attr.depth == 1) && is_used_in before attr.name)
-
 -- an attribute of a task lists the event of this name
 abbrev pub lists_event : List ℕ → OilAttr → Bool
 lists_event word attr = is_use (codes "EVENT") attr && is_word attr.value word
@@ -74,7 +70,7 @@ is_unlisted objects place inner attr = sets_event place && (is_inner_use (codes 
 -- O9, O10 and O12 of an attribute with this row of the table, in a block that is this place, behind these of the block
 abbrev pub InnerFault : List OilObject → Limits → Place → List OilAttr → Option Attribute → List OilAttr → OilAttr → Refusal → Type 0
 InnerFault objects limits place inner row before attr r =
-    Case (is_second_in row before attr) attr.line O9 r
+    Case (is_second 1 row before attr) attr.line O9 r
     ⊎ (Case (is_unlisted objects place inner attr) attr.line O10 r
     ⊎ Case (is_beyond limits row attr) attr.line O12 r)
 

@@ -1,11 +1,8 @@
 -- The blocks of an object's attributes: an attribute of its own block, and those in the block behind its value.
-use Rattle.std.specs.Prelude.{◌≡◌, ℕ, Bool, not, ◌&&◌, ◌==◌, if◌then◌else◌, List, [], ◌∷◌, find, Option}
+use Rattle.std.specs.Prelude.{ℕ, Bool, not, ◌==◌, if◌then◌else◌, List, [], ◌∷◌, find, Option}
 use Rattle.std.specs.List.{list_any, take_while}
-use Rattle.std.specs.Str.{bytes_eq}
 use Rattle.oil_parse.specs.declared.tree.OilAttr.{OilAttr}
-use Rattle.std.specs.Borrow.{Bor}
-use Rattle.indexmap.specs.IndexSet.{IndexSet}
-use Rattle.oil_table.specs.Objects.{is_use, number_given}
+use Rattle.oil_table.specs.Objects.{is_use, is_use_at, number_given}
 
 -- an attribute of a block behind another attribute's value
 abbrev pub is_inner : OilAttr → Bool
@@ -28,7 +25,7 @@ first_block name (attr ∷ attrs) = if is_use name attr then take_while is_inner
 
 -- a use of an attribute in a block itself, not in one inside it
 abbrev pub is_inner_use : List ℕ → OilAttr → Bool
-is_inner_use name attr = (attr.depth == 1) && bytes_eq attr.name name
+is_inner_use name attr = is_use_at 1 name attr
 
 -- the attribute is used in a block
 abbrev pub is_used_in : List OilAttr → List ℕ → Bool
@@ -41,7 +38,3 @@ first_in inner name = find (is_inner_use name) inner
 -- the number of the first use in a block
 abbrev pub number_in : List OilAttr → List ℕ → Option ℕ
 number_in inner name = number_given (first_in inner name)
-
--- what is kept of the attributes of a block before one: the names of those in the block itself
-abbrev pub IsBefore : {S : Type 0} → List OilAttr → IndexSet (Bor (List ℕ)) S → Type 0
-IsBefore inner names = (name : List ℕ) → list_any (λ k. bytes_eq k.now name) names.keys ≡ is_used_in inner name

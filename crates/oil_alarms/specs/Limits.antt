@@ -1,10 +1,10 @@
 -- The limits of an alarm's counter (OIL 2.5, section 3.2.8). Where the counter or one of its limits is missing or refused, the widest takes its place.
 use Rattle.std.specs.Prelude.{ℕ, ◌&&◌, if◌then◌else◌, nat_le, List, find, codes, Option, Some, None}
+use Rattle.sloth_base.specs.Limits.{tick_limit}
 use Rattle.oil_parse.specs.declared.tree.OilValue.{OilValue}
 use Rattle.oil_parse.specs.declared.tree.OilValue.TheVariants.{Word}
 use Rattle.oil_parse.specs.declared.tree.OilAttr.{OilAttr}
 use Rattle.oil_parse.specs.declared.tree.OilObject.{OilObject}
-use Rattle.oil_table.specs.Table.{greatest_value}
 use Rattle.oil_table.specs.Objects.{is_use, is_declaration, first_number}
 use Rattle.oil_table.specs.declared.alarm_limits.Limits.{Limits}
 
@@ -21,14 +21,14 @@ object_named objects kind (Some attr) = object_of_value objects kind attr.value
 -- a number that a limit may be, else what stands in its place
 abbrev pub limit_by : Option ℕ → ℕ → ℕ
 limit_by None other = other
-limit_by (Some number) other = if nat_le 1 number && nat_le number greatest_value then number else other
+limit_by (Some number) other = if nat_le 1 number && nat_le number tick_limit then number else other
 
 -- the limits of a counter
 abbrev pub limits_given : Option OilObject → Limits
-limits_given None = record { least = 1; greatest = greatest_value }
+limits_given None = record { least = 1; greatest = tick_limit }
 limits_given (Some counter) = record {
   least = limit_by (first_number counter.attrs (codes "MINCYCLE")) 1;
-  greatest = limit_by (first_number counter.attrs (codes "MAXALLOWEDVALUE")) greatest_value;
+  greatest = limit_by (first_number counter.attrs (codes "MAXALLOWEDVALUE")) tick_limit;
 }
 
 -- the limits of the counter that an alarm with these attributes names

@@ -4,7 +4,8 @@ ghost use Rattle.oil_table.specs.Objects.{is_declaration};
 ghost use Rattle.oil_alarms.specs.Limits.{object_of_value, object_named, limit_by, limits_given, limits_of};
 
 use oil_parse::tree::{OilAttr, OilObject, OilValue};
-use oil_table::{GREATEST_VALUE, Limits, declares, first_number, first_use};
+use oil_table::{Limits, declares, first_number, first_use};
+use sloth_base::limits::TICK_LIMIT;
 
 fn first_declared<'t>(objects: &'t [OilObject], kind: &[u8], word: &[u8]) -> Option<&'t OilObject>
     ensures { option_copied result ≡ find (is_declaration kind.now word.now) objects.now }
@@ -45,7 +46,7 @@ fn limit_by(number: Option<u32>, other: u32) -> u32
 {
     match number {
         Some(number) => {
-            if 1 <= number && number <= GREATEST_VALUE {
+            if 1 <= number && number <= TICK_LIMIT {
                 number
             } else {
                 other
@@ -63,12 +64,12 @@ fn limits_given(counter: Option<&OilObject>) -> Limits
             least: limit_by(first_number(counter.attrs.items(), b"MINCYCLE"), 1),
             greatest: limit_by(
                 first_number(counter.attrs.items(), b"MAXALLOWEDVALUE"),
-                GREATEST_VALUE,
+                TICK_LIMIT,
             ),
         },
         None => Limits {
             least: 1,
-            greatest: GREATEST_VALUE,
+            greatest: TICK_LIMIT,
         },
     }
 }

@@ -10,6 +10,7 @@ use Rattle.sloth_base.specs.declared.refusal.Refusal.{Refusal}
 use Rattle.least_fault.specs.Order.{NoFault}
 use Rattle.least_fault.proofs.Nowhere.{nowhere, case_false}
 use Rattle.sloth_base.specs.declared.refusal.Part.TheVariants.{Oil}
+use Rattle.sloth_base.specs.Limits.{task_limit, counter_limit, alarm_limit, resource_limit, event_limit}
 use Rattle.oil_parse.specs.declared.tree.OilObject.{OilObject}
 use Rattle.oil_parse.specs.declared.tree.OilTree.{OilTree}
 use Rattle.oil_table.specs.Table.{place_of, is_nowhere}
@@ -69,31 +70,31 @@ module _ (tree : OilTree) (none : NoFault (ModelFault tree)) where
       let o = get_or tree.objects i d in
       case_false Oil (is_above (take i tree.objects) o) o.line O14 (λ r x. inner_at i d h r (inl (inr (inr (inr x)))))
 
-  pub few_tasks : count_by (is_of_kind (codes "TASK")) tree.objects ≤ 30
-  few_tasks = count_by-limited (is_of_kind (codes "TASK")) 30 tree.objects (λ i d h. (or_parts (comes_behind (codes "TASK") 30 (take i tree.objects) (get_or tree.objects i d)) _ (not_above i d h)).0)
+  pub few_tasks : count_by (is_of_kind (codes "TASK")) tree.objects ≤ task_limit
+  few_tasks = count_by-limited (is_of_kind (codes "TASK")) task_limit tree.objects (λ i d h. (or_parts (comes_behind (codes "TASK") task_limit (take i tree.objects) (get_or tree.objects i d)) _ (not_above i d h)).0)
 
-  pub few_resources : count_by (is_of_kind (codes "RESOURCE")) tree.objects ≤ 32
-  few_resources = count_by-limited (is_of_kind (codes "RESOURCE")) 32 tree.objects
-      (λ i d h. (or_parts (comes_behind (codes "RESOURCE") 32 (take i tree.objects) (get_or tree.objects i d)) _ (or_parts (comes_behind (codes "TASK") 30 (take i tree.objects) (get_or tree.objects i d)) _ (not_above i d h)).1).0)
+  pub few_resources : count_by (is_of_kind (codes "RESOURCE")) tree.objects ≤ resource_limit
+  few_resources = count_by-limited (is_of_kind (codes "RESOURCE")) resource_limit tree.objects
+      (λ i d h. (or_parts (comes_behind (codes "RESOURCE") resource_limit (take i tree.objects) (get_or tree.objects i d)) _ (or_parts (comes_behind (codes "TASK") task_limit (take i tree.objects) (get_or tree.objects i d)) _ (not_above i d h)).1).0)
 
-  pub few_events : count_by (is_of_kind (codes "EVENT")) tree.objects ≤ 32
-  few_events = count_by-limited (is_of_kind (codes "EVENT")) 32 tree.objects
-      (λ i d h. (or_parts (comes_behind (codes "EVENT") 32 (take i tree.objects) (get_or tree.objects i d)) _ (or_parts (comes_behind (codes "RESOURCE") 32 (take i tree.objects) (get_or tree.objects i d)) _ (or_parts (comes_behind (codes "TASK") 30 (take i tree.objects) (get_or tree.objects i d)) _ (not_above i d h)).1).1).0)
+  pub few_events : count_by (is_of_kind (codes "EVENT")) tree.objects ≤ event_limit
+  few_events = count_by-limited (is_of_kind (codes "EVENT")) event_limit tree.objects
+      (λ i d h. (or_parts (comes_behind (codes "EVENT") event_limit (take i tree.objects) (get_or tree.objects i d)) _ (or_parts (comes_behind (codes "RESOURCE") resource_limit (take i tree.objects) (get_or tree.objects i d)) _ (or_parts (comes_behind (codes "TASK") task_limit (take i tree.objects) (get_or tree.objects i d)) _ (not_above i d h)).1).1).0)
 
   clock_not_above : (i : ℕ) (d : OilObject) → i < length tree.objects → is_clock_above (take i tree.objects) (get_or tree.objects i d) ≡ false
   clock_not_above i d h =
       let front = take i tree.objects in
       let o = get_or tree.objects i d in
-      (or_parts (is_clock_above front o) _ (or_parts (comes_behind (codes "EVENT") 32 front o) _ (or_parts (comes_behind (codes "RESOURCE") 32 front o) _
-      (or_parts (comes_behind (codes "TASK") 30 front o) _ (not_above i d h)).1).1).1).0
+      (or_parts (is_clock_above front o) _ (or_parts (comes_behind (codes "EVENT") event_limit front o) _ (or_parts (comes_behind (codes "RESOURCE") resource_limit front o) _
+      (or_parts (comes_behind (codes "TASK") task_limit front o) _ (not_above i d h)).1).1).1).0
 
-  pub few_counters : count_by (is_of_kind (codes "COUNTER")) tree.objects ≤ 2
-  few_counters = count_by-limited (is_of_kind (codes "COUNTER")) 2 tree.objects
-      (λ i d h. (or_parts (comes_behind (codes "COUNTER") 2 (take i tree.objects) (get_or tree.objects i d)) _ (clock_not_above i d h)).0)
+  pub few_counters : count_by (is_of_kind (codes "COUNTER")) tree.objects ≤ counter_limit
+  few_counters = count_by-limited (is_of_kind (codes "COUNTER")) counter_limit tree.objects
+      (λ i d h. (or_parts (comes_behind (codes "COUNTER") counter_limit (take i tree.objects) (get_or tree.objects i d)) _ (clock_not_above i d h)).0)
 
-  pub few_alarms : count_by (is_of_kind (codes "ALARM")) tree.objects ≤ 32
-  few_alarms = count_by-limited (is_of_kind (codes "ALARM")) 32 tree.objects
-      (λ i d h. (or_parts (comes_behind (codes "COUNTER") 2 (take i tree.objects) (get_or tree.objects i d)) _ (clock_not_above i d h)).1)
+  pub few_alarms : count_by (is_of_kind (codes "ALARM")) tree.objects ≤ alarm_limit
+  few_alarms = count_by-limited (is_of_kind (codes "ALARM")) alarm_limit tree.objects
+      (λ i d h. (or_parts (comes_behind (codes "COUNTER") counter_limit (take i tree.objects) (get_or tree.objects i d)) _ (clock_not_above i d h)).1)
 
   -- so many objects of a kind have so many names
   pub number_of_names : (kind : List ℕ) → length (names_of kind tree.objects) ≡ count_by (is_of_kind kind) tree.objects
@@ -103,7 +104,7 @@ module _ (tree : OilTree) (none : NoFault (ModelFault tree)) where
   pub part_at : (i : ℕ) (d : OilObject) → i < length tree.objects → is_of_kind (codes "ALARM") (get_or tree.objects i d) ≡ true → NoFault (PartFault tree.objects (get_or tree.objects i d))
   part_at i d h t = λ r f. nowhere (AlarmFault tree.objects) tree.objects (λ s g. none s (inr g)) i d h r (t, f)
 
-  pub few_names : length (resource_names tree.objects) ≤ 32
+  pub few_names : length (resource_names tree.objects) ≤ resource_limit
   few_names =
       let m = length-map (filter (is_of_kind (codes "RESOURCE")) tree.objects) (λ (o : OilObject). o.name) in
       let f = length-filter (is_of_kind (codes "RESOURCE")) tree.objects in

@@ -9,7 +9,8 @@ use Rattle.sloth_base.specs.declared.config.TaskDecl.{TaskDecl}
 use Rattle.sloth_base.specs.declared.config.CounterDecl.{CounterDecl}
 use Rattle.sloth_base.specs.declared.config.AlarmDecl.{AlarmDecl}
 use Rattle.sloth_base.specs.ImageRange.{IsWord, AreNames, AreApart}
-use Rattle.sloth_base.specs.ConfigRange.{IsTask, IsCounter, IsAlarm, InRange}
+use Rattle.sloth_base.specs.ConfigRange.{IsTask, IsCounter, IsAlarm, InRange, scheduler_number}
+use Rattle.sloth_base.specs.Limits.{task_limit, event_limit}
 use Rattle.least_fault.specs.Order.{NoFault}
 use Rattle.oil_parse.specs.declared.tree.OilObject.{OilObject}
 use Rattle.oil_parse.specs.declared.tree.OilTree.{OilTree}
@@ -48,7 +49,7 @@ module _ (tree : OilTree) (none : NoFault (ModelFault tree)) (words : All (λ (o
   names_of_events : AreNames (map (λ (e : EventDecl). e.name) (events_of tree.objects))
   names_of_events = subst AreNames (sym (event_names (number_masks tree.objects) tree.objects)) (are_names tree none words (codes "EVENT"))
 
-  number_of_events : length (events_of tree.objects) ≤ 32
+  number_of_events : length (events_of tree.objects) ≤ event_limit
   number_of_events =
       let a = length-map (events_of tree.objects) (λ (e : EventDecl). e.name) in
       let e = ap length (event_names (number_masks tree.objects) tree.objects) in
@@ -57,7 +58,7 @@ module _ (tree : OilTree) (none : NoFault (ModelFault tree)) (words : All (λ (o
       let n = few_events tree none in
       omega (arith, a, e, b, f, n)
 
-  number_of_tasks : length (tasks_of (resource_names tree.objects) (events_of tree.objects) tree.objects) ≤ 30
+  number_of_tasks : length (tasks_of (resource_names tree.objects) (events_of tree.objects) tree.objects) ≤ task_limit
   number_of_tasks =
       let a = length-map (filter (is_of_kind (codes "TASK")) tree.objects) (declared_task (resource_names tree.objects) (events_of tree.objects)) in
       let f = length-filter (is_of_kind (codes "TASK")) tree.objects in
@@ -71,7 +72,7 @@ module _ (tree : OilTree) (none : NoFault (ModelFault tree)) (words : All (λ (o
       let p = priority_value tree none i d h t in
       record {
         priority = let e = ap (λ x. unwrap_or x 0) (priority_is tree none i d h t) in let s = p.small in omega (arith, e, s);
-        resources = All-weaker (λ n. n < length (resource_names tree.objects)) (λ n. (n < length (resource_names tree.objects)) ⊎ ((n ≡ 32) × IsTrue (has_scheduler tree.objects)))
+        resources = All-weaker (λ n. n < length (resource_names tree.objects)) (λ n. (n < length (resource_names tree.objects)) ⊎ ((n ≡ scheduler_number) × IsTrue (has_scheduler tree.objects)))
             (λ n b. inl b) _ (resources_within (resource_names tree.objects) o.attrs);
         events = is_union (events_of tree.objects) names_of_events.distinct o.attrs (no_shared tree none i d h t);
         extended = extended tree none i d h t;

@@ -14,6 +14,7 @@ use Rattle.sloth_base.specs.declared.config.CounterDecl.{CounterDecl}
 use Rattle.sloth_base.specs.declared.config.Action.TheVariants as action
 use Rattle.sloth_base.specs.Named.{declaration, undeclared_task, counter_declaration, undeclared_counter}
 use Rattle.sloth_base.specs.ConfigRange.{IsAlarm, IsAction, IsCycle, no_event}
+use Rattle.sloth_base.specs.Limits.{tick_limit}
 use Rattle.least_fault.specs.Order.{NoFault}
 use Rattle.oil_parse.specs.declared.tree.OilValue.{OilValue}
 use Rattle.oil_parse.specs.declared.tree.OilValue.TheVariants.{Word, Number, Text}
@@ -24,7 +25,7 @@ use Rattle.oil_table.specs.declared.table.Attribute.{Attribute}
 use Rattle.oil_table.specs.declared.table.Attribute.TheVariants as attribute
 use Rattle.oil_table.specs.declared.table.Place.{Place}
 use Rattle.oil_table.specs.declared.table.Place.TheVariants as place
-use Rattle.oil_table.specs.Table.{attribute_of, is_allowed, is_word, block_place, greatest_value}
+use Rattle.oil_table.specs.Table.{attribute_of, is_allowed, is_word, block_place}
 use Rattle.oil_table.specs.Objects.{is_of_kind, is_use, is_used, is_given, first_is, first_number, number_of, number_given, has_scheduler, names_of}
 use Rattle.oil_events.specs.Events.{events_of, mask_named, mask_given, number_masks}
 use Rattle.oil_rules.specs.AttributeFaults.{misses_value}
@@ -171,7 +172,7 @@ at_kept kind objects P h k d l =
 abbrev HasLimits : OilObject → Type 0
 HasLimits o =
     (limit_by (first_number o.attrs (codes "MINCYCLE")) 1 ≡ (declared_counter o).min_cycle)
-    × (limit_by (first_number o.attrs (codes "MAXALLOWEDVALUE")) greatest_value ≡ (declared_counter o).max)
+    × (limit_by (first_number o.attrs (codes "MAXALLOWEDVALUE")) tick_limit ≡ (declared_counter o).max)
 
 module _ (tree : OilTree) (none : NoFault (ModelFault tree)) where
   abbrev config : Config

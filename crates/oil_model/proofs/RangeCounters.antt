@@ -6,6 +6,7 @@ use Rattle.std.proofs.lemmas.Bool.{leb-true, le-leb, and_parts}
 use Rattle.sloth_base.specs.ConfigRange.{IsCounter}
 use Rattle.sloth_base.specs.declared.refusal.Code.TheVariants.{O11}
 use Rattle.sloth_base.specs.declared.refusal.Part.TheVariants.{Oil}
+use Rattle.sloth_base.specs.Limits.{tick_limit}
 use Rattle.least_fault.specs.Order.{NoFault}
 use Rattle.least_fault.proofs.Nowhere.{case_false}
 use Rattle.oil_parse.specs.declared.tree.OilValue.{OilValue}
@@ -14,7 +15,7 @@ use Rattle.oil_parse.specs.declared.tree.OilAttr.{OilAttr}
 use Rattle.oil_parse.specs.declared.tree.OilObject.{OilObject}
 use Rattle.oil_parse.specs.declared.tree.OilTree.{OilTree}
 use Rattle.oil_table.specs.declared.table.Attribute.TheVariants.{Limit}
-use Rattle.oil_table.specs.Table.{attribute_of, place_of, is_allowed, greatest_value}
+use Rattle.oil_table.specs.Table.{attribute_of, place_of, is_allowed}
 use Rattle.oil_table.specs.Objects.{is_of_kind, is_use, is_used, first_number, number_of, number_given}
 use Rattle.oil_rules.specs.ObjectFaults.{lacks_attribute}
 use Rattle.oil_alarms.specs.Limits.{limit_by}
@@ -38,23 +39,23 @@ pub record IsLimit (value : OilValue) : Type 0 where
   pub number : ℕ
   pub is : number_of value ≡ Some number
   pub low : 1 ≤ number
-  pub high : number ≤ greatest_value
+  pub high : number ≤ tick_limit
 
 limit_number : (value : OilValue) → is_allowed Limit value ≡ true → IsLimit value
 limit_number (Word word) a = cc
 limit_number (Number number) a =
-    let p = and_parts (nat_le 1 number) (nat_le number greatest_value) a in
-    record { number = number; is = refl; low = leb-true 1 number p.0; high = leb-true number greatest_value p.1 }
+    let p = and_parts (nat_le 1 number) (nat_le number tick_limit) a in
+    record { number = number; is = refl; low = leb-true 1 number p.0; high = leb-true number tick_limit p.1 }
 limit_number (Text bytes) a = cc
 
 -- a number in range is its own limit
-limit_is : (n other : ℕ) → 1 ≤ n → n ≤ greatest_value → limit_by (Some n) other ≡ n
-limit_is n other l h = ap (λ b. cond (b && nat_le n greatest_value) n other) (le-leb 1 n l) ∙ ap (λ b. cond b n other) (le-leb n greatest_value h)
+limit_is : (n other : ℕ) → 1 ≤ n → n ≤ tick_limit → limit_by (Some n) other ≡ n
+limit_is n other l h = ap (λ b. cond (b && nat_le n tick_limit) n other) (le-leb 1 n l) ∙ ap (λ b. cond b n other) (le-leb n tick_limit h)
 
 -- a limit that is given or has its default
 pub record HasLimit (attrs : List OilAttr) (name : List ℕ) (other : ℕ) : Type 0 where
   pub low : 1 ≤ unwrap_or (first_number attrs name) other
-  pub high : unwrap_or (first_number attrs name) other ≤ greatest_value
+  pub high : unwrap_or (first_number attrs name) other ≤ tick_limit
   -- what an alarm takes for it
   pub same : limit_by (first_number attrs name) other ≡ unwrap_or (first_number attrs name) other
 
@@ -63,7 +64,7 @@ module _ (tree : OilTree) (none : NoFault (ModelFault tree)) where
   lacking i d h = let o = get_or tree.objects i d in case_false Oil (lacks_attribute o) o.line O11 (λ r x. inner_at tree none i d h r (inl (inr (inl x))))
 
   module _ (i : ℕ) (d : OilObject) (within : i < length tree.objects) (counter : is_of_kind (codes "COUNTER") (get_or tree.objects i d) ≡ true) where
-    limit_of : (name : List ℕ) (other : ℕ) → attribute_of (place_of (codes "COUNTER")) name ≡ Some Limit → 1 ≤ other → other ≤ greatest_value
+    limit_of : (name : List ℕ) (other : ℕ) → attribute_of (place_of (codes "COUNTER")) name ≡ Some Limit → 1 ≤ other → other ≤ tick_limit
         → HasLimit (get_or tree.objects i d).attrs name other
     limit_of name other listed low high = by (is_used (get_or tree.objects i d).attrs name) refl
       where
@@ -84,8 +85,8 @@ module _ (tree : OilTree) (none : NoFault (ModelFault tree)) where
             let e : first_number o.attrs name ≡ None = ap number_given (none_found (is_use name) o.attrs t) in
             record { low = rw e low; high = rw e high; same = rw e refl }
 
-    pub max_limit : HasLimit (get_or tree.objects i d).attrs (codes "MAXALLOWEDVALUE") greatest_value
-    max_limit = limit_of (codes "MAXALLOWEDVALUE") greatest_value refl (omega arith) (omega arith)
+    pub max_limit : HasLimit (get_or tree.objects i d).attrs (codes "MAXALLOWEDVALUE") tick_limit
+    max_limit = limit_of (codes "MAXALLOWEDVALUE") tick_limit refl (omega arith) (omega arith)
 
     pub cycle_limit : HasLimit (get_or tree.objects i d).attrs (codes "MINCYCLE") 1
     cycle_limit = limit_of (codes "MINCYCLE") 1 refl (omega arith) (omega arith)

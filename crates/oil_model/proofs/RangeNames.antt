@@ -19,6 +19,7 @@ use Rattle.text_pieces.proofs.Tests.{none_pass, All-kept}
 use Rattle.least_fault.proofs.Nowhere.{case_false}
 use Rattle.oil_model.proofs.NoFaults.{inner_at, not_above}
 use Rattle.sloth_base.specs.declared.refusal.Part.TheVariants.{Oil}
+use Rattle.sloth_base.specs.Limits.{task_limit, resource_limit, event_limit, name_limit}
 use Rattle.oil_model.proofs.Lists.{pairs_kept}
 
 pub true_not_false : (b : Bool) → b ≡ true → b ≡ false → {A : Type 0} → A
@@ -68,9 +69,9 @@ module _ (tree : OilTree) (none : NoFault (ModelFault tree)) where
     is_name i d h =
         let o = get_or tree.objects i d in
         let front = take i tree.objects in
-        let long : nat_lt 64 (length o.name) ≡ false = (or_parts (is_clock_above front o) _ (or_parts (comes_behind (codes "EVENT") 32 front o) _
-        (or_parts (comes_behind (codes "RESOURCE") 32 front o) _ (or_parts (comes_behind (codes "TASK") 30 front o) _ (not_above tree none i d h)).1).1).1).1 in
-        record { word = words i d h; short = ltb-false 64 (length o.name) long }
+        let long : nat_lt name_limit (length o.name) ≡ false = (or_parts (is_clock_above front o) _ (or_parts (comes_behind (codes "EVENT") event_limit front o) _
+        (or_parts (comes_behind (codes "RESOURCE") resource_limit front o) _ (or_parts (comes_behind (codes "TASK") task_limit front o) _ (not_above tree none i d h)).1).1).1).1 in
+        record { word = words i d h; short = ltb-false name_limit (length o.name) long }
 
     pub are_names : (K : List ℕ) → AreNames (map (λ (o : OilObject). o.name) (filter (is_of_kind K) tree.objects))
     are_names K = record { each = All-kept (is_of_kind K) (λ (o : OilObject). o.name) IsName tree.objects (λ i d h t. is_name i d h); distinct = names_differ K }

@@ -26,6 +26,7 @@ use Rattle.oil_model.specs.Configs.{resource_number, listed_resource, with_numbe
 use Rattle.least_fault.proofs.Nowhere.{nowhere, case_false}
 use Rattle.oil_model.proofs.NoFaults.{inner_at}
 use Rattle.sloth_base.specs.declared.refusal.Part.TheVariants.{Oil}
+use Rattle.sloth_base.specs.Limits.{priority_limit}
 use Rattle.text_pieces.proofs.Tests.{none_pass}
 use Rattle.oil_model.proofs.Lists.{IsFirst, first_of}
 use Rattle.oil_model.proofs.Attributes.{allowed}
@@ -35,11 +36,11 @@ use Rattle.oil_model.proofs.RangeNames.{true_not_false}
 pub record IsPriority (value : OilValue) : Type 0 where
   pub number : ℕ
   pub is : number_of value ≡ Some number
-  pub small : number ≤ 65535
+  pub small : number ≤ priority_limit
 
 priority_number : (value : OilValue) → is_allowed Priority value ≡ true → IsPriority value
 priority_number (Word word) a = cc
-priority_number (Number number) a = record { number = number; is = refl; small = leb-true number 65535 a }
+priority_number (Number number) a = record { number = number; is = refl; small = leb-true number priority_limit a }
 priority_number (Text bytes) a = cc
 
 -- each resource that a task lists has a name

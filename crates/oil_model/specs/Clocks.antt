@@ -6,11 +6,11 @@ use Rattle.sloth_base.specs.declared.config.CounterDecl.{CounterDecl}
 use Rattle.sloth_base.specs.declared.config.Action.{Action}
 use Rattle.sloth_base.specs.declared.config.Action.TheVariants as action
 use Rattle.sloth_base.specs.declared.config.AlarmDecl.{AlarmDecl}
+use Rattle.sloth_base.specs.Limits.{tick_limit}
 use Rattle.oil_parse.specs.declared.tree.OilValue.{OilValue}
 use Rattle.oil_parse.specs.declared.tree.OilValue.TheVariants.{Word}
 use Rattle.oil_parse.specs.declared.tree.OilAttr.{OilAttr}
 use Rattle.oil_parse.specs.declared.tree.OilObject.{OilObject}
-use Rattle.oil_table.specs.Table.{greatest_value}
 use Rattle.oil_table.specs.Objects.{is_of_kind, is_use, first_is, first_number}
 use Rattle.oil_events.specs.Masks.{mask_of_value}
 use Rattle.oil_alarms.specs.Blocks.{first_block, first_in, number_in}
@@ -19,7 +19,7 @@ use Rattle.oil_alarms.specs.Blocks.{first_block, first_in, number_in}
 abbrev pub declared_counter : OilObject → CounterDecl
 declared_counter object = record {
   name = object.name;
-  max = unwrap_or (first_number object.attrs (codes "MAXALLOWEDVALUE")) greatest_value;
+  max = unwrap_or (first_number object.attrs (codes "MAXALLOWEDVALUE")) tick_limit;
   min_cycle = unwrap_or (first_number object.attrs (codes "MINCYCLE")) 1;
 }
 

@@ -1,13 +1,15 @@
 //! The counters and alarms of a tree that has no fault.
 ghost use Rattle.std.specs.Prelude.{◌≡◌, ◌≤◌, [], ◌∷◌, ◌++◌, IfOk, OnOk, codes, length, option_copied};
+ghost use Rattle.sloth_base.specs.MemoryMap.{line_count};
 ghost use Rattle.oil_table.specs.Objects.{names_of};
 ghost use Rattle.oil_model.specs.Clocks.{declared_counter, counters_of, number_of_value, number_named, mask_named_by, action_of, started, declared_alarm, alarms_of};
 
 use oil_alarms::{first_block, first_in, number_in};
 use oil_events::{EventTable, mask_of_value};
 use oil_parse::tree::{OilAttr, OilObject, OilValue};
-use oil_table::{GREATEST_VALUE, first_is, first_number, first_use, is_of_kind, names_of};
+use oil_table::{first_is, first_number, first_use, is_of_kind, names_of};
 use sloth_base::config::{Action, AlarmDecl, CounterDecl};
+use sloth_base::limits::TICK_LIMIT;
 use sloth_base::memory::NoMemory;
 use sloth_base::name::Name;
 use sloth_base::numbers::TaskId;
@@ -28,7 +30,7 @@ fn declared_counter(alloc: Global, object: &OilObject) -> Result<CounterDecl, No
     let attrs = object.attrs.items();
     Ok(CounterDecl {
         name: Name::new(alloc, object.name.bytes())?,
-        max: first_number(attrs, b"MAXALLOWEDVALUE").unwrap_or(GREATEST_VALUE),
+        max: first_number(attrs, b"MAXALLOWEDVALUE").unwrap_or(TICK_LIMIT),
         min_cycle: first_number(attrs, b"MINCYCLE").unwrap_or(1),
     })
 }
@@ -60,7 +62,7 @@ fn counters_of(alloc: Global, objects: &[OilObject]) -> Result<Vec<CounterDecl>,
 
 /// The number of the object that a value names, or 0.
 fn number_of_value(names: &Names, value: &OilValue) -> u32
-    requires { length names.now ≤ 32 }
+    requires { length names.now ≤ line_count }
     ensures { result ≡ number_of_value names.now value.now }
 {
     match value {
@@ -73,7 +75,7 @@ fn number_of_value(names: &Names, value: &OilValue) -> u32
 }
 
 fn number_named(names: &Names, attr: Option<&OilAttr>) -> u32
-    requires { length names.now ≤ 32 }
+    requires { length names.now ≤ line_count }
     ensures { result ≡ number_named names.now (option_copied attr.entry) }
 {
     match attr {
@@ -93,7 +95,7 @@ fn mask_named_by(events: &EventTable, attr: Option<&OilAttr>) -> u32
 }
 
 fn action_of(tasks: &Names, events: &EventTable, attrs: &[OilAttr]) -> Action
-    requires { length tasks.now ≤ 32 }
+    requires { length tasks.now ≤ line_count }
     ensures { result ≡ action_of tasks.now events.now attrs.now }
 {
     let inner = first_block(attrs, b"ACTION");
@@ -123,8 +125,8 @@ fn declared_alarm(
     events: &EventTable,
     object: &OilObject,
 ) -> Result<AlarmDecl, NoMemory>
-    requires few_tasks { length tasks.now ≤ 32 }
-    requires few_counters { length counters.now ≤ 32 }
+    requires few_tasks { length tasks.now ≤ line_count }
+    requires few_counters { length counters.now ≤ line_count }
     ensures { IfOk result (λ alarm. alarm ≡ declared_alarm tasks.now counters.now events.now object.now) }
 {
     let attrs = object.attrs.items();
@@ -146,8 +148,8 @@ fn add_alarm(
     events: &EventTable,
     object: &OilObject,
 ) -> Result<(), NoMemory>
-    requires few_tasks { length tasks.now ≤ 32 }
-    requires few_counters { length counters.now ≤ 32 }
+    requires few_tasks { length tasks.now ≤ line_count }
+    requires few_counters { length counters.now ≤ line_count }
     ensures { OnOk result (alarms.new.items ≡ alarms.old.items ++ alarms_of tasks.now counters.now events.now (object.now ∷ [])) }
 {
     if !is_of_kind(object, b"ALARM") {
@@ -164,8 +166,8 @@ fn alarms_of(
     events: &EventTable,
     objects: &[OilObject],
 ) -> Result<Vec<AlarmDecl>, NoMemory>
-    requires few_tasks { length tasks.now ≤ 32 }
-    requires few_counters { length counters.now ≤ 32 }
+    requires few_tasks { length tasks.now ≤ line_count }
+    requires few_counters { length counters.now ≤ line_count }
     ensures { IfOk result (λ alarms. alarms.items ≡ alarms_of tasks.now counters.now events.now objects.now) }
 {
     let mut alarms = Vec::new(alloc);
@@ -182,8 +184,8 @@ fn clocks_by(
     events: &EventTable,
     objects: &[OilObject],
 ) -> Result<Clocks, NoMemory>
-    requires few_tasks { length tasks.now ≤ 32 }
-    requires few_counters { length counters.now ≤ 32 }
+    requires few_tasks { length tasks.now ≤ line_count }
+    requires few_counters { length counters.now ≤ line_count }
     ensures counters { IfOk result (λ clocks. clocks.counters.items ≡ counters_of objects.now) }
     ensures alarms { IfOk result (λ clocks. clocks.alarms.items ≡ alarms_of tasks.now counters.now events.now objects.now) }
 {
@@ -198,8 +200,8 @@ fn clocks_with(
     events: &EventTable,
     objects: &[OilObject],
 ) -> Result<Clocks, NoMemory>
-    requires few_tasks { length tasks.now ≤ 32 }
-    requires few_counters { length (names_of (codes "COUNTER") objects.now) ≤ 32 }
+    requires few_tasks { length tasks.now ≤ line_count }
+    requires few_counters { length (names_of (codes "COUNTER") objects.now) ≤ line_count }
     ensures counters { IfOk result (λ clocks. clocks.counters.items ≡ counters_of objects.now) }
     ensures alarms { IfOk result (λ clocks. clocks.alarms.items
         ≡ alarms_of tasks.now (names_of (codes "COUNTER") objects.now) events.now objects.now) }
@@ -214,8 +216,8 @@ pub fn clocks_of(
     events: &EventTable,
     objects: &[OilObject],
 ) -> Result<Clocks, NoMemory>
-    requires few_tasks { length (names_of (codes "TASK") objects.now) ≤ 32 }
-    requires few_counters { length (names_of (codes "COUNTER") objects.now) ≤ 32 }
+    requires few_tasks { length (names_of (codes "TASK") objects.now) ≤ line_count }
+    requires few_counters { length (names_of (codes "COUNTER") objects.now) ≤ line_count }
     ensures counters { IfOk result (λ clocks. clocks.counters.items ≡ counters_of objects.now) }
     ensures alarms { IfOk result (λ clocks. clocks.alarms.items
         ≡ alarms_of (names_of (codes "TASK") objects.now) (names_of (codes "COUNTER") objects.now) events.now objects.now) }

@@ -1,6 +1,7 @@
 //! The configuration of a tree that has no fault.
 ghost use Rattle.std.specs.Prelude.{◌≡◌, ◌≤◌, ◌==◌, [], ◌∷◌, ◌++◌, IfOk, OnOk, position, bytes_eq, length};
 ghost use Rattle.std.specs.List.{list_any};
+ghost use Rattle.sloth_base.specs.Limits.{resource_limit};
 ghost use Rattle.oil_model.specs.Configs.{resource_names, resource_number, listed_resource, with_number, with_resource, resources_of, declared_task, tasks_of};
 
 use oil_events::{EventTable, event_mask};
@@ -42,7 +43,7 @@ pub fn resource_names(alloc: Global, objects: &[OilObject]) -> Result<Vec<Name>,
 }
 
 fn resource_named(names: &Names, word: &[u8]) -> Option<u32>
-    requires { length names.now ≤ 32 }
+    requires { length names.now ≤ resource_limit }
     ensures { result ≡ position (bytes_eq word.now) names.now }
 {
     match names.number(word) {
@@ -52,7 +53,7 @@ fn resource_named(names: &Names, word: &[u8]) -> Option<u32>
 }
 
 fn resource_number(names: &Names, value: &OilValue) -> Option<u32>
-    requires { length names.now ≤ 32 }
+    requires { length names.now ≤ resource_limit }
     ensures { result ≡ resource_number names.now value.now }
 {
     match value {
@@ -62,7 +63,7 @@ fn resource_number(names: &Names, value: &OilValue) -> Option<u32>
 }
 
 fn listed_resource(names: &Names, attr: &OilAttr) -> Option<u32>
-    requires { length names.now ≤ 32 }
+    requires { length names.now ≤ resource_limit }
     ensures { result ≡ listed_resource names.now attr.now }
 {
     if is_use(attr, b"RESOURCE") {
@@ -99,7 +100,7 @@ fn add_resource(listed: &mut Vec<ResId>, number: Option<u32>) -> Result<(), NoMe
 
 /// The resources that a task lists, each once.
 fn resources_of(alloc: Global, names: &Names, attrs: &[OilAttr]) -> Result<Vec<ResId>, NoMemory>
-    requires { length names.now ≤ 32 }
+    requires { length names.now ≤ resource_limit }
     ensures { IfOk result (λ listed. listed.items ≡ resources_of names.now attrs.now) }
 {
     let mut listed = Vec::new(alloc);
@@ -115,7 +116,7 @@ fn task_of(
     events: &EventTable,
     object: &OilObject,
 ) -> Result<TaskDecl, NoMemory>
-    requires { length names.now ≤ 32 }
+    requires { length names.now ≤ resource_limit }
     ensures { IfOk result (λ task. task ≡ declared_task names.now events.now object.now) }
 {
     let attrs = object.attrs.items();
@@ -138,7 +139,7 @@ fn add_task(
     events: &EventTable,
     object: &OilObject,
 ) -> Result<(), NoMemory>
-    requires { length names.now ≤ 32 }
+    requires { length names.now ≤ resource_limit }
     ensures { OnOk result (tasks.new.items ≡ tasks.old.items ++ tasks_of names.now events.now (object.now ∷ [])) }
 {
     if !is_of_kind(object, b"TASK") {
@@ -155,7 +156,7 @@ pub fn tasks_of(
     events: &EventTable,
     objects: &[OilObject],
 ) -> Result<Vec<TaskDecl>, NoMemory>
-    requires { length names.now ≤ 32 }
+    requires { length names.now ≤ resource_limit }
     ensures { IfOk result (λ tasks. tasks.items ≡ tasks_of names.now events.now objects.now) }
 {
     let mut tasks = Vec::new(alloc);

@@ -4,6 +4,8 @@ ghost use Rattle.least_fault.specs.Search.{Finds};
 ghost use Rattle.least_fault.specs.Order.{NoFault, IsLeast, ErrorIs};
 ghost use Rattle.sloth_base.specs.ConfigRange.{InRange};
 ghost use Rattle.sloth_base.specs.declared.config.Config.{Config};
+ghost use Rattle.sloth_base.specs.Limits.{resource_limit};
+ghost use Rattle.sloth_base.specs.MemoryMap.{line_count};
 ghost use Rattle.oil_parse.specs.declared.tree.OilTree.{OilTree};
 ghost use Rattle.oil_table.specs.Objects.{has_scheduler};
 ghost use Rattle.oil_model.specs.Trees.{IsTree};
@@ -35,9 +37,9 @@ fn config_of(
     event_names: &Names,
     events: Vec<EventDecl>,
 ) -> Result<Config, NoMemory>
-    requires few { length (resource_names objects.now) ≤ 32 }
-    requires few_tasks { length (names_of (codes "TASK") objects.now) ≤ 32 }
-    requires few_counters { length (names_of (codes "COUNTER") objects.now) ≤ 32 }
+    requires few { length (resource_names objects.now) ≤ resource_limit }
+    requires few_tasks { length (names_of (codes "TASK") objects.now) ≤ line_count }
+    requires few_counters { length (names_of (codes "COUNTER") objects.now) ≤ line_count }
     requires scheduler { scheduler ≡ has_scheduler objects.now }
     requires resource_numbers { resources.now ≡ resource_names objects.now }
     requires event_numbers { event_names.now ≡ names_of (codes "EVENT") objects.now }

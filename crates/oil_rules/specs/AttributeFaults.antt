@@ -1,6 +1,5 @@
 -- The faults of an attribute. All stand on its line.
 use Rattle.std.specs.Prelude.{ℕ, Bool, false, ◌⊎◌, if◌then◌else◌, not, ◌&&◌, ◌==◌, List, fold, codes, Option, Some, None, is_none}
-use Rattle.std.specs.List.{list_any}
 use Rattle.std.specs.Str.{bytes_eq}
 use Rattle.sloth_base.specs.declared.refusal.Code.TheVariants.{O8, O9, O10, O12}
 use Rattle.sloth_base.specs.declared.refusal.Refusal.{Refusal}
@@ -13,8 +12,9 @@ use Rattle.oil_table.specs.declared.table.Place.TheVariants.{Nowhere}
 use Rattle.oil_table.specs.declared.table.Attribute.{Attribute}
 use Rattle.oil_table.specs.declared.table.Attribute.TheVariants as attribute
 use Rattle.oil_table.specs.Cases.{Case}
-use Rattle.oil_table.specs.Table.{attribute_of, is_single, is_allowed, block_place}
-use Rattle.oil_table.specs.Objects.{is_use, is_declared}
+use Rattle.oil_table.specs.Table.{attribute_of, is_allowed, block_place}
+use Rattle.oil_table.specs.Objects.{is_declared}
+use Rattle.oil_table.specs.Uses.{is_second}
 
 -- the place that the last attribute opened, with one more attribute
 abbrev pub opened_place : Place → Place → OilAttr → Place
@@ -31,11 +31,6 @@ place_by place inner attr = if attr.depth == 0 then place else if attr.depth == 
 -- the place of an attribute behind others
 abbrev pub place_at : Place → List OilAttr → OilAttr → Place
 place_at place before attr = place_by place (inner_place place before) attr
-
--- a second use of an attribute that may be used once
-abbrev pub is_second_use : Option Attribute → List OilAttr → OilAttr → Bool
-is_second_use None before attr = false
-is_second_use (Some row) before attr = is_single row && ((attr.depth == 0) && list_any (is_use attr.name) before)
 
 -- the word refers to no object
 abbrev pub is_missing : List OilObject → Bool → Attribute → List ℕ → Bool
@@ -66,7 +61,7 @@ is_refused (Some row) value = not (is_allowed row value)
 abbrev pub RowFault : List OilObject → Bool → Option Attribute → List OilAttr → OilAttr → Refusal → Type 0
 RowFault objects scheduler row before attr r =
     Case (is_none row) attr.line O8 r
-    ⊎ (Case (is_second_use row before attr) attr.line O9 r
+    ⊎ (Case (is_second 0 row before attr) attr.line O9 r
     ⊎ (Case (refers_to_none objects scheduler row attr.value) attr.line O10 r
     ⊎ Case (is_refused row attr.value) attr.line O12 r))
 

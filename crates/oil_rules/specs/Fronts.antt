@@ -4,9 +4,8 @@ use Rattle.std.specs.List.{list_any}
 use Rattle.std.specs.Str.{bytes_eq}
 use Rattle.std.specs.Borrow.{Bor}
 use Rattle.indexmap.specs.IndexSet.{IndexSet}
-use Rattle.oil_parse.specs.declared.tree.OilAttr.{OilAttr}
 use Rattle.oil_parse.specs.declared.tree.OilObject.{OilObject}
-use Rattle.oil_table.specs.Objects.{is_of_kind, is_used, is_declared, first_number}
+use Rattle.oil_table.specs.Objects.{is_of_kind, is_declared, first_number}
 use Rattle.oil_rules.specs.TaskFaults.{has_priority}
 
 -- the priority of a task
@@ -24,7 +23,3 @@ pub record IsFront {S R : Type 0} (objects : List OilObject) (names : IndexSet (
   pub counter_count : counters ≡ count_by (is_of_kind (codes "COUNTER")) objects
   pub alarm_count : alarms ≡ count_by (is_of_kind (codes "ALARM")) objects
   pub os : has_os ≡ list_any (is_of_kind (codes "OS")) objects
-
--- what is kept of the attributes before one: the names of those in the object's own block
-abbrev pub IsBefore : {S : Type 0} → List OilAttr → IndexSet (Bor (List ℕ)) S → Type 0
-IsBefore attrs names = (name : List ℕ) → list_any (λ k. bytes_eq k.now name) names.keys ≡ is_used attrs name

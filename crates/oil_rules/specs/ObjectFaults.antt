@@ -4,6 +4,7 @@ use Rattle.std.specs.List.{list_any}
 use Rattle.std.specs.Str.{bytes_eq}
 use Rattle.sloth_base.specs.declared.refusal.Code.TheVariants.{O7, O9, O11, O12, O14}
 use Rattle.sloth_base.specs.declared.refusal.Refusal.{Refusal}
+use Rattle.sloth_base.specs.Limits.{task_limit, counter_limit, alarm_limit, resource_limit, event_limit, name_limit}
 use Rattle.oil_parse.specs.declared.tree.OilObject.{OilObject}
 use Rattle.oil_table.specs.Cases.{Case}
 use Rattle.oil_table.specs.Table.{is_nowhere, place_of}
@@ -57,13 +58,13 @@ comes_behind kind limit front object = is_of_kind kind object && (count_by (is_o
 
 -- the 3rd counter or the 33rd alarm
 abbrev pub is_clock_above : List OilObject → OilObject → Bool
-is_clock_above front object = comes_behind (codes "COUNTER") 2 front object || comes_behind (codes "ALARM") 32 front object
+is_clock_above front object = comes_behind (codes "COUNTER") counter_limit front object || comes_behind (codes "ALARM") alarm_limit front object
 
 -- the 31st task, the 33rd resource or event, the 3rd counter, the 33rd alarm, or a name of more than 64 bytes
 abbrev pub is_above : List OilObject → OilObject → Bool
 is_above front object =
-    comes_behind (codes "TASK") 30 front object || (comes_behind (codes "RESOURCE") 32 front object
-    || (comes_behind (codes "EVENT") 32 front object || (is_clock_above front object || nat_lt 64 (length object.name))))
+    comes_behind (codes "TASK") task_limit front object || (comes_behind (codes "RESOURCE") resource_limit front object
+    || (comes_behind (codes "EVENT") event_limit front object || (is_clock_above front object || nat_lt name_limit (length object.name))))
 
 -- O7: an object of no kind. It is judged no further.
 abbrev pub KindFault : OilObject → Refusal → Type 0

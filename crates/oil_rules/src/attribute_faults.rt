@@ -2,14 +2,13 @@
 ghost use Rattle.std.specs.Prelude.{◌≡◌, ◌&&◌, IfOk, bytes_eq, codes, is_none};
 ghost use Rattle.oil_table.specs.declared.table.Attribute.TheVariants.{Resource};
 ghost use Rattle.least_fault.specs.Search.{Finds, Somewhere};
-ghost use Rattle.oil_rules.specs.AttributeFaults.{opened_place, place_by, is_second_use, is_missing, misses_value, refers_to_none, is_refused, RowFault, AttributeFault};
+ghost use Rattle.oil_rules.specs.AttributeFaults.{opened_place, place_by, is_missing, misses_value, refers_to_none, is_refused, RowFault, AttributeFault};
 
-use crate::before::Before;
 use crate::front::Front;
 use least_fault::{merge, when};
 use oil_parse::tree::{OilAttr, OilValue};
 use oil_table::table::allows;
-use oil_table::{Attribute, Place, attribute_of, block_place, is_single};
+use oil_table::{Attribute, EarlierUses, Place, attribute_of, block_place, is_second};
 use sloth_base::memory::NoMemory;
 use sloth_base::refusal::{Code, Part, Refusal};
 use std::alloc::Global;
@@ -39,17 +38,6 @@ fn is_unlisted(row: Option<Attribute>) -> bool
     ensures { result ≡ is_none row }
 {
     row.is_none()
-}
-
-fn is_second_use(row: Option<Attribute>, before: &Before, attr: &OilAttr) -> bool
-    ensures { result ≡ is_second_use row before.now attr.now }
-{
-    match row {
-        Some(attribute) => is_single(attribute)
-            && attr.depth == 0
-            && before.is_used(attr.name.bytes()),
-        None => false,
-    }
 }
 
 fn misses(objects: &Front, scheduler: bool, attribute: Attribute, word: &[u8]) -> bool
@@ -113,14 +101,15 @@ fn row_fault(
     objects: &Front,
     scheduler: bool,
     row: Option<Attribute>,
-    before: &Before,
+    before: &EarlierUses,
     attr: &OilAttr,
 ) -> Option<Refusal>
-    ensures { Finds (RowFault objects.now scheduler row before.now attr.now) result }
+    requires { before.now.depth ≡ 0 }
+    ensures { Finds (RowFault objects.now scheduler row before.now.attrs attr.now) result }
 {
     let line = attr.line;
     let unknown = when(is_unlisted(row), Part::Oil, line, Code::O8);
-    let second = when(is_second_use(row, before, attr), Part::Oil, line, Code::O9);
+    let second = when(is_second(row, before, attr), Part::Oil, line, Code::O9);
     let missing = refers_to_none(objects, scheduler, row, &attr.value);
     let missing = when(missing, Part::Oil, line, Code::O10);
     let refused = when(is_refused(row, &attr.value), Part::Oil, line, Code::O12);
@@ -137,7 +126,7 @@ pub fn attribute_faults(
 ) -> Result<Option<Refusal>, NoMemory>
     ensures { IfOk result (Finds (Somewhere (AttributeFault objects.now scheduler place) attrs.now)) }
 {
-    let mut before = Before::new(alloc);
+    let mut before = EarlierUses::new(alloc, 0);
     let mut inner = Place::Nowhere;
     let mut least = None;
     for (number, attr) in attrs.iter().enumerate() {

@@ -11,6 +11,7 @@ use oil_parse::tree::OilObject;
 use oil_table::object_limits::{comes_behind, is_clock_more};
 use oil_table::table::{is_nowhere, place_of};
 use oil_table::{declares, is_of_kind, is_used};
+use sloth_base::limits::{EVENT_LIMIT, NAME_LIMIT, RESOURCE_LIMIT, TASK_LIMIT};
 use sloth_base::refusal::{Code, Part, Refusal};
 use text_pieces::bytes::same;
 
@@ -97,11 +98,11 @@ fn is_clock_above(front: &Front, object: &OilObject) -> bool
 fn is_above(front: &Front, object: &OilObject) -> bool
     ensures { result ≡ is_above front.now object.now }
 {
-    comes_behind(b"TASK", 30, front.tasks(), object)
-        || comes_behind(b"RESOURCE", 32, front.resources(), object)
-        || comes_behind(b"EVENT", 32, front.events(), object)
+    comes_behind(b"TASK", TASK_LIMIT, front.tasks(), object)
+        || comes_behind(b"RESOURCE", RESOURCE_LIMIT, front.resources(), object)
+        || comes_behind(b"EVENT", EVENT_LIMIT, front.events(), object)
         || is_clock_above(front, object)
-        || 64 < object.name.bytes().len()
+        || NAME_LIMIT < object.name.bytes().len()
 }
 
 /// O7: an object of no kind.

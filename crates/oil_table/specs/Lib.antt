@@ -1,4 +1,5 @@
 pub mod Cases
 pub mod Table
 pub mod Objects
+pub mod Uses
 pub mod Beyond

@@ -8,9 +8,13 @@ use Rattle.oil_parse.specs.declared.tree.OilAttr.{OilAttr}
 use Rattle.oil_parse.specs.declared.tree.OilObject.{OilObject}
 use Rattle.oil_table.specs.Table.{is_word}
 
+-- a use of the attribute at this depth: 0 is an object's own block, 1 a block behind a value there
+abbrev pub is_use_at : ℕ → List ℕ → OilAttr → Bool
+is_use_at depth name attr = (attr.depth == depth) && bytes_eq attr.name name
+
 -- a use of the attribute in the object's own block
 abbrev pub is_use : List ℕ → OilAttr → Bool
-is_use name attr = (attr.depth == 0) && bytes_eq attr.name name
+is_use name attr = is_use_at 0 name attr
 
 -- a list of attributes has this name
 abbrev pub is_used : List OilAttr → List ℕ → Bool

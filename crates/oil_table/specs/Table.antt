@@ -1,6 +1,7 @@
 -- The attribute table: which attributes may stand where, and which values they take (OIL 2.5, section 3).
 use Rattle.std.specs.Prelude.{ℕ, Bool, true, false, if◌then◌else◌, ◌||◌, ◌&&◌, ◌==◌, nat_le, List, codes, Option, Some, None}
 use Rattle.std.specs.Str.{bytes_eq}
+use Rattle.sloth_base.specs.Limits.{priority_limit, tick_limit}
 use Rattle.oil_parse.specs.declared.tree.OilValue.{OilValue}
 use Rattle.oil_parse.specs.declared.tree.OilValue.TheVariants.{Word, Number, Text}
 use Rattle.oil_parse.specs.declared.tree.OilAttr.{OilAttr}
@@ -126,17 +127,13 @@ allows_word attribute.Property word = bytes_eq word (codes "STANDARD")
 allows_word attribute.Mask word = bytes_eq word (codes "AUTO")
 allows_word _ word = false
 
--- the greatest value of a counter that an implementation may have here
-abbrev pub greatest_value : ℕ
-greatest_value = 2147483647
-
 -- a number that an attribute allows, those of an alarm whatever its counter
 abbrev pub allows_number : Attribute → ℕ → Bool
 allows_number attribute.Value number = true
-allows_number attribute.Priority number = nat_le number 65535
+allows_number attribute.Priority number = nat_le number priority_limit
 allows_number attribute.Activation number = number == 1
 allows_number attribute.Mask number = nat_le 1 number
-allows_number attribute.Limit number = nat_le 1 number && nat_le number greatest_value
+allows_number attribute.Limit number = nat_le 1 number && nat_le number tick_limit
 allows_number attribute.Ticks number = nat_le 1 number
 allows_number attribute.Time number = nat_le 1 number
 allows_number attribute.Cycle number = true

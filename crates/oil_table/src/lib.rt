@@ -1,11 +1,17 @@
-//! The table of what may stand in an OIL text, what its objects say by it, and the limits of objects and alarms (OIL 2.5, section 3).
+//! The table of OIL objects and attributes (OIL 2.5, section 3): which attribute may stand in which place, how often, and with which values.
+//!
+//! The rows: `place_of`, `attribute_of`, `is_single`, `allows`, `block_place` (`specs/Table`). What an object declares and what its attributes say:
+//! `first_use`, `first_number`, `declares`, `is_of_kind`, .. (`specs/Objects`). The limits: an object of a kind comes behind as many of it as there
+//! may be, or not (`comes_behind`, `is_clock_more`); a number in a block of an alarm lies outside the limits of its counter, or not (`is_beyond`,
+//! `specs/Beyond`). Trees: `oil_parse` (`Grammar`).
 #![tactic(auto)]
 
-mod alarm_limits;
-mod numbers;
+pub mod alarm_limits;
+pub mod numbers;
 pub mod object_limits;
-mod objects;
-mod table;
+pub mod objects;
+pub mod table;
+pub mod uses;
 
 pub use alarm_limits::{Limits, is_beyond};
 pub use numbers::names_of;
@@ -13,4 +19,5 @@ pub use objects::{
     declares, first_is, first_number, first_use, has_scheduler, is_of_kind, is_use, is_used,
     number_of,
 };
-pub use table::{Attribute, GREATEST_VALUE, Place, attribute_of, block_place, is_single, is_word};
+pub use table::{Attribute, Place, attribute_of, block_place, is_single, is_word};
+pub use uses::{EarlierUses, is_second};

@@ -3,6 +3,7 @@ ghost use Rattle.std.specs.Prelude.{◌≡◌, ◌&&◌, bytes_eq};
 ghost use Rattle.oil_table.specs.Table.{place_of, is_hook, is_flag, os_attribute, task_attribute, counter_attribute, alarm_attribute, setting_attribute, wakeup_attribute, only_attribute, attribute_of, is_single, allows_word, allows_number, is_allowed, is_word, activation_place, alarm_place, block_place, is_nowhere};
 
 use oil_parse::tree::{OilAttr, OilValue};
+use sloth_base::limits::{PRIORITY_LIMIT, TICK_LIMIT};
 use text_pieces::bytes::same;
 
 /// Where attributes stand: in an object of a kind, or in the block of AUTOSTART = TRUE or of an action. No attribute may stand anywhere else.
@@ -56,9 +57,6 @@ pub enum Attribute {
     /// The ticks from one expiry to the next.
     Cycle,
 }
-
-/// The greatest value that a counter may have.
-pub const GREATEST_VALUE: u32 = 2_147_483_647;
 
 /// The place that an object of this kind is; nowhere, where there is no such kind.
 pub fn place_of(kind: &[u8]) -> Place
@@ -261,10 +259,10 @@ fn allows_number(attribute: Attribute, number: u32) -> bool
 {
     match attribute {
         Attribute::Value => true,
-        Attribute::Priority => number <= 65_535,
+        Attribute::Priority => number <= PRIORITY_LIMIT,
         Attribute::Activation => number == 1,
         Attribute::Mask | Attribute::Ticks | Attribute::Time => 1 <= number,
-        Attribute::Limit => 1 <= number && number <= GREATEST_VALUE,
+        Attribute::Limit => 1 <= number && number <= TICK_LIMIT,
         Attribute::Cycle => true,
         _ => false,
     }

@@ -1,7 +1,9 @@
 pub mod Staying
 pub mod Effects
+pub mod Ordering
 pub mod Once
 pub mod Protocol
 pub mod Examples
+pub mod OfTask
 pub mod Only
 pub mod WithoutArrivals

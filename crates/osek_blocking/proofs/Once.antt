@@ -21,7 +21,8 @@ use Rattle.osek_scheduler.proofs.Tests.{Decides-is_active, Decides-leb}
 use Rattle.osek_valid.specs.Apart.{priority_of, static_priority, IsActive, IsOver}
 use Rattle.osek_valid.proofs.Apart.{Same, rank_active, rank_ready}
 use Rattle.osek_blocking.specs.Blocking.{is_entry_of, events_up_to_entry, IsOfLower, IsRaisedTo, FindsFresh, IsBlockedBy, BlocksOnce}
-use Rattle.osek_blocking.proofs.Effects.{IsReady, Ordered, Moves, Enters, Works, Calls, Effect, effect, step_ordered, opening_ordered, leads_ordered}
+use Rattle.osek_blocking.proofs.Effects.{IsReady, Ordered, Moves, Enters, Works, Calls, Effect}
+use Rattle.osek_blocking.proofs.Ordering.{effect, step_ordered, opening_ordered, leads_ordered}
 
 -- ---- lists
 
@@ -125,34 +126,26 @@ module _ (config : Config) (app : App) (h : ℕ) (declared : h < length config.t
 
     -- h stays Ready
     pub stays : (e : Event) → Effect config s next e → is_entry_of h e ≡ false → IsReady next h
-    stays event.Boot f away = f.ready h ready
-    stays (event.Admit t) f away = f.ready h ready
     stays (event.Enter t) f away = f.moves.stays.ready h (λ e. eqb-false t h away (sym e)) ready
     stays (event.Run t func item result) f away = f.moves.stays.ready h (not_it t f.was) ready
     stays (event.Call t served status) f away = f.moves.stays.ready h (not_it t f.was) ready
     stays (event.Left t served) f away = f.moves.stays.ready h (not_it t f.was) ready
     stays (event.Back t) f away = f.moves.stays.ready h (not_it t f.was) ready
-    stays event.Idle f away = f.ready h ready
-    stays event.Stray f away = absurd f
-    stays (event.Due c) f away = f.ready h ready
-    stays (event.Tick c) f away = f.ready h ready
+    stays e f away = f.ready h ready
 
     -- and where it is not fresh it does not become so
     none : next.fresh ≡ [] → is_in h next.fresh ≡ false
     none e = ap (is_in h) e
 
     pub stays_out : (e : Event) → Effect config s next e → is_in h s.fresh ≡ false → is_in h next.fresh ≡ false
-    stays_out event.Boot f out = none f.settles
     stays_out (event.Admit t) f out = f.fresh h ready ∙ out
     stays_out (event.Enter t) f out = none f.moves.acts.settles
     stays_out (event.Run t func item result) f out = none f.moves.acts.settles
     stays_out (event.Call t served status) f out = none f.moves.acts.settles
     stays_out (event.Left t served) f out = none f.moves.acts.settles
     stays_out (event.Back t) f out = none f.moves.acts.settles
-    stays_out event.Idle f out = none f.settles
-    stays_out event.Stray f out = absurd f
     stays_out (event.Due c) f out = f.fresh h ready ∙ out
-    stays_out (event.Tick c) f out = none f.settles
+    stays_out e f out = none f.settles
 
     -- a task that the event is not of blocked before, if it blocks behind it
     from_same : (u : ℕ) → Same config u (task s u) (task next u) → Blocks config h next u → Blocks config h s u
@@ -200,17 +193,12 @@ module _ (config : Config) (app : App) (h : ℕ) (declared : h < length config.t
 
     -- no task begins to block, where h is not fresh
     pub old : (e : Event) → Effect config s next e → is_in h s.fresh ≡ false → (u : ℕ) → Blocks config h next u → Blocks config h s u
-    old event.Boot f out = λ u b. from_same u (f.same u) b
-    old (event.Admit t) f out = λ u b. from_same u (f.same u) b
     old (event.Enter t) f out = split [] t f.moves (entered t f)
     old (event.Run t func item result) f out = works t f
     old (event.Call t served status) f out = calls t f out
     old (event.Left t served) f out = calls t f out
     old (event.Back t) f out = works t f
-    old event.Idle f out = λ u b. from_same u (f.same u) b
-    old event.Stray f out = absurd f
-    old (event.Due c) f out = λ u b. from_same u (f.same u) b
-    old (event.Tick c) f out = λ u b. from_same u (f.same u) b
+    old e f out = λ u b. from_same u (f.same u) b
 
     -- ---- the event of a lower task
 
@@ -277,17 +265,14 @@ module _ (config : Config) (app : App) (h : ℕ) (declared : h < length config.t
         ⊎ ((is_in h next.fresh ≡ false) × BlocksAlone config h next (behind_event config h e b further))
 
     fresh_step : (e : Event) (b further : ℕ) → BlocksAlone config h s b → is_in h s.fresh ≡ true → Effect config s next e → Goes e b further
-    fresh_step event.Boot b further alone is f = inr (none f.settles, λ u k. alone u (from_same u (f.same u) k))
     fresh_step (event.Admit t) b further alone is f = inl (f.fresh h ready ∙ is, (λ u k. alone u (from_same u (f.same u) k), refl))
     fresh_step (event.Enter t) b further alone is f = inr (none f.moves.acts.settles, λ u k. alone u (split [] t f.moves (entered t f) u k))
     fresh_step (event.Run t func item result) b further alone is f = inr (none f.moves.acts.settles, λ u k. alone u (works t f u k))
     fresh_step (event.Call t served status) b further alone is f = inr (none f.moves.acts.settles, called t b alone f (cases_Bool _))
     fresh_step (event.Left t served) b further alone is f = inr (none f.moves.acts.settles, called t b alone f (cases_Bool _))
     fresh_step (event.Back t) b further alone is f = inr (none f.moves.acts.settles, λ u k. alone u (works t f u k))
-    fresh_step event.Idle b further alone is f = inr (none f.settles, λ u k. alone u (from_same u (f.same u) k))
-    fresh_step event.Stray b further alone is f = absurd f
     fresh_step (event.Due c) b further alone is f = inl (f.fresh h ready ∙ is, (λ u k. alone u (from_same u (f.same u) k), refl))
-    fresh_step (event.Tick c) b further alone is f = inr (none f.settles, λ u k. alone u (from_same u (f.same u) k))
+    fresh_step e b further alone is f = inr (none f.settles, λ u k. alone u (from_same u (f.same u) k))
 
   -- ---- the events up to the entry
 

@@ -1,98 +1,27 @@
 -- The one event that may come next, arrivals aside.
-use Rattle.std.proofs.Common.{◌≡◌, ℕ, ◌<◌, ◌≤◌, ◌⊎◌, List, [], ◌∷◌, Bool, true, false, length, map, Option, Some, None, refl, sym, ap, ◌∙◌, subst, arith, inl, inr}
+use Rattle.std.proofs.Common.{◌≡◌, ℕ, ◌<◌, ◌≤◌, ◌⊎◌, List, [], ◌∷◌, true, false, length, map, refl, sym, ap, ◌∙◌, subst, arith, inl, inr}
 use Rattle.std.specs.Prelude.{◌≢◌}
 use Rattle.std.proofs.lemmas.Bool.{true≢false, cases_eq, cases_lt}
 use Rattle.sloth_base.specs.declared.config.Config.{Config}
 use Rattle.sloth_base.specs.declared.app.App.{App}
-use Rattle.sloth_base.specs.declared.app.Op.{Op}
-use Rattle.sloth_base.specs.declared.app.Op.TheVariants as op
 use Rattle.sloth_base.specs.declared.event.Event.{Event}
 use Rattle.sloth_base.specs.declared.event.Event.TheVariants as event
 use Rattle.sloth_base.specs.declared.event.Stamped.{Stamped}
-use Rattle.sloth_base.specs.declared.service.Service.{Service}
-use Rattle.sloth_base.specs.Named.{operation}
-use Rattle.osek_scheduler.specs.declared.state.TaskState.{TaskState}
-use Rattle.osek_scheduler.specs.declared.state.TaskState.TheVariants as mode
-use Rattle.osek_scheduler.specs.State.{Frame, System, task, opening}
+use Rattle.osek_scheduler.specs.State.{System, opening}
 use Rattle.osek_scheduler.specs.Priority.{rank, IsDue, NoTicks, IsNextTick, IsTop}
-use Rattle.osek_scheduler.specs.Meaning.{ItemMeaning, meaning}
-use Rattle.osek_scheduler.specs.Services.{Outcome, GoesOn, Leaves}
-use Rattle.osek_scheduler.specs.Outcomes.{outcome}
-use Rattle.osek_scheduler.specs.Steps.{IsAt, Executes, ServesCall, OsekStep}
+use Rattle.osek_scheduler.specs.Steps.{OsekStep}
 use Rattle.osek_scheduler.specs.Runs.{Leads}
 use Rattle.osek_scheduler.proofs.Leading.{one_step}
 use Rattle.osek_valid.specs.Valid.{IsValid}
 use Rattle.osek_valid.specs.Apart.{TasksAreApart, Excludes, static_priority}
-use Rattle.osek_valid.proofs.Apart.{rank_active, rank_ready, step_apart, opening_apart}
+use Rattle.osek_valid.proofs.Apart.{rank_active, rank_ready, opening_apart}
+use Rattle.osek_valid.proofs.ApartSteps.{step_apart}
 use Rattle.osek_valid.proofs.Excluding.{excludes}
 use Rattle.osek_valid.proofs.Facts.{Facts, facts}
 use Rattle.osek_valid.proofs.Steps.{step_valid, opening_valid}
 use Rattle.osek_valid.proofs.Reached.{run_valid}
 use Rattle.osek_blocking.specs.NextEvents.{IsNoAdmission, AreOwn, OneNextEvent, OneRun}
-
--- ---- the event of the task that is due
-
-abbrev shown : Option ItemMeaning → ℕ
-shown None = 0
-shown (Some meant) = meant.result
-
-abbrev answered : ℕ → Service → Outcome → Event
-answered t s (GoesOn status after) = event.Call t s status
-answered t s (Leaves after) = event.Left t s
-
-module _ (config : Config) (app : App) (s : System) (t : ℕ) where
-  abbrev of_operation : Frame → List Frame → Op → Event
-  of_operation frame outer (op.Serve call) = answered t call.service (outcome config call.service call.object call.mask t s)
-  of_operation frame outer o = event.Run t frame.func frame.item (shown (meaning app o (task s t).registers frame outer s.symbols))
-
-  abbrev of_frames : List Frame → Event
-  of_frames [] = event.Stray
-  of_frames (frame ∷ outer) = of_operation frame outer (operation app frame.func frame.item)
-
-  abbrev of_owed : Bool → Event
-  of_owed true = event.Back t
-  of_owed false = of_frames (task s t).frames
-
-  abbrev of_state : TaskState → Event
-  of_state mode.Suspended = event.Stray
-  of_state mode.Ready = event.Enter t
-  of_state mode.Active = of_owed (task s t).owed
-  of_state (mode.Waiting mask) = event.Stray
-
-  -- the event that task t has next
-  abbrev pub only : Event
-  only = of_state (task s t).state
-
-  entering : (task s t).state ≡ mode.Ready → event.Enter t ≡ only
-  entering e = sym (ap of_state e)
-
-  coming_back : (task s t).state ≡ mode.Active → (task s t).owed ≡ true → event.Back t ≡ only
-  coming_back a o = sym (ap of_state a ∙ ap of_owed o)
-
-  at_operation : (o : Op) → (at : IsAt app s t o) → only ≡ of_operation at.frame at.outer o
-  at_operation o at = ap of_state at.active ∙ (ap of_owed at.free ∙ (ap of_frames at.frames ∙ ap (of_operation at.frame at.outer) at.next))
-
-  -- what has a meaning is no service
-  of_meaning : (o : Op) (frame : Frame) (outer : List Frame) (m : ItemMeaning) → meaning app o (task s t).registers frame outer s.symbols ≡ Some m
-      → of_operation frame outer o ≡ event.Run t frame.func frame.item (shown (meaning app o (task s t).registers frame outer s.symbols))
-  of_meaning (op.Serve call) frame outer m e = absurd cc
-  of_meaning o frame outer m e = refl
-
-  running : (func item result : ℕ) (next : System) → Executes config app t func item result s next → event.Run t func item result ≡ only
-  running func item result next h =
-      let o = h.operation in
-      let frame = h.at.frame in
-      let outer = h.at.outer in
-      let plain = of_meaning o frame outer h.meant h.means in
-      let place = ap (λ f. event.Run t f frame.item (shown (meaning app o (task s t).registers frame outer s.symbols))) h.in_function
-      ∙ (ap (λ i. event.Run t func i (shown (meaning app o (task s t).registers frame outer s.symbols))) h.at_item
-      ∙ ap (event.Run t func item) (ap shown h.means ∙ h.shows)) in
-      sym (at_operation o h.at ∙ (plain ∙ place))
-
-  serving : (served : Service) (answer : Outcome) → ServesCall config app t served s answer → answered t served answer ≡ only
-  serving served answer h =
-      sym (at_operation (op.Serve h.call) h.at
-      ∙ (ap (λ x. answered t x (outcome config x h.call.object h.call.mask t s)) h.same ∙ ap (answered t served) h.is))
+use Rattle.osek_blocking.proofs.OfTask.{only, acting, task_settles}
 
 -- ---- one task is due
 
@@ -133,23 +62,13 @@ module _ (config : Config) (app : App) (s : System) (w : Facts config app) (v : 
     acts : s.booted ≡ true → (t : ℕ) → IsTop config s [] t → e ≡ only config app s t → Next e
     ticks : s.booted ≡ true → (c : ℕ) → IsNextTick config s c → e ≡ event.Tick c → Next e
 
-  with_none : (t : ℕ) → s.fresh ≡ [] → IsTop config s s.fresh t → IsTop config s [] t
-  with_none t none top = subst (λ (xs : List ℕ). IsTop config s xs t) none top
-
   next_of : (e : Event) (after : System) → s.fresh ≡ [] → IsNoAdmission e → OsekStep config app e s after → Next e
   next_of event.Boot after none own h = begins h.0 refl
-  next_of (event.Admit t) after none own h = absurd cc
-  next_of (event.Enter t) after none own h = acts h.0 t h.1 (entering config app s t h.2)
-  next_of (event.Run t func item result) after none own h = acts h.0 t h.1.top (running config app s t func item result after h.1)
-  next_of (event.Call t served status) after none own h =
-      acts h.0 t (with_none t none h.1.1.top) (serving config app s t served (GoesOn status h.1.0) h.1.1)
-  next_of (event.Left t served) after none own h =
-      acts h.0 t (with_none t none h.1.1.top) (serving config app s t served (Leaves h.1.0) h.1.1)
-  next_of (event.Back t) after none own h = acts h.0 t h.1 (coming_back config app s t h.2 h.3)
   next_of event.Idle after none own h = rests h.0 h.1 h.2 refl
   next_of event.Stray after none own h = absurd h
   next_of (event.Due c) after none own h = absurd cc
   next_of (event.Tick c) after none own h = ticks h.0 c h.1 refl
+  next_of e after none own h = let a = acting config app s after e none own refl h in acts a.0 a.1.0 a.1.1 a.1.2
 
   -- where a counter is due, no task runs and the system does not idle
   not_quiet : (c : ℕ) → IsNextTick config s c → NoTicks config s → ⊥
@@ -195,16 +114,11 @@ one_next_event config app events s e f after other wf leads none p a q b =
 -- an event that is no admission leaves nothing fresh
 pub settles : (config : Config) (app : App) (e : Event) (s after : System) → IsNoAdmission e → OsekStep config app e s after → after.fresh ≡ []
 settles config app event.Boot s after own h = ap (λ (x : System). x.fresh) h.1
-settles config app (event.Admit t) s after own h = absurd cc
-settles config app (event.Enter t) s after own h = ap (λ (x : System). x.fresh) h.4
-settles config app (event.Run t func item result) s after own h = ap (λ (x : System). x.fresh) h.1.is
-settles config app (event.Call t served status) s after own h = ap (λ (x : System). x.fresh) h.1.2
-settles config app (event.Left t served) s after own h = ap (λ (x : System). x.fresh) h.1.2
-settles config app (event.Back t) s after own h = ap (λ (x : System). x.fresh) h.4
 settles config app event.Idle s after own h = ap (λ (x : System). x.fresh) h.3
 settles config app event.Stray s after own h = absurd h
 settles config app (event.Due c) s after own h = absurd cc
 settles config app (event.Tick c) s after own h = ap (λ (x : System). x.fresh) h.2
+settles config app e s after own h = task_settles config app s after e own refl h
 
 module _ (config : Config) (app : App) (w : Facts config app) where
   one_after : (e f : Event) (s after other : System) → e ≡ f → OsekStep config app e s after → OsekStep config app f s other → after ≡ other

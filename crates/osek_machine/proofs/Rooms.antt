@@ -26,6 +26,7 @@ use Rattle.sloth_base.specs.declared.event.Event.TheVariants as event
 use Rattle.sloth_base.specs.declared.service.Service.{Service}
 use Rattle.sloth_base.specs.declared.service.Service.TheVariants as service
 use Rattle.sloth_base.specs.Named.{function, no_function, body_of, declaration, counter_declaration, undeclared_counter, alarm_declaration, undeclared_alarm}
+use Rattle.sloth_base.specs.Limits.{task_limit, ceiling_count, body_limit, frame_limit}
 use Rattle.code_rules.specs.AppRange.{IsOp}
 use Rattle.code_rules.specs.Code.{is_in}
 use Rattle.osek_scheduler.specs.declared.state.TaskState.{TaskState}
@@ -249,9 +250,9 @@ module _ {config : Config} {app : App} {s : System} (sound : IsSound config app 
     clocked = clocked;
   }
 
-  words-of : (f : ℕ) (found : Func) → slice_get app.funcs f ≡ Some found → found.frame_words ≤ 32
+  words-of : (f : ℕ) (found : Func) → slice_get app.funcs f ≡ Some found → found.frame_words ≤ frame_limit
   words-of f found e =
-      subst (λ (g : Func). g.frame_words ≤ 32) (get_or_from_slice_get app.funcs f found no_function e)
+      subst (λ (g : Func). g.frame_words ≤ frame_limit) (get_or_from_slice_get app.funcs f found no_function e)
       (w.in_range.bodies f no_function (slice_get_within app.funcs f found e)).frame
 
   -- the system has each task of the configuration
@@ -272,7 +273,7 @@ module _ {config : Config} {app : App} {s : System} (sound : IsSound config app 
         kept-besides get p.other (with_change t p.change s) t a b
         ∙ ap get (get_or-set_same s.tasks t (changed_task p.change (task s t)) sleeping_task (in_tasks t lt))
 
-    few_frames : length (changed_task p.change (task s t)).frames ≤ 64
+    few_frames : length (changed_task p.change (task s t)).frames ≤ body_limit
     few_frames =
         let own = tidy config app w (settled_state (planned_system t p s)) t behind lt in
         let most = at_most (map (λ x. x.func) (task (settled_state (planned_system t p s)) t).frames) (length app.funcs) own.frames_differ
@@ -282,7 +283,7 @@ module _ {config : Config} {app : App} {s : System} (sound : IsSound config app 
         let few = w.in_range.limits.few_bodies in
         omega (arith, most, long, same, few)
 
-    few_held : length (changed_task p.change (task s t)).held ≤ 33
+    few_held : length (changed_task p.change (task s t)).held ≤ ceiling_count
     few_held =
         let own = tidy config app w (settled_state (planned_system t p s)) t behind lt in
         let most = at_most (task (settled_state (planned_system t p s)) t).held 33 (behind.each t lt).distinct own.few in
@@ -320,7 +321,7 @@ module _ {config : Config} {app : App} {s : System} (sound : IsSound config app 
         from_some (plan (Some v) change.MoveOn (other.Store y wd offset v)) q found.1 (moves t, (ltb-true _ _ both.0, leb-true _ _ both.1))
 
     item-room : (o : Op) (f : Func) (frame : Frame) (q : Plan) → slice_get k.frames 0 ≡ Some frame
-        → item_plan app o f frame (length k.frames) k.registers s.symbols ≡ Some q → length (changed_task q.change k).frames ≤ 64 → Roomy q
+        → item_plan app o f frame (length k.frames) k.registers s.symbols ≡ Some q → length (changed_task q.change k).frames ≤ body_limit → Roomy q
     item-room (op.Alu kind rd a b) f frame q at e deep = from_some _ q e (moves t, tt)
     item-room (op.AluImm kind rd a n) f frame q at e deep = from_some _ q e (moves t, tt)
     item-room (op.Lui rd n) f frame q at e deep = from_some _ q e (moves t, tt)
@@ -345,7 +346,7 @@ module _ {config : Config} {app : App} {s : System} (sound : IsSound config app 
         let make = λ (called : Func). plan (Some 0) (change.Invoke g called.frame_words) other.Nothing in
         let found = on_some_from (slice_get app.funcs g) _ q e in
         let same = same_Some (make found.0) q found.2 in
-        let long = subst (λ (p : Plan). length (changed_task p.change k).frames ≤ 64) (sym same) deep in
+        let long = subst (λ (p : Plan). length (changed_task p.change k).frames ≤ body_limit) (sym same) deep in
         subst Roomy same ((omega (arith, long), words-of g found.0 found.1), tt)
     item-room op.Return f frame q at e deep =
         let found = if_true_some (ltb 1 (length k.frames)) _ q e in
@@ -379,7 +380,7 @@ module _ {config : Config} {app : App} {s : System} (sound : IsSound config app 
         nothing-there o h = absurd (false≢true h)
 
     -- there is room for each change that a service makes of its caller, where it holds few resources
-    own-allowed : (c : TaskChange) → is_own_change c ≡ true → length (changed_task c k).held ≤ 33 → Allows c k
+    own-allowed : (c : TaskChange) → is_own_change c ≡ true → length (changed_task c k).held ≤ ceiling_count → Allows c k
     own-allowed change.End e holds = tt
     own-allowed (change.Take r) e holds = let long = length-append k.held (r ∷ []) in (moves t, omega (arith, long, holds))
     own-allowed (change.Answer status) e holds = moves t
@@ -391,11 +392,11 @@ module _ {config : Config} {app : App} {s : System} (sound : IsSound config app 
     own-allowed c e holds = absurd (false≢true e)
 
     service-room : (srv : Service) (object mask : ℕ) → is_there config k.held srv object ≡ true
-        → length (changed_task (plan_of srv object mask).change k).held ≤ 33 → Roomy (plan_of srv object mask)
+        → length (changed_task (plan_of srv object mask).change k).held ≤ ceiling_count → Roomy (plan_of srv object mask)
     service-room srv object mask e holds =
         let d = decision config srv object mask t s in (
-          on_taken s (λ p. length (changed_task p.change k).held ≤ 33 → Allows p.change k) d
-              (on_tested s (λ p. length (changed_task p.change k).held ≤ 33 → Allows p.change k) (λ p. is_own_change p.change) (λ p. own-allowed p.change) d (own-changes config srv object mask t s))
+          on_taken s (λ p. length (changed_task p.change k).held ≤ ceiling_count → Allows p.change k) d
+              (on_tested s (λ p. length (changed_task p.change k).held ≤ ceiling_count → Allows p.change k) (λ p. is_own_change p.change) (λ p. own-allowed p.change) d (own-changes config srv object mask t s))
               holds,
           on_taken s (λ p. HasOther p.other s) d (besides-there srv object mask e),
         )
@@ -422,7 +423,7 @@ module _ {config : Config} {app : App} {s : System} (sound : IsSound config app 
       let words = words-of body found.0 found.1 in
       room-of t lt (make found.0) p found.2 (by (depth == 0) body non found.0 words t)
     where
-      by : (b : Bool) (body : ℕ) (non : Bool) (f : Func) → f.frame_words ≤ 32 → (t : ℕ)
+      by : (b : Bool) (body : ℕ) (non : Bool) (f : Func) → f.frame_words ≤ frame_limit → (t : ℕ)
           → Allows (cond b (change.Start body f.frame_words non) (change.Resume non)) (task s t) × Unit {0}
       by true body non f h t = (h, tt)
       by false body non f h t = (tt, tt)
@@ -454,7 +455,7 @@ module _ {config : Config} {app : App} {s : System} (sound : IsSound config app 
       let call = on_some_from (call_in o.0) (call_plan config srv t s) p o.2 in
       let found = if_true_some ((code_of call.0.service == code_of srv) && is_there config (task s t).held srv call.0.object) _ p call.2 in
       let same = same_Some (service_plan config srv call.0.object call.0.mask t s) p found.1 in
-      let holds = subst (λ (q : Plan). length (changed_task q.change (task s t)).held ≤ 33) (sym same) (few_held e t lt p next) in
+      let holds = subst (λ (q : Plan). length (changed_task q.change (task s t)).held ≤ ceiling_count) (sym same) (few_held e t lt p next) in
       room-of t lt _ p found.1 (service-room t lt srv call.0.object call.0.mask (and_parts _ _ found.0).1 holds)
 
   call-room : (t : ℕ) (srv : Service) (status : ℕ) (p : Plan) → answer_plan config app t srv status s ≡ Some p → HasPlanRoom t p s
@@ -513,7 +514,7 @@ module _ {config : Config} {app : App} {s : System} (sound : IsSound config app 
   pub not_among : (t : ℕ) → (task s t).state ≡ mode.Suspended → is_in t s.fresh ≡ false
   not_among t asleep = false_from_ne_true _ (λ e. no_both (task s t).state asleep (sound.apart.fresh_ready t e))
 
-  pub admit-room : (t : ℕ) → t < length s.tasks → (task s t).state ≡ mode.Suspended → length s.fresh < 30
+  pub admit-room : (t : ℕ) → t < length s.tasks → (task s t).state ≡ mode.Suspended → length s.fresh < task_limit
   admit-room t lt asleep =
       let most = at_most (t ∷ s.fresh) (length s.tasks) (not_among t asleep, sound.distinct) (λ q h. all-there q (or_cases _ _ h)) in
       let few = w.in_range.configuration.few_tasks in

@@ -7,6 +7,7 @@ ghost use Rattle.osek_scheduler.specs.Steps.{OsekStep};
 ghost use Rattle.osek_scheduler.specs.Next.{next_state};
 ghost use Rattle.sloth_base.specs.declared.app.App.{App as AnyApp};
 ghost use Rattle.sloth_base.specs.declared.event.Event.TheVariants as event;
+ghost use Rattle.sloth_base.specs.Limits.{task_limit};
 ghost use Rattle.osek_scheduler.specs.declared.state.TaskState.TheVariants as mode;
 ghost use Rattle.osek_plans.specs.Above.{is_line_above};
 ghost use Rattle.osek_plans.specs.Clocked.{IsClocked};
@@ -31,7 +32,7 @@ use std::marker::Model;
 use thiserror::Error;
 
 /// The event has no next state.
-#[derive(Clone, Copy, Debug, PartialEq, Eq, Error)]
+#[derive(Clone, Copy, Debug, Error)]
 #[error("not a run")]
 pub struct NotARun;
 
@@ -85,7 +86,7 @@ fn boot(config: &Config, store: &mut Store) -> Result<(), NotARun>
 // An arrival activates a task.
 fn admit(config: &Config, store: &mut Store, t: u32) -> Result<(), NotARun>
     requires count { length store.old.tasks ≡ length config.now.tasks }
-    requires room { t < length store.old.tasks → (task_of store.old t).state ≡ mode.Suspended → length store.old.fresh < 30 }
+    requires room { t < length store.old.tasks → (task_of store.old t).state ≡ mode.Suspended → length store.old.fresh < task_limit }
     ensures next { OnOk result ((app : AnyApp) → next_state config.now app (event.Admit t) store.old ≡ Some store.new) }
     ensures none { OnErr result ((app : AnyApp) → next_state config.now app (event.Admit t) store.old ≡ None) }
     ensures same { OnErr result (store.new ≡ store.old) }

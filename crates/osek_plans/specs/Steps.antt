@@ -5,6 +5,7 @@ use Rattle.sloth_base.specs.declared.config.Config.{Config}
 use Rattle.sloth_base.specs.declared.app.App.{App}
 use Rattle.sloth_base.specs.declared.app.Op.{Op}
 use Rattle.sloth_base.specs.declared.service.Service.{Service}
+use Rattle.sloth_base.specs.Limits.{task_limit, body_limit}
 use Rattle.osek_scheduler.specs.State.{Task, System, task}
 use Rattle.osek_scheduler.specs.Meaning.{on_some, if_true}
 use Rattle.osek_scheduler.specs.Steps.{settled_state}
@@ -30,8 +31,8 @@ followed_state t s o = on_some o (λ p. Some (settled_state (planned_system t p 
 -- what is read of task code is in range, whatever the state
 pub record IsRead (config : Config) (app : App) (s : System) : Type 0 where
   pub count : length s.tasks ≡ length config.tasks
-  pub few : length config.tasks ≤ 30
-  pub functions : length app.funcs ≤ 64
+  pub few : length config.tasks ≤ task_limit
+  pub functions : length app.funcs ≤ body_limit
   pub computed : (k : Task) (o : Op) → own_operation app k ≡ Some o → IsComputed o
   pub moves : (t : ℕ) → CanMove (task s t).frames
   pub clocked : IsClocked config s

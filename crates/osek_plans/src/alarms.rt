@@ -1,8 +1,9 @@
 //! What a service on an alarm does.
 ghost use Rattle.std.specs.Prelude.{◌≡◌, ◌<◌, ◌≤◌, Some};
 ghost use Rattle.sloth_base.specs.Named.{alarm_declaration, counter_of};
+ghost use Rattle.sloth_base.specs.Ticks.{ticks_to};
 ghost use Rattle.osek_scheduler.specs.State.{alarm, counter};
-ghost use Rattle.osek_scheduler.specs.Services.{allows_absolute, allows_cycle, allows_relative, is_in_use, ticks_to};
+ghost use Rattle.osek_scheduler.specs.Services.{allows_absolute, allows_cycle, allows_relative, is_in_use};
 ghost use Rattle.osek_scheduler.specs.Outcomes.{other_decision, plan_in, alarm_setting_decision, value_decision, alarm_use_decision};
 ghost use Rattle.osek_scheduler.specs.Outcomes.{plan};
 

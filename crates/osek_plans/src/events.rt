@@ -2,6 +2,7 @@
 ghost use Rattle.std.specs.Prelude.{◌≡◌, ◌≤◌, length};
 ghost use Rattle.sloth_base.specs.Options.{is_number};
 ghost use Rattle.sloth_base.specs.Named.{body_of};
+ghost use Rattle.sloth_base.specs.Limits.{task_limit};
 ghost use Rattle.osek_scheduler.specs.Next.{is_position};
 ghost use Rattle.osek_plans.specs.Running.{back_plan, entry_change, entry_plan, running_plan, serving_plan};
 ghost use Rattle.osek_plans.specs.Steps.{IsRead, answer_plan, leave_plan};
@@ -180,7 +181,7 @@ pub fn leave_plan(
 /// The plan of a return from Schedule.
 pub fn back_plan(config: &Config, store: &Store, t: u32) -> Option<Plan>
     requires count { length store.now.tasks ≡ length config.now.tasks }
-    requires few { length config.now.tasks ≤ 30 }
+    requires few { length config.now.tasks ≤ task_limit }
     ensures { result ≡ back_plan config.now t store.now }
 {
     if !store.booted() || !is_top(config, store, &[], t) {

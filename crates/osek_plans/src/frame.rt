@@ -1,10 +1,9 @@
 //! Functions in progress.
 ghost use Rattle.std.specs.Prelude.{◌≡◌, ◌<◌, ◌≤◌, length, replicate, set, slice_get};
+ghost use Rattle.sloth_base.specs.Limits.{frame_limit};
 
+use sloth_base::limits::FRAME_LIMIT;
 use std::marker::Model;
-
-/// The most words of a frame.
-const MOST_WORDS: usize = 32;
 
 /// A function that was entered, with room for 32 words.
 #[derive(Drop)]
@@ -12,7 +11,7 @@ pub struct FrameRoom {
     func: u32,
     item: u32,
     count: usize,
-    words: [u32; MOST_WORDS],
+    words: [u32; FRAME_LIMIT],
 }
 
 impl Model for FrameRoom {
@@ -23,20 +22,20 @@ impl Model for FrameRoom {
 
     ghost view = { λ f. record { func = f.func; item = f.item; words = take f.count f.words } };
 
-    ghost invariant = { λ f. f.count ≤ 32 };
+    ghost invariant = { λ f. f.count ≤ frame_limit };
 }
 
 impl FrameRoom {
     /// A function as it is entered, with so many words, at most 32.
     pub fn entry(func: u32, words: u32) -> FrameRoom
-        requires { words ≤ 32 }
+        requires { words ≤ frame_limit }
         ensures { result ≡ record { func = func; item = 0; words = replicate words 0 } }
     {
         FrameRoom {
             func,
             item: 0,
             count: words as usize,
-            words: [0; MOST_WORDS],
+            words: [0; FRAME_LIMIT],
         }
     }
 

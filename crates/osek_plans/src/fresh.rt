@@ -1,16 +1,15 @@
 //! The tasks that arrivals made Ready.
 ghost use Rattle.std.specs.Prelude.{◌≡◌, ◌<◌, [], ◌∷◌, length};
+ghost use Rattle.sloth_base.specs.Limits.{task_limit};
 
+use sloth_base::limits::TASK_LIMIT;
 use std::marker::Model;
-
-/// The most tasks.
-const MOST_TASKS: usize = 30;
 
 /// The tasks that admitted arrivals made Ready since the last event of another kind, with room for 30. The newest is the first.
 #[derive(Drop)]
 pub struct Fresh {
     first: usize,
-    tasks: [u32; MOST_TASKS],
+    tasks: [u32; TASK_LIMIT],
 }
 
 impl Model for Fresh {
@@ -20,7 +19,7 @@ impl Model for Fresh {
 
     ghost view = { λ f. drop f.first f.tasks };
 
-    ghost invariant = { λ f. f.first ≤ 30 };
+    ghost invariant = { λ f. f.first ≤ task_limit };
 }
 
 impl Fresh {
@@ -29,8 +28,8 @@ impl Fresh {
         ensures { result ≡ [] }
     {
         Fresh {
-            first: MOST_TASKS,
-            tasks: [0; MOST_TASKS],
+            first: TASK_LIMIT,
+            tasks: [0; TASK_LIMIT],
         }
     }
 
@@ -43,7 +42,7 @@ impl Fresh {
 
     /// One task more.
     pub fn add(&mut self, task: u32)
-        requires { length self.old < 30 }
+        requires { length self.old < task_limit }
         ensures { self.new ≡ task ∷ self.old }
     {
         self.first -= 1;
@@ -54,6 +53,6 @@ impl Fresh {
     pub fn clear(&mut self)
         ensures { self.new ≡ [] }
     {
-        self.first = MOST_TASKS;
+        self.first = TASK_LIMIT;
     }
 }

@@ -1,13 +1,12 @@
 //! The resources that a task holds.
 ghost use Rattle.std.specs.Prelude.{◌≡◌, ◌<◌, ◌++◌, [], ◌∷◌, length, IfOk};
+ghost use Rattle.sloth_base.specs.Limits.{ceiling_count};
 ghost use Rattle.code_rules.specs.Code.{is_last, without_last};
 
+use sloth_base::limits::CEILING_COUNT;
 use sloth_base::memory::NoMemory;
 use std::alloc::Global;
 use std::marker::Model;
-
-/// The most resources: 32, and RES_SCHEDULER.
-const MOST_RESOURCES: usize = 33;
 
 /// The resources that a task holds, in the order taken, with room for 33.
 #[derive(Drop)]
@@ -22,7 +21,7 @@ impl Model for Held {
 
     ghost view = { λ h. h.resources.items };
 
-    ghost invariant = { λ h. (vec_len h.resources ≤ 33) × (33 ≤ vec_capacity h.resources) };
+    ghost invariant = { λ h. (vec_len h.resources ≤ ceiling_count) × (ceiling_count ≤ vec_capacity h.resources) };
 }
 
 impl Held {
@@ -30,7 +29,7 @@ impl Held {
     pub fn new(alloc: Global) -> Result<Held, NoMemory>
         ensures { IfOk result (λ h. h ≡ []) }
     {
-        let resources = Vec::with_capacity(alloc, MOST_RESOURCES)?;
+        let resources = Vec::with_capacity(alloc, CEILING_COUNT)?;
         Ok(Held { resources })
     }
 
@@ -43,7 +42,7 @@ impl Held {
 
     /// Takes a resource.
     pub fn take(&mut self, resource: u32)
-        requires { length self.old < 33 }
+        requires { length self.old < ceiling_count }
         ensures { self.new ≡ self.old ++ resource ∷ [] }
     {
         self.resources.push_reserved(resource);

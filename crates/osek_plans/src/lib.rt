@@ -1,5 +1,10 @@
-//! What an event of the abstract scheduler changes, as a plan, and the tasks, data, counters and alarms that it is carried out on, which take
-//! all memory at the start.
+//! What an event of the abstract scheduler changes, as a plan, and the tasks, data, counters and alarms that it is carried out on, which take all
+//! memory at the start.
+//!
+//! The plan of each event is exactly the definition's, and carrying it out is the change that it says (`Store::opening`, `carry_out`, `entry_plan`,
+//! `running_plan`, `answer_plan`, `leave_plan`, `back_plan`, `lines_above`). What an event does, in the order of the code: `specs/Frames`,
+//! `specs/Changes`, `specs/Plans`, `specs/Running`, `specs/Steps`; who stands above a task, a due counter too: `specs/Above`; what arithmetic on
+//! counters needs: `specs/Clocked`. States, changes and outcomes: `osek_scheduler` (`State`, `Changes`, `Outcomes`).
 #![tactic(auto)]
 
 pub mod above;

@@ -1,5 +1,6 @@
 //! Priorities, and the task that is due.
 ghost use Rattle.std.specs.Prelude.{◌≡◌, ◌<◌, ◌≤◌, not, true, length, map};
+ghost use Rattle.sloth_base.specs.Limits.{task_limit};
 ghost use Rattle.osek_scheduler.specs.Priority.{ceiling, current_priority, greatest, is_active, rank};
 ghost use Rattle.code_rules.specs.Code.{is_in};
 ghost use Rattle.osek_scheduler.specs.State.{counter};
@@ -100,7 +101,7 @@ fn yields_to(config: &Config, store: &Store, others: &[u32], t: usize, u: usize)
 // Whether all tasks yield to one.
 fn is_greatest(config: &Config, store: &Store, others: &[u32], t: usize) -> bool
     requires count { length store.now.tasks ≡ length config.now.tasks }
-    requires few { length config.now.tasks ≤ 30 }
+    requires few { length config.now.tasks ≤ task_limit }
     requires declared { t < length config.now.tasks }
     ensures { result ≡ all_below (length config.now.tasks) (yields_to config.now store.now others.now t) }
 {
@@ -147,7 +148,7 @@ pub fn is_next_tick(config: &Config, store: &Store, c: u32) -> bool
 /// Whether a task is the greatest of those that are due and not left out, and no counter is due.
 pub fn is_top(config: &Config, store: &Store, others: &[u32], t: u32) -> bool
     requires count { length store.now.tasks ≡ length config.now.tasks }
-    requires few { length config.now.tasks ≤ 30 }
+    requires few { length config.now.tasks ≤ task_limit }
     ensures top { result ≡ is_top config.now store.now others.now t }
     ensures declared { result ≡ true → t < length config.now.tasks }
 {

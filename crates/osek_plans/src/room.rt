@@ -1,6 +1,7 @@
 //! A task as it stands, with room for all that it may become.
 ghost use Rattle.std.specs.Prelude.{◌≡◌, ◌≤◌, IfOk, length, nat_lt, bit_or, slice_get, get_or};
 ghost use Rattle.std.specs.Option.{option_copied};
+ghost use Rattle.sloth_base.specs.Limits.{frame_limit};
 ghost use Rattle.code_rules.specs.Code.{is_last};
 ghost use Rattle.osek_scheduler.specs.State.{sleeping_task};
 ghost use Rattle.osek_scheduler.specs.Meaning.{register, with_register};
@@ -236,7 +237,7 @@ impl TaskRoom {
 
     // Is entered at the first item of its body.
     fn start(&mut self, func: u32, words: u32, non: bool)
-        requires { words ≤ 32 }
+        requires { words ≤ frame_limit }
         ensures { self.new ≡ changed_task (TaskChange.Start func words non) self.old }
     {
         self.registers = [0; REGISTERS];

@@ -1,17 +1,16 @@
 //! The functions in progress of a task.
 ghost use Rattle.std.specs.Prelude.{◌≡◌, ◌<◌, ◌≤◌, ◌++◌, [], ◌∷◌, length, slice_get, IfOk, IfNone, OnSome, option_to_list};
 ghost use Rattle.std.specs.Option.{option_copied};
+ghost use Rattle.sloth_base.specs.Limits.{body_limit};
 ghost use Rattle.osek_scheduler.specs.Services.{moved_frames};
 ghost use Rattle.osek_scheduler.specs.Changes.{frames_at_item, with_word, outer_frames};
 ghost use Rattle.osek_plans.specs.Frames.{HasWord, CanMove};
 
 use crate::frame::FrameRoom;
+use sloth_base::limits::BODY_LIMIT;
 use sloth_base::memory::NoMemory;
 use std::alloc::Global;
 use std::marker::Model;
-
-/// The most functions in progress.
-const MOST_FRAMES: usize = 64;
 
 /// The functions in progress, with room for 64. Contracts see the innermost first.
 #[derive(Drop)]
@@ -27,7 +26,7 @@ impl Model for Stack {
 
     ghost view = { λ s. reverse s.frames.items };
 
-    ghost invariant = { λ s. (vec_len s.frames ≤ 64) × (64 ≤ vec_capacity s.frames) };
+    ghost invariant = { λ s. (vec_len s.frames ≤ body_limit) × (body_limit ≤ vec_capacity s.frames) };
 }
 
 impl Stack {
@@ -35,7 +34,7 @@ impl Stack {
     pub fn new(alloc: Global) -> Result<Stack, NoMemory>
         ensures { IfOk result (λ s. s ≡ []) }
     {
-        let frames = Vec::with_capacity(alloc, MOST_FRAMES)?;
+        let frames = Vec::with_capacity(alloc, BODY_LIMIT)?;
         Ok(Stack { frames })
     }
 
@@ -55,7 +54,7 @@ impl Stack {
 
     /// A function is entered.
     pub fn enter(&mut self, frame: FrameRoom)
-        requires { length self.old < 64 }
+        requires { length self.old < body_limit }
         ensures { self.new ≡ frame ∷ self.old }
     {
         self.frames.push_reserved(frame);
@@ -64,7 +63,7 @@ impl Stack {
     /// Takes the innermost function out.
     pub fn take(&mut self) -> Option<FrameRoom>
         ensures taken { self.old ≡ option_to_list result ++ self.new }
-        ensures room { OnSome result (length self.new < 64) }
+        ensures room { OnSome result (length self.new < body_limit) }
         ensures none { IfNone result (self.old ≡ []) }
     {
         self.frames.pop()

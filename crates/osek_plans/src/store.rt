@@ -1,6 +1,7 @@
 //! The system as it stands, with room for all that it may become.
 ghost use Rattle.std.specs.Prelude.{◌≡◌, ◌≤◌, ◌<◌, ◌+◌, [], length, get_or, set, map, true, false, IfOk};
 ghost use Rattle.sloth_base.specs.Arithmetic.{size_of};
+ghost use Rattle.sloth_base.specs.Limits.{task_limit};
 ghost use Rattle.osek_scheduler.specs.State.{alarm, counter, opening, sleeping_task, task, with_alarm, with_counter};
 ghost use Rattle.osek_scheduler.specs.declared.state.TaskState.TheVariants as mode;
 ghost use Rattle.osek_scheduler.specs.Steps.{admitted_state, autostarted_tasks, settled_state};
@@ -273,7 +274,7 @@ impl Store {
     /// An arrival activates a task.
     pub fn admit(&mut self, t: u32)
         requires declared { t < length self.old.tasks }
-        requires room { (task self.old t).state ≡ mode.Suspended → length self.old.fresh < 30 }
+        requires room { (task self.old t).state ≡ mode.Suspended → length self.old.fresh < task_limit }
         ensures { self.new ≡ admitted_state t self.old }
     {
         if is_suspended(self.task(t as usize).state()) {

@@ -10,9 +10,10 @@ use Rattle.osek_scheduler.specs.declared.plan.Other.{Other}
 use Rattle.osek_scheduler.specs.declared.plan.Other.TheVariants as other
 use Rattle.osek_scheduler.specs.declared.plan.Plan.{Plan}
 use Rattle.sloth_base.specs.Named.{alarm_declaration, counter_of}
+use Rattle.sloth_base.specs.Ticks.{ticks_to}
 use Rattle.osek_scheduler.specs.State.{System, task, counter, alarm, with_alarm}
 use Rattle.osek_scheduler.specs.Meaning.{bytes_after_store}
-use Rattle.osek_scheduler.specs.Services.{if_suspended, activated_state, set_events, state_number, first_operand, second_operand, is_in_use, allows_relative, allows_absolute, ticks_to, Outcome, GoesOn, Leaves}
+use Rattle.osek_scheduler.specs.Services.{if_suspended, activated_state, set_events, state_number, first_operand, second_operand, is_in_use, allows_relative, allows_absolute, Outcome, GoesOn, Leaves}
 use Rattle.osek_scheduler.specs.Changes.{with_change}
 
 -- a plan

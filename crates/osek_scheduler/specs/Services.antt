@@ -97,10 +97,6 @@ allows_relative d ticks cycle = not (ticks == 0) && (leb ticks d.max && allows_c
 abbrev pub allows_absolute : CounterDecl → (start cycle : ℕ) → Bool
 allows_absolute d start cycle = leb start d.max && allows_cycle d cycle
 
--- the ticks from a counter's value to the next time that it has the value `start`
-abbrev pub ticks_to : (max value start : ℕ) → ℕ
-ticks_to max value start = cond (ltb value start) (start - value) (start + (max + 1) - value)
-
 -- ---- what a service names
 
 -- a task by its number

@@ -1,6 +1,11 @@
-//! The abstract scheduler: the task model, the services, events, resources and the priority ceiling protocol, counters and
-//! alarms of OSEK OS 2.2.3, with no levels, interrupt lines, contexts or addresses. Definitions, which stand in `specs/`, and the law
-//! that the next state can be computed.
+//! The abstract scheduler: the task model, the services, events, resources and the priority ceiling protocol, counters and alarms of OSEK OS 2.2.3,
+//! with no levels, interrupt lines, contexts or addresses. Definitions, which stand in `specs/`, and the law that the next state can be computed.
+//!
+//! States and priorities: `specs/State`, `specs/Priority`; what items and services mean: `specs/Meaning`, `specs/Services`; a service's outcome is a
+//! plan and then its changes: `specs/Outcomes`, `specs/Changes`; steps and runs: `specs/Steps`, `specs/Runs`; where arrivals stand: `specs/InTime`. A
+//! step has at most one next state, which a computed step finds (`step_is_computed`); ceilings are computed as they are defined (`ceiling`,
+//! `highest`). What a tick keeps is a lemma (`proofs/Ticking`, `ticked_keeps`). It stands on plain data of `sloth_base` (`Arithmetic`, `Named`,
+//! `ServiceCodes`), and on `code_rules` (`Code`) for held resources.
 #![tactic(auto)]
 
 pub mod ceilings;

@@ -1,7 +1,7 @@
 //! Task states, counters and alarms.
 
 /// The state of a task (OSEK OS 2.2.3, section 4.2).
-#[derive(Clone, Copy, Debug, PartialEq, Eq)]
+#[derive(Clone, Copy, Debug)]
 pub enum TaskState {
     Suspended,
     Ready,

@@ -1,5 +1,5 @@
 -- The order of the tasks that were entered is kept.
-use Rattle.std.proofs.Common.{◌≡◌, ℕ, suc, ◌+◌, ◌*◌, ◌<◌, ◌≤◌, ◌==◌, ◌⊎◌, List, [], ◌∷◌, Bool, true, false, cond, length, get_or, max, refl, sym, ap, ◌∙◌, subst, arith, inl, inr}
+use Rattle.std.proofs.Common.{◌≡◌, ℕ, suc, ◌+◌, ◌*◌, ◌<◌, ◌≤◌, ◌==◌, ◌⊎◌, List, [], ◌∷◌, Bool, true, false, cond, length, get_or, max, refl, sym, ap, ◌∙◌, subst, arith, inl, inr, is_some}
 use Rattle.std.specs.Prelude.{◌≢◌}
 use Rattle.std.proofs.lemmas.Bool.{false≢true, cases_eq, or_cases, eqb-true}
 use Rattle.std.proofs.lemmas.List.{get_or-set_same, get_or-set_other}
@@ -12,6 +12,7 @@ use Rattle.osek_scheduler.specs.declared.state.TaskState.{TaskState}
 use Rattle.osek_scheduler.specs.declared.state.TaskState.TheVariants as mode
 use Rattle.osek_scheduler.specs.State.{Task, System, sleeping_task, task, with_task, opening}
 use Rattle.sloth_base.specs.Named.{declaration}
+use Rattle.sloth_base.specs.Events.{named_task}
 use Rattle.code_rules.specs.Code.{is_in}
 use Rattle.osek_scheduler.specs.Priority.{is_active, rank, IsTop}
 use Rattle.osek_scheduler.specs.Services.{activated_state, with_events, Outcome, GoesOn, Leaves, started_task, ticked_state}
@@ -19,7 +20,7 @@ use Rattle.osek_scheduler.proofs.ServiceStates.{IsAfter}
 use Rattle.osek_scheduler.specs.Outcomes.{decision, outcome}
 use Rattle.osek_scheduler.proofs.Outcomes.{by_suspended, KeptByOthers, outcome_keeps_all}
 use Rattle.osek_scheduler.proofs.Ticking.{parts_kept, ticked_keeps}
-use Rattle.osek_scheduler.specs.Steps.{settled_state, autostarted_tasks, admitted_state, due_state, OsekStep, Executes, ServesCall}
+use Rattle.osek_scheduler.specs.Steps.{autostarted_tasks, admitted_state, OsekStep, Executes, ServesCall}
 use Rattle.osek_valid.specs.Apart.{priority_of, static_priority, AreTwo, TasksAreApart}
 use Rattle.osek_valid.proofs.Going.{at_set}
 use Rattle.osek_valid.proofs.Steps.{autostarted_at, asleep_at}
@@ -44,7 +45,7 @@ module _ (config : Config) where
   abbrev pub Calm : ℕ → System → System → Type 0
   Calm c s next = (u : ℕ) → u ≢ c → Same u (task s u) (task next u)
 
-  itself : (u : ℕ) (k : Task) → Same u k k
+  pub itself : (u : ℕ) (k : Task) → Same u k k
   itself u k e = (e, refl)
 
   then : (c : ℕ) (s middle next : System) → Calm c s middle → Calm c middle next → Calm c s next
@@ -149,7 +150,7 @@ module _ (config : Config) where
           both t u (a.apart t u two x.0 y.0) x.1 y.1
 
   -- no task changed that is Active
-  apart_kept : (s next : System) → TasksAreApart config s → ((u : ℕ) → Same u (task s u) (task next u))
+  pub apart_kept : (s next : System) → TasksAreApart config s → ((u : ℕ) → Same u (task s u) (task next u))
       → ((t : ℕ) → is_in t next.fresh ≡ true → (task next t).state ≡ mode.Ready) → TasksAreApart config next
   apart_kept s next a calm fresh = record {
     fresh_ready = fresh;
@@ -165,7 +166,7 @@ module _ (config : Config) where
       by t u (inl h) e f = inl (subst (λ p. p < static_priority config u) (sym e) h)
       by t u (inr h) e f = inr (subst (λ p. p < static_priority config t) (sym f) h)
 
-  -- ---- all events
+  -- ---- what an event leaves
 
   run_calm : (app : App) (t func item result : ℕ) (s next : System) → Executes config app t func item result s next → Calm t s next
   run_calm app t func item result s next h =
@@ -250,27 +251,17 @@ module _ (config : Config) where
         settles = refl;
       })
 
-  pub step_apart : (app : App) (e : Event) (s next : System) → OsekStep config app e s next → length s.tasks ≡ length config.tasks → TasksAreApart config s
-      → TasksAreApart config next
-  step_apart app event.Boot s next h count a =
-      subst (TasksAreApart config) (sym h.1)
-      (apart_kept s (settled_state (record s { tasks = autostarted_tasks config.tasks s.tasks; booted = true })) a (boot_calm s) (λ u x. absurd (false≢true x)))
-  step_apart app (event.Admit t) s next h count a =
+  pub task_apart : (app : App) (e : Event) (s next : System) → OsekStep config app e s next → is_some (named_task e) ≡ true → length s.tasks ≡ length config.tasks
+      → TasksAreApart config s → TasksAreApart config next
+  task_apart app (event.Admit t) s next h named count a =
       subst (TasksAreApart config) (sym h.2)
       (apart_kept s (admitted_state t s) a (admit_calm s t) (admit_fresh s t a (subst (λ n. t < n) (sym count) h.1)))
-  step_apart app (event.Enter t) s next h count a = apart_of s next t a (enter_acts app t s next h)
-  step_apart app (event.Run t func item result) s next h count a = apart_of s next t a (run_acts app t func item result s next h a)
-  step_apart app (event.Call t served status) s next h count a = apart_of s next t a (call_acts app t status served s next h a)
-  step_apart app (event.Left t served) s next h count a = apart_of s next t a (left_acts app t served s next h a)
-  step_apart app (event.Back t) s next h count a = apart_of s next t a (back_acts app t s next h a)
-  step_apart app event.Idle s next h count a =
-      subst (TasksAreApart config) (sym h.3) (apart_kept s (settled_state s) a (λ u. itself u (task s u)) (λ u x. absurd (false≢true x)))
-  step_apart app event.Stray s next h count a = absurd h
-  step_apart app (event.Due c) s next h count a =
-      subst (TasksAreApart config) (sym h.2) (apart_kept s (due_state c s) a (λ u. itself u (task s u)) a.fresh_ready)
-  step_apart app (event.Tick c) s next h count a =
-      subst (TasksAreApart config) (sym h.2)
-      (apart_kept s (settled_state (ticked_state config c s)) a (tick_calm s c h.1.declared) (λ u x. absurd (false≢true x)))
+  task_apart app (event.Enter t) s next h named count a = apart_of s next t a (enter_acts app t s next h)
+  task_apart app (event.Run t func item result) s next h named count a = apart_of s next t a (run_acts app t func item result s next h a)
+  task_apart app (event.Call t served status) s next h named count a = apart_of s next t a (call_acts app t status served s next h a)
+  task_apart app (event.Left t served) s next h named count a = apart_of s next t a (left_acts app t served s next h a)
+  task_apart app (event.Back t) s next h named count a = apart_of s next t a (back_acts app t s next h a)
+  task_apart app e s next h named count a = absurd (false≢true named)
 
   pub opening_apart : (app : App) → TasksAreApart config (opening config app)
   opening_apart app = record {

@@ -9,6 +9,7 @@ use Rattle.osek_scheduler.specs.declared.state.TaskState.{TaskState}
 use Rattle.osek_scheduler.specs.declared.state.TaskState.TheVariants as mode
 use Rattle.osek_scheduler.specs.State.{Task, System, task}
 use Rattle.sloth_base.specs.Named.{undeclared_task}
+use Rattle.sloth_base.specs.ConfigRange.{scheduler_number}
 use Rattle.code_rules.specs.Code.{is_in}
 use Rattle.osek_scheduler.specs.Priority.{greatest, highest_priority, ceiling}
 use Rattle.osek_valid.specs.Valid.{MayHold, InState, IsValidTask, IsValid}
@@ -53,13 +54,13 @@ module _ (config : Config) (app : App) where
   pub below_ceiling : (t r : ℕ) → t < length config.tasks → MayHold config t r → static_priority config t ≤ ceiling config r
   below_ceiling t r lt may = by (cases_eq r 32) may
     where
-      at : (b : Bool) → (r == 32) ≡ b → static_priority config t ≤ cond b (highest_priority config) (greatest (map (λ d. d.priority) (filter (λ d. is_in r d.resources) config.tasks)))
+      at : (b : Bool) → (r == scheduler_number) ≡ b → static_priority config t ≤ cond b (highest_priority config) (greatest (map (λ d. d.priority) (filter (λ d. is_in r d.resources) config.tasks)))
           → static_priority config t ≤ ceiling config r
       at b e h =
           let P : Bool → Type 0 = λ c. static_priority config t ≤ cond c (highest_priority config) (greatest (map (λ d. d.priority) (filter (λ d. is_in r d.resources) config.tasks))) in
           subst P (sym e) h
 
-      by : (r ≡ 32) ⊎ (r ≡ 32 → ⊥) → MayHold config t r → static_priority config t ≤ ceiling config r
+      by : (r ≡ scheduler_number) ⊎ (r ≡ scheduler_number → ⊥) → MayHold config t r → static_priority config t ≤ ceiling config r
       by (inl e) m = at true (eq-eqb r 32 e) (among config.tasks t lt)
       by (inr n) (inl e) = absurd (n e)
       by (inr n) (inr uses) = at false (ne_eqb r 32 n) (among_users r config.tasks t lt uses)

@@ -16,7 +16,7 @@ use Rattle.sloth_base.specs.declared.service.Service.TheVariants as service
 use Rattle.sloth_base.specs.Arithmetic.{size_of}
 use Rattle.sloth_base.specs.Named.{function, no_function, declaration, operation, label_of, no_label, no_item, symbol_size}
 use Rattle.code_rules.specs.AppRange.{AppInRange, IsBody, IsOp, IsMask, mask_of}
-use Rattle.sloth_base.specs.ConfigRange.{no_event}
+use Rattle.sloth_base.specs.ConfigRange.{no_event, scheduler_number}
 use Rattle.code_rules.specs.Code.{IsItem, service_op, IsCallChain, Reaches, TaskReaches, Pauses, Ends, way, GoesOn, is_in, is_last, mark_at_labels, held_list_at_labels, held_list_fallen_into, is_fallen_into}
 use Rattle.code_rules.specs.WellFormed
 use Rattle.code_rules.specs.WellFormed.{HasEvents, held_list_before, Breaks, at_header, at_label, at_item, falling_in, on_cycle}
@@ -144,7 +144,7 @@ module _ (config : Config) (app : App) (w : WellFormed.WellFormed config app) wh
   stable_hold : (t r : ℕ) → ¬ (¬ (MayHold config t r)) → MayHold config t r
   stable_hold t r h = by (cases_eq r 32)
     where
-      by : (r ≡ 32) ⊎ (r ≡ 32 → ⊥) → MayHold config t r
+      by : (r ≡ scheduler_number) ⊎ (r ≡ scheduler_number → ⊥) → MayHold config t r
       by (inl e) = inl e
       by (inr n) = inr (true_from_ne_false _ (λ e. h (no_way e)))
         where

@@ -4,8 +4,10 @@ pub mod Stacks
 pub mod Going
 pub mod Items
 pub mod Serving
+pub mod TaskSteps
 pub mod Steps
 pub mod Apart
+pub mod ApartSteps
 pub mod Excluding
 pub mod Meaning
 pub mod Progress

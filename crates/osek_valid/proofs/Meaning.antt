@@ -34,6 +34,8 @@ use Rattle.osek_scheduler.specs.Outcomes.{outcome}
 use Rattle.osek_scheduler.specs.Steps.{settled_state, IsAt, OsekStep}
 use Rattle.osek_scheduler.proofs.Tests.{on_some_is, if_true_is}
 use Rattle.sloth_base.specs.Arithmetic.{size_of}
+use Rattle.sloth_base.specs.Limits.{resource_limit}
+use Rattle.sloth_base.specs.ConfigRange.{scheduler_number}
 use Rattle.code_rules.specs.AppRange.{IsRegister, IsOp, IsLabel, IsResource, IsObject}
 use Rattle.code_rules.specs.Code.{service_op, is_last}
 use Rattle.osek_valid.proofs.Facts.{Facts}
@@ -172,13 +174,13 @@ module _ (config : Config) (app : App) (w : Facts config app) (t : ℕ) (k : Tas
   resource_there : (q : ℕ) → IsResource config q → is_resource config q ≡ true
   resource_there q h = by (cases_eq q 32) h
     where
-      few : length config.resources ≤ 32
+      few : length config.resources ≤ resource_limit
       few = w.in_range.configuration.few_resources
 
-      at : (b : Bool) → (q == 32) ≡ b → cond b config.res_scheduler (ltb q (length config.resources)) ≡ true → is_resource config q ≡ true
+      at : (b : Bool) → (q == scheduler_number) ≡ b → cond b config.res_scheduler (ltb q (length config.resources)) ≡ true → is_resource config q ≡ true
       at b e found = subst (λ c. cond c config.res_scheduler (ltb q (length config.resources)) ≡ true) (sym e) found
 
-      by : (q ≡ 32) ⊎ (q ≡ 32 → ⊥) → IsResource config q → is_resource config q ≡ true
+      by : (q ≡ scheduler_number) ⊎ (q ≡ scheduler_number → ⊥) → IsResource config q → is_resource config q ≡ true
       by (inl e) (inl lt) = absurd (omega (arith, e, lt, few))
       by (inl e) (inr is) = at true (eq-eqb q 32 e) is.1
       by (inr n) (inl lt) = at false (ne_eqb q 32 n) (lt-ltb _ _ lt)

@@ -12,7 +12,7 @@ use Rattle.osek_valid.specs.WellFormedRuns.{ItemsMean}
 use Rattle.osek_valid.proofs.Going.{running}
 use Rattle.osek_valid.proofs.Meaning.{position, means}
 use Rattle.osek_valid.proofs.Steps.{step_valid}
-use Rattle.osek_valid.proofs.Apart.{step_apart}
+use Rattle.osek_valid.proofs.ApartSteps.{step_apart}
 use Rattle.osek_valid.proofs.Excluding.{excludes}
 
 module _ (config : Config) (app : App) (w : Facts config app) where

@@ -1,7 +1,7 @@
 -- Each step keeps a state valid, and the system is valid as it starts.
-use Rattle.std.proofs.Common.{◌≡◌, ℕ, zero, suc, ◌+◌, ◌<◌, ◌≤◌, ◌==◌, List, [], ◌∷◌, Bool, true, false, not, ◌&&◌, cond, length, get_or, map, refl, sym, ap, ◌∙◌, subst, arith}
+use Rattle.std.proofs.Common.{◌≡◌, ℕ, zero, suc, ◌+◌, ◌<◌, ◌≤◌, ◌==◌, List, [], ◌∷◌, Bool, true, false, cond, length, get_or, map, refl, sym, ap, ◌∙◌, subst, arith}
 use Rattle.std.proofs.lemmas.Bool.{true≢false, false≢true, eqb-false, cond_both}
-use Rattle.std.proofs.lemmas.List.{length-set, length-replicate, length-map}
+use Rattle.std.proofs.lemmas.List.{length-map}
 use Rattle.sloth_base.specs.declared.config.Config.{Config}
 use Rattle.sloth_base.specs.declared.config.TaskDecl.{TaskDecl}
 use Rattle.sloth_base.specs.declared.app.App.{App}
@@ -13,19 +13,17 @@ use Rattle.sloth_base.specs.declared.config.Action.TheVariants as action
 use Rattle.sloth_base.specs.ConfigRange.{IsAction}
 use Rattle.osek_scheduler.specs.declared.state.Counter.{Counter}
 use Rattle.osek_scheduler.specs.declared.state.TaskState.TheVariants as mode
-use Rattle.osek_scheduler.specs.State.{Frame, Task, System, sleeping_task, task, with_task, no_counter, counter, alarm, entry_frame, opening}
-use Rattle.sloth_base.specs.Named.{declaration, counter_declaration, undeclared_alarm, alarm_declaration, function, body_of}
-use Rattle.osek_scheduler.specs.Services.{activated_state, set_events, acted_state, next_value, ticked_state, started_task, entered_state, GoesOn, Leaves}
-use Rattle.osek_scheduler.specs.Steps.{settled_state, autostarted_tasks, admitted_state, due_state, OsekStep}
+use Rattle.osek_scheduler.specs.State.{Task, System, sleeping_task, task, no_counter, counter, alarm, opening}
+use Rattle.sloth_base.specs.Named.{declaration, counter_declaration, undeclared_alarm, alarm_declaration}
+use Rattle.osek_scheduler.specs.Services.{activated_state, set_events, acted_state, next_value, ticked_state}
+use Rattle.osek_scheduler.specs.Steps.{settled_state, autostarted_tasks, due_state, OsekStep}
 use Rattle.osek_valid.proofs.Facts.{Facts}
-use Rattle.osek_valid.specs.Valid.{AreCalls, held_by, Rests, InState, IsValidTask, IsValid}
-use Rattle.osek_valid.proofs.Held.{held_at_begin}
-use Rattle.osek_valid.proofs.Stacks.{has_body}
-use Rattle.osek_valid.proofs.Going.{keeps, settles, counter_kept, alarm_kept, runs_on}
-use Rattle.osek_valid.proofs.Items.{executes_valid}
+use Rattle.osek_valid.specs.Valid.{IsValidTask, IsValid}
+use Rattle.osek_valid.proofs.Going.{settles, counter_kept, alarm_kept}
 use Rattle.osek_scheduler.proofs.Outcomes.{by_suspended, KeptByOthers, sets_keep}
 use Rattle.osek_scheduler.proofs.Ticking.{acted_keeps, ticked_keeps}
-use Rattle.osek_valid.proofs.Serving.{covers_none, ready_task, activated_valid, set_events_valid, serves_valid}
+use Rattle.osek_valid.proofs.Serving.{covers_none, ready_task, activated_valid, set_events_valid}
+use Rattle.osek_valid.proofs.TaskSteps.{task_step_valid}
 
 -- ---- the opening
 
@@ -92,65 +90,6 @@ boot_valid config app s v asleep = record {
   clock = v.clock;
 }
 
--- ---- entries
-
-and_not : (b owed : Bool) → owed ≡ false → b ≡ (b && not owed)
-and_not true owed e = sym (ap not e)
-and_not false owed e = refl
-
-enter_valid : (config : Config) (app : App) → Facts config app → (s : System) (t : ℕ) → IsValid config app s → s.booted ≡ true → t < length config.tasks
-    → (task s t).state ≡ mode.Ready → IsValid config app (entered_state config app t s)
-enter_valid config app w s t v booted declared ready =
-    keeps config app s t (record (started_task app t (task s t).frames (task s t)) { state = mode.Active; raised = (declaration config t).non }) v booted declared
-    (by (task s t).frames refl)
-  where
-    k : IsValidTask config app t (task s t)
-    k = v.each t declared
-
-    rests : Rests (task s t)
-    rests = (subst (InState config t (task s t)) ready k.in_state).0
-
-    by : (fs : List Frame) → (task s t).frames ≡ fs
-        → IsValidTask config app t (record (started_task app t fs (task s t)) { state = mode.Active; raised = (declaration config t).non })
-    by [] e =
-        let body = has_body config app w t declared in
-        runs_on config app t (record (started_task app t [] (task s t)) { state = mode.Active; raised = (declaration config t).non })
-        (entry_frame app (body_of app.funcs t)) [] refl refl
-        (record { known = body.0; inside = w.has_items _ body.0; words = length-replicate (function app (body_of app.funcs t)).frame_words 0 })
-        refl (rests.holds ∙ sym (held_at_begin config app w (body_of app.funcs t) body.0)) (and_not _ _ rests.not_owed) (λ _. rests.holds) refl k.listed k.distinct k.events
-    by (frame ∷ outer) e =
-        let stack = subst (AreCalls app t) e k.calls in
-        runs_on config app t (record (started_task app t (frame ∷ outer) (task s t)) { state = mode.Active; raised = (declaration config t).non })
-        frame outer refl e stack.0 stack.1 (k.held ∙ ap (held_by app) e) (and_not _ _ rests.not_owed) (λ _. rests.holds)
-        (length-set (task s t).registers 5 0 ∙ k.registers) k.listed k.distinct k.events
-
-back_valid : (config : Config) (app : App) (s : System) (t : ℕ) → IsValid config app s → s.booted ≡ true → t < length config.tasks
-    → (task s t).state ≡ mode.Active → IsValid config app (with_task s t (record (task s t) { owed = false; raised = (declaration config t).non }))
-back_valid config app s t v booted declared active =
-    let k = v.each t declared in
-    let state = subst (InState config t (task s t)) active k.in_state in
-    let new : Task = record (task s t) { owed = false; raised = (declaration config t).non } in
-    keeps config app s t new v booted declared
-    (record {
-      registers = k.registers;
-      calls = k.calls;
-      held = k.held;
-      listed = k.listed;
-      distinct = k.distinct;
-      events = k.events;
-      in_state = subst (InState config t new) (sym active) (state.0, and_not _ _ refl, λ e. absurd (false≢true e));
-    })
-
--- ---- all events
-
-admit_valid : (config : Config) (app : App) (s : System) (t : ℕ) → IsValid config app s → s.booted ≡ true → t < length config.tasks → IsValid config app (admitted_state t s)
-admit_valid config app s t v booted declared =
-    by_suspended (task s t).state (record (activated_state s t) { fresh = t ∷ s.fresh }) s (IsValid config app)
-    (λ asleep.
-    let a = activated_valid config app s t v booted declared asleep in
-    record { count = a.count; each = a.each; sizes = a.sizes; asleep = a.asleep; clock = a.clock })
-    (λ _. v)
-
 -- ---- ticks
 
 -- what an alarm does keeps a state valid
@@ -196,18 +135,9 @@ tick_valid config app w s c lt v booted =
 pub step_valid : (config : Config) (app : App) (e : Event) (s next : System) → Facts config app → OsekStep config app e s next → IsValid config app s
     → IsValid config app next
 step_valid config app event.Boot s next w h v = subst (IsValid config app) (sym h.1) (boot_valid config app s v h.0)
-step_valid config app (event.Admit t) s next w h v = subst (IsValid config app) (sym h.2) (admit_valid config app s t v h.0 h.1)
-step_valid config app (event.Enter t) s next w h v =
-    subst (IsValid config app) (sym h.4) (settles config app _ (enter_valid config app w s t v h.0 h.1.declared h.2))
-step_valid config app (event.Run t func item result) s next w h v = executes_valid config app w t func item result s next v h.0 h.1
-step_valid config app (event.Call t served status) s next w h v =
-    subst (IsValid config app) (sym h.1.2) (settles config app h.1.0 (serves_valid config app w t served s (GoesOn status h.1.0) v h.0 h.1.1))
-step_valid config app (event.Left t served) s next w h v =
-    subst (IsValid config app) (sym h.1.2) (settles config app h.1.0 (serves_valid config app w t served s (Leaves h.1.0) v h.0 h.1.1))
-step_valid config app (event.Back t) s next w h v =
-    subst (IsValid config app) (sym h.4) (settles config app _ (back_valid config app s t v h.0 h.1.declared h.2))
 step_valid config app event.Idle s next w h v = subst (IsValid config app) (sym h.3) (settles config app s v)
 step_valid config app event.Stray s next w h v = absurd h
 step_valid config app (event.Due c) s next w h v = subst (IsValid config app) (sym h.2) (due_valid config app s c v)
 step_valid config app (event.Tick c) s next w h v =
     subst (IsValid config app) (sym h.2) (settles config app _ (tick_valid config app w s c h.1.declared v h.0))
+step_valid config app e s next w h v = task_step_valid config app e s next w h refl v

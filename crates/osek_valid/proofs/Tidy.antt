@@ -3,7 +3,7 @@ use Rattle.std.proofs.Common.{◌≡◌, ℕ, ◌<◌, ◌≤◌, ◌==◌, ◌�
 use Rattle.std.specs.Prelude.{All, IsTrue}
 use Rattle.std.proofs.lemmas.Bool.{true≢false, false≢true, or_cases, eqb-true}
 use Rattle.std.proofs.lemmas.Nat.{and_le_r, or_of_32}
-use Rattle.sloth_base.specs.ConfigRange.{IsUnionOf}
+use Rattle.sloth_base.specs.ConfigRange.{IsUnionOf, scheduler_number}
 use Rattle.sloth_base.specs.declared.config.EventDecl.{EventDecl}
 use Rattle.std.proofs.lemmas.List.Elements.{All-head, All-tail}
 use Rattle.std.proofs.Math.Bool.{and-true}
@@ -13,6 +13,7 @@ use Rattle.osek_scheduler.specs.declared.state.TaskState.{TaskState}
 use Rattle.osek_scheduler.specs.declared.state.TaskState.TheVariants as mode
 use Rattle.osek_scheduler.specs.State.{System, task}
 use Rattle.sloth_base.specs.Named.{declaration, undeclared_task}
+use Rattle.sloth_base.specs.Limits.{ceiling_count, resource_limit}
 use Rattle.code_rules.specs.Code.{is_in}
 use Rattle.osek_scheduler.specs.Priority.{is_active}
 use Rattle.code_rules.specs.WellFormed.{HasEvents}
@@ -51,12 +52,12 @@ module _ (config : Config) (app : App) (w : Facts config app) where
       below : (a b c : ℕ) → b ≡ a → b ≤ c → c < 4294967296 → a < 4294967296
       below a b c e le lt = omega (arith, e, le, lt)
 
-  few : (t r : ℕ) → t < length config.tasks → MayHold config t r → r < 33
+  few : (t r : ℕ) → t < length config.tasks → MayHold config t r → r < ceiling_count
   few t r lt (inl e) = omega (arith, e)
   few t r lt (inr h) =
-      by (from_all (λ x. (x < length config.resources) ⊎ ((x ≡ 32) × IsTrue config.res_scheduler)) (declaration config t).resources r (w.in_range.configuration.tasks t undeclared_task lt).resources h) w.in_range.configuration.few_resources
+      by (from_all (λ x. (x < length config.resources) ⊎ ((x ≡ scheduler_number) × IsTrue config.res_scheduler)) (declaration config t).resources r (w.in_range.configuration.tasks t undeclared_task lt).resources h) w.in_range.configuration.few_resources
     where
-      by : (r < length config.resources) ⊎ ((r ≡ 32) × IsTrue config.res_scheduler) → length config.resources ≤ 32 → r < 33
+      by : (r < length config.resources) ⊎ ((r ≡ scheduler_number) × IsTrue config.res_scheduler) → length config.resources ≤ resource_limit → r < ceiling_count
       by (inl l) le = omega (arith, l, le)
       by (inr e) le = omega (arith, e.0)
 

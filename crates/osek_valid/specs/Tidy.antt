@@ -3,6 +3,7 @@ use Rattle.std.specs.Prelude.{ℕ, ◌<◌, ◌≡◌, [], true, false, length, 
 use Rattle.sloth_base.specs.declared.config.Config.{Config}
 use Rattle.sloth_base.specs.declared.app.App.{App}
 use Rattle.sloth_base.specs.Named.{declaration}
+use Rattle.sloth_base.specs.Limits.{ceiling_count}
 use Rattle.code_rules.specs.Code.{is_in}
 use Rattle.osek_scheduler.specs.declared.state.TaskState.TheVariants as mode
 use Rattle.osek_scheduler.specs.State.{Task}
@@ -17,7 +18,7 @@ pub record IsTidy (config : Config) (app : App) (t : ℕ) (own : Task) : Type 0 
   -- a task whose scheduling is NON that holds a resource has its internal resource too
   pub raised_by : (r : ℕ) → is_in r own.held ≡ true → own.raised ≡ (declaration config t).non
   -- RES_SCHEDULER has the greatest number, 32
-  pub few : (r : ℕ) → is_in r own.held ≡ true → r < 33
+  pub few : (r : ℕ) → is_in r own.held ≡ true → r < ceiling_count
   pub events_small : own.events < 0x1_0000_0000
   pub wait_small : (mask : ℕ) → own.state ≡ mode.Waiting mask → mask < 0x1_0000_0000
   pub calls : AreCalls app t own.frames

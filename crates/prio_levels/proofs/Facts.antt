@@ -7,7 +7,7 @@ use Rattle.std.proofs.lemmas.List.Elements.{All-weaker, All-contains}
 use Rattle.std.proofs.lemmas.List.Sums.{count_by-le-length}
 use Rattle.sloth_base.specs.declared.config.TaskDecl.{TaskDecl}
 use Rattle.sloth_base.specs.declared.config.Config.{Config}
-use Rattle.sloth_base.specs.ConfigRange.{InRange, IsTask}
+use Rattle.sloth_base.specs.ConfigRange.{InRange, IsTask, scheduler_number}
 use Rattle.prio_levels.specs.Levels.{lists, ceiling, AreCeilings, AreTaskLevels}
 use Rattle.sloth_base.specs.PriorityLevels.{level_among}
 use Rattle.prio_levels.proofs.Counting.{level-lt, level-positive}
@@ -15,14 +15,14 @@ use Rattle.prio_levels.proofs.Greatest.{greatest_covers, greatest_none}
 
 -- a resource of a task
 abbrev pub IsListed : Config → ℕ → Type 0
-IsListed config r = (r < length config.resources) ⊎ ((r ≡ 32) × IsTrue config.res_scheduler)
+IsListed config r = (r < length config.resources) ⊎ ((r ≡ scheduler_number) × IsTrue config.res_scheduler)
 
-lists_no : (config : Config) (r : ℕ) → length config.resources ≤ r → r < 32 → (task : TaskDecl) → IsTask config task → lists r task ≡ false
+lists_no : (config : Config) (r : ℕ) → length config.resources ≤ r → r < scheduler_number → (task : TaskDecl) → IsTask config task → lists r task ≡ false
 lists_no config r h k task t =
     list_any_none (λ n. n == r) task.resources
     (All-weaker (IsListed config) (λ n. (n == r) ≡ false) (λ n l. ne_eqb n r (λ e. ⊎_elim (λ b. omega (arith, b, e)) (λ b. let q = b.0 in omega (arith, q, e)) l)) task.resources t.resources)
 
-pub no_resource : (config : Config) → InRange config → (r : ℕ) → length config.resources ≤ r → r < 32 → ceiling config.tasks r ≡ 0
+pub no_resource : (config : Config) → InRange config → (r : ℕ) → length config.resources ≤ r → r < scheduler_number → ceiling config.tasks r ≡ 0
 no_resource config range r h k =
     greatest_none (lists r) (λ t. level_among config.tasks t.priority) config.tasks (All-weaker (IsTask config) (λ t. lists r t ≡ false) (lists_no config r h k) config.tasks range.tasks)
 
@@ -52,7 +52,7 @@ module _ (config : Config) (levels ceilings : List ℕ) (range : InRange config)
       let listed = All-contains (IsListed config) task.resources r (range.tasks t d h).resources c in
       let few = range.few_resources in
       ⊎_elim
-      (λ b. let below : r < 32 = omega (arith, b, few) in
+      (λ b. let below : r < scheduler_number = omega (arith, b, few) in
       let e = are.listed r below in
       let m = greatest_covers (lists r) (λ s. level_among config.tasks s.priority) config.tasks 0 t d h
       (list_any_at (λ n. n == r) task.resources c.0 r c.1 (eq-eqb (get_or task.resources c.0 r) r c.2)) in

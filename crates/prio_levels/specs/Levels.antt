@@ -6,6 +6,7 @@ use Rattle.sloth_base.specs.declared.config.Config.{Config}
 use Rattle.sloth_base.specs.declared.places.Levels.{Levels}
 use Rattle.sloth_base.specs.PriorityLevels.{level_among}
 use Rattle.sloth_base.specs.ConfigRange.{scheduler_number}
+use Rattle.sloth_base.specs.Limits.{task_limit}
 
 -- whether a task lists a resource
 abbrev pub lists : ℕ → TaskDecl → Bool
@@ -18,7 +19,7 @@ ceiling tasks resource = fold max 0 (map (λ task. level_among tasks task.priori
 -- The level of a task is that of its priority. There are no levels of tasks that do not exist.
 pub record AreTaskLevels (tasks : List TaskDecl) (levels : List ℕ) : Type 0 where
   pub of_task : (t : ℕ) (d : TaskDecl) → t < length tasks → slice_index levels t ≡ level_among tasks (slice_index_or tasks t d).priority
-  pub no_task : (t : ℕ) → length tasks ≤ t → t < 30 → slice_index levels t ≡ 0
+  pub no_task : (t : ℕ) → length tasks ≤ t → t < task_limit → slice_index levels t ≡ 0
 
 -- The ceilings of the resources 0 to 31, and that of RES_SCHEDULER, which is the level of the highest task.
 pub record AreCeilings (tasks : List TaskDecl) (ceilings : List ℕ) : Type 0 where

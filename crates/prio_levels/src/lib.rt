@@ -1,4 +1,7 @@
 //! Levels: the numbers by which the interrupt controller does the work of the scheduler.
+//!
+//! The level of a priority is the number of tasks of no greater priority; ceilings are those of the priority ceiling protocol (`assign`,
+//! `specs/Levels`). In range: `sloth_base` (`ConfigRange`).
 #![tactic(auto)]
 
 ghost use Rattle.std.specs.Prelude.{◌≡◌, ◌<◌, ◌≤◌, ℕ, if◌then◌else◌, max, length, Contains, slice_index, slice_index_or};
@@ -6,8 +9,10 @@ ghost use Rattle.sloth_base.specs.declared.config.TaskDecl.{TaskDecl};
 ghost use Rattle.sloth_base.specs.ConfigRange.{InRange};
 ghost use Rattle.prio_levels.specs.Levels.{lists, ceiling, AreCeilings, AreLevels, AreTaskLevels};
 ghost use Rattle.sloth_base.specs.PriorityLevels.{level_among};
+ghost use Rattle.sloth_base.specs.Limits.{task_limit};
 
 use sloth_base::config::{Config, TaskDecl};
+use sloth_base::limits::{CEILING_COUNT, TASK_LIMIT};
 use sloth_base::numbers::RES_SCHEDULER;
 use sloth_base::places::Levels;
 
@@ -23,11 +28,11 @@ fn level_of(tasks: &[TaskDecl], priority: u32) -> usize
 }
 
 /// The levels of the tasks in the order of their numbers, then zeros.
-fn task_levels(tasks: &[TaskDecl]) -> [u8; 30]
-    requires { length tasks.now ≤ 30 }
+fn task_levels(tasks: &[TaskDecl]) -> [u8; TASK_LIMIT]
+    requires { length tasks.now ≤ task_limit }
     ensures { AreTaskLevels tasks.now result }
 {
-    let mut levels = [0; 30];
+    let mut levels = [0; TASK_LIMIT];
     for (number, task) in tasks.iter().enumerate() {
         levels[number] = level_of(tasks, task.priority) as u8;
     }
@@ -56,7 +61,7 @@ fn raised(greatest: u8, counts: bool, level: u8) -> u8
 
 /// The greatest level of the tasks that list the resource, 0 where none does.
 fn ceiling_of(tasks: &[TaskDecl], resource: u32) -> u8
-    requires { length tasks.now ≤ 30 }
+    requires { length tasks.now ≤ task_limit }
     ensures { result ≡ ceiling tasks.now resource }
 {
     let mut greatest = 0;
@@ -68,11 +73,11 @@ fn ceiling_of(tasks: &[TaskDecl], resource: u32) -> u8
 }
 
 /// The ceilings of the resources 0 to 31, and that of RES_SCHEDULER.
-fn ceilings(tasks: &[TaskDecl]) -> [u8; 33]
-    requires { length tasks.now ≤ 30 }
+fn ceilings(tasks: &[TaskDecl]) -> [u8; CEILING_COUNT]
+    requires { length tasks.now ≤ task_limit }
     ensures { AreCeilings tasks.now result }
 {
-    let mut ceilings = [0; 33];
+    let mut ceilings = [0; CEILING_COUNT];
     for resource in 0..RES_SCHEDULER {
         ceilings[resource as usize] = ceiling_of(tasks, resource);
     }

@@ -2,6 +2,7 @@
 use Rattle.std.proofs.Common.{ℕ, ◌+◌, ◌-◌, ◌%◌, ◌^◌, ◌≡◌, ◌<◌, ◌≤◌, Bool, true, false, List, ◌++◌, length, subst, arith}
 use Rattle.sloth_base.specs.Machine.{Core}
 use Rattle.sloth_base.specs.MemoryMap.{memory_base}
+use Rattle.sloth_base.specs.Limits.{task_limit, level_count, frame_limit}
 use Rattle.rv32_instr.specs.declared.InstrKind.{InstrKind}
 use Rattle.masked_code.specs.Masked.{Masked, WithArrivals}
 use Rattle.masked_code.specs.Place.{offset_state}
@@ -19,13 +20,13 @@ abbrev pub code : Bool → ℕ → ℕ → ℕ → ℕ → ℕ → List InstrKin
 code extended task level frame words first = context_saving_code level ++ (active_marking_code task ++ (context_taking_code extended task ++ fresh_start_code frame words first))
 
 -- it enters the task, whose frame is given by its offset
-by_offset : (extended : Bool) (task level first frame words : ℕ) → task < 30 → level < 32 → first < 2 ^ 32 → words ≤ 32
+by_offset : (extended : Bool) (task level first frame words : ℕ) → task < task_limit → level < level_count → first < 2 ^ 32 → words ≤ frame_limit
     → DoesEnter extended task level first frame words (code extended task level (memory_base + frame) words first)
 by_offset false = enters
 by_offset true = enters_or_resumes
 
 -- whose frame is given by its address
-pub does_enter : (extended : Bool) (task level first frame words : ℕ) → task < 30 → level < 32 → first < 2 ^ 32 → words ≤ 32 → memory_base ≤ frame
+pub does_enter : (extended : Bool) (task level first frame words : ℕ) → task < task_limit → level < level_count → first < 2 ^ 32 → words ≤ frame_limit → memory_base ≤ frame
     → DoesEnter extended task level first (frame - memory_base) words (code extended task level frame words first)
 does_enter extended task level first frame words is_task low_level fits few in_ram =
     let same : memory_base + (frame - memory_base) ≡ frame = omega arith in

@@ -2,11 +2,12 @@
 use Rattle.std.proofs.Common.{◌≡◌, ℕ, ◌+◌, ◌*◌, ◌%◌, ◌<◌, ◌≤◌, ◌⊎◌, List, ◌∷◌, ◌++◌, get_or, refl, ◌∙◌, subst, arith, inl, lit≤}
 use Rattle.std.specs.Prelude.{Bool, false, true, pos, neg_ℤ, eqb}
 use Rattle.sloth_base.specs.Machine.{Core, State}
-use Rattle.sloth_region.specs.Layout.{cur, active, below_word, idle_context, context_bytes, context_pc, context_level, context_cur, context_below, controller_base}
+use Rattle.sloth_region.specs.Layout.{cur, active, below_word, idle_context, context_bytes, context_pc, context_level, context_cur, context_below}
 use Rattle.rv32_instr.specs.declared.InstrKind.{InstrKind}
 use Rattle.rv32_instr.specs.Ram.{word_at, with_word, with_words}
 use Rattle.sloth_base.specs.Arithmetic.{plus}
-use Rattle.sloth_base.specs.MemoryMap.{memory_base}
+use Rattle.sloth_base.specs.MemoryMap.{memory_base, memory_bytes, controller_base}
+use Rattle.sloth_base.specs.Limits.{task_limit}
 use Rattle.masked_code.proofs.Owes.{◌▸◌, writes, loads, stores, accesses, IsWordAt, IsApart, Owes}
 use Rattle.masked_code.specs.Pieces.{saving_code}
 use Rattle.masked_code.proofs.Words.{word_at-other, word_at-others}
@@ -32,9 +33,9 @@ entered task level place c x1 x2 =
 lands : (o : ℕ) → o ≤ 0x20_1000 → plus (memory_base + o) (pos 112) ≡ memory_base + (o + 4 + 4 * 27)
 lands o small = omega arith
 
-module _ (from to task level place : ℕ) (c : Core) (E : List ℕ → State → State → Type 0) (start : State) (rest : List InstrKind) (is_task : task < 30)
+module _ (from to task level place : ℕ) (c : Core) (E : List ℕ → State → State → Type 0) (start : State) (rest : List InstrKind) (is_task : task < task_limit)
     (masked : c.mie ≡ false) (x2 : get_or c.registers 2 0 ≡ memory_base + (place + context_bytes)) (aligned : place % 4 ≡ 0) (past : idle_context ≤ place)
-    (inside : place + context_bytes ≤ 0x20_0000) (apart : (place + context_bytes ≤ from) ⊎ (to ≤ place)) (low : 1024 ≤ from) where
+    (inside : place + context_bytes ≤ memory_bytes) (apart : (place + context_bytes ≤ from) ⊎ (to ≤ place)) (low : 1024 ≤ from) where
   abbrev own : ℕ
   own = memory_base + place
 
@@ -118,7 +119,7 @@ module _ (from to task level place : ℕ) (c : Core) (E : List ℕ → State →
   own_is : plus (get_or c.registers 2 0) (neg_ℤ (pos context_bytes)) ≡ own
   own_is = omega arith
 
-  context_fits : place + 4 * (5 + 27) ≤ 0x20_0000
+  context_fits : place + 4 * (5 + 27) ≤ memory_bytes
   context_fits = omega arith
 
   context_apart : (place + 4 * (5 + 27) ≤ from) ⊎ (to ≤ place)
@@ -134,7 +135,7 @@ module _ (from to task level place : ℕ) (c : Core) (E : List ℕ → State →
       (record (based c) { registers = 0 ∷ own ∷ word_at c.ram cur ∷ controller_base ∷ memory_base ∷ tail; ram = with_words c.ram (place + 20) registers })
 
   -- the branch, and the registers of a task
-  pub enters_owe : (o : ℕ) → o ≤ 0x20_0000
+  pub enters_owe : (o : ℕ) → o ≤ memory_bytes
       → ((o' : ℕ) → o' ≡ o + 168 → Owes from to o' rest 0 E start (entered task level place c own 1))
       → Owes from to o (enters_first task level rest) 0 E start (based c)
   enters_owe o small go =

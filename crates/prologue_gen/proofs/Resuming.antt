@@ -6,8 +6,9 @@ use Rattle.std.proofs.lemmas.List.{get_or-set_same, get_or-set_other, length-set
 use Rattle.sloth_base.specs.Machine.{Core, State}
 use Rattle.sloth_base.specs.Arithmetic.{plus}
 use Rattle.sloth_base.specs.Status.{E_OK}
-use Rattle.sloth_base.specs.MemoryMap.{memory_base}
-use Rattle.sloth_region.specs.Layout.{cur, active, resume, below_word, idle_context, context_bytes, controller_base}
+use Rattle.sloth_base.specs.MemoryMap.{memory_base, memory_bytes, controller_base}
+use Rattle.sloth_base.specs.Limits.{task_limit, level_count, frame_limit}
+use Rattle.sloth_region.specs.Layout.{cur, active, resume, below_word, idle_context, context_bytes}
 use Rattle.rv32_instr.specs.declared.InstrKind.{InstrKind}
 use Rattle.rv32_instr.specs.Ram.{word_at, with_word, with_words}
 use Rattle.masked_code.specs.Place.{offset_state, InPlace}
@@ -69,11 +70,11 @@ entry_keeps c task place p far past below activity =
     ∙ word_at-others ws c.ram (place + 4 * 5) p (grind (arith, far, few))
 
 -- the resume word stands apart from it
-kept_word : (c : Core) (task place : ℕ) → task < 30 → idle_context ≤ place → word_at (with_entry c task place) (resume task) ≡ word_at c.ram (resume task)
+kept_word : (c : Core) (task place : ℕ) → task < task_limit → idle_context ≤ place → word_at (with_entry c task place) (resume task) ≡ word_at c.ram (resume task)
 kept_word c task place is_task past = entry_keeps c task place (resume task) (inl (omega arith)) (omega arith) (inr (omega arith)) (inr (omega arith))
 
 -- no context is kept: the task starts anew
-module _ (from to task level first place frame words : ℕ) (c : Core) (is_task : task < 30) (past : idle_context ≤ place) (none : word_at c.ram (resume task) ≡ 0) where
+module _ (from to task level first place frame words : ℕ) (c : Core) (is_task : task < task_limit) (past : idle_context ≤ place) (none : word_at c.ram (resume task) ≡ 0) where
   abbrev E : List ℕ → State → State → Type 0
   E = Entered task level first place frame words
 
@@ -81,7 +82,7 @@ module _ (from to task level first place frame words : ℕ) (c : Core) (is_task 
   start = offset_state (vector task) (based c)
 
   -- what is owed of the question whether a context is kept, where none is: the task starts anew
-  pub fresh_owe : (o x1 : ℕ) → o ≤ 0x20_0000
+  pub fresh_owe : (o x1 : ℕ) → o ≤ memory_bytes
       → ((o' : ℕ) → Owes from to o' (starts (memory_base + frame) words first) 0 E start (entered task level place c 0 1))
       → Owes from to o (either task (memory_base + frame) words first) 0 E start (entered task level place c x1 1)
   fresh_owe o x1 small go =
@@ -95,16 +96,16 @@ module _ (from to task level first place frame words : ℕ) (c : Core) (is_task 
 
 -- what a task that goes on behind a wait needs: the word of its context names one at `own`, apart from that of what it preempts
 pub record IsKept (from task level place own : ℕ) (c : Core) : Type 0 where
-  pub is_task : task < 30
-  pub low_level : level < 32
+  pub is_task : task < task_limit
+  pub low_level : level < level_count
   pub masked : c.mie ≡ false
   pub previous : c.mpie ≡ true
   pub past : idle_context ≤ place
-  pub inside : place + context_bytes ≤ 0x20_0000
+  pub inside : place + context_bytes ≤ memory_bytes
   pub is : word_at c.ram (resume task) ≡ memory_base + own
   pub aligned : own % 4 ≡ 0
   pub own_past : 1024 ≤ own
-  pub own_inside : own + context_bytes ≤ 0x20_0000
+  pub own_inside : own + context_bytes ≤ memory_bytes
   pub apart : (own + context_bytes ≤ place) ⊎ (place + context_bytes ≤ own)
   pub returns : word_at c.ram own % 4 ≡ 0
   pub low : 1024 ≤ from
@@ -199,7 +200,7 @@ module _ (from to task level place own : ℕ) (c : Core) (rest : List InstrKind)
       writes E_OK (ap (λ z. plus z (pos E_OK)) zero_there)
       ▸ done
 
-  own_fits : own + 4 * (5 + 27) ≤ 0x20_0000
+  own_fits : own + 4 * (5 + 27) ≤ memory_bytes
   own_fits = omega arith
 
   restored_owe : (o : ℕ) → Owes from to o (restoring_code 27 5 1 ++ (wait_answer_code ++ rest)) 0 R begun stored
@@ -220,7 +221,7 @@ module _ (from to task level place own : ℕ) (c : Core) (rest : List InstrKind)
   not_zero e = absurd (omega arith)
 
   -- what is owed of the question where one is: the task goes on
-  pub resumed_owe : (o x1 x2 : ℕ) → o ≤ 0x20_0000 → Owes from to o (asks_first task rest) 0 R begun (entered task level place c x1 x2)
+  pub resumed_owe : (o x1 x2 : ℕ) → o ≤ memory_bytes → Owes from to o (asks_first task rest) 0 R begun (entered task level place c x1 x2)
   resumed_owe o x1 x2 small =
       loads (resume task) (record { is = omega arith; aligned = omega arith; inside = omega arith }) at_own (kept_word (based c) task place is_kept.is_task is_kept.past ∙ is_kept.is)
       ▸ record {
@@ -233,7 +234,7 @@ module _ (from to task level place own : ℕ) (c : Core) (rest : List InstrKind)
 length-code : (task level frame words first : ℕ) → length (code task level frame words first) ≡ words + 108
 length-code task level frame words first = let e = length-starts frame words first in omega arith
 
-module _ (task level first frame words : ℕ) (is_task : task < 30) (low_level : level < 32) (first_fits : first < 2 ^ 32) (few : words ≤ 32) (offset place : ℕ) (c : Core) where
+module _ (task level first frame words : ℕ) (is_task : task < task_limit) (low_level : level < level_count) (first_fits : first < 2 ^ 32) (few : words ≤ frame_limit) (offset place : ℕ) (c : Core) where
   abbrev whole : List InstrKind
   whole = code task level (memory_base + frame) words first
 
@@ -256,7 +257,7 @@ module _ (task level first frame words : ℕ) (is_task : task < 30) (low_level :
       (omega arith)
       (subst (λ x. Owes offset to offset whole 0 E (offset_state (vector task) x) x) (based_is c can.registers can.zero bases) all))
 
-  small_offset : CanRun offset whole c → offset + 168 ≤ 0x20_0000
+  small_offset : CanRun offset whole c → offset + 168 ≤ memory_bytes
   small_offset can =
       let long = length-code task level (memory_base + frame) words first in
       let fits = can.inside in
@@ -266,28 +267,28 @@ module _ (task level first frame words : ℕ) (is_task : task < 30) (low_level :
       → Masked (109 + words) (offset_state (vector task) c) (WithArrivals (Entered task level first place frame words) (offset_state (vector task) c))
   starts_it first_aligned may =
       let h = may.enters in
-      let can = h.can_run in
+      let can = h.taken.can_run in
       let to = offset + 4 * length whole in
       let E = Entered task level first place frame words in
       let small = small_offset can in
-      whole_runs E h.jump can h.bases h.masked h.vector_word h.to_code
-      (enters_owe offset to task level place c E (offset_state (vector task) (based c)) rest is_task h.masked h.x2 h.aligned h.behind h.inside h.apart can.behind offset (omega (arith, small))
-      (λ o e. fresh_owe offset to task level first place frame words c is_task h.behind may.kept_none o (memory_base + place) (omega (arith, small, e))
-      (λ o'. starts_owe offset to task level first place frame words c low_level first_fits first_aligned h.masked h.previous h.frame_aligned h.frame_inside h.frame_apart o' 0 1)))
+      whole_runs E h.taken.jump can h.taken.bases h.taken.masked h.taken.vector_word h.taken.to_code
+      (enters_owe offset to task level place c E (offset_state (vector task) (based c)) rest is_task h.taken.masked h.taken.x2 h.taken.aligned h.taken.behind h.taken.inside h.taken.apart can.behind offset (omega (arith, small))
+      (λ o e. fresh_owe offset to task level first place frame words c is_task h.taken.behind may.kept_none o (memory_base + place) (omega (arith, small, e))
+      (λ o'. starts_owe offset to task level first place frame words c low_level first_fits first_aligned h.taken.masked h.taken.previous h.frame_aligned h.frame_inside h.frame_apart o' 0 1)))
 
   resumes_it : (own : ℕ) → MayResume offset task place own whole c → Masked (109 + words) (offset_state (vector task) c) (WithArrivals (Resumed task level place own) (offset_state (vector task) c))
   resumes_it own h =
-      let can = h.can_run in
+      let can = h.taken.can_run in
       let to = offset + 4 * length whole in
       let E = Resumed task level place own in
       let small = small_offset can in
       let kept : IsKept offset task level place own c = record {
         is_task = is_task;
         low_level = low_level;
-        masked = h.masked;
-        previous = h.previous;
-        past = h.behind;
-        inside = h.inside;
+        masked = h.taken.masked;
+        previous = h.taken.previous;
+        past = h.taken.behind;
+        inside = h.taken.inside;
         is = h.resumes;
         aligned = h.own_aligned;
         own_past = h.own_behind;
@@ -296,12 +297,12 @@ module _ (task level first frame words : ℕ) (is_task : task < 30) (low_level :
         returns = h.returns;
         low = can.behind;
       } in
-      whole_runs E h.jump can h.bases h.masked h.vector_word h.to_code
-      (enters_owe offset to task level place c E (offset_state (vector task) (based c)) rest is_task h.masked h.x2 h.aligned h.behind h.inside h.apart can.behind offset (omega (arith, small))
+      whole_runs E h.taken.jump can h.taken.bases h.taken.masked h.taken.vector_word h.taken.to_code
+      (enters_owe offset to task level place c E (offset_state (vector task) (based c)) rest is_task h.taken.masked h.taken.x2 h.taken.aligned h.taken.behind h.taken.inside h.taken.apart can.behind offset (omega (arith, small))
       (λ o e. resumed_owe offset to task level place own c (starts (memory_base + frame) words first) kept o (memory_base + place) 1 (omega (arith, small, e))))
 
 -- so the whole code does one of the two
-pub enters_or_resumes : (task level first frame words : ℕ) → task < 30 → level < 32 → first < 2 ^ 32 → words ≤ 32
+pub enters_or_resumes : (task level first frame words : ℕ) → task < task_limit → level < level_count → first < 2 ^ 32 → words ≤ frame_limit
     → EntersOrResumes task level first frame words (code task level (memory_base + frame) words first)
 enters_or_resumes task level first frame words a b d f =
     let long = length-code task level (memory_base + frame) words first in

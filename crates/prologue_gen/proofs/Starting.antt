@@ -5,10 +5,10 @@ use Rattle.std.proofs.lemmas.List.{get_or-set_other}
 use Rattle.sloth_base.specs.Machine.{Core, State}
 use Rattle.rv32_instr.specs.declared.InstrKind.{InstrKind}
 use Rattle.rv32_instr.specs.declared.InstrKind.TheVariants.{Mret}
-use Rattle.sloth_region.specs.Layout.{controller_base}
 use Rattle.rv32_instr.specs.Ram.{with_words}
 use Rattle.sloth_base.specs.Arithmetic.{hi}
-use Rattle.sloth_base.specs.MemoryMap.{memory_base}
+use Rattle.sloth_base.specs.MemoryMap.{memory_base, memory_bytes, controller_base}
+use Rattle.sloth_base.specs.Limits.{task_limit, level_count, frame_limit}
 use Rattle.masked_code.specs.Place.{offset_state}
 use Rattle.masked_code.specs.Masked.{Masked, WithArrivals}
 use Rattle.masked_code.proofs.Owes.{◌▸◌, writes, accesses, Owes}
@@ -36,9 +36,9 @@ starts frame words first = beginning_code frame first ++ last words
 abbrev pub code : ℕ → ℕ → ℕ → ℕ → ℕ → List InstrKind
 code task level frame words first = enters_first task level (starts frame words first)
 
-module _ (from to task level first place frame words : ℕ) (c : Core) (low_level : level < 32) (first_fits : first < 2 ^ 32)
+module _ (from to task level first place frame words : ℕ) (c : Core) (low_level : level < level_count) (first_fits : first < 2 ^ 32)
     (first_aligned : first % 4 ≡ 0) (masked : c.mie ≡ false) (previous : c.mpie ≡ true) (frame_aligned : frame % 4 ≡ 0)
-    (frame_inside : frame + 4 * words ≤ 0x20_0000) (frame_apart : (frame + 4 * words ≤ from) ⊎ (to ≤ frame)) where
+    (frame_inside : frame + 4 * words ≤ memory_bytes) (frame_apart : (frame + 4 * words ≤ from) ⊎ (to ≤ frame)) where
   abbrev sp : ℕ
   sp = memory_base + frame
 
@@ -103,7 +103,7 @@ module _ (from to task level first place frame words : ℕ) (c : Core) (low_leve
       (record stored { ram = with_words ram8 (frame + 4 * 0) (replicate words 0) })
   cleared_owe o = clears_owes from to (Entered task level first place frame words) start (Mret ∷ []) 25 5 o (o + 100) (record stored { ram = with_words ram8 (frame + 4 * 0) (replicate words 0) }) refl (lit≤ tt) refl done
 
-  frame_fits : frame + 4 * (0 + words) ≤ 0x20_0000
+  frame_fits : frame + 4 * (0 + words) ≤ memory_bytes
   frame_fits = omega arith
 
   frame_clear : (frame + 4 * (0 + words) ≤ from) ⊎ (to ≤ frame)
@@ -135,15 +135,15 @@ length-starts frame words first =
 length-code : (task level frame words first : ℕ) → length (code task level frame words first) ≡ words + 73
 length-code task level frame words first = let e = length-starts frame words first in omega arith
 
-module _ (task level first frame words : ℕ) (is_task : task < 30) (low_level : level < 32) (first_fits : first < 2 ^ 32) (first_aligned : first % 4 ≡ 0)
-    (few : words ≤ 32) (offset place : ℕ) (c : Core) (h : MayEnter offset task place frame words (code task level (memory_base + frame) words first) c) where
+module _ (task level first frame words : ℕ) (is_task : task < task_limit) (low_level : level < level_count) (first_fits : first < 2 ^ 32) (first_aligned : first % 4 ≡ 0)
+    (few : words ≤ frame_limit) (offset place : ℕ) (c : Core) (h : MayEnter offset task place frame words (code task level (memory_base + frame) words first) c) where
   abbrev whole : List InstrKind
   whole = code task level (memory_base + frame) words first
 
   -- from the vector word to the first instruction of the task
   pub runs_it : Masked (74 + words) (offset_state (vector task) c) (WithArrivals (Entered task level first place frame words) (offset_state (vector task) c))
   runs_it =
-      let can = h.can_run in
+      let can = h.taken.can_run in
       let long = length-code task level (memory_base + frame) words first in
       let n = words + 73 in
       let e : suc n ≡ 74 + words = omega arith in
@@ -151,16 +151,16 @@ module _ (task level first frame words : ℕ) (is_task : task < 30) (low_level :
       let E = Entered task level first place frame words in
       let own = memory_base + place in
       let fits = can.inside in
-      let all = enters_owe offset to task level place c E (offset_state (vector task) (based c)) (starts (memory_base + frame) words first) is_task h.masked h.x2 h.aligned h.behind h.inside h.apart can.behind offset (omega (arith, fits))
-      (λ o' e. starts_owe offset to task level first place frame words c low_level first_fits first_aligned h.masked h.previous h.frame_aligned h.frame_inside h.frame_apart o' own 1) in
+      let all = enters_owe offset to task level place c E (offset_state (vector task) (based c)) (starts (memory_base + frame) words first) is_task h.taken.masked h.taken.x2 h.taken.aligned h.taken.behind h.taken.inside h.taken.apart can.behind offset (omega (arith, fits))
+      (λ o' e. starts_owe offset to task level first place frame words c low_level first_fits first_aligned h.taken.masked h.taken.previous h.frame_aligned h.frame_inside h.frame_apart o' own 1) in
       subst (λ k. Masked k (offset_state (vector task) c) (WithArrivals E (offset_state (vector task) c))) e
-      (jumps_in (vector task) offset n h.jump whole c E (offset_state (vector task) c) (omega arith) h.vector_word h.to_code
-      (record { masked = h.masked; there = can.controller; lines = can.lines; aligned = can.aligned; fits = can.inside; placed = can.placed })
+      (jumps_in (vector task) offset n h.taken.jump whole c E (offset_state (vector task) c) (omega arith) h.taken.vector_word h.taken.to_code
+      (record { masked = h.taken.masked; there = can.controller; lines = can.lines; aligned = can.aligned; fits = can.inside; placed = can.placed })
       (omega arith)
-      (subst (λ x. Owes offset to offset whole 0 E (offset_state (vector task) x) x) (based_is c can.registers can.zero h.bases) all))
+      (subst (λ x. Owes offset to offset whole 0 E (offset_state (vector task) x) x) (based_is c can.registers can.zero h.taken.bases) all))
 
 -- for each task, level, first instruction and frame
-pub enters : (task level first frame words : ℕ) → task < 30 → level < 32 → first < 2 ^ 32 → words ≤ 32 → Enters task level first frame words (code task level (memory_base + frame) words first)
+pub enters : (task level first frame words : ℕ) → task < task_limit → level < level_count → first < 2 ^ 32 → words ≤ frame_limit → Enters task level first frame words (code task level (memory_base + frame) words first)
 enters task level first frame words a b d f =
     let long = length-code task level (memory_base + frame) words first in
     record { size = omega arith; runs = λ offset place core e h. runs_it task level first frame words a b d e f offset place core h }

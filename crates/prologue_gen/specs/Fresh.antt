@@ -7,7 +7,7 @@ use Rattle.rv32_instr.specs.declared.InstrKind.{InstrKind}
 use Rattle.rv32_instr.specs.declared.InstrKind.TheVariants.{Jal}
 use Rattle.rv32_instr.specs.Ram.{word_at, with_word, with_words}
 use Rattle.sloth_base.specs.Arithmetic.{plus}
-use Rattle.sloth_base.specs.MemoryMap.{memory_base}
+use Rattle.sloth_base.specs.MemoryMap.{memory_base, memory_bytes}
 use Rattle.masked_code.specs.Masked.{Masked, WithArrivals}
 use Rattle.masked_code.specs.Place.{offset_state, InPlace}
 use Rattle.masked_code.specs.Pieces.{registers_from}
@@ -22,8 +22,8 @@ abbrev pub IsApartFrom : ℕ → ℕ → ℕ → ℕ → Type 0
 IsApartFrom offset instructions place bytes = (place + bytes ≤ offset) ⊎ (offset + 4 * instructions ≤ place)
 
 -- The state in which the line has just been taken. The vector word jumps to the code; the context of what was preempted is
--- to stand at `place`, directly below x2, and the task's first frame at `frame`, of so many words.
-pub record MayEnter (offset task place frame words : ℕ) (code : List InstrKind) (core : Core) : Type 0 where
+-- to stand at `place`, directly below x2.
+pub record IsTaken (offset task place : ℕ) (code : List InstrKind) (core : Core) : Type 0 where
   pub can_run : CanRun offset code core
   pub masked : core.mie ≡ false
   pub previous : core.mpie ≡ true
@@ -34,10 +34,14 @@ pub record MayEnter (offset task place frame words : ℕ) (code : List InstrKind
   pub x2 : slice_index core.registers 2 ≡ memory_base + (place + context_bytes)
   pub aligned : place % 4 ≡ 0
   pub behind : idle_context ≤ place
-  pub inside : place + context_bytes ≤ 0x20_0000
+  pub inside : place + context_bytes ≤ memory_bytes
   pub apart : IsApartFrom offset (length code) place context_bytes
+
+-- The line of a task that is to start has just been taken. The task's first frame is to stand at `frame`, of so many words.
+pub record MayEnter (offset task place frame words : ℕ) (code : List InstrKind) (core : Core) : Type 0 where
+  pub taken : IsTaken offset task place code core
   pub frame_aligned : frame % 4 ≡ 0
-  pub frame_inside : frame + 4 * words ≤ 0x20_0000
+  pub frame_inside : frame + 4 * words ≤ memory_bytes
   pub frame_apart : IsApartFrom offset (length code) frame (4 * words)
 
 -- the registers that are saved: those of a task, and none of the idle loop

@@ -1,43 +1,30 @@
 -- The prologue of a task that goes on behind a wait: what was preempted is saved in a context, and the task's own is restored.
-use Rattle.std.specs.Prelude.{ℕ, ℤ, ◌+◌, ◌*◌, ◌%◌, ◌≡◌, ◌≢◌, ◌<◌, ◌≤◌, ◌⊎◌, false, true, List, [], ◌∷◌, length, slice_index}
+use Rattle.std.specs.Prelude.{ℕ, ◌+◌, ◌*◌, ◌%◌, ◌≡◌, ◌≢◌, ◌<◌, ◌≤◌, ◌⊎◌, true, List, [], length, slice_index}
 use Rattle.sloth_base.specs.Machine.{Core, State}
 use Rattle.sloth_base.specs.Status.{E_OK}
 use Rattle.code_lengths.specs.CodeLengths.{prologue_length}
-use Rattle.sloth_region.specs.Layout.{cur, active, resume, below_word, idle_context, context_bytes}
+use Rattle.sloth_region.specs.Layout.{cur, active, resume, below_word, context_bytes}
 use Rattle.rv32_instr.specs.declared.InstrKind.{InstrKind}
-use Rattle.rv32_instr.specs.declared.InstrKind.TheVariants.{Jal}
 use Rattle.rv32_instr.specs.Ram.{word_at, with_word}
-use Rattle.sloth_base.specs.Arithmetic.{plus}
-use Rattle.sloth_base.specs.MemoryMap.{memory_base}
+use Rattle.sloth_base.specs.MemoryMap.{memory_base, memory_bytes}
 use Rattle.masked_code.specs.Masked.{Masked, WithArrivals}
-use Rattle.masked_code.specs.Place.{offset_state, InPlace}
-use Rattle.masked_code.specs.Kernel.{CanRun, HoldBases, LeftAs}
-use Rattle.prologue_gen.specs.Fresh.{vector, IsApartFrom, MayEnter, Entered, with_context}
+use Rattle.masked_code.specs.Place.{offset_state}
+use Rattle.masked_code.specs.Kernel.{LeftAs}
+use Rattle.prologue_gen.specs.Fresh.{vector, IsTaken, MayEnter, Entered, with_context}
 
 -- The state in which the line of a task that is to start anew has just been taken: no context is kept for it.
 pub record MayStart (offset task place frame words : ℕ) (code : List InstrKind) (core : Core) : Type 0 where
   pub enters : MayEnter offset task place frame words code core
   pub kept_none : word_at core.ram (resume task) ≡ 0
 
--- The state in which the line of a task that is to go on has just been taken. The context of what was preempted is to stand at
--- `place`, directly below x2, and the task's own stands at `own`, apart from it.
+-- The state in which the line of a task that is to go on has just been taken: its own context stands at `own`, apart from that of what
+-- was preempted.
 pub record MayResume (offset task place own : ℕ) (code : List InstrKind) (core : Core) : Type 0 where
-  pub can_run : CanRun offset code core
-  pub masked : core.mie ≡ false
-  pub previous : core.mpie ≡ true
-  pub bases : HoldBases core.registers
-  pub jump : ℤ
-  pub vector_word : InPlace core.ram (vector task) (Jal 0 jump ∷ [])
-  pub to_code : plus (memory_base + vector task) jump ≡ memory_base + offset
-  pub x2 : slice_index core.registers 2 ≡ memory_base + (place + context_bytes)
-  pub aligned : place % 4 ≡ 0
-  pub behind : idle_context ≤ place
-  pub inside : place + context_bytes ≤ 0x20_0000
-  pub apart : IsApartFrom offset (length code) place context_bytes
+  pub taken : IsTaken offset task place code core
   pub resumes : word_at core.ram (resume task) ≡ memory_base + own
   pub own_aligned : own % 4 ≡ 0
   pub own_behind : 1024 ≤ own
-  pub own_inside : own + context_bytes ≤ 0x20_0000
+  pub own_inside : own + context_bytes ≤ memory_bytes
   pub own_apart : (own + context_bytes ≤ place) ⊎ (place + context_bytes ≤ own)
   pub returns : word_at core.ram own % 4 ≡ 0
 

@@ -1,5 +1,6 @@
 //! The parts of a prologue: what was preempted is saved, and the task starts anew.
 ghost use Rattle.std.specs.Prelude.{◌≡◌, ◌<◌, ◌≤◌, ◌++◌, OnOk};
+ghost use Rattle.sloth_base.specs.Limits.{task_limit, level_count, frame_limit};
 ghost use Rattle.prologue_gen.specs.Pieces.{context_saving_code, csr_saving_code, words_saving_code, active_marking_code, beginning_code, fresh_start_code};
 
 use block_parts::prologues::ask_preempted;
@@ -16,7 +17,7 @@ use std::alloc::AllocError;
 /// Saves the registers where a task was running, and then what the CSRs and the service words say, in the context directly below x2.
 /// The level is then this one.
 pub fn save_context(code: &mut Vec<Instr>, level: u8) -> Result<(), AllocError>
-    requires { level < 32 }
+    requires { level < level_count }
     ensures { OnOk result (code.new.items ≡ code.old.items ++ context_saving_code level) }
 {
     ask_preempted(code)?;
@@ -28,7 +29,7 @@ pub fn save_context(code: &mut Vec<Instr>, level: u8) -> Result<(), AllocError>
 
 /// What the CSRs say, by x5; the level is then this one.
 fn save_csrs(code: &mut Vec<Instr>, level: u8) -> Result<(), AllocError>
-    requires { level < 32 }
+    requires { level < level_count }
     ensures { OnOk result (code.new.items ≡ code.old.items ++ csr_saving_code level) }
 {
     let saved = [
@@ -55,7 +56,7 @@ fn save_words(code: &mut Vec<Instr>) -> Result<(), AllocError>
 
 /// The task becomes the running one and Active.
 pub fn mark_active(code: &mut Vec<Instr>, task: u32) -> Result<(), AllocError>
-    requires { task < 30 }
+    requires { task < task_limit }
     ensures { OnOk result (code.new.items ≡ code.old.items ++ active_marking_code task) }
 {
     let marked = [
@@ -88,7 +89,7 @@ pub fn start_anew(
     words: u32,
     first: u32,
 ) -> Result<(), AllocError>
-    requires { words ≤ 32 }
+    requires { words ≤ frame_limit }
     ensures { OnOk result (code.new.items ≡ code.old.items ++ fresh_start_code frame words first) }
 {
     begin(code, frame, first)?;

@@ -1,6 +1,7 @@
 //! The block of a prologue.
 ghost use Rattle.std.specs.Prelude.{◌≡◌, ◌+◌, ◌-◌, ◌<◌, ◌≤◌, ℕ, [], All, IfOk, slice_index, length};
 ghost use Rattle.sloth_base.specs.MemoryMap.{memory_base};
+ghost use Rattle.sloth_base.specs.Limits.{task_limit, level_count, frame_limit};
 ghost use Rattle.code_lengths.specs.Bodies.{IsBodyPlace};
 ghost use Rattle.code_lengths.specs.CodeLengths.{prologue_length, IsPrologueLength};
 ghost use Rattle.prologue_gen.specs.Places.{IsStackTop, EntersTask, DoesEnter, frame_at};
@@ -29,10 +30,10 @@ pub fn prologue(
     levels: &Levels,
     map: &Map,
 ) -> Result<Block, NoMemory>
-    requires exists { (task < length config.now.tasks) × (length config.now.tasks ≤ 30) }
-    requires levels { (levels.now.top < 32) × ((t : ℕ) → slice_index levels.now.task t < 32) }
+    requires exists { (task < length config.now.tasks) × (length config.now.tasks ≤ task_limit) }
+    requires levels { (levels.now.top < level_count) × ((t : ℕ) → slice_index levels.now.task t < level_count) }
     requires body { (body : ℕ) × IsBodyPlace app.now.funcs task body }
-    requires frames { All (λ func. func.frame_words ≤ 32) app.now.funcs }
+    requires frames { All (λ func. func.frame_words ≤ frame_limit) app.now.funcs }
     requires tops { (length map.now.tops ≡ length config.now.tasks) × All IsStackTop map.now.tops }
     requires items { (length app.now.funcs ≤ length map.now.places.first) × All (λ i. i < length map.now.places.items) map.now.places.first }
     ensures at { IfOk result (λ block. block.at ≡ slice_index map.now.handlers task) }
@@ -57,10 +58,10 @@ fn entry(
     levels: &Levels,
     map: &Map,
 ) -> Result<Vec<Instr>, AllocError>
-    requires exists { (task < length config.now.tasks) × (length config.now.tasks ≤ 30) }
-    requires levels { (levels.now.top < 32) × ((t : ℕ) → slice_index levels.now.task t < 32) }
+    requires exists { (task < length config.now.tasks) × (length config.now.tasks ≤ task_limit) }
+    requires levels { (levels.now.top < level_count) × ((t : ℕ) → slice_index levels.now.task t < level_count) }
     requires body { (body : ℕ) × IsBodyPlace app.now.funcs task body }
-    requires frames { All (λ func. func.frame_words ≤ 32) app.now.funcs }
+    requires frames { All (λ func. func.frame_words ≤ frame_limit) app.now.funcs }
     requires tops { (length map.now.tops ≡ length config.now.tasks) × All IsStackTop map.now.tops }
     requires items { (length app.now.funcs ≤ length map.now.places.first) × All (λ i. i < length map.now.places.items) map.now.places.first }
     ensures size { IfOk result (λ code. IsPrologueLength task config.now app.now (length code.items)) }
@@ -85,7 +86,7 @@ fn entry(
 
 /// The address of a frame of so many words that ends at an address.
 fn frame_address(top: u32, words: u32) -> u32
-    requires { IsStackTop top × (words ≤ 32) }
+    requires { IsStackTop top × (words ≤ frame_limit) }
     ensures { result ≡ memory_base + frame_at top words }
 {
     top - 4 * words
@@ -101,7 +102,7 @@ fn code_of(
     words: u32,
     first: u32,
 ) -> Result<Vec<Instr>, AllocError>
-    requires small { (task < 30) × (level < 32) × (words ≤ 32) }
+    requires small { (task < task_limit) × (level < level_count) × (words ≤ frame_limit) }
     requires in_ram { memory_base ≤ frame }
     ensures size { IfOk result (λ code. length code.items ≡ prologue_length extended words) }
     ensures enters { IfOk result (λ code. DoesEnter extended task level first (frame - memory_base) words code.items) }

@@ -1,5 +1,6 @@
 //! The parts of an extended task's prologue: where a context is kept for the task, it goes on behind its wait.
 ghost use Rattle.std.specs.Prelude.{◌≡◌, ◌<◌, ◌++◌, OnOk};
+ghost use Rattle.sloth_base.specs.Limits.{task_limit};
 ghost use Rattle.prologue_gen.specs.Pieces.{wait_answer_code, going_on_code, kept_context_test, context_taking_code};
 
 use block_parts::prologues::take_own;
@@ -15,7 +16,7 @@ const GOES_ON: u32 = 33;
 
 /// Takes up the context that is kept for an extended task; for a basic one none is kept.
 pub fn take_up(code: &mut Vec<Instr>, extended: bool, task: u32) -> Result<(), AllocError>
-    requires { task < 30 }
+    requires { task < task_limit }
     ensures { OnOk result (code.new.items ≡ code.old.items ++ context_taking_code extended task) }
 {
     if extended {
@@ -27,7 +28,7 @@ pub fn take_up(code: &mut Vec<Instr>, extended: bool, task: u32) -> Result<(), A
 
 /// x1 := the address of the task's own context; passes what takes it up where there is none.
 fn ask_kept(code: &mut Vec<Instr>, task: u32) -> Result<(), AllocError>
-    requires { task < 30 }
+    requires { task < task_limit }
     ensures { OnOk result (code.new.items ≡ code.old.items ++ kept_context_test task) }
 {
     let asked = [lw(X1, X4, resume(task)), beq(X1, ZERO, past(GOES_ON))];
@@ -36,7 +37,7 @@ fn ask_kept(code: &mut Vec<Instr>, task: u32) -> Result<(), AllocError>
 
 /// The task goes on behind its wait, as its context at x1 says.
 fn go_on(code: &mut Vec<Instr>, task: u32) -> Result<(), AllocError>
-    requires { task < 30 }
+    requires { task < task_limit }
     ensures { OnOk result (code.new.items ≡ code.old.items ++ going_on_code task) }
 {
     take_own(code, task)?;

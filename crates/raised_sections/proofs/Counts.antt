@@ -10,9 +10,10 @@ use Rattle.sloth_base.specs.declared.event.Stamped.{Stamped}
 use Rattle.sloth_base.specs.Events.{is_boot, admitted_line}
 use Rattle.osek_scheduler.specs.InTime.{is_admit}
 use Rattle.sloth_base.specs.Events.{working_task}
+use Rattle.sloth_base.specs.Limits.{item_counts}
 use Rattle.osek_blocking.specs.Blocking.{is_entry_of, events_up_to_entry}
 use Rattle.raised_sections.specs.Kept.{is_lower, lower_events, KeepsBounds}
-use Rattle.raised_sections.specs.Pace.{item_counts, event_counts, last_count, EndsSoon, IsPaced}
+use Rattle.raised_sections.specs.Pace.{event_counts, last_count, EndsSoon, IsPaced}
 use Rattle.raised_sections.specs.Spent.{spent_counts, KeepsCounts}
 
 -- events behind others keep the pace

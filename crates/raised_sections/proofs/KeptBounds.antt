@@ -20,11 +20,13 @@ use Rattle.osek_valid.proofs.Reached.{run_valid}
 use Rattle.osek_valid.proofs.Steps.{step_valid, opening_valid}
 use Rattle.sloth_base.specs.Events.{working_task}
 use Rattle.osek_blocking.specs.Blocking.{is_entry_of, events_up_to_entry, IsOfLower, IsBlockedBy}
-use Rattle.osek_blocking.proofs.Effects.{IsReady, Ordered, step_ordered, opening_ordered, leads_ordered}
+use Rattle.osek_blocking.proofs.Effects.{IsReady, Ordered}
+use Rattle.osek_blocking.proofs.Ordering.{step_ordered, opening_ordered, leads_ordered}
 use Rattle.osek_blocking.proofs.Once.{block_once}
 use Rattle.raised_sections.specs.Sections.{IsLower, IsBound, lowest, above}
 use Rattle.raised_sections.specs.Kept.{is_lower, lower_events, KeepsBounds}
-use Rattle.raised_sections.proofs.Placed.{Placed, frame_effect, step_placed, opening_placed, leads_placed}
+use Rattle.raised_sections.proofs.Placed.{Placed, step_placed, opening_placed}
+use Rattle.raised_sections.proofs.FrameEffects.{frame_effect, leads_placed}
 use Rattle.raised_sections.proofs.Sectioned.{at_most}
 
 -- ---- where the task that might block is not lower

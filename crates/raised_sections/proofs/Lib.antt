@@ -2,6 +2,7 @@ pub mod Reached
 pub mod Frames
 pub mod Stepping
 pub mod Placed
+pub mod FrameEffects
 pub mod Raised
 pub mod Window
 pub mod Sectioned

@@ -1,5 +1,5 @@
--- What each event does to where the tasks stand, and that each stands where a walk of it leads.
-use Rattle.std.proofs.Common.{◌≡◌, ℕ, ◌<◌, ◌==◌, ◌&&◌, ◌⊎◌, Bool, List, [], ◌∷◌, true, false, cond, length, None, refl, sym, ap, ◌∙◌, subst, inl, inr}
+-- What an event does to where the tasks stand, that an event of a task does this, and that each stands where a walk of it leads.
+use Rattle.std.proofs.Common.{◌≡◌, ℕ, ◌<◌, ◌==◌, ◌&&◌, ◌⊎◌, Bool, List, [], ◌∷◌, true, false, cond, length, None, refl, sym, ap, ◌∙◌, subst, inl, inr, is_some}
 use Rattle.std.specs.Prelude.{◌≢◌}
 use Rattle.std.proofs.lemmas.Bool.{cases_eq, false≢true, and_parts, eq-eqb}
 use Rattle.std.proofs.lemmas.Option.{same_Some}
@@ -8,7 +8,6 @@ use Rattle.sloth_base.specs.declared.config.Config.{Config}
 use Rattle.sloth_base.specs.declared.app.App.{App}
 use Rattle.sloth_base.specs.declared.event.Event.{Event}
 use Rattle.sloth_base.specs.declared.event.Event.TheVariants as event
-use Rattle.sloth_base.specs.declared.event.Stamped.{Stamped}
 use Rattle.sloth_base.specs.declared.service.Service.{Service}
 use Rattle.sloth_base.specs.declared.service.Service.TheVariants as service
 use Rattle.sloth_base.specs.Named.{function, declaration, body_of}
@@ -18,6 +17,7 @@ use Rattle.sloth_base.proofs.Services.{same_service}
 use Rattle.sloth_base.specs.declared.app.Op.TheVariants as op
 use Rattle.call_graph.proofs.Itself.{body_is}
 use Rattle.sloth_base.specs.Status.{E_OS_LIMIT}
+use Rattle.sloth_base.specs.Events.{named_task}
 use Rattle.osek_scheduler.specs.declared.change.TaskChange.TheVariants as change
 use Rattle.osek_scheduler.specs.declared.plan.Other.TheVariants as other
 use Rattle.osek_scheduler.specs.declared.state.TaskState.TheVariants as mode
@@ -25,15 +25,14 @@ use Rattle.osek_scheduler.specs.State.{Frame, Task, System, sleeping_task, task,
 use Rattle.osek_scheduler.specs.Services.{started_task, moved_frames, Outcome, GoesOn, Leaves}
 use Rattle.osek_scheduler.specs.Outcomes.{plan, planned_system, IfSuspended, outcome_of, status_decision, leaves, outcome}
 use Rattle.osek_scheduler.specs.Steps.{OsekStep, ServesCall, Executes}
-use Rattle.osek_scheduler.specs.Runs.{Leads}
 use Rattle.osek_valid.specs.Valid.{IsCalledFrom, IsValid}
 use Rattle.osek_valid.proofs.Facts.{Facts}
 use Rattle.osek_valid.proofs.Going.{running}
 use Rattle.osek_valid.proofs.Stacks.{has_body, in_body_alone}
-use Rattle.osek_valid.proofs.Steps.{autostarted_at, asleep_at, step_valid}
+use Rattle.osek_valid.proofs.Steps.{asleep_at}
 use Rattle.raised_sections.specs.Walks.{first_position, chains_itself, WalksOn}
 use Rattle.raised_sections.proofs.Reached.{IsReached, reached_next, reached_first}
-use Rattle.raised_sections.proofs.Frames.{SameFrames, same_frames, KeepsOthers, KeepsFrames, own, admitted_keeps, ticked_frames, Served, served_frames}
+use Rattle.raised_sections.proofs.Frames.{KeepsOthers, KeepsFrames, own, admitted_keeps, Served, served_frames}
 use Rattle.raised_sections.proofs.Stepping.{position_of, StepsOn, runs, serves}
 
 module _ (app : App) where
@@ -70,17 +69,12 @@ pub record Returns (t : ℕ) (s next : System) : Type 0 where
 
 -- what each event does to the frames
 abbrev pub FrameEffect : App → System → System → Event → Type 0
-FrameEffect app s next event.Boot = KeepsFrames s next
-FrameEffect app s next (event.Admit t) = KeepsFrames s next
 FrameEffect app s next (event.Enter t) = Begins app t s next
 FrameEffect app s next (event.Run t func item result) = Advances app t s next
 FrameEffect app s next (event.Call t served status) = Advances app t s next
 FrameEffect app s next (event.Left t served) = Departs app t s next
 FrameEffect app s next (event.Back t) = Returns t s next
-FrameEffect app s next event.Idle = KeepsFrames s next
-FrameEffect app s next event.Stray = ⊥
-FrameEffect app s next (event.Due c) = KeepsFrames s next
-FrameEffect app s next (event.Tick c) = KeepsFrames s next
+FrameEffect app s next _ = KeepsFrames s next
 
 module _ (config : Config) (app : App) (w : Facts config app) (s next : System) (v : IsValid config app s) where
   at_least : (t : ℕ) → t < length config.tasks → t < length s.tasks
@@ -182,31 +176,25 @@ module _ (config : Config) (app : App) (w : Facts config app) (s next : System) 
             differ : service.WaitEvent ≡ service.TerminateTask → ⊥
             differ k = cc
 
-  pub frame_effect : (e : Event) → OsekStep config app e s next → FrameEffect app s next e
-  frame_effect event.Boot h =
-      subst (KeepsFrames s) (sym h.1)
-      (λ u. autostarted_at (SameFrames (task s u)) config.tasks s.tasks u (same_frames (task s u)) (record { frames = refl; owed = refl; held = refl }))
-  frame_effect (event.Admit t) h = subst (KeepsFrames s) (sym h.2) (admitted_keeps s t)
-  frame_effect (event.Enter t) h = enters t h
-  frame_effect (event.Run t func item result) h = executes t func item result h.1
-  frame_effect (event.Call t served status) h = subst (Advances app t s) (sym h.1.2) (settled_advances t h.1.0 (calls t served h.1.0 status h.1.1))
+  pub task_frames : (e : Event) → OsekStep config app e s next → is_some (named_task e) ≡ true → FrameEffect app s next e
+  task_frames (event.Admit t) h named = subst (KeepsFrames s) (sym h.2) (admitted_keeps s t)
+  task_frames (event.Enter t) h named = enters t h
+  task_frames (event.Run t func item result) h named = executes t func item result h.1
+  task_frames (event.Call t served status) h named = subst (Advances app t s) (sym h.1.2) (settled_advances t h.1.0 (calls t served h.1.0 status h.1.1))
     where
       settled_advances : (t : ℕ) (after : System) → Advances app t s after → Advances app t s (record after { fresh = [] })
       settled_advances t after a = record { others = a.others; steps = a.steps }
-  frame_effect (event.Left t served) h = subst (Departs app t s) (sym h.1.2) (settled_departs t h.1.0 (quits t served h.1.0 h.1.1))
+  task_frames (event.Left t served) h named = subst (Departs app t s) (sym h.1.2) (settled_departs t h.1.0 (quits t served h.1.0 h.1.1))
     where
       settled_departs : (t : ℕ) (after : System) → Departs app t s after → Departs app t s (record after { fresh = [] })
       settled_departs t after a = record { others = a.others; gone = a.gone; frames = a.frames; held = a.held }
-  frame_effect (event.Back t) h =
+  task_frames (event.Back t) h named =
       subst (Returns t s) (sym h.4)
       (record { others = own t s new; frames = ap (λ k. k.frames) (here t new h.1.declared) })
     where
       new : Task
       new = record (task s t) { owed = false; raised = (declaration config t).non }
-  frame_effect event.Idle h = subst (KeepsFrames s) (sym h.3) (λ u. same_frames (task s u))
-  frame_effect event.Stray h = h
-  frame_effect (event.Due c) h = subst (KeepsFrames s) (sym h.2) (λ u. same_frames (task s u))
-  frame_effect (event.Tick c) h = subst (KeepsFrames s) (sym h.2) (ticked_frames config s c h.1.declared)
+  task_frames e h named = absurd (false≢true named)
 
 -- ---- each stands where a walk leads
 
@@ -234,24 +222,12 @@ module _ (config : Config) (app : App) where
   begun t old new p (inr e) = subst (IsPlaced app t) (sym e) p
 
   pub step_placed : (s next : System) (e : Event) → FrameEffect app s next e → Placed app s → Placed app next
-  step_placed s next event.Boot f p = still_placed s next p f
-  step_placed s next (event.Admit t) f p = still_placed s next p f
   step_placed s next (event.Enter t) f p = split s next t p f.others (begun t _ _ (p t) f.frames)
   step_placed s next (event.Run t func item result) f p = split s next t p f.others (stepped t _ _ (p t) f.steps.walks)
   step_placed s next (event.Call t served status) f p = split s next t p f.others (stepped t _ _ (p t) f.steps.walks)
   step_placed s next (event.Left t served) f p = split s next t p f.others (departed t _ _ (p t) f.frames)
   step_placed s next (event.Back t) f p = split s next t p f.others (subst (IsPlaced app t) (sym f.frames) (p t))
-  step_placed s next event.Idle f p = still_placed s next p f
-  step_placed s next event.Stray f p = absurd f
-  step_placed s next (event.Due c) f p = still_placed s next p f
-  step_placed s next (event.Tick c) f p = still_placed s next p f
+  step_placed s next e f p = still_placed s next p f
 
   pub opening_placed : Placed app (opening config app)
   opening_placed u = inl (ap (λ k. k.frames) (asleep_at config.tasks u))
-
-  pub leads_placed : Facts config app → (events : List Stamped) (s end : System) → Leads config app events s end → IsValid config app s → Placed app s
-      → Placed app end
-  leads_placed w [] s end is v p = subst (Placed app) (sym is) p
-  leads_placed w (e ∷ events) s end h v p =
-      leads_placed w events h.0 end h.2 (step_valid config app e.event s h.0 w h.1 v)
-      (step_placed s h.0 e.event (frame_effect config app w s h.0 v e.event h.1) p)

@@ -16,7 +16,8 @@ use Rattle.osek_scheduler.proofs.Tests.{Decides-is_active}
 use Rattle.osek_valid.specs.Apart.{static_priority, IsActive}
 use Rattle.sloth_base.specs.Events.{working_task}
 use Rattle.osek_blocking.specs.Blocking.{is_entry_of, events_up_to_entry, IsRaisedTo, FindsFresh}
-use Rattle.osek_blocking.proofs.Effects.{Effect, effect}
+use Rattle.osek_blocking.proofs.Effects.{Effect}
+use Rattle.osek_blocking.proofs.Ordering.{effect}
 use Rattle.osek_blocking.proofs.Once.{stays_out}
 use Rattle.raised_sections.specs.Walks.{Position, WalksOn, WalksOnTo, AreConsecutive, IsWalk}
 use Rattle.raised_sections.specs.Sections.{priority_at, operation_at, is_schedule, OnlyLastSchedules, IsSection, size_of_section, NoneIsLarger}
@@ -192,7 +193,6 @@ module _ {config : Config} {app : App} {h l : ℕ} (pair : LowerPair config app 
             omega (arith, f, is, le)
 
         at : is_entry_of h e.event ≡ false → Onward pair s leads.0 e events → (v : Event) → e.event ≡ v → Effect config s leads.0 v → count pair (e ∷ events) ≤ suc n
-        at c o event.Boot is f = behind c o f.settles
         at c o (event.Admit t) is f =
             subst (λ k. k ≤ suc n) (sym (uncounted pair e events c (ap (λ v. is_lower config h (working_task v)) is))) (again leads.0 end o.waits o.blocked leads.2)
         at c o (event.Enter t) is f = behind c o f.moves.acts.settles
@@ -200,11 +200,9 @@ module _ {config : Config} {app : App} {h l : ℕ} (pair : LowerPair config app 
         at c o (event.Call t served status) is f = behind c o f.moves.acts.settles
         at c o (event.Left t served) is f = behind c o f.moves.acts.settles
         at c o (event.Back t) is f = behind c o f.moves.acts.settles
-        at c o event.Idle is f = behind c o f.settles
-        at c o event.Stray is f = absurd f
         at c o (event.Due d) is f =
             subst (λ k. k ≤ suc n) (sym (uncounted pair e events c (ap (λ v. is_lower config h (working_task v)) is))) (again leads.0 end o.waits o.blocked leads.2)
-        at c o (event.Tick d) is f = behind c o f.settles
+        at c o v is f = behind c o f.settles
 
         by : (is_entry_of h e.event ≡ true) ⊎ (is_entry_of h e.event ≡ false) → count pair (e ∷ events) ≤ suc n
         by (inl c) = subst (λ k. k ≤ suc n) (sym (stops pair e events c)) (omega arith)

@@ -19,13 +19,15 @@ use Rattle.osek_valid.proofs.Facts.{Facts}
 use Rattle.osek_valid.proofs.Steps.{step_valid}
 use Rattle.sloth_base.specs.Events.{working_task}
 use Rattle.osek_blocking.specs.Blocking.{is_entry_of, events_up_to_entry, IsOfLower, IsBlockedBy}
-use Rattle.osek_blocking.proofs.Effects.{IsReady, Ordered, Effect, effect, step_ordered}
+use Rattle.osek_blocking.proofs.Effects.{IsReady, Ordered, Effect}
+use Rattle.osek_blocking.proofs.Ordering.{effect, step_ordered}
 use Rattle.osek_blocking.proofs.Once.{stays}
 use Rattle.raised_sections.specs.Sections.{IsLower}
 use Rattle.raised_sections.specs.Kept.{is_lower, lower_events}
 use Rattle.raised_sections.proofs.Frames.{SameFrames}
 use Rattle.raised_sections.proofs.Raised.{owing}
-use Rattle.raised_sections.proofs.Placed.{Placed, Advances, FrameEffect, frame_effect, step_placed}
+use Rattle.raised_sections.proofs.Placed.{Placed, Advances, FrameEffect, step_placed}
+use Rattle.raised_sections.proofs.FrameEffects.{frame_effect}
 
 -- task h, and task l of lower priority
 pub record LowerPair (config : Config) (app : App) (h l : ℕ) : Type 0 where
@@ -94,8 +96,6 @@ module _ {config : Config} {app : App} {h l : ℕ} (pair : LowerPair config app 
     view e step one = by e step one (effect config app s next x.ordered e step) (frame_effect config app pair.facts s next x.valid e step)
       where
         by : (e : Event) → OsekStep config app e s next → OfOne e → Effect config s next e → FrameEffect app s next e → View e
-        by event.Boot step one f p = keeps refl (p l) (λ a. (f.same l a).0)
-        by (event.Admit t) step one f p = keeps refl (p l) (λ a. (f.same l a).0)
         by (event.Enter t) step one f p = at (cases_eq t l)
           where
             at : (t ≡ l) ⊎ (t ≡ l → ⊥) → View (event.Enter t)
@@ -128,10 +128,7 @@ module _ {config : Config} {app : App} {h l : ℕ} (pair : LowerPair config app 
             at (inl e) =
                 absurd (not_back (subst (IsTop config s []) e f.moves.top) (subst (IsActive s) e f.was) (subst (λ v. (task s v).owed ≡ true) e step.3))
             at (inr n) = keeps refl (p.others l (λ e. n (sym e))) (λ a. (f.moves.acts.calm l (λ e. n (sym e)) a).0)
-        by event.Idle step one f p = keeps refl (p l) (λ a. (f.same l a).0)
-        by event.Stray step one f p = absurd f
-        by (event.Due c) step one f p = keeps refl (p l) (λ a. (f.same l a).0)
-        by (event.Tick c) step one f p = keeps refl (p l) (λ a. (f.same l a).0)
+        by e step one f p = keeps refl (p l) (λ a. (f.same l a).0)
 
   -- ---- what blocks, behind an event
 

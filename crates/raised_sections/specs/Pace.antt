@@ -6,11 +6,8 @@ use Rattle.sloth_base.specs.declared.event.Event.TheVariants as event
 use Rattle.sloth_base.specs.declared.event.Stamped.{Stamped}
 use Rattle.sloth_base.specs.Events.{is_boot}
 use Rattle.sloth_base.specs.Stretches.{longest_stretch}
+use Rattle.sloth_base.specs.Limits.{item_counts, unseen_counts}
 use Rattle.osek_scheduler.specs.InTime.{is_admit}
-
--- The most counts from behind an event to the end of the next one, admits left out: 40 that show no event, and a stretch of 160.
-abbrev pub item_counts : ℕ
-item_counts = 200
 
 -- an event whose stretch begins with the taking of a line
 abbrev pub takes_line : Event → Bool
@@ -20,7 +17,7 @@ takes_line _ = false
 
 -- the same of an event whose stretch begins with the taking of a line: that of the counter with the most alarms may be the longest
 abbrev pub entry_counts : Config → ℕ
-entry_counts config = 40 + longest_stretch config
+entry_counts config = unseen_counts + longest_stretch config
 
 -- the most counts from behind an event to the end of this one
 abbrev pub event_counts : Config → Event → ℕ

@@ -8,6 +8,7 @@ use Rattle.sloth_base.specs.declared.app.Op.TheVariants as op
 use Rattle.sloth_base.specs.declared.service.Service.TheVariants as service
 use Rattle.sloth_base.specs.Named.{declaration, operation}
 use Rattle.sloth_base.specs.ServiceCodes.{is_service}
+use Rattle.sloth_base.specs.Limits.{count_limit}
 use Rattle.code_rules.specs.Code.{ends_for_good}
 use Rattle.code_rules.specs.WellFormed.{held_list_before}
 use Rattle.osek_scheduler.specs.State.{sleeping_task}
@@ -100,7 +101,7 @@ HasNoBound config app h = (n : ℕ) → SomeIsLarger config app h n
 
 -- the greatest bound that is told by its number
 abbrev pub greatest_told_bound : ℕ
-greatest_told_bound = 1000000
+greatest_told_bound = count_limit
 
 -- the bound of h is above this one: some section has as many positions, and their sizes have a limit
 pub record ExceedsBound (config : Config) (app : App) (h limit : ℕ) : Type 0 where

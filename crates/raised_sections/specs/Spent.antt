@@ -7,10 +7,11 @@ use Rattle.osek_scheduler.specs.State.{System, opening}
 use Rattle.osek_scheduler.specs.InTime.{is_admit}
 use Rattle.osek_scheduler.specs.Runs.{Leads}
 use Rattle.sloth_base.specs.Events.{working_task}
+use Rattle.sloth_base.specs.Limits.{item_counts}
 use Rattle.osek_blocking.specs.Blocking.{events_up_to_entry, MakesReady}
 use Rattle.raised_sections.specs.Sections.{IsBound}
 use Rattle.raised_sections.specs.Kept.{is_lower}
-use Rattle.raised_sections.specs.Pace.{item_counts, last_count}
+use Rattle.raised_sections.specs.Pace.{last_count}
 
 -- The counts of the `run` and `call` events of tasks lower than h, and those between each of them and the event before it, admits left
 -- out: from behind the last count of that event to the event's own last count. `at` is the last count of the events before.

@@ -12,6 +12,7 @@ use Rattle.sloth_base.specs.declared.event.Event.TheVariants as event
 use Rattle.sloth_base.specs.declared.event.Stamped.{Stamped}
 use Rattle.sloth_base.specs.Events.{admitted_line, is_boot}
 use Rattle.sloth_base.specs.Stretches.{Boots, stretch_limit, longest_stretch}
+use Rattle.sloth_base.specs.Limits.{item_counts}
 use Rattle.code_rules.specs.WellFormed.{WellFormed}
 use Rattle.osek_scheduler.specs.State.{System, opening}
 use Rattle.osek_scheduler.specs.InTime.{IsOrdered, StandsBefore, is_admit}
@@ -23,15 +24,16 @@ use Rattle.osek_valid.proofs.Facts.{Facts, facts}
 use Rattle.osek_valid.proofs.Reached.{run_valid}
 use Rattle.osek_valid.proofs.Steps.{step_valid, opening_valid}
 use Rattle.osek_blocking.specs.Blocking.{is_entry_of, events_up_to_entry}
-use Rattle.osek_blocking.proofs.Effects.{step_ordered, opening_ordered, leads_ordered}
+use Rattle.osek_blocking.proofs.Ordering.{step_ordered, opening_ordered, leads_ordered}
 use Rattle.osek_blocking.proofs.Once.{block_once}
-use Rattle.raised_sections.specs.Pace.{item_counts, entry_counts, event_counts, takes_line, last_count, IsPaced}
+use Rattle.raised_sections.specs.Pace.{entry_counts, event_counts, takes_line, last_count, IsPaced}
 use Rattle.sim_induction.proofs.Events.{each_both}
 use Rattle.raised_sections.proofs.Counts.{behind_paced}
-use Rattle.raised_sections.proofs.Placed.{frame_effect, step_placed, opening_placed, leads_placed}
+use Rattle.raised_sections.proofs.Placed.{step_placed, opening_placed}
+use Rattle.raised_sections.proofs.FrameEffects.{frame_effect, leads_placed}
 use Rattle.run_bounds.proofs.PacedRun.{LastsBriefly, BeginsWithBoot, IsPacedRun}
 use Rattle.run_bounds.specs.Latency.{any_stretch, running_limit, is_tick, tick_counts, latency_with_ticks, EntersBefore, EntersInTime}
-use Rattle.run_bounds.proofs.Turns.{Awaits, is_outside}
+use Rattle.run_bounds.proofs.Awaiting.{Awaits, is_outside}
 use Rattle.run_bounds.proofs.Waiting.{waiting, IsOnTheWay, waits_at_most, on_the_way}
 
 -- ---- counts of events
@@ -193,16 +195,8 @@ begins config app e events end leads = by e.event leads.1
   where
     by : (what : Event) → OsekStep config app what (opening config app) leads.0 → is_boot what ≡ true
     by event.Boot step = refl
-    by (event.Admit t) step = absurd (false≢true step.0)
-    by (event.Enter t) step = absurd (false≢true step.0)
-    by (event.Run t func item result) step = absurd (false≢true step.0)
-    by (event.Call t served status) step = absurd (false≢true step.0)
-    by (event.Left t served) step = absurd (false≢true step.0)
-    by (event.Back t) step = absurd (false≢true step.0)
-    by event.Idle step = absurd (false≢true step.0)
-    by (event.Due c) step = absurd (false≢true step.0)
-    by (event.Tick c) step = absurd (false≢true step.0)
     by event.Stray step = absurd step
+    by e step = absurd (false≢true step.0)
 
 some_boot : (config : Config) (app : App) (before behind : List Stamped) (made : Stamped) (end : System)
     → Leads config app (before ++ made ∷ behind) (opening config app) end → BeginsWithBoot (before ++ made ∷ behind)

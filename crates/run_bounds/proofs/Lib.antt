@@ -1,5 +1,6 @@
 pub mod Continuing
 pub mod Paced
+pub mod Awaiting
 pub mod Turns
 pub mod Waiting
 pub mod Entering

@@ -21,13 +21,14 @@ use Rattle.sloth_base.specs.Events.{is_boot}
 use Rattle.sloth_base.specs.ServiceCodes.{service_of}
 use Rattle.sloth_base.specs.declared.service.Service.{Service}
 use Rattle.sloth_base.specs.Stretches.{Boots, beginning_of, later_beginning, stretch_limit, longest_stretch}
+use Rattle.sloth_base.specs.Limits.{item_counts, unseen_counts, boot_instructions}
 use Rattle.sloth_base.proofs.Stretches.{begins_later, within_longest}
 use Rattle.rv32_machine.specs.Coherent.{AreCoherent}
 use Rattle.observe.specs.Pieces.{Piece, Outside, Stretch, steps_of, IsPiece}
 use Rattle.observe.specs.Observe.{View, NO_TASK, NO_COUNTER, running_task, service_event, marked_event, unentered_event, stamp, admission, is_early, first_masked_moment, last_of, stretch_event, later_event, entry_event, stretch_events, events_of_kind, outside_events, mark_at, piece_events}
 use Rattle.sim_induction.specs.Short.{AreShort, IsShortPiece, passed_count, passed_length, HasShortGaps}
 use Rattle.sim_induction.proofs.Shown.{stretch_long}
-use Rattle.raised_sections.specs.Pace.{item_counts, entry_counts, event_counts, takes_line}
+use Rattle.raised_sections.specs.Pace.{entry_counts, event_counts, takes_line}
 use Rattle.run_bounds.proofs.PacedRun.{LastsBriefly}
 use Rattle.run_bounds.proofs.Continuing.{Continues, nothing, joined, admissions, one_event}
 
@@ -40,7 +41,7 @@ module _ (config : Config) (view : View) (arrivals : List Arrival) where
 
   -- ---- a step outside the stretches
 
-  shown_by : (k : MarkKind) (mark : Mark) (step : Step) (at before : ℕ) → step.count ≤ at + 1 + before → before ≤ 40
+  shown_by : (k : MarkKind) (mark : Mark) (step : Step) (at before : ℕ) → step.count ≤ at + 1 + before → before ≤ unseen_counts
       → Reaches at (map (stamp step.count step.count) (events_of_kind k view mark step)) (step.count + 1) (passed_count (events_of_kind k view mark step) before)
   shown_by kind.Item mark step at before near few = record {
     to = step.count;
@@ -56,7 +57,7 @@ module _ (config : Config) (view : View) (arrivals : List Arrival) where
   shown_by kind.Opening mark step at before near few = record { to = at; goes = nothing config at; near = omega (arith, near) }
   shown_by kind.Back mark step at before near few = record { to = at; goes = nothing config at; near = omega (arith, near) }
 
-  outside_shows : (m : Option Mark) (step : Step) (at before : ℕ) → step.count ≤ at + 1 + before → before ≤ 40
+  outside_shows : (m : Option Mark) (step : Step) (at before : ℕ) → step.count ≤ at + 1 + before → before ≤ unseen_counts
       → Reaches at (map (stamp step.count step.count) (outside_events m view step)) (step.count + 1) (passed_count (outside_events m view step) before)
   outside_shows (Some mark) step at before near few = shown_by mark.kind mark step at before near few
   outside_shows None step at before near few = record { to = at; goes = nothing config at; near = omega (arith, near) }
@@ -138,7 +139,7 @@ module _ (config : Config) (view : View) (arrivals : List Arrival) where
 
   -- it ends soon behind an event: one that the taking of a line begins may be longer
   ends_soon : (first : Step) (more : List Step) (at before : ℕ) → AreShort config (first ∷ more) → 0 < first.count
-      → (last_of first more).count ≡ first.count + length more → first.count ≤ at + 1 + before → before ≤ 40
+      → (last_of first more).count ≡ first.count + length more → first.count ≤ at + 1 + before → before ≤ unseen_counts
       → (last_of first more).count ≤ at + event_counts config (stretch_event view first (last_of first more))
   ends_soon first more at before short later last near few =
       subst (λ e. (last_of first more).count ≤ at + event_counts config e) (sym (later_shown first (last_of first more) later)) (by first.entered (sym (ap (stretch_limit config) (begins_later first later))))
@@ -172,7 +173,7 @@ module _ (config : Config) (view : View) (arrivals : List Arrival) where
 
   -- its event
   stretch_shows : (first : Step) (more : List Step) (at before : ℕ) → AreShort config (first ∷ more) → (last_of first more).count ≡ first.count + length more
-      → first.count ≤ at + 1 + before → before ≤ 40
+      → first.count ≤ at + 1 + before → before ≤ unseen_counts
       → Reaches at (stamp first.count (last_of first more).count (stretch_event view first (last_of first more)) ∷ []) (first.count + suc (length more)) 0
   stretch_shows first more at before short last near few = by (cases_lt 0 first.count)
     where
@@ -203,13 +204,13 @@ module _ (config : Config) (view : View) (arrivals : List Arrival) where
           let is : what ≡ event.Boot = ap (λ k. cond (k == 0) event.Boot (later_event first.entered view first (last_of first more))) z in
           let boots : is_boot what ≡ true = ap is_boot is in
           let le = short.0 in
-          let limit : stretch_limit config (beginning_of first) ≡ 400 = ap (λ k. stretch_limit config (cond (k == 0) Boots (later_beginning first.entered))) z in
+          let limit : stretch_limit config (beginning_of first) ≡ boot_instructions = ap (λ k. stretch_limit config (cond (k == 0) Boots (later_beginning first.entered))) z in
           shows (λ no. absurd (false≢true (sym no ∙ boots)))
           (subst (λ b. (last_of first more).count < first.count + cond b (stretch_limit config Boots) (longest_stretch config)) (sym boots)
           (omega (arith, le, limit, last)))
 
   stretch_reaches : (first : Step) (more : List Step) (at before : ℕ) → AreShort config (first ∷ more) → (last_of first more).count ≡ first.count + length more
-      → first.count ≤ at + 1 + before → before ≤ 40 → Reaches at (piece_events view arrivals (Stretch (first ∷ more))) (first.count + suc (length more)) 0
+      → first.count ≤ at + 1 + before → before ≤ unseen_counts → Reaches at (piece_events view arrivals (Stretch (first ∷ more))) (first.count + suc (length more)) 0
   stretch_reaches first more at before short last near few =
       let last_step = last_of first more in
       let inside = moments (first_masked_moment first) (last_step.count + 1) arrivals in
@@ -235,7 +236,7 @@ module _ (config : Config) (view : View) (arrivals : List Arrival) where
     pub enabled : Bool
     pub goes : Continues config at (flat_map (piece_events view arrivals) parts) to
     pub near : next ≤ to + 1 + passed
-    pub few : passed ≤ 40
+    pub few : passed ≤ unseen_counts
     pub behind : AreCoherent next enabled rest
     pub counted : next ≡ count + length (flat_map steps_of parts)
     pub onward : parts ≡ [] ⊎ (count < next)
@@ -262,7 +263,7 @@ module _ (config : Config) (view : View) (arrivals : List Arrival) where
       }
 
   pub paces : (parts : List Piece) (rest : List Step) (at before count : ℕ) (enabled : Bool) → AreCoherent count enabled (flat_map steps_of parts ++ rest)
-      → AllByRecursion IsPiece parts → AllByRecursion (IsShortPiece config) parts → HasShortGaps view before parts → count ≤ at + 1 + before → before ≤ 40
+      → AllByRecursion IsPiece parts → AllByRecursion (IsShortPiece config) parts → HasShortGaps view before parts → count ≤ at + 1 + before → before ≤ unseen_counts
       → Paces at parts count rest
   paces [] rest at before count enabled c each short gaps near few = record {
     to = at;

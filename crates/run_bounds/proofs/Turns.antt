@@ -1,64 +1,37 @@
--- While the task of highest priority is Ready: whose turn each event is, and what it leaves.
-use Rattle.std.proofs.Common.{◌≡◌, ℕ, ◌<◌, ◌⊎◌, ◌&&◌, [], Bool, true, false, not, cond, length, map, is_some, Some, None, refl, sym, ap, ◌∙◌, subst, arith, inl, inr}
-use Rattle.std.specs.Prelude.{◌≢◌, ◌||◌}
+-- While the task of highest priority is Ready: whose turn each event is.
+use Rattle.std.proofs.Common.{◌≡◌, ℕ, ◌<◌, ◌⊎◌, ◌&&◌, [], true, false, not, cond, length, map, Some, None, refl, sym, ap, ◌∙◌, subst, arith, inl, inr}
+use Rattle.std.specs.Prelude.{◌≢◌}
 use Rattle.std.proofs.lemmas.Bool.{cases_Bool, eqb-false, false≢true}
 use Rattle.sloth_base.specs.declared.config.Config.{Config}
 use Rattle.sloth_base.specs.declared.app.App.{App}
 use Rattle.sloth_base.specs.declared.event.Event.{Event}
 use Rattle.sloth_base.specs.declared.event.Event.TheVariants as event
 use Rattle.sloth_base.specs.Named.{declaration}
-use Rattle.sloth_base.specs.Events.{admitted_line, is_boot}
-use Rattle.osek_scheduler.specs.declared.state.TaskState.{TaskState}
+use Rattle.sloth_base.specs.Events.{is_boot}
 use Rattle.osek_scheduler.specs.declared.state.TaskState.TheVariants as mode
 use Rattle.osek_scheduler.specs.State.{System, task}
 use Rattle.osek_scheduler.specs.Priority.{greatest, ceiling, highest_priority, IsTop}
 use Rattle.osek_scheduler.specs.Steps.{OsekStep}
-use Rattle.osek_valid.specs.Valid.{InState, IsValid}
+use Rattle.osek_valid.specs.Valid.{InState}
 use Rattle.osek_valid.specs.Apart.{IsActive}
 use Rattle.osek_valid.proofs.Apart.{rank_active, rank_ready}
 use Rattle.osek_valid.proofs.Excluding.{among, excludes}
 use Rattle.osek_valid.proofs.Facts.{Facts}
-use Rattle.osek_valid.proofs.Steps.{step_valid}
 use Rattle.sloth_base.specs.Events.{working_task, is_call}
 use Rattle.osek_blocking.specs.Blocking.{is_entry_of, IsRaisedTo}
-use Rattle.osek_blocking.proofs.Effects.{IsReady, Ordered, Calls, Effect, effect, step_ordered}
-use Rattle.osek_blocking.proofs.Once.{Blocks, stays}
+use Rattle.osek_blocking.proofs.Effects.{IsReady, Calls, Effect}
+use Rattle.osek_blocking.proofs.Ordering.{effect}
+use Rattle.osek_blocking.proofs.Once.{Blocks}
 use Rattle.raised_sections.specs.Sections.{IsLower}
 use Rattle.raised_sections.proofs.Raised.{owing}
-use Rattle.raised_sections.proofs.Placed.{Placed, Advances, FrameEffect, frame_effect, step_placed}
+use Rattle.raised_sections.proofs.Placed.{Advances, FrameEffect}
+use Rattle.raised_sections.proofs.FrameEffects.{frame_effect}
 use Rattle.raised_sections.specs.Pace.{takes_line}
 use Rattle.run_bounds.specs.Latency.{IsHighest, is_tick}
-
--- the event is no task's turn: an admission, or a tick
-abbrev pub is_outside : Event → Bool
-is_outside e = is_some (admitted_line e) || is_tick e
+use Rattle.run_bounds.proofs.Awaiting.{Awaits, is_outside, clash, next_awaits, outside}
 
 module _ (config : Config) (app : App) (w : Facts config app) (h : ℕ) (declared : h < length config.tasks) (highest : IsHighest config h) where
-  pub record Awaits (s : System) : Type 0 where
-    pub valid : IsValid config app s
-    pub ordered : Ordered config s
-    pub placed : Placed app s
-    pub ready : IsReady s h
-
-  module _ (s next : System) (x : Awaits s) where
-    pub next_awaits : (e : Event) → OsekStep config app e s next → is_entry_of h e ≡ false → Awaits next
-    next_awaits e step away = record {
-      valid = step_valid config app e s next w step x.valid;
-      ordered = step_ordered config app s next x.ordered e step;
-      placed = step_placed config app s next e (frame_effect config app w s next x.valid e step) x.placed;
-      ready = stays config app h declared s next x.ready e (effect config app s next x.ordered e step) away;
-    }
-
-    clash : (m : TaskState) → m ≡ mode.Ready → (m ≡ mode.Active) ⊎ (m ≡ mode.Suspended) → ⊥
-    clash mode.Suspended a (inl b) = absurd cc
-    clash mode.Suspended a (inr b) = absurd cc
-    clash mode.Ready a (inl b) = absurd cc
-    clash mode.Ready a (inr b) = absurd cc
-    clash mode.Active a (inl b) = absurd cc
-    clash mode.Active a (inr b) = absurd cc
-    clash (mode.Waiting mask) a (inl b) = absurd cc
-    clash (mode.Waiting mask) a (inr b) = absurd cc
-
+  module _ (s next : System) (x : Awaits config app w h declared highest s) where
     -- an Active task is another one, and lower
     lower_of : (t : ℕ) → t < length config.tasks → IsActive s t → IsLower config h t
     lower_of t there active =
@@ -112,10 +85,7 @@ module _ (config : Config) (app : App) (w : Facts config app) (h : ℕ) (declare
       where
         by : (e : Event) → OsekStep config app e s next → is_entry_of h e ≡ false → Effect config s next e → FrameEffect app s next e
             → (is_boot e ≡ false) × (takes_line e ≡ is_tick e) × Turn e
-        by event.Boot step away f p = absurd (clash (task s h).state x.ready (inr (x.valid.asleep step.0 h)))
         by (event.Admit t) step away f p = (refl, refl, turn_outside refl refl)
-        by (event.Due c) step away f p = (refl, refl, turn_outside refl refl)
-        by (event.Tick c) step away f p = (refl, refl, turn_outside refl refl)
         by (event.Enter t) step away f p = absurd (no_other_entry t f.moves.top f.was away)
         by (event.Run t func item result) step away f p = (
           refl,
@@ -152,8 +122,7 @@ module _ (config : Config) (app : App) (w : Facts config app) (h : ℕ) (declare
               (record { works_not = refl; lower = lower_of t f.moves.top.declared f.was; calls = f; gone = p.gone; held = p.held }),
         )
         by (event.Back t) step away f p = absurd (no_back t f.moves.top f.was step.3)
-        by event.Idle step away f p = absurd (step.1 h declared (inl x.ready))
-        by event.Stray step away f p = absurd f
+        by e step away f p = let o = outside config app w h declared highest s next x e step refl in (o.0, o.1, turn_outside refl o.2)
 
     -- ---- tasks that are not preemptable
 
@@ -173,8 +142,8 @@ module _ (config : Config) (app : App) (w : Facts config app) (h : ℕ) (declare
         → (declaration config t).non ≡ true
     leaves_non e t step away l b = by (cases_Bool (declaration config t).non)
       where
-        after : Awaits next
-        after = next_awaits e step away
+        after : Awaits config app w h declared highest next
+        after = next_awaits config app w h declared highest s next x e step away
 
         none : (task s t).held ≡ []
         none = sym l.held ∙ (excludes config app next after.valid after.ordered.apart).idle_holds_none t l.lower.0 l.gone

@@ -16,7 +16,7 @@ use Rattle.osek_valid.specs.Apart.{static_priority, priority_of, IsActive}
 use Rattle.osek_valid.proofs.Facts.{Facts}
 use Rattle.sloth_base.specs.Events.{working_task}
 use Rattle.osek_blocking.specs.Blocking.{is_entry_of, events_up_to_entry, IsRaisedTo, FindsFresh, IsBlockedBy}
-use Rattle.osek_blocking.proofs.Effects.{effect}
+use Rattle.osek_blocking.proofs.Ordering.{effect}
 use Rattle.osek_blocking.proofs.Once.{Blocks, BlocksAlone, blocker, at_top, old, at_work, called, stays_out}
 use Rattle.raised_sections.specs.Sections.{IsLower, IsBound, lowest, above, NoneIsLarger}
 use Rattle.raised_sections.specs.Kept.{is_lower, lower_events}
@@ -24,7 +24,8 @@ use Rattle.raised_sections.proofs.Window.{LowerPair, Waits, blocked_next}
 use Rattle.raised_sections.proofs.Sectioned.{Found, in_front, found_all, within}
 use Rattle.raised_sections.specs.Pace.{takes_line}
 use Rattle.run_bounds.specs.Latency.{IsHighest, is_tick}
-use Rattle.run_bounds.proofs.Turns.{Awaits, is_outside, next_awaits, Working, Leaving, Turn, turn_outside, turn_work, turn_leave, turn, raised_non, leaves_non}
+use Rattle.run_bounds.proofs.Turns.{Working, Leaving, Turn, turn_outside, turn_work, turn_leave, turn, raised_non, leaves_non}
+use Rattle.run_bounds.proofs.Awaiting.{Awaits, is_outside, next_awaits}
 
 -- how many of these events are a task's turn
 abbrev pub waiting : List Stamped → ℕ

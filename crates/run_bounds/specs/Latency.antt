@@ -7,13 +7,14 @@ use Rattle.sloth_base.specs.declared.event.Event.TheVariants as event
 use Rattle.sloth_base.specs.declared.event.Stamped.{Stamped}
 use Rattle.sloth_base.specs.Events.{is_boot}
 use Rattle.sloth_base.specs.Stretches.{Boots, stretch_limit, longest_stretch}
+use Rattle.sloth_base.specs.Limits.{item_counts}
 use Rattle.osek_scheduler.specs.State.{System, opening}
 use Rattle.osek_scheduler.specs.InTime.{is_admit}
 use Rattle.osek_scheduler.specs.Runs.{Leads}
 use Rattle.osek_valid.specs.Apart.{static_priority}
 use Rattle.osek_blocking.specs.Blocking.{is_entry_of, events_up_to_entry, MakesReady}
 use Rattle.raised_sections.specs.Sections.{IsBound}
-use Rattle.raised_sections.specs.Pace.{item_counts, entry_counts}
+use Rattle.raised_sections.specs.Pace.{entry_counts}
 
 -- every other task of the configuration is of lower static priority
 abbrev pub IsHighest : Config → (h : ℕ) → Type 0

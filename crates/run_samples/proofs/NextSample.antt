@@ -7,6 +7,7 @@ use Rattle.sloth_base.specs.declared.image.Image.{Image}
 use Rattle.sloth_base.specs.declared.step.Step.{Step}
 use Rattle.sloth_base.specs.Machine.{State}
 use Rattle.sloth_base.specs.Take.{execution_state}
+use Rattle.sloth_base.specs.Limits.{task_limit}
 use Rattle.rv32_machine.specs.Start.{start}
 use Rattle.rv32_machine.specs.Advance.{Goes, Halts}
 use Rattle.rv32_machine.proofs.Runs.{stop_halts}
@@ -68,7 +69,7 @@ module _ (s : Sampler) (a c : Runner) (seen last : Option Seen) (interrupts : In
     seen = last-seen;
     step = step;
     behind = sloth_state q.machine;
-    goes = moment-is s.runner c (Goes step (sloth_state q.machine)) h.sampling.ran.executed looked executed.goes;
+    goes = moment-is s.runner c (Goes step (sloth_state q.machine)) looked executed.goes;
     taken = refl;
     interrupts = h.interrupts_is ∙ ap (λ (i : Image). interrupts_in i (sloth_state a.machine)) h.image_is ∙ ap (interrupts_in image) h.arrives.state;
   }
@@ -83,7 +84,7 @@ module _ (s : Sampler) (a c : Runner) (seen last : Option Seen) (interrupts : In
       let count : count_of q ≡ k + 1 = executed.count ∙ ap (λ n. n + 1) looked.count in
       let R : Image → Type 0 = λ i. HasRun q i (count_of q) in
       let N : ℕ → Type 0 = λ n. HasRun q image n in
-      let F : Image → Type 0 = λ i. length i.tasks ≤ 30 in
+      let F : Image → Type 0 = λ i. length i.tasks ≤ task_limit in
       let L : ℕ → Type 0 = λ n. IsLast image A n last in
       let B : List Arrival → Type 0 = λ xs. IsLast image xs (count_of q) last in
       let I : Image → Type 0 = λ i. IsLast i (given_arrivals q) (count_of q) last in
@@ -96,6 +97,6 @@ module _ (s : Sampler) (a c : Runner) (seen last : Option Seen) (interrupts : In
   -- where the machine stops at the instruction
   pub stops-there : (halt : Halt) → HaltsAt c halt → StopsAt image A k halt
   stops-there halt halts n below =
-      let stopped = moment-is s.runner c (Halts halt.stop) h.sampling.ran.executed looked halts.halts in
+      let stopped = moment-is s.runner c (Halts halt.stop) looked halts.halts in
       let pc = halts.pc ∙ ap (λ (x : State). (execution_state x).pc) looked.state in
       ap end_of (stop_halts n k A (start image) m halt.stop below h.sampling.ran.after stopped) ∙ ap (λ p. ends.Stopped p halt.stop) (sym pc)

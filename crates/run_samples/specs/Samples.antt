@@ -7,6 +7,7 @@ use Rattle.rv32_machine.specs.Start.{start}
 use Rattle.rv32_machine.specs.Advance.{Goes}
 use Rattle.rv32_machine.specs.Run.{state_with_arrivals, moment, state_after}
 use Rattle.sloth_base.specs.declared.step.Step.{Step}
+use Rattle.sloth_base.specs.Limits.{task_limit}
 use Rattle.sloth_runner.specs.Runner.{HasRun, image_of, given_arrivals, count_of, run_end}
 use Rattle.sloth_runner.specs.Sight.{IsLast, interrupts_in, task_levels}
 use Rattle.sloth_runner.specs.declared.runner.Halt.{Halt}
@@ -58,5 +59,5 @@ sampled_count sampler = count_of sampler.runner
 -- it stands between two samples, and knows what was seen last of the tasks
 pub record IsSampling (sampler : Sampler) : Type 0 where
   pub ran : HasRun sampler.runner (sampled_image sampler) (sampled_count sampler)
-  pub few_tasks : length (sampled_image sampler).tasks ≤ 30
+  pub few_tasks : length (sampled_image sampler).tasks ≤ task_limit
   pub last : IsLast (sampled_image sampler) (sampled_arrivals sampler) (sampled_count sampler) sampler.last

@@ -3,13 +3,14 @@ ghost use Rattle.std.specs.Prelude.{◌≡◌, ◌<◌, ◌+◌, OnOk, IfOk, IfE
 ghost use Rattle.sloth_base.specs.ImageRange.{InFormat};
 ghost use Rattle.sloth_base.specs.Arrivals.{AreArrivals};
 ghost use Rattle.sloth_base.specs.Owners.{owners_named};
+ghost use Rattle.sloth_base.specs.Limits.{count_limit};
 ghost use Rattle.run_samples.specs.Samples.{AreSampledLevels, IsSample, IsSampling, StopsAt, sampled_image, sampled_arrivals, sampled_count};
 
 use sloth_base::event::Arrival;
 use sloth_base::image::Image;
+use sloth_base::limits::TASK_LIMIT;
 use sloth_base::memory::NoMemory;
 use sloth_base::numbers::Line;
-use sloth_inspect::TASKS;
 use sloth_runner::runner::{Halt, Runner};
 use sloth_runner::sight::{Interrupts, Seen};
 use std::alloc::Global;
@@ -51,7 +52,7 @@ impl<'a> Sampler<'a> {
 
     /// The sample of the next count, whose instruction is then executed, unless the machine stops at it.
     pub fn next(&mut self) -> Result<Sample, Halt>
-        requires few { sampled_count self.old < 1000000 }
+        requires few { sampled_count self.old < count_limit }
         requires sampling { IsSampling self.old }
         ensures sample { IfOk result (IsSample (sampled_image self.old) (sampled_arrivals self.old) (sampled_count self.old)) }
         ensures stops { IfErr result (StopsAt (sampled_image self.old) (sampled_arrivals self.old) (sampled_count self.old)) }
@@ -74,7 +75,7 @@ impl<'a> Sampler<'a> {
     }
 
     /// The levels of the lines of the image's tasks, in 30 places.
-    pub fn levels(&mut self) -> [u8; TASKS]
+    pub fn levels(&mut self) -> [u8; TASK_LIMIT]
         requires sampling { IsSampling self.old }
         ensures levels { AreSampledLevels (sampled_image self.old) (sampled_arrivals self.old) (sampled_count self.old) result }
         ensures same { self.new ≡ self.old }

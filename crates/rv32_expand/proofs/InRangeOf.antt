@@ -8,11 +8,12 @@ use Rattle.sloth_base.specs.declared.app.App.{App}
 use Rattle.sloth_base.specs.declared.app.Func.{Func}
 use Rattle.sloth_base.specs.declared.app.Label.{Label}
 use Rattle.sloth_base.specs.Named.{label_of, no_label}
+use Rattle.sloth_base.specs.Limits.{frame_limit}
 use Rattle.code_rules.specs.AppRange.{IsTaskCode}
 use Rattle.expansion_parts.specs.Passes.{IsSmall}
 
 -- a frame has at most 32 words
-pub frame_of : (app : App) → IsTaskCode app → (func : ℕ) → (function app func).frame_words ≤ 32
+pub frame_of : (app : App) → IsTaskCode app → (func : ℕ) → (function app func).frame_words ≤ frame_limit
 frame_of app code func =
     ⊎_elim
     (λ (h : func < length app.funcs). let b = code.1.bodies func no_function h in b.frame)

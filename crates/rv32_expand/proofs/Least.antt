@@ -1,36 +1,16 @@
 -- The least set is one, and so are the lengths that it gives.
-use Rattle.std.proofs.Common.{◌≡◌, ◌∙◌, ℕ, suc, ◌+◌, ◌-◌, ◌<◌, ◌≤◌, ⊎_elim, List, [], ◌∷◌, length, get_or, sym, ap, arith}
+use Rattle.std.proofs.Common.{◌≡◌, ◌∙◌, ℕ, ◌<◌, length, get_or, sym, ap, arith}
 use Rattle.std.proofs.lemmas.List.{ext_get_or}
-use Rattle.std.proofs.lemmas.Bool.{cases_lt}
 use Rattle.std.specs.Cmp.{both_ways}
 use Rattle.sloth_base.specs.Named.{function, no_function}
-use Rattle.sloth_base.specs.declared.app.Func.{Func}
 use Rattle.rv32_expand.specs.InPlace.{IsItem}
 use Rattle.rv32_expand.specs.ItemLengths.{LeastIsOne, SizesAreOne}
-use Rattle.rv32_expand.specs.Sizes.{items_before}
 use Rattle.rv32_expand.proofs.Agreeing.{size_same}
+use Rattle.rv32_expand.proofs.Locating.{locate}
 
 -- two least sets have the same branches
 pub least_is_one : LeastIsOne
 least_is_one app body a b p q index target g = both_ways (a index) (b index) (p.least b q.suffices index target g) (q.least a p.suffices index target g)
-
--- where the length with a number stands
-record IsAt (bodies : List Func) (k : ℕ) (d : Func) : Type 0 where
-  func : ℕ
-  index : ℕ
-  declared : func < length bodies
-  inside : index < length (get_or bodies func d).items
-  is : k ≡ items_before bodies func + index
-
-locate : (bodies : List Func) (k : ℕ) (d : Func) → k < items_before bodies (length bodies) → IsAt bodies k d
-locate [] k d h = absurd (omega (arith, h))
-locate (body ∷ bodies) k d h =
-    ⊎_elim
-    (λ (l : k < length body.items). record { func = 0; index = k; declared = omega arith; inside = l; is = omega arith })
-    (λ (l : length body.items ≤ k). let r = locate bodies (k - length body.items) d (omega (arith, h)) in
-    let e = r.is in let n = r.declared in
-    record { func = suc r.func; index = r.index; declared = omega arith; inside = r.inside; is = omega (arith, e) })
-    (cases_lt k (length body.items))
 
 -- and so task code has one list of lengths
 pub sizes_are_one : SizesAreOne

@@ -4,5 +4,6 @@ pub mod Filling
 pub mod Encodable
 pub mod Agreeing
 pub mod Verified
+pub mod Locating
 pub mod Least
 pub mod Committing

@@ -20,6 +20,7 @@ use Rattle.code_rules.specs.WellFormed.{AccessesPast, MasksPast, WellFormed, Bre
 use Rattle.rv32_instr.specs.Range.{IsEven}
 use Rattle.expansion_parts.specs.Expansion.{item_address, symbol_address, block_address, label_address, distance, mask_of, is_long, operation_code, expansion}
 use Rattle.sloth_base.specs.Named.{operation}
+use Rattle.sloth_base.specs.Limits.{mask_limit, frame_limit}
 use Rattle.rv32_expand.specs.Fits.{HasBranchRoom, Fits}
 use Rattle.rv32_expand.specs.InPlace.{IsItem}
 use Rattle.expansion_parts.specs.Long.{target_of, IsBranchTo, AreLongBranches, BranchReaches}
@@ -110,13 +111,13 @@ module _ (config : Config) (app : App) (well : WellFormed config app) (func inde
   }
 
   -- a word of the frame
-  in_frame : (word : ℕ) → (body.frame_words ≤ word → ⊥) → word < 32
+  in_frame : (word : ℕ) → (body.frame_words ≤ word → ⊥) → word < frame_limit
   in_frame word n =
       let f = frame_of app (config, well.in_range) func in
       ⊎_elim (λ (h : word < body.frame_words). omega arith) (λ h. absurd (n h)) (cases_lt word body.frame_words)
 
-  mask_small : (mask : ℕ) (P : Type 0) → ((32767 < mask) ⊎ P → ⊥) → mask ≤ 32767
-  mask_small mask P n = ⊎_elim (λ (h : 32767 < mask). absurd (n (inl h))) (λ h. h) (cases_lt 32767 mask)
+  mask_small : (mask : ℕ) (P : Type 0) → ((mask_limit < mask) ⊎ P → ⊥) → mask ≤ mask_limit
+  mask_small mask P n = ⊎_elim (λ (h : mask_limit < mask). absurd (n (inl h))) (λ h. h) (cases_lt mask_limit mask)
 
 -- a body has a first item
 pub has_first : (config : Config) (app : App) → WellFormed config app → (func : ℕ) → func < length app.funcs → IsItem app func 0

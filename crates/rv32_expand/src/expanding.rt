@@ -2,6 +2,7 @@
 ghost use Rattle.std.specs.Prelude.{◌≡◌, ◌+◌, ◌<◌, ◌^◌};
 ghost use Rattle.sloth_base.specs.Named.{function};
 ghost use Rattle.sloth_base.specs.Named.{item_of};
+ghost use Rattle.sloth_base.specs.Limits.{item_limit};
 ghost use Rattle.rv32_expand.specs.Code.{IsCode};
 ghost use Rattle.expansion_parts.specs.Expansion.{item_address, is_long, expansion};
 ghost use Rattle.rv32_expand.specs.InPlace.{IsItem};
@@ -16,7 +17,7 @@ use sloth_base::places::Places;
 /// Whether a branch is long: there is room for more than one instruction.
 fn is_long(places: &Places, func: u32, index: u32) -> bool
     requires place { item_address places.now func index + 4 < 2 ^ 32 }
-    requires few { index < 4096 }
+    requires few { index < item_limit }
     ensures { result ≡ is_long places.now func index }
 {
     item_address(places, func, index) + 4 < item_address(places, func, index + 1)

@@ -1,5 +1,9 @@
-//! The instructions of each item of task code and how long they are (as `expansion_parts` defines them), and what it is for the items to stand
-//! in an image, each with its mark on its last instruction (`specs/InPlace`).
+//! The instructions of each item of task code and how long they are (as `expansion_parts` defines them), and what it is for the items to stand in an
+//! image, each with its mark on its last instruction (`specs/InPlace`).
+//!
+//! The instructions of each item, the length of each with the least set of long branches, their number, range and place, and the last one (`expand`,
+//! `length`, `sizes`, `laws`; `specs/ItemLengths`, `specs/Sizes`, `specs/Code`, `specs/Fits`). What an item expands to: `expansion_parts`
+//! (`Expansion`, `Long`); well-formed: `code_rules` (`WellFormed`).
 #![tactic(auto)]
 
 pub mod addresses;

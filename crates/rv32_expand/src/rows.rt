@@ -1,6 +1,7 @@
 //! The instructions of each operation.
 ghost use Rattle.std.specs.Prelude.{◌≡◌, ◌≤◌, ◌<◌, ◌+◌, ◌*◌, ◌^◌, ◌++◌, ◌∷◌, [], length, pos};
 ghost use Rattle.sloth_base.specs.Arithmetic.{hi};
+ghost use Rattle.sloth_base.specs.Limits.{frame_limit};
 ghost use Rattle.data_far.specs.Wide.{wide, IsWide};
 ghost use Rattle.rv32_instr.specs.Range.{IsSigned};
 ghost use Rattle.rv32_instr.specs.declared.InstrKind.TheVariants.{Lui, Addi, Lw, Jalr};
@@ -74,7 +75,7 @@ fn branch(long: bool, kind: BranchKind, a: Reg, b: Reg, at: u32, target: u32) ->
 
 /// The way back from a function with so many words of frame.
 fn way_back(words: u32) -> Draft
-    requires { words ≤ 32 }
+    requires { words ≤ frame_limit }
     ensures { result ≡ Lw 31 2 (pos (4 * words)) ∷ Addi 2 2 (pos (4 + 4 * words)) ∷ Jalr 0 31 (pos 12) ∷ [] }
 {
     Draft::of(&[

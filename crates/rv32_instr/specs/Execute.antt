@@ -17,6 +17,7 @@ use Rattle.rv32_instr.specs.Ram.{word_at}
 use Rattle.rv32_instr.specs.Memory.{memory_of, with_memory, in_ram, refusal, loaded_number, stored_memory}
 use Rattle.rv32_instr.specs.Effect.{effect}
 use Rattle.sloth_base.specs.Arithmetic.{sum32}
+use Rattle.sloth_base.specs.MemoryMap.{memory_base, controller_base, line_count}
 
 -- the state after an instruction, or why there is none
 pub data Next : Type 0 where
@@ -102,7 +103,7 @@ execute kind pc core = perform (effect kind pc core.registers) (Encode kind) pc 
 
 -- the word that pc points to
 abbrev pub word_at_pc : State → ℕ
-word_at_pc state = word_at state.core.ram (state.pc - 0x8000_0000)
+word_at_pc state = word_at state.core.ram (state.pc - memory_base)
 
 -- a word that is an instruction, or that is none
 abbrev pub execute_word : Option InstrKind → ℕ → State → Next
@@ -118,7 +119,7 @@ step state =
 -- the line that a controller address is the pending byte of
 abbrev pub pending_line : ℕ → Option ℕ
 pending_line address =
-    if nat_le 0x1000_0000 address && nat_lt address 0x1000_0020 then Some (address - 0x1000_0000) else None
+    if nat_le controller_base address && nat_lt address (controller_base + line_count) then Some (address - controller_base) else None
 
 -- the line whose pending byte an effect loads, or sets to zero by a store
 unfoldable pub touched_line_by : Effect → Option ℕ

@@ -7,6 +7,7 @@ use Rattle.sloth_base.specs.Lines.{Lines, lines_of, controller_byte, with_contro
 use Rattle.rv32_instr.specs.declared.stop.Bad.{Bad}
 use Rattle.rv32_instr.specs.declared.stop.Bad.TheVariants as bad
 use Rattle.sloth_base.specs.Arithmetic.{sign_extension, size_of}
+use Rattle.sloth_base.specs.MemoryMap.{memory_base, memory_end, controller_base, controller_bytes}
 use Rattle.rv32_instr.specs.Ram.{half_at, word_at, with_byte, with_half, with_word}
 
 -- what an access sees
@@ -32,11 +33,11 @@ with_memory core memory = record core {
 
 -- so many bytes from an address on are in RAM
 abbrev pub in_ram : ℕ → ℕ → Bool
-in_ram address size = nat_le 0x8000_0000 address && nat_le (address + size) 0x8020_0000
+in_ram address size = nat_le memory_base address && nat_le (address + size) memory_end
 
 -- an address is one of the controller's bytes
 abbrev pub in_controller : ℕ → Bool
-in_controller address = nat_le 0x1000_0000 address && nat_lt address 0x1000_0060
+in_controller address = nat_le controller_base address && nat_lt address (controller_base + controller_bytes)
 
 -- why an access is refused; the controller has byte accesses alone
 unfoldable pub refusal : Memory → ℕ → Width → Option Bad
@@ -50,30 +51,30 @@ refusal memory address width =
 -- what a load gives, which Byte and Half extend by the sign
 abbrev pub loaded_byte : Memory → ℕ → ℕ
 loaded_byte memory address =
-    if in_ram address 1 then slice_index memory.ram (address - 0x8000_0000)
-    else controller_byte memory.lines (address - 0x1000_0000)
+    if in_ram address 1 then slice_index memory.ram (address - memory_base)
+    else controller_byte memory.lines (address - controller_base)
 
 -- the word that a load of this width gives
 unfoldable pub loaded_number : Memory → ℕ → Width → ℕ
 loaded_number memory address width.Byte = sign_extension 8 (loaded_byte memory address)
-loaded_number memory address width.Half = sign_extension 16 (half_at memory.ram (address - 0x8000_0000))
-loaded_number memory address width.Word = word_at memory.ram (address - 0x8000_0000)
+loaded_number memory address width.Half = sign_extension 16 (half_at memory.ram (address - memory_base))
+loaded_number memory address width.Word = word_at memory.ram (address - memory_base)
 loaded_number memory address width.ByteU = loaded_byte memory address
-loaded_number memory address width.HalfU = half_at memory.ram (address - 0x8000_0000)
+loaded_number memory address width.HalfU = half_at memory.ram (address - memory_base)
 
 -- the memory after a store of the value's low bytes
 abbrev pub stored_byte : Memory → ℕ → ℕ → Memory
 stored_byte memory address value =
-    if in_ram address 1 then record memory { ram = with_byte memory.ram (address - 0x8000_0000) value }
-    else record memory { lines = with_controller_byte memory.lines (address - 0x1000_0000) (value % 256) }
+    if in_ram address 1 then record memory { ram = with_byte memory.ram (address - memory_base) value }
+    else record memory { lines = with_controller_byte memory.lines (address - controller_base) (value % 256) }
 
 -- the memory after a store of this width
 unfoldable pub stored_memory : Memory → ℕ → Width → ℕ → Memory
 stored_memory memory address width.Byte value = stored_byte memory address value
 stored_memory memory address width.Half value =
-    record memory { ram = with_half memory.ram (address - 0x8000_0000) value }
+    record memory { ram = with_half memory.ram (address - memory_base) value }
 stored_memory memory address width.Word value =
-    record memory { ram = with_word memory.ram (address - 0x8000_0000) value }
+    record memory { ram = with_word memory.ram (address - memory_base) value }
 stored_memory memory address width.ByteU value = stored_byte memory address value
 stored_memory memory address width.HalfU value =
-    record memory { ram = with_half memory.ram (address - 0x8000_0000) value }
+    record memory { ram = with_half memory.ram (address - memory_base) value }

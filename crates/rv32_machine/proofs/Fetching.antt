@@ -3,6 +3,7 @@ use Rattle.std.proofs.Common.{◌≡◌, ℕ, ◌-◌, ◌%◌, refl, ap, sym, �
 use Rattle.std.proofs.lemmas.Bool.Decides.{nat_tests}
 use Rattle.sloth_base.specs.Machine.{State}
 use Rattle.sloth_base.specs.declared.app.Width.TheVariants as width
+use Rattle.sloth_base.specs.MemoryMap.{memory_base}
 use Rattle.rv32_instr.specs.declared.stop.Bad.{Bad}
 use Rattle.rv32_instr.specs.declared.stop.Stop.TheVariants as stop
 use Rattle.rv32_instr.specs.declared.InstrKind.{InstrKind}
@@ -24,7 +25,7 @@ pub fetch_refused
 unfolding refusal
 fetch_refused memory pc reason h e = grind (arith, nat_tests)
 
-pub fetched_word : (memory : Memory) (pc : ℕ) → loaded_number memory pc width.Word ≡ word_at memory.ram (pc - 0x8000_0000)
+pub fetched_word : (memory : Memory) (pc : ℕ) → loaded_number memory pc width.Word ≡ word_at memory.ram (pc - memory_base)
 unfolding loaded_number
 fetched_word memory pc = refl
 

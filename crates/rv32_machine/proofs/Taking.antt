@@ -4,6 +4,7 @@ use Rattle.sloth_base.specs.declared.app.Width.TheVariants as width
 use Rattle.std.proofs.lemmas.Bool.Decides.{nat_tests}
 use Rattle.sloth_base.specs.Lines.{controller_byte, with_controller_byte}
 use Rattle.sloth_base.specs.Take.{take}
+use Rattle.sloth_base.specs.MemoryMap.{memory_base, controller_base, levels_offset, line_count}
 use Rattle.rv32_machine.specs.declared.machine.Hart.{Hart}
 use Rattle.rv32_machine.specs.State.{state_of, pending_memory}
 use Rattle.rv32_instr.specs.Ram.{word_at}
@@ -17,32 +18,32 @@ put_back (byte ∷ bytes) (suc place) h = ap (λ bs. byte ∷ bs) (put_back byte
 
 -- the level byte of a line
 pub level_loads
-    : (memory : Memory) (line n : ℕ) → n ≡ line → line < 32 → memory.controller ≡ true
-    → refusal memory (0x1000_0040 + n) width.ByteU ≡ None
+    : (memory : Memory) (line n : ℕ) → n ≡ line → line < line_count → memory.controller ≡ true
+    → refusal memory (controller_base + levels_offset + n) width.ByteU ≡ None
 unfolding refusal
 level_loads memory line n e h t = grind (arith, nat_tests)
 
 pub level_loaded
-    : (memory : Memory) (line n : ℕ) → n ≡ line → line < 32
-    → loaded_number memory (0x1000_0040 + n) width.ByteU ≡ slice_index memory.lines.levels line
+    : (memory : Memory) (line n : ℕ) → n ≡ line → line < line_count
+    → loaded_number memory (controller_base + levels_offset + n) width.ByteU ≡ slice_index memory.lines.levels line
 unfolding loaded_number controller_byte
 level_loaded memory line n e h =
-    let f : 0x1000_0040 + n - 0x1000_0000 - 64 ≡ line = omega arith in
+    let f : controller_base + levels_offset + n - controller_base - 64 ≡ line = omega arith in
     grind (arith, nat_tests)
 
 -- the pending byte of a line, set
 pub pending_stores
-    : (memory : Memory) (line n : ℕ) → n ≡ line → line < 32 → memory.controller ≡ true
-    → refusal memory (0x1000_0000 + n) width.Byte ≡ None
+    : (memory : Memory) (line n : ℕ) → n ≡ line → line < line_count → memory.controller ≡ true
+    → refusal memory (controller_base + n) width.Byte ≡ None
 unfolding refusal
 pending_stores memory line n e h t = grind (arith, nat_tests)
 
 pub pending_stored
-    : (memory : Memory) (line n : ℕ) → n ≡ line → line < 32
-    → stored_memory memory (0x1000_0000 + n) width.Byte 1 ≡ pending_memory line memory
+    : (memory : Memory) (line n : ℕ) → n ≡ line → line < line_count
+    → stored_memory memory (controller_base + n) width.Byte 1 ≡ pending_memory line memory
 unfolding stored_memory with_controller_byte
 pending_stored memory line n e h =
-    let f : 0x1000_0000 + n - 0x1000_0000 ≡ line = omega arith in
+    let f : controller_base + n - controller_base ≡ line = omega arith in
     grind (arith, nat_tests)
 
 -- what an entry took is given back
@@ -55,10 +56,10 @@ restored before hart old new line e p =
     ∙ ap (λ b. state_of before (record old { lines = record old.lines { pending = b } })) (put_back old.lines.pending line p)
 
 -- the word at 0x80000000 may always be loaded
-pub cur_loads : (memory : Memory) → refusal memory 0x8000_0000 width.Word ≡ None
+pub cur_loads : (memory : Memory) → refusal memory memory_base width.Word ≡ None
 unfolding refusal
 cur_loads memory = refl
 
-pub cur_loaded : (memory : Memory) → loaded_number memory 0x8000_0000 width.Word ≡ word_at memory.ram 0
+pub cur_loaded : (memory : Memory) → loaded_number memory memory_base width.Word ≡ word_at memory.ram 0
 unfolding loaded_number
 cur_loaded memory = refl

@@ -2,6 +2,7 @@
 use Rattle.std.specs.Prelude.{replicate, false}
 use Rattle.sloth_base.specs.declared.image.Image.{Image}
 use Rattle.sloth_base.specs.Machine.{State}
+use Rattle.sloth_base.specs.MemoryMap.{boot_base}
 use Rattle.irq_ctrl.specs.Fresh.{fresh_lines}
 use Rattle.rv32_instr.specs.Memory.{Memory}
 use Rattle.machine_memory.specs.Fresh.{ram_of}
@@ -14,7 +15,7 @@ flat_start image = record { ram = ram_of image.memory; lines = fresh_lines; cont
 -- the hart over a memory
 abbrev pub start_over : Memory → State
 start_over memory = record {
-  pc = 0x8000_0480;
+  pc = boot_base;
   core = record {
     registers = replicate 32 0;
     mie = false;

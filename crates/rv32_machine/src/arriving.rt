@@ -2,8 +2,9 @@
 ghost use Rattle.std.specs.Prelude.{◌≡◌, ◌<◌, [], ◌∷◌, IfOk};
 ghost use Rattle.sloth_base.specs.Arrive.{state_arrive};
 ghost use Rattle.sloth_base.specs.ImageRange.{InFormat};
+ghost use Rattle.sloth_base.specs.MemoryMap.{line_count};
 
-use crate::machine::{Hart, Machine};
+use crate::machine::Machine;
 use machine_memory::SlothBus;
 use sloth_base::image::Image;
 use sloth_base::memory::NoMemory;
@@ -20,26 +21,12 @@ impl Machine<SlothBus> {
         ensures state { IfOk result (λ machine. state (λ bus. bus) machine ≡ start image.now) }
         ensures count { IfOk result (λ machine. machine.count ≡ 0) }
     {
-        let bus = SlothBus::new(alloc, image)?;
-        Ok(Machine {
-            hart: Hart {
-                pc: 0x8000_0480,
-                registers: [0; 32],
-                mie: false,
-                mpie: false,
-                mscratch: 0,
-                mepc: 0,
-                ilevel: 0,
-                plevel: 0,
-            },
-            count: 0,
-            bus,
-        })
+        Ok(Machine::new(SlothBus::new(alloc, image)?))
     }
 
     /// The line's pending byte becomes 1.
     pub fn arrive(&mut self, line: Line)
-        requires { line < 32 }
+        requires { line < line_count }
         ensures state { state (λ bus. bus) self.new ≡ state_arrive (line ∷ []) (state (λ bus. bus) self.old) }
         ensures count { self.new.count ≡ self.old.count }
     {

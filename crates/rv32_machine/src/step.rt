@@ -2,6 +2,8 @@
 ghost use Rattle.std.specs.Prelude.{◌≡◌, ◌<◌, ◌+◌, ◌%◌, OnOk, OnErr, IfOk, IfErr, true, false, slice_index};
 ghost use Rattle.std.specs.Option.{ForSome};
 ghost use Rattle.sloth_base.specs.Take.{take, entry_state, execution_state, line_to_take};
+ghost use Rattle.sloth_base.specs.Limits.{count_limit};
+ghost use Rattle.sloth_base.specs.MemoryMap.{line_count};
 ghost use Rattle.rv32_instr.specs.Memory.{in_ram};
 ghost use Rattle.rv32_instr.specs.Ram.{word_at};
 ghost use Rattle.rv32_instr.specs.Execute.{Going, Stopped, step, touched, touched_line_by, pending_line, word_at_pc};
@@ -13,16 +15,12 @@ use crate::machine::{Hart, Machine};
 use machine_memory::{Bus, vector};
 use rv32_instr::{Effect, Stop, decode};
 use sloth_base::app::Width;
+use sloth_base::memory_map::{CONTROLLER_BASE, LEVELS_OFFSET, LINE_COUNT, MEMORY_BASE};
 use sloth_base::numbers::Line;
 use sloth_base::step::Step;
 
-/// The word that tells which task runs.
-const CUR: u32 = 0x8000_0000;
-
-/// The first pending byte, and the first level byte, of the controller.
-const PENDING: u32 = 0x1000_0000;
-
-const LEVELS: u32 = 0x1000_0040;
+/// The first level byte of the controller.
+const LEVELS: u32 = CONTROLLER_BASE + LEVELS_OFFSET as u32;
 
 /// The record of a step before one is written into it.
 pub fn blank_step() -> Step
@@ -45,7 +43,7 @@ pub fn blank_step() -> Step
 #[tactic(auto, using(std::proofs::lemmas::Bool::Decides::nat_tests), unfolding(rv32_instr::specs::Execute::touched_line_by))]
 fn touched(effect: &Effect) -> Option<Line>
     ensures is { result ≡ touched_line_by effect.now }
-    ensures in_range { ForSome result (λ line. line < 32) }
+    ensures in_range { ForSome result (λ line. line < line_count) }
 {
     match effect {
         Effect::Load { address, .. } => pending_line(*address),
@@ -70,10 +68,10 @@ fn touched(effect: &Effect) -> Option<Line>
 #[tactic(auto, using(std::proofs::lemmas::Bool::Decides::nat_tests))]
 fn pending_line(address: u32) -> Option<Line>
     ensures is { result ≡ pending_line address }
-    ensures in_range { ForSome result (λ line. line < 32) }
+    ensures in_range { ForSome result (λ line. line < line_count) }
 {
-    if PENDING <= address && address < PENDING + 32 {
-        Some(Line((address - PENDING) as u8))
+    if CONTROLLER_BASE <= address && address < CONTROLLER_BASE + LINE_COUNT as u32 {
+        Some(Line((address - CONTROLLER_BASE) as u8))
     } else {
         None
     }
@@ -84,15 +82,15 @@ impl<B: Bus> Machine<B> {
 
     /// One step: at most one line is taken, then one instruction is executed. A stop changes nothing.
     pub fn step(&mut self) -> Result<Step, Stop>
-        requires { self.old.count < 1000000 }
+        requires { self.old.count < count_limit }
         ensures ok { IfOk result (λ shown. advance self.old.count (state B.memory self.old) ≡ Goes shown (state B.memory self.new)) }
         ensures err { IfErr result (λ stop. advance self.old.count (state B.memory self.old) ≡ Halts stop) }
         ensures same { OnErr result (state B.memory self.new ≡ state B.memory self.old) }
         ensures count { OnOk result (self.new.count ≡ self.old.count + 1) }
         ensures stays { OnErr result (self.new.count ≡ self.old.count) }
         ensures shown { IfOk result (λ shown. shown.count ≡ self.old.count) }
-        ensures entered { IfOk result (λ shown. ForSome shown.entered (λ line. line < 32)) }
-        ensures touched { IfOk result (λ shown. ForSome shown.touched (λ line. line < 32)) }
+        ensures entered { IfOk result (λ shown. ForSome shown.entered (λ line. line < line_count)) }
+        ensures touched { IfOk result (λ shown. ForSome shown.touched (λ line. line < line_count)) }
     {
         let mut shown = blank_step();
         match self.step_into(&mut shown) {
@@ -104,15 +102,15 @@ impl<B: Bus> Machine<B> {
     /// The same, written into a record that is lent. A stop leaves any record there.
     #[inline(always)]
     pub fn step_into(&mut self, shown: &mut Step) -> Result<(), Stop>
-        requires { self.old.count < 1000000 }
+        requires { self.old.count < count_limit }
         ensures ok { OnOk result (advance self.old.count (state B.memory self.old) ≡ Goes shown.new (state B.memory self.new)) }
         ensures err { IfErr result (λ stop. advance self.old.count (state B.memory self.old) ≡ Halts stop) }
         ensures same { OnErr result (state B.memory self.new ≡ state B.memory self.old) }
         ensures count { OnOk result (self.new.count ≡ self.old.count + 1) }
         ensures stays { OnErr result (self.new.count ≡ self.old.count) }
         ensures shown { OnOk result (shown.new.count ≡ self.old.count) }
-        ensures entered { OnOk result (ForSome shown.new.entered (λ line. line < 32)) }
-        ensures touched { OnOk result (ForSome shown.new.touched (λ line. line < 32)) }
+        ensures entered { OnOk result (ForSome shown.new.entered (λ line. line < line_count)) }
+        ensures touched { OnOk result (ForSome shown.new.touched (λ line. line < line_count)) }
     {
         let count = self.count;
         let enabled_before = self.hart.mie;
@@ -147,7 +145,7 @@ impl<B: Bus> Machine<B> {
 
     /// The address of the next instruction, once this line is taken.
     fn pc_after(&self, line: &Option<Line>) -> u32
-        requires { ForSome line.now (λ l. l < 32) }
+        requires { ForSome line.now (λ l. l < line_count) }
         ensures { result ≡ (entry_state line.now (state B.memory self.now)).pc }
     {
         match line {
@@ -163,7 +161,7 @@ impl<B: Bus> Machine<B> {
         ensures hart { self.new.hart ≡ self.old.hart }
         ensures count { self.new.count ≡ self.old.count }
     {
-        match self.bus.load(CUR, Width::Word) {
+        match self.bus.load(MEMORY_BASE, Width::Word) {
             Ok(word) => word,
             Err(_) => unreachable!(),
         }
@@ -173,7 +171,7 @@ impl<B: Bus> Machine<B> {
     #[tactic(auto, unfolding(sloth_base::specs::Choose::choose))]
     fn line_to_take(&self) -> Option<Line>
         ensures is { result ≡ line_to_take (state B.memory self.now) }
-        ensures there { ForSome result (λ line. (line < 32) × ((state B.memory self.now).core.controller ≡ true)) }
+        ensures there { ForSome result (λ line. (line < line_count) × ((state B.memory self.now).core.controller ≡ true)) }
         ensures pending { ForSome result (λ line. slice_index (state B.memory self.now).core.pending line ≡ 1) }
     {
         if self.hart.mie {
@@ -186,14 +184,14 @@ impl<B: Bus> Machine<B> {
     /// Takes a line, if there is one, then executes an instruction. A stop changes nothing.
     #[inline(always)]
     fn execute_after(&mut self, line: &Option<Line>) -> Result<Option<Line>, Stop>
-        requires there { ForSome line.now (λ l. (l < 32) × ((state B.memory self.old).core.controller ≡ true)) }
+        requires there { ForSome line.now (λ l. (l < line_count) × ((state B.memory self.old).core.controller ≡ true)) }
         requires pending { ForSome line.now (λ l. slice_index (state B.memory self.old).core.pending l ≡ 1) }
         ensures ok { IfOk result (λ touch. step (entry_state line.now (state B.memory self.old)) ≡ Going (state B.memory self.new)) }
         ensures touched { IfOk result (λ touch. touch ≡ touched (entry_state line.now (state B.memory self.old))) }
         ensures err { IfErr result (λ stop. step (entry_state line.now (state B.memory self.old)) ≡ Stopped stop) }
         ensures same { OnErr result (state B.memory self.new ≡ state B.memory self.old) }
         ensures count { self.new.count ≡ self.old.count }
-        ensures in_range { IfOk result (λ touch. ForSome touch (λ l. l < 32)) }
+        ensures in_range { IfOk result (λ touch. ForSome touch (λ l. l < line_count)) }
     {
         match line {
             Some(line) => self.execute_taken(*line),
@@ -204,7 +202,7 @@ impl<B: Bus> Machine<B> {
     /// Takes a line, then executes an instruction. A stop gives the line back.
     #[inline(never)]
     fn execute_taken(&mut self, line: Line) -> Result<Option<Line>, Stop>
-        requires in_range { line < 32 }
+        requires in_range { line < line_count }
         requires there { (state B.memory self.old).core.controller ≡ true }
         requires pending { slice_index (state B.memory self.old).core.pending line ≡ 1 }
         ensures ok { IfOk result (λ touch. step (take line (state B.memory self.old)) ≡ Going (state B.memory self.new)) }
@@ -212,7 +210,7 @@ impl<B: Bus> Machine<B> {
         ensures err { IfErr result (λ stop. step (take line (state B.memory self.old)) ≡ Stopped stop) }
         ensures same { OnErr result (state B.memory self.new ≡ state B.memory self.old) }
         ensures count { self.new.count ≡ self.old.count }
-        ensures touched_in_range { IfOk result (λ touch. ForSome touch (λ l. l < 32)) }
+        ensures touched_in_range { IfOk result (λ touch. ForSome touch (λ l. l < line_count)) }
     {
         let before = self.hart;
         self.take(line);
@@ -227,7 +225,7 @@ impl<B: Bus> Machine<B> {
 
     /// Takes a line: its vector comes next.
     fn take(&mut self, line: Line)
-        requires in_range { line < 32 }
+        requires in_range { line < line_count }
         requires there { (state B.memory self.old).core.controller ≡ true }
         ensures state { state B.memory self.new ≡ take line (state B.memory self.old) }
         ensures count { self.new.count ≡ self.old.count }
@@ -243,7 +241,7 @@ impl<B: Bus> Machine<B> {
     }
 
     fn level_of(&mut self, line: Line) -> u8
-        requires in_range { line < 32 }
+        requires in_range { line < line_count }
         requires there { (state B.memory self.old).core.controller ≡ true }
         ensures is { result ≡ slice_index (state B.memory self.old).core.levels line }
         ensures state { state B.memory self.new ≡ state B.memory self.old }
@@ -260,13 +258,16 @@ impl<B: Bus> Machine<B> {
     fn restore(&mut self, before: Hart, line: Line)
         requires aligned { before.pc % 4 ≡ 0 }
         requires returns_aligned { before.mepc % 4 ≡ 0 }
-        requires in_range { line < 32 }
+        requires in_range { line < line_count }
         requires there { (state B.memory self.old).core.controller ≡ true }
         ensures state { state B.memory self.new ≡ state_of before (pending_memory line (B.memory self.old.bus)) }
         ensures count { self.new.count ≡ self.old.count }
     {
         self.hart = before;
-        match self.bus.store(PENDING + u32::from(line.0), Width::Byte, 1) {
+        match self
+            .bus
+            .store(CONTROLLER_BASE + u32::from(line.0), Width::Byte, 1)
+        {
             Ok(()) => {}
             Err(_) => unreachable!(),
         }
@@ -280,7 +281,7 @@ impl<B: Bus> Machine<B> {
         ensures err { IfErr result (λ stop. step (state B.memory self.old) ≡ Stopped stop) }
         ensures same { OnErr result (state B.memory self.new ≡ state B.memory self.old) }
         ensures count { self.new.count ≡ self.old.count }
-        ensures in_range { IfOk result (λ line. ForSome line (λ l. l < 32)) }
+        ensures in_range { IfOk result (λ line. ForSome line (λ l. l < line_count)) }
     {
         let word = match self.fetch() {
             Ok(word) => word,

@@ -1,6 +1,7 @@
 //! Configurations of one task, its levels and its task code, and the map of its kernel.
 ghost use Rattle.std.specs.Prelude.{◌≡◌, ◌<◌, ◌≤◌, ◌++◌, ℕ, All, IfOk, OnOk, length, slice_index, ◌∷◌, []};
 ghost use Rattle.sloth_base.specs.ConfigRange.{InRange};
+ghost use Rattle.sloth_base.specs.Limits.{level_count, name_limit, frame_limit};
 ghost use Rattle.code_lengths.specs.Bodies.{IsBodyPlace};
 ghost use Rattle.prologue_gen.specs.Places.{IsStackTop};
 ghost use Rattle.rv32_words.specs.Alone.{alone, main_task, go_event, clock_counter, sleeping_alarm, clock_alarms};
@@ -8,8 +9,10 @@ ghost use Rattle.vector_gen.specs.Vectors.{AreInReach};
 
 use sloth_base::app::{App, Func};
 use sloth_base::config::{Action, AlarmDecl, Config, CounterDecl, EventDecl, TaskDecl};
+use sloth_base::limits::{CEILING_COUNT, TASK_LIMIT};
 use sloth_base::list::List;
 use sloth_base::memory::NoMemory;
+use sloth_base::memory_map::LINE_COUNT;
 use sloth_base::name::Name;
 use sloth_base::numbers::TaskId;
 use sloth_base::places::{BLOCK_COUNT, Levels, Places};
@@ -158,7 +161,7 @@ fn add_alarm(
     name: &[u8],
     action: Action,
 ) -> Result<(), NoMemory>
-    requires { (1 ≤ length name.now) × (length name.now ≤ 64) }
+    requires { (1 ≤ length name.now) × (length name.now ≤ name_limit) }
     ensures { OnOk result (alarms.new.items ≡ alarms.old.items ++ sleeping_alarm name.now action ∷ []) }
 {
     let alarm = alarm(alloc, name, action)?;
@@ -168,7 +171,7 @@ fn add_alarm(
 
 // An alarm of the counter, which doesn't start by itself.
 fn alarm(alloc: Global, name: &[u8], action: Action) -> Result<AlarmDecl, NoMemory>
-    requires { (1 ≤ length name.now) × (length name.now ≤ 64) }
+    requires { (1 ≤ length name.now) × (length name.now ≤ name_limit) }
     ensures { IfOk result (λ alarm. alarm ≡ sleeping_alarm name.now action) }
 {
     Ok(AlarmDecl {
@@ -196,9 +199,9 @@ fn alone(alloc: Global, tasks: Vec<TaskDecl>, events: Vec<EventDecl>) -> Config
 
 /// Its body, with a frame of so many words.
 pub fn app(alloc: Global, frame_words: u32) -> Result<App, NoMemory>
-    requires { frame_words ≤ 32 }
+    requires { frame_words ≤ frame_limit }
     ensures body { IfOk result (λ app. IsBodyPlace app.funcs 0 0) }
-    ensures frames { IfOk result (λ app. All (λ func. func.frame_words ≤ 32) app.funcs) }
+    ensures frames { IfOk result (λ app. All (λ func. func.frame_words ≤ frame_limit) app.funcs) }
     ensures one { IfOk result (λ app. length app.funcs ≡ 1) }
 {
     let main = Func {
@@ -218,11 +221,11 @@ pub fn app(alloc: Global, frame_words: u32) -> Result<App, NoMemory>
 
 /// A level of the task, the level of a task that isn't preempted, and the ceilings of the resources 1 and RES_SCHEDULER.
 pub fn levels() -> Levels
-    ensures { (result.top < 32) × ((t : ℕ) → slice_index result.task t < 32) }
+    ensures { (result.top < level_count) × ((t : ℕ) → slice_index result.task t < level_count) }
 {
-    let mut task = [0; 30];
+    let mut task = [0; TASK_LIMIT];
     task[0] = 5;
-    let mut ceiling = [0; 33];
+    let mut ceiling = [0; CEILING_COUNT];
     ceiling[1] = 2;
     ceiling[32] = 30;
     Levels {
@@ -279,7 +282,7 @@ pub fn map(alloc: Global) -> Result<Map, NoMemory>
 {
     let places = places(alloc)?;
     let areas = areas(alloc)?;
-    let mut handlers = [IDLE; 32];
+    let mut handlers = [IDLE; LINE_COUNT];
     handlers[0] = 0x800f_fffc;
     Ok(Map {
         extents: List::from_vec(areas.extents),

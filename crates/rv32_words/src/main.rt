@@ -1,11 +1,12 @@
-//! Prints the instructions of the words that it reads, and the words of the generated code of a small kernel. The files `stdin` and
-//! `stdout` hold what an independent assembler makes of `instructions.s` and of `words.s`, where each routine is written by hand.
+//! Prints the instructions of the words that it reads, and the words of the generated code of a small kernel. The files `stdin` and `stdout` hold
+//! what an independent assembler makes of `instructions.s` and of `words.s`, where each routine is written by hand.
 #![tactic(auto)]
 
 ghost use Rattle.std.specs.Prelude.{ℕ, ◌≡◌, ◌<◌, ◌≤◌, All, length, slice_index};
 ghost use Rattle.alarm_gen.specs.Block.{HasAlarmBlock};
 ghost use Rattle.event_gen.specs.Block.{HasEventBlock as HasEventBlock};
 ghost use Rattle.sloth_base.specs.ConfigRange.{InRange};
+ghost use Rattle.sloth_base.specs.Limits.{level_count, frame_limit};
 ghost use Rattle.prologue_gen.specs.Places.{IsStackTop};
 ghost use Rattle.service_gen.specs.Block.{HasBlock};
 ghost use Rattle.vector_gen.specs.Vectors.{AreInReach};
@@ -51,7 +52,7 @@ fn list_start(
     map: &Map,
 ) -> anyhow::Result<()>
     requires range { InRange config.now }
-    requires levels { levels.now.top < 32 }
+    requires levels { levels.now.top < level_count }
 {
     let code = boot(rt.alloc(), config, levels, map)?;
     list(rt, "boot", code)
@@ -64,7 +65,7 @@ fn list_boot(
     levels: &Levels,
     map: &Map,
 ) -> anyhow::Result<()>
-    requires { levels.now.top < 32 }
+    requires { levels.now.top < level_count }
 {
     let config = config(rt.alloc(), false, false, autostart)?;
     list_start(rt, &config, levels, map)
@@ -126,8 +127,8 @@ fn list_prologue(
     levels: &Levels,
     map: &Map,
 ) -> anyhow::Result<()>
-    requires frame { frame_words ≤ 32 }
-    requires levels { (levels.now.top < 32) × ((t : ℕ) → slice_index levels.now.task t < 32) }
+    requires frame { frame_words ≤ frame_limit }
+    requires levels { (levels.now.top < level_count) × ((t : ℕ) → slice_index levels.now.task t < level_count) }
     requires tops { (length map.now.tops ≡ 1) × All IsStackTop map.now.tops }
     requires items { (length map.now.places.first ≡ 1) × All (λ i. i < length map.now.places.items) map.now.places.first }
 {
@@ -144,8 +145,8 @@ fn prologue_code(
     map: &Map,
 ) -> Result<Block, NoMemory>
     requires one { length config.now.tasks ≡ 1 }
-    requires frame { frame_words ≤ 32 }
-    requires levels { (levels.now.top < 32) × ((t : ℕ) → slice_index levels.now.task t < 32) }
+    requires frame { frame_words ≤ frame_limit }
+    requires levels { (levels.now.top < level_count) × ((t : ℕ) → slice_index levels.now.task t < level_count) }
     requires tops { (length map.now.tops ≡ 1) × All IsStackTop map.now.tops }
     requires items { (length map.now.places.first ≡ 1) × All (λ i. i < length map.now.places.items) map.now.places.first }
 {
@@ -161,8 +162,8 @@ fn list_prologue_of(
     map: &Map,
 ) -> anyhow::Result<()>
     requires one { length config.now.tasks ≡ 1 }
-    requires frame { frame_words ≤ 32 }
-    requires levels { (levels.now.top < 32) × ((t : ℕ) → slice_index levels.now.task t < 32) }
+    requires frame { frame_words ≤ frame_limit }
+    requires levels { (levels.now.top < level_count) × ((t : ℕ) → slice_index levels.now.task t < level_count) }
     requires tops { (length map.now.tops ≡ 1) × All IsStackTop map.now.tops }
     requires items { (length map.now.places.first ≡ 1) × All (λ i. i < length map.now.places.items) map.now.places.first }
 {
@@ -241,7 +242,7 @@ fn list_event_services(
 // Boot in each form, and the prologues of a basic and of an extended task: where it is preemptable, with a frame of 0 words and of 1;
 // where it isn't, of 0 words and of 32.
 fn list_entries(rt: &(impl Print + AllocGlobal), levels: &Levels, map: &Map) -> anyhow::Result<()>
-    requires levels { (levels.now.top < 32) × ((t : ℕ) → slice_index levels.now.task t < 32) }
+    requires levels { (levels.now.top < level_count) × ((t : ℕ) → slice_index levels.now.task t < level_count) }
     requires tops { (length map.now.tops ≡ 1) × All IsStackTop map.now.tops }
     requires items { (length map.now.places.first ≡ 1) × All (λ i. i < length map.now.places.items) map.now.places.first }
 {
@@ -260,7 +261,7 @@ fn list_entries(rt: &(impl Print + AllocGlobal), levels: &Levels, map: &Map) -> 
 // The code that stands in each kernel.
 fn list_common(rt: &(impl Print + AllocGlobal), levels: &Levels, map: &Map) -> anyhow::Result<()>
     requires reach { AreInReach map.now.handlers }
-    requires levels { (levels.now.top < 32) × ((t : ℕ) → slice_index levels.now.task t < 32) }
+    requires levels { (levels.now.top < level_count) × ((t : ℕ) → slice_index levels.now.task t < level_count) }
     requires tops { (length map.now.tops ≡ 1) × All IsStackTop map.now.tops }
     requires items { (length map.now.places.first ≡ 1) × All (λ i. i < length map.now.places.items) map.now.places.first }
 {
@@ -295,7 +296,7 @@ fn list_counted_of(
     requires range { InRange config.now }
     requires one { length config.now.counters ≡ 1 }
     requires three { length config.now.alarms ≡ 3 }
-    requires levels { levels.now.top < 32 }
+    requires levels { levels.now.top < level_count }
 {
     list_start(rt, config, levels, map)?;
     list_tick(rt, config, levels, map)?;
@@ -303,7 +304,7 @@ fn list_counted_of(
 }
 
 fn list_counted(rt: &(impl Print + AllocGlobal), levels: &Levels, map: &Map) -> anyhow::Result<()>
-    requires { levels.now.top < 32 }
+    requires { levels.now.top < level_count }
 {
     let config = clock(rt.alloc())?;
     list_counted_of(rt, &config, levels, map)
@@ -312,7 +313,7 @@ fn list_counted(rt: &(impl Print + AllocGlobal), levels: &Levels, map: &Map) -> 
 // All code of the kernel.
 fn list_all(rt: &(impl Print + AllocGlobal), levels: &Levels, map: &Map) -> anyhow::Result<()>
     requires reach { AreInReach map.now.handlers }
-    requires levels { (levels.now.top < 32) × ((t : ℕ) → slice_index levels.now.task t < 32) }
+    requires levels { (levels.now.top < level_count) × ((t : ℕ) → slice_index levels.now.task t < level_count) }
     requires tops { (length map.now.tops ≡ 1) × All IsStackTop map.now.tops }
     requires items { (length map.now.places.first ≡ 1) × All (λ i. i < length map.now.places.items) map.now.places.first }
 {

@@ -1,5 +1,6 @@
 //! The lanes of a picture, as the counts of a run come.
 ghost use Rattle.std.specs.Prelude.{ℕ, ◌≡◌, ◌≤◌, ◌<◌, ◌+◌, ◌++◌, OnOk, IfOk, length, get_or};
+ghost use Rattle.sloth_base.specs.Limits.{task_limit};
 ghost use Rattle.lane_drawing.specs.Strips.{empty_lane, last_bar, ShowsMore, IsFresh};
 ghost use Rattle.schedule_picture.specs.Lanes.{HaveChanged};
 ghost use Rattle.schedule_picture.specs.Looks.{lane_look};
@@ -12,7 +13,7 @@ use std::alloc::Global;
 
 /// A lane for each task, and one for kernel code, that have shown nothing yet.
 pub fn empty_strips(alloc: Global, tasks: usize, from: u32) -> Result<Vec<Strip>, NoMemory>
-    requires { tasks ≤ 30 }
+    requires { tasks ≤ task_limit }
     ensures lanes { IfOk result (λ strips. length strips.items ≡ tasks + 1) }
     ensures fresh { IfOk result (λ strips. (lane : ℕ) → lane < tasks + 1 → IsFresh from (get_or strips.items lane empty_lane)) }
 {
@@ -30,7 +31,7 @@ pub fn show(
     count: u32,
     sample: &Sample,
 ) -> Result<(), NoMemory>
-    requires tasks { tasks ≤ 30 }
+    requires tasks { tasks ≤ task_limit }
     requires lanes { length strips.old.items ≡ tasks + 1 }
     ensures shows { OnOk result (HaveChanged (λ lane. ShowsMore count (lane_look tasks sample.now lane)) (tasks + 1) strips.old.items strips.new.items) }
 {

@@ -1,5 +1,6 @@
 //! What a lane shows at a count.
 ghost use Rattle.std.specs.Prelude.{◌≡◌, ◌≤◌};
+ghost use Rattle.sloth_base.specs.Limits.{task_limit};
 ghost use Rattle.schedule_picture.specs.Looks.{task_look, is_kernel, seen_look, lane_look};
 
 use lane_drawing::Look;
@@ -36,7 +37,7 @@ fn is_kernel(sample: &Sample) -> bool
 
 /// The look of a lane in a sample: a task's, or behind those of all tasks the lane of kernel code.
 pub fn lane_look(tasks: usize, sample: &Sample, lane: usize) -> Option<Look>
-    requires tasks { tasks ≤ 30 }
+    requires tasks { tasks ≤ task_limit }
     requires lane { lane ≤ tasks }
     ensures { result ≡ lane_look tasks sample.now lane }
 {

@@ -3,6 +3,7 @@ ghost use Rattle.std.specs.Prelude.{ℕ, ◌≡◌, ◌≤◌, ◌<◌, ◌+◌,
 ghost use Rattle.sloth_base.specs.ImageRange.{InFormat};
 ghost use Rattle.sloth_base.specs.Arrivals.{AreArrivals};
 ghost use Rattle.sloth_base.specs.Owners.{owners_named};
+ghost use Rattle.sloth_base.specs.Limits.{task_limit, count_limit, picture_limit};
 ghost use Rattle.run_samples.specs.Samples.{IsSampling, sampled_image, sampled_arrivals, sampled_count};
 ghost use Rattle.lane_drawing.specs.Strips.{IsFresh, empty_lane};
 ghost use Rattle.schedule_picture.specs.Samples.{HasGivenFirst, HasBars, StopsBefore};
@@ -27,7 +28,7 @@ pub enum Picture {
 
 // Takes the first samples, so many of them.
 fn skip(sampler: &mut Sampler, from: u32) -> Result<(), Halt>
-    requires few { from ≤ 1000000 }
+    requires few { from ≤ count_limit }
     requires sampling { IsSampling sampler.old }
     requires fresh { sampled_count sampler.old ≡ 0 }
     ensures given { OnOk result (HasGivenFirst (sampled_image sampler.old) (sampled_arrivals sampler.old) from sampler.new) }
@@ -52,11 +53,11 @@ fn show_all(
 ) -> Result<Option<Halt>, NoMemory>
     requires given { HasGivenFirst (sampled_image sampler.old) (sampled_arrivals sampler.old) from sampler.old }
     requires tasks { tasks ≡ length (sampled_image sampler.old).tasks }
-    requires few_tasks { tasks ≤ 30 }
+    requires few_tasks { tasks ≤ task_limit }
     requires lanes { length strips.old.items ≡ tasks + 1 }
     requires fresh { (lane : ℕ) → lane < tasks + 1 → IsFresh from (get_or strips.old.items lane empty_lane) }
     requires ordered { from ≤ to }
-    requires few { to ≤ 1000000 }
+    requires few { to ≤ count_limit }
     ensures stops { IfOk result (λ end. IfSome end (StopsBefore (sampled_image sampler.old) (sampled_arrivals sampler.old) to)) }
     ensures bars { IfOk result (λ end. IfNone end (HasBars (sampled_image sampler.old) (sampled_arrivals sampler.old) from to sampler.new strips.new.items)) }
 {
@@ -82,8 +83,8 @@ fn text_with(
 ) -> Result<Vec<u8>, NoMemory>
     requires format { InFormat image.now }
     requires ordered { from ≤ to }
-    requires short { to ≤ from + 100000 }
-    requires few { to ≤ 1000000 }
+    requires short { to ≤ from + picture_limit }
+    requires few { to ≤ count_limit }
     requires bars { HasBars image.now arrivals.now from to sampler.old strips.now }
     ensures { IfOk result (λ text. IsPictureOf image.now arrivals.now from to text.items) }
 {
@@ -109,8 +110,8 @@ pub fn draw(
     requires format { InFormat image.now }
     requires arrivals { AreArrivals (owners_named image.now) arrivals.now }
     requires ordered { from ≤ to }
-    requires short { to ≤ from + 100000 }
-    requires few { to ≤ 1000000 }
+    requires short { to ≤ from + picture_limit }
+    requires few { to ≤ count_limit }
     ensures { IfOk result (IsPicture image.now arrivals.now from to) }
 {
     let tasks = image.tasks.items().len();

@@ -1,6 +1,7 @@
 //! The text of a picture.
 ghost use Rattle.std.specs.Prelude.{◌≡◌, ◌≤◌, ◌<◌, ◌+◌, ◌*◌, ◌++◌, IfOk, OnOk, All, length};
 ghost use Rattle.sloth_base.specs.ImageRange.{InFormat};
+ghost use Rattle.sloth_base.specs.Limits.{task_limit, name_limit, picture_limit, count_limit};
 ghost use Rattle.lane_drawing.specs.Bars.{IsInside};
 ghost use Rattle.lane_drawing.specs.Drawing.{is_above};
 ghost use Rattle.lane_drawing.specs.Scale.{IsScale};
@@ -12,9 +13,9 @@ use lane_drawing::{
 };
 use sloth_base::event::Arrival;
 use sloth_base::image::Image;
+use sloth_base::limits::TASK_LIMIT;
 use sloth_base::memory::NoMemory;
 use sloth_base::name::Name;
-use sloth_inspect::TASKS;
 use std::alloc::Global;
 
 /// What is drawn.
@@ -22,7 +23,7 @@ use std::alloc::Global;
 pub struct Drawn<'a> {
     pub image: &'a Image,
     pub arrivals: &'a [Arrival],
-    pub levels: [u8; TASKS],
+    pub levels: [u8; TASK_LIMIT],
     pub scale: Scale,
     pub strips: &'a [Strip],
 }
@@ -30,10 +31,10 @@ pub struct Drawn<'a> {
 // The length of the longest name, and at least that of `kernel`.
 #[tactic(auto, using(crate::proofs::Drawing::no_names, crate::proofs::Drawing::one_name_more))]
 fn longest_name(names: &[Name]) -> usize
-    requires { All (λ name. length name ≤ 64) names.now }
+    requires { All (λ name. length name ≤ name_limit) names.now }
     ensures is { result ≡ longest_of names.now (length names.now) }
     ensures some { 6 ≤ result }
-    ensures short { result ≤ 64 }
+    ensures short { result ≤ name_limit }
 {
     let mut longest = 6;
     for i in 0..names.len() {
@@ -46,8 +47,8 @@ fn longest_name(names: &[Name]) -> usize
 pub fn scale_of(image: &Image, from: u32, to: u32) -> Scale
     requires format { InFormat image.now }
     requires ordered { from ≤ to }
-    requires short { to ≤ from + 100000 }
-    requires few { to ≤ 1000000 }
+    requires short { to ≤ from + picture_limit }
+    requires few { to ≤ count_limit }
     ensures is { result ≡ scale_of image.now from to }
     ensures scale { IsScale result }
 {
@@ -59,9 +60,9 @@ pub fn scale_of(image: &Image, from: u32, to: u32) -> Scale
 }
 
 // Whether a task stands above another.
-fn is_above(levels: &[u8; TASKS], task: usize, other: usize) -> bool
-    requires task { task < 30 }
-    requires other { other < 30 }
+fn is_above(levels: &[u8; TASK_LIMIT], task: usize, other: usize) -> bool
+    requires task { task < task_limit }
+    requires other { other < task_limit }
     ensures { result ≡ is_above levels.now task other }
 {
     levels[task] > levels[other] || levels[task] == levels[other] && task < other
@@ -69,9 +70,9 @@ fn is_above(levels: &[u8; TASKS], task: usize, other: usize) -> bool
 
 // How many of the tasks stand above one.
 #[tactic(auto, using(crate::proofs::Drawing::no_tasks, crate::proofs::Drawing::one_task_more))]
-fn tasks_above(levels: &[u8; TASKS], tasks: usize, task: usize) -> u32
-    requires few { tasks ≤ 30 }
-    requires task { task < 30 }
+fn tasks_above(levels: &[u8; TASK_LIMIT], tasks: usize, task: usize) -> u32
+    requires few { tasks ≤ task_limit }
+    requires task { task < task_limit }
     ensures is { result ≡ tasks_above levels.now task tasks }
     ensures few { result ≤ tasks }
 {
@@ -86,7 +87,7 @@ fn tasks_above(levels: &[u8; TASKS], tasks: usize, task: usize) -> u32
 
 // The middle of a row, in pixels from the top.
 fn row_middle(row: u32) -> u32
-    requires { row ≤ 30 }
+    requires { row ≤ task_limit }
     ensures { result ≡ 61 + 34 * row }
 {
     61 + 34 * row

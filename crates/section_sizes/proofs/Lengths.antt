@@ -2,9 +2,10 @@
 use Rattle.std.proofs.Common.{◌≡◌, ℕ, ◌+◌, ◌<◌, ◌≤◌, ◌⊎◌, inl, inr, List, [], ◌∷◌, get_or, cond, min, max, Option, Some, None, refl, ap, sym, subst, arith}
 use Rattle.std.specs.Prelude.{◌==◌}
 use Rattle.std.proofs.lemmas.Bool.{cases_eq, cases_lt, ne_eqb}
+use Rattle.sloth_base.specs.Limits.{size_limit}
 use Rattle.section_sizes.specs.declared.graph.Ways.{Ways}
 use Rattle.section_sizes.specs.Graph.{ways_of, Goes}
-use Rattle.section_sizes.specs.Trails.{MOST, last_of, size_of_trail, IsEnded, AreSizes, IsLongest, along, longest_from}
+use Rattle.section_sizes.specs.Trails.{last_of, size_of_trail, IsEnded, AreSizes, IsLongest, along, longest_from}
 
 module _ (ways : List Ways) (steps ends : List ℕ) (sizes : AreSizes ways steps ends) where
   -- a trail that ended adds something
@@ -13,22 +14,22 @@ module _ (ways : List Ways) (steps ends : List ℕ) (sizes : AreSizes ways steps
   positive i (j ∷ further) lt = let p = positive j further lt in omega (arith, p)
 
   module _ (table : List ℕ) where
-    along_some : (step j : ℕ) → 0 < get_or table j 0 → along table step (Some j) ≡ min MOST (step + get_or table j 0)
+    along_some : (step j : ℕ) → 0 < get_or table j 0 → along table step (Some j) ≡ min size_limit (step + get_or table j 0)
     along_some step j lt =
-        ap (λ b. cond b 0 (min MOST (step + get_or table j 0))) (ne_eqb (get_or table j 0) 0 (λ e. absurd (omega (arith, e, lt))))
+        ap (λ b. cond b 0 (min size_limit (step + get_or table j 0))) (ne_eqb (get_or table j 0) 0 (λ e. absurd (omega (arith, e, lt))))
 
     -- where it is not 0 the way leads on
     along_is : (step : ℕ) (way : Option ℕ) → 0 < along table step way
-        → (j : ℕ) × (way ≡ Some j) × (0 < get_or table j 0) × (along table step way ≡ min MOST (step + get_or table j 0))
+        → (j : ℕ) × (way ≡ Some j) × (0 < get_or table j 0) × (along table step way ≡ min size_limit (step + get_or table j 0))
     along_is step None lt = absurd (omega (arith, lt))
     along_is step (Some j) lt = by (cases_eq (get_or table j 0) 0)
       where
         by : (get_or table j 0 ≡ 0) ⊎ (get_or table j 0 ≡ 0 → ⊥)
-            → (k : ℕ) × (Some j ≡ Some k) × (0 < get_or table k 0) × (along table step (Some j) ≡ min MOST (step + get_or table k 0))
+            → (k : ℕ) × (Some j ≡ Some k) × (0 < get_or table k 0) × (along table step (Some j) ≡ min size_limit (step + get_or table k 0))
         by (inl e) = absurd (nothing (get_or table j 0) e lt)
           where
-            nothing : (v : ℕ) → v ≡ 0 → 0 < cond (v == 0) 0 (min MOST (step + v)) → ⊥
-            nothing v e lt = let P : ℕ → Type 0 = λ x. 0 < cond (x == 0) 0 (min MOST (step + x)) in let z = subst P e lt in absurd (omega (arith, z))
+            nothing : (v : ℕ) → v ≡ 0 → 0 < cond (v == 0) 0 (min size_limit (step + v)) → ⊥
+            nothing v e lt = let P : ℕ → Type 0 = λ x. 0 < cond (x == 0) 0 (min size_limit (step + x)) in let z = subst P e lt in absurd (omega (arith, z))
         by (inr n) = let p : 0 < get_or table j 0 = omega (arith, n) in (j, refl, p, along_some step j p)
 
     module _ (i : ℕ) (known : (j : ℕ) → Goes ways i j → IsLongest ways steps ends j (get_or table j 0)) where
@@ -49,28 +50,28 @@ module _ (ways : List Ways) (steps ends : List ℕ) (sizes : AreSizes ways steps
 
       -- a trail along a way is no longer than what is computed of it
       along_covers : (way : Option ℕ) (j : ℕ) (further : List ℕ) → way ≡ Some j → Goes ways i j → IsEnded ways ends j further
-          → min MOST (step + size_of_trail steps ends j further) ≤ along table step way
+          → min size_limit (step + size_of_trail steps ends j further) ≤ along table step way
       along_covers way j further is goes e =
           let le = (known j goes).none_longer further e in
           let pos = positive j further e.adds in
           let some : 0 < get_or table j 0 = omega (arith, le, pos) in
-          subst (λ o. min MOST (step + size_of_trail steps ends j further) ≤ along table step o) (sym is)
-          (subst (λ v. min MOST (step + size_of_trail steps ends j further) ≤ v) (sym (along_some step j some)) (omega (arith, le)))
+          subst (λ o. min size_limit (step + size_of_trail steps ends j further) ≤ along table step o) (sym is)
+          (subst (λ v. min size_limit (step + size_of_trail steps ends j further) ≤ v) (sym (along_some step j some)) (omega (arith, le)))
 
-      covers : (further : List ℕ) → IsEnded ways ends i further → min MOST (size_of_trail steps ends i further) ≤ value
+      covers : (further : List ℕ) → IsEnded ways ends i further → min size_limit (size_of_trail steps ends i further) ≤ value
       covers [] e = omega arith
       covers (j ∷ further) e = by e.trail.0
         where
           rest : IsEnded ways ends j further
           rest = record { trail = e.trail.1; adds = e.adds }
 
-          by : Goes ways i j → min MOST (step + size_of_trail steps ends j further) ≤ value
+          by : Goes ways i j → min size_limit (step + size_of_trail steps ends j further) ≤ value
           by (inl is) = let le = along_covers (ways_of ways i).next j further is (inl is) rest in omega (arith, le)
           by (inr is) = let le = along_covers (ways_of ways i).jump j further is (inr is) rest in omega (arith, le)
 
       -- and some trail is as long
       abbrev Attains : ℕ → Type 0
-      Attains size = (further : List ℕ) × IsEnded ways ends i further × (min MOST (size_of_trail steps ends i further) ≡ size)
+      Attains size = (further : List ℕ) × IsEnded ways ends i further × (min size_limit (size_of_trail steps ends i further) ≡ size)
 
       along_attains : (way : Option ℕ) → ((j : ℕ) → way ≡ Some j → Goes ways i j) → 0 < along table step way → Attains (along table step way)
       along_attains way goes lt =

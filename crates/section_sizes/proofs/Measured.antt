@@ -7,6 +7,7 @@ use Rattle.sloth_base.specs.declared.app.App.{App}
 use Rattle.sloth_base.specs.declared.app.Op.{Op}
 use Rattle.sloth_base.specs.declared.app.Op.TheVariants as op
 use Rattle.sloth_base.specs.Named.{function, operation}
+use Rattle.sloth_base.specs.Limits.{size_limit}
 use Rattle.code_rules.specs.Code.{IsItem, GoesOn, is_followed, way, is_in}
 use Rattle.osek_valid.proofs.Facts.{Facts}
 use Rattle.raised_sections.specs.Walks.{chains_itself}
@@ -15,7 +16,7 @@ use Rattle.section_sizes.specs.declared.graph.Ways.{Ways}
 use Rattle.bound_rules.specs.declared.bodies.Body.{Body}
 use Rattle.bound_rules.specs.declared.sizes.Summary.{Summary}
 use Rattle.section_sizes.specs.Graph.{ways_of, Goes, AreInside, IsLoop, IsOrder}
-use Rattle.section_sizes.specs.Trails.{MOST, size_of_trail, IsEnded, IsLongest}
+use Rattle.section_sizes.specs.Trails.{size_of_trail, IsEnded, IsLongest}
 use Rattle.section_sizes.specs.Parts.{is_raised, is_plain, count_of, ReachesItem, Returns, reaches_first, reaches_inside, reaches_behind, Passes, EntersRaised, CountsBack, CountsOn, CountsWithin, back_returns, back_inside, back_passes, on_ends, on_inside, on_enters, on_passes, within_here, ReachesCall, level_behind, CountsOut, out_here, out_behind}
 use Rattle.bound_rules.specs.Items.{reaches_level, is_going}
 use Rattle.section_sizes.specs.Computed.{goes_past, item_ways, is_passed, joined, count, going_size, ending_size, leaving_size, is_alive}
@@ -114,7 +115,7 @@ call_calm g = refl
 
 -- a trail is extended by a node
 going : (ways : List Ways) (steps ends : List ℕ) (i j u v : ℕ) → Goes ways i j → IsLongest ways steps ends i u → IsLongest ways steps ends j v → 0 < v
-    → min MOST (get_or steps i 0 + v) ≤ u
+    → min size_limit (get_or steps i 0 + v) ≤ u
 going ways steps ends i j u v g a b pos =
     let t = b.attained pos in
     let e = t.2 in
@@ -344,18 +345,18 @@ module _ (config : Config) (app : App) (level : Option ℕ) (f : ℕ) (m : Measu
             at true e h = lives i e
             at false e h = absurd (omega (arith, h, pos))
 
-    ends_enough : (i : ℕ) → Lives i → min MOST (get_or z.ends i 0) ≤ on_at i
+    ends_enough : (i : ℕ) → Lives i → min size_limit (get_or z.ends i 0) ≤ on_at i
     ends_enough i a = by (cases_eq (get_or z.ends i 0) 0)
       where
-        by : (get_or z.ends i 0 ≡ 0) ⊎ (get_or z.ends i 0 ≡ 0 → ⊥) → min MOST (get_or z.ends i 0) ≤ on_at i
+        by : (get_or z.ends i 0 ≡ 0) ⊎ (get_or z.ends i 0 ≡ 0 → ⊥) → min size_limit (get_or z.ends i 0) ≤ on_at i
         by (inl e) = omega (arith, e)
         by (inr n) = (z.on_is i (there i a)).none_longer [] (record { trail = tt; adds = omega (arith, n) })
 
-    pub alone : (i : ℕ) → Lives i → min MOST (count_of app f i) ≤ on_at i
+    pub alone : (i : ℕ) → Lives i → min size_limit (count_of app f i) ≤ on_at i
     alone i a = by (calls_or_not m.whole (operation app f i))
       where
         by : ((g : ℕ) × (operation app f i ≡ op.Invoke g)) ⊎ ((going_size m.whole (operation app f i) ≡ count (operation app f i)) × (ending_size m.whole (operation app f i) ≡ count (operation app f i)))
-            → min MOST (count_of app f i) ≤ on_at i
+            → min size_limit (count_of app f i) ≤ on_at i
         by (inl g) =
             let le = ends_enough i a in
             let e = end_is i a ∙ ap (ending_size m.whole) g.1 in
@@ -366,7 +367,7 @@ module _ (config : Config) (app : App) (level : Option ℕ) (f : ℕ) (m : Measu
             let e = end_is i a ∙ n.1 in
             omega (arith, le, e)
 
-    pub enters : (i g n : ℕ) → Lives i → EntersRaised config app level f i g → CountsOn config app None g 0 n → min MOST (1 + n) ≤ on_at i
+    pub enters : (i g n : ℕ) → Lives i → EntersRaised config app level f i g → CountsOn config app None g 0 n → min size_limit (1 + n) ≤ on_at i
     enters i g n a e inner =
         let le = ends_enough i a in
         let is = end_is i a ∙ ap (ending_size m.whole) e.item.is in
@@ -375,17 +376,17 @@ module _ (config : Config) (app : App) (level : Option ℕ) (f : ℕ) (m : Measu
 
     -- ---- one step more
 
-    pub step_on : (i j q : ℕ) → Passes config app level f i j → Lives i → Lives j → min MOST q ≤ on_at j → min MOST (count_of app f i + q) ≤ on_at i
+    pub step_on : (i j q : ℕ) → Passes config app level f i j → Lives i → Lives j → min size_limit q ≤ on_at j → min size_limit (count_of app f i + q) ≤ on_at i
     step_on i j q p here next le = by (cases_eq (on_at j) 0)
       where
-        by : (on_at j ≡ 0) ⊎ (on_at j ≡ 0 → ⊥) → min MOST (count_of app f i + q) ≤ on_at i
+        by : (on_at j ≡ 0) ⊎ (on_at j ≡ 0 → ⊥) → min size_limit (count_of app f i + q) ≤ on_at i
         by (inl none) = let one = alone i here in omega (arith, le, none, one)
         by (inr n) =
             let more = going m.ways z.steps z.ends i j (on_at i) (on_at j) (goes_inside i j p here next) (z.on_is i (there i here)) (z.on_is j (there j next)) (omega (arith, n)) in
             let step = step_is i here ∙ plain_adds m.whole (operation app f i) (ap is_plain p.step.item.is ∙ p.step.plain) in
             omega (arith, le, more, step)
 
-    pub step_back : (i j q : ℕ) → Passes config app level f i j → Lives i → Lives j → 0 < q → min MOST q ≤ back_at j → min MOST (count_of app f i + q) ≤ back_at i
+    pub step_back : (i j q : ℕ) → Passes config app level f i j → Lives i → Lives j → 0 < q → min size_limit q ≤ back_at j → min size_limit (count_of app f i + q) ≤ back_at i
     step_back i j q p here next some le =
         let more = going m.ways z.steps z.leaves i j (back_at i) (back_at j) (goes_inside i j p here next) (z.back_is i (there i here)) (z.back_is j (there j next)) (omega (arith, le, some)) in
         let step = step_is i here ∙ plain_adds m.whole (operation app f i) (ap is_plain p.step.item.is ∙ p.step.plain) in
@@ -397,11 +398,11 @@ module _ (config : Config) (app : App) (level : Option ℕ) (f : ℕ) (m : Measu
         let some = back_some config app None g 0 q inner in
         omega (arith, small, some)
 
-    pub pass_on : (i g q s : ℕ) → EntersRaised config app level f i g → Lives i → Lives (i + 1) → CountsBack config app None g 0 q → min MOST s ≤ on_at (i + 1)
-        → min MOST (1 + (q + s)) ≤ on_at i
+    pub pass_on : (i g q s : ℕ) → EntersRaised config app level f i g → Lives i → Lives (i + 1) → CountsBack config app None g 0 q → min size_limit s ≤ on_at (i + 1)
+        → min size_limit (1 + (q + s)) ≤ on_at i
     pass_on i g q s e here next inner le = by (cases_eq (on_at (i + 1)) 0)
       where
-        by : (on_at (i + 1) ≡ 0) ⊎ (on_at (i + 1) ≡ 0 → ⊥) → min MOST (1 + (q + s)) ≤ on_at i
+        by : (on_at (i + 1) ≡ 0) ⊎ (on_at (i + 1) ≡ 0 → ⊥) → min size_limit (1 + (q + s)) ≤ on_at i
         by (inl none) = let one = enters i g q here e (back_on config app None g 0 q inner) in omega (arith, le, none, one)
         by (inr n) =
             let small = (m.called_back i g here.reached e).none_larger q inner in
@@ -410,8 +411,8 @@ module _ (config : Config) (app : App) (level : Option ℕ) (f : ℕ) (m : Measu
             let step = step_is i here ∙ ap (going_size m.whole) e.item.is in
             omega (arith, le, more, step, small)
 
-    pub pass_back : (i g q s : ℕ) → EntersRaised config app level f i g → Lives i → Lives (i + 1) → CountsBack config app None g 0 q → 0 < s → min MOST s ≤ back_at (i + 1)
-        → min MOST (1 + (q + s)) ≤ back_at i
+    pub pass_back : (i g q s : ℕ) → EntersRaised config app level f i g → Lives i → Lives (i + 1) → CountsBack config app None g 0 q → 0 < s → min size_limit s ≤ back_at (i + 1)
+        → min size_limit (1 + (q + s)) ≤ back_at i
     pass_back i g q s e here next inner some le =
         let small = (m.called_back i g here.reached e).none_larger q inner in
         let more = going m.ways z.steps z.leaves i (i + 1) (back_at i) (back_at (i + 1)) (goes_behind i g e (passed_some i g q e here inner) here next)
@@ -419,7 +420,7 @@ module _ (config : Config) (app : App) (level : Option ℕ) (f : ℕ) (m : Measu
         let step = step_is i here ∙ ap (going_size m.whole) e.item.is in
         omega (arith, le, more, step, small)
 
-    pub leave : (i : ℕ) → Lives i → IsItem app f i op.Return → min MOST 1 ≤ back_at i
+    pub leave : (i : ℕ) → Lives i → IsItem app f i op.Return → min size_limit 1 ≤ back_at i
     leave i a item =
         let e = leave_is i a ∙ ap leaving_size item.is in
         let le = (z.back_is i (there i a)).none_longer [] (record { trail = tt; adds = omega (arith, e) }) in
@@ -428,16 +429,16 @@ module _ (config : Config) (app : App) (level : Option ℕ) (f : ℕ) (m : Measu
     -- ---- each size is attained
 
     abbrev OnOf : (i size : ℕ) → Type 0
-    OnOf i size = (n : ℕ) × CountsOn config app level f i n × (min MOST n ≡ size)
+    OnOf i size = (n : ℕ) × CountsOn config app level f i n × (min size_limit n ≡ size)
 
     abbrev BackOf : (i size : ℕ) → Type 0
-    BackOf i size = (n : ℕ) × CountsBack config app level f i n × (min MOST n ≡ size)
+    BackOf i size = (n : ℕ) × CountsBack config app level f i n × (min size_limit n ≡ size)
 
-    ending : (i : ℕ) → Lives i → OnOf i (min MOST (get_or z.ends i 0))
+    ending : (i : ℕ) → Lives i → OnOf i (min size_limit (get_or z.ends i 0))
     ending i a = by (calls_or_not m.whole (operation app f i))
       where
         by : ((g : ℕ) × (operation app f i ≡ op.Invoke g)) ⊎ ((going_size m.whole (operation app f i) ≡ count (operation app f i)) × (ending_size m.whole (operation app f i) ≡ count (operation app f i)))
-            → OnOf i (min MOST (get_or z.ends i 0))
+            → OnOf i (min size_limit (get_or z.ends i 0))
         by (inr n) =
             let e = end_is i a ∙ n.1 in
             (count_of app f i, on_ends level f i a.item a.raised, omega (arith, e))
@@ -449,7 +450,7 @@ module _ (config : Config) (app : App) (level : Option ℕ) (f : ℕ) (m : Measu
             is : get_or z.ends i 0 ≡ joined 1 (summary_of m.whole g.0).on
             is = end_is i a ∙ ap (ending_size m.whole) g.1
 
-            at : ((summary_of m.whole g.0).on ≡ 0) ⊎ ((summary_of m.whole g.0).on ≡ 0 → ⊥) → OnOf i (min MOST (get_or z.ends i 0))
+            at : ((summary_of m.whole g.0).on ≡ 0) ⊎ ((summary_of m.whole g.0).on ≡ 0 → ⊥) → OnOf i (min size_limit (get_or z.ends i 0))
             at (inl none) =
                 let one : count_of app f i ≡ 1 = ap count g.1 in
                 (count_of app f i, on_ends level f i a.item a.raised, omega (arith, is, none, one))
@@ -458,7 +459,7 @@ module _ (config : Config) (app : App) (level : Option ℕ) (f : ℕ) (m : Measu
                 let e = inner.2 in
                 (1 + inner.0, on_enters level f i g.0 inner.0 enter inner.1, omega (arith, is, e))
 
-    on_front : (i j v : ℕ) → Link i j → OnOf j v → OnOf i (min MOST (get_or z.steps i 0 + v))
+    on_front : (i j v : ℕ) → Link i j → OnOf j v → OnOf i (min size_limit (get_or z.steps i 0 + v))
     on_front i j v (link_inside p a b) further =
         let e = step_is i a ∙ plain_adds m.whole (operation app f i) (ap is_plain p.step.item.is ∙ p.step.plain) in
         let is = further.2 in
@@ -470,15 +471,15 @@ module _ (config : Config) (app : App) (level : Option ℕ) (f : ℕ) (m : Measu
         let was = inner.2 in
         (1 + (inner.0 + further.0), on_passes level f i g inner.0 further.0 en inner.1 (subst (λ k. CountsOn config app level f k further.0) next further.1), omega (arith, e, is, was))
 
-    on_trail : (further : List ℕ) (i : ℕ) → IsEnded m.ways z.ends i further → OnOf i (min MOST (size_of_trail z.steps z.ends i further))
+    on_trail : (further : List ℕ) (i : ℕ) → IsEnded m.ways z.ends i further → OnOf i (min size_limit (size_of_trail z.steps z.ends i further))
     on_trail [] i e = ending i (alive_of z.ends (ending_size m.whole) z.ends_count z.ends_are i e.adds)
     on_trail (j ∷ further) i e =
         let rest = on_trail further j (record { trail = e.trail.1; adds = e.adds }) in
-        let front = on_front i j (min MOST (size_of_trail z.steps z.ends j further)) (link i j e.trail.0) rest in
+        let front = on_front i j (min size_limit (size_of_trail z.steps z.ends j further)) (link i j e.trail.0) rest in
         let is = front.2 in
         (front.0, front.1, omega (arith, is))
 
-    back_front : (i j v : ℕ) → Link i j → BackOf j v → BackOf i (min MOST (get_or z.steps i 0 + v))
+    back_front : (i j v : ℕ) → Link i j → BackOf j v → BackOf i (min size_limit (get_or z.steps i 0 + v))
     back_front i j v (link_inside p a b) further =
         let e = step_is i a ∙ plain_adds m.whole (operation app f i) (ap is_plain p.step.item.is ∙ p.step.plain) in
         let is = further.2 in
@@ -490,7 +491,7 @@ module _ (config : Config) (app : App) (level : Option ℕ) (f : ℕ) (m : Measu
         let was = inner.2 in
         (1 + (inner.0 + further.0), back_passes level f i g inner.0 further.0 en inner.1 (subst (λ k. CountsBack config app level f k further.0) next further.1), omega (arith, e, is, was))
 
-    back_trail : (further : List ℕ) (i : ℕ) → IsEnded m.ways z.leaves i further → BackOf i (min MOST (size_of_trail z.steps z.leaves i further))
+    back_trail : (further : List ℕ) (i : ℕ) → IsEnded m.ways z.leaves i further → BackOf i (min size_limit (size_of_trail z.steps z.leaves i further))
     back_trail [] i e =
         let a = alive_of z.leaves leaving_size z.leaves_count z.leaves_are i e.adds in
         let is = leave_is i a in
@@ -500,7 +501,7 @@ module _ (config : Config) (app : App) (level : Option ℕ) (f : ℕ) (m : Measu
         (1, back_returns level f i (record { known = m.known; inside = a.item.inside; is = ret }) a.raised, omega (arith, one))
     back_trail (j ∷ further) i e =
         let rest = back_trail further j (record { trail = e.trail.1; adds = e.adds }) in
-        let front = back_front i j (min MOST (size_of_trail z.steps z.leaves j further)) (link i j e.trail.0) rest in
+        let front = back_front i j (min size_limit (size_of_trail z.steps z.leaves j further)) (link i j e.trail.0) rest in
         let is = front.2 in
         (front.0, front.1, omega (arith, is))
 
@@ -539,7 +540,7 @@ module _ (config : Config) (app : App) where
   living level f i m r b = record { reached = r; item = b.item; raised = b.raised }
 
   pub on_none : (level : Option ℕ) (f i n : ℕ) (m : Measures config app level f) (z : Sizes config app level f m) → ReachesItem app f i → CountsOn config app level f i n
-      → min MOST n ≤ get_or z.on i 0
+      → min size_limit n ≤ get_or z.on i 0
   on_none level f i n m z r (on_ends l g k item raised) = alone config app l g m z k (record { reached = r; item = item; raised = raised })
   on_none level f i n m z r (on_inside l g k j q p further) =
       let after = reaches_inside g k j r p.step in
@@ -553,7 +554,7 @@ module _ (config : Config) (app : App) where
       (living l a (k + 1) m after (on_begins config app l a (k + 1) s further)) inner (on_none l a (k + 1) s m z after further)
 
   pub back_none : (level : Option ℕ) (f i n : ℕ) (m : Measures config app level f) (z : Sizes config app level f m) → ReachesItem app f i → CountsBack config app level f i n
-      → min MOST n ≤ get_or z.back i 0
+      → min size_limit n ≤ get_or z.back i 0
   back_none level f i n m z r (back_returns l g k item raised) =
       leave config app l g m z k (record { reached = r; item = itself config app g k op.Return item; raised = raised }) item
   back_none level f i n m z r (back_inside l g k j q p further) =

@@ -4,10 +4,11 @@ use Rattle.std.specs.Prelude.{◌==◌}
 use Rattle.std.proofs.lemmas.Bool.{cases_eq, eq-eqb, cond_both}
 use Rattle.std.proofs.lemmas.List.{get_or-set_same, get_or-set_other, length-set}
 use Rattle.std.proofs.Math.Seq.{take-suc}
+use Rattle.sloth_base.specs.Limits.{size_limit}
 use Rattle.code_rules.specs.Code.{is_in}
 use Rattle.section_sizes.specs.declared.graph.Ways.{Ways}
 use Rattle.section_sizes.specs.Graph.{ways_of, Goes, IsOrder}
-use Rattle.section_sizes.specs.Trails.{MOST, AreSizes, IsSmall, IsLongest, along, longest_from}
+use Rattle.section_sizes.specs.Trails.{AreSizes, IsSmall, IsLongest, along, longest_from}
 use Rattle.section_sizes.proofs.Diving.{front_or_end}
 use Rattle.section_sizes.proofs.Lengths.{is_longest}
 
@@ -25,13 +26,13 @@ one_more xs k j lt h =
     let e : k + 1 ≡ suc k = omega arith in
     front_or_end j (get_or xs k 0) (take k xs) (sym (ap (is_in j) (ap (λ n. take n xs) e ∙ take-suc xs k 0 lt)) ∙ h)
 
-along_small : (table : List ℕ) (step : ℕ) (way : Option ℕ) → along table step way ≤ 1000001
+along_small : (table : List ℕ) (step : ℕ) (way : Option ℕ) → along table step way ≤ size_limit
 along_small table step None = omega arith
 along_small table step (Some j) =
-    cond_both (get_or table j 0 == 0) 0 (min MOST (step + get_or table j 0)) (λ v. v ≤ 1000001) (λ _. omega arith) (λ _. omega arith)
+    cond_both (get_or table j 0 == 0) 0 (min size_limit (step + get_or table j 0)) (λ v. v ≤ size_limit) (λ _. omega arith) (λ _. omega arith)
 
 module _ (ways : List Ways) (steps ends order : List ℕ) (o : IsOrder ways order) (sizes : AreSizes ways steps ends) where
-  pub from_small : (table : List ℕ) (i : ℕ) → longest_from ways table steps ends i ≤ 1000001
+  pub from_small : (table : List ℕ) (i : ℕ) → longest_from ways table steps ends i ≤ size_limit
   from_small table i =
       let a = along_small table (get_or steps i 0) (ways_of ways i).next in
       let b = along_small table (get_or steps i 0) (ways_of ways i).jump in
@@ -79,11 +80,11 @@ module _ (ways : List Ways) (steps ends order : List ℕ) (o : IsOrder ways orde
       inside : x < length table
       inside = let n = node_known k lt in omega (arith, n, count)
 
-      each : (i : ℕ) → (i ≡ x) ⊎ (i ≡ x → ⊥) → get_or (set table x r) i 0 ≤ 1000001
+      each : (i : ℕ) → (i ≡ x) ⊎ (i ≡ x → ⊥) → get_or (set table x r) i 0 ≤ size_limit
       each i (inl e) =
-          subst (λ y. get_or (set table x r) y 0 ≤ 1000001) (sym e)
-          (subst (λ v. v ≤ 1000001) (sym (get_or-set_same table x r 0 inside ∙ is)) (from_small table x))
-      each i (inr n) = subst (λ v. v ≤ 1000001) (sym (get_or-set_other table x i r 0 n)) (small i)
+          subst (λ y. get_or (set table x r) y 0 ≤ size_limit) (sym e)
+          (subst (λ v. v ≤ size_limit) (sym (get_or-set_same table x r 0 inside ∙ is)) (from_small table x))
+      each i (inr n) = subst (λ v. v ≤ size_limit) (sym (get_or-set_other table x i r 0 n)) (small i)
 
       here : IsLongest ways steps ends x (get_or (set table x r) x 0)
       here =

@@ -6,6 +6,7 @@ use Rattle.sloth_base.specs.declared.app.Func.{Func}
 use Rattle.sloth_base.specs.declared.app.Op.{Op}
 use Rattle.sloth_base.specs.declared.app.Op.TheVariants as op
 use Rattle.sloth_base.specs.Named.{item_of}
+use Rattle.sloth_base.specs.Limits.{size_limit}
 use Rattle.raised_sections.specs.Sections.{is_counted}
 use Rattle.section_sizes.specs.declared.graph.Ways.{Ways}
 use Rattle.bound_rules.specs.declared.sizes.Summary.{Summary}
@@ -13,26 +14,26 @@ use Rattle.section_sizes.specs.Trails.{AreSizes, IsSmall, IsLongest}
 use Rattle.section_sizes.specs.Computed.{count, going_size, ending_size, leaving_size, is_return}
 use Rattle.section_sizes.specs.Known.{IsGreatestPart}
 
-one_small : (b : Bool) → cond b 1 0 ≤ 1000001
+one_small : (b : Bool) → cond b 1 0 ≤ size_limit
 one_small true = omega arith
 one_small false = omega arith
 
-going_small : (whole : List Summary) (o : Op) → going_size whole o ≤ 1000001
+going_small : (whole : List Summary) (o : Op) → going_size whole o ≤ size_limit
 going_small whole (op.Invoke g) = omega arith
 going_small whole (op.Serve call) = one_small (is_counted (op.Serve call))
 going_small whole _ = omega arith
 
-ending_small : (whole : List Summary) (o : Op) → ending_size whole o ≤ 1000001
+ending_small : (whole : List Summary) (o : Op) → ending_size whole o ≤ size_limit
 ending_small whole (op.Invoke g) = omega arith
 ending_small whole (op.Serve call) = one_small (is_counted (op.Serve call))
 ending_small whole _ = omega arith
 
-if_small : (b : Bool) (n : ℕ) → n ≤ 1000001 → cond b n 0 ≤ 1000001
+if_small : (b : Bool) (n : ℕ) → n ≤ size_limit → cond b n 0 ≤ size_limit
 if_small true n le = le
 if_small false n le = omega arith
 
 -- a table with small entries
-table_small : (table : List ℕ) (n : ℕ) (size : ℕ → ℕ) → length table ≡ n → ((i : ℕ) → i < n → get_or table i 0 ≡ size i) → ((i : ℕ) → size i ≤ 1000001) → IsSmall table
+table_small : (table : List ℕ) (n : ℕ) (size : ℕ → ℕ) → length table ≡ n → ((i : ℕ) → i < n → get_or table i 0 ≡ size i) → ((i : ℕ) → size i ≤ size_limit) → IsSmall table
 table_small table n size count are small i = ⊎_elim
     (λ lt. let e = are i lt in let le = small i in omega (arith, e, le))
     (λ le. let e = get_or_past table i 0 (omega (arith, le, count)) in omega (arith, e))
@@ -65,15 +66,15 @@ pub longest_small : (ways : List Ways) (steps ends table : List ℕ) → length 
     → ((i : ℕ) → i < length ways → IsLongest ways steps ends i (get_or table i 0)) → IsSmall table
 longest_small ways steps ends table count is i = by (cases_eq (get_or table i 0) 0) (cases_lt i (length ways))
   where
-    by : (get_or table i 0 ≡ 0) ⊎ (get_or table i 0 ≡ 0 → ⊥) → (i < length ways) ⊎ (length ways ≤ i) → get_or table i 0 ≤ 1000001
+    by : (get_or table i 0 ≡ 0) ⊎ (get_or table i 0 ≡ 0 → ⊥) → (i < length ways) ⊎ (length ways ≤ i) → get_or table i 0 ≤ size_limit
     by (inl e) at = omega (arith, e)
     by (inr n) (inl lt) = let t = (is i lt).attained (omega (arith, n)) in let e = t.2 in omega (arith, e)
     by (inr n) (inr le) = let e = get_or_past table i 0 (omega (arith, le, count)) in omega (arith, e)
 
 -- a greatest size
-pub greatest_small : (Kind : ℕ → Type 0) (size : ℕ) → IsGreatestPart Kind size → size ≤ 1000001
+pub greatest_small : (Kind : ℕ → Type 0) (size : ℕ) → IsGreatestPart Kind size → size ≤ size_limit
 greatest_small Kind size g = by (cases_eq size 0)
   where
-    by : (size ≡ 0) ⊎ (size ≡ 0 → ⊥) → size ≤ 1000001
+    by : (size ≡ 0) ⊎ (size ≡ 0 → ⊥) → size ≤ size_limit
     by (inl e) = omega (arith, e)
     by (inr n) = let a = g.attained (omega (arith, n)) in let e = a.2 in omega (arith, e)

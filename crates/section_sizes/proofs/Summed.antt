@@ -7,12 +7,12 @@ use Rattle.sloth_base.specs.declared.app.App.{App}
 use Rattle.sloth_base.specs.declared.app.Op.{Op}
 use Rattle.sloth_base.specs.declared.app.Op.TheVariants as op
 use Rattle.sloth_base.specs.Named.{function, operation}
+use Rattle.sloth_base.specs.Limits.{size_limit}
 use Rattle.code_rules.specs.Code.{IsItem, Calls}
 use Rattle.call_graph.specs.Tables.{max_below}
 use Rattle.stack_bounds.proofs.Below.{max_below-at, max_below-some, last_or_before}
 use Rattle.bound_rules.specs.declared.bodies.Body.{Body}
 use Rattle.bound_rules.specs.declared.sizes.Summary.{Summary}
-use Rattle.section_sizes.specs.Trails.{MOST}
 use Rattle.section_sizes.specs.Parts.{is_raised, called_level, level_behind, ReachesItem, reaches_first, ReachesCall, EntersRaised, CountsBack, CountsOn, CountsOut, CountsWithin, out_here, out_behind, within_here, within_called, within_behind}
 use Rattle.bound_rules.specs.Items.{reaches_level}
 use Rattle.section_sizes.specs.Computed.{joined, KnownBody, known_body_of, callee, endless_call, calls_endless, called_most, most_at, most_of, joined_both, called_out, out_at, out_of}
@@ -28,22 +28,24 @@ pub out_within : (config : Config) (app : App) (level : Option ℕ) (f n : ℕ) 
 out_within config app level f n (out_here l g i k r b) = within_here l g i k r (back_on config app l g i k b)
 out_within config app level f n (out_behind l f' i g k m call inner b) = within_behind l f' i g k m call inner (back_on config app l f' (i + 1) m b)
 
--- ---- the larger of two
+-- ---- the greatest of two at each place
 
-is_right : (x y v : ℕ) → x < y → v ≡ y → v ≡ max x y
-is_right x y v lt e = omega (arith, lt, e)
+-- what holds of each number above 0, the own one or the called one of a place, holds of the greatest of all
+greatest_holds : (P : ℕ → Type 0) (N : ℕ) (own called : ℕ → ℕ) → ((i : ℕ) → 0 < own i → P (own i)) → ((i : ℕ) → i < N → 0 < called i → P (called i))
+    → 0 < max_below N (λ i. max (own i) (called i)) → P (max_below N (λ i. max (own i) (called i)))
+greatest_holds P N own called by_own by_called pos = by (max_below-some N (λ i. max (own i) (called i)))
+  where
+    from : (i : ℕ) → i < N → 0 < max (own i) (called i) → P (max (own i) (called i))
+    from i lt some =
+        ⊎_elim
+        (λ (less : own i < called i). let is : called i ≡ max (own i) (called i) = omega (arith, less) in subst P is (by_called i lt (omega (arith, less))))
+        (λ (le : called i ≤ own i). let is : own i ≡ max (own i) (called i) = omega (arith, le) in subst P is (by_own i (omega (arith, le, some))))
+        (cases_lt (own i) (called i))
 
-is_left : (x y v : ℕ) → y ≤ x → v ≡ x → v ≡ max x y
-is_left x y v le e = omega (arith, le, e)
-
-some_right : (x y v : ℕ) → x < y → y ≡ v → 0 < v
-some_right x y v lt e = omega (arith, lt, e)
-
-some_left : (x y : ℕ) → 0 < max x y → y ≤ x → 0 < x
-some_left x y pos le = omega (arith, pos, le)
-
-above_none : (x y : ℕ) → x < y → 0 < y
-above_none x y lt = omega (arith, lt)
+    by : (max_below N (λ i. max (own i) (called i)) ≡ 0) ⊎ ((i : ℕ) × (i < N) × (max (own i) (called i) ≡ max_below N (λ i. max (own i) (called i))))
+        → P (max_below N (λ i. max (own i) (called i)))
+    by (inl none) = absurd (omega (arith, none, pos))
+    by (inr at_one) = subst P at_one.2 (from at_one.0 at_one.1 (let e = at_one.2 in omega (arith, e, pos)))
 
 -- the functions that a body calls
 pub record Called (config : Config) (app : App) (level : Option ℕ) (f : ℕ) (whole own : List Summary) : Type 0 where
@@ -191,15 +193,15 @@ module _ (config : Config) (app : App) (level : Option ℕ) (f : ℕ) (there : f
 
     module _ (m : Measures config app level f) (z : Sizes config app level f m) where
       abbrev AttainsWithin : ℕ → Type 0
-      AttainsWithin size = (n : ℕ) × CountsWithin config app level f n × (min MOST n ≡ size)
+      AttainsWithin size = (n : ℕ) × CountsWithin config app level f n × (min size_limit n ≡ size)
 
       abbrev AttainsOut : ℕ → Type 0
-      AttainsOut size = (n : ℕ) × CountsOut config app level f n × (min MOST n ≡ size)
+      AttainsOut size = (n : ℕ) × CountsOut config app level f n × (min size_limit n ≡ size)
 
       abbrev N : ℕ
       N = length (function app f).items
 
-      on_small : (i n : ℕ) → ReachesItem app f i → CountsOn config app level f i n → min MOST n ≤ get_or z.on i 0
+      on_small : (i n : ℕ) → ReachesItem app f i → CountsOn config app level f i n → min size_limit n ≤ get_or z.on i 0
       on_small i n r part = on_none config app level f i n m z r part
 
       begins : (i n : ℕ) → CountsOn config app level f i n → i < N
@@ -224,17 +226,17 @@ module _ (config : Config) (app : App) (level : Option ℕ) (f : ℕ) (there : f
           at : (i : ℕ) → i < N → most_at K z.on i ≤ most_of K z.on
           at i lt = max_below-at N (most_at K z.on) i lt
 
-          here : (i n : ℕ) → ReachesItem app f i → CountsOn config app level f i n → min MOST n ≤ most_of K z.on
+          here : (i n : ℕ) → ReachesItem app f i → CountsOn config app level f i n → min size_limit n ≤ most_of K z.on
           here i n r part = let le = on_small i n r part in let more = at i (begins i n part) in omega (arith, le, more)
 
-          called : (i g n : ℕ) → ReachesCall app f i g → CountsWithin config app (Level i) g n → min MOST n ≤ most_of K z.on
+          called : (i g n : ℕ) → ReachesCall app f i g → CountsWithin config app (Level i) g n → min size_limit n ≤ most_of K z.on
           called i g n c part =
               let le = (exact i g c).most.none_larger n part in
               let more = at i c.item.inside in
               let is = called_most_is i g c in
               omega (arith, le, more, is)
 
-          behind : (i g n q : ℕ) → ReachesCall app f i g → CountsOut config app (Level i) g n → CountsOn config app level f (i + 1) q → min MOST (n + q) ≤ most_of K z.on
+          behind : (i g n q : ℕ) → ReachesCall app f i g → CountsOut config app (Level i) g n → CountsOn config app level f (i + 1) q → min size_limit (n + q) ≤ most_of K z.on
           behind i g n q c out part =
               let le = (exact i g c).out.none_larger n out in
               let rest = on_small (i + 1) q (reached_after config app level f i g n c out) part in
@@ -242,10 +244,10 @@ module _ (config : Config) (app : App) (level : Option ℕ) (f : ℕ) (there : f
               let is = called_most_is i g c in
               omega (arith, le, rest, more, is)
 
-          larger : (n : ℕ) → CountsWithin config app level f n → min MOST n ≤ most_of K z.on
+          larger : (n : ℕ) → CountsWithin config app level f n → min size_limit n ≤ most_of K z.on
           larger n w = cases_of level f n refl refl w
             where
-              cases_of : (l : Option ℕ) (h n : ℕ) → l ≡ level → h ≡ f → CountsWithin config app l h n → min MOST n ≤ most_of K z.on
+              cases_of : (l : Option ℕ) (h n : ℕ) → l ≡ level → h ≡ f → CountsWithin config app l h n → min size_limit n ≤ most_of K z.on
               cases_of l h n e d (within_here a b i q r part) =
                   here i q (subst (λ v. ReachesItem app v i) d r) (subst (λ v. CountsOn config app level v i q) d (subst (λ v. CountsOn config app v b i q) e part))
               cases_of l h n e d (within_called a b i g q c part) =
@@ -309,23 +311,9 @@ module _ (config : Config) (app : App) (level : Option ℕ) (f : ℕ) (there : f
                   (a.0 + b.1.0, within_behind level f i g a.0 b.1.0 c a.1 b.1.1, omega (arith, e, d, less))
 
           attains : 0 < most_of K z.on → AttainsWithin (most_of K z.on)
-          attains pos = by (max_below-some N (most_at K z.on))
-            where
-              by : (max_below N (most_at K z.on) ≡ 0) ⊎ ((i : ℕ) × (i < N) × (most_at K z.on i ≡ max_below N (most_at K z.on))) → AttainsWithin (most_of K z.on)
-              by (inl none) = absurd (omega (arith, none, pos))
-              by (inr at_one) = subst AttainsWithin at_one.2 (from at_one.0 at_one.1 (let e = at_one.2 in omega (arith, e, pos)))
-                where
-                  from : (i : ℕ) → i < N → 0 < most_at K z.on i → AttainsWithin (most_at K z.on i)
-                  from i lt some = ⊎_elim
-                      (λ less.
-                      let a = adding i (operation app f i) lt refl (above_none _ _ less) in
-                      let is = a.2 in
-                      let got = from_call i a.0 a.1 (some_right _ _ _ less is) in
-                      (got.0, got.1, is_right _ _ _ less (got.2 ∙ sym is)))
-                      (λ le.
-                      let got = from_on i (some_left _ _ some le) in
-                      (got.0, got.1, is_left _ _ _ le got.2))
-                      (cases_lt (get_or z.on i 0) (called_most K z.on i (operation app f i)))
+          attains =
+              greatest_holds AttainsWithin N (λ i. get_or z.on i 0) (λ i. called_most K z.on i (operation app f i)) from_on
+              (λ i lt pos. let a = adding i (operation app f i) lt refl pos in subst AttainsWithin (sym a.2) (from_call i a.0 a.1 (subst (λ n. 0 < n) a.2 pos)))
 
       pub out_is : IsGreatestPart (CountsOut config app level f) (out_of K z.back)
       out_is = record { none_larger = larger; attained = attains }
@@ -333,7 +321,7 @@ module _ (config : Config) (app : App) (level : Option ℕ) (f : ℕ) (there : f
           at : (i : ℕ) → i < N → out_at K z.back i ≤ out_of K z.back
           at i lt = max_below-at N (out_at K z.back) i lt
 
-          here : (i n : ℕ) → ReachesItem app f i → CountsBack config app level f i n → min MOST n ≤ out_of K z.back
+          here : (i n : ℕ) → ReachesItem app f i → CountsBack config app level f i n → min size_limit n ≤ out_of K z.back
           here i n r part =
               let le = back_none config app level f i n m z r part in
               let more = at i (back_begins config app level f i n part).item.inside in
@@ -343,7 +331,7 @@ module _ (config : Config) (app : App) (level : Option ℕ) (f : ℕ) (there : f
           both_is a b p q =
               ap (λ c. cond (c && ltb 0 b) (joined a b) 0) (lt-ltb 0 a p) ∙ ap (λ c. cond c (joined a b) 0) (lt-ltb 0 b q)
 
-          behind : (i g n q : ℕ) → ReachesCall app f i g → CountsOut config app (Level i) g n → CountsBack config app level f (i + 1) q → min MOST (n + q) ≤ out_of K z.back
+          behind : (i g n q : ℕ) → ReachesCall app f i g → CountsOut config app (Level i) g n → CountsBack config app level f (i + 1) q → min size_limit (n + q) ≤ out_of K z.back
           behind i g n q c out part =
               let le = (exact i g c).out.none_larger n out in
               let some = out_some (Level i) g n out in
@@ -357,10 +345,10 @@ module _ (config : Config) (app : App) (level : Option ℕ) (f : ℕ) (there : f
               out_some l g n (out_here k a j m r b) = back_some config app k a j m b
               out_some l g n (out_behind k a j h m q c inner b) = let p = back_some config app k a (j + 1) q b in omega (arith, p)
 
-          larger : (n : ℕ) → CountsOut config app level f n → min MOST n ≤ out_of K z.back
+          larger : (n : ℕ) → CountsOut config app level f n → min size_limit n ≤ out_of K z.back
           larger n w = cases_of level f n refl refl w
             where
-              cases_of : (l : Option ℕ) (h n : ℕ) → l ≡ level → h ≡ f → CountsOut config app l h n → min MOST n ≤ out_of K z.back
+              cases_of : (l : Option ℕ) (h n : ℕ) → l ≡ level → h ≡ f → CountsOut config app l h n → min size_limit n ≤ out_of K z.back
               cases_of l h n e d (out_here a b i q r part) =
                   here i q (subst (λ v. ReachesItem app v i) d r) (subst (λ v. CountsBack config app level v i q) d (subst (λ v. CountsBack config app v b i q) e part))
               cases_of l h n e d (out_behind a b i g q s c out part) =
@@ -415,23 +403,9 @@ module _ (config : Config) (app : App) (level : Option ℕ) (f : ℕ) (there : f
               (a.1.0, out_here level f i a.1.0 a.0.reached a.1.1, a.1.2)
 
           attains : 0 < out_of K z.back → AttainsOut (out_of K z.back)
-          attains pos = by (max_below-some N (out_at K z.back))
-            where
-              by : (max_below N (out_at K z.back) ≡ 0) ⊎ ((i : ℕ) × (i < N) × (out_at K z.back i ≡ max_below N (out_at K z.back))) → AttainsOut (out_of K z.back)
-              by (inl none) = absurd (omega (arith, none, pos))
-              by (inr at_one) = subst AttainsOut at_one.2 (from at_one.0 at_one.1 (let e = at_one.2 in omega (arith, e, pos)))
-                where
-                  from : (i : ℕ) → i < N → 0 < out_at K z.back i → AttainsOut (out_at K z.back i)
-                  from i lt some = ⊎_elim
-                      (λ less.
-                      let a = adding i (operation app f i) lt refl (above_none _ _ less) in
-                      let is = a.2 in
-                      let got = from_call i a.0 a.1 (some_right _ _ _ less is) in
-                      (got.0, got.1, is_right _ _ _ less (got.2 ∙ sym is)))
-                      (λ le.
-                      let got = from_back i (some_left _ _ some le) in
-                      (got.0, got.1, is_left _ _ _ le got.2))
-                      (cases_lt (get_or z.back i 0) (called_out K z.back i (operation app f i)))
+          attains =
+              greatest_holds AttainsOut N (λ i. get_or z.back i 0) (λ i. called_out K z.back i (operation app f i)) from_back
+              (λ i lt pos. let a = adding i (operation app f i) lt refl pos in subst AttainsOut (sym a.2) (from_call i a.0 a.1 (subst (λ n. 0 < n) a.2 pos)))
 
       -- ---- the summary
 

@@ -4,6 +4,7 @@ use Rattle.sloth_base.specs.declared.app.Func.{Func}
 use Rattle.sloth_base.specs.declared.app.Op.{Op}
 use Rattle.sloth_base.specs.declared.app.Op.TheVariants as op
 use Rattle.sloth_base.specs.Named.{item_of, label_of}
+use Rattle.sloth_base.specs.Limits.{size_limit}
 use Rattle.code_rules.specs.Code.{is_followed, way}
 use Rattle.call_graph.specs.Reached.{any_below}
 use Rattle.call_graph.specs.Tables.{max_below}
@@ -12,7 +13,6 @@ use Rattle.section_sizes.specs.declared.graph.Ways.{Ways}
 use Rattle.bound_rules.specs.declared.bodies.Body.{Body}
 use Rattle.bound_rules.specs.declared.sizes.Summary.{Summary}
 use Rattle.section_sizes.specs.Graph.{no_ways}
-use Rattle.section_sizes.specs.Trails.{MOST}
 use Rattle.bound_rules.specs.Items.{reaches_level, callee_of}
 use Rattle.bound_rules.specs.Summaries.{summary_of}
 
@@ -49,7 +49,7 @@ is_passed s = ltb 0 s.back
 
 -- a sum, counted up to the greatest size
 abbrev pub joined : ℕ → ℕ → ℕ
-joined one other = min MOST (one + other)
+joined one other = min size_limit (one + other)
 
 -- what an operation adds
 abbrev pub count : Op → ℕ

@@ -3,11 +3,11 @@ use Rattle.std.specs.Prelude.{ℕ, ◌<◌, ◌≤◌, ◌≡◌, ◌↔◌, min
 use Rattle.sloth_base.specs.declared.config.Config.{Config}
 use Rattle.sloth_base.specs.declared.app.App.{App}
 use Rattle.sloth_base.specs.Named.{function}
+use Rattle.sloth_base.specs.Limits.{size_limit}
 use Rattle.code_rules.specs.Code.{Calls}
 use Rattle.bound_rules.specs.declared.bodies.Body.{Body}
 use Rattle.bound_rules.specs.declared.sizes.Summary.{Summary}
 use Rattle.section_sizes.specs.Graph.{HasMark}
-use Rattle.section_sizes.specs.Trails.{MOST}
 use Rattle.section_sizes.specs.Parts.{ceiling_before, ReachesItem, Returns, CountsBack, CountsOn, CountsOut, CountsWithin}
 use Rattle.bound_rules.specs.Summaries.{summary_of, AreCountedUp}
 
@@ -37,8 +37,8 @@ KnowsReturns app f returns = (g : ℕ) → Calls app f g → Decides (get_or ret
 
 -- the greatest size of parts of a kind, counted up to the greatest that is counted; 0 where there is none
 pub record IsGreatestPart (Kind : ℕ → Type 0) (size : ℕ) : Type 0 where
-  pub none_larger : (n : ℕ) → Kind n → min MOST n ≤ size
-  pub attained : 0 < size → (n : ℕ) × Kind n × (min MOST n ≡ size)
+  pub none_larger : (n : ℕ) → Kind n → min size_limit n ≤ size
+  pub attained : 0 < size → (n : ℕ) × Kind n × (min size_limit n ≡ size)
 
 -- no part of function f is larger than this, however it is counted
 pub record HasLimit (config : Config) (app : App) (level : Option ℕ) (f : ℕ) : Type 0 where

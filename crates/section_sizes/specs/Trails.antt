@@ -1,11 +1,8 @@
 -- Trails from node to node, their sizes, and the longest ones.
 use Rattle.std.specs.Prelude.{ℕ, ◌+◌, ◌<◌, ◌≤◌, ◌≡◌, ◌==◌, cond, min, max, List, [], ◌∷◌, length, Option, Some, None, get_or}
+use Rattle.sloth_base.specs.Limits.{size_limit}
 use Rattle.section_sizes.specs.declared.graph.Ways.{Ways}
 use Rattle.section_sizes.specs.Graph.{ways_of, Goes}
-
--- sizes are counted up to this one
-abbrev pub MOST : ℕ
-MOST = 1000001
 
 -- a trail: node i leads to the first of these, and each of them to the next
 abbrev pub IsTrail : List Ways → ℕ → List ℕ → Type 0
@@ -31,24 +28,24 @@ pub record IsEnded (ways : List Ways) (ends : List ℕ) (i : ℕ) (further : Lis
 pub record AreSizes (ways : List Ways) (steps ends : List ℕ) : Type 0 where
   pub steps_count : length steps ≡ length ways
   pub ends_count : length ends ≡ length ways
-  pub steps_small : (i : ℕ) → get_or steps i 0 ≤ 1000001
-  pub ends_small : (i : ℕ) → get_or ends i 0 ≤ 1000001
+  pub steps_small : (i : ℕ) → get_or steps i 0 ≤ size_limit
+  pub ends_small : (i : ℕ) → get_or ends i 0 ≤ size_limit
 
 -- no size of a table is above the greatest that is counted
 abbrev pub IsSmall : List ℕ → Type 0
-IsSmall table = (i : ℕ) → get_or table i 0 ≤ 1000001
+IsSmall table = (i : ℕ) → get_or table i 0 ≤ size_limit
 
 -- the size of the longest trail from a node, or 0 where there is none
 pub record IsLongest (ways : List Ways) (steps ends : List ℕ) (i size : ℕ) : Type 0 where
-  pub none_longer : (further : List ℕ) → IsEnded ways ends i further → min MOST (size_of_trail steps ends i further) ≤ size
-  pub attained : 0 < size → (further : List ℕ) × IsEnded ways ends i further × (min MOST (size_of_trail steps ends i further) ≡ size)
+  pub none_longer : (further : List ℕ) → IsEnded ways ends i further → min size_limit (size_of_trail steps ends i further) ≤ size
+  pub attained : 0 < size → (further : List ℕ) × IsEnded ways ends i further × (min size_limit (size_of_trail steps ends i further) ≡ size)
 
 -- ---- how it is computed
 
 -- the longest trail that goes on along a way, by a table
 abbrev pub along : List ℕ → (step : ℕ) → Option ℕ → ℕ
 along table step None = 0
-along table step (Some j) = cond (get_or table j 0 == 0) 0 (min MOST (step + get_or table j 0))
+along table step (Some j) = cond (get_or table j 0 == 0) 0 (min size_limit (step + get_or table j 0))
 
 -- the longest trail from node i: it ends there, or goes on along one of its ways
 abbrev pub longest_from : List Ways → (table steps ends : List ℕ) → ℕ → ℕ

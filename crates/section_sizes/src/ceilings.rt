@@ -1,11 +1,11 @@
 //! The greatest ceiling of what a function holds before each of its items (OSEK OS 2.2.3, section 8.6).
-ghost use Rattle.std.specs.Prelude.{◌≡◌, ◌≤◌, ◌<◌, ◌+◌, ℕ, length, map, get_or, None, Some, IfOk};
+ghost use Rattle.std.specs.Prelude.{◌≡◌, ◌≤◌, ◌<◌, ◌+◌, ℕ, length, map, get_or, None, IfOk};
 ghost use Rattle.code_rules.specs.Code.{held_list_at};
 ghost use Rattle.osek_scheduler.specs.Priority.{greatest, ceiling};
-ghost use Rattle.body_faults.specs.Labels.{last_label_below, list_of, ArePlaced};
+ghost use Rattle.body_faults.specs.Labels.{last_label_below, ArePlaced};
 ghost use Rattle.section_sizes.specs.Ceilings.{AreCeilings};
 
-use body_faults::held::{held_after, held_by};
+use body_faults::held::{held_after, held_at_label};
 use body_faults::labels::last_labels;
 use osek_scheduler::ceilings::ceiling;
 use sloth_base::app::Func;
@@ -46,22 +46,6 @@ fn greatest_ceiling(config: &Config, table: &[u32], held: &[u32]) -> u32
         top = ceiling_by(config, table, *resource).max(top);
     }
     top
-}
-
-/// What is held behind the last label of a place.
-fn held_at_label(
-    alloc: Global,
-    func: &Func,
-    last: Option<usize>,
-    held: Vec<u32>,
-) -> Result<Vec<u32>, NoMemory>
-    requires { (k : ℕ) → last ≡ Some k → k < length func.now.labels }
-    ensures { IfOk result (λ next. next.items ≡ list_of func.now.labels last held.items) }
-{
-    match last {
-        Some(label) => held_by(alloc, func.labels.items()[label].holds.items()),
-        None => Ok(held),
-    }
 }
 
 /// The same before each item, by the last label at each place.

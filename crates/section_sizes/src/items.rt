@@ -1,6 +1,7 @@
 //! What the items of one body add to parts of sections.
 ghost use Rattle.std.specs.Prelude.{◌≡◌, ◌≤◌, ◌<◌, ℕ, not, cond, false, length, get_or, IfOk};
 ghost use Rattle.sloth_base.specs.Named.{item_of};
+ghost use Rattle.sloth_base.specs.Limits.{size_limit};
 ghost use Rattle.raised_sections.specs.Sections.{is_counted};
 ghost use Rattle.bound_rules.specs.Items.{is_going};
 ghost use Rattle.section_sizes.specs.Computed.{is_alive, is_passed, joined, count, going_size, ending_size, leaving_size};
@@ -12,13 +13,11 @@ use bound_rules::items::{is_going, reaches_level};
 use bound_rules::marks::{is_marked, number_at};
 use bound_rules::sizes::Summary;
 use sloth_base::app::{Call, Func, Op};
+use sloth_base::limits::SIZE_LIMIT;
 use sloth_base::memory::NoMemory;
 use sloth_base::service::Service;
 use std::alloc::Global;
 use text_pieces::growth::push;
-
-/// Sizes are counted up to this one.
-const MOST: u32 = 1_000_001;
 
 fn is_alive(body: &Body, level: Option<u32>, number: usize) -> bool
     ensures { result ≡ is_alive body.now level number }
@@ -69,12 +68,12 @@ pub fn passed_functions(alloc: Global, whole: &[Summary]) -> Result<Vec<bool>, N
 
 /// The sum, or the greatest size that is counted.
 pub fn joined(one: u32, other: u32) -> u32
-    requires one_small { one ≤ 1000001 }
-    requires other_small { other ≤ 1000001 }
+    requires one_small { one ≤ size_limit }
+    requires other_small { other ≤ size_limit }
     ensures { result ≡ joined one other }
 {
     let sum = one + other;
-    if sum < MOST { sum } else { MOST }
+    if sum < SIZE_LIMIT { sum } else { SIZE_LIMIT }
 }
 
 fn is_terminate(call: Call) -> bool

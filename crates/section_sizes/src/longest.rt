@@ -1,24 +1,23 @@
 //! The longest trails through nodes that stand in an order.
 ghost use Rattle.std.specs.Prelude.{◌≡◌, ℕ, ◌+◌, ◌<◌, ◌≤◌, length, get_or, min, max, Some, IfOk};
+ghost use Rattle.sloth_base.specs.Limits.{size_limit};
 ghost use Rattle.section_sizes.specs.Graph.{Goes, IsOrder};
-ghost use Rattle.section_sizes.specs.Trails.{MOST, along, longest_from, AreSizes, IsSmall, IsLongest};
+ghost use Rattle.section_sizes.specs.Trails.{along, longest_from, AreSizes, IsSmall, IsLongest};
 
 use crate::graph::Ways;
+use sloth_base::limits::SIZE_LIMIT;
 use sloth_base::memory::NoMemory;
 use std::alloc::Global;
 use text_pieces::growth::push;
 
-/// Sizes are counted up to this one.
-const MOST: u32 = 1_000_001;
-
 /// The sum, or the greatest size that is counted.
 fn joined(one: u32, other: u32) -> u32
-    requires one_small { one ≤ 1000001 }
-    requires other_small { other ≤ 1000001 }
-    ensures { result ≡ min MOST (one + other) }
+    requires one_small { one ≤ size_limit }
+    requires other_small { other ≤ size_limit }
+    ensures { result ≡ min size_limit (one + other) }
 {
     let sum = one + other;
-    if sum < MOST { sum } else { MOST }
+    if sum < SIZE_LIMIT { sum } else { SIZE_LIMIT }
 }
 
 fn larger(one: u32, other: u32) -> u32
@@ -31,7 +30,7 @@ fn larger(one: u32, other: u32) -> u32
 fn along(table: &[u32], step: u32, way: Option<usize>) -> u32
     requires inside { (j : ℕ) → way ≡ Some j → j < length table.now }
     requires small { IsSmall table.now }
-    requires step_small { step ≤ 1000001 }
+    requires step_small { step ≤ size_limit }
     ensures { result ≡ along table.now step way }
 {
     match way {

@@ -1,6 +1,7 @@
 //! The summary of one function, from those of the functions that it calls.
 ghost use Rattle.std.specs.Prelude.{◌≡◌, ◌≤◌, ◌<◌, ℕ, length, IfOk};
 ghost use Rattle.sloth_base.specs.Named.{item_of, function};
+ghost use Rattle.sloth_base.specs.Limits.{size_limit};
 ghost use Rattle.code_rules.specs.WellFormed.{WellFormed};
 ghost use Rattle.code_rules.specs.Code.{Calls};
 ghost use Rattle.section_sizes.specs.Trails.{IsSmall};
@@ -117,8 +118,8 @@ fn most_of(
 
 /// One part behind another, where there are both.
 fn joined_both(one: u32, other: u32) -> u32
-    requires one_small { one ≤ 1000001 }
-    requires other_small { other ≤ 1000001 }
+    requires one_small { one ≤ size_limit }
+    requires other_small { other ≤ size_limit }
     ensures { result ≡ joined_both one other }
 {
     if 0 < one && 0 < other {

@@ -1,4 +1,7 @@
-//! The code of every service, whichever crate generates it.
+//! The code of every service (OSEK OS 2.2.3, section 13), whichever crate generates it.
+//!
+//! Of each of the sixteen services: its block at its place with its marks, and with the effect that one table says (`block`, `specs/Calls`, which
+//! also says with which objects a service is called). The effects: `service_gen`, `event_gen`, `alarm_gen`.
 #![tactic(auto)]
 
 ghost use Rattle.std.specs.Prelude.{IfOk};

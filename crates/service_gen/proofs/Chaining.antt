@@ -5,8 +5,8 @@ use Rattle.std.proofs.lemmas.Bool.{cases_eq, eq-eqb, ne_eqb}
 use Rattle.sloth_base.specs.Machine.{Core, State}
 use Rattle.sloth_base.specs.Arrive.{arrive, state_arrive}
 use Rattle.sloth_base.specs.Status.{E_OS_LIMIT}
-use Rattle.sloth_base.specs.MemoryMap.{memory_base}
-use Rattle.sloth_region.specs.Layout.{cur, active, controller_base}
+use Rattle.sloth_base.specs.MemoryMap.{memory_base, memory_bytes, controller_base, line_count}
+use Rattle.sloth_region.specs.Layout.{cur, active}
 use Rattle.rv32_instr.specs.declared.InstrKind.{InstrKind}
 use Rattle.rv32_instr.specs.declared.InstrKind.TheVariants.{Addi}
 use Rattle.rv32_instr.specs.Ram.{word_at}
@@ -38,10 +38,10 @@ module _ (offset task own place : ℕ) (c : Core) (h : MayChain offset task own 
   low : 1024 ≤ offset
   low = h.goes_back.can_run.behind
 
-  inside : offset + 252 ≤ 0x20_0000
+  inside : offset + 252 ≤ memory_bytes
   inside = let f = h.goes_back.can_run.inside in omega arith
 
-  line : task < 32
+  line : task < line_count
   line = let s = h.is_task in omega arith
 
   abbrev st : List ℕ → State
@@ -61,7 +61,7 @@ module _ (offset task own place : ℕ) (c : Core) (h : MayChain offset task own 
   word = word_at c.ram (active task)
 
   -- the caller's end, the raised line, and the way down
-  go_owe : (o : ℕ) → o + 52 ≤ 0x20_0000 → (p : List ℕ) (x1 x10 : ℕ) (E : List ℕ → State → State → Type 0) → ((lines : List ℕ) (middle end : State) → AreOfLine own lines → Terminated own place (own ∷ []) (st (arrive lines p)) middle → end ≡ state_arrive (task ∷ []) middle → E (own ∷ []) (st (arrive lines p)) end) → Owes offset (offset + 4 + 248) o (ending_code ++ (raising_code task ++ leaving_code)) 0 E (st p) (record (masked (based c)) { registers = 0 ∷ x1 ∷ x2 ∷ controller_base ∷ memory_base ∷ x5 ∷ tail x10; pending = p })
+  go_owe : (o : ℕ) → o + 52 ≤ memory_bytes → (p : List ℕ) (x1 x10 : ℕ) (E : List ℕ → State → State → Type 0) → ((lines : List ℕ) (middle end : State) → AreOfLine own lines → Terminated own place (own ∷ []) (st (arrive lines p)) middle → end ≡ state_arrive (task ∷ []) middle → E (own ∷ []) (st (arrive lines p)) end) → Owes offset (offset + 4 + 248) o (ending_code ++ (raising_code task ++ leaving_code)) 0 E (st p) (record (masked (based c)) { registers = 0 ∷ x1 ∷ x2 ∷ controller_base ∷ memory_base ∷ x5 ∷ tail x10; pending = p })
   go_owe o small p x1 x10 E k =
       ends_owe offset (offset + 4 + 248) own E (st p) (raising_code task ++ leaving_code) (record (masked (based c)) { pending = p }) x1 x2 x5 (tail x10) h.is_own h.runs low o
       (λ lines only.
@@ -84,7 +84,7 @@ module _ (offset task own place : ℕ) (c : Core) (h : MayChain offset task own 
       (λ last is went. inr (record { other = ne; not_suspended = other; touches = refl; status = is; back = went }))
 
   -- behind the look at the task
-  looked_owe : (o : ℕ) (p : List ℕ) (v : ℕ) → o + 68 ≤ 0x20_0000 → task ≢ own → Finds task (record c { pending = p }) v
+  looked_owe : (o : ℕ) (p : List ℕ) (v : ℕ) → o + 68 ≤ memory_bytes → task ≢ own → Finds task (record c { pending = p }) v
       → Owes offset (offset + 4 + 248) o (refusing_code ++ (back_code ++ (ending_code ++ (raising_code task ++ leaving_code)))) 0 (λ u. Chained task own place (task ∷ u)) (st p)
       (record (masked (based c)) { registers = 0 ∷ v ∷ x2 ∷ controller_base ∷ memory_base ∷ x5 ∷ tail word; pending = p })
   looked_owe o p v small ne found =

@@ -3,8 +3,9 @@ use Rattle.std.proofs.Common.{◌≡◌, ℕ, ◌+◌, ◌*◌, ◌%◌, ◌<◌
 use Rattle.std.specs.Prelude.{set}
 use Rattle.sloth_base.specs.Machine.{Core, State}
 use Rattle.sloth_base.specs.Arrive.{arrive, state_arrive}
-use Rattle.sloth_base.specs.MemoryMap.{memory_base}
-use Rattle.sloth_region.specs.Layout.{cur, active, events, below_word, idle_context, context_level, context_cur, context_below, controller_base}
+use Rattle.sloth_base.specs.MemoryMap.{memory_base, controller_base}
+use Rattle.sloth_base.specs.Limits.{task_limit}
+use Rattle.sloth_region.specs.Layout.{cur, active, events, below_word, idle_context, context_level, context_cur, context_below}
 use Rattle.rv32_instr.specs.declared.InstrKind.{InstrKind}
 use Rattle.rv32_instr.specs.Ram.{word_at, with_word}
 use Rattle.masked_code.proofs.Owes.{◌▸◌, writes, loads, stores, clears, AreOfLine, Owes}
@@ -16,10 +17,10 @@ use Rattle.block_parts.specs.Pieces.{ending_code}
 use Rattle.service_gen.specs.TerminateTask.{ended_ram, Terminated}
 
 -- the end of a task changes no word behind those of the tasks
-pub ended_kept : (ram : List ℕ) (own p : ℕ) → own < 30 → below_word ≤ p → word_at (ended_ram ram own) p ≡ word_at ram p
+pub ended_kept : (ram : List ℕ) (own p : ℕ) → own < task_limit → below_word ≤ p → word_at (ended_ram ram own) p ≡ word_at ram p
 ended_kept ram own p small far = word_at-other (with_word ram (active own) 0) (events own) 0 p (inr (omega arith)) ∙ word_at-other ram (active own) 0 p (inr (omega arith))
 
-module _ (from to own : ℕ) (E : List ℕ → State → State → Type 0) (start : State) (rest : List InstrKind) (c : Core) (x1 x2 x5 : ℕ) (tail : List ℕ) (small : own < 30) (runs : word_at c.ram cur ≡ own + 1) (low : 1024 ≤ from) where
+module _ (from to own : ℕ) (E : List ℕ → State → State → Type 0) (start : State) (rest : List InstrKind) (c : Core) (x1 x2 x5 : ℕ) (tail : List ℕ) (small : own < task_limit) (runs : word_at c.ram cur ≡ own + 1) (low : 1024 ≤ from) where
   -- what is owed of the end: of the code behind it, whatever arrived of the task before
   pub ends_owe : (o : ℕ) → ((lines : List ℕ) → AreOfLine own lines → Owes from to (behind 9 o) rest 0 (λ touched. E (own ∷ touched)) (state_arrive lines start) (record c { registers = 0 ∷ (memory_base + 12 * (own + 1)) ∷ x2 ∷ controller_base ∷ memory_base ∷ 8 * (own + 1) ∷ tail; pending = set (arrive lines c.pending) own 0; ram = ended_ram c.ram own })) → Owes from to o (ending_code ++ rest) 0 E start (record c { registers = 0 ∷ x1 ∷ x2 ∷ controller_base ∷ memory_base ∷ x5 ∷ tail })
   ends_owe o go =
@@ -36,14 +37,14 @@ module _ (from to own : ℕ) (E : List ℕ → State → State → Type 0) (star
       ▸ go lines only
 
 -- what runs below is as it was
-pub ended_below : (c d : Core) (own place : ℕ) → own < 30 → d.ram ≡ ended_ram c.ram own → IsBelow place c → IsBelow place d
+pub ended_below : (c d : Core) (own place : ℕ) → own < task_limit → d.ram ≡ ended_ram c.ram own → IsBelow place c → IsBelow place d
 ended_below c d own place small e b =
     let past = b.behind in
     let kept : (p : ℕ) → below_word ≤ p → word_at d.ram p ≡ word_at c.ram p = λ p far. ap (λ r. word_at r p) e ∙ ended_kept c.ram own p small far in
     record { is = kept below_word (omega arith) ∙ b.is; aligned = b.aligned; behind = past; inside = b.inside; returns = ap (λ w. w % 4) (kept place (omega arith)) ∙ b.returns; level = subst (λ w. w < 256) (sym (kept (place + context_level) (omega arith))) b.level }
 
 -- from the state that the way down leaves, but for the pending bytes
-pub has_ended : (c d : Core) (own place : ℕ) (start end : State) → own < 30 → idle_context ≤ place → d.ram ≡ ended_ram c.ram own → start.core.ram ≡ c.ram → start.core.enabled ≡ d.enabled → start.core.levels ≡ d.levels → start.core.mscratch ≡ d.mscratch → start.core.controller ≡ d.controller → HasLeft place d end → Terminated own place (own ∷ []) start (record end { core = record end.core { pending = set start.core.pending own 0 } })
+pub has_ended : (c d : Core) (own place : ℕ) (start end : State) → own < task_limit → idle_context ≤ place → d.ram ≡ ended_ram c.ram own → start.core.ram ≡ c.ram → start.core.enabled ≡ d.enabled → start.core.levels ≡ d.levels → start.core.mscratch ≡ d.mscratch → start.core.controller ≡ d.controller → HasLeft place d end → Terminated own place (own ∷ []) start (record end { core = record end.core { pending = set start.core.pending own 0 } })
 has_ended c d own place start end small past e same en le sc co has_left =
     let left = has_left.left in
     let kept : (p : ℕ) → below_word ≤ p → word_at d.ram p ≡ word_at start.core.ram p = λ p far. ap (λ r. word_at r p) e ∙ ended_kept c.ram own p small far ∙ ap (λ r. word_at r p) (sym same) in

@@ -6,8 +6,9 @@ use Rattle.sloth_base.specs.Machine.{Core, State}
 use Rattle.sloth_base.specs.Arithmetic.{plus, one_if, left_shift}
 use Rattle.sloth_base.specs.Arrive.{arrive}
 use Rattle.sloth_base.specs.Status.{E_OK}
-use Rattle.sloth_base.specs.MemoryMap.{memory_base}
-use Rattle.sloth_region.specs.Layout.{cur, active, controller_base}
+use Rattle.sloth_base.specs.MemoryMap.{memory_base, memory_bytes, controller_base, line_count}
+use Rattle.sloth_base.specs.Limits.{task_limit}
+use Rattle.sloth_region.specs.Layout.{cur, active}
 use Rattle.rv32_instr.specs.declared.InstrKind.{InstrKind}
 use Rattle.rv32_instr.specs.Ram.{word_at}
 use Rattle.masked_code.specs.Place.{offset_state}
@@ -39,10 +40,10 @@ apart own task = plus (own + 1) (negsuc task)
 abbrev told : ℕ → ℕ
 told v = left_shift (one_if (nat_lt 0 v)) 1
 
-told_own : (task own : ℕ) → task < 30 → task ≡ own → told (apart own task) ≡ 0
+told_own : (task own : ℕ) → task < task_limit → task ≡ own → told (apart own task) ≡ 0
 told_own task own x e = let z : apart own task ≡ 0 = omega arith in ap told z
 
-told_other : (task own : ℕ) → task < 30 → own < 30 → task ≢ own → told (apart own task) ≡ 2
+told_other : (task own : ℕ) → task < task_limit → own < task_limit → task ≢ own → told (apart own task) ≡ 2
 told_other task own x y ne =
     ⊎_elim
     (λ (more : 0 < apart own task). ap (λ t. left_shift (one_if t) 1) (lt-ltb 0 (apart own task) more))
@@ -50,7 +51,7 @@ told_other task own x y ne =
     (cases_lt 0 (apart own task))
 
 module _ (offset task own : ℕ) (c : Core) (h : MayTellState offset task own (masking ∷ body task) c) where
-  line : task < 32
+  line : task < line_count
   line = let s = h.is_task in omega arith
 
   abbrev st : List ℕ → State
@@ -89,7 +90,7 @@ module _ (offset task own : ℕ) (c : Core) (h : MayTellState offset task own (m
       (cases_eq q 0)
 
   -- the task is not Active
-  resting_owe : (o : ℕ) → o + 12 ≤ 0x20_0000 → word ≡ 0 → Owes offset (offset + 4 + 64) o (waiting_task_test task ++ (resting_telling_code task ++ back_code)) 0 (StateTold task own) (st c.pending) (record (masked (based c)) { registers = 0 ∷ word ∷ x2 ∷ controller_base ∷ memory_base ∷ set tail 5 E_OK; pending = c.pending })
+  resting_owe : (o : ℕ) → o + 12 ≤ memory_bytes → word ≡ 0 → Owes offset (offset + 4 + 64) o (waiting_task_test task ++ (resting_telling_code task ++ back_code)) 0 (StateTold task own) (st c.pending) (record (masked (based c)) { registers = 0 ∷ word ∷ x2 ∷ controller_base ∷ memory_base ∷ set tail 5 E_OK; pending = c.pending })
   resting_owe o low a =
       let long = h.goes_back.can_run.lines in
       let below = line in

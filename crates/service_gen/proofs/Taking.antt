@@ -4,8 +4,8 @@ use Rattle.std.specs.Prelude.{max, not, set}
 use Rattle.std.proofs.lemmas.Bool.{cases_lt, lt-ltb, le-ltb}
 use Rattle.sloth_base.specs.Machine.{Core}
 use Rattle.sloth_base.specs.Status.{E_OK}
-use Rattle.sloth_base.specs.MemoryMap.{memory_base}
-use Rattle.sloth_region.specs.Layout.{saved_level, controller_base}
+use Rattle.sloth_base.specs.MemoryMap.{memory_base, controller_base}
+use Rattle.sloth_region.specs.Layout.{saved_level}
 use Rattle.rv32_instr.specs.declared.InstrKind.{InstrKind}
 use Rattle.rv32_instr.specs.Ram.{with_word}
 use Rattle.masked_code.specs.Place.{offset_state}

@@ -4,8 +4,8 @@ use Rattle.std.specs.Prelude.{true, set, ◌≢◌}
 use Rattle.std.proofs.lemmas.List.{get_or-set_other}
 use Rattle.sloth_base.specs.Machine.{Core, State}
 use Rattle.sloth_base.specs.Status.{E_OK}
-use Rattle.sloth_base.specs.MemoryMap.{memory_base}
-use Rattle.sloth_region.specs.Layout.{cur, controller_base}
+use Rattle.sloth_base.specs.MemoryMap.{memory_base, controller_base}
+use Rattle.sloth_region.specs.Layout.{cur}
 use Rattle.rv32_instr.specs.declared.InstrKind.{InstrKind}
 use Rattle.rv32_instr.specs.declared.InstrKind.TheVariants.{Csrrw, Mret}
 use Rattle.rv32_instr.specs.declared.csr.TheConstants.{MEPC, PLEVEL}

@@ -4,6 +4,7 @@ use Rattle.sloth_base.specs.declared.service.Service.TheVariants as service
 use Rattle.sloth_base.specs.Machine.{Core, State}
 use Rattle.sloth_base.specs.Status.{E_OS_LIMIT}
 use Rattle.sloth_base.specs.Arrive.{state_arrive}
+use Rattle.sloth_base.specs.Limits.{task_limit}
 use Rattle.sloth_region.specs.Layout.{cur, active}
 use Rattle.rv32_instr.specs.declared.InstrKind.{InstrKind}
 use Rattle.rv32_instr.specs.Ram.{word_at}
@@ -19,8 +20,8 @@ use Rattle.service_gen.specs.TerminateTask.{Terminated}
 pub record MayChain (offset task own place : ℕ) (code : List InstrKind) (core : Core) : Type 0 where
   pub goes_back : CanGoBack offset code core
   pub runs : word_at core.ram cur ≡ own + 1
-  pub is_own : own < 30
-  pub is_task : task < 30
+  pub is_own : own < task_limit
+  pub is_task : task < task_limit
   pub below : IsBelow place core
   pub active_bit : word_at core.ram (active task) < 2
   pub pending_bit : slice_index core.pending task < 2

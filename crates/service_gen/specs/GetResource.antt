@@ -3,6 +3,7 @@ use Rattle.std.specs.Prelude.{ℕ, max, ◌≡◌, ◌<◌, ◌≤◌, List, [],
 use Rattle.sloth_base.specs.declared.service.Service.TheVariants as service
 use Rattle.sloth_base.specs.Machine.{Core, State}
 use Rattle.sloth_base.specs.Status.{E_OK}
+use Rattle.sloth_base.specs.ConfigRange.{scheduler_number}
 use Rattle.sloth_region.specs.Layout.{saved_level}
 use Rattle.rv32_instr.specs.declared.InstrKind.{InstrKind}
 use Rattle.rv32_instr.specs.Ram.{with_word}
@@ -14,7 +15,7 @@ use Rattle.block_parts.specs.Back.{CanGoBack, WentBack, a0}
 -- the code can run
 pub record MayTakeResource (offset resource : ℕ) (code : List InstrKind) (core : Core) : Type 0 where
   pub goes_back : CanGoBack offset code core
-  pub is_resource : resource ≤ 32
+  pub is_resource : resource ≤ scheduler_number
   pub level : core.ilevel < 256
 
 -- the core at at least a ceiling, with the level that ran saved for the resource

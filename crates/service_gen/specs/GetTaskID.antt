@@ -3,6 +3,7 @@ use Rattle.std.specs.Prelude.{ℕ, ◌+◌, ◌≡◌, ◌<◌, List, [], slice_
 use Rattle.sloth_base.specs.declared.service.Service.TheVariants as service
 use Rattle.sloth_base.specs.Machine.{Core, State}
 use Rattle.sloth_base.specs.Status.{E_OK}
+use Rattle.sloth_base.specs.Limits.{task_limit}
 use Rattle.sloth_region.specs.Layout.{cur}
 use Rattle.rv32_instr.specs.declared.InstrKind.{InstrKind}
 use Rattle.rv32_instr.specs.Ram.{word_at}
@@ -15,7 +16,7 @@ use Rattle.block_parts.specs.Back.{CanGoBack, WentBack, a0, a1}
 pub record MayTell (offset task : ℕ) (code : List InstrKind) (core : Core) : Type 0 where
   pub goes_back : CanGoBack offset code core
   pub runs : word_at core.ram cur ≡ task + 1
-  pub is_task : task < 30
+  pub is_task : task < task_limit
 
 -- a1 is the running task's number, the status E_OK.
 pub record Told (task : ℕ) (touched : List ℕ) (start end : State) : Type 0 where

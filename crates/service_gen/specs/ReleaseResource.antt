@@ -3,6 +3,7 @@ use Rattle.std.specs.Prelude.{ℕ, ◌≡◌, ◌<◌, ◌≤◌, List, [], slic
 use Rattle.sloth_base.specs.declared.service.Service.TheVariants as service
 use Rattle.sloth_base.specs.Machine.{Core, State}
 use Rattle.sloth_base.specs.Status.{E_OK}
+use Rattle.sloth_base.specs.ConfigRange.{scheduler_number}
 use Rattle.sloth_region.specs.Layout.{saved_level}
 use Rattle.rv32_instr.specs.declared.InstrKind.{InstrKind}
 use Rattle.rv32_instr.specs.Ram.{word_at}
@@ -14,7 +15,7 @@ use Rattle.block_parts.specs.Back.{CanGoBack, WentBack, a0}
 -- the code can run, and a level is saved for the resource
 pub record MayRelease (offset resource : ℕ) (code : List InstrKind) (core : Core) : Type 0 where
   pub goes_back : CanGoBack offset code core
-  pub is_resource : resource ≤ 32
+  pub is_resource : resource ≤ scheduler_number
   pub level : word_at core.ram (saved_level resource) < 256
 
 -- The level is the one at which the resource was taken, the status E_OK.

@@ -4,6 +4,7 @@ use Rattle.sloth_base.specs.declared.service.Service.TheVariants as service
 use Rattle.sloth_base.specs.Machine.{Core, State}
 use Rattle.sloth_base.specs.Status.{E_OK}
 use Rattle.sloth_base.specs.MemoryMap.{memory_base}
+use Rattle.sloth_base.specs.Limits.{task_limit}
 use Rattle.sloth_region.specs.Layout.{cur}
 use Rattle.rv32_instr.specs.declared.InstrKind.{InstrKind}
 use Rattle.rv32_instr.specs.Ram.{word_at}
@@ -29,7 +30,7 @@ pub record MayYield (offset task : ℕ) (code : List InstrKind) (core : Core) : 
   pub same_level : core.plevel ≡ core.ilevel
   pub bases : HoldBases core.registers
   pub runs : word_at core.ram cur ≡ task + 1
-  pub is_task : task < 30
+  pub is_task : task < task_limit
   pub line : slice_index core.levels task < 256
 
 -- The level of the task's line runs, so that what is above it may run; the one that ran is kept for the way back, which comes next.

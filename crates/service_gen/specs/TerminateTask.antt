@@ -3,6 +3,7 @@ use Rattle.std.specs.Prelude.{ℕ, ◌+◌, ◌*◌, ◌≡◌, ◌≢◌, ◌<�
 use Rattle.sloth_base.specs.declared.service.Service.TheVariants as service
 use Rattle.sloth_base.specs.Machine.{Core, State}
 use Rattle.sloth_base.specs.MemoryMap.{memory_base}
+use Rattle.sloth_base.specs.Limits.{task_limit}
 use Rattle.sloth_region.specs.Layout.{cur, active, events, below_word, context_bytes, context_level, context_cur, context_below}
 use Rattle.rv32_instr.specs.declared.InstrKind.{InstrKind}
 use Rattle.rv32_instr.specs.Ram.{word_at, with_word}
@@ -17,7 +18,7 @@ pub record MayTerminate (offset task place : ℕ) (code : List InstrKind) (core 
   pub previous : core.mpie ≡ true
   pub bases : HoldBases core.registers
   pub runs : word_at core.ram cur ≡ task + 1
-  pub is_task : task < 30
+  pub is_task : task < task_limit
   pub below : IsBelow place core
 
 -- the bytes with the task's Active word and its events zero

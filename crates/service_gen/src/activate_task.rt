@@ -1,5 +1,6 @@
 //! ActivateTask: the task's line is raised, and the status tells whether the task was Suspended.
 ghost use Rattle.std.specs.Prelude.{◌≡◌, ◌<◌, ◌++◌, IfOk, OnOk};
+ghost use Rattle.sloth_base.specs.Limits.{task_limit};
 ghost use Rattle.service_gen.specs.Pieces.{status_code};
 ghost use Rattle.service_gen.specs.ActivateTask.{Activates};
 
@@ -11,7 +12,7 @@ use std::alloc::{AllocError, Global};
 
 /// The look at the task, the raised line, and the way back.
 pub fn code(alloc: Global, task: u8) -> Result<Vec<Instr>, AllocError>
-    requires { task < 30 }
+    requires { task < task_limit }
     ensures { IfOk result (λ code. Activates task code.items) }
 {
     let mut code = Vec::new(alloc);

@@ -1,6 +1,7 @@
 //! ChainTask: the running task ends, and another, or itself, is activated; but where that task isn't Suspended nothing
 //! happens.
 ghost use Rattle.std.specs.Prelude.{◌≡◌, ◌<◌, ◌++◌, IfOk, OnOk};
+ghost use Rattle.sloth_base.specs.Limits.{task_limit};
 ghost use Rattle.block_parts.specs.Services.{refusing_code};
 ghost use Rattle.service_gen.specs.ChainTask.{Chains};
 
@@ -15,7 +16,7 @@ use std::alloc::{AllocError, Global};
 
 /// The look at the task with the refusal, and then the caller's end, the raised line and the way to what runs below.
 pub fn code(alloc: Global, task: u8) -> Result<Vec<Instr>, AllocError>
-    requires { task < 30 }
+    requires { task < task_limit }
     ensures { IfOk result (λ code. Chains task code.items) }
 {
     let mut code = Vec::new(alloc);

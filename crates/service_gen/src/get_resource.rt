@@ -1,5 +1,6 @@
 //! GetResource: the level that runs is saved, and at least the resource's ceiling runs.
 ghost use Rattle.std.specs.Prelude.{◌≡◌, ◌≤◌, ◌++◌, IfOk, OnOk};
+ghost use Rattle.sloth_base.specs.ConfigRange.{scheduler_number};
 ghost use Rattle.service_gen.specs.Pieces.{ok_back_code};
 ghost use Rattle.service_gen.specs.GetResource.{Takes};
 
@@ -13,7 +14,7 @@ use std::alloc::{AllocError, Global};
 
 /// The saved level, the greater level, and the way back.
 pub fn code(alloc: Global, resource: u8, ceiling: u8) -> Result<Vec<Instr>, AllocError>
-    requires { resource ≤ 32 }
+    requires { resource ≤ scheduler_number }
     ensures { IfOk result (λ code. Takes resource ceiling code.items) }
 {
     let mut code = Vec::new(alloc);

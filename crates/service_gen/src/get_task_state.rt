@@ -1,5 +1,6 @@
 //! GetTaskState: the number of a task's state, 0 where it runs, 1 Waiting, 2 Ready or preempted, 3 Suspended.
 ghost use Rattle.std.specs.Prelude.{◌≡◌, ◌<◌, ◌++◌, IfOk, OnOk};
+ghost use Rattle.sloth_base.specs.Limits.{task_limit};
 ghost use Rattle.service_gen.specs.Pieces.{active_task_test, active_telling_code, waiting_task_test};
 ghost use Rattle.service_gen.specs.GetTaskState.{TellsState};
 
@@ -23,7 +24,7 @@ const TELL_RESTING: u32 = 2;
 
 /// The number where the task is Active with the way back, and then the number where it is not, with the way back.
 pub fn code(alloc: Global, task: u8) -> Result<Vec<Instr>, AllocError>
-    requires { task < 30 }
+    requires { task < task_limit }
     ensures { IfOk result (λ code. TellsState task code.items) }
 {
     let mut code = Vec::new(alloc);
@@ -39,7 +40,7 @@ pub fn code(alloc: Global, task: u8) -> Result<Vec<Instr>, AllocError>
 
 /// The status E_OK; goes on behind the first way back where the task is not Active.
 fn ask_active(code: &mut Vec<Instr>, task: u8) -> Result<(), AllocError>
-    requires { task < 30 }
+    requires { task < task_limit }
     ensures { OnOk result (code.new.items ≡ code.old.items ++ active_task_test task) }
 {
     let asked = [
@@ -52,7 +53,7 @@ fn ask_active(code: &mut Vec<Instr>, task: u8) -> Result<(), AllocError>
 
 /// a1 := 0 where the task runs, and 2 where it is preempted.
 fn tell_active(code: &mut Vec<Instr>, task: u8) -> Result<(), AllocError>
-    requires { task < 30 }
+    requires { task < task_limit }
     ensures { OnOk result (code.new.items ≡ code.old.items ++ active_telling_code task) }
 {
     let told = [
@@ -66,7 +67,7 @@ fn tell_active(code: &mut Vec<Instr>, task: u8) -> Result<(), AllocError>
 
 /// a1 := 1; goes on at the way back where the task waits.
 fn ask_waiting(code: &mut Vec<Instr>, task: u8) -> Result<(), AllocError>
-    requires { task < 30 }
+    requires { task < task_limit }
     ensures { OnOk result (code.new.items ≡ code.old.items ++ waiting_task_test task) }
 {
     let asked = [

@@ -1,5 +1,6 @@
 //! ReleaseResource: back to the level at which the resource was taken.
 ghost use Rattle.std.specs.Prelude.{◌≤◌, IfOk};
+ghost use Rattle.sloth_base.specs.ConfigRange.{scheduler_number};
 ghost use Rattle.service_gen.specs.ReleaseResource.{Releases};
 
 use block_parts::pieces::open;
@@ -9,7 +10,7 @@ use std::alloc::{AllocError, Global};
 
 /// The saved level, and the way back.
 pub fn code(alloc: Global, resource: u8) -> Result<Vec<Instr>, AllocError>
-    requires { resource ≤ 32 }
+    requires { resource ≤ scheduler_number }
     ensures { IfOk result (λ code. Releases resource code.items) }
 {
     let mut code = Vec::new(alloc);

@@ -1,2 +1,3 @@
+pub mod TaskOwing
 pub mod Owing
 pub mod Together

@@ -14,7 +14,8 @@ use Rattle.osek_scheduler.specs.Runs.{Leads}
 use Rattle.osek_valid.specs.Valid.{IsValid, InState}
 use Rattle.osek_valid.specs.Apart.{IsActive, IsOver, TasksAreApart, static_priority}
 use Rattle.shared_stacks.specs.Together.{OwesBySchedule, chosen_bytes}
-use Rattle.osek_valid.proofs.Apart.{at_least_static, step_apart, opening_apart}
+use Rattle.osek_valid.proofs.Apart.{at_least_static, opening_apart}
+use Rattle.osek_valid.proofs.ApartSteps.{step_apart}
 use Rattle.osek_valid.proofs.Excluding.{among}
 use Rattle.osek_valid.proofs.Facts.{Facts}
 use Rattle.shared_stacks.proofs.Owing.{step_owes, opening_owes}

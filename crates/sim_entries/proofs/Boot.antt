@@ -13,6 +13,7 @@ use Rattle.sloth_base.proofs.Owners.{unused_behind, counter_owned}
 use Rattle.machine_memory.specs.Fresh.{ram_of}
 use Rattle.rv32_machine.specs.Start.{start}
 use Rattle.sloth_base.specs.Named.{declaration}
+use Rattle.sloth_base.specs.MemoryMap.{memory_bytes}
 use Rattle.osek_scheduler.specs.State.{opening, opening_clock}
 use Rattle.osek_scheduler.specs.Steps.{OsekStep}
 use Rattle.vector_gen.specs.Boot.{Booted}
@@ -34,14 +35,14 @@ padded (byte ∷ bytes) n (suc i) = padded bytes n i
 -- a byte of RAM at the start is that of the image
 pub ram_at : (bytes : List ℕ) (i : ℕ) → slice_index (ram_of bytes) i ≡ slice_index bytes i
 unfolding ram_of
-ram_at bytes i = padded bytes (2097152 - length bytes) i
+ram_at bytes i = padded bytes (memory_bytes - length bytes) i
 
-length-ram : (bytes : List ℕ) → length bytes ≤ 2097152 → length (ram_of bytes) ≡ 2097152
+length-ram : (bytes : List ℕ) → length bytes ≤ memory_bytes → length (ram_of bytes) ≡ memory_bytes
 unfolding ram_of
 length-ram bytes h =
-    let z : List ℕ = replicate (2097152 - length bytes) 0 in
+    let z : List ℕ = replicate (memory_bytes - length bytes) 0 in
     let a = length-append {A = ℕ} bytes z in
-    let n = length-replicate {A = ℕ} (2097152 - length bytes) 0 in
+    let n = length-replicate {A = ℕ} (memory_bytes - length bytes) 0 in
     omega arith
 
 -- a line that nothing owns is before those of counters or behind them

@@ -6,6 +6,7 @@ use Rattle.sloth_base.specs.declared.image.Image.{Image}
 use Rattle.sloth_base.specs.Machine.{State}
 use Rattle.sloth_base.specs.Arrive.{state_arrive}
 use Rattle.sloth_base.specs.Owners.{owners_in, IsOwned}
+use Rattle.sloth_base.specs.MemoryMap.{line_count}
 use Rattle.rv32_machine.specs.Start.{start}
 use Rattle.masked_code.specs.Trace.{Trace, touched_lines, early_arrivals, late_arrivals}
 use Rattle.observe.specs.Observe.{View}
@@ -67,7 +68,7 @@ module _ (b : Build) (view : View) (arrivals : List Arrival) (setting : IsSettin
       (subst (λ x. Booted b.config.tasks (length b.config.counters) boot.levels (length b.config.tasks) b.idle (touched_lines route.trace) (state_arrive x first) route.last) (none_early route.trace untouched) route.effect) in
       let law = boots_law b image boot.levels route.last fits is boot.ranks effect in
       let in_range = lines_trace (IsOwned (owners_in b.config)) (suc route.more) 0 (lines_at arrivals) first route.trace route.end (owned_at (setting_of b view arrivals) setting) route.steps in
-      let few : length b.config.tasks ≤ 32 = let f = fits.few_tasks in omega arith in
+      let few : length b.config.tasks ≤ line_count = let f = fits.few_tasks in omega arith in
       record {
         more = route.more;
         few = let f = route.few in omega arith;

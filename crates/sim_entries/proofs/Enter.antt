@@ -13,6 +13,7 @@ use Rattle.osek_scheduler.specs.declared.state.TaskState.TheVariants as mode
 use Rattle.osek_scheduler.specs.State.{Task, System, task, with_task, entry_frame, zero_registers}
 use Rattle.sloth_base.specs.Named.{declaration, body_of}
 use Rattle.sloth_base.specs.Named.{function, no_function}
+use Rattle.sloth_base.specs.MemoryMap.{memory_base, line_count}
 use Rattle.osek_scheduler.specs.Priority.{is_active}
 use Rattle.osek_scheduler.specs.Services.{started_task, entered_state}
 use Rattle.osek_scheduler.specs.Steps.{OsekStep, settled_state}
@@ -44,8 +45,8 @@ there app f h =
 
 module _ (b : Build) (state end : State) (s : System) (t place : ℕ) (fits : Fits b) (k : Stands b state s) (sane : IsSane state)
     (declared : t < length b.config.tasks) (e : choose state.core ≡ Some t) (fresh : (task s t).frames ≡ []) (has_item : 0 < length (function b.app (body_of b.app.funcs t)).items) (alone : StandsAlone b s t)
-    (x2 : slice_index state.core.registers 2 ≡ 0x8000_0000 + (place + 128)) (effect : EntersAnew b t place state end) where
-  few : length b.config.tasks ≤ 32
+    (x2 : slice_index state.core.registers 2 ≡ memory_base + (place + 128)) (effect : EntersAnew b t place state end) where
+  few : length b.config.tasks ≤ line_count
   few = let f = fits.few_tasks in omega arith
 
   ready : (task s t).state ≡ mode.Ready

@@ -12,7 +12,7 @@ use Rattle.sloth_base.specs.Take.{take, line_to_take, entry_state, execution_sta
 use Rattle.sloth_base.specs.Owners.{owners_in, IsOwned}
 use Rattle.sloth_base.specs.Stretches.{Takes, later_beginning, stretch_limit}
 use Rattle.sloth_base.specs.declared.lines.Owners.{Owners}
-use Rattle.sloth_base.proofs.Stretches.{task_limit}
+use Rattle.sloth_base.proofs.Stretches.{task_entry_limit}
 use Rattle.rv32_instr.specs.Execute.{touched}
 use Rattle.rv32_machine.specs.Run.{state_with_arrivals}
 use Rattle.masked_code.specs.Kernel.{CanRun}
@@ -23,10 +23,11 @@ use Rattle.expansion_parts.specs.Expansion.{item_address}
 use Rattle.observe.specs.Observe.{View}
 use Rattle.osek_scheduler.specs.State.{Frame, System, task}
 use Rattle.sloth_base.specs.Named.{declaration, body_of}
+use Rattle.sloth_base.specs.MemoryMap.{memory_base, vectors_base, memory_bytes, line_count}
 use Rattle.osek_scheduler.specs.Priority.{is_active}
 use Rattle.osek_scheduler.specs.Services as services
 use Rattle.osek_scheduler.specs.Steps.{OsekStep, settled_state}
-use Rattle.prologue_gen.specs.Fresh.{vector, MayEnter, Entered}
+use Rattle.prologue_gen.specs.Fresh.{vector, IsTaken, MayEnter, Entered}
 use Rattle.prologue_gen.specs.Resumed.{MayResume, Resumed}
 use Rattle.prologue_gen.specs.Places.{DoesEnter}
 use Rattle.prologue_gen.proofs.BothKinds as kinds
@@ -64,7 +65,7 @@ none_touched (Some line) rest h = cc
 
 module _ (b : Build) (view : View) (arrivals : List Arrival) (setting : IsSetting (setting_of b view arrivals)) (fits : Fits b) (count : ℕ) (late_count : 0 < count)
     (state : State) (s : System) (stands : Stands b state s) where
-  few : length b.config.tasks ≤ 32
+  few : length b.config.tasks ≤ line_count
   few = let f = fits.few_tasks in omega arith
 
   abbrev now : State
@@ -97,7 +98,7 @@ module _ (b : Build) (view : View) (arrivals : List Arrival) (setting : IsSettin
         (law : (last : State) → Effect [] (take t now) last → OsekStep b.config b.app (event.Enter t) found after × Stands b last after) where
       at_vector : offset_state (vector t) core ≡ execution_state now
       at_vector =
-          let e : 0x8000_0000 + vector t ≡ 0x8000_0400 + 4 * t = omega arith in
+          let e : memory_base + vector t ≡ vectors_base + 4 * t = omega arith in
           ap (λ p. record { pc = p; core = core }) e ∙ sym (ap (λ o. entry_state o now) taken)
 
       route : Entering arrivals most count state Effect
@@ -155,7 +156,7 @@ module _ (b : Build) (view : View) (arrivals : List Arrival) (setting : IsSettin
 
     -- ---- the prologue
 
-    spot_is : (place : ℕ) × (slice_index now.core.registers 2 ≡ 0x8000_0000 + (place + 128))
+    spot_is : (place : ℕ) × (slice_index now.core.registers 2 ≡ memory_base + (place + 128))
     spot_is = stored_at b now found k.stack k.running
 
     abbrev place : ℕ
@@ -178,7 +179,7 @@ module _ (b : Build) (view : View) (arrivals : List Arrival) (setting : IsSettin
       sizes = kinds.size (declaration b.config t).extended t (start_level b t) first frame words prologue.code prologue.enters
 
       short : suc (108 + words) ≤ stretch_limit b.config (Takes t)
-      short = let w = prologue.few_words in let l = task_limit b.config t declared in omega arith
+      short = let w = prologue.few_words in let l = task_entry_limit b.config t declared in omega arith
 
       can_run : CanRun prologue.offset prologue.code core
       can_run = record {
@@ -192,9 +193,25 @@ module _ (b : Build) (view : View) (arrivals : List Arrival) (setting : IsSettin
         placed = placed_in b core.ram prologue.offset prologue.code k.fixed.code prologue.placed;
       }
 
+      is_taken : IsTaken prologue.offset t place prologue.code core
+      is_taken = record {
+        can_run = can_run;
+        masked = refl;
+        previous = k.fixed.open_to_lines;
+        bases = k.fixed.bases;
+        jump = prologue.jump;
+        vector_word = placed_in b core.ram (vector t) _ k.fixed.code prologue.vector_word;
+        to_code = prologue.to_code;
+        x2 = spot_is.1;
+        aligned = sp.aligned;
+        behind = sp.behind;
+        inside = sp.inside;
+        apart = code_beside b now found k.stack place prologue.offset prologue.code fits k.active.falling spot_is.1 k.running sizes.0 prologue.placed;
+      }
+
       -- ---- anew
 
-      frame_room : (b.low t ≤ frame) × (frame + 4 * words ≡ b.top t) × (b.top t ≤ 2097152) × (frame % 4 ≡ 0) × (b.low t < b.top t)
+      frame_room : (b.low t ≤ frame) × (frame + 4 * words ≡ b.top t) × (b.top t ≤ memory_bytes) × (frame % 4 ≡ 0) × (b.low t < b.top t)
       frame_room =
           let g = first_room b fits t declared in let z = fits.to t declared in (omega arith, omega arith, omega arith, omega arith, omega arith)
 
@@ -202,18 +219,7 @@ module _ (b : Build) (view : View) (arrivals : List Arrival) (setting : IsSettin
       may_enter =
           let g = frame_room in
           record {
-            can_run = can_run;
-            masked = refl;
-            previous = k.fixed.open_to_lines;
-            bases = k.fixed.bases;
-            jump = prologue.jump;
-            vector_word = placed_in b core.ram (vector t) _ k.fixed.code prologue.vector_word;
-            to_code = prologue.to_code;
-            x2 = spot_is.1;
-            aligned = sp.aligned;
-            behind = sp.behind;
-            inside = sp.inside;
-            apart = code_beside b now found k.stack place prologue.offset prologue.code fits k.active.falling spot_is.1 k.running sizes.0 prologue.placed;
+            taken = is_taken;
             frame_aligned = g.3;
             frame_inside = omega arith;
             frame_apart =
@@ -248,20 +254,8 @@ module _ (b : Build) (view : View) (arrivals : List Arrival) (setting : IsSettin
             let to = fits.to t declared in
             let at = r.pc in
             let aligned = fits.items has.frame.func has.frame.item in
-            let start = may_enter in
             record {
-              can_run = start.can_run;
-              masked = start.masked;
-              previous = start.previous;
-              bases = start.bases;
-              jump = start.jump;
-              vector_word = start.vector_word;
-              to_code = start.to_code;
-              x2 = start.x2;
-              aligned = start.aligned;
-              behind = start.behind;
-              inside = start.inside;
-              apart = start.apart;
+              taken = is_taken;
               resumes = r.link;
               own_aligned = r.aligned;
               own_behind = omega arith;

@@ -1,6 +1,8 @@
 -- The RAM that an entry leaves: a context, the words of the entry, and a frame.
 use Rattle.std.proofs.Common.{◌≡◌, ℕ, suc, ◌+◌, ◌*◌, ◌%◌, ◌<◌, ◌≤◌, List, [], ◌∷◌, length, ◌∙◌, arith, ⊎_elim, inl, inr}
 use Rattle.std.specs.Prelude.{◌⊎◌, ◌≢◌, slice_index}
+use Rattle.sloth_base.specs.Limits.{task_limit}
+use Rattle.sloth_base.specs.MemoryMap.{memory_base, memory_bytes}
 use Rattle.sloth_region.specs.Layout.{cur, below_word, active, idle_context, context_bytes}
 use Rattle.rv32_instr.specs.Ram.{word_at, with_word, with_words}
 use Rattle.masked_code.proofs.Words.{word_at-same, word_at-others, get_or-with_word, get_or-with_words, word_at-with_words, length-with_word, length-with_words, word_at-agree}
@@ -20,32 +22,32 @@ written (word ∷ words) ram place h s =
 abbrev pub stored : (ram words registers zeros : List ℕ) (place t frame : ℕ) → List ℕ
 stored ram words registers zeros place t frame =
     with_words
-    (with_word (with_word (with_word (with_words (with_words ram (place + 20) registers) place words) below_word (0x8000_0000 + place)) cur (t + 1)) (active t) 1)
+    (with_word (with_word (with_word (with_words (with_words ram (place + 20) registers) place words) below_word (memory_base + place)) cur (t + 1)) (active t) 1)
     frame zeros
 
 -- what the bytes are then
 pub record IsStored (ram words registers zeros : List ℕ) (place t frame : ℕ) (new : List ℕ) : Type 0 where
-  pub long : length new ≡ 2097152
+  pub long : length new ≡ memory_bytes
   pub outside : (i : ℕ) → idle_context ≤ i → (i < place) ⊎ (place + context_bytes ≤ i) → (i < frame) ⊎ (frame + 4 * length zeros ≤ i) → slice_index new i ≡ slice_index ram i
   pub word_is : (j : ℕ) → j < 4 → word_at new (place + 4 * j) ≡ slice_index words j
   pub register_is : (j : ℕ) → j < length registers → word_at new (place + 20 + 4 * j) ≡ slice_index registers j
   pub frame_words : AreWords new frame zeros
   pub named : (p : ℕ) → p + 4 ≤ idle_context → p % 4 ≡ 0 → p ≢ cur → p ≢ below_word → p ≢ active t → word_at new p ≡ word_at ram p
   pub current : word_at new cur ≡ t + 1
-  pub link : word_at new below_word ≡ 0x8000_0000 + place
+  pub link : word_at new below_word ≡ memory_base + place
   pub activity : word_at new (active t) ≡ 1
 
 -- what such stores need: room for the context and the frame, apart from each other and behind the named words, and words to store
 pub record MayStore (ram words registers zeros : List ℕ) (place t frame : ℕ) : Type 0 where
-  pub size : length ram ≡ 2097152
+  pub size : length ram ≡ memory_bytes
   pub four : length words ≡ 4
   pub rest : length registers ≤ 27
-  pub declared : t < 30
+  pub declared : t < task_limit
   pub behind : idle_context ≤ place
   pub aligned : place % 4 ≡ 0
-  pub inside : place + context_bytes ≤ 2097152
+  pub inside : place + context_bytes ≤ memory_bytes
   pub frame_from : 1024 ≤ frame
-  pub frame_inside : frame + 4 * length zeros ≤ 2097152
+  pub frame_inside : frame + 4 * length zeros ≤ memory_bytes
   pub apart : (place + context_bytes ≤ frame) ⊎ (frame + 4 * length zeros ≤ place)
   pub small_words : (i : ℕ) → slice_index words i < 4294967296
   pub small_registers : (i : ℕ) → slice_index registers i < 4294967296
@@ -59,7 +61,7 @@ module _ (ram words registers zeros : List ℕ) (place t frame : ℕ) (may : May
   ram2 = with_words ram1 place words
 
   abbrev ram3 : List ℕ
-  ram3 = with_word ram2 below_word (0x8000_0000 + place)
+  ram3 = with_word ram2 below_word (memory_base + place)
 
   abbrev ram4 : List ℕ
   ram4 = with_word ram3 cur (t + 1)
@@ -70,22 +72,22 @@ module _ (ram words registers zeros : List ℕ) (place t frame : ℕ) (may : May
   abbrev new : List ℕ
   new = stored ram words registers zeros place t frame
 
-  long1 : length ram1 ≡ 2097152
+  long1 : length ram1 ≡ memory_bytes
   long1 = length-with_words registers ram (place + 20) ∙ may.size
 
-  long2 : length ram2 ≡ 2097152
+  long2 : length ram2 ≡ memory_bytes
   long2 = length-with_words words ram1 place ∙ long1
 
-  long5 : length ram5 ≡ 2097152
-  long5 = length-with_word ram4 (active t) 1 ∙ length-with_word ram3 cur (t + 1) ∙ length-with_word ram2 below_word (0x8000_0000 + place) ∙ long2
+  long5 : length ram5 ≡ memory_bytes
+  long5 = length-with_word ram4 (active t) 1 ∙ length-with_word ram3 cur (t + 1) ∙ length-with_word ram2 below_word (memory_base + place) ∙ long2
 
-  long_new : length new ≡ 2097152
+  long_new : length new ≡ memory_bytes
   long_new = length-with_words zeros ram5 frame ∙ long5
 
   -- bytes above the named words: outside the context and the frame they stay
   high5 : (i : ℕ) → idle_context ≤ i → slice_index ram5 i ≡ slice_index ram2 i
   high5 i h =
-      get_or-with_word ram4 (active t) 1 i (inr (omega arith)) ∙ get_or-with_word ram3 cur (t + 1) i (inr (omega arith)) ∙ get_or-with_word ram2 below_word (0x8000_0000 + place) i (inr (omega arith))
+      get_or-with_word ram4 (active t) 1 i (inr (omega arith)) ∙ get_or-with_word ram3 cur (t + 1) i (inr (omega arith)) ∙ get_or-with_word ram2 below_word (memory_base + place) i (inr (omega arith))
 
   outside : (i : ℕ) → idle_context ≤ i → (i < place) ⊎ (place + context_bytes ≤ i) → (i < frame) ⊎ (frame + 4 * length zeros ≤ i) → slice_index new i ≡ slice_index ram i
   outside i h a b =
@@ -126,23 +128,23 @@ module _ (ram words registers zeros : List ℕ) (place t frame : ℕ) (may : May
 
   named : (p : ℕ) → p + 4 ≤ idle_context → p % 4 ≡ 0 → p ≢ cur → p ≢ below_word → p ≢ active t → word_at new p ≡ word_at ram p
   named p h a n0 n1 n2 =
-      low_word p h ∙ word_other ram4 (active t) 1 p a (omega arith) n2 ∙ word_other ram3 cur (t + 1) p a (omega arith) n0 ∙ word_other ram2 below_word (0x8000_0000 + place) p a (omega arith) n1 ∙ low_two p h
+      low_word p h ∙ word_other ram4 (active t) 1 p a (omega arith) n2 ∙ word_other ram3 cur (t + 1) p a (omega arith) n0 ∙ word_other ram2 below_word (memory_base + place) p a (omega arith) n1 ∙ low_two p h
 
   current_is : word_at new cur ≡ t + 1
   current_is =
-      let n = length-with_word ram2 below_word (0x8000_0000 + place) in
+      let n = length-with_word ram2 below_word (memory_base + place) in
       let l = long2 in
       low_word 0 (omega arith) ∙ word_other ram4 (active t) 1 0 (omega arith) (omega arith) (omega arith) ∙ word_at-same ram3 cur (t + 1) (omega arith) (omega arith)
 
-  link_is : word_at new below_word ≡ 0x8000_0000 + place
+  link_is : word_at new below_word ≡ memory_base + place
   link_is =
       let l = long2 in
-      low_word below_word (omega arith) ∙ word_other ram4 (active t) 1 below_word (omega arith) (omega arith) (λ e. omega arith) ∙ word_other ram3 cur (t + 1) below_word (omega arith) (omega arith) (omega arith) ∙ word_at-same ram2 below_word (0x8000_0000 + place) (omega arith) (omega arith)
+      low_word below_word (omega arith) ∙ word_other ram4 (active t) 1 below_word (omega arith) (omega arith) (λ e. omega arith) ∙ word_other ram3 cur (t + 1) below_word (omega arith) (omega arith) (omega arith) ∙ word_at-same ram2 below_word (memory_base + place) (omega arith) (omega arith)
 
   activity_is : word_at new (active t) ≡ 1
   activity_is =
       let l = long2 in
-      let n3 = length-with_word ram2 below_word (0x8000_0000 + place) in
+      let n3 = length-with_word ram2 below_word (memory_base + place) in
       let n4 = length-with_word ram3 cur (t + 1) in
       low_word (active t) (omega arith) ∙ word_at-same ram4 (active t) 1 (omega arith) (omega arith)
 

@@ -4,6 +4,7 @@ use Rattle.std.specs.Prelude.{◌⊎◌, ◌≢◌, slice_index}
 use Rattle.std.proofs.lemmas.Bool.{cases_Bool}
 use Rattle.sloth_base.specs.Machine.{State}
 use Rattle.sloth_base.specs.Choose.{choose}
+use Rattle.sloth_base.specs.MemoryMap.{memory_base, line_count}
 use Rattle.osek_scheduler.specs.declared.state.TaskState.TheVariants as mode
 use Rattle.osek_scheduler.specs.State.{Frame, Task, System, task}
 use Rattle.osek_scheduler.specs.Priority.{is_active}
@@ -28,7 +29,7 @@ own_by b ram t own false [] a e n h = absurd (n refl)
 own_by b ram t own false (frame ∷ outer) a e n h = record { frame = frame; outer = outer; frames = e; place = h.0; rested = h.1 }
 
 module _ (b : Build) (state : State) (s : System) (t : ℕ) (fits : Fits b) (k : Stands b state s) (declared : t < length b.config.tasks) (e : choose state.core ≡ Some t) (some : (task s t).frames ≢ []) where
-  few : length b.config.tasks ≤ 32
+  few : length b.config.tasks ≤ line_count
   few = let f = fits.few_tasks in omega arith
 
   ready : (task s t).state ≡ mode.Ready
@@ -39,7 +40,7 @@ module _ (b : Build) (state : State) (s : System) (t : ℕ) (fits : Fits b) (k :
   own_context = own_by b state.core.ram t (task s t) (is_active (task s t).state) (task s t).frames (ap is_active ready) refl some (k.words t declared).resumption
 
   -- its part of the stacks is apart from the context that the entry stores
-  pub own_apart : (place : ℕ) → slice_index state.core.registers 2 ≡ 0x8000_0000 + (place + 128) → (b.top t ≤ place) ⊎ (place + 128 ≤ b.low t)
+  pub own_apart : (place : ℕ) → slice_index state.core.registers 2 ≡ memory_base + (place + 128) → (b.top t ≤ place) ⊎ (place + 128 ≤ b.low t)
   own_apart place x2 =
       (spot b state s k.stack place fits k.apart k.active.falling x2 k.running).apart t declared (inr some)
       (⊎_elim

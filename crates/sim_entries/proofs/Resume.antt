@@ -14,6 +14,8 @@ use Rattle.masked_code.proofs.Words.{word_at-same, get_or-with_word, length-with
 use Rattle.osek_scheduler.specs.declared.state.TaskState.TheVariants as mode
 use Rattle.osek_scheduler.specs.State.{Frame, Task, System, HasBody, task, with_task}
 use Rattle.sloth_base.specs.Named.{declaration}
+use Rattle.sloth_base.specs.Limits.{task_limit}
+use Rattle.sloth_base.specs.MemoryMap.{memory_base, line_count}
 use Rattle.osek_scheduler.specs.Priority.{is_active}
 use Rattle.osek_scheduler.specs.Services.{started_task, entered_state}
 use Rattle.osek_scheduler.specs.Steps.{OsekStep, settled_state}
@@ -37,12 +39,12 @@ use Rattle.sim_entries.proofs.Saving.{preempted, cleared, saved, is_saved, entry
 
 module _ (b : Build) (state end : State) (s : System) (t place own : ℕ) (fits : Fits b) (k : Stands b state s) (sane : IsSane state)
     (declared : t < length b.config.tasks) (e : choose state.core ≡ Some t) (some : (task s t).frames ≢ []) (has_body : HasBody b.app t)
-    (x2 : slice_index state.core.registers 2 ≡ 0x8000_0000 + (place + 128)) (link : word_at state.core.ram (resume t) ≡ 0x8000_0000 + own)
+    (x2 : slice_index state.core.registers 2 ≡ memory_base + (place + 128)) (link : word_at state.core.ram (resume t) ≡ memory_base + own)
     (effect : EntersBehindWait b t place own state end) where
-  few : length b.config.tasks ≤ 32
+  few : length b.config.tasks ≤ line_count
   few = let f = fits.few_tasks in omega arith
 
-  few30 : t < 30
+  few30 : t < task_limit
   few30 = let g = fits.few_tasks in let l = declared in omega arith
 
   ready : (task s t).state ≡ mode.Ready

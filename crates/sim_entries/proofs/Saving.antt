@@ -5,6 +5,8 @@ use Rattle.std.proofs.lemmas.Bool.{cases_Bool, ne_eqb}
 use Rattle.std.proofs.lemmas.List.{length-replicate}
 use Rattle.sloth_base.specs.Machine.{Core, State}
 use Rattle.sloth_base.specs.Take.{take}
+use Rattle.sloth_base.specs.Limits.{task_limit}
+use Rattle.sloth_base.specs.MemoryMap.{memory_base, line_count}
 use Rattle.sloth_region.specs.Layout.{cur, below_word, active, resume, idle_context}
 use Rattle.rv32_instr.specs.Ram.{word_at}
 use Rattle.masked_code.specs.Kernel.{LeftAs}
@@ -47,11 +49,11 @@ abbrev pub saved : State → (t place frame words : ℕ) → List ℕ
 saved state t place frame words = stored state.core.ram (preempted state) (saved_registers state.core) (cleared words) place t frame
 
 module _ (b : Build) (state : State) (s : System) (t place : ℕ) (fits : Fits b) (k : Stands b state s) (sane : IsSane state)
-    (declared : t < length b.config.tasks) (x2 : slice_index state.core.registers 2 ≡ 0x8000_0000 + (place + 128)) where
-  few : length b.config.tasks ≤ 32
+    (declared : t < length b.config.tasks) (x2 : slice_index state.core.registers 2 ≡ memory_base + (place + 128)) where
+  few : length b.config.tasks ≤ line_count
   few = let f = fits.few_tasks in omega arith
 
-  few30 : t < 30
+  few30 : t < task_limit
   few30 = let g = fits.few_tasks in let l = declared in omega arith
 
   sp : Spot b s k.stack place

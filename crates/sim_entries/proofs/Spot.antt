@@ -2,6 +2,7 @@
 use Rattle.std.proofs.Common.{◌≡◌, ℕ, zero, suc, ◌+◌, ◌-◌, ◌<◌, ◌≤◌, List, [], ◌∷◌, refl, arith, ⊎_elim, inl, inr, true}
 use Rattle.std.specs.Prelude.{◌⊎◌, replicate, slice_index}
 use Rattle.sloth_base.specs.Machine.{State}
+use Rattle.sloth_base.specs.MemoryMap.{memory_base}
 use Rattle.osek_scheduler.specs.State.{System, task}
 use Rattle.code_rules.specs.Code.{is_in}
 use Rattle.sloth_region.specs.Layout.{idle_context}
@@ -42,7 +43,7 @@ words_small x y z w p q r s (suc (suc (suc (suc j)))) = omega arith
 
 -- apart from the part of a task that is apart from those of the Active tasks
 pub stored_apart : (b : Build) (state : State) (s : System) (stack : List ℕ) (place u : ℕ) → Fits b
-    → slice_index state.core.registers 2 ≡ 0x8000_0000 + (place + 128) → RunsFirst b state s stack → 1024 ≤ b.low u
+    → slice_index state.core.registers 2 ≡ memory_base + (place + 128) → RunsFirst b state s stack → 1024 ≤ b.low u
     → ((v : ℕ) → is_in v stack ≡ true → AreApart b u v) → (b.top u ≤ place) ⊎ (place + 128 ≤ b.low u)
 stored_apart b state s [] place u fits x k low apart = let y = k.x2 in inr (omega arith)
 stored_apart b state s (a ∷ stack) place u fits x k low apart =
@@ -53,6 +54,6 @@ stored_apart b state s (a ∷ stack) place u fits x k low apart =
 
 -- there is room for it directly below x2
 pub stored_at : (b : Build) (state : State) (s : System) (stack : List ℕ) → RunsFirst b state s stack
-    → (place : ℕ) × (slice_index state.core.registers 2 ≡ 0x8000_0000 + (place + 128))
+    → (place : ℕ) × (slice_index state.core.registers 2 ≡ memory_base + (place + 128))
 stored_at b state s [] k = (idle_context, k.x2)
 stored_at b state s (a ∷ stack) k = let p = k.context.x2 in let l = k.context.room in (k.place - 128, omega arith)

@@ -5,6 +5,7 @@ use Rattle.sloth_region.specs.Layout.{idle_context}
 use Rattle.sloth_base.specs.Named.{declaration}
 use Rattle.osek_scheduler.specs.State.{opening, opening_clock}
 use Rattle.sloth_base.specs.PriorityLevels.{level_of}
+use Rattle.sloth_base.specs.MemoryMap.{memory_bytes}
 use Rattle.sim_relation.specs.Build.{Build}
 use Rattle.sim_relation.specs.ClockStands.{ClockStands, IsBesideClock}
 use Rattle.sim_relation.specs.DataStands.{DataStands}
@@ -13,7 +14,7 @@ use Rattle.sim_relation.specs.DataStands.{DataStands}
 -- of the clock (364 to 627) all service words before the idle loop's context are zero; and the data are those that the task code declares.
 pub record IsImage (b : Build) (image : Image) : Type 0 where
   pub memory : image.memory ≡ b.memory
-  pub size : length b.memory ≤ 0x20_0000
+  pub size : length b.memory ≤ memory_bytes
   pub service_words : (i : ℕ) → i < idle_context → IsBesideClock i → slice_index b.memory i ≡ 0
   pub clock : ClockStands b.config b.memory (opening_clock b.config)
   pub data_stands : DataStands b b.memory (opening b.config b.app).symbols

@@ -6,6 +6,7 @@ use Rattle.sloth_base.specs.Arithmetic.{plus}
 use Rattle.sloth_base.specs.Named.{body_of}
 use Rattle.sloth_base.specs.Named.{function}
 use Rattle.sloth_base.specs.MemoryMap.{memory_base}
+use Rattle.sloth_base.specs.Limits.{frame_limit}
 use Rattle.vector_gen.specs.Boot.{Boots}
 use Rattle.prologue_gen.specs.Fresh.{vector}
 use Rattle.sim_relation.specs.Build.{Build}
@@ -31,5 +32,5 @@ pub record PrologueStands (b : Build) (t : ℕ) : Type 0 where
   pub jump : ℤ
   pub vector_word : IsPlaced b (vector t) (Jal 0 jump ∷ [])
   pub to_code : plus (memory_base + vector t) jump ≡ memory_base + offset
-  pub few_words : first_words b t ≤ 32
+  pub few_words : first_words b t ≤ frame_limit
   pub has_item : 0 < length (function b.app (body_of b.app.funcs t)).items

@@ -1,5 +1,7 @@
-//! Boot and the entries of tasks as events of the abstract scheduler. The effects of their code stand in `vector_gen` and
-//! `prologue_gen`.
+//! Boot and the entries of tasks as events of the abstract scheduler. The effects of their code stand in `vector_gen` and `prologue_gen`.
+//!
+//! Boot and each entry of a task, anew or behind a wait, is a step of the abstract scheduler, whatever lines arrive (`boots_law`, `enter_law`, ..;
+//! `specs/EntrySteps`, `specs/Boot`, `specs/Entries`, `specs/Generated`). The relation: `sim_relation` (`Stands`).
 #![tactic(auto)]
 
 ghost use Rattle.sim_entries.specs.Generated.{GeneratedEnters};

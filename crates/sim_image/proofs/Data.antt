@@ -8,6 +8,7 @@ use Rattle.std.proofs.Math.ListN.{get_or-map, length-map}
 use Rattle.sloth_base.specs.Named.{no_symbol}
 use Rattle.sloth_base.specs.declared.app.App.{App}
 use Rattle.sloth_base.specs.declared.app.Symbol.{Symbol}
+use Rattle.sloth_base.specs.MemoryMap.{memory_base}
 use Rattle.sloth_region.specs.declared.extent.Extent.{Extent}
 use Rattle.sloth_region.specs.declared.map.Map.{Map}
 use Rattle.sloth_region.specs.Region.{FollowWithin, aligned}
@@ -41,7 +42,7 @@ in_data map from (a ∷ addresses) (s ∷ symbols) n le f =
 pub symbols_are_in_data : SymbolsAreInData
 symbols_are_in_data map app h = in_data map (data_zone map).base map.places.symbols app.symbols h.count (omega arith) h.follow
 
-are_in : (from end : ℕ) (addresses : List ℕ) (symbols : List Symbol) → length addresses ≡ length symbols → 0x8000_0000 ≤ from
+are_in : (from end : ℕ) (addresses : List ℕ) (symbols : List Symbol) → length addresses ≡ length symbols → memory_base ≤ from
     → FollowWithin from end (extents_of addresses (prelude.map symbol_bytes symbols)) → AreIn (extents_of addresses (prelude.map symbol_bytes symbols)) (prelude.map datum_section (data_of addresses symbols))
 are_in from end [] symbols n le f = tt
 are_in from end (a ∷ addresses) [] n le f = absurd (omega (arith, n))

@@ -19,6 +19,7 @@ use Rattle.mem_map.specs.Zones.{HasZones, code_zone, data_zone, all_stacks}
 use Rattle.mem_map.specs.StackParts.{no_extent}
 use Rattle.mem_map.specs.Stacks.{HasStacks, top_of}
 use Rattle.sloth_base.specs.declared.places.Bounds.{Bounds}
+use Rattle.sloth_base.specs.MemoryMap.{memory_base, memory_end, words_base, vectors_base}
 use Rattle.stack_bounds.specs.Bounds.{MayMeet, bytes_of}
 use Rattle.sim_laws.specs.Nested.{HasNestedParts}
 use Rattle.sim_image.specs.Symbols.{HasSymbols}
@@ -28,13 +29,13 @@ use Rattle.sim_image.proofs.Following.{follow_from_apart, ends}
 
 -- ---- tests
 
-inside : (e : Extent) (i : ℕ) → is_in e i ≡ true → (e.base ≤ 0x8000_0000 + i) × (0x8000_0000 + i < e.base + e.len)
+inside : (e : Extent) (i : ℕ) → is_in e i ≡ true → (e.base ≤ memory_base + i) × (memory_base + i < e.base + e.len)
 inside e i h =
-    let p = and_parts (nat_le e.base (0x8000_0000 + i)) (nat_lt (0x8000_0000 + i) (e.base + e.len)) h in
+    let p = and_parts (nat_le e.base (memory_base + i)) (nat_lt (memory_base + i) (e.base + e.len)) h in
     (leb-true _ _ p.0, ltb-true _ _ p.1)
 
-pub here : (e : Extent) (i : ℕ) → e.base ≤ 0x8000_0000 + i → 0x8000_0000 + i < e.base + e.len → is_in e i ≡ true
-here e i a b = and_from (nat_le e.base (0x8000_0000 + i)) (nat_lt (0x8000_0000 + i) (e.base + e.len)) (le-leb _ _ a) (lt-ltb _ _ b)
+pub here : (e : Extent) (i : ℕ) → e.base ≤ memory_base + i → memory_base + i < e.base + e.len → is_in e i ≡ true
+here e i a b = and_from (nat_le e.base (memory_base + i)) (nat_lt (memory_base + i) (e.base + e.len)) (le-leb _ _ a) (lt-ltb _ _ b)
 
 -- ---- numbers that are multiples of 4
 
@@ -48,10 +49,10 @@ module _ (config : Config) (app : App) (map : Map) (bounds : Bounds) (back : ℕ
   abbrev b : Build
   b = build_of config app map bounds back memory
 
-  follow : FollowWithin 0x8000_0004 0x8020_0000 (map.words ∷ code_zone map ∷ data_zone map ∷ all_stacks map)
-  follow = subst (FollowWithin 0x8000_0004 0x8020_0000) z.extents (follow_from_apart 0x8000_0004 0x8020_0000 map.extents z.apart (omega arith))
+  follow : FollowWithin words_base memory_end (map.words ∷ code_zone map ∷ data_zone map ∷ all_stacks map)
+  follow = subst (FollowWithin words_base memory_end) z.extents (follow_from_apart words_base memory_end map.extents z.apart (omega arith))
 
-  pub code_from : 0x8000_0400 ≤ (code_zone map).base
+  pub code_from : vectors_base ≤ (code_zone map).base
   code_from =
       let w = follow.2.0 in
       let base = ap (λ (e : Extent). e.base) z.words in
@@ -61,12 +62,12 @@ module _ (config : Config) (app : App) (map : Map) (bounds : Bounds) (back : ℕ
   pub code_to : (code_zone map).base + (code_zone map).len ≤ (data_zone map).base
   code_to = follow.2.2.0
 
-  stacks_follow : FollowWithin ((data_zone map).base + (data_zone map).len) 0x8020_0000 (all_stacks map)
+  stacks_follow : FollowWithin ((data_zone map).base + (data_zone map).len) memory_end (all_stacks map)
   stacks_follow = follow.2.2.2
 
   -- a task's part lies behind the data
   pub part_inside : HasStacks config app bounds map → (t : ℕ) → t < length config.tasks
-      → ((data_zone map).base + (data_zone map).len + bytes_of bounds t ≤ top_of map t) × (top_of map t ≤ 0x8020_0000)
+      → ((data_zone map).base + (data_zone map).len + bytes_of bounds t ≤ top_of map t) × (top_of map t ≤ memory_end)
   part_inside s t l =
       let among = s.among t l in
       let h = (apart_within _ _ (all_stacks map) stacks_follow).inside among.0 no_extent among.1 in
@@ -76,13 +77,13 @@ module _ (config : Config) (app : App) (map : Map) (bounds : Bounds) (back : ℕ
       let within = s.within t l in
       (omega (arith, h.0, base, above), omega (arith, h.2, base, len, within))
 
-  pub end_of_code : (code_zone map).base + (code_zone map).len ≤ 0x8020_0000
+  pub end_of_code : (code_zone map).base + (code_zone map).len ≤ memory_end
   end_of_code = let s = ends _ _ (all_stacks map) stacks_follow in let c = code_to in omega (arith, s, c)
 
-  pub data_to : (data_zone map).base + (data_zone map).len ≤ 0x8020_0000
+  pub data_to : (data_zone map).base + (data_zone map).len ≤ memory_end
   data_to = ends _ _ (all_stacks map) stacks_follow
 
-  elsewhere : (i : ℕ) → IsElsewhere b i → (0x8000_0400 ≤ 0x8000_0000 + i) × (0x8000_0000 + i < (data_zone map).base + (data_zone map).len)
+  elsewhere : (i : ℕ) → IsElsewhere b i → (vectors_base ≤ memory_base + i) × (memory_base + i < (data_zone map).base + (data_zone map).len)
   elsewhere i (inl h) = let p = inside (code_zone map) i h in let f = code_from in let t = code_to in (omega (arith, p.0, f), omega (arith, p.1, t))
   elsewhere i (inr h) = let p = inside (data_zone map) i h in let f = code_from in let t = code_to in (omega (arith, p.0, f, t), p.1)
 
@@ -116,7 +117,7 @@ module _ (config : Config) (app : App) (map : Map) (bounds : Bounds) (back : ℕ
   pub parts_nested : HasStacks config app bounds map → HasNestedParts b
   parts_nested s t u basic other may less = let below = s.nested t u basic other may less in omega (arith, below)
 
-  pub placed : (block : Block) → All InRange block.code → IsInCode map block → BlockStands memory block → IsPlaced b (block.at - 0x8000_0000) block.code
+  pub placed : (block : Block) → All InRange block.code → IsInCode map block → BlockStands memory block → IsPlaced b (block.at - memory_base) block.code
   placed block r c s =
       let f = code_from in
       let e = end_of_code in
@@ -127,7 +128,7 @@ module _ (config : Config) (app : App) (map : Map) (bounds : Bounds) (back : ℕ
         aligned = omega (arith, al, f, from);
         inside = omega (arith, f, from, to, e);
         is_code = λ i a l. here (code_zone map) i (omega (arith, a, f, from)) (omega (arith, l, f, from, to));
-        placed = in_place memory (block.at - 0x8000_0000) block.code r s;
+        placed = in_place memory (block.at - memory_base) block.code r s;
       }
 
 pub zones_fit : ZonesFit

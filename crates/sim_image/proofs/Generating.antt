@@ -53,6 +53,7 @@ use Rattle.sloth_link.specs.Linked.{datum_section}
 use Rattle.sloth_link.proofs.Written.{code_bytes_length, front_of}
 use Rattle.mem_map.specs.Zones.{code_zone}
 use Rattle.sloth_base.specs.declared.places.Bounds.{Bounds}
+use Rattle.sloth_base.specs.MemoryMap.{vectors_base, memory_base}
 use Rattle.sim_image.specs.Zones.{build_of, HasFewAlarms, IsInCode}
 use Rattle.sloth_link.specs.Items.{item_block}
 use Rattle.sloth_link.specs.Standing.{ItemsStand}
@@ -78,17 +79,17 @@ module _ (config : Config) (app : App) (levels : Levels) (map : Map) (bounds : B
   b = build_of config app map bounds back image.memory
 
   -- every one of the blocks is above the service words, and placed
-  above : (block : Block) → Contains blocks block → 0x8000_0400 ≤ block.at
+  above : (block : Block) → Contains blocks block → vectors_base ≤ block.at
   above block c =
       let i = (All-contains (IsInCode map) blocks block g.linked.in_code c).from in
       let f = code_from config app map bounds back image.memory g.linked.zones in
       omega (arith, i, f)
 
-  placed : (block : Block) (offset : ℕ) → Contains blocks block → block.at ≡ 0x8000_0000 + offset → IsPlaced b offset block.code
+  placed : (block : Block) (offset : ℕ) → Contains blocks block → block.at ≡ memory_base + offset → IsPlaced b offset block.code
   placed block offset c at =
-      let e : block.at - 0x8000_0000 ≡ offset = omega (arith, at) in
+      let e : block.at - memory_base ≡ offset = omega (arith, at) in
       let P : ℕ → Type 0 = λ o. IsPlaced b o block.code in
-      subst P e (All-contains (λ (x : Block). IsPlaced b (x.at - 0x8000_0000) x.code) blocks block
+      subst P e (All-contains (λ (x : Block). IsPlaced b (x.at - memory_base) x.code) blocks block
       (blocks_are_placed config app map bounds back image.memory blocks g.linked.zones g.linked.in_range g.linked.in_code g.linked.code) c)
 
   idle : HasIdle b (view_of_image image)
@@ -97,14 +98,14 @@ module _ (config : Config) (app : App) (levels : Levels) (map : Map) (bounds : B
       let a = above h.block h.among in
       let at = h.at in
       let c = h.among in
-      let e : map.idle ≡ 0x8000_0000 + (map.idle - 0x8000_0000) = omega (arith, a, at) in
+      let e : map.idle ≡ memory_base + (map.idle - memory_base) = omega (arith, a, at) in
       let own : Contains h.block.marks (idle_mark map.idle) = subst (λ (l : List Mark). Contains l (idle_mark map.idle)) (sym h.marks_are) (0, omega arith, refl) in
       record {
         code = h.block.code;
         idles = h.does;
-        offset = map.idle - 0x8000_0000;
+        offset = map.idle - memory_base;
         is = e;
-        placed = placed h.block (map.idle - 0x8000_0000) h.among (h.at ∙ e);
+        placed = placed h.block (map.idle - memory_base) h.among (h.at ∙ e);
         mark = idle_mark map.idle;
         marked = marks_found image (idle_mark map.idle) g.ascending
             (Contains-permutation (marks_of blocks) image.marks (idle_mark map.idle) g.marks (mark_of_all blocks c.0 h.block (idle_mark map.idle) c.1 c.2 own));
@@ -125,13 +126,13 @@ module _ (config : Config) (app : App) (levels : Levels) (map : Map) (bounds : B
       let body = has_body t l in
       let a = above h.block h.among in
       let at = h.at in
-      let e : slice_index map.handlers t ≡ 0x8000_0000 + (slice_index map.handlers t - 0x8000_0000) = omega (arith, a, at) in
+      let e : slice_index map.handlers t ≡ memory_base + (slice_index map.handlers t - memory_base) = omega (arith, a, at) in
       record {
         code = h.block.code;
         enters = h.does;
-        offset = slice_index map.handlers t - 0x8000_0000;
+        offset = slice_index map.handlers t - memory_base;
         is = e;
-        placed = placed h.block (slice_index map.handlers t - 0x8000_0000) h.among (h.at ∙ e);
+        placed = placed h.block (slice_index map.handlers t - memory_base) h.among (h.at ∙ e);
         one_body = one_body t l;
         few_words = (let few = frame_of app (config, g.has_items.well_formed.in_range) (body_of app.funcs t) in omega (arith, few));
         has_item = (has_first config app g.has_items.well_formed (body_of app.funcs t) body.0).inside;
@@ -146,16 +147,16 @@ module _ (config : Config) (app : App) (levels : Levels) (map : Map) (bounds : B
       let a = above h.block h.among in
       let at = h.at in
       let handler = slice_index map.handlers (counter_line c) in
-      let e : handler ≡ 0x8000_0000 + (handler - 0x8000_0000) = omega (arith, a, at) in
+      let e : handler ≡ memory_base + (handler - memory_base) = omega (arith, a, at) in
       record {
         code = h.block.code;
         is_tick = h.does;
-        offset = handler - 0x8000_0000;
+        offset = handler - memory_base;
         is = e;
-        placed = placed h.block (handler - 0x8000_0000) h.among (h.at ∙ e);
+        placed = placed h.block (handler - memory_base) h.among (h.at ∙ e);
       }
 
-  tops : (t : ℕ) → t < length config.tasks → 0x8000_0000 + b.top t ≡ slice_index map.tops t
+  tops : (t : ℕ) → t < length config.tasks → memory_base + b.top t ≡ slice_index map.tops t
   tops t l =
       let s = (part_inside config app map bounds back image.memory g.linked.zones g.linked.has_stacks t l).0 in
       let f = code_from config app map bounds back image.memory g.linked.zones in
@@ -211,9 +212,9 @@ module _ (config : Config) (app : App) (levels : Levels) (map : Map) (bounds : B
     address = block_address map.places call.service call.object
 
     abbrev offset : ℕ
-    offset = address - 0x8000_0000
+    offset = address - memory_base
 
-    address_is : address ≡ 0x8000_0000 + offset
+    address_is : address ≡ memory_base + offset
     address_is = let a = above h.block h.among in let at = h.at in omega (arith, a, at)
 
     some : 0 < length h.block.code
@@ -233,8 +234,8 @@ module _ (config : Config) (app : App) (levels : Levels) (map : Map) (bounds : B
         let both : kind.Opening ≡ mark_kind (operation app func item) = ap kind_of_first marks in
         absurd (let clash = both ∙ jump in cc)
 
-    stands_apart : (0x8000_0000 + offset < item_address map.places func item)
-        ⊎ (item_address map.places func item + 4 * length (expansion app map.places func item) ≤ 0x8000_0000 + offset)
+    stands_apart : (memory_base + offset < item_address map.places func item)
+        ⊎ (item_address map.places func item + 4 * length (expansion app map.places func item) ≤ memory_base + offset)
     stands_apart =
         let a = blocks_apart blocks (prelude.map datum_section symbols) h.block (item_block app map.places func item) g.linked.room.apart differ h.among (g.has_items.items func item is) in
         let up = above (item_block app map.places func item) (g.has_items.items func item is) in
@@ -244,8 +245,8 @@ module _ (config : Config) (app : App) (levels : Levels) (map : Map) (bounds : B
         let m = code_bytes_length (expansion app map.places func item) in
         let one = some in
         ⊎_elim
-        (λ (x : (h.block.at - 0x8000_0000) + length (code_bytes h.block.code) ≤ item_address map.places func item - 0x8000_0000). inl (omega (arith, x, at, there, n, one, up)))
-        (λ (x : (item_address map.places func item - 0x8000_0000) + length (code_bytes (expansion app map.places func item)) ≤ h.block.at - 0x8000_0000). inr (omega (arith, x, at, there, m, up)))
+        (λ (x : (h.block.at - memory_base) + length (code_bytes h.block.code) ≤ item_address map.places func item - memory_base). inl (omega (arith, x, at, there, n, one, up)))
+        (λ (x : (item_address map.places func item - memory_base) + length (code_bytes (expansion app map.places func item)) ≤ h.block.at - memory_base). inr (omega (arith, x, at, there, m, up)))
         a
 
     there : IsPlaced b offset h.block.code
@@ -292,7 +293,7 @@ module _ (config : Config) (app : App) (levels : Levels) (map : Map) (bounds : B
       yields : Yields h.block.code
       yields = subst (λ v. ServesCall config v call.object levels h.block.code) s h.does
 
-      back_is : back ≡ 0x8000_0000 + (offset + way_back)
+      back_is : back ≡ memory_base + (offset + way_back)
       back_is = let i = g.back_is func item call is e s in let a = address_is in omega (arith, i, a)
 
       has_way_back : HasWayBack b (view_of_image image) call.object

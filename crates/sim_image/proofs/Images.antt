@@ -29,6 +29,8 @@ use Rattle.sloth_link.proofs.Joined.{front}
 use Rattle.sloth_link.proofs.Stand.{symbols_stand, word_of}
 use Rattle.mem_map.specs.Zones.{HasZones, data_zone}
 use Rattle.sloth_base.specs.declared.places.Bounds.{Bounds}
+use Rattle.sloth_base.specs.Limits.{alarm_limit}
+use Rattle.sloth_base.specs.MemoryMap.{vectors_base, memory_base}
 use Rattle.sim_image.specs.Zones.{IsInCode, build_of}
 use Rattle.sloth_link.specs.Symbols.{alarm_bytes, alarm_data, data_of}
 use Rattle.sim_image.specs.Symbols.{IsInData}
@@ -60,7 +62,7 @@ module _ (map : Map) (config : Config) (app : App) (bounds : Bounds) (back : ℕ
   abbrev b : Build
   b = build_of config app map bounds back memory
 
-  data_from : 0x8000_0400 ≤ (data_zone map).base
+  data_from : vectors_base ≤ (data_zone map).base
   data_from = let f = code_from config app map bounds back memory z in let t = code_to config app map bounds back memory z in omega (arith, f, t)
 
   byte : (d : Datum) (k : ℕ) → IsInData map d → Holds memory (datum_section d) → k < length d.bytes → ByteStands b memory (d.at + k) (slice_index d.bytes k)
@@ -68,10 +70,10 @@ module _ (map : Map) (config : Config) (app : App) (bounds : Bounds) (back : ℕ
       let f = data_from in
       let from = i.from in
       let to = i.to in
-      let e : d.at + k - 0x8000_0000 ≡ d.at - 0x8000_0000 + k = omega (arith, f, from) in
+      let e : d.at + k - memory_base ≡ d.at - memory_base + k = omega (arith, f, from) in
       record {
         from = omega (arith, f, from);
-        is_data = here (data_zone map) (d.at + k - 0x8000_0000) (omega (arith, f, from)) (omega (arith, f, from, to, l));
+        is_data = here (data_zone map) (d.at + k - memory_base) (omega (arith, f, from)) (omega (arith, f, from, to, l));
         holds = ap (slice_index memory) e ∙ h k l;
       }
 
@@ -91,7 +93,7 @@ module _ (map : Map) (config : Config) (app : App) (bounds : Bounds) (back : ℕ
   miss_symbols : (symbols : List Datum) (i : ℕ) → i < 1024 → All (IsInData map) symbols → All (λ d. Misses i (datum_section d)) symbols
   miss_symbols symbols i l c = λ k d m. let from = (c k d m).from in let f = data_from in inl (omega (arith, l, from, f))
 
-  miss_alarms : (first : ℕ) (alarms : List AlarmDecl) (i : ℕ) → first + length alarms ≤ 32 → IsOther i → All (λ d. Misses i (datum_section d)) (alarm_data first alarms)
+  miss_alarms : (first : ℕ) (alarms : List AlarmDecl) (i : ℕ) → first + length alarms ≤ alarm_limit → IsOther i → All (λ d. Misses i (datum_section d)) (alarm_data first alarms)
   miss_alarms first [] i few o = All-nil (λ (d : Datum). Misses i (datum_section d))
   miss_alarms first (alarm ∷ later) i few o =
       let size : length (alarm_bytes alarm) ≡ 8 = refl in
@@ -100,7 +102,7 @@ module _ (map : Map) (config : Config) (app : App) (bounds : Bounds) (back : ℕ
       (miss_alarms (first + 1) later i (omega (arith, few)) o)
 
   -- no section has such a byte
-  missed : (blocks : List Block) (i : ℕ) → i < 1024 → IsOther i → length config.alarms ≤ 32 → All (IsInCode map) blocks
+  missed : (blocks : List Block) (i : ℕ) → i < 1024 → IsOther i → length config.alarms ≤ alarm_limit → All (IsInCode map) blocks
       → All (IsInData map) (data_of map.places.symbols app.symbols) → All (Misses i) (sections_of blocks (all_data config app map))
   missed blocks i l o few code in_data =
       All-append (Misses i) (prelude.map block_section blocks) (prelude.map datum_section (all_data config app map)) (miss_blocks blocks i l code)
@@ -119,11 +121,11 @@ abbrev HasWords : List ℕ → ℕ → AlarmDecl → Type 0
 HasWords memory a alarm = (word_at memory (alarm_left a) ≡ alarm.time) × (word_at memory (alarm_cycle a) ≡ alarm.cycle)
 
 alarm_words : (memory : List ℕ) (a : ℕ) (alarm : AlarmDecl) → AreWords alarm
-    → Holds memory (datum_section (record { at = 0x8000_0000 + alarm_left a; bytes = alarm_bytes alarm })) → HasWords memory a alarm
+    → Holds memory (datum_section (record { at = memory_base + alarm_left a; bytes = alarm_bytes alarm })) → HasWords memory a alarm
 alarm_words memory a alarm small h =
     let size : length (alarm_bytes alarm) ≡ 8 = refl in
-    let at : (k : ℕ) → slice_index memory (alarm_left a + k) ≡ slice_index memory (0x8000_0000 + alarm_left a - 0x8000_0000 + k) =
-    λ k. let e : alarm_left a + k ≡ 0x8000_0000 + alarm_left a - 0x8000_0000 + k = omega arith in ap (slice_index memory) e
+    let at : (k : ℕ) → slice_index memory (alarm_left a + k) ≡ slice_index memory (memory_base + alarm_left a - memory_base + k) =
+    λ k. let e : alarm_left a + k ≡ memory_base + alarm_left a - memory_base + k = omega arith in ap (slice_index memory) e
     in
     let later : (k : ℕ) → slice_index memory (alarm_cycle a + k) ≡ slice_index memory (alarm_left a + (4 + k)) =
     λ k. let e : alarm_cycle a + k ≡ alarm_left a + (4 + k) = omega arith in ap (slice_index memory) e

@@ -1,6 +1,7 @@
 -- Every block that was linked can run.
 use Rattle.std.specs.Prelude.{slice_index_or}
 use Rattle.std.proofs.Common.{◌-◌}
+use Rattle.sloth_base.specs.MemoryMap.{memory_base}
 use Rattle.rv32_instr.specs.declared.block.Block.{Block}
 use Rattle.sim_relation.proofs.Placed.{placed_in, code_behind}
 use Rattle.sim_image.specs.Zones.{build_of, BlocksCanRun}
@@ -17,7 +18,7 @@ blocks_can_run config app map bounds back memory blocks core z few parts calls y
       zero = zero;
       lines = lines;
       aligned = p.aligned;
-      behind = code_behind b (block.at - 0x8000_0000) block.code (zones_fit config app map bounds back memory z few parts calls y ba) (some k d l) p;
+      behind = code_behind b (block.at - memory_base) block.code (zones_fit config app map bounds back memory z few parts calls y ba) (some k d l) p;
       inside = p.inside;
-      placed = placed_in b core.ram (block.at - 0x8000_0000) block.code same p;
+      placed = placed_in b core.ram (block.at - memory_base) block.code same p;
     }

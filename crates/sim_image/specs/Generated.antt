@@ -14,7 +14,7 @@ use Rattle.sloth_base.specs.declared.image.Mark.{Mark}
 use Rattle.sloth_base.specs.declared.places.Levels.{Levels}
 use Rattle.sloth_base.specs.declared.places.Places.{Places}
 use Rattle.sloth_base.specs.declared.service.Service.TheVariants as service
-use Rattle.sloth_base.specs.MemoryMap.{vectors_base, boot_base}
+use Rattle.sloth_base.specs.MemoryMap.{vectors_base, boot_base, line_count}
 use Rattle.sloth_region.specs.declared.map.Map.{Map}
 use Rattle.code_rules.specs.WellFormed.{WellFormed}
 use Rattle.sloth_base.specs.declared.places.Bounds.{Bounds}
@@ -53,7 +53,7 @@ pub record HasBlockWith (blocks : List Block) (address : ℕ) (marks : List Mark
 
 -- the code that every kernel has is among the blocks, by the contracts of the generators
 pub record HasCode (config : Config) (app : App) (levels : Levels) (map : Map) (blocks : List Block) : Type 0 where
-  pub vectors : HasBlockWith blocks vectors_base [] (AreJumps 32 map.handlers)
+  pub vectors : HasBlockWith blocks vectors_base [] (AreJumps line_count map.handlers)
   pub boot : HasBlockWith blocks boot_base [] (Boots config.tasks (length config.counters) levels.task levels.top map.idle)
   pub idle : HasBlockWith blocks map.idle (idle_mark map.idle ∷ []) Idles
   pub prologues : (t : ℕ) → t < length config.tasks → HasBlockWith blocks (slice_index map.handlers t) [] (EntersTask t config app levels map)

@@ -14,6 +14,7 @@ use Rattle.sloth_link.specs.Linked.{BlockStands, AreLinked, sections_of, HaveRoo
 use Rattle.mem_map.specs.Zones.{HasZones}
 use Rattle.mem_map.specs.Stacks.{HasStacks}
 use Rattle.sloth_base.specs.declared.places.Bounds.{Bounds}
+use Rattle.sloth_base.specs.MemoryMap.{memory_bytes}
 use Rattle.sloth_link.specs.Image.{all_data}
 use Rattle.sim_image.specs.Symbols.{HasSymbols}
 use Rattle.sim_image.specs.Zones.{IsInCode, RoomForCalls, build_of}
@@ -24,7 +25,7 @@ pub record IsLinkedIn (map : Map) (config : Config) (app : App) (bounds : Bounds
   pub zones : HasZones map config
   pub has_stacks : HasStacks config app bounds map
   pub calls_fit : RoomForCalls bounds config app
-  pub small : size ≤ 0x20_0000
+  pub small : size ≤ memory_bytes
   pub in_code : All (IsInCode map) blocks
   pub in_range : All (λ b. All InRange b.code) blocks
   pub has_symbols : HasSymbols map app

@@ -3,7 +3,7 @@ use Rattle.std.specs.Prelude.{ℕ, ◌+◌, ◌-◌, ◌*◌, ◌%◌, ◌<◌, 
 use Rattle.sloth_base.specs.Machine.{Core}
 use Rattle.sloth_base.specs.declared.app.App.{App}
 use Rattle.sloth_base.specs.declared.config.Config.{Config}
-use Rattle.sloth_base.specs.MemoryMap.{memory_base}
+use Rattle.sloth_base.specs.MemoryMap.{memory_base, line_count}
 use Rattle.sloth_region.specs.declared.extent.Extent.{Extent}
 use Rattle.sloth_region.specs.declared.map.Map.{Map}
 use Rattle.sloth_region.specs.Layout.{context_bytes}
@@ -12,6 +12,7 @@ use Rattle.rv32_instr.specs.Range.{InRange}
 use Rattle.masked_code.specs.Kernel.{CanRun}
 use Rattle.code_rules.specs.Code.{IsCalledBy}
 use Rattle.sloth_base.specs.declared.places.Bounds.{Bounds}
+use Rattle.sloth_base.specs.Limits.{counter_limit, alarm_limit}
 use Rattle.stack_bounds.specs.Bounds.{MayMeet, bytes_of}
 use Rattle.sim_relation.specs.Build.{Build, Fits, frame_bytes}
 use Rattle.sim_relation.specs.Placed.{IsPlaced}
@@ -56,7 +57,7 @@ pub record IsInCode (map : Map) (block : Block) : Type 0 where
 
 -- a configuration has at most 2 counters and 32 alarms: the service words have room for theirs
 abbrev pub HasFewAlarms : Config → Type 0
-HasFewAlarms config = (length config.counters ≤ 2) × (length config.alarms ≤ 32)
+HasFewAlarms config = (length config.counters ≤ counter_limit) × (length config.alarms ≤ alarm_limit)
 
 -- ---- the laws: one lemma each
 
@@ -83,6 +84,6 @@ BlocksCanRun = (config : Config) (app : App) (map : Map) (bounds : Bounds) (back
     → HasZones map config → HasFewAlarms config
     → HasStacks config app bounds map → RoomForCalls bounds config app → HasSymbols map app → back % 4 ≡ 0 → All (λ b. All InRange b.code) blocks
     → All (IsInCode map) blocks → All (BlockStands memory) blocks → All (λ b. 0 < length b.code) blocks → core.controller ≡ true
-    → length core.registers ≡ 32 → slice_index core.registers 0 ≡ 0 → length core.pending ≡ 32
+    → length core.registers ≡ 32 → slice_index core.registers 0 ≡ 0 → length core.pending ≡ line_count
     → ((i : ℕ) → is_in (code_zone map) i ≡ true → slice_index core.ram i ≡ slice_index memory i)
     → All (λ b. CanRun (b.at - memory_base) b.code core) blocks

@@ -1,4 +1,8 @@
 //! Laws of the zones of an image: what is linked in them is a generated kernel.
+//!
+//! What is linked in the zones of a map, of code by the generators' contracts, is a kernel in place, with its items; blocks that fill extents with no
+//! hole between them follow one another (`built_is_generated`, `built_is_in_place`, `blocks_follow_closely`, ..; `specs/Zones`, `specs/Standing`,
+//! `specs/Rooms`, `specs/Symbols`, `specs/Generated`). A kernel in place: `sim_laws` (`Kernel`, `Generated`); the map: `mem_map` (`Zones`).
 #![tactic(auto)]
 
 ghost use Rattle.sim_image.specs.Zones.{ZonesFit, StacksAreApart, BlocksArePlaced, BlocksCanRun};

@@ -11,6 +11,7 @@ use Rattle.sloth_base.specs.declared.step.Step.{Step}
 use Rattle.sloth_base.specs.Machine.{State}
 use Rattle.sloth_base.specs.Arrivals.{moments}
 use Rattle.sloth_base.specs.Owners.{owners_in, IsOwned, AreOwned}
+use Rattle.sloth_base.specs.Limits.{unseen_counts}
 use Rattle.rv32_machine.specs.Advance.{Goes}
 use Rattle.rv32_machine.specs.Run.{moment, state_with_arrivals}
 use Rattle.osek_scheduler.specs.State.{System, opening}
@@ -92,7 +93,7 @@ module _ (given : Setting) (setting : IsSetting given) (R : State → System →
       → ((count : ℕ) (state : State) → I state → I (state_with_arrivals given.arrivals count state))
       → ((state : State) (s : System) → With R I J state s → s.booted ≡ true)
       → ((state : State) (s : System) → With R I J state s → Mirror given.config state.core s)
-      → ((state : State) (s : System) → With R I J state s → progress state s ≤ 40)
+      → ((state : State) (s : System) → With R I J state s → progress state s ≤ unseen_counts)
       → IsSimulation given (With R I J) progress
   simulation_with advances arrives kept booted mirrors bounded = record {
     advances = λ k m s z w. strengthen k m s (booted m s w) w (advances k m s z w);

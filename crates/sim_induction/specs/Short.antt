@@ -4,6 +4,7 @@ use Rattle.sloth_base.specs.declared.event.Event.{Event}
 use Rattle.sloth_base.specs.declared.step.Step.{Step}
 use Rattle.sloth_base.specs.declared.config.Config.{Config}
 use Rattle.sloth_base.specs.Stretches.{Beginning, beginning_of, stretch_limit, touch_limit}
+use Rattle.sloth_base.specs.Limits.{unseen_counts}
 use Rattle.observe.specs.Pieces.{Piece, Outside, Stretch, pieces, cut_off_steps}
 use Rattle.observe.specs.Observe.{View, mark_at, outside_events}
 
@@ -39,7 +40,7 @@ passed_length view (Stretch steps) before = 0
 -- they are at most 40
 abbrev pub HasShortGaps : View → ℕ → List Piece → Type 0
 HasShortGaps view before [] = Unit {0}
-HasShortGaps view before (piece ∷ rest) = (passed_length view piece before ≤ 40) × HasShortGaps view (passed_length view piece before) rest
+HasShortGaps view before (piece ∷ rest) = (passed_length view piece before ≤ unseen_counts) × HasShortGaps view (passed_length view piece before) rest
 
 -- each stretch of a run is short, and so are the gaps between its events
 pub record Short (config : Config) (view : View) (steps : List Step) : Type 0 where

@@ -8,6 +8,7 @@ use Rattle.sloth_base.specs.declared.event.Stamped.{Stamped}
 use Rattle.sloth_base.specs.Machine.{State}
 use Rattle.sloth_base.specs.Arrivals.{AreArrivals}
 use Rattle.sloth_base.specs.Owners.{owners_in}
+use Rattle.sloth_base.specs.Limits.{count_limit}
 use Rattle.rv32_machine.specs.Start.{start}
 use Rattle.rv32_machine.specs.Run.{run, steps_of, state_after, stop_of, state_with_arrivals}
 use Rattle.observe.specs.Observe.{view_of_image, observe}
@@ -42,4 +43,4 @@ pub record IsSoundRun (config : Config) (app : App) (image : Image) (arrivals : 
 -- for every list of arrivals and every number of instructions; the image has the names of the counters
 pub record Sound (config : Config) (app : App) (image : Image) : Type 0 where
   pub counters : image.counters ≡ map (λ c. c.name) config.counters
-  pub each : (arrivals : List Arrival) (n : ℕ) → AreArrivals (owners_in config) arrivals → n ≤ 1000000 → IsSoundRun config app image arrivals n
+  pub each : (arrivals : List Arrival) (n : ℕ) → AreArrivals (owners_in config) arrivals → n ≤ count_limit → IsSoundRun config app image arrivals n

@@ -1,6 +1,12 @@
-//! When every run of an image is one of the abstract scheduler: `Sound` (`specs/Sound`), and the induction that leads to it
-//! from a law for each piece of a run (`specs/Laws`), for any relation between the two states. The machine's runs stand in
-//! `rv32_machine`, the events that are seen of them in `observe`, and the abstract scheduler in `osek_scheduler`.
+//! When every run of an image is one of the abstract scheduler: `Sound` (`specs/Sound`), and the induction that leads to it from a law for each piece
+//! of a run (`specs/PieceLaws`), for any relation between the two states. The machine's runs stand in `rv32_machine`, the events that are seen of
+//! them in `observe`, and the abstract scheduler in `osek_scheduler`.
+//!
+//! The induction is a lemma (`proofs/Simulated`, `sound`), for any relation between the states and for arrivals of tasks' and of counters' lines.
+//! What it asks: of a stretch `StretchLaw`, of boot and of other instructions their laws (`specs/PieceLaws`); that each piece goes on to the next
+//! (`specs/Advances`, `specs/Related`). How short stretches and gaps are: `specs/Short`; that the controller mirrors the abstract scheduler:
+//! `specs/Mirror`; that the top task of a stretch's beginning stays so, but for those that arrive inside: `specs/Passing`; the trace of a stretch,
+//! told from what is seen of its steps: `specs/Observed`. Public laws: `top_task_stays`, `stretches_are_traced`.
 #![tactic(auto)]
 
 pub mod laws;

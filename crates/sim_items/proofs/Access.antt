@@ -6,6 +6,7 @@ use Rattle.sloth_base.specs.Arithmetic.{size_of, extended_number, plus, sign_ext
 use Rattle.sloth_base.specs.declared.app.Width.{Width}
 use Rattle.sloth_base.specs.declared.app.Width.TheVariants as width
 use Rattle.sloth_base.specs.Machine.{Core}
+use Rattle.sloth_base.specs.MemoryMap.{memory_base, memory_bytes}
 use Rattle.rv32_instr.specs.declared.effect.Effect.TheVariants.{Load, Store}
 use Rattle.rv32_instr.specs.Access.{load, store}
 use Rattle.rv32_instr.specs.Ram.{half_at, word_at, with_half, with_word}
@@ -18,24 +19,24 @@ use Rattle.sim_items.proofs.Bytes.{with_bytes, number_at, low_bytes}
 
 -- the place of an access of this width in RAM
 pub record IsPlaceOf (w : Width) (address offset : ℕ) : Type 0 where
-  pub is : address ≡ 0x8000_0000 + offset
+  pub is : address ≡ memory_base + offset
   pub aligned : offset % size_of w ≡ 0
-  pub inside : offset + size_of w ≤ 0x20_0000
+  pub inside : offset + size_of w ≤ memory_bytes
 
-aligned_address : (w : Width) (o : ℕ) → o % size_of w ≡ 0 → (0x8000_0000 + o) % size_of w ≡ 0
+aligned_address : (w : Width) (o : ℕ) → o % size_of w ≡ 0 → (memory_base + o) % size_of w ≡ 0
 aligned_address width.Byte o h = omega arith
 aligned_address width.Half o h = omega arith
 aligned_address width.Word o h = omega arith
 aligned_address width.ByteU o h = omega arith
 aligned_address width.HalfU o h = omega arith
 
-allowed : (c : Core) (w : Width) (o : ℕ) → o % size_of w ≡ 0 → o + size_of w ≤ 0x20_0000 → refusal (memory_of c) (0x8000_0000 + o) w ≡ None
+allowed : (c : Core) (w : Width) (o : ℕ) → o % size_of w ≡ 0 → o + size_of w ≤ memory_bytes → refusal (memory_of c) (memory_base + o) w ≡ None
 unfolding refusal
-allowed c w o h l = rw (eq-eqb ((0x8000_0000 + o) % size_of w) 0 (aligned_address w o h), in_ram_at (0x8000_0000 + o) (size_of w) (omega arith) (omega arith))
+allowed c w o h l = rw (eq-eqb ((memory_base + o) % size_of w) 0 (aligned_address w o h), in_ram_at (memory_base + o) (size_of w) (omega arith) (omega arith))
 
 -- ---- what a load gives
 
-base : (o : ℕ) → 0x8000_0000 + o - 0x8000_0000 ≡ o
+base : (o : ℕ) → memory_base + o - memory_base ≡ o
 base o = omega arith
 
 half_number : (ram : List ℕ) (o : ℕ) → half_at ram o ≡ number_at ram o 2
@@ -55,12 +56,12 @@ word_number ram o =
 byte_number : (ram : List ℕ) (o : ℕ) → get_or ram o 0 ≡ number_at ram o 1
 byte_number ram o = omega arith
 
-gives : (c : Core) (w : Width) (o : ℕ) → o + size_of w ≤ 0x20_0000 → loaded_number (memory_of c) (0x8000_0000 + o) w ≡ extended_number w (number_at c.ram o (size_of w))
+gives : (c : Core) (w : Width) (o : ℕ) → o + size_of w ≤ memory_bytes → loaded_number (memory_of c) (memory_base + o) w ≡ extended_number w (number_at c.ram o (size_of w))
 unfolding loaded_number
-gives c width.Byte o l = rw (in_ram_at (0x8000_0000 + o) 1 (omega arith) (omega arith), base o) (ap (sign_extension 8) (byte_number c.ram o))
+gives c width.Byte o l = rw (in_ram_at (memory_base + o) 1 (omega arith) (omega arith), base o) (ap (sign_extension 8) (byte_number c.ram o))
 gives c width.Half o l = rw (base o) (ap (sign_extension 16) (half_number c.ram o))
 gives c width.Word o l = rw (base o) (word_number c.ram o)
-gives c width.ByteU o l = rw (in_ram_at (0x8000_0000 + o) 1 (omega arith) (omega arith), base o) (byte_number c.ram o)
+gives c width.ByteU o l = rw (in_ram_at (memory_base + o) 1 (omega arith) (omega arith), base o) (byte_number c.ram o)
 gives c width.HalfU o l = rw (base o) (half_number c.ram o)
 
 load_effect : (w : Width) (rd base : ℕ) (offset : ℤ) (pc : ℕ) (x : List ℕ) → effect (load w rd base offset) pc x ≡ Load w rd (plus (slice_index x base) offset)
@@ -116,13 +117,13 @@ word_bytes ram o value = four ram o _ _ _ _ _ _ _ _ _ _ _ _ (omega arith) (omega
 byte_bytes : (ram : List ℕ) (o value : ℕ) → set ram o (value % 256) ≡ with_bytes ram o (low_bytes width.Byte value)
 byte_bytes ram o value = ap (λ v. set ram o v) (omega arith)
 
-leaves : (c : Core) (w : Width) (o value : ℕ) → o + size_of w ≤ 0x20_0000
-    → with_memory c (stored_memory (memory_of c) (0x8000_0000 + o) w value) ≡ record c { ram = with_bytes c.ram o (low_bytes w value) }
+leaves : (c : Core) (w : Width) (o value : ℕ) → o + size_of w ≤ memory_bytes
+    → with_memory c (stored_memory (memory_of c) (memory_base + o) w value) ≡ record c { ram = with_bytes c.ram o (low_bytes w value) }
 unfolding stored_memory
-leaves c width.Byte o value l = rw (in_ram_at (0x8000_0000 + o) 1 (omega arith) (omega arith), base o) (ap (λ r. record c { ram = r }) (byte_bytes c.ram o value))
+leaves c width.Byte o value l = rw (in_ram_at (memory_base + o) 1 (omega arith) (omega arith), base o) (ap (λ r. record c { ram = r }) (byte_bytes c.ram o value))
 leaves c width.Half o value l = rw (base o) (ap (λ r. record c { ram = r }) (half_bytes c.ram o value))
 leaves c width.Word o value l = rw (base o) (ap (λ r. record c { ram = r }) (word_bytes c.ram o value))
-leaves c width.ByteU o value l = rw (in_ram_at (0x8000_0000 + o) 1 (omega arith) (omega arith), base o) (ap (λ r. record c { ram = r }) (byte_bytes c.ram o value))
+leaves c width.ByteU o value l = rw (in_ram_at (memory_base + o) 1 (omega arith) (omega arith), base o) (ap (λ r. record c { ram = r }) (byte_bytes c.ram o value))
 leaves c width.HalfU o value l = rw (base o) (ap (λ r. record c { ram = r }) (half_bytes c.ram o value))
 
 store_performs : (c : Core) (w : Width) (address value o word pc : ℕ) → IsPlaceOf w address o

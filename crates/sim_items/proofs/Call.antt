@@ -12,6 +12,7 @@ use Rattle.sloth_base.specs.declared.app.Op.TheVariants as op
 use Rattle.sloth_base.specs.declared.app.Width.TheVariants as width
 use Rattle.sloth_base.specs.declared.event.Arrival.{Arrival}
 use Rattle.sloth_base.specs.declared.image.MarkKind.TheVariants as mark_kind
+use Rattle.sloth_base.specs.MemoryMap.{memory_base, memory_bytes, memory_end}
 use Rattle.sloth_region.specs.Layout.{context_bytes}
 use Rattle.rv32_instr.specs.declared.InstrKind.TheVariants.{Sw}
 use Rattle.rv32_instr.specs.Encode.{Encode}
@@ -48,7 +49,7 @@ use Rattle.sim_items.proofs.Scratch.{registers_pass}
 use Rattle.sim_items.proofs.Turning.{turns}
 use Rattle.sim_items.proofs.Outside as outside
 
-lowered : (place n : ℕ) → 0 < n → n ≤ place → place < 0x20_0001 → plus (0x8000_0000 + place) (neg_ℤ (pos n)) ≡ 0x8000_0000 + (place - n)
+lowered : (place n : ℕ) → 0 < n → n ≤ place → place < 0x20_0001 → plus (memory_base + place) (neg_ℤ (pos n)) ≡ memory_base + (place - n)
 lowered place zero h l m = absurd (omega arith)
 lowered place (suc n) h l m = omega (arith, ints)
 
@@ -117,7 +118,7 @@ module _ (b : Build) (view : View) (arrivals : List Arrival) (count : ℕ) (stat
       by : (o : Op) → o ≡ op.Invoke callee → HasScratch b (task s1 t).registers item.frame o item.here.done (thread_of n) → item.here.done ≡ 0
       by o e h = subst (λ v. HasScratch b (task s1 t).registers item.frame v item.here.done (thread_of n)) e h
 
-  value : plus (slice_index x 2) (neg_ℤ (pos (4 + 4 * words))) ≡ 0x8000_0000 + place
+  value : plus (slice_index x 2) (neg_ℤ (pos (4 + 4 * words))) ≡ memory_base + place
   value =
       let r = room in
       let l = below_top in
@@ -125,23 +126,23 @@ module _ (b : Build) (view : View) (arrivals : List Arrival) (count : ℕ) (stat
       ap (λ v. plus v (neg_ℤ (pos (4 + 4 * words)))) item.context.x2 ∙ lowered item.place (4 + 4 * words) (omega arith) (omega arith) (omega arith)
 
   abbrev core_now : Core
-  core_now = record n.core { registers = set x 2 (0x8000_0000 + place) }
+  core_now = record n.core { registers = set x 2 (memory_base + place) }
 
-  performs : (offset word : ℕ) → offset + 4 ≤ 0x20_0000
-      → perform (effect (lowers words) (0x8000_0000 + offset) x) word (0x8000_0000 + offset) n.core ≡ Going (offset_state (offset + 4 * 1) core_now)
+  performs : (offset word : ℕ) → offset + 4 ≤ memory_bytes
+      → perform (effect (lowers words) (memory_base + offset) x) word (memory_base + offset) n.core ≡ Going (offset_state (offset + 4 * 1) core_now)
   unfolding perform
-  performs offset word l = ap (λ v. goes_on (0x8000_0000 + offset) (record n.core { registers = set x 2 v })) value ∙ next_at offset core_now l
+  performs offset word l = ap (λ v. goes_on (memory_base + offset) (record n.core { registers = set x 2 v })) value ∙ next_at offset core_now l
 
   quiet : (pc : ℕ) → touched_line_by (effect (lowers words) pc x) ≡ None
   unfolding touched_line_by
   quiet pc = refl
 
-  passes : (offset : ℕ) → 0x8000_0000 + offset ≡ address + 4 * 0 → Passes b n (offset_state (offset + 4 * 1) core_now) s1 t
+  passes : (offset : ℕ) → memory_base + offset ≡ address + 4 * 0 → Passes b n (offset_state (offset + 4 * 1) core_now) s1 t
   passes offset e =
       let f = now.fixed in
       let r = room in
       let back : place + 4 + 4 * words ≡ item.place = omega arith in
-      let value = 0x8000_0000 + place in
+      let value = memory_base + place in
       registers_pass b n s1 t now (offset + 4 * 1) (set x 2 value) (length-set x 2 value) (λ i l z. get_or-set_other x 2 i value 0 z) place
       (get_or-set_same x 2 value 0 (let l = f.registers in omega arith))
       (record {
@@ -272,7 +273,7 @@ module _ (b : Build) (view : View) (arrivals : List Arrival) (count : ℕ) (stat
         let p = in_part in
         let keeps = part_keeps b here.fits ram s2 t is_active.declared (inl is_active.active) stands.apart spot value p.0 p.1 in
         record {
-          machine = kept_machine b m stands.fixed (0x8000_0000 + offset) y new refl refl stands.fixed.bases keeps.long;
+          machine = kept_machine b m stands.fixed (memory_base + offset) y new refl refl stands.fixed.bases keeps.long;
           level = refl;
           kept = keeps;
           data_stay = part_data b here.fits ram s2 t is_active.declared (inl is_active.active) stands.apart spot value p.0 p.1;
@@ -292,12 +293,12 @@ module _ (b : Build) (view : View) (arrivals : List Arrival) (count : ℕ) (stat
         let top = (here.fits.to t is_active.declared).0 in
         record { is = omega arith; aligned = omega arith; inside = omega arith }
 
-    store_performs : (rs offset code_word : ℕ) → slice_index y rs ≡ value → offset + 4 ≤ 0x20_0000
-        → perform (effect (Sw 2 rs (pos (4 * word))) (0x8000_0000 + offset) y) code_word (0x8000_0000 + offset) m.core ≡ Going (offset_state (offset + 4 * 1) core_stored)
+    store_performs : (rs offset code_word : ℕ) → slice_index y rs ≡ value → offset + 4 ≤ memory_bytes
+        → perform (effect (Sw 2 rs (pos (4 * word))) (memory_base + offset) y) code_word (memory_base + offset) m.core ≡ Going (offset_state (offset + 4 * 1) core_stored)
     store_performs rs offset code_word e l =
-        store_at m.core width.Word rs 2 (pos (4 * word)) spot code_word (0x8000_0000 + offset) store_spot
-        ∙ ap (λ r. goes_on (0x8000_0000 + offset) (record m.core { ram = r })) (sym (word_bytes ram spot (slice_index y rs)))
-        ∙ ap (λ v. goes_on (0x8000_0000 + offset) (record m.core { ram = with_word ram spot v })) e
+        store_at m.core width.Word rs 2 (pos (4 * word)) spot code_word (memory_base + offset) store_spot
+        ∙ ap (λ r. goes_on (memory_base + offset) (record m.core { ram = r })) (sym (word_bytes ram spot (slice_index y rs)))
+        ∙ ap (λ v. goes_on (memory_base + offset) (record m.core { ram = with_word ram spot v })) e
         ∙ next_at offset core_stored l
 
     store_quiet : (rs pc : ℕ) → touched_line_by (effect (Sw 2 rs (pos (4 * word))) pc y) ≡ None
@@ -341,7 +342,7 @@ module _ (b : Build) (view : View) (arrivals : List Arrival) (count : ℕ) (stat
       (λ h. absurd (omega arith)) (λ h. absurd (omega arith))))
 
   -- the item ends in RAM
-  item_end : from + 4 * (size + 4) ≤ 0x8020_0000
+  item_end : from + 4 * (size + 4) ≤ memory_end
   item_end =
       let i = code.behind b (lowers size ∷ (zeros size 0 ++ (links ∷ stores_link size ∷ []))) (jumps_away from size to) [] from
       (subst (HasInstructions b from) (expands ∙ at_jump from size to) call.placed.code) in
@@ -355,19 +356,19 @@ module _ (b : Build) (view : View) (arrivals : List Arrival) (count : ℕ) (stat
   abbrev core_linked : Core
   core_linked = record m.core { registers = set y 31 (return_address b item.frame) }
 
-  link_performs : (offset word : ℕ) → 0x8000_0000 + offset ≡ from + 4 * (size + 1) → offset + 4 ≤ 0x20_0000
-      → perform (effect links (0x8000_0000 + offset) y) word (0x8000_0000 + offset) m.core ≡ Going (offset_state (offset + 4 * 1) core_linked)
+  link_performs : (offset word : ℕ) → memory_base + offset ≡ from + 4 * (size + 1) → offset + 4 ≤ memory_bytes
+      → perform (effect links (memory_base + offset) y) word (memory_base + offset) m.core ≡ Going (offset_state (offset + 4 * 1) core_linked)
   unfolding perform
   link_performs offset word q l =
       let r = return_is in
-      let v : sum32 (0x8000_0000 + offset) (0 * 4096) ≡ return_address b item.frame = omega arith in
-      ap (λ a. goes_on (0x8000_0000 + offset) (record m.core { registers = set y 31 a })) v ∙ next_at offset core_linked l
+      let v : sum32 (memory_base + offset) (0 * 4096) ≡ return_address b item.frame = omega arith in
+      ap (λ a. goes_on (memory_base + offset) (record m.core { registers = set y 31 a })) v ∙ next_at offset core_linked l
 
   link_quiet : (pc : ℕ) → touched_line_by (effect links pc y) ≡ None
   unfolding touched_line_by
   link_quiet pc = refl
 
-  link_passes : (offset : ℕ) → 0x8000_0000 + offset ≡ from + 4 * (size + 2) → c.done ≡ size + 1 → Passes b m (offset_state offset core_linked) s2 t
+  link_passes : (offset : ℕ) → memory_base + offset ≡ from + 4 * (size + 2) → c.done ≡ size + 1 → Passes b m (offset_state offset core_linked) s2 t
   link_passes offset q e =
       let f = stands.fixed in
       let link = return_address b item.frame in
@@ -426,8 +427,8 @@ module _ (b : Build) (view : View) (arrivals : List Arrival) (count : ℕ) (stat
   to_ram : IsInRam to
   to_ram = item_in_ram b view c.callee 0 call.first
 
-  jump_performs : (offset word : ℕ) → 0x8000_0000 + offset ≡ from + 4 * (size + 3) → offset + 4 ≤ 0x20_0000
-      → perform (effect (jumps_away from size to) (0x8000_0000 + offset) y) word (0x8000_0000 + offset) m.core ≡ Going (record { pc = to; core = m.core })
+  jump_performs : (offset word : ℕ) → memory_base + offset ≡ from + 4 * (size + 3) → offset + 4 ≤ memory_bytes
+      → perform (effect (jumps_away from size to) (memory_base + offset) y) word (memory_base + offset) m.core ≡ Going (record { pc = to; core = m.core })
   unfolding perform
   jump_performs offset word q l =
       let r = to_ram.to in
@@ -460,7 +461,7 @@ module _ (b : Build) (view : View) (arrivals : List Arrival) (count : ℕ) (stat
       (code.stepped b view m s2 here.fits stands item.frame.func item.frame.item call.placed c.done c.pc before (jumps_away from size to) [] expanded_so (behind_store size ∙ sym e) next
       (jump_performs offset (Encode (jumps_away from size to)) (omega arith) to_end))
       (code.untouched b view m s2 here.fits stands item.frame.func item.frame.item call.placed c.done c.pc before (jumps_away from size to) [] expanded_so (behind_store size ∙ sym e)
-      (jump_quiet (0x8000_0000 + offset))))
+      (jump_quiet (memory_base + offset))))
       call.placed (outside.last_at b view arrivals (progress_in b) count state s here item.frame.func item.frame.item c.done c.pc (omega arith))
       (λ address. call_mark b item.frame.func item.frame.item c.callee address (operation b.app item.frame.func item.frame.item) call.is)
 

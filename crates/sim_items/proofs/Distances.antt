@@ -15,6 +15,7 @@ use Rattle.rv32_instr.specs.Execute.{Going, jumps}
 use Rattle.expansion_parts.specs.Expansion.{item_address, is_long, distance, test, opposite, expansion}
 use Rattle.expansion_parts.proofs.Counts.{expanded_some}
 use Rattle.sloth_base.specs.Named.{operation}
+use Rattle.sloth_base.specs.MemoryMap.{memory_base, memory_end}
 use Rattle.observe.specs.Observe.{View}
 use Rattle.sim_relation.specs.Build.{Build}
 use Rattle.sim_items.specs.Place.{HasInstructions, ItemStands}
@@ -29,8 +30,8 @@ jumps_to target core a = rw (eq-eqb (target % 4) 0 a) refl
 
 -- an address in RAM
 pub record IsInRam (address : ℕ) : Type 0 where
-  pub from : 0x8000_0000 ≤ address
-  pub to : address + 4 ≤ 0x8020_0000
+  pub from : memory_base ≤ address
+  pub to : address + 4 ≤ memory_end
 
 first_in_ram : (b : Build) (address : ℕ) (code : List InstrKind) → 0 < length code → HasInstructions b address code → IsInRam address
 first_in_ram b address [] l h = absurd (omega arith)

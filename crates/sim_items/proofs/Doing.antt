@@ -11,6 +11,8 @@ use Rattle.sloth_base.specs.declared.app.Op.{Op}
 use Rattle.sloth_base.specs.declared.app.Op.TheVariants as op
 use Rattle.sloth_base.specs.declared.app.Width.{Width}
 use Rattle.sloth_base.specs.declared.app.Width.TheVariants as width
+use Rattle.code_rules.specs.AppRange.{IsRegister}
+use Rattle.sloth_base.specs.MemoryMap.{memory_base}
 use Rattle.rv32_instr.specs.declared.InstrKind.{InstrKind}
 use Rattle.rv32_instr.specs.declared.InstrKind.TheVariants.{Lui, Addi, Lw, Sw}
 use Rattle.rv32_instr.specs.declared.effect.Effect.TheVariants.{Write}
@@ -31,7 +33,7 @@ use Rattle.sim_relation.specs.DataStands.{DataStands}
 use Rattle.sim_relation.specs.Stands.{Stands, IsActive}
 use Rattle.sim_relation.proofs.Framing.{frames_kept, outer_below}
 use Rattle.sim_relation.proofs.Placed.{active_by_word}
-use Rattle.sim_items.specs.Place.{AtItem, IsTaskRegister, IsAccess, IsStraight, HasNumbers}
+use Rattle.sim_items.specs.Place.{AtItem, IsAccess, IsStraight, HasNumbers}
 use Rattle.sim_items.proofs.Access.{IsPlaceOf, load_at, load_at_quiet, store_at, store_at_quiet, word_number, word_bytes}
 use Rattle.sim_items.proofs.Bytes.{number_at}
 use Rattle.sim_items.proofs.Cases.{straight_cases}
@@ -48,7 +50,7 @@ pub record Does (b : Build) (state : State) (s : System) (t : ℕ) (at : AtItem 
   pub expands : operation_code b.app b.places at.frame.func (item_address b.places at.frame.func at.frame.item) long operation ≡ before ++ (kind ∷ [])
   pub last : length before ≡ at.here.done
   pub rd : ℕ
-  pub is_own : IsTaskRegister rd
+  pub is_own : IsRegister rd
   pub value : ℕ
   pub ram : List ℕ
   pub performs : (word pc : ℕ) → perform (effect kind pc state.core.registers) word pc state.core ≡ goes_on pc (record (with_register state.core rd value) { ram = ram })
@@ -86,7 +88,7 @@ module _ (b : Build) (state : State) (s : System) (t : ℕ) (fits : Fits b) (k :
   active : IsActive b s t
   active = active_by_word b state s t k at.current
 
-  agree : (r : ℕ) → IsTaskRegister r → slice_index x r ≡ register own.registers r
+  agree : (r : ℕ) → IsRegister r → slice_index x r ≡ register own.registers r
   agree = own_agrees x own.registers k.fixed.zero at.context.registers
 
   -- ---- a register alone
@@ -95,7 +97,7 @@ module _ (b : Build) (state : State) (s : System) (t : ℕ) (fits : Fits b) (k :
   same_ram zero value = refl
   same_ram (suc rd) value = refl
 
-  module _ (o : Op) (before : List InstrKind) (kind : InstrKind) (rd value : ℕ) (is_own : IsTaskRegister rd) (expands : expansion_of o ≡ before ++ (kind ∷ [])) (last : length before ≡ at.here.done)
+  module _ (o : Op) (before : List InstrKind) (kind : InstrKind) (rd value : ℕ) (is_own : IsRegister rd) (expands : expansion_of o ≡ before ++ (kind ∷ [])) (last : length before ≡ at.here.done)
       (performs : (word pc : ℕ) → perform (effect kind pc x) word pc state.core ≡ goes_on pc (with_register state.core rd value))
       (quiet : (pc : ℕ) → touched_line_by (effect kind pc x) ≡ None) (named : AreOwn (registers_of o))
       (means : execution b.app o own.registers frame at.outer s.symbols ≡ write_meaning rd value own.registers frame at.outer s.symbols) (shown : result_register o ≡ rd) where
@@ -133,7 +135,7 @@ module _ (b : Build) (state : State) (s : System) (t : ℕ) (fits : Fits b) (k :
   unfolding touched_line_by
   quiet_write kind rd value e pc = ap touched_line_by (e pc)
 
-  computes : (o : Op) (before : List InstrKind) (kind : InstrKind) (rd value : ℕ) → IsTaskRegister rd → expansion_of o ≡ before ++ (kind ∷ []) → length before ≡ at.here.done
+  computes : (o : Op) (before : List InstrKind) (kind : InstrKind) (rd value : ℕ) → IsRegister rd → expansion_of o ≡ before ++ (kind ∷ []) → length before ≡ at.here.done
       → ((pc : ℕ) → effect kind pc x ≡ Write rd value) → AreOwn (registers_of o)
       → execution b.app o own.registers frame at.outer s.symbols ≡ write_meaning rd value own.registers frame at.outer s.symbols → result_register o ≡ rd → Here o
   computes o before kind rd value is_own expands last e named means shown =
@@ -240,11 +242,11 @@ module _ (b : Build) (state : State) (s : System) (t : ℕ) (fits : Fits b) (k :
   abbrev Reaches : (number : ℤ) (y offset : ℕ) → Type 0
   Reaches number y offset = plus (slice_index x 31) number ≡ symbol_address b.places y + offset
 
-  loads_into : (o : Op) (before : List InstrKind) (w : Width) (rd y offset : ℕ) (number : ℤ) → IsTaskRegister rd → access w y offset → expansion_of o ≡ before ++ (load w rd 31 number ∷ [])
+  loads_into : (o : Op) (before : List InstrKind) (w : Width) (rd y offset : ℕ) (number : ℤ) → IsRegister rd → access w y offset → expansion_of o ≡ before ++ (load w rd 31 number ∷ [])
       → length before ≡ at.here.done → Reaches number y offset → AreOwn (registers_of o)
       → execution b.app o own.registers frame at.outer s.symbols ≡ load_meaning w rd y offset own.registers frame at.outer s.symbols → result_register o ≡ rd → Here o
   loads_into o before w rd y offset number is_own inside expands last reaches named means shown =
-      let place = symbol_address b.places y - 0x8000_0000 + offset in
+      let place = symbol_address b.places y - memory_base + offset in
       let spot = symbol.spot b fits state.core.ram s.symbols k.data_stands numbers.sizes w y offset inside (plus (slice_index x 31) number) reaches in
       let value = symbol.load_means b fits state.core.ram s.symbols k.data_stands numbers.sizes w y offset inside in
       writes_register o before (load w rd 31 number) rd (loaded_word w (get_or s.symbols y []) offset) is_own expands last
@@ -254,11 +256,11 @@ module _ (b : Build) (state : State) (s : System) (t : ℕ) (fits : Fits b) (k :
       (symbol.accessed_is b fits state.core.ram s.symbols k.data_stands numbers.sizes w y offset inside))
       shown
 
-  stores_from : (o : Op) (before : List InstrKind) (w : Width) (rs y offset : ℕ) (number : ℤ) → IsTaskRegister rs → access w y offset → expansion_of o ≡ before ++ (store w rs 31 number ∷ [])
+  stores_from : (o : Op) (before : List InstrKind) (w : Width) (rs y offset : ℕ) (number : ℤ) → IsRegister rs → access w y offset → expansion_of o ≡ before ++ (store w rs 31 number ∷ [])
       → length before ≡ at.here.done → Reaches number y offset → AreOwn (registers_of o)
       → execution b.app o own.registers frame at.outer s.symbols ≡ store_meaning w rs y offset own.registers frame at.outer s.symbols → result_register o ≡ rs → Here o
   stores_from o before w rs y offset number is_own inside expands last reaches named means shown =
-      let place = symbol_address b.places y - 0x8000_0000 + offset in
+      let place = symbol_address b.places y - memory_base + offset in
       let spot = symbol.spot b fits state.core.ram s.symbols k.data_stands numbers.sizes w y offset inside (plus (slice_index x 31) number) reaches in
       let bytes = get_or s.symbols y [] in
       let value = slice_index x rs in

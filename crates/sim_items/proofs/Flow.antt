@@ -11,6 +11,8 @@ use Rattle.sloth_base.specs.declared.app.Label.{Label}
 use Rattle.sloth_base.specs.declared.app.Op.{Op}
 use Rattle.sloth_base.specs.declared.app.Op.TheVariants as op
 use Rattle.sloth_base.specs.declared.image.MarkKind.TheVariants as mark_kind
+use Rattle.code_rules.specs.AppRange.{IsRegister}
+use Rattle.sloth_base.specs.MemoryMap.{memory_bytes, memory_base}
 use Rattle.rv32_instr.specs.declared.InstrKind.{InstrKind}
 use Rattle.rv32_instr.specs.declared.InstrKind.TheVariants.{Lui, Addi, Jal, Jalr}
 use Rattle.rv32_instr.specs.declared.effect.Effect.TheVariants.{Branch, Write}
@@ -26,7 +28,7 @@ use Rattle.osek_scheduler.specs.State.{Frame}
 use Rattle.osek_scheduler.specs.Meaning.{meaning, register, target, goes_to, on_some}
 use Rattle.sim_relation.specs.Build.{Build, Fits}
 use Rattle.sim_relation.specs.Position.{Thread, HasTarget, HasScratch, thread_of}
-use Rattle.sim_items.specs.Place.{FunctionStands, IsTaskRegister, IsTarget, IsFlow}
+use Rattle.sim_items.specs.Place.{FunctionStands, IsTarget, IsFlow}
 use Rattle.sim_items.proofs.Distances.{arrives, jumps_to, IsInRam, item_in_ram, test_effect, opposite_holds}
 use Rattle.sim_items.proofs.Preparing.{Prepares, prepares}
 use Rattle.sim_items.proofs.Values.{own_meaning}
@@ -71,14 +73,14 @@ pub record Turns (b : Build) (state : State) (own : List ℕ) (symbols : List (L
   pub reached : length before ≡ done
   pub item : ℕ
   pub exists : item < length (function b.app frame.func).items
-  pub performs : (offset word : ℕ) → 0x8000_0000 + offset ≡ item_address b.places frame.func frame.item + 4 * done → offset + 4 ≤ 0x20_0000
-      → perform (effect kind (0x8000_0000 + offset) state.core.registers) word (0x8000_0000 + offset) state.core ≡ Going (record { pc = item_address b.places frame.func item; core = state.core })
+  pub performs : (offset word : ℕ) → memory_base + offset ≡ item_address b.places frame.func frame.item + 4 * done → offset + 4 ≤ memory_bytes
+      → perform (effect kind (memory_base + offset) state.core.registers) word (memory_base + offset) state.core ≡ Going (record { pc = item_address b.places frame.func item; core = state.core })
   pub quiet : (pc : ℕ) → touched_line_by (effect kind pc state.core.registers) ≡ None
   pub means : meaning b.app operation own frame outer symbols
       ≡ Some (record { registers = own; frames = record frame { item = item } ∷ outer; symbols = symbols; result = 0 })
 
 module _ (b : Build) (view : View) (fits : Fits b) (state : State) (own : List ℕ) (symbols : List (List ℕ)) (frame : Frame) (outer : List Frame) (wide : length state.core.registers ≡ 32)
-    (agree : (r : ℕ) → IsTaskRegister r → slice_index state.core.registers r ≡ register own r) (inside : frame.item < length (function b.app frame.func).items)
+    (agree : (r : ℕ) → IsRegister r → slice_index state.core.registers r ≡ register own r) (inside : frame.item < length (function b.app frame.func).items)
     (stand : FunctionStands b view frame.func) where
   abbrev x : List ℕ
   x = state.core.registers
@@ -136,10 +138,10 @@ module _ (b : Build) (view : View) (fits : Fits b) (state : State) (own : List �
     means = ap (λ found. on_some found (λ item. goes_to item own frame outer symbols)) (target_is label h);
   }
     where
-      performs : (offset word : ℕ) → 0x8000_0000 + offset ≡ address + 4 * done → offset + 4 ≤ 0x20_0000
-          → perform (effect (Jal 0 (distance address (lands label))) (0x8000_0000 + offset) x) word (0x8000_0000 + offset) state.core ≡ Going (record { pc = lands label; core = state.core })
+      performs : (offset word : ℕ) → memory_base + offset ≡ address + 4 * done → offset + 4 ≤ memory_bytes
+          → perform (effect (Jal 0 (distance address (lands label))) (memory_base + offset) x) word (memory_base + offset) state.core ≡ Going (record { pc = lands label; core = state.core })
       performs offset word e l =
-          let f : 0x8000_0000 + offset ≡ address = omega arith in
+          let f : memory_base + offset ≡ address = omega arith in
           ap (λ p. jumps (plus p (distance address (lands label))) state.core) f ∙ ap (λ p. jumps p state.core) (arrives_at label h) ∙ jumps_item (label_item label)
 
       quiet : (pc : ℕ) → touched_line_by (effect (Jal 0 (distance address (lands label))) pc x) ≡ None
@@ -178,19 +180,19 @@ module _ (b : Build) (view : View) (fits : Fits b) (state : State) (own : List �
     quiet_test k offset pc = ap touched_line_by (test_effect k rs1 rs2 offset pc x)
 
     -- short
-    short_performs : (taken : Bool) → holds ≡ taken → IsAdjacent false this → (offset word : ℕ) → 0x8000_0000 + offset ≡ address → offset + 4 ≤ 0x20_0000
-        → perform (effect (test kind rs1 rs2 (distance address (lands label))) (0x8000_0000 + offset) x) word (0x8000_0000 + offset) state.core
+    short_performs : (taken : Bool) → holds ≡ taken → IsAdjacent false this → (offset word : ℕ) → memory_base + offset ≡ address → offset + 4 ≤ memory_bytes
+        → perform (effect (test kind rs1 rs2 (distance address (lands label))) (memory_base + offset) x) word (memory_base + offset) state.core
         ≡ Going (record { pc = item_address b.places frame.func (chosen taken); core = state.core })
     unfolding perform
     short_performs true e adjacent offset word f l =
-        ap (λ v. perform v word (0x8000_0000 + offset) state.core)
-        (test_effect kind rs1 rs2 (distance address (lands label)) (0x8000_0000 + offset) x ∙ ap (λ v. Branch v (plus (0x8000_0000 + offset) (distance address (lands label)))) (tests ∙ e))
+        ap (λ v. perform v word (memory_base + offset) state.core)
+        (test_effect kind rs1 rs2 (distance address (lands label)) (memory_base + offset) x ∙ ap (λ v. Branch v (plus (memory_base + offset) (distance address (lands label)))) (tests ∙ e))
         ∙ ap (λ p. jumps (plus p (distance address (lands label))) state.core) f ∙ ap (λ p. jumps p state.core) (arrives_at label h.2) ∙ jumps_item (label_item label)
     short_performs false e adjacent offset word f l =
         let a = adjacent h.3 in
-        let q : 0x8000_0000 + (offset + 4) ≡ item_address b.places frame.func (frame.item + 1) = omega arith in
-        ap (λ v. perform v word (0x8000_0000 + offset) state.core)
-        (test_effect kind rs1 rs2 (distance address (lands label)) (0x8000_0000 + offset) x ∙ ap (λ v. Branch v (plus (0x8000_0000 + offset) (distance address (lands label)))) (tests ∙ e))
+        let q : memory_base + (offset + 4) ≡ item_address b.places frame.func (frame.item + 1) = omega arith in
+        ap (λ v. perform v word (memory_base + offset) state.core)
+        (test_effect kind rs1 rs2 (distance address (lands label)) (memory_base + offset) x ∙ ap (λ v. Branch v (plus (memory_base + offset) (distance address (lands label)))) (tests ∙ e))
         ∙ next_at offset state.core l ∙ ap (λ p. Going (record { pc = p; core = state.core })) q
 
     short : Last false this
@@ -249,8 +251,8 @@ module _ (b : Build) (view : View) (fits : Fits b) (state : State) (own : List �
         goal_ram : IsInRam goal
         goal_ram = item_in_ram b view frame.func (chosen holds) (stand (chosen holds) (exists holds))
 
-        performs : (offset word : ℕ) → 0x8000_0000 + offset ≡ address + 4 * done → offset + 4 ≤ 0x20_0000
-            → perform (effect (Jalr 0 31 (pos 0)) (0x8000_0000 + offset) x) word (0x8000_0000 + offset) state.core ≡ Going (record { pc = goal; core = state.core })
+        performs : (offset word : ℕ) → memory_base + offset ≡ address + 4 * done → offset + 4 ≤ memory_bytes
+            → perform (effect (Jalr 0 31 (pos 0)) (memory_base + offset) x) word (memory_base + offset) state.core ≡ Going (record { pc = goal; core = state.core })
         performs offset word e l =
             let r = goal_ram.to in
             ap (λ v. jumps (plus v (pos 0) - plus v (pos 0) % 2) state.core) x31
@@ -263,17 +265,17 @@ module _ (b : Build) (view : View) (fits : Fits b) (state : State) (own : List �
     opposite_tests : (taken : Bool) → holds ≡ taken → branch_holds (opposite kind) (slice_index x rs1) (slice_index x rs2) ≡ not taken
     opposite_tests taken e = opposite_holds kind (slice_index x rs1) (slice_index x rs2) ∙ ap not (tests ∙ e)
 
-    goes_inside : (taken : Bool) → holds ≡ taken → (offset word : ℕ) → offset + 4 ≤ 0x20_0000 → offset % 4 ≡ 0
-        → perform (effect tested (0x8000_0000 + offset) x) word (0x8000_0000 + offset) state.core ≡ Going (offset_state (offset + 4 * cond taken 1 3) state.core)
+    goes_inside : (taken : Bool) → holds ≡ taken → (offset word : ℕ) → offset + 4 ≤ memory_bytes → offset % 4 ≡ 0
+        → perform (effect tested (memory_base + offset) x) word (memory_base + offset) state.core ≡ Going (offset_state (offset + 4 * cond taken 1 3) state.core)
     unfolding perform
     goes_inside true e offset word l a =
-        ap (λ v. perform v word (0x8000_0000 + offset) state.core)
-        (test_effect (opposite kind) rs1 rs2 (pos 12) (0x8000_0000 + offset) x ∙ ap (λ v. Branch v (plus (0x8000_0000 + offset) (pos 12))) (opposite_tests true e))
+        ap (λ v. perform v word (memory_base + offset) state.core)
+        (test_effect (opposite kind) rs1 rs2 (pos 12) (memory_base + offset) x ∙ ap (λ v. Branch v (plus (memory_base + offset) (pos 12))) (opposite_tests true e))
         ∙ next_at offset state.core l
     goes_inside false e offset word l a =
-        let q : plus (0x8000_0000 + offset) (pos 12) ≡ 0x8000_0000 + (offset + 12) = omega arith in
-        ap (λ v. perform v word (0x8000_0000 + offset) state.core)
-        (test_effect (opposite kind) rs1 rs2 (pos 12) (0x8000_0000 + offset) x ∙ ap (λ v. Branch v (plus (0x8000_0000 + offset) (pos 12))) (opposite_tests false e))
+        let q : plus (memory_base + offset) (pos 12) ≡ memory_base + (offset + 12) = omega arith in
+        ap (λ v. perform v word (memory_base + offset) state.core)
+        (test_effect (opposite kind) rs1 rs2 (pos 12) (memory_base + offset) x ∙ ap (λ v. Branch v (plus (memory_base + offset) (pos 12))) (opposite_tests false e))
         ∙ ap (λ p. jumps p state.core) q ∙ jump_at (offset + 12) state.core (omega arith)
 
     abbrev Has : ℕ → Thread → Type 0

@@ -6,6 +6,8 @@ use Rattle.sloth_base.specs.Machine.{State}
 use Rattle.sloth_base.specs.Named.{operation}
 use Rattle.sloth_base.specs.declared.app.Op.{Op}
 use Rattle.sloth_base.specs.declared.event.Arrival.{Arrival}
+use Rattle.code_rules.specs.AppRange.{IsRegister}
+use Rattle.sloth_base.specs.MemoryMap.{memory_base}
 use Rattle.rv32_instr.specs.Encode.{Encode}
 use Rattle.expansion_parts.specs.Expansion.{item_address, is_long, expansion}
 use Rattle.observe.specs.Observe.{View}
@@ -13,7 +15,7 @@ use Rattle.osek_scheduler.specs.State.{Frame, System, task}
 use Rattle.osek_scheduler.specs.Meaning.{register}
 use Rattle.sim_relation.specs.Build.{Build}
 use Rattle.sim_relation.specs.Stands.{Stands}
-use Rattle.sim_items.specs.Place.{AtItem, FunctionStands, IsTaskRegister, IsFlow}
+use Rattle.sim_items.specs.Place.{AtItem, FunctionStands, IsFlow}
 use Rattle.sim_items.specs.Outside.{StandsAt, GoesOutside}
 use Rattle.sim_items.specs.Progress.{progress_in}
 use Rattle.sim_items.proofs.InRam as code
@@ -47,7 +49,7 @@ module _ (b : Build) (view : View) (arrivals : List Arrival) (count : ℕ) (stat
   abbrev own : List ℕ
   own = (task s1 t).registers
 
-  agree : (r : ℕ) → IsTaskRegister r → slice_index n.core.registers r ≡ register own r
+  agree : (r : ℕ) → IsRegister r → slice_index n.core.registers r ≡ register own r
   agree = own_agrees n.core.registers own now.fixed.zero item.context.registers
 
   abbrev size : ℕ
@@ -65,7 +67,7 @@ module _ (b : Build) (view : View) (arrivals : List Arrival) (count : ℕ) (stat
       (turns b n s1 t here.fits now item.current (outside.top_here b view arrivals (progress_in b) count state s here t item.current) item.free frame item.outer item.frames item.inside
       item.place item.context new item.outer v.exists item.stood v.means (no_result b.app frame.func frame.item this is)
       (code.stepped b view n s1 here.fits now frame.func frame.item placed item.here.done item.here.pc v.before v.kind [] v.expands v.reached next (v.performs offset (Encode v.kind) offset_is inside))
-      (code.untouched b view n s1 here.fits now frame.func frame.item placed item.here.done item.here.pc v.before v.kind [] v.expands v.reached (v.quiet (0x8000_0000 + offset))))
+      (code.untouched b view n s1 here.fits now frame.func frame.item placed item.here.done item.here.pc v.before v.kind [] v.expands v.reached (v.quiet (memory_base + offset))))
       placed (outside.last_at b view arrivals (progress_in b) count state s here frame.func frame.item item.here.done item.here.pc last)
       (λ address. flow_mark b.app frame.func frame.item address this is)
 

@@ -1,6 +1,7 @@
 -- Code of items in RAM.
 use Rattle.std.proofs.Common.{◌≡◌, ℕ, ◌+◌, ◌*◌, ◌%◌, ◌≤◌, List, [], ◌∷◌, ◌++◌, length, sym, ap, ◌∙◌, subst, arith, None}
 use Rattle.sloth_base.specs.Machine.{State}
+use Rattle.sloth_base.specs.MemoryMap.{memory_base, memory_bytes}
 use Rattle.rv32_instr.specs.declared.InstrKind.{InstrKind}
 use Rattle.rv32_instr.specs.Encode.{Encode}
 use Rattle.rv32_instr.specs.Effect.{effect}
@@ -44,10 +45,10 @@ module _ (b : Build) (view : View) (state : State) (s : System) (fits : Fits b) 
   abbrev pub offset : ℕ
   offset = instruction.offset
 
-  pub offset_is : 0x8000_0000 + offset ≡ item_address b.places func item + 4 * done
+  pub offset_is : memory_base + offset ≡ item_address b.places func item + 4 * done
   offset_is = let i = instruction.is in let r = reached in omega arith
 
-  pub offset_inside : offset + 4 ≤ 0x20_0000
+  pub offset_inside : offset + 4 ≤ memory_bytes
   offset_inside = instruction.to
 
   pub offset_aligned : offset % 4 ≡ 0
@@ -57,10 +58,10 @@ module _ (b : Build) (view : View) (state : State) (s : System) (fits : Fits b) 
   code = code_here b state s (item_address b.places func item + 4 * length before) kind k instruction
 
   state_is : state ≡ offset_state offset state.core
-  state_is = let e : state.pc ≡ 0x8000_0000 + offset = pc_is ∙ sym offset_is in ap (λ p. record { pc = p; core = state.core }) e
+  state_is = let e : state.pc ≡ memory_base + offset = pc_is ∙ sym offset_is in ap (λ p. record { pc = p; core = state.core }) e
 
-  pub stepped : (next : State) → perform (effect kind (0x8000_0000 + offset) state.core.registers) (Encode kind) (0x8000_0000 + offset) state.core ≡ Going next → step state ≡ Going next
+  pub stepped : (next : State) → perform (effect kind (memory_base + offset) state.core.registers) (Encode kind) (memory_base + offset) state.core ≡ Going next → step state ≡ Going next
   stepped next performs = ap step state_is ∙ step_at offset state.core kind code ∙ performs
 
-  pub untouched : touched_line_by (effect kind (0x8000_0000 + offset) state.core.registers) ≡ None → touched state ≡ None
+  pub untouched : touched_line_by (effect kind (memory_base + offset) state.core.registers) ≡ None → touched state ≡ None
   untouched quiet = ap touched state_is ∙ touched_at offset state.core kind code.0 ∙ quiet

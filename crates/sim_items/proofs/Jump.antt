@@ -14,6 +14,7 @@ use Rattle.rv32_expand.specs.InPlace.{item_mark, last_address, mark_kind}
 use Rattle.sloth_base.specs.declared.image.Mark.{Mark}
 use Rattle.sloth_base.specs.declared.app.Call.{Call}
 use Rattle.sloth_base.specs.declared.app.Op.TheVariants as op
+use Rattle.sloth_base.specs.MemoryMap.{memory_base}
 use Rattle.observe.specs.Observe.{View, mark_at, events_of_kind}
 use Rattle.osek_scheduler.specs.State.{System}
 use Rattle.sim_induction.specs.PieceLaws.{seen_step_at}
@@ -75,7 +76,7 @@ module _ (b : Build) (view : View) (arrivals : List Arrival) (count : ℕ) (stat
   offset = instruction.offset
 
   abbrev link : ℕ
-  link = (0x8000_0000 + offset + 4) % 4294967296
+  link = (memory_base + offset + 4) % 4294967296
 
   abbrev next : State
   next = offset_state jump.block (record n.core { registers = set n.core.registers 31 link })
@@ -86,7 +87,7 @@ module _ (b : Build) (view : View) (arrivals : List Arrival) (count : ℕ) (stat
   n_is : n ≡ offset_state offset n.core
   n_is = ap (λ p. record { pc = p; core = n.core }) (pc_is ∙ instruction.is)
 
-  arrives_there : plus (0x8000_0000 + offset) (distance address target) ≡ 0x8000_0000 + jump.block
+  arrives_there : plus (memory_base + offset) (distance address target) ≡ memory_base + jump.block
   arrives_there =
       let l = code.1 in
       let i = jump.in_ram in
@@ -141,8 +142,8 @@ module _ (b : Build) (view : View) (arrivals : List Arrival) (count : ℕ) (stat
       progress_now b view arrivals count state s here t item.current item.frame item.outer item.frames item.here.done item.here.pc item.here.within in
       let last : progress_in b next s1 ≡ 40 =
       progress_next b view arrivals count state s here t item.current item.frame item.outer item.frames next passes
-      ∙ at_none address size (0x8000_0000 + jump.block)
-      (⊎_elim (λ (l : 0x8000_0000 + jump.block < address). inl l) (λ (l : address + 4 ≤ 0x8000_0000 + jump.block). inr (let c = one in omega arith)) jump.apart) in
+      ∙ at_none address size (memory_base + jump.block)
+      (⊎_elim (λ (l : memory_base + jump.block < address). inl l) (λ (l : address + 4 ≤ memory_base + jump.block). inr (let c = one in omega arith)) jump.apart) in
       let w = item.here.within in
       let o = one in
       omega arith

@@ -3,6 +3,7 @@ use Rattle.std.proofs.Common.{◌≡◌, ℕ, zero, suc, ◌+◌, ◌*◌, ◌<�
 use Rattle.std.specs.Prelude.{◌⊎◌, slice_index}
 use Rattle.std.proofs.lemmas.Bool.{cases_eq, cases_lt, false_from_ne_true}
 use Rattle.std.proofs.lemmas.List.{get_or-set_same, get_or-set_other, length-set}
+use Rattle.sloth_base.specs.MemoryMap.{memory_bytes}
 use Rattle.rv32_instr.specs.Ram.{word_at, with_word}
 use Rattle.masked_code.proofs.Words.{length-with_word, get_or-with_word, word_at-other, word_at-same}
 use Rattle.osek_scheduler.specs.State.{Frame, System, task}
@@ -87,7 +88,7 @@ module _ (b : Build) (fits : Fits b) (ram : List ℕ) (s : System) (t : ℕ) (in
   part_data i d = outside_part i (fits.outside t i inside (inr d))
 
 module _ (b : Build) (fits : Fits b) (ram : List ℕ) (s : System) (t : ℕ) (inside : t < length b.config.tasks) (alive : IsAlive (task s t)) (apart : StacksApart b s)
-    (long : length ram ≡ 0x20_0000) (frame : Frame) (outer : List Frame) (place : ℕ) (room : b.low t + 128 ≤ place) (stood : AreFrames b ram frame outer place (b.top t))
+    (long : length ram ≡ memory_bytes) (frame : Frame) (outer : List Frame) (place : ℕ) (room : b.low t + 128 ≤ place) (stood : AreFrames b ram frame outer place (b.top t))
     (word value : ℕ) (here : word < length frame.words) (small : value < 4294967296) where
   abbrev spot : ℕ
   spot = place + 4 * word

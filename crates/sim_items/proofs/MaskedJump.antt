@@ -9,6 +9,8 @@ use Rattle.sloth_base.specs.declared.app.Op.{Op}
 use Rattle.sloth_base.specs.declared.app.Op.TheVariants as op
 use Rattle.sloth_base.specs.declared.event.Arrival.{Arrival}
 use Rattle.sloth_base.specs.declared.image.Mark.{Mark}
+use Rattle.code_rules.specs.AppRange.{IsRegister}
+use Rattle.sloth_base.specs.MemoryMap.{memory_base, memory_bytes}
 use Rattle.rv32_instr.specs.Effect.{effect}
 use Rattle.rv32_instr.specs.Encode.{Encode}
 use Rattle.rv32_instr.specs.Execute.{Going, step, touched, touched_line_by, perform, jumps}
@@ -27,7 +29,7 @@ use Rattle.sim_induction.specs.PieceLaws.{seen_step_at}
 use Rattle.sim_relation.specs.Build.{Build}
 use Rattle.sim_relation.specs.Position.{HasMask, HasScratch, thread_of}
 use Rattle.sim_relation.specs.Stands.{Stands}
-use Rattle.sim_items.specs.Place.{AtItem, IsTaskRegister, ItemStands}
+use Rattle.sim_items.specs.Place.{AtItem, ItemStands}
 use Rattle.sim_items.specs.Outside.{StandsAt, GoesOutside, JumpsWithMask}
 use Rattle.sim_items.specs.Progress.{progress_in}
 use Rattle.sim_items.proofs.Distances.{arrives}
@@ -96,7 +98,7 @@ module _ (b : Build) (view : View) (arrivals : List Arrival) (count : ℕ) (stat
   three : size ≡ 3
   three = ap (λ (c : List InstrKind). length c) item_expands
 
-  agree : (r : ℕ) → IsTaskRegister r → slice_index x r ≡ register own r
+  agree : (r : ℕ) → IsRegister r → slice_index x r ≡ register own r
   agree = own_agrees x own now.fixed.zero item.context.registers
 
   scratch : HasMask mask item.here.done (thread_of n)
@@ -132,22 +134,22 @@ module _ (b : Build) (view : View) (arrivals : List Arrival) (count : ℕ) (stat
     abbrev offset : ℕ
     offset = code.offset b view n s1 here.fits now item.frame.func item.frame.item placed item.here.done item.here.pc before jumps_there [] item_expands reached
 
-    offset_is : 0x8000_0000 + offset ≡ address + 4 * item.here.done
+    offset_is : memory_base + offset ≡ address + 4 * item.here.done
     offset_is = code.offset_is b view n s1 here.fits now item.frame.func item.frame.item placed item.here.done item.here.pc before jumps_there [] item_expands reached
 
-    inside : offset + 4 ≤ 0x20_0000
+    inside : offset + 4 ≤ memory_bytes
     inside = code.offset_inside b view n s1 here.fits now item.frame.func item.frame.item placed item.here.done item.here.pc before jumps_there [] item_expands reached
 
     abbrev link : ℕ
-    link = (0x8000_0000 + offset + 4) % 4294967296
+    link = (memory_base + offset + 4) % 4294967296
 
     abbrev next : State
     next = offset_state jump.block (record n.core { registers = set x 31 link })
 
-    here_is : 0x8000_0000 + offset ≡ address + 8
+    here_is : memory_base + offset ≡ address + 8
     here_is = let o = offset_is in let d = two in omega arith
 
-    arrives_there : plus (0x8000_0000 + offset) (distance (address + 8) target) ≡ 0x8000_0000 + jump.block
+    arrives_there : plus (memory_base + offset) (distance (address + 8) target) ≡ memory_base + jump.block
     arrives_there =
         let l = inside in
         let h = here_is in
@@ -158,13 +160,13 @@ module _ (b : Build) (view : View) (arrivals : List Arrival) (count : ℕ) (stat
     aligned : jump.block % 4 ≡ 0
     aligned = let f = here.fits.blocks item.frame.func item.frame.item jump.call jump.is in let e = jump.block_is in omega arith
 
-    performs : perform (effect jumps_there (0x8000_0000 + offset) x) (Encode jumps_there) (0x8000_0000 + offset) n.core ≡ Going next
+    performs : perform (effect jumps_there (memory_base + offset) x) (Encode jumps_there) (memory_base + offset) n.core ≡ Going next
     unfolding perform
     performs =
         ap (λ p. jumps p (record n.core { registers = set x 31 link })) arrives_there
         ∙ jump_at jump.block (record n.core { registers = set x 31 link }) aligned
 
-    quiet : touched_line_by (effect jumps_there (0x8000_0000 + offset) x) ≡ None
+    quiet : touched_line_by (effect jumps_there (memory_base + offset) x) ≡ None
     unfolding touched_line_by
     quiet = refl
 
@@ -203,8 +205,8 @@ module _ (b : Build) (view : View) (arrivals : List Arrival) (count : ℕ) (stat
         progress_now b view arrivals count state s here t item.current item.frame item.outer item.frames item.here.done item.here.pc item.here.within in
         let last : progress_in b next s1 ≡ 40 =
         progress_next b view arrivals count state s here t item.current item.frame item.outer item.frames next passes
-        ∙ at_none address size (0x8000_0000 + jump.block)
-        (⊎_elim (λ (l : 0x8000_0000 + jump.block < address). inl l) (λ (l : address + 12 ≤ 0x8000_0000 + jump.block). inr (let c = three in omega arith)) jump.apart) in
+        ∙ at_none address size (memory_base + jump.block)
+        (⊎_elim (λ (l : memory_base + jump.block < address). inl l) (λ (l : address + 12 ≤ memory_base + jump.block). inr (let c = three in omega arith)) jump.apart) in
         let d = two in
         omega arith
 

@@ -17,6 +17,7 @@ use Rattle.masked_code.specs.Place.{offset_state, InPlace}
 use Rattle.expansion_parts.specs.Expansion.{item_address, expansion}
 use Rattle.sloth_base.specs.Named.{operation, function}
 use Rattle.sloth_base.specs.declared.lines.Owners.{Owners}
+use Rattle.sloth_base.specs.MemoryMap.{memory_base, memory_bytes, line_count}
 use Rattle.rv32_expand.specs.InPlace.{result_register, item_mark, mark_of, last_address}
 use Rattle.observe.specs.Observe.{View, mark_at, running_task, outside_events, events_of_kind}
 use Rattle.osek_scheduler.specs.State.{System}
@@ -50,7 +51,7 @@ module _ (b : Build) (view : View) (arrivals : List Arrival) (progress : State �
   abbrev pub given : Setting
   given = setting_of b view arrivals
 
-  pub few : length b.config.tasks ≤ 32
+  pub few : length b.config.tasks ≤ line_count
   few = let f = here.fits.few_tasks in omega arith
 
   pub now : Stands b n s1
@@ -137,7 +138,7 @@ module _ (b : Build) (view : View) (arrivals : List Arrival) (progress : State �
     runs_idle : RunsIdle b n
     runs_idle = subst (RunsFirst b n s1) empty now.running
 
-    pc_is : n.pc ≡ 0x8000_0000 + idle.offset
+    pc_is : n.pc ≡ memory_base + idle.offset
     pc_is = runs_idle.pc ∙ idle.is
 
     n_is : n ≡ offset_state idle.offset n.core
@@ -146,7 +147,7 @@ module _ (b : Build) (view : View) (arrivals : List Arrival) (progress : State �
     placed : InPlace n.core.ram idle.offset idle.code
     placed = placed_in b n.core.ram idle.offset idle.code now.fixed.code idle.placed
 
-    inside : idle.offset + 4 ≤ 0x20_0000
+    inside : idle.offset + 4 ≤ memory_bytes
     inside = let l = idle.placed.inside in let w = idle.idles.word in omega arith
 
     stays : step n ≡ Going n

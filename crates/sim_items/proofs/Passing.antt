@@ -5,6 +5,7 @@ use Rattle.std.proofs.lemmas.Bool.{le-leb, lt-ltb, lt-leb, le-ltb, and_from, and
 use Rattle.std.proofs.lemmas.List.{set-get_or}
 use Rattle.sloth_base.specs.declared.event.Arrival.{Arrival}
 use Rattle.sloth_base.specs.Machine.{Core, State}
+use Rattle.sloth_base.specs.MemoryMap.{memory_base, memory_bytes}
 use Rattle.sloth_region.specs.Layout.{cur, context_bytes}
 use Rattle.rv32_instr.specs.Execute.{Going, step, touched, touched_line_by, perform}
 use Rattle.rv32_instr.specs.Ram.{word_at}
@@ -59,7 +60,7 @@ pub record Passes (b : Build) (n next : State) (s : System) (t : ℕ) : Type 0 w
   pub data_stay : (i : ℕ) → b.is_data i ≡ true → slice_index next.core.ram i ≡ slice_index n.core.ram i
   pub registers : (i : ℕ) → 5 ≤ i → i < 30 → slice_index next.core.registers i ≡ slice_index n.core.registers i
   pub place : ℕ
-  pub x2 : slice_index next.core.registers 2 ≡ 0x8000_0000 + place
+  pub x2 : slice_index next.core.registers 2 ≡ memory_base + place
   pub position : IsPosition b next.core.ram t (task s t) (thread_of next) place
   pub room : b.low t + context_bytes ≤ place
   pub aligned : place % 4 ≡ 0
@@ -165,10 +166,10 @@ module _ (b : Build) (view : View) (arrivals : List Arrival) (count : ℕ) (stat
   module _ (placed : ItemStands b view frame.func frame.item) (done : ℕ) (pc_is : n.pc ≡ address + 4 * done)
       (before : List InstrKind) (kind : InstrKind) (rest : List InstrKind) (expands : expansion b.app b.places frame.func frame.item ≡ before ++ (kind ∷ rest)) (reached : length before ≡ done)
       (steps : ℕ) (some : 0 < steps) (within : done + steps < size) (core_now : Core)
-      (performs : (offset word : ℕ) → 0x8000_0000 + offset ≡ address + 4 * done → offset + 4 ≤ 0x20_0000 → offset % 4 ≡ 0
-      → perform (effect kind (0x8000_0000 + offset) n.core.registers) word (0x8000_0000 + offset) n.core ≡ Going (offset_state (offset + 4 * steps) core_now))
+      (performs : (offset word : ℕ) → memory_base + offset ≡ address + 4 * done → offset + 4 ≤ memory_bytes → offset % 4 ≡ 0
+      → perform (effect kind (memory_base + offset) n.core.registers) word (memory_base + offset) n.core ≡ Going (offset_state (offset + 4 * steps) core_now))
       (quiet : (pc : ℕ) → touched_line_by (effect kind pc n.core.registers) ≡ None)
-      (passes : (offset : ℕ) → 0x8000_0000 + offset ≡ address + 4 * done → Passes b n (offset_state (offset + 4 * steps) core_now) s1 t) where
+      (passes : (offset : ℕ) → memory_base + offset ≡ address + 4 * done → Passes b n (offset_state (offset + 4 * steps) core_now) s1 t) where
     -- from the instruction itself
     pub instruction_outside : GoesOutside b view arrivals (progress_in b) count state s
     instruction_outside =
@@ -179,5 +180,5 @@ module _ (b : Build) (view : View) (arrivals : List Arrival) (count : ℕ) (stat
         let next : State = offset_state (offset + 4 * steps) core_now in
         passing_outside placed done pc_is steps some within next (omega arith)
         (code.stepped b view n s1 here.fits now frame.func frame.item placed done pc_is before kind rest expands reached next (performs offset (Encode kind) is inside aligned))
-        (code.untouched b view n s1 here.fits now frame.func frame.item placed done pc_is before kind rest expands reached (quiet (0x8000_0000 + offset)))
+        (code.untouched b view n s1 here.fits now frame.func frame.item placed done pc_is before kind rest expands reached (quiet (memory_base + offset)))
         (passes offset is)

@@ -8,6 +8,8 @@ use Rattle.sloth_base.specs.Machine.{State}
 use Rattle.sloth_base.specs.declared.app.Op.{Op}
 use Rattle.sloth_base.specs.declared.app.Op.TheVariants as op
 use Rattle.sloth_base.specs.declared.app.Width.{Width}
+use Rattle.code_rules.specs.AppRange.{IsRegister}
+use Rattle.sloth_base.specs.MemoryMap.{memory_bytes, memory_base}
 use Rattle.rv32_instr.specs.Access.{load, store}
 use Rattle.rv32_instr.specs.declared.InstrKind.{InstrKind}
 use Rattle.rv32_instr.specs.declared.InstrKind.TheVariants.{Lui, Addi, Andi, Add, And}
@@ -23,7 +25,7 @@ use Rattle.osek_scheduler.specs.State.{Frame}
 use Rattle.osek_scheduler.specs.Meaning.{register}
 use Rattle.sim_relation.specs.Build.{Build}
 use Rattle.sim_relation.specs.Position.{Thread, HasIndexed, HasFarIndexed, HasScratch, thread_of}
-use Rattle.sim_items.specs.Place.{IsTaskRegister, IsStraight}
+use Rattle.sim_items.specs.Place.{IsStraight}
 use Rattle.sim_items.proofs.Cases.{straight_cases}
 use Rattle.sim_items.proofs.Masked.{load_near, load_far, store_near, store_far}
 use Rattle.sim_items.proofs.Registers.{written}
@@ -42,8 +44,8 @@ pub record Prepares (b : Build) (state : State) (own : List ℕ) (frame : Frame)
   pub within : done + steps < length (operation_code b.app b.places frame.func (item_address b.places frame.func frame.item) long operation)
   pub registers : List ℕ
   pub same : SameRegisters state.core.registers registers
-  pub performs : (offset word : ℕ) → offset + 4 ≤ 0x20_0000 → offset % 4 ≡ 0
-      → perform (effect kind (0x8000_0000 + offset) state.core.registers) word (0x8000_0000 + offset) state.core ≡ Going (offset_state (offset + 4 * steps) (record state.core { registers = registers }))
+  pub performs : (offset word : ℕ) → offset + 4 ≤ memory_bytes → offset % 4 ≡ 0
+      → perform (effect kind (memory_base + offset) state.core.registers) word (memory_base + offset) state.core ≡ Going (offset_state (offset + 4 * steps) (record state.core { registers = registers }))
   pub quiet : (pc : ℕ) → touched_line_by (effect kind pc state.core.registers) ≡ None
   pub scratch : (offset : ℕ) → HasScratch b own frame operation (done + steps) (thread_of (offset_state offset (record state.core { registers = registers })))
 
@@ -53,7 +55,7 @@ pub record Holds (x : List ℕ) (rd value : ℕ) (th : Thread) : Type 0 where
   pub others : (i : ℕ) → i ≢ rd → th.x i ≡ slice_index x i
 
 module _ (b : Build) (state : State) (own : List ℕ) (frame : Frame) (long : Bool) (wide : length state.core.registers ≡ 32)
-    (agree : (r : ℕ) → IsTaskRegister r → slice_index state.core.registers r ≡ register own r) where
+    (agree : (r : ℕ) → IsRegister r → slice_index state.core.registers r ≡ register own r) where
   abbrev x : List ℕ
   x = state.core.registers
 
@@ -68,12 +70,12 @@ module _ (b : Build) (state : State) (own : List ℕ) (frame : Frame) (long : Bo
   module _ (o : Op) (done : ℕ) (before : List InstrKind) (kind : InstrKind) (rest : List InstrKind) (expands : expansion_of o ≡ before ++ (kind ∷ rest)) (reached : length before ≡ done)
       (more : done + 1 < length (expansion_of o)) (rd value : ℕ) (from : 30 ≤ rd) (to : rd < 32) (writes : (pc : ℕ) → effect kind pc x ≡ Write rd value)
       (scratch : (th : Thread) → Holds x rd value th → HasScratch b own frame o (done + 1) th) where
-    performs_write : (offset word : ℕ) → offset + 4 ≤ 0x20_0000
-        → perform (effect kind (0x8000_0000 + offset) x) word (0x8000_0000 + offset) state.core ≡ Going (offset_state (offset + 4 * 1) (record state.core { registers = set x rd value }))
+    performs_write : (offset word : ℕ) → offset + 4 ≤ memory_bytes
+        → perform (effect kind (memory_base + offset) x) word (memory_base + offset) state.core ≡ Going (offset_state (offset + 4 * 1) (record state.core { registers = set x rd value }))
     unfolding perform
     performs_write offset word l =
-        ap (λ e. perform e word (0x8000_0000 + offset) state.core) (writes (0x8000_0000 + offset))
-        ∙ ap (goes_on (0x8000_0000 + offset)) (written state.core rd value (omega arith))
+        ap (λ e. perform e word (memory_base + offset) state.core) (writes (memory_base + offset))
+        ∙ ap (goes_on (memory_base + offset)) (written state.core rd value (omega arith))
         ∙ next_at offset (record state.core { registers = set x rd value }) l
 
     quiet_write : (pc : ℕ) → touched_line_by (effect kind pc x) ≡ None
@@ -110,7 +112,7 @@ module _ (b : Build) (state : State) (own : List ℕ) (frame : Frame) (long : Bo
 
   -- ---- the address of a masked index
 
-  module _ (o : Op) (index mask address : ℕ) (last : InstrKind) (own_index : IsTaskRegister index) where
+  module _ (o : Op) (index mask address : ℕ) (last : InstrKind) (own_index : IsRegister index) where
     abbrev masked : ℕ
     masked = bit_and (register own index) mask
 

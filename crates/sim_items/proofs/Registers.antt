@@ -4,10 +4,10 @@ use Rattle.std.specs.Prelude.{slice_index}
 use Rattle.std.proofs.lemmas.Bool.{cases_eq}
 use Rattle.std.proofs.lemmas.List.{get_or-set_same, get_or-set_other, length-set}
 use Rattle.sloth_base.specs.Machine.{Core}
+use Rattle.code_rules.specs.AppRange.{IsRegister}
 use Rattle.rv32_instr.specs.Execute.{with_register}
 use Rattle.osek_scheduler.specs.Meaning.{register, shown_value}
 use Rattle.osek_scheduler.specs.Meaning as meaning
-use Rattle.sim_items.specs.Place.{IsTaskRegister}
 
 -- a register other than x0 is written
 pub written : (core : Core) (rd value : ℕ) → 0 < rd → with_register core rd value ≡ record core { registers = set core.registers rd value }
@@ -24,7 +24,7 @@ own_register own zero h = absurd (omega arith)
 own_register own (suc r) h = refl
 
 -- both have the same in each register of task code
-pub own_agrees : (x own : List ℕ) → slice_index x 0 ≡ 0 → ((i : ℕ) → i < 25 → slice_index own i ≡ slice_index x (i + 5)) → (r : ℕ) → IsTaskRegister r → slice_index x r ≡ register own r
+pub own_agrees : (x own : List ℕ) → slice_index x 0 ≡ 0 → ((i : ℕ) → i < 25 → slice_index own i ≡ slice_index x (i + 5)) → (r : ℕ) → IsRegister r → slice_index x r ≡ register own r
 own_agrees x own zero_is same r (inl e) = subst (λ v. slice_index x v ≡ register own v) (sym e) zero_is
 own_agrees x own zero_is same r (inr h) =
     let low = h.0 in
@@ -49,7 +49,7 @@ pub record Wrote (core own : List ℕ) (rd value : ℕ) (core_now own_now : List
 
 -- a register that is written in both
 pub wrote : (core : Core) (own : List ℕ) (rd value : ℕ) → length core.registers ≡ 32 → slice_index core.registers 0 ≡ 0 → length own ≡ 25
-    → ((i : ℕ) → i < 25 → slice_index own i ≡ slice_index core.registers (i + 5)) → IsTaskRegister rd
+    → ((i : ℕ) → i < 25 → slice_index own i ≡ slice_index core.registers (i + 5)) → IsRegister rd
     → Wrote core.registers own rd value (with_register core rd value).registers (meaning.with_register own rd value)
 wrote core own rd value long zero_is own_long same (inl e) =
     subst (λ r. Wrote core.registers own r value (with_register core r value).registers (meaning.with_register own r value)) (sym e)

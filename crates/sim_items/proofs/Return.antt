@@ -10,6 +10,7 @@ use Rattle.sloth_base.specs.declared.app.Op.TheVariants as op
 use Rattle.sloth_base.specs.declared.app.Width.TheVariants as width
 use Rattle.sloth_base.specs.declared.event.Arrival.{Arrival}
 use Rattle.sloth_base.specs.declared.image.MarkKind.TheVariants as mark_kind
+use Rattle.sloth_base.specs.MemoryMap.{memory_bytes, memory_base}
 use Rattle.rv32_instr.specs.declared.InstrKind.{InstrKind}
 use Rattle.rv32_instr.specs.declared.InstrKind.TheVariants.{Lw, Addi, Jalr}
 use Rattle.rv32_instr.specs.Encode.{Encode}
@@ -57,6 +58,15 @@ return_mark : (b : Build) (func item address : ℕ) (o : Op) → o ≡ op.Return
 return_mark b func item address o e =
     subst (λ v. mark_of v address func item ≡ record { address = address; kind = mark_kind.Item; a = result_register v; b = func; c = item }) (sym e) refl
 
+-- the caller's frame stands behind the words of the one that returns
+caller_behind : (b : Build) (ram : List ℕ) (frame caller : Frame) (outer rest : List Frame) (place top : ℕ) → outer ≡ caller ∷ rest → AreFrames b ram frame outer place top
+    → AreOuterFrames b ram (caller ∷ rest) (place + 4 * (function b.app frame.func).frame_words) top
+caller_behind b ram frame caller outer rest place top called_by stood =
+    let long = stood.0 in
+    let spot = place + 4 * (function b.app frame.func).frame_words in
+    let e : place + 4 * length frame.words ≡ spot = omega arith in
+    subst (λ o. AreOuterFrames b ram o spot top) called_by (subst (λ p. AreOuterFrames b ram outer p top) e stood.2)
+
 -- ---- the first instruction
 
 module _ (b : Build) (view : View) (arrivals : List Arrival) (count : ℕ) (state : State) (s : System) (here : StandsAt b view arrivals count state s)
@@ -97,10 +107,7 @@ module _ (b : Build) (view : View) (arrivals : List Arrival) (count : ℕ) (stat
   spot = item.place + 4 * words
 
   outer_at : AreOuterFrames b n.core.ram (caller ∷ rest) spot (b.top t)
-  outer_at =
-      let long = item.stood.0 in
-      let e : item.place + 4 * length item.frame.words ≡ spot = omega arith in
-      subst (λ o. AreOuterFrames b n.core.ram o spot (b.top t)) called_by (subst (λ p. AreOuterFrames b n.core.ram item.outer p (b.top t)) e item.stood.2)
+  outer_at = caller_behind b n.core.ram item.frame caller item.outer rest item.place (b.top t) called_by item.stood
 
   link_spot : IsPlaceOf width.Word (plus (slice_index x 2) (pos (4 * words))) spot
   link_spot =
@@ -116,17 +123,17 @@ module _ (b : Build) (view : View) (arrivals : List Arrival) (count : ℕ) (stat
   abbrev core_now : Core
   core_now = record n.core { registers = set x 31 link }
 
-  performs : (offset word : ℕ) → offset + 4 ≤ 0x20_0000
-      → perform (effect (loads_link words) (0x8000_0000 + offset) x) word (0x8000_0000 + offset) n.core ≡ Going (offset_state (offset + 4 * 1) core_now)
+  performs : (offset word : ℕ) → offset + 4 ≤ memory_bytes
+      → perform (effect (loads_link words) (memory_base + offset) x) word (memory_base + offset) n.core ≡ Going (offset_state (offset + 4 * 1) core_now)
   performs offset word l =
-      load_at n.core width.Word 31 2 (pos (4 * words)) spot word (0x8000_0000 + offset) link_spot
-      ∙ ap (λ v. goes_on (0x8000_0000 + offset) (record n.core { registers = set x 31 v })) (sym (word_number n.core.ram spot) ∙ outer_at.0)
+      load_at n.core width.Word 31 2 (pos (4 * words)) spot word (memory_base + offset) link_spot
+      ∙ ap (λ v. goes_on (memory_base + offset) (record n.core { registers = set x 31 v })) (sym (word_number n.core.ram spot) ∙ outer_at.0)
       ∙ next_at offset core_now l
 
   quiet : (pc : ℕ) → touched_line_by (effect (loads_link words) pc x) ≡ None
   quiet pc = load_at_quiet n.core width.Word 31 2 (pos (4 * words)) spot pc link_spot
 
-  passes : (offset : ℕ) → 0x8000_0000 + offset ≡ address + 4 → Passes b n (offset_state offset core_now) s1 t
+  passes : (offset : ℕ) → memory_base + offset ≡ address + 4 → Passes b n (offset_state offset core_now) s1 t
   passes offset e =
       let f = now.fixed in
       registers_pass b n s1 t now offset (set x 31 link) (length-set x 31 link) (λ i l z. get_or-set_other x 31 i link 0 (λ q. omega arith)) item.place
@@ -203,10 +210,7 @@ module _ (b : Build) (view : View) (arrivals : List Arrival) (count : ℕ) (stat
     up = item.place + (4 + 4 * size)
 
     outer_up : AreOuterFrames b ram (r.caller ∷ r.rest) (item.place + 4 * size) (b.top t)
-    outer_up =
-        let long = frames.0 in
-        let e : item.place + 4 * length item.frame.words ≡ item.place + 4 * size = omega arith in
-        subst (λ o. AreOuterFrames b ram o (item.place + 4 * size) (b.top t)) r.called_by (subst (λ p. AreOuterFrames b ram item.outer p (b.top t)) e frames.2)
+    outer_up = caller_behind b ram item.frame r.caller item.outer r.rest item.place (b.top t) r.called_by frames
 
     caller_stands : AreFrames b ram r.caller r.rest up (b.top t)
     caller_stands =
@@ -216,25 +220,25 @@ module _ (b : Build) (view : View) (arrivals : List Arrival) (count : ℕ) (stat
     up_below : up ≤ b.top t
     up_below = let l = outer_below b ram r.rest (up + 4 * length r.caller.words) (b.top t) caller_stands.2 in omega arith
 
-    raised : plus (slice_index y 2) (pos (4 + 4 * size)) ≡ 0x8000_0000 + up
+    raised : plus (slice_index y 2) (pos (4 + 4 * size)) ≡ memory_base + up
     raised = let e = item.context.x2 in let l = up_below in let top = (here.fits.to t is_active.declared).0 in omega arith
 
     abbrev core_raised : Core
-    core_raised = record m.core { registers = set y 2 (0x8000_0000 + up) }
+    core_raised = record m.core { registers = set y 2 (memory_base + up) }
 
-    raise_performs : (offset word : ℕ) → offset + 4 ≤ 0x20_0000
-        → perform (effect (raises size) (0x8000_0000 + offset) y) word (0x8000_0000 + offset) m.core ≡ Going (offset_state (offset + 4 * 1) core_raised)
+    raise_performs : (offset word : ℕ) → offset + 4 ≤ memory_bytes
+        → perform (effect (raises size) (memory_base + offset) y) word (memory_base + offset) m.core ≡ Going (offset_state (offset + 4 * 1) core_raised)
     unfolding perform
-    raise_performs offset word l = ap (λ v. goes_on (0x8000_0000 + offset) (record m.core { registers = set y 2 v })) raised ∙ next_at offset core_raised l
+    raise_performs offset word l = ap (λ v. goes_on (memory_base + offset) (record m.core { registers = set y 2 v })) raised ∙ next_at offset core_raised l
 
     raise_quiet : (pc : ℕ) → touched_line_by (effect (raises size) pc y) ≡ None
     unfolding touched_line_by
     raise_quiet pc = refl
 
-    raise_passes : (offset : ℕ) → 0x8000_0000 + offset ≡ from + 8 → Passes b m (offset_state offset core_raised) s2 t
+    raise_passes : (offset : ℕ) → memory_base + offset ≡ from + 8 → Passes b m (offset_state offset core_raised) s2 t
     raise_passes offset e =
         let f = stands.fixed in
-        let value = 0x8000_0000 + up in
+        let value = memory_base + up in
         registers_pass b m s2 t stands offset (set y 2 value) (length-set y 2 value) (λ i l z. get_or-set_other y 2 i value 0 z) up
         (get_or-set_same y 2 value 0 (let l = f.registers in omega arith))
         (record {
@@ -312,8 +316,8 @@ module _ (b : Build) (view : View) (arrivals : List Arrival) (count : ℕ) (stat
       outside.committed_outside b view arrivals (progress_in b) count state s here t item.current item.frame.func item.frame.item
       (turns b m s2 t here.fits stands item.current (outside.top_here b view arrivals (progress_in b) count state s here t item.current) r.free item.frame item.outer item.frames item.inside
       item.place item.context behind_call r.rest back.more frames meant (ap result_register back.is)
-      (code.stepped b view m s2 here.fits stands item.frame.func item.frame.item back.placed 2 at_pc before goes_back [] expansion_is refl next (jump_performs (Encode goes_back) (0x8000_0000 + offset)))
-      (code.untouched b view m s2 here.fits stands item.frame.func item.frame.item back.placed 2 at_pc before goes_back [] expansion_is refl (jump_quiet (0x8000_0000 + offset))))
+      (code.stepped b view m s2 here.fits stands item.frame.func item.frame.item back.placed 2 at_pc before goes_back [] expansion_is refl next (jump_performs (Encode goes_back) (memory_base + offset)))
+      (code.untouched b view m s2 here.fits stands item.frame.func item.frame.item back.placed 2 at_pc before goes_back [] expansion_is refl (jump_quiet (memory_base + offset))))
       back.placed (outside.last_at b view arrivals (progress_in b) count state s here item.frame.func item.frame.item 2 at_pc (omega arith))
       (λ address. return_mark b item.frame.func item.frame.item address (operation b.app item.frame.func item.frame.item) back.is)
 

@@ -2,6 +2,7 @@
 use Rattle.std.proofs.Common.{◌≡◌, ℕ, ◌+◌, ◌%◌, ◌<◌, ◌≤◌, List, length, refl, ◌∙◌, arith, inl}
 use Rattle.std.specs.Prelude.{◌⊎◌, ◌≢◌, slice_index}
 use Rattle.sloth_base.specs.Machine.{State}
+use Rattle.sloth_base.specs.MemoryMap.{memory_base}
 use Rattle.sloth_region.specs.Layout.{context_bytes}
 use Rattle.masked_code.specs.Place.{offset_state}
 use Rattle.osek_scheduler.specs.State.{System, task}
@@ -16,11 +17,11 @@ use Rattle.sim_items.proofs.Passing.{Passes}
 -- it writes no register of task code but x2
 pub registers_pass : (b : Build) (n : State) (s : System) (t : ℕ) → Stands b n s → (offset : ℕ) (registers : List ℕ)
     → length registers ≡ length n.core.registers → ((i : ℕ) → i < 30 → i ≢ 2 → slice_index registers i ≡ slice_index n.core.registers i)
-    → (place : ℕ) → slice_index registers 2 ≡ 0x8000_0000 + place
+    → (place : ℕ) → slice_index registers 2 ≡ memory_base + place
     → IsPosition b n.core.ram t (task s t) (thread_of (offset_state offset (record n.core { registers = registers }))) place
     → b.low t + context_bytes ≤ place → place % 4 ≡ 0 → Passes b n (offset_state offset (record n.core { registers = registers })) s t
 registers_pass b n s t now offset registers long same place x2 position room aligned = record {
-  machine = kept_machine b n now.fixed (0x8000_0000 + offset) registers n.core.ram long (same 0 (omega arith) (λ e. omega arith))
+  machine = kept_machine b n now.fixed (memory_base + offset) registers n.core.ram long (same 0 (omega arith) (λ e. omega arith))
       (same 3 (omega arith) (λ e. omega arith) ∙ now.fixed.bases.0, same 4 (omega arith) (λ e. omega arith) ∙ now.fixed.bases.1) refl;
   level = refl;
   kept = same_keeps b n.core.ram s t;

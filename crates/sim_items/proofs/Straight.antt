@@ -9,6 +9,7 @@ use Rattle.masked_code.specs.Place.{offset_state}
 use Rattle.masked_code.proofs.Machine.{Here, step_at, touched_at, next_at}
 use Rattle.expansion_parts.specs.Expansion.{item_address, is_long, expansion}
 use Rattle.sloth_base.specs.Named.{operation, function}
+use Rattle.sloth_base.specs.MemoryMap.{memory_base}
 use Rattle.rv32_expand.specs.InPlace.{result_register}
 use Rattle.osek_scheduler.specs.declared.state.TaskState.TheVariants as mode
 use Rattle.osek_scheduler.specs.State.{Frame, Task, System, task}
@@ -73,17 +74,17 @@ module _ (b : Build) (view : View) (state : State) (s : System) (t : ℕ) (fits 
         let p = here.here.pc in
         let l = v.last in
         let i = instruction.is in
-        let e : state.pc ≡ 0x8000_0000 + instruction.offset = omega arith in
+        let e : state.pc ≡ memory_base + instruction.offset = omega arith in
         ap (λ a. record { pc = a; core = state.core }) e
 
     stepped : step state ≡ Going next
     stepped =
         ap step state_is ∙ step_at instruction.offset state.core v.kind code
-        ∙ v.performs (Encode v.kind) (0x8000_0000 + instruction.offset)
+        ∙ v.performs (Encode v.kind) (memory_base + instruction.offset)
         ∙ next_at instruction.offset core_now code.1
 
     untouched : touched state ≡ None
-    untouched = ap touched state_is ∙ touched_at instruction.offset state.core v.kind code.0 ∙ v.quiet (0x8000_0000 + instruction.offset)
+    untouched = ap touched state_is ∙ touched_at instruction.offset state.core v.kind code.0 ∙ v.quiet (memory_base + instruction.offset)
 
     w : Wrote state.core.registers own.registers v.rd v.value next.core.registers (meaning.with_register own.registers v.rd v.value)
     w = wrote state.core own.registers v.rd v.value k.fixed.registers k.fixed.zero (k.tidy.each t top.declared).registers here.context.registers v.is_own

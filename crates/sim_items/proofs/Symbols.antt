@@ -6,6 +6,7 @@ use Rattle.std.proofs.lemmas.List.{get_or-set_same, get_or-set_other, get_or_pas
 use Rattle.sloth_base.specs.Arithmetic.{size_of, extended_number}
 use Rattle.sloth_base.specs.declared.app.Width.{Width}
 use Rattle.sloth_base.specs.declared.app.Width.TheVariants as width
+use Rattle.sloth_base.specs.MemoryMap.{memory_base, memory_bytes}
 use Rattle.expansion_parts.specs.Expansion.{symbol_address}
 use Rattle.osek_scheduler.specs.Meaning.{loaded_word, bytes_after_store, accessed_bytes}
 use Rattle.sim_relation.specs.Build.{Build, Fits}
@@ -37,7 +38,7 @@ module _ (b : Build) (fits : Fits b) (ram : List ℕ) (symbols : List (List ℕ)
   address = symbol_address b.places y
 
   abbrev pub place : ℕ
-  place = address - 0x8000_0000
+  place = address - memory_base
 
   pub inside : offset + size_of w ≤ length bytes
   inside = let e = sizes y in let i = access.inside in omega arith
@@ -45,10 +46,10 @@ module _ (b : Build) (fits : Fits b) (ram : List ℕ) (symbols : List (List ℕ)
   some : 0 < length bytes
   some = let i = inside in let z = some_bytes w in omega arith
 
-  pub is_place : address ≡ 0x8000_0000 + place
+  pub is_place : address ≡ memory_base + place
   is_place = let f = (stands y 0 some).from in omega arith
 
-  byte_place : (k : ℕ) → address + k - 0x8000_0000 ≡ place + k
+  byte_place : (k : ℕ) → address + k - memory_base ≡ place + k
   byte_place k = let e = is_place in omega arith
 
   pub holds : (k : ℕ) → k < length bytes → get_or ram (place + k) 0 ≡ get_or bytes k 0
@@ -57,7 +58,7 @@ module _ (b : Build) (fits : Fits b) (ram : List ℕ) (symbols : List (List ℕ)
   pub is_data : (k : ℕ) → k < length bytes → b.is_data (place + k) ≡ true
   is_data k l = ap b.is_data (sym (byte_place k)) ∙ (stands y k l).is_data
 
-  pub in_ram : place + length bytes ≤ 0x20_0000
+  pub in_ram : place + length bytes ≤ memory_bytes
   in_ram =
       let z = some in
       let l = fits.data_inside (place + (length bytes - 1)) (is_data (length bytes - 1) (omega arith)) in
@@ -97,7 +98,7 @@ module _ (b : Build) (fits : Fits b) (ram : List ℕ) (symbols : List (List ℕ)
 
   -- ---- a store
 
-  module _ (value : ℕ) (long : length ram ≡ 0x20_0000) where
+  module _ (value : ℕ) (long : length ram ≡ memory_bytes) where
     abbrev pub written : List ℕ
     written = low_bytes w value
 
@@ -154,7 +155,7 @@ module _ (b : Build) (fits : Fits b) (ram : List ℕ) (symbols : List (List ℕ)
         record {
           from = was.from;
           is_data = was.is_data;
-          holds = kept_outside (symbol_address b.places z + k - 0x8000_0000)
+          holds = kept_outside (symbol_address b.places z + k - memory_base)
               (λ j m e. fits.symbols_apart y z j k (λ q. n (sym q)) (omega arith) (omega arith) (omega arith)) ∙ was.holds;
         }
 

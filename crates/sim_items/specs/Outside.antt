@@ -13,7 +13,7 @@ use Rattle.rv32_instr.specs.Ram.{word_at}
 use Rattle.rv32_machine.specs.Run.{state_with_arrivals}
 use Rattle.expansion_parts.specs.Expansion.{item_address, block_address, mask_of, number_in, expansion}
 use Rattle.sloth_base.specs.Named.{operation, function}
-use Rattle.sloth_base.specs.MemoryMap.{memory_base}
+use Rattle.sloth_base.specs.MemoryMap.{memory_base, memory_bytes}
 use Rattle.observe.specs.Observe.{View, mark_at}
 use Rattle.vector_gen.specs.Idle.{Idles}
 use Rattle.osek_scheduler.specs.State.{Frame, System}
@@ -105,7 +105,7 @@ pub record JumpsToService (b : Build) (func item : ℕ) : Type 0 where
   pub no_mask : mask_of call.service call.mask ≡ []
   pub block : ℕ
   pub block_is : block_address b.places call.service call.object ≡ memory_base + block
-  pub in_ram : block < 0x20_0000
+  pub in_ram : block < memory_bytes
   pub apart : (memory_base + block < item_address b.places func item) ⊎ (item_address b.places func item + 4 ≤ memory_base + block)
 
 -- It leads to the opening mark of the block, and makes progress.
@@ -129,7 +129,7 @@ pub record JumpsWithMask (b : Build) (func item : ℕ) : Type 0 where
   pub is_word : call.mask < 2 ^ 32
   pub block : ℕ
   pub block_is : block_address b.places call.service call.object ≡ memory_base + block
-  pub in_ram : block < 0x20_0000
+  pub in_ram : block < memory_bytes
   pub apart : (memory_base + block < item_address b.places func item) ⊎ (item_address b.places func item + 12 ≤ memory_base + block)
 
 -- Each instruction of it makes progress; the last one leads to the opening mark of the block, with the mask in its register.

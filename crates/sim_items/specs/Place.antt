@@ -1,24 +1,24 @@
 -- Where a task stands at an item, and the code of the items.
-use Rattle.std.specs.Prelude.{ℕ, ◌+◌, ◌*◌, ◌%◌, ◌<◌, ◌≤◌, ◌≡◌, ◌⊎◌, ◌^◌, ℤ, pos, true, false, List, [], ◌∷◌, length, get_or, Some, None}
+use Rattle.std.specs.Prelude.{ℕ, ◌+◌, ◌*◌, ◌%◌, ◌<◌, ◌≤◌, ◌≡◌, ◌^◌, true, false, List, [], ◌∷◌, length, get_or, Some, None}
 use Rattle.sloth_base.specs.declared.app.App.{App}
 use Rattle.sloth_base.specs.declared.app.Op.{Op}
 use Rattle.sloth_base.specs.declared.app.Op.TheVariants as op
-use Rattle.sloth_base.specs.declared.app.ImmKind.{ImmKind}
-use Rattle.sloth_base.specs.declared.app.ImmKind.TheVariants as imm
 use Rattle.sloth_base.specs.declared.app.Width.{Width}
 use Rattle.sloth_base.specs.Arithmetic.{size_of}
 use Rattle.sloth_base.specs.Machine.{State}
+use Rattle.code_rules.specs.AppRange.{IsRegister, IsNumberOf}
 use Rattle.sloth_region.specs.Layout.{cur}
 use Rattle.rv32_instr.specs.declared.InstrKind.{InstrKind}
 use Rattle.rv32_instr.specs.Encode.{Encode}
-use Rattle.rv32_instr.specs.Range.{InRange, IsSigned}
+use Rattle.rv32_instr.specs.Range.{InRange}
 use Rattle.rv32_instr.specs.Ram.{word_at}
 use Rattle.expansion_parts.specs.Expansion.{item_address, expansion}
 use Rattle.rv32_expand.specs.InPlace.{item_mark, last_address}
 use Rattle.observe.specs.Observe.{View, mark_at}
 use Rattle.osek_scheduler.specs.State.{Frame, System, task}
 use Rattle.sloth_base.specs.Named.{function, operation, label_of, symbol_size}
-use Rattle.sloth_base.specs.MemoryMap.{memory_base}
+use Rattle.sloth_base.specs.MemoryMap.{memory_base, memory_bytes}
+use Rattle.sloth_base.specs.Limits.{mask_limit}
 use Rattle.sim_relation.specs.Bounds.{AreBelow}
 use Rattle.sim_relation.specs.Build.{Build}
 use Rattle.sim_relation.specs.Position.{thread_of, AreFrames, InExpansion, IsCalling, IsReturning}
@@ -63,7 +63,7 @@ pub record InReturn (b : Build) (state : State) (s : System) (t : ℕ) : Type 0 
 pub record HasInstruction (b : Build) (address : ℕ) (kind : InstrKind) : Type 0 where
   pub offset : ℕ
   pub is : address ≡ memory_base + offset
-  pub to : offset + 4 ≤ 0x20_0000
+  pub to : offset + 4 ≤ memory_bytes
   pub is_code : (i : ℕ) → offset ≤ i → i < offset + 4 → b.is_code i ≡ true
   pub word : word_at b.memory offset ≡ Encode kind
   pub in_range : InRange kind
@@ -81,22 +81,6 @@ pub record ItemStands (b : Build) (view : View) (func item : ℕ) : Type 0 where
   pub adjacent : item + 1 < length (function b.app func).items
       → item_address b.places func (item + 1) ≡ item_address b.places func item + 4 * length (expansion b.app b.places func item)
 
--- a register of task code: x0, or one of x5 to x29
-abbrev pub IsTaskRegister : ℕ → Type 0
-IsTaskRegister r = (r ≡ 0) ⊎ ((5 ≤ r) × (r < 30))
-
--- a number of 12 bits; of a shift, an amount
-abbrev pub IsImmediate : ImmKind → ℤ → Type 0
-IsImmediate imm.Slli number = (n : ℕ) × (number ≡ pos n) × (n < 32)
-IsImmediate imm.Srli number = (n : ℕ) × (number ≡ pos n) × (n < 32)
-IsImmediate imm.Srai number = (n : ℕ) × (number ≡ pos n) × (n < 32)
-IsImmediate imm.Addi number = IsSigned 12 number
-IsImmediate imm.Slti number = IsSigned 12 number
-IsImmediate imm.Sltiu number = IsSigned 12 number
-IsImmediate imm.Xori number = IsSigned 12 number
-IsImmediate imm.Ori number = IsSigned 12 number
-IsImmediate imm.Andi number = IsSigned 12 number
-
 -- an access to a symbol lies inside its bytes, at a multiple of its width
 pub record IsAccess (app : App) (w : Width) (symbol offset : ℕ) : Type 0 where
   pub inside : offset + size_of w ≤ symbol_size app symbol
@@ -106,21 +90,21 @@ pub record IsAccess (app : App) (w : Width) (symbol offset : ℕ) : Type 0 where
 pub record IsMasked (app : App) (w : Width) (symbol mask : ℕ) : Type 0 where
   pub inside : mask + size_of w ≤ symbol_size app symbol
   pub aligned : mask % size_of w ≡ 0
-  pub few : mask ≤ 32767
+  pub few : mask ≤ mask_limit
 
 -- An item behind which the next one follows. It computes on registers and numbers, or moves a word of its frame or a number of a
 -- symbol, at a place that its code names or at an index under a mask.
 abbrev pub IsStraight : App → (func : ℕ) → Op → Type 0
-IsStraight app func (op.Alu kind rd rs1 rs2) = IsTaskRegister rd × IsTaskRegister rs1 × IsTaskRegister rs2
-IsStraight app func (op.AluImm kind rd rs1 number) = IsTaskRegister rd × IsTaskRegister rs1 × IsImmediate kind number
-IsStraight app func (op.Lui rd number) = IsTaskRegister rd × (number < 2 ^ 20)
-IsStraight app func (op.Li rd value) = IsTaskRegister rd × (value < 2 ^ 32)
-IsStraight app func (op.FrameLoad rd word) = IsTaskRegister rd × (word < (function app func).frame_words)
-IsStraight app func (op.FrameStore rs word) = IsTaskRegister rs × (word < (function app func).frame_words)
-IsStraight app func (op.Load width rd symbol offset) = IsTaskRegister rd × IsAccess app width symbol offset
-IsStraight app func (op.Store width rs symbol offset) = IsTaskRegister rs × IsAccess app width symbol offset
-IsStraight app func (op.LoadAt width rd symbol index mask) = IsTaskRegister rd × IsTaskRegister index × IsMasked app width symbol mask
-IsStraight app func (op.StoreAt width rs symbol index mask) = IsTaskRegister rs × IsTaskRegister index × IsMasked app width symbol mask
+IsStraight app func (op.Alu kind rd rs1 rs2) = IsRegister rd × IsRegister rs1 × IsRegister rs2
+IsStraight app func (op.AluImm kind rd rs1 number) = IsRegister rd × IsRegister rs1 × IsNumberOf kind number
+IsStraight app func (op.Lui rd number) = IsRegister rd × (number < 2 ^ 20)
+IsStraight app func (op.Li rd value) = IsRegister rd × (value < 2 ^ 32)
+IsStraight app func (op.FrameLoad rd word) = IsRegister rd × (word < (function app func).frame_words)
+IsStraight app func (op.FrameStore rs word) = IsRegister rs × (word < (function app func).frame_words)
+IsStraight app func (op.Load width rd symbol offset) = IsRegister rd × IsAccess app width symbol offset
+IsStraight app func (op.Store width rs symbol offset) = IsRegister rs × IsAccess app width symbol offset
+IsStraight app func (op.LoadAt width rd symbol index mask) = IsRegister rd × IsRegister index × IsMasked app width symbol mask
+IsStraight app func (op.StoreAt width rs symbol index mask) = IsRegister rs × IsRegister index × IsMasked app width symbol mask
 IsStraight app func (op.Branch kind rs1 rs2 label) = ⊥
 IsStraight app func (op.Jump label) = ⊥
 IsStraight app func (op.Invoke callee) = ⊥
@@ -134,7 +118,7 @@ pub record IsTarget (app : App) (func label : ℕ) : Type 0 where
 
 -- an item that goes on at a label of its function, or may go on there or at the next item
 abbrev pub IsFlow : App → (func item : ℕ) → Op → Type 0
-IsFlow app func item (op.Branch kind rs1 rs2 label) = IsTaskRegister rs1 × IsTaskRegister rs2 × IsTarget app func label × (item + 1 < length (function app func).items)
+IsFlow app func item (op.Branch kind rs1 rs2 label) = IsRegister rs1 × IsRegister rs2 × IsTarget app func label × (item + 1 < length (function app func).items)
 IsFlow app func item (op.Jump label) = IsTarget app func label
 IsFlow app func item (op.Alu kind rd rs1 rs2) = ⊥
 IsFlow app func item (op.AluImm kind rd rs1 number) = ⊥

@@ -10,6 +10,7 @@ use Rattle.sloth_base.specs.Machine.{Core, State}
 use Rattle.sloth_base.specs.Lines.{Lines, controller_byte, with_controller_byte, flag_of}
 use Rattle.sloth_base.specs.Arrive.{state_arrive}
 use Rattle.sloth_base.specs.Take.{line_to_take, entry_state, execution_state}
+use Rattle.sloth_base.specs.MemoryMap.{memory_base, controller_base}
 use Rattle.rv32_instr.specs.declared.csr.TheConstants.{MSTATUS, MSCRATCH, MEPC, ILEVEL, PLEVEL}
 use Rattle.rv32_instr.specs.declared.stop.Bad.{Bad}
 use Rattle.rv32_instr.specs.declared.stop.Bad.TheVariants as bad
@@ -65,7 +66,7 @@ unfolding controller_byte
 controller_fits m offset h = pick_below 256 _ _ _ (h.pending offset) (pick_below 256 _ _ _ (h.enabled (offset - 32)) (h.levels (offset - 64)))
 
 byte_fits : (m : Memory) (address : ℕ) → MemoryBounded m → loaded_byte m address < 256
-byte_fits m address h = pick_below 256 _ _ _ (h.bytes (address - 0x8000_0000)) (controller_fits m (address - 0x1000_0000) h)
+byte_fits m address h = pick_below 256 _ _ _ (h.bytes (address - memory_base)) (controller_fits m (address - controller_base) h)
 
 half_fits : (ram : List ℕ) (offset : ℕ) → AreBelow 256 ram → half_at ram offset < 65536
 unfolding half_at
@@ -74,10 +75,10 @@ half_fits ram offset h = let a = h offset in let b = h (offset + 1) in omega ari
 loaded_fits : (m : Memory) (address : ℕ) (w : Width) → MemoryBounded m → loaded_number m address w < 4294967296
 unfolding loaded_number
 loaded_fits m address width.Byte h = let a = byte_fits m address h in signed_fits 8 (loaded_byte m address) a (omega arith)
-loaded_fits m address width.Half h = let a = half_fits m.ram (address - 0x8000_0000) h.bytes in signed_fits 16 (half_at m.ram (address - 0x8000_0000)) a (omega arith)
-loaded_fits m address width.Word h = word_below m.ram (address - 0x8000_0000) h.bytes
+loaded_fits m address width.Half h = let a = half_fits m.ram (address - memory_base) h.bytes in signed_fits 16 (half_at m.ram (address - memory_base)) a (omega arith)
+loaded_fits m address width.Word h = word_below m.ram (address - memory_base) h.bytes
 loaded_fits m address width.ByteU h = let a = byte_fits m address h in omega arith
-loaded_fits m address width.HalfU h = let a = half_fits m.ram (address - 0x8000_0000) h.bytes in omega arith
+loaded_fits m address width.HalfU h = let a = half_fits m.ram (address - memory_base) h.bytes in omega arith
 
 written_below : (ram : List ℕ) (offset value : ℕ) → AreBelow 256 ram → AreBelow 256 (with_byte ram offset value)
 written_below ram offset value h = set_below 256 ram offset (value % 256) h (omega arith)
@@ -115,15 +116,15 @@ line_fits m offset value h l =
 
 stored_byte_fits : (m : Memory) (address value : ℕ) → MemoryBounded m → MemoryBounded (stored_byte m address value)
 stored_byte_fits m address value h =
-    pick_memory _ _ _ (ram_fits m _ h (written_below m.ram (address - 0x8000_0000) value h.bytes)) (line_fits m (address - 0x1000_0000) (value % 256) h (omega arith))
+    pick_memory _ _ _ (ram_fits m _ h (written_below m.ram (address - memory_base) value h.bytes)) (line_fits m (address - controller_base) (value % 256) h (omega arith))
 
 stored_fits : (m : Memory) (address : ℕ) (w : Width) (value : ℕ) → MemoryBounded m → MemoryBounded (stored_memory m address w value)
 unfolding stored_memory
 stored_fits m address width.Byte value h = stored_byte_fits m address value h
-stored_fits m address width.Half value h = ram_fits m _ h (half_below m.ram (address - 0x8000_0000) value h.bytes)
-stored_fits m address width.Word value h = ram_fits m _ h (whole_below m.ram (address - 0x8000_0000) value h.bytes)
+stored_fits m address width.Half value h = ram_fits m _ h (half_below m.ram (address - memory_base) value h.bytes)
+stored_fits m address width.Word value h = ram_fits m _ h (whole_below m.ram (address - memory_base) value h.bytes)
 stored_fits m address width.ByteU value h = stored_byte_fits m address value h
-stored_fits m address width.HalfU value h = ram_fits m _ h (half_below m.ram (address - 0x8000_0000) value h.bytes)
+stored_fits m address width.HalfU value h = ram_fits m _ h (half_below m.ram (address - memory_base) value h.bytes)
 
 memory_fits : (core : Core) → CoreBounded core → MemoryBounded (memory_of core)
 memory_fits core h = record { bytes = h.bytes; pending = h.pending; enabled = h.enabled; levels = h.levels }
@@ -261,7 +262,7 @@ step_fits : (state : State) → CoreBounded state.core → NextBounded (step sta
 unfolding step
 step_fits state h =
     pick_next (in_ram state.pc 4) _ _
-    (executed_fits (Decode (word_at_pc state)) (word_at_pc state) state (word_below state.core.ram (state.pc - 0x8000_0000) h.bytes) refl h) tt
+    (executed_fits (Decode (word_at_pc state)) (word_at_pc state) state (word_below state.core.ram (state.pc - memory_base) h.bytes) refl h) tt
 
 -- ---- arrivals, and lines that are taken
 

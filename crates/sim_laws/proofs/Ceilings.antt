@@ -10,6 +10,8 @@ use Rattle.sloth_base.specs.declared.config.TaskDecl.{TaskDecl}
 use Rattle.sloth_base.specs.declared.places.Levels.{Levels}
 use Rattle.sloth_base.specs.declared.service.Service.TheVariants as service
 use Rattle.sloth_base.specs.PriorityLevels.{level_among, level_of}
+use Rattle.sloth_base.specs.Limits.{ceiling_count}
+use Rattle.sloth_base.specs.ConfigRange.{scheduler_number}
 use Rattle.code_rules.specs.Code.{service_op, is_in}
 use Rattle.code_rules.specs.WellFormed.{held_list_before}
 use Rattle.prio_levels.specs.Levels.{AreLevels, lists}
@@ -72,17 +74,17 @@ same_filter r (d ∷ ds) =
     ∙ ap (λ (l : List TaskDecl). cond (is_in r d.resources) (d ∷ l) l) (same_filter r ds)
 
 -- the table's level of a ceiling is that of the abstract scheduler's
-pub ceiling_level : (b : Build) (levels : Levels) → AreLevels b.config levels → (r : ℕ) → r < 33 → IsCeilingLevel b r (slice_index levels.ceiling r)
+pub ceiling_level : (b : Build) (levels : Levels) → AreLevels b.config levels → (r : ℕ) → r < ceiling_count → IsCeilingLevel b r (slice_index levels.ceiling r)
 ceiling_level b levels are r small p =
     ⊎_elim
-    (λ (e : r ≡ 32).
+    (λ (e : r ≡ scheduler_number).
     let top : slice_index levels.ceiling r ≡ length b.config.tasks = ap (λ x. slice_index levels.ceiling x) e ∙ are.ceilings.scheduler in
     let most : ceiling b.config r ≡ highest_priority b.config = ap (ceiling b.config) e in
     let all = highest_level b.config in
     let two = level_max b.config p (highest_priority b.config) in
     (let g : max (level_of b.config p) (slice_index levels.ceiling r) ≡ level_of b.config (max p (highest_priority b.config)) = omega arith in g)
     ∙ ap (λ c. level_of b.config (max p c)) (sym most))
-    (λ (n : r ≡ 32 → ⊥).
+    (λ (n : r ≡ scheduler_number → ⊥).
     let users : List TaskDecl = filter (λ d. is_in r d.resources) b.config.tasks in
     let listed : slice_index levels.ceiling r ≡ fold max 0 (map (λ d. level_among b.config.tasks d.priority) users) =
     are.ceilings.listed r (omega arith) ∙ ap (λ (l : List TaskDecl). fold max 0 (map (λ d. level_among b.config.tasks d.priority) l)) (same_filter r b.config.tasks) in
@@ -104,7 +106,7 @@ may_have b w levels are s t call v declared at is =
     let r : Running b.config b.app t (task s t) frame at.outer (service_op service.GetResource q m) =
     subst (Running b.config b.app t (task s t) frame at.outer) same (running b.config b.app s t (op.Serve call) v declared at) in
     let range = w.in_range.configuration.few_resources in
-    let small : q < 33 = ⊎_elim (λ h. omega arith) (λ h. let e = h.0 in omega arith) (w.items frame.func frame.item (service_op service.GetResource q m) r.item).0 in
+    let small : q < ceiling_count = ⊎_elim (λ h. omega arith) (λ h. let e = h.0 in omega arith) (w.items frame.func frame.item (service_op service.GetResource q m) r.item).0 in
     let before = held_list_before b.app frame.func frame.item in
     record {
       is_level = ceiling_level b levels are q small;

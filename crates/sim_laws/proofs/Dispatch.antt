@@ -92,6 +92,7 @@ use Rattle.service_gen.specs.TerminateTask.{Terminates}
 use Rattle.sloth_base.specs.declared.places.Levels.{Levels}
 use Rattle.sloth_base.specs.declared.service.Service.{Service}
 use Rattle.sloth_base.specs.declared.service.Service.TheVariants as service
+use Rattle.sloth_base.specs.MemoryMap.{memory_base, line_count}
 
 -- ---- calls of well-formed task code
 
@@ -155,7 +156,7 @@ module _ (b : Build) (image : Image) (kernel : Kernel b image) where
     abbrev s1 : System
     s1 = with_admits (lines_at arrivals count) s
 
-    few : length b.config.tasks ≤ 32
+    few : length b.config.tasks ≤ line_count
     few = let f = kernel.fits.few_tasks in omega arith
 
     abbrev Goes : Type 0
@@ -360,9 +361,9 @@ module _ (b : Build) (image : Image) (kernel : Kernel b image) where
                     raised = has_internal b.config b.app s1 t a.call steady.valid active.declared is_at;
                     back =
                         (let way = kernel.way_back p.frame.func p.frame.item a.call p.inside a.is is in
-                        let same : 0x8000_0000 + way.offset ≡ 0x8000_0000 + block.offset = sym way.block_is ∙ block.is in
+                        let same : memory_base + way.offset ≡ memory_base + block.offset = sym way.block_is ∙ block.is in
                         let there : way.offset ≡ block.offset = omega arith in
-                        way.is ∙ ap (λ o. 0x8000_0000 + (o + way_back)) there);
+                        way.is ∙ ap (λ o. memory_base + (o + way_back)) there);
                   };
                 }))
             served levels are service.GetTaskState is block =

@@ -12,6 +12,7 @@ use Rattle.rv32_instr.specs.Ram.{word_at}
 use Rattle.rv32_instr.specs.Table.{Decode}
 use Rattle.masked_code.specs.Place.{InPlace}
 use Rattle.sloth_base.specs.Named.{undeclared_task}
+use Rattle.sloth_base.specs.MemoryMap.{memory_base, vectors_base, line_count}
 use Rattle.vector_gen.specs.Boot.{Boots}
 use Rattle.vector_gen.specs.Vectors.{AreJumps}
 use Rattle.prologue_gen.specs.Fresh.{vector}
@@ -40,13 +41,13 @@ record HasVector (b : Build) (t target : ℕ) : Type 0 where
   jump : ℤ
   is_code : (i : ℕ) → vector t ≤ i → i < vector t + 4 → b.is_code i ≡ true
   placed : Decode (word_at b.memory (vector t)) ≡ Some (Jal 0 jump)
-  target_is : plus (0x8000_0000 + vector t) jump ≡ target
+  target_is : plus (memory_base + vector t) jump ≡ target
 
-vector_of : (b : Build) (handlers : List ℕ) (code : List InstrKind) (t : ℕ) → t < 32 → AreJumps 32 handlers code → IsPlaced b 0x400 code → HasVector b t (slice_index handlers t)
+vector_of : (b : Build) (handlers : List ℕ) (code : List InstrKind) (t : ℕ) → t < 32 → AreJumps line_count handlers code → IsPlaced b 0x400 code → HasVector b t (slice_index handlers t)
 vector_of b handlers code t l jumps p =
     let j = jumps.each t Mret l in
     let many = jumps.many in
-    let e : 0x8000_0000 + vector t ≡ 0x8000_0400 + 4 * t = omega arith in
+    let e : memory_base + vector t ≡ vectors_base + 4 * t = omega arith in
     record {
       jump = j.0;
       is_code = λ i x y. p.is_code i (omega arith) (omega arith);

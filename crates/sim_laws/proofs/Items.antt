@@ -15,6 +15,7 @@ use Rattle.expansion_parts.specs.Expansion.{item_address, expansion}
 use Rattle.rv32_expand.specs.InPlace.{IsItem, CodeAt, item_mark, last_address}
 use Rattle.observe.specs.Observe.{mark_at, view_of_image}
 use Rattle.sloth_base.specs.ImageRange.{AreAscending}
+use Rattle.sloth_base.specs.MemoryMap.{memory_bytes, memory_base}
 use Rattle.sim_relation.specs.Build.{Build}
 use Rattle.sim_items.specs.Place.{HasInstructions, ItemStands}
 use Rattle.sim_laws.specs.Items.{HasItems}
@@ -62,19 +63,19 @@ none_found (m ∷ marks) address h =
 -- ---- an item
 
 -- code at an address in the image
-in_image : (b : Build) (image : Image) (address : ℕ) (code : List InstrKind) → image.memory ≡ b.memory → length b.memory ≤ 0x20_0000
-    → 0x8000_0000 < address + 1 → address + 4 * length code < 0x8000_0000 + length image.memory + 1
-    → ((i : ℕ) → address ≤ 0x8000_0000 + i → 0x8000_0000 + i < address + 4 * length code → b.is_code i ≡ true)
+in_image : (b : Build) (image : Image) (address : ℕ) (code : List InstrKind) → image.memory ≡ b.memory → length b.memory ≤ memory_bytes
+    → memory_base < address + 1 → address + 4 * length code < memory_base + length image.memory + 1
+    → ((i : ℕ) → address ≤ memory_base + i → memory_base + i < address + 4 * length code → b.is_code i ≡ true)
     → All InRange code → CodeAt image.memory address code → HasInstructions b address code
 in_image b image address [] same size low high is_code range h = tt
 in_image b image address (kind ∷ code) same size low high is_code range h =
     let n = ap (λ (m : List ℕ). length m) same in (
       record {
-        offset = address - 0x8000_0000;
+        offset = address - memory_base;
         is = omega arith;
         to = omega arith;
         is_code = λ i x y. is_code i (omega arith) (omega arith);
-        word = ap (λ (m : List ℕ). word_at m (address - 0x8000_0000)) (sym same) ∙ h.0;
+        word = ap (λ (m : List ℕ). word_at m (address - memory_base)) (sym same) ∙ h.0;
         in_range = range 0 kind (omega arith);
       },
       in_image b image (address + 4) code same size (omega arith) (omega arith) (λ i x y. is_code i (omega arith) (omega arith)) (λ i d l. range (suc i) d (omega arith)) h.1,
@@ -82,7 +83,7 @@ in_image b image address (kind ∷ code) same size low high is_code range h =
 
 record InImage (b : Build) (image : Image) (places : Places) (func item : ℕ) : Type 0 where
   code : CodeAt image.memory (item_address places func item) (expansion b.app places func item)
-  inside : (0x8000_0000 < item_address places func item + 1) × (last_address b.app places func item + 4 < 0x8000_0000 + length image.memory + 1)
+  inside : (memory_base < item_address places func item + 1) × (last_address b.app places func item + 4 < memory_base + length image.memory + 1)
   adjacent : IsItem b.app func (item + 1) → item_address places func (item + 1) ≡ item_address places func item + 4 * length (expansion b.app places func item)
   marked : Contains image.marks (item_mark b.app places func item)
 

@@ -16,6 +16,8 @@ use Rattle.expansion_parts.proofs.Counts.{size_is, size_few}
 use Rattle.rv32_expand.proofs.InRangeOf.{frame_of}
 use Rattle.expansion_parts.specs.Expansion.{item_address, is_long, expansion}
 use Rattle.sloth_base.specs.Named.{operation}
+use Rattle.sloth_base.specs.Limits.{count_limit}
+use Rattle.sloth_base.specs.MemoryMap.{line_count}
 use Rattle.observe.specs.Observe.{View, view_of_image}
 use Rattle.osek_scheduler.specs.State.{Frame, System, task, opening}
 use Rattle.osek_scheduler.specs.Runs.{Leads}
@@ -69,7 +71,7 @@ passed_small address count pc l =
 zero_below : (bound n : ℕ) → 0 < bound → AreBelow bound (replicate n 0)
 zero_below bound n h i = let z = zero_at n i in omega arith
 
-start_bounded : (image : Image) → AreBelow 256 image.memory → IsBounded (start image)
+pub start_bounded : (image : Image) → AreBelow 256 image.memory → IsBounded (start image)
 start_bounded image bytes = record {
   pc = omega arith;
   core = record {
@@ -89,7 +91,7 @@ module _ (b : Build) (image : Image) (kernel : Kernel b image) where
   abbrev view : View
   view = view_of_image image
 
-  few : length b.config.tasks ≤ 32
+  few : length b.config.tasks ≤ line_count
   few = let f = kernel.fits.few_tasks in omega arith
 
   few_instructions : (func item : ℕ) → length (expansion b.app b.places func item) ≤ 40
@@ -138,7 +140,7 @@ module _ (b : Build) (image : Image) (kernel : Kernel b image) where
       (λ arrivals are. let setting = is_setting b.config b.app image arrivals kernel.fits.few_tasks kernel.tasks kernel.counters are in (simulation arrivals setting, booting arrivals setting))
 
   -- at each count that finds MIE 1 the relation stands
-  pub stands_kernel : (arrivals : List Arrival) (n count : ℕ) (state : State) → AreArrivals (owners_in b.config) arrivals → n ≤ 1000000 → count < n
+  pub stands_kernel : (arrivals : List Arrival) (n count : ℕ) (state : State) → AreArrivals (owners_in b.config) arrivals → n ≤ count_limit → count < n
       → state_after count arrivals (start image) ≡ Some state → state.core.mie ≡ true
       → (s : System) × Leads b.config b.app (filter (stands_before count) (events_of image arrivals n)) (opening b.config b.app) s
       × StandsNested b (state_with_arrivals arrivals count state) s

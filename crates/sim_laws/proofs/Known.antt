@@ -1,52 +1,26 @@
 -- What the rules of well-formed task code say of an item is what its law asks.
-use Rattle.std.proofs.Common.{◌≡◌, ℕ, ◌+◌, ◌%◌, ◌<◌, ◌≤◌, ℤ, pos, negsuc, length, refl, sym, subst, arith, inl, inr, true}
+use Rattle.std.proofs.Common.{◌≡◌, ℕ, ◌+◌, ◌%◌, ◌<◌, ◌≤◌, length, refl, sym, subst, arith, inl, inr, true}
 use Rattle.std.specs.Prelude.{◌≢◌, ◌⊎◌}
 use Rattle.std.proofs.lemmas.Bool.{cases_eq, cases_lt}
-use Rattle.std.proofs.lemmas.Int.{ints}
 use Rattle.sloth_base.specs.Arithmetic.{size_of}
 use Rattle.sloth_base.specs.Named.{operation, function, symbol_size}
 use Rattle.sloth_base.specs.declared.app.Call.{Call}
-use Rattle.sloth_base.specs.declared.app.ImmKind.{ImmKind}
-use Rattle.sloth_base.specs.declared.app.ImmKind.TheVariants as imm
 use Rattle.sloth_base.specs.declared.app.Op.{Op}
 use Rattle.sloth_base.specs.declared.app.Op.TheVariants as op
 use Rattle.sloth_base.specs.declared.app.Width.{Width}
 use Rattle.sloth_base.specs.declared.refusal.Code.TheVariants as code
-use Rattle.code_rules.specs.AppRange.{IsRegister, IsShort, IsNumberOf, IsOp}
+use Rattle.code_rules.specs.AppRange.{IsOp}
+use Rattle.sloth_base.specs.Limits.{mask_limit}
 use Rattle.code_rules.specs.Code.{IsItem, is_followed}
 use Rattle.code_rules.specs.WellFormed as rule
 use Rattle.code_rules.specs.WellFormed.{WellFormed, at_item}
-use Rattle.rv32_instr.specs.Range.{IsSigned}
 use Rattle.observe.specs.Observe.{View}
 use Rattle.osek_valid.proofs.Facts.{Facts, facts}
 use Rattle.osek_valid.proofs.Held.{falls_inside, jumps_inside}
 use Rattle.sim_relation.specs.Build.{Build}
-use Rattle.sim_items.specs.Place.{IsTaskRegister, IsImmediate, IsAccess, IsStraight, IsFlow}
+use Rattle.sim_items.specs.Place.{IsAccess, IsMasked, IsStraight, IsFlow}
 use Rattle.sim_laws.specs.Kernel.{IsKnown}
 use Rattle.sim_laws.specs.Kernel.IsKnown.{computes, flows, invokes, returns}
-
-own : (r : ℕ) → IsRegister r → IsTaskRegister r
-own r (inl e) = inl e
-own r (inr h) = let l = h.1 in inr (h.0, omega arith)
-
-short : (z : ℤ) → IsShort z → IsSigned 12 z
-short (pos n) h = omega (arith, ints)
-short (negsuc n) h = omega (arith, ints)
-
-amount : (z : ℤ) → (kind : ImmKind) → IsNumberOf imm.Slli z → (n : ℕ) × (z ≡ pos n) × (n < 32)
-amount (pos n) kind h = (n, refl, omega arith)
-amount (negsuc n) kind h = absurd h
-
-number : (kind : ImmKind) (z : ℤ) → IsNumberOf kind z → IsImmediate kind z
-number imm.Slli z h = amount z imm.Slli h
-number imm.Srli z h = amount z imm.Srli h
-number imm.Srai z h = amount z imm.Srai h
-number imm.Addi z h = short z h
-number imm.Slti z h = short z h
-number imm.Sltiu z h = short z h
-number imm.Xori z h = short z h
-number imm.Ori z h = short z h
-number imm.Andi z h = short z h
 
 module _ (b : Build) (view : View) (func item : ℕ) (w : WellFormed b.config b.app) (known : func < length b.app.funcs) (inside : item < length (function b.app func).items)
     (services : (call : Call) → operation b.app func item ≡ op.Serve call → IsKnown b view func item) where
@@ -84,65 +58,52 @@ module _ (b : Build) (view : View) (func item : ℕ) (w : WellFormed b.config b.
       by (inl e) = e
       by (inr e) = absurd (h e)
 
-  few : (mask : ℕ) → ¬ (32767 < mask) → mask ≤ 32767
-  few mask h = by (cases_lt 32767 mask)
+  few : (mask : ℕ) → ¬ (mask_limit < mask) → mask ≤ mask_limit
+  few mask h = by (cases_lt mask_limit mask)
     where
-      by : (32767 < mask) ⊎ (mask ≤ 32767) → mask ≤ 32767
+      by : (mask_limit < mask) ⊎ (mask ≤ mask_limit) → mask ≤ mask_limit
       by (inl l) = absurd (h l)
       by (inr l) = l
 
   access : (width : Width) (y offset : ℕ) → offset + size_of width ≤ symbol_size b.app y → ¬ (offset % size_of width ≢ 0) → IsAccess b.app width y offset
   access width y offset l e = record { inside = l; aligned = multiple (offset % size_of width) e }
 
+  masked_access : (width : Width) (y mask : ℕ) → mask + size_of width ≤ symbol_size b.app y → ¬ (mask % size_of width ≢ 0) → ¬ (32767 < mask) → IsMasked b.app width y mask
+  masked_access width y mask l e f = record { inside = l; aligned = multiple (mask % size_of width) e; few = few mask f }
+
   by_kind : (o : Op) → operation b.app func item ≡ o → IsKnown b view func item
-  by_kind (op.Alu kind rd rs1 rs2) e = let h = says (op.Alu kind rd rs1 rs2) e in straight (op.Alu kind rd rs1 rs2) e (own rd h.0, own rs1 h.1, own rs2 h.2) refl
-  by_kind (op.AluImm kind rd rs1 z) e = let h = says (op.AluImm kind rd rs1 z) e in straight (op.AluImm kind rd rs1 z) e (own rd h.0, own rs1 h.1, number kind z h.2) refl
-  by_kind (op.Lui rd n) e = let h = says (op.Lui rd n) e in let l = h.1 in straight (op.Lui rd n) e (own rd h.0, omega arith) refl
-  by_kind (op.Li rd value) e = let h = says (op.Li rd value) e in let l = h.1 in straight (op.Li rd value) e (own rd h.0, omega arith) refl
+  by_kind (op.Alu kind rd rs1 rs2) e = straight (op.Alu kind rd rs1 rs2) e (says (op.Alu kind rd rs1 rs2) e) refl
+  by_kind (op.AluImm kind rd rs1 z) e = straight (op.AluImm kind rd rs1 z) e (says (op.AluImm kind rd rs1 z) e) refl
+  by_kind (op.Lui rd n) e = let h = says (op.Lui rd n) e in let l = h.1 in straight (op.Lui rd n) e (h.0, omega arith) refl
+  by_kind (op.Li rd value) e = let h = says (op.Li rd value) e in let l = h.1 in straight (op.Li rd value) e (h.0, omega arith) refl
   by_kind (op.FrameLoad rd word) e =
       let o = op.FrameLoad rd word in
       let h = says o e in
-      straight o e (own rd h.0, rules.frame_loads func item rd word (at o e)) refl
+      straight o e (h.0, rules.frame_loads func item rd word (at o e)) refl
   by_kind (op.FrameStore rs word) e =
       let o = op.FrameStore rs word in
       let h = says o e in
-      straight o e (own rs h.0, rules.frame_stores func item rs word (at o e)) refl
+      straight o e (h.0, rules.frame_stores func item rs word (at o e)) refl
   by_kind (op.Load width rd y offset) e =
       let o = op.Load width rd y offset in
       let h = says o e in
-      straight o e (own rd h.0, access width y offset (rules.loads func item rd y offset width (at o e)) (even o e)) refl
+      straight o e (h.0, access width y offset (rules.loads func item rd y offset width (at o e)) (even o e)) refl
   by_kind (op.Store width rs y offset) e =
       let o = op.Store width rs y offset in
       let h = says o e in
-      straight o e (own rs h.1, access width y offset (rules.stores func item rs y offset width (at o e)) (even o e)) refl
+      straight o e (h.1, access width y offset (rules.stores func item rs y offset width (at o e)) (even o e)) refl
   by_kind (op.LoadAt width rd y index mask) e =
       let o = op.LoadAt width rd y index mask in
       let h = says o e in
-      straight o e (
-        own rd h.0,
-        own index h.2,
-        record {
-          inside = rules.masked_loads func item rd y index mask width (at o e);
-          aligned = multiple (mask % size_of width) (even o e);
-          few = few mask (λ l. masked o e (inl l));
-        },
-      ) refl
+      straight o e (h.0, h.2, masked_access width y mask (rules.masked_loads func item rd y index mask width (at o e)) (even o e) (λ l. masked o e (inl l))) refl
   by_kind (op.StoreAt width rs y index mask) e =
       let o = op.StoreAt width rs y index mask in
       let h = says o e in
-      straight o e (
-        own rs h.1,
-        own index h.3,
-        record {
-          inside = rules.masked_stores func item rs y index mask width (at o e);
-          aligned = multiple (mask % size_of width) (even o e);
-          few = few mask (λ l. masked o e (inl l));
-        },
-      ) refl
+      straight o e (h.1, h.3, masked_access width y mask (rules.masked_stores func item rs y index mask width (at o e)) (even o e) (λ l. masked o e (inl l))) refl
   by_kind (op.Branch kind rs1 rs2 label) e =
       let o = op.Branch kind rs1 rs2 label in
       let h = says o e in
-      flow o e (own rs1 h.0, own rs2 h.1, record { known = h.2; inside = jumps_inside b.config b.app rules func item label known inside (inr (kind, rs1, rs2, at o e)) }, more o e refl)
+      flow o e (h.0, h.1, record { known = h.2; inside = jumps_inside b.config b.app rules func item label known inside (inr (kind, rs1, rs2, at o e)) }, more o e refl)
   by_kind (op.Jump label) e =
       let o = op.Jump label in
       flow o e (record { known = says o e; inside = jumps_inside b.config b.app rules func item label known inside (inl (at o e)) })

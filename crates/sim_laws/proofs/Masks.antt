@@ -12,6 +12,7 @@ use Rattle.sloth_base.specs.declared.service.Service.{Service}
 use Rattle.sloth_base.specs.ServiceCodes.{has_mask}
 use Rattle.code_rules.specs.AppRange.{AreOperands, AreEvents, IsMask}
 use Rattle.sloth_base.specs.ConfigRange.{no_event}
+use Rattle.sloth_base.specs.MemoryMap.{memory_base}
 use Rattle.code_rules.specs.AppRange as ranges
 use Rattle.code_rules.specs.Code.{IsItem}
 use Rattle.rv32_instr.specs.declared.InstrKind.{InstrKind}
@@ -66,8 +67,8 @@ module _ (b : Build) (view : View) (func item : ℕ) (h : CallsService b view fu
       ap (λ o. length (operation_code b.app b.places func address (is_long b.places func item) o)) h.is
       ∙ served_length b.places h.call address ∙ ap (λ (m : List InstrKind). length m + 1) e
 
-  apart : (n : ℕ) → size ≡ n → (0x8000_0000 + h.block.offset < address) ⊎ (address + 4 * n ≤ 0x8000_0000 + h.block.offset)
-  apart n e = subst (λ k. (0x8000_0000 + h.block.offset < address) ⊎ (address + 4 * k ≤ 0x8000_0000 + h.block.offset)) e h.apart
+  apart : (n : ℕ) → size ≡ n → (memory_base + h.block.offset < address) ⊎ (address + 4 * n ≤ memory_base + h.block.offset)
+  apart n e = subst (λ k. (memory_base + h.block.offset < address) ⊎ (address + 4 * k ≤ memory_base + h.block.offset)) e h.apart
 
   by : (mask_of h.call.service h.call.mask ≡ []) ⊎ (mask_of h.call.service h.call.mask ≡ number_in mask_register h.call.mask)
       → JumpsToService b func item ⊎ JumpsWithMask b func item

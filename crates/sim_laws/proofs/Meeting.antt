@@ -8,6 +8,7 @@ use Rattle.osek_scheduler.specs.declared.state.TaskState.{TaskState}
 use Rattle.osek_scheduler.specs.declared.state.TaskState.TheVariants as mode
 use Rattle.osek_scheduler.specs.State.{System, task}
 use Rattle.sloth_base.specs.Named.{declaration}
+use Rattle.sloth_base.specs.MemoryMap.{line_count}
 use Rattle.osek_valid.specs.Valid.{IsValid, InState}
 use Rattle.shared_stacks.specs.Together.{OwesBySchedule}
 use Rattle.osek_valid.proofs.Apart.{at_least_static}
@@ -19,7 +20,7 @@ use Rattle.sim_relation.proofs.Choice.{taken_above}
 clash : {X : Type 0} → true ≡ false → X
 clash e = cc
 
-module _ (b : Build) (state : State) (s : System) (k : Stands b state s) (few : length b.config.tasks ≤ 32) (valid : IsValid b.config b.app s) (owing : OwesBySchedule b.app s) where
+module _ (b : Build) (state : State) (s : System) (k : Stands b state s) (few : length b.config.tasks ≤ line_count) (valid : IsValid b.config b.app s) (owing : OwesBySchedule b.app s) where
   -- a basic task never waits, so that it has something on its stack while it is Active
   alive_active : (u : ℕ) → u < length b.config.tasks → (declaration b.config u).extended ≡ false → IsAlive (task s u) → (task s u).state ≡ mode.Active
   alive_active u declared basic (inl active) = active

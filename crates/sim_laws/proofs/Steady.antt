@@ -17,7 +17,8 @@ use Rattle.osek_scheduler.specs.State.{Frame, System, task, opening}
 use Rattle.sloth_base.specs.Named.{declaration}
 use Rattle.osek_scheduler.specs.Steps.{IsAt, OsekStep}
 use Rattle.osek_valid.specs.Valid.{IsValid, InState, held_by}
-use Rattle.osek_valid.proofs.Apart.{step_apart, opening_apart}
+use Rattle.osek_valid.proofs.Apart.{opening_apart}
+use Rattle.osek_valid.proofs.ApartSteps.{step_apart}
 use Rattle.osek_valid.proofs.Facts.{Facts, facts}
 use Rattle.osek_valid.proofs.Going.{running}
 use Rattle.shared_stacks.proofs.Owing.{step_owes, opening_owes}

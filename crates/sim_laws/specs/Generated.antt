@@ -11,7 +11,8 @@ use Rattle.code_rules.specs.WellFormed.{WellFormed}
 use Rattle.stack_bounds.specs.Bounds.{MayMeet}
 use Rattle.sloth_base.specs.Named.{body_of}
 use Rattle.sloth_base.specs.Named.{function}
-use Rattle.sloth_base.specs.MemoryMap.{memory_base}
+use Rattle.sloth_base.specs.MemoryMap.{memory_base, line_count}
+use Rattle.sloth_base.specs.Limits.{frame_limit}
 use Rattle.prio_levels.specs.Levels.{AreLevels}
 use Rattle.vector_gen.specs.Boot.{Boots}
 use Rattle.vector_gen.specs.Vectors.{AreJumps}
@@ -37,7 +38,7 @@ pub record HasPrologue (b : Build) (levels : Levels) (map : Map) (t : ℕ) : Typ
   pub is : slice_index map.handlers t ≡ memory_base + offset
   pub placed : IsPlaced b offset code
   pub one_body : HasOneBody b t
-  pub few_words : first_words b t ≤ 32
+  pub few_words : first_words b t ≤ frame_limit
   pub has_item : 0 < length (function b.app (body_of b.app.funcs t)).items
 
 -- so does the tick of a counter
@@ -61,7 +62,7 @@ pub record IsGenerated (b : Build) (image : Image) (levels : Levels) (map : Map)
   pub is_image : IsImage b image
   pub bytes : AreBelow 256 image.memory
   pub vectors : List InstrKind
-  pub jumps : AreJumps 32 map.handlers vectors
+  pub jumps : AreJumps line_count map.handlers vectors
   pub vectors_placed : IsPlaced b 0x400 vectors
   pub boot : List InstrKind
   pub boots : Boots b.config.tasks (length b.config.counters) levels.task levels.top map.idle boot

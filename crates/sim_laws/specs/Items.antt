@@ -11,7 +11,7 @@ use Rattle.rv32_expand.specs.InPlace.{IsItem, ItemsInPlace}
 use Rattle.code_rules.specs.WellFormed.{WellFormed}
 use Rattle.observe.specs.Observe.{View, mark_at, view_of_image}
 use Rattle.sloth_base.specs.ImageRange.{AreAscending}
-use Rattle.sloth_base.specs.MemoryMap.{memory_base}
+use Rattle.sloth_base.specs.MemoryMap.{memory_base, memory_bytes}
 use Rattle.sim_relation.specs.Build.{Build}
 use Rattle.sim_items.specs.Place.{ItemStands}
 use Rattle.sim_laws.specs.Kernel.{IsKnown}
@@ -22,7 +22,7 @@ pub record HasItems (b : Build) (image : Image) : Type 0 where
   pub in_place : ItemsInPlace image b.config b.app
   pub places : in_place.places ≡ b.places
   pub memory : image.memory ≡ b.memory
-  pub size : length b.memory ≤ 0x20_0000
+  pub size : length b.memory ≤ memory_bytes
   pub is_code : (func item i : ℕ) → IsItem b.app func item → item_address b.places func item ≤ memory_base + i
       → memory_base + i < item_address b.places func item + 4 * length (expansion b.app b.places func item) → b.is_code i ≡ true
   pub rising : AreAscending image.marks

@@ -6,7 +6,7 @@ use Rattle.sloth_base.specs.declared.app.Op.TheVariants as op
 use Rattle.sloth_base.specs.declared.service.Service.TheVariants as service
 use Rattle.sloth_base.specs.declared.places.Levels.{Levels}
 use Rattle.sloth_base.specs.Named.{operation, function}
-use Rattle.sloth_base.specs.MemoryMap.{memory_base}
+use Rattle.sloth_base.specs.MemoryMap.{memory_base, memory_bytes}
 use Rattle.code_rules.specs.WellFormed.{WellFormed}
 use Rattle.stack_bounds.specs.Bounds.{MayMeet}
 use Rattle.sim_laws.specs.Nested.{HasNestedParts}
@@ -51,7 +51,7 @@ pub record CallsService (b : Build) (view : View) (func item : ℕ) : Type 0 whe
   pub levels : Levels
   pub are_levels : AreLevels b.config levels
   pub block : StandsAtBlock b view call.service call.object (ServesCall b.config call.service call.object levels)
-  pub in_ram : block.offset < 0x20_0000
+  pub in_ram : block.offset < memory_bytes
   pub apart : (memory_base + block.offset < item_address b.places func item)
       ⊎ (item_address b.places func item + 4 * length (expansion b.app b.places func item) ≤ memory_base + block.offset)
 

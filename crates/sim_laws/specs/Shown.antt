@@ -7,6 +7,7 @@ use Rattle.sloth_base.specs.declared.event.Arrival.{Arrival}
 use Rattle.sloth_base.specs.Owners.{owners_in}
 use Rattle.sloth_base.specs.Arrivals.{AreArrivals}
 use Rattle.sloth_base.specs.Machine.{Core, State}
+use Rattle.sloth_base.specs.Limits.{count_limit}
 use Rattle.rv32_instr.specs.Memory.{memory_of}
 use Rattle.rv32_machine.specs.Start.{start}
 use Rattle.rv32_machine.specs.Run.{state_after, state_with_arrivals}
@@ -24,7 +25,7 @@ ShowStates config core s = (t : ℕ) → t < length config.tasks → state_in (m
 -- At each count of a run that finds MIE 1 the machine shows, with the arrivals of the count, the tasks' states in the system that the events
 -- before the count lead to.
 pub record ShowsStates (config : Config) (app : App) (image : Image) : Type 0 where
-  pub each : (arrivals : List Arrival) (n count : ℕ) (state : State) (s : System) → AreArrivals (owners_in config) arrivals → n ≤ 1000000
+  pub each : (arrivals : List Arrival) (n count : ℕ) (state : State) (s : System) → AreArrivals (owners_in config) arrivals → n ≤ count_limit
       → count < n → state_after count arrivals (start image) ≡ Some state → state.core.mie ≡ true
       → Leads config app (filter (stands_before count) (events_of image arrivals n)) (opening config app) s
       → ShowStates config (state_with_arrivals arrivals count state).core s

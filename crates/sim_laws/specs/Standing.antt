@@ -5,6 +5,7 @@ use Rattle.sloth_base.specs.declared.event.Arrival.{Arrival}
 use Rattle.sloth_base.specs.Owners.{owners_in}
 use Rattle.sloth_base.specs.Arrivals.{AreArrivals}
 use Rattle.sloth_base.specs.Machine.{State}
+use Rattle.sloth_base.specs.Limits.{count_limit}
 use Rattle.rv32_machine.specs.Start.{start}
 use Rattle.rv32_machine.specs.Run.{state_after, state_with_arrivals}
 use Rattle.osek_scheduler.specs.State.{System, opening}
@@ -25,7 +26,7 @@ pub record StandsNested (b : Build) (state : State) (s : System) : Type 0 where
 -- system that the events before it lead to.
 abbrev pub KernelStands : Type 0
 KernelStands = (b : Build) (image : Image) → Kernel b image → (arrivals : List Arrival) (n count : ℕ) (state : State)
-    → AreArrivals (owners_in b.config) arrivals → n ≤ 1000000 → count < n
+    → AreArrivals (owners_in b.config) arrivals → n ≤ count_limit → count < n
     → state_after count arrivals (start image) ≡ Some state → state.core.mie ≡ true
     → (s : System) × Leads b.config b.app (filter (stands_before count) (events_of image arrivals n)) (opening b.config b.app) s
     × StandsNested b (state_with_arrivals arrivals count state) s

@@ -1,5 +1,14 @@
-//! The laws together: every run of a kernel in place (`specs/Kernel`) is one of the abstract scheduler, and what the
-//! generators' contracts say of the code makes such a kernel (`specs/Generated`, `specs/Items`).
+//! The laws together: every run of a kernel in place (`specs/Kernel`) is one of the abstract scheduler, and what the generators' contracts say of the
+//! code makes such a kernel (`specs/Generated`, `specs/Items`).
+//!
+//! A kernel is of any configuration in range, with counters and alarms, and of well-formed task code of any items and services. Every run of an image
+//! in which one stands is sound (`kernel_is_sound`, `generated_is_kernel`, `steady_stays`, `bounds_stay`, `marks_are_found`, `items_stand`); each
+//! item of such code that is no service is one of the known ones (`items_are_known`). What each step keeps of the system: `specs/Bounded`,
+//! `specs/Steady`; the relation at each count at which interrupts are open, with the Active basic tasks' parts of the shared stack one below the
+//! other in the order of entry: `specs/Standing`, `specs/Nested`.
+//!
+//! At each such count the machine shows each task's state in the abstract scheduler (`specs/Shown`). The goal: `sim_induction` (`Sound`); states:
+//! `sloth_inspect` (`States`).
 #![tactic(auto)]
 
 pub mod states;

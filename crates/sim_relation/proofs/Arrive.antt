@@ -8,6 +8,8 @@ use Rattle.sloth_region.specs.Layout.{counter_value}
 use Rattle.rv32_instr.specs.Ram.{word_at}
 use Rattle.sloth_base.specs.Arrive.{state_arrive}
 use Rattle.sloth_base.specs.Owners.{first_counter_line, counter_line, owners_in, AreOwned}
+use Rattle.sloth_base.specs.Limits.{task_limit}
+use Rattle.sloth_base.specs.MemoryMap.{line_count}
 use Rattle.sloth_base.proofs.Owners.{IsCounterLine, owned_cases}
 use Rattle.osek_scheduler.specs.declared.state.Counter.{Counter}
 use Rattle.osek_scheduler.specs.declared.state.TaskState.{TaskState}
@@ -28,6 +30,7 @@ use Rattle.sim_relation.specs.Moves.{changed_system, WholeMachine}
 use Rattle.sim_relation.proofs.Parts.{other_task, by_element, by_task, falling_kept, running_tasks, rests, anew}
 use Rattle.sim_relation.proofs.Rebuilt.{among, rebuilt}
 use Rattle.sim_relation.proofs.Aside.{aside}
+use Rattle.sim_relation.proofs.Machines.{changed_machine}
 use Rattle.sim_relation.proofs.ClockKept.{line_stands, no_task, in_range}
 
 -- the arrival of a counter's line makes the counter due
@@ -70,21 +73,10 @@ not_suspended (mode.Waiting w) x y n = refl
 
 -- an arrival leaves of the machine all but a pending byte
 arrived_machine : (b : Build) (state : State) (s : System) → Stands b state s → (l : ℕ) → WholeMachine state (state_arrive (l ∷ []) state)
-arrived_machine b state s k l = record {
-  ram = refl;
-  registers = refl;
-  zero = refl;
-  pending = length-set state.core.pending l 1;
-  enabled = refl;
-  levels = refl;
-  controller = refl;
-  open_to_lines = k.fixed.open_to_lines;
-  previous = k.fixed.previous;
-  same_level = k.fixed.same_level;
-  bases = k.fixed.bases;
-}
+arrived_machine b state s k l =
+    changed_machine b state k.fixed state.pc state.core.ram (set state.core.pending l 1) state.core.enabled refl (length-set state.core.pending l 1) refl
 
-module _ (b : Build) (state : State) (s : System) (l : ℕ) (k : Stands b state s) (inside : l < length b.config.tasks) (few : length b.config.tasks ≤ 32) where
+module _ (b : Build) (state : State) (s : System) (l : ℕ) (k : Stands b state s) (inside : l < length b.config.tasks) (few : length b.config.tasks ≤ line_count) where
   abbrev now : State
   now = state_arrive (l ∷ []) state
 
@@ -181,19 +173,7 @@ pub stands_fresh : (b : Build) (state : State) (s : System) (fresh : List ℕ) �
 stands_fresh b state s fresh k =
     aside b state state s k s.clock fresh
     (record {
-      machine = record {
-        ram = refl;
-        registers = refl;
-        zero = refl;
-        pending = refl;
-        enabled = refl;
-        levels = refl;
-        controller = refl;
-        open_to_lines = k.fixed.open_to_lines;
-        previous = k.fixed.previous;
-        same_level = k.fixed.same_level;
-        bases = k.fixed.bases;
-      };
+      machine = changed_machine b state k.fixed state.pc state.core.ram state.core.pending state.core.enabled refl refl refl;
       code = λ i x. refl;
       running = k.running;
       pending = λ t h. refl;
@@ -249,7 +229,7 @@ module _ (b : Build) (state : State) (s : System) (c : ℕ) (k : Stands b state 
       })
 
 -- Arrivals at a count that finds MIE 1 are the admits of their tasks, and make their counters due.
-pub stands_arrived : (b : Build) (lines : List ℕ) (state : State) (s : System) → length b.config.tasks ≤ 30 → AreOwned (owners_in b.config) lines
+pub stands_arrived : (b : Build) (lines : List ℕ) (state : State) (s : System) → length b.config.tasks ≤ task_limit → AreOwned (owners_in b.config) lines
     → Stands b state s → Stands b (state_arrive lines state) (with_admits lines s)
 stands_arrived b [] state s few h k = k
 stands_arrived b (l ∷ lines) state s few h k =

@@ -5,6 +5,7 @@ use Rattle.rv32_instr.specs.Ram.{word_at}
 use Rattle.expansion_parts.specs.Expansion.{item_address, is_long}
 use Rattle.expansion_parts.proofs.Counts.{expanded_some}
 use Rattle.sloth_base.specs.Named.{operation, function}
+use Rattle.sloth_base.specs.MemoryMap.{memory_base}
 use Rattle.osek_scheduler.specs.State.{Frame, Task}
 use Rattle.sim_relation.specs.Build.{Build}
 use Rattle.sim_relation.specs.Position.{Thread, AreFrames, InExpansion, IsPosition}
@@ -34,7 +35,7 @@ position_first b ram t own th place frame outer e w l pc f = record {
 
 -- a task that goes on from its own context; its registers may have changed since
 pub rested_context : (b : Build) (ram : List ℕ) (t : ℕ) (own new : Task) (frame : Frame) (outer : List Frame) (place : ℕ) (th : Thread)
-    → IsRested b ram t own frame outer place → new.frames ≡ frame ∷ outer → new.owed ≡ false → th.pc ≡ word_at ram place → th.x2 ≡ 0x8000_0000 + (place + 128)
+    → IsRested b ram t own frame outer place → new.frames ≡ frame ∷ outer → new.owed ≡ false → th.pc ≡ word_at ram place → th.x2 ≡ memory_base + (place + 128)
     → ((i : ℕ) → i < 25 → slice_index new.registers i ≡ th.x (i + 5)) → IsContext b ram t new th (place + 128)
 rested_context b ram t own new frame outer place th r e w pc x2 x =
     let room = r.room in

@@ -1,6 +1,7 @@
 -- What a generated routine needs of the contexts: their places and what they hold.
 use Rattle.std.proofs.Common.{◌≡◌, ℕ, ◌+◌, ◌%◌, ◌<◌, ◌≤◌, List, [], ◌∷◌, ap, ◌∙◌, arith, ⊎_elim}
 use Rattle.sloth_base.specs.Machine.{State}
+use Rattle.sloth_base.specs.MemoryMap.{memory_bytes}
 use Rattle.sloth_region.specs.Layout.{idle_context, context_bytes}
 use Rattle.rv32_instr.specs.Ram.{word_at}
 use Rattle.expansion_parts.specs.Expansion.{item_address}
@@ -37,7 +38,7 @@ position_aligned b ram t own th place fits p =
 pub record StartsAt (ram : List ℕ) (place : ℕ) : Type 0 where
   pub aligned : place % 4 ≡ 0
   pub behind : idle_context ≤ place
-  pub inside : place + context_bytes ≤ 0x20_0000
+  pub inside : place + context_bytes ≤ memory_bytes
   pub returns : word_at ram place % 4 ≡ 0
   pub level : word_at ram (place + 4) < 256
 

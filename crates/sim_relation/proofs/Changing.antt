@@ -11,6 +11,7 @@ use Rattle.osek_scheduler.specs.declared.state.TaskState.{TaskState}
 use Rattle.osek_scheduler.specs.declared.state.TaskState.TheVariants as mode
 use Rattle.osek_scheduler.specs.State.{Frame, Task, System, task}
 use Rattle.sloth_base.specs.Named.{declaration}
+use Rattle.sloth_base.specs.Limits.{task_limit}
 use Rattle.code_rules.specs.Code.{is_in}
 use Rattle.osek_scheduler.specs.Priority.{is_active, current_priority}
 use Rattle.sim_relation.specs.Build.{Build, Fits}
@@ -146,7 +147,7 @@ module _ (b : Build) (old now : State) (s : System) (k : Stands b old s) (fits :
   here : t < length s.tasks
   here = among b old s t k declared
 
-  few : t < 30
+  few : t < task_limit
   few = let g = fits.few_tasks in omega arith
 
   own_like : IsLike (task s t) own

@@ -15,6 +15,7 @@ use Rattle.osek_scheduler.specs.Priority.{IsDue, IsTop, NoTicks, IsNextTick}
 use Rattle.sim_induction.specs.Mirror.{priority_of}
 use Rattle.sloth_base.specs.PriorityLevels.{level_of}
 use Rattle.sloth_base.specs.Owners.{counter_line, owners_in, IsOwned}
+use Rattle.sloth_base.specs.MemoryMap.{line_count}
 use Rattle.sloth_base.proofs.Owners.{IsCounterLine, owned_cases}
 use Rattle.sim_relation.specs.Build.{Build}
 use Rattle.sim_relation.specs.Context.{RunsFirst, RunsTask, RunsIdle}
@@ -136,7 +137,7 @@ above_all b s (v ∷ below) f t l u h =
     let q = first_most b s v below f u h in
     omega arith
 
-module _ (b : Build) (state : State) (s : System) (k : Stands b state s) (few : length b.config.tasks ≤ 32) where
+module _ (b : Build) (state : State) (s : System) (k : Stands b state s) (few : length b.config.tasks ≤ line_count) where
   ready_may : (u : ℕ) → u < length b.config.tasks → (task s u).state ≡ mode.Ready → state.core.ilevel < level_of b.config (declaration b.config u).priority
       → MayTake (lines_of state.core) state.core.ilevel u
   ready_may u h e l =

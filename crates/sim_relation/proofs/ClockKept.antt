@@ -10,6 +10,7 @@ use Rattle.sloth_region.specs.Layout.{below_word, counter_value, alarm_left, ala
 use Rattle.rv32_instr.specs.Ram.{word_at}
 use Rattle.osek_scheduler.specs.State.{Clock, System}
 use Rattle.sloth_base.specs.Named.{declaration}
+use Rattle.sloth_base.specs.MemoryMap.{line_count}
 use Rattle.sim_relation.specs.Build.{Build, Fits}
 use Rattle.sim_relation.specs.ClockStands.{CounterLineStands, ClockStands}
 use Rattle.sim_relation.specs.Framing.{Agree, NamedKept}
@@ -34,9 +35,9 @@ no_task b state s k c h t l e =
     omega (arith, own, other, same, few)
 
 -- it is one of the controller's
-pub in_range : (b : Build) (state : State) (s : System) → Stands b state s → (c : ℕ) → c < length b.config.counters → counter_line c < 32
+pub in_range : (b : Build) (state : State) (s : System) → Stands b state s → (c : ℕ) → c < length b.config.counters → counter_line c < line_count
 in_range b state s k c h =
-    ⊎_elim (λ (l : counter_line c < 32). l)
+    ⊎_elim (λ (l : counter_line c < line_count). l)
     (λ (l : 32 ≤ counter_line c).
     let long = k.fixed.enabled in
     let own = (k.lines.counters c h).enabled in

@@ -3,6 +3,7 @@ use Rattle.std.proofs.Common.{◌≡◌, ℕ, ◌+◌, ◌*◌, ◌<◌, ◌≤�
 use Rattle.std.specs.Prelude.{◌⊎◌, slice_index}
 use Rattle.std.proofs.lemmas.Bool.{cases_lt}
 use Rattle.sloth_base.specs.Machine.{State}
+use Rattle.sloth_base.specs.MemoryMap.{memory_base}
 use Rattle.rv32_instr.specs.declared.InstrKind.{InstrKind}
 use Rattle.osek_scheduler.specs.State.{System, task}
 use Rattle.sim_relation.specs.Build.{Build, Fits}
@@ -33,7 +34,7 @@ code_apart b t offset code fits declared room some p =
 
 -- and from the place of the context that is stored at an entry
 pub code_beside : (b : Build) (state : State) (s : System) (stack : List ℕ) (place offset : ℕ) (code : List InstrKind) → Fits b → AreFalling b s stack
-    → slice_index state.core.registers 2 ≡ 0x8000_0000 + (place + 128) → RunsFirst b state s stack → 0 < length code → IsPlaced b offset code
+    → slice_index state.core.registers 2 ≡ memory_base + (place + 128) → RunsFirst b state s stack → 0 < length code → IsPlaced b offset code
     → (place + 128 ≤ offset) ⊎ (offset + 4 * length code ≤ place)
 code_beside b state s [] place offset code fits f x k some p =
     let y = k.x2 in

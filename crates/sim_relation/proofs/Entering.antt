@@ -15,6 +15,8 @@ use Rattle.code_rules.specs.Code.{is_in}
 use Rattle.osek_scheduler.specs.Priority.{is_active, highest_priority, current_priority}
 use Rattle.osek_scheduler.specs.Steps.{settled_state}
 use Rattle.sloth_base.specs.PriorityLevels.{level_of}
+use Rattle.sloth_base.specs.Limits.{task_limit}
+use Rattle.sloth_base.specs.MemoryMap.{line_count}
 use Rattle.sim_relation.specs.Build.{Build, Fits, IsElsewhere}
 use Rattle.sim_relation.specs.Position.{thread_of, thread_at}
 use Rattle.sim_relation.specs.Context.{IsContext, IsContextChain, RunsFirst, RunsTask}
@@ -45,13 +47,13 @@ not_first b s t below f u h = ne_eqb t u (λ e. below_other b s t below f u h (s
 
 module _ (b : Build) (old now : State) (s : System) (k : Stands b old s) (fits : Fits b) (t : ℕ) (declared : t < length b.config.tasks) (e : choose old.core ≡ Some t)
     (own : Task) (place : ℕ) (entry : TaskEntry b old now s t own place) where
-  few : length b.config.tasks ≤ 32
+  few : length b.config.tasks ≤ line_count
   few = let f = fits.few_tasks in omega arith
 
   ready : (task s t).state ≡ mode.Ready
   ready = taken_ready b old s k few t declared e
 
-  few30 : t < 30
+  few30 : t < task_limit
   few30 = let g = fits.few_tasks in let l = declared in omega arith
 
   abbrev next : System

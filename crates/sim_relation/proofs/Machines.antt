@@ -25,6 +25,24 @@ kept_machine b old f pc registers ram long zero bases long_ram = record {
   bases = bases;
 }
 
+-- RAM and the lines have changed alone
+pub changed_machine : (b : Build) (old : State) → IsFixed b old.core → (pc : ℕ) (ram pending enabled : List ℕ) → length ram ≡ length old.core.ram
+    → length pending ≡ length old.core.pending → length enabled ≡ length old.core.enabled
+    → WholeMachine old (record { pc = pc; core = record old.core { ram = ram; pending = pending; enabled = enabled } })
+changed_machine b old f pc ram pending enabled long_ram long_pending long_enabled = record {
+  ram = long_ram;
+  registers = refl;
+  zero = refl;
+  pending = long_pending;
+  enabled = long_enabled;
+  levels = refl;
+  controller = refl;
+  open_to_lines = f.open_to_lines;
+  previous = f.previous;
+  same_level = f.same_level;
+  bases = f.bases;
+}
+
 -- a routine leaves the machine as in this core, but for RAM
 module _ (b : Build) (old now : State) (core : Core) (f : IsFixed b old.core) (left : LeftAs core now.core) (ram : length now.core.ram ≡ length old.core.ram)
     (levels : core.levels ≡ old.core.levels) (controller : core.controller ≡ old.core.controller) where

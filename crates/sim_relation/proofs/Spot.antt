@@ -3,6 +3,7 @@ use Rattle.std.proofs.Common.{◌≡◌, ℕ, ◌+◌, ◌%◌, ◌<◌, ◌≤�
 use Rattle.std.specs.Prelude.{◌⊎◌, slice_index}
 use Rattle.std.proofs.lemmas.Bool.{eqb-false, or_left}
 use Rattle.sloth_base.specs.Machine.{State}
+use Rattle.sloth_base.specs.MemoryMap.{memory_bytes, memory_base}
 use Rattle.sloth_region.specs.Layout.{idle_context}
 use Rattle.osek_scheduler.specs.State.{System, task}
 use Rattle.code_rules.specs.Code.{is_in}
@@ -26,7 +27,7 @@ is_first_in (t ∷ below) u h = or_left (eqb t u) (is_in u below) h
 pub record Spot (b : Build) (s : System) (stack : List ℕ) (place : ℕ) : Type 0 where
   pub behind : idle_context ≤ place
   pub aligned : place % 4 ≡ 0
-  pub inside : place + 128 ≤ 0x20_0000
+  pub inside : place + 128 ≤ memory_bytes
   -- outside code and data
   pub clear : (i : ℕ) → IsElsewhere b i → (i < place) ⊎ (place + 128 ≤ i)
   -- of the tasks that have something on their stacks only the running one has it in its part
@@ -34,7 +35,7 @@ pub record Spot (b : Build) (s : System) (stack : List ℕ) (place : ℕ) : Type
 
 -- the context has room where it is to be saved
 pub spot : (b : Build) (state : State) (s : System) (stack : List ℕ) (place : ℕ) → Fits b → StacksApart b s → AreFalling b s stack
-    → slice_index state.core.registers 2 ≡ 0x8000_0000 + (place + 128) → RunsFirst b state s stack → Spot b s stack place
+    → slice_index state.core.registers 2 ≡ memory_base + (place + 128) → RunsFirst b state s stack → Spot b s stack place
 spot b state s [] place fits apart f x k =
     let y = k.x2 in
     record {

@@ -9,6 +9,7 @@ use Rattle.rv32_instr.specs.Ram.{word_at}
 use Rattle.osek_scheduler.specs.declared.state.TaskState.TheVariants as mode
 use Rattle.osek_scheduler.specs.State.{Task, System, sleeping_task, no_counter, task}
 use Rattle.sloth_base.specs.Named.{declaration, undeclared_task}
+use Rattle.sloth_base.specs.Limits.{ceiling_count}
 use Rattle.osek_scheduler.specs.Steps.{autostarted_tasks}
 use Rattle.sim_relation.specs.Build.{Build, Fits}
 use Rattle.sim_relation.specs.ClockStands.{CounterLineStands}
@@ -55,7 +56,7 @@ rests : (autostart : Bool) → ((awake autostart).state ≡ mode.Active → ⊥)
 rests true = ((λ e. cc), refl)
 rests false = ((λ e. cc), refl)
 
-few : (r : ℕ) → false ≡ true → r < 33
+few : (r : ℕ) → false ≡ true → r < ceiling_count
 few r e = cc
 
 tidy_of : (autostart : Bool) → IsTidyTask (awake autostart)

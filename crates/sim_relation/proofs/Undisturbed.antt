@@ -2,6 +2,7 @@
 use Rattle.std.proofs.Common.{◌≡◌, ℕ, ◌<◌, ◌≤◌, List, [], ◌∷◌, length, refl, subst, None}
 use Rattle.sloth_base.specs.Machine.{State}
 use Rattle.sloth_base.specs.Choose.{choose}
+use Rattle.sloth_base.specs.MemoryMap.{line_count}
 use Rattle.osek_scheduler.specs.declared.state.TaskState.TheVariants as mode
 use Rattle.osek_scheduler.specs.State.{System, task}
 use Rattle.osek_scheduler.specs.Priority.{IsTop, IsDue}
@@ -14,7 +15,7 @@ use Rattle.sim_relation.proofs.MirrorOf.{first_is}
 use Rattle.sim_relation.proofs.Tops.{falling_head}
 use Rattle.std.proofs.lemmas.Bool.{false≢true}
 
-module _ (b : Build) (state : State) (s : System) (few : length b.config.tasks ≤ 32) (k : Stands b state s) (e : choose state.core ≡ None) where
+module _ (b : Build) (state : State) (s : System) (few : length b.config.tasks ≤ line_count) (k : Stands b state s) (e : choose state.core ≡ None) where
   tops : (stack : List ℕ) → k.stack ≡ stack → (t : ℕ) → Runs b.config s t → IsTop b.config s [] t
   tops [] is t r =
       let active : AreActive b s [] = subst (AreActive b s) is k.active in

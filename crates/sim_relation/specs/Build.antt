@@ -12,6 +12,8 @@ use Rattle.sloth_base.specs.Named.{operation, function, symbol_size}
 use Rattle.sloth_base.specs.Named.{declaration}
 use Rattle.osek_scheduler.specs.Priority.{highest_priority}
 use Rattle.sloth_base.specs.PriorityLevels.{level_of}
+use Rattle.sloth_base.specs.Limits.{task_limit, counter_limit, alarm_limit}
+use Rattle.sloth_base.specs.MemoryMap.{memory_bytes}
 
 -- the configuration, the task code, and where all of it stands in the image
 pub record Build : Type 0 where
@@ -57,15 +59,15 @@ HasRoom b t = (f : ℕ) (outer : List ℕ) → IsCalledBy b.app t f outer → b.
 -- The places are apart and large enough. Of two tasks' parts of the stacks nothing is said here: those of tasks that are
 -- never alive together may be the same.
 pub record Fits (b : Build) : Type 0 where
-  pub few_tasks : length b.config.tasks ≤ 30
-  pub few_counters : length b.config.counters ≤ 2
-  pub few_alarms : length b.config.alarms ≤ 32
+  pub few_tasks : length b.config.tasks ≤ task_limit
+  pub few_counters : length b.config.counters ≤ counter_limit
+  pub few_alarms : length b.config.alarms ≤ alarm_limit
   -- code and data are apart, and stand behind the service words and outside each task's part of the stacks
   pub elsewhere : (i : ℕ) → IsElsewhere b i → 1024 ≤ i
   pub outside : (t i : ℕ) → t < length b.config.tasks → IsElsewhere b i → (i < b.low t) ⊎ (b.top t ≤ i)
   pub apart : (i : ℕ) → b.is_code i ≡ true → b.is_data i ≡ false
   -- data stand in RAM, each symbol at a multiple of 4, and no byte of one symbol at that of another
-  pub data_inside : (i : ℕ) → b.is_data i ≡ true → i < 0x20_0000
+  pub data_inside : (i : ℕ) → b.is_data i ≡ true → i < memory_bytes
   pub symbols : (y : ℕ) → symbol_address b.places y % 4 ≡ 0
   pub symbols_apart : (y z i j : ℕ) → y ≢ z → i < symbol_size b.app y → j < symbol_size b.app z
       → symbol_address b.places y + i ≢ symbol_address b.places z + j
@@ -76,5 +78,5 @@ pub record Fits (b : Build) : Type 0 where
   pub back_address : b.back % 4 ≡ 0
   -- each task's part lies behind the service words in RAM, and has room for all its calls and a context
   pub from : (t : ℕ) → t < length b.config.tasks → 1024 ≤ b.low t
-  pub to : (t : ℕ) → t < length b.config.tasks → (b.top t ≤ 0x20_0000) × (b.top t % 4 ≡ 0)
+  pub to : (t : ℕ) → t < length b.config.tasks → (b.top t ≤ memory_bytes) × (b.top t % 4 ≡ 0)
   pub room : (t : ℕ) → t < length b.config.tasks → HasRoom b t

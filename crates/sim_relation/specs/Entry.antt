@@ -1,7 +1,7 @@
 -- What the entry of a task leaves, anew or behind a wait.
 use Rattle.std.specs.Prelude.{ℕ, ◌+◌, ◌*◌, ◌%◌, ◌<◌, ◌≤◌, ◌≡◌, ◌≢◌, ◌⊎◌, List, length, slice_index, slice_set, true}
 use Rattle.sloth_base.specs.Machine.{State}
-use Rattle.sloth_base.specs.MemoryMap.{memory_base}
+use Rattle.sloth_base.specs.MemoryMap.{memory_base, memory_bytes}
 use Rattle.sloth_region.specs.Layout.{cur, below_word, active, resume, idle_context, context_bytes}
 use Rattle.rv32_instr.specs.Ram.{word_at}
 use Rattle.osek_scheduler.specs.declared.state.TaskState.TheVariants as mode
@@ -16,7 +16,7 @@ use Rattle.sim_relation.specs.Stands.{IsAlive, AreApart}
 -- The RAM: the context of what was preempted, at `place`, the words of the entry, and the task's own stack as it likes; all
 -- else stays. `old` is the state before the line was taken.
 pub record EntryRam (b : Build) (old : State) (new : List ℕ) (t place : ℕ) : Type 0 where
-  pub long : length new ≡ 0x20_0000
+  pub long : length new ≡ memory_bytes
   pub outside : (i : ℕ) → idle_context ≤ i → (i < place) ⊎ (place + context_bytes ≤ i) → (i < b.low t) ⊎ (b.top t ≤ i)
       → slice_index new i ≡ slice_index old.core.ram i
   pub pc_word : word_at new place ≡ old.pc

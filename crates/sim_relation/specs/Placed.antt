@@ -1,6 +1,7 @@
 -- Code in the image, and runs of what is built.
 use Rattle.std.specs.Prelude.{ℕ, ◌+◌, ◌*◌, ◌%◌, ◌<◌, ◌≤◌, ◌≡◌, true, List, length}
 use Rattle.sloth_base.specs.declared.event.Arrival.{Arrival}
+use Rattle.sloth_base.specs.MemoryMap.{memory_bytes}
 use Rattle.rv32_instr.specs.declared.InstrKind.{InstrKind}
 use Rattle.masked_code.specs.Place.{InPlace}
 use Rattle.observe.specs.Observe.{View}
@@ -14,6 +15,6 @@ setting_of b view arrivals = record { config = b.config; app = b.app; view = vie
 -- code at an offset in the image
 pub record IsPlaced (b : Build) (offset : ℕ) (code : List InstrKind) : Type 0 where
   pub aligned : offset % 4 ≡ 0
-  pub inside : offset + 4 * length code ≤ 0x20_0000
+  pub inside : offset + 4 * length code ≤ memory_bytes
   pub is_code : (i : ℕ) → offset ≤ i → i < offset + 4 * length code → b.is_code i ≡ true
   pub placed : InPlace b.memory offset code

@@ -4,6 +4,8 @@ use Rattle.sloth_base.specs.Machine.{State}
 use Rattle.sloth_base.specs.Arrive.{state_arrive}
 use Rattle.sloth_base.specs.Choose.{choose}
 use Rattle.sloth_base.specs.Owners.{owners_in, counter_line, IsOwned, AreOwned}
+use Rattle.sloth_base.specs.Limits.{task_limit}
+use Rattle.sloth_base.specs.MemoryMap.{line_count}
 use Rattle.osek_scheduler.specs.declared.state.TaskState.{TaskState}
 use Rattle.osek_scheduler.specs.declared.state.TaskState.TheVariants as mode
 use Rattle.masked_code.specs.Kernel.{IsBelow}
@@ -25,7 +27,7 @@ MirrorOfStands = (b : Build) (state : State) (s : System) → Stands b state s �
 
 -- lines with owners that arrive where MIE is 1 are the activations of their tasks, and make their counters due
 abbrev pub ArrivalsAreAdmits : Type 0
-ArrivalsAreAdmits = (b : Build) (lines : List ℕ) (state : State) (s : System) → length b.config.tasks ≤ 30
+ArrivalsAreAdmits = (b : Build) (lines : List ℕ) (state : State) (s : System) → length b.config.tasks ≤ task_limit
     → AreOwned (owners_in b.config) lines → Stands b state s → Stands b (state_arrive lines state) (with_admits lines s)
 
 -- the line that is taken has an owner
@@ -34,7 +36,7 @@ TakenIsOwned = (b : Build) (state : State) (s : System) → Stands b state s →
 
 -- the line of a task that is taken is that of a Ready task, which is the top task
 abbrev pub TakenIsTop : Type 0
-TakenIsTop = (b : Build) (state : State) (s : System) → length b.config.tasks ≤ 32 → Stands b state s
+TakenIsTop = (b : Build) (state : State) (s : System) → length b.config.tasks ≤ line_count → Stands b state s
     → (t : ℕ) → t < length b.config.tasks → choose state.core ≡ Some t → IsTop b.config s [] t × ((task s t).state ≡ mode.Ready)
 
 -- the line of a counter that is taken is that of the due counter of least number
@@ -50,7 +52,7 @@ pub record IsUndisturbed (b : Build) (s : System) : Type 0 where
 
 -- where no line is taken nothing disturbs the running task
 abbrev pub NoneTaken : Type 0
-NoneTaken = (b : Build) (state : State) (s : System) → length b.config.tasks ≤ 32 → Stands b state s → choose state.core ≡ None → IsUndisturbed b s
+NoneTaken = (b : Build) (state : State) (s : System) → length b.config.tasks ≤ line_count → Stands b state s → choose state.core ≡ None → IsUndisturbed b s
 
 -- ---- what keeps the relation; t is the running task
 

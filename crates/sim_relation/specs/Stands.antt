@@ -11,6 +11,8 @@ use Rattle.sim_induction.specs.Mirror.{priority_of}
 use Rattle.sloth_base.specs.PriorityLevels.{level_of}
 use Rattle.sloth_base.specs.Owners.{line_kind, owners_in}
 use Rattle.sloth_base.specs.declared.lines.LineKind.TheVariants as line_of
+use Rattle.sloth_base.specs.Limits.{ceiling_count}
+use Rattle.sloth_base.specs.MemoryMap.{memory_bytes, line_count}
 use Rattle.sim_relation.specs.Build.{Build}
 use Rattle.sim_relation.specs.Context.{RunsFirst}
 use Rattle.sim_relation.specs.ServiceWords.{AreServiceWords}
@@ -77,7 +79,7 @@ pub record IsTidyTask (own : Task) : Type 0 where
   pub registers : length own.registers ≡ 25
   pub at_rest : is_active own.state ≡ false → (own.held ≡ []) × (own.owed ≡ false) × (own.raised ≡ false)
   pub asleep : own.state ≡ mode.Suspended → (own.frames ≡ []) × (own.events ≡ 0)
-  pub few : (r : ℕ) → is_in r own.held ≡ true → r < 33
+  pub few : (r : ℕ) → is_in r own.held ≡ true → r < ceiling_count
 
 -- what holds of the system in every state after its start
 pub record IsTidySystem (b : Build) (s : System) : Type 0 where
@@ -96,10 +98,10 @@ pub record IsFixed (b : Build) (core : Core) : Type 0 where
   pub controller : core.controller ≡ true
   pub registers : length core.registers ≡ 32
   pub zero : slice_index core.registers 0 ≡ 0
-  pub pending : length core.pending ≡ 32
-  pub enabled : length core.enabled ≡ 32
-  pub levels : length core.levels ≡ 32
-  pub ram : length core.ram ≡ 0x20_0000
+  pub pending : length core.pending ≡ line_count
+  pub enabled : length core.enabled ≡ line_count
+  pub levels : length core.levels ≡ line_count
+  pub ram : length core.ram ≡ memory_bytes
   pub code : (i : ℕ) → b.is_code i ≡ true → slice_index core.ram i ≡ slice_index b.memory i
 
 -- the machine stands as the system says

@@ -1,5 +1,10 @@
-//! The relation of the simulation, between states of the machine and of the abstract scheduler (`specs/Stands`), and who
-//! keeps it. It stands on the offsets of `sloth_region` (`specs/Layout`) and on no generator.
+//! The relation of the simulation, between states of the machine and of the abstract scheduler (`specs/Stands`, with the lines and words of counters
+//! and alarms in `specs/ClockStands`), and who keeps it. It stands on the offsets of `sloth_region` (`Layout`) and on no generator.
+//!
+//! Each kind of step and each arrival keeps it; and what the line that is taken says of the system (`steps_keep`, `entries_keep`, `leaves_keep`,
+//! `arrivals_are_admits`, `taken_is_next`, `mirror_of_stands`, ..; laws: `specs/RelationKept`). Where a task stands: `specs/Position`; the chain of
+//! contexts from the running task down to the idle loop: `specs/Context`; what is built, and where the image has everything: `specs/Build`; what each
+//! kind of step leaves: `specs/Moves`, `specs/Entry`, `specs/Changes`, `specs/Start`. What mirrors the controller: `sim_induction` (`Mirror`).
 #![tactic(auto)]
 
 ghost use Rattle.sim_relation.specs.RelationKept.{MirrorOfStands, ArrivalsAreAdmits, TakenIsOwned, TakenIsTop, TakenIsNext, NoneTaken, StepsKeep, MovesKeep, LeavesKeep, ChangesKeep, EntriesKeep, BelowIsFound, StartsStand};

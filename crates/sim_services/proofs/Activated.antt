@@ -1,15 +1,15 @@
 -- ActivateTask is a step, and the relation stands behind it.
 use Rattle.std.proofs.Common.{◌≡◌, ℕ, ◌<◌, ◌≤◌, List, [], ◌∷◌, length, refl, sym, ap, ◌∙◌, subst, arith, ⊎_elim, true}
-use Rattle.std.specs.Prelude.{slice_index, Contains}
+use Rattle.std.specs.Prelude.{slice_index, slice_set, Contains}
 use Rattle.std.specs.List.{AllByRecursion}
 use Rattle.std.proofs.lemmas.Bool.{ltb-true}
 use Rattle.sloth_base.specs.Arrive.{state_arrive}
 use Rattle.sloth_base.specs.Status.{E_OK, E_OS_LIMIT}
 use Rattle.sloth_base.specs.declared.service.Service.TheVariants as service
 use Rattle.sloth_base.specs.Machine.{State}
+use Rattle.sloth_base.specs.MemoryMap.{line_count}
 use Rattle.sloth_region.specs.Layout.{cur}
 use Rattle.rv32_instr.specs.Ram.{word_at}
-use Rattle.masked_code.specs.Kernel.{LeftAs}
 use Rattle.service_gen.specs.ActivateTask.{Activated}
 use Rattle.block_parts.specs.Looks.{LooksSuspended}
 use Rattle.block_parts.specs.Back.{a0}
@@ -24,7 +24,7 @@ use Rattle.sim_relation.specs.Stands.{Stands}
 use Rattle.sim_relation.proofs.Parts.{by_task}
 use Rattle.sim_services.specs.Served.{IsServed, Answers}
 use Rattle.sim_services.specs.ServiceSteps.{MayGoOn}
-use Rattle.sim_services.proofs.GoesOn.{active, answers_so, behind_status}
+use Rattle.sim_services.proofs.GoesOn.{active, answers_so, behind_as_before}
 use Rattle.sim_services.proofs.Raising.{looks, is_so, readied, stayed, first_outcome, second_outcome}
 
 module _ (b : Build) (state : State) (s : System) (t : ℕ) (own : Task) (object : ℕ) (touched : List ℕ) (end : State) (fits : Fits b)
@@ -38,31 +38,12 @@ module _ (b : Build) (state : State) (s : System) (t : ℕ) (own : Task) (object
   declared : object < length b.config.tasks
   declared = ltb-true object (length b.config.tasks) may.names
 
-  few : length b.config.tasks ≤ 32
+  few : length b.config.tasks ≤ line_count
   few = let f = fits.few_tasks in omega arith
 
   -- the end, before the line is raised
   abbrev middle : State
   middle = record { pc = end.pc; core = record end.core { pending = state.core.pending } }
-
-  left : LeftAs state.core middle.core
-  left =
-      let l = effect.back.left in
-      record {
-        zero = l.zero;
-        registers = l.registers;
-        opened = l.opened;
-        previous = l.previous;
-        running = l.running;
-        same_level = l.same_level;
-        bases = l.bases;
-        pending = refl;
-        enabled = l.enabled;
-        levels = l.levels;
-        ram = l.ram;
-        scratch = l.scratch;
-        controller = l.controller;
-      }
 
   end_is : end ≡ state_arrive (object ∷ []) middle
   end_is = ap (λ p. record { pc = end.pc; core = record end.core { pending = p } }) effect.back.left.pending
@@ -74,9 +55,9 @@ module _ (b : Build) (state : State) (s : System) (t : ℕ) (own : Task) (object
 
     before : Stands b middle after
     before =
-        let back = effect.back in
-        behind_status b state s t own service.ActivateTask is fits may.followed middle
-        (record { left = left; pc = back.pc; x2 = back.x2; kept = back.kept }) status status_is
+        let l = effect.back.left in
+        behind_as_before b state s t own service.ActivateTask is fits may.followed end state.core.ram (slice_set state.core.pending object 1) state.core.enabled
+        end.core.ram state.core.pending end.core.enabled effect.back l.ram refl l.enabled status status_is
 
     among : t < length s.tasks
     among = let v = k.tidy.tasks in let h = (active b state s t own service.ActivateTask is fits).declared in omega arith

@@ -7,6 +7,7 @@ use Rattle.sloth_base.specs.Arrive.{state_arrive}
 use Rattle.sloth_base.specs.Status.{E_OS_LIMIT}
 use Rattle.sloth_base.specs.declared.service.Service.TheVariants as service
 use Rattle.sloth_base.specs.Machine.{State}
+use Rattle.sloth_base.specs.MemoryMap.{line_count}
 use Rattle.sloth_region.specs.Layout.{cur}
 use Rattle.rv32_instr.specs.Ram.{word_at}
 use Rattle.block_parts.specs.Looks.{LooksSuspended}
@@ -37,7 +38,7 @@ module _ (b : Build) (state : State) (s : System) (t : ℕ) (own : Task) (object
   declared : object < length b.config.tasks
   declared = ltb-true object (length b.config.tasks) may.goes_on.names
 
-  few : length b.config.tasks ≤ 32
+  few : length b.config.tasks ≤ line_count
   few = let f = fits.few_tasks in omega arith
 
   names : is_there b.config own.held service.ChainTask is.opening.block.call.object ≡ true

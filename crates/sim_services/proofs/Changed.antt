@@ -3,9 +3,9 @@ use Rattle.std.proofs.Common.{◌≡◌, ℕ, ◌^◌, ◌<◌, List, length, re
 use Rattle.std.specs.Prelude.{◌≢◌, slice_index}
 use Rattle.sloth_base.specs.Machine.{State}
 use Rattle.sloth_base.specs.declared.service.Service.{Service}
+use Rattle.sloth_base.specs.Limits.{task_limit}
 use Rattle.sloth_region.specs.Layout.{cur, events, wait}
 use Rattle.rv32_instr.specs.Ram.{word_at, with_word}
-use Rattle.masked_code.specs.Kernel.{LeftAs}
 use Rattle.masked_code.proofs.Words.{word_at-same, get_or-with_word, length-with_word}
 use Rattle.block_parts.specs.Back.{WentBack, a0}
 use Rattle.osek_scheduler.specs.declared.state.TaskState.{TaskState}
@@ -20,10 +20,11 @@ use Rattle.sim_relation.specs.Changes.{system_with_task_state, TaskChange}
 use Rattle.sim_relation.specs.ServiceWords.{IsWaitWord}
 use Rattle.sim_relation.specs.Stands.{Stands, AreLineBytes}
 use Rattle.sim_relation.proofs.Changing.{change_stands}
+use Rattle.sim_relation.proofs.Machines.{changed_machine}
 use Rattle.sim_relation.proofs.Parts.{by_task, word_other}
 use Rattle.sim_services.specs.Opening.{IsFollowed}
 use Rattle.sim_services.specs.Served.{IsServed}
-use Rattle.sim_services.proofs.GoesOn.{active, behind_status}
+use Rattle.sim_services.proofs.GoesOn.{active, behind_as_before}
 
 -- the task `u` has this state and the events `now`, by the word of them and its line
 pub record Changes (b : Build) (state : State) (s : System) (u : ℕ) (m : TaskState) (now word : ℕ) (pending enabled : List ℕ) : Type 0 where
@@ -48,31 +49,13 @@ module _ (b : Build) (state : State) (s : System) (t : ℕ) (called : Task) (ser
   abbrev middle : State
   middle = record { pc = end.pc; core = record end.core { ram = state.core.ram; pending = state.core.pending; enabled = state.core.enabled } }
 
-  left : LeftAs state.core middle.core
-  left =
-      let l = back.left in
-      record {
-        zero = l.zero;
-        registers = l.registers;
-        opened = l.opened;
-        previous = l.previous;
-        running = l.running;
-        same_level = l.same_level;
-        bases = l.bases;
-        pending = refl;
-        enabled = refl;
-        levels = l.levels;
-        ram = refl;
-        scratch = l.scratch;
-        controller = l.controller;
-      }
-
   abbrev answer : System
   answer = settled_state (answered_state status t s)
 
   before : Stands b middle answer
   before =
-      behind_status b state s t called served is fits followed middle (record { left = left; pc = back.pc; x2 = back.x2; kept = back.kept }) status status_is
+      behind_as_before b state s t called served is fits followed end (with_word state.core.ram (events u) word) pending enabled state.core.ram state.core.pending state.core.enabled
+      back refl refl refl status status_is
 
   pub among : t < length s.tasks
   among = let v = is.stands.tidy.tasks in let h = (active b state s t called served is fits).declared in omega arith
@@ -85,7 +68,7 @@ module _ (b : Build) (state : State) (s : System) (t : ℕ) (called : Task) (ser
   current = ap (λ r. word_at r cur) back.left.ram ∙ word_other state.core.ram (events u) word cur (omega arith) (omega arith) (λ e. omega arith)
 
   module _ (m : TaskState) (now : ℕ) (c : Changes b state s u m now word pending enabled) where
-    few : u < 30
+    few : u < task_limit
     few = let g = fits.few_tasks in let h = c.declared in omega arith
 
     change : TaskChange b middle end answer u m now
@@ -95,19 +78,9 @@ module _ (b : Build) (state : State) (s : System) (t : ℕ) (called : Task) (ser
         record {
           same_active = c.same_active ∙ sym (ap is_active (same_state u));
           awake = c.awake;
-          machine = record {
-            ram = ap length back.left.ram ∙ length-with_word state.core.ram (events u) word;
-            registers = refl;
-            zero = refl;
-            pending = ap length back.left.pending ∙ c.long_pending;
-            enabled = ap length back.left.enabled ∙ c.long_enabled;
-            levels = refl;
-            controller = refl;
-            open_to_lines = back.left.opened;
-            previous = back.left.previous;
-            same_level = back.left.same_level;
-            bases = back.left.bases;
-          };
+          machine = changed_machine b middle before.fixed end.pc end.core.ram end.core.pending end.core.enabled
+              (ap length back.left.ram ∙ length-with_word state.core.ram (events u) word)
+              (ap length back.left.pending ∙ c.long_pending) (ap length back.left.enabled ∙ c.long_enabled);
           pc = refl;
           registers = refl;
           level = refl;

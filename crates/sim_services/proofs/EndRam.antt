@@ -1,13 +1,15 @@
 -- What is left of RAM where a task has ended: four words are written, all below the contexts.
 use Rattle.std.proofs.Common.{◌≡◌, ℕ, ◌%◌, ◌<◌, ◌≤◌, List, length, ◌∙◌, arith, inr}
 use Rattle.std.specs.Prelude.{◌≢◌, slice_index}
+use Rattle.sloth_base.specs.Limits.{task_limit}
+use Rattle.sloth_base.specs.MemoryMap.{memory_bytes}
 use Rattle.sloth_region.specs.Layout.{cur, below_word, active, events, idle_context}
 use Rattle.rv32_instr.specs.Ram.{word_at, with_word}
 use Rattle.masked_code.proofs.Words.{word_at-same, get_or-with_word, length-with_word}
 use Rattle.sim_relation.proofs.Parts.{word_other}
 
 pub record EndRam (old new : List ℕ) (t current link : ℕ) : Type 0 where
-  pub long : length new ≡ 0x20_0000
+  pub long : length new ≡ memory_bytes
   pub high : (i : ℕ) → idle_context ≤ i → slice_index new i ≡ slice_index old i
   pub named : (place : ℕ) → place % 4 ≡ 0 → place ≢ cur → place ≢ below_word → place ≢ active t → place ≢ events t → word_at new place ≡ word_at old place
   pub activity : word_at new (active t) ≡ 0
@@ -15,7 +17,7 @@ pub record EndRam (old new : List ℕ) (t current link : ℕ) : Type 0 where
   pub current_word : word_at new cur ≡ current
   pub link_word : word_at new below_word ≡ link
 
-module _ (old : List ℕ) (t current link : ℕ) (long : length old ≡ 0x20_0000) (few : t < 30) (current_in : current < 4294967296) (link_in : link < 4294967296) where
+module _ (old : List ℕ) (t current link : ℕ) (long : length old ≡ memory_bytes) (few : t < task_limit) (current_in : current < 4294967296) (link_in : link < 4294967296) where
   abbrev first : List ℕ
   first = with_word old (active t) 0
 
@@ -28,16 +30,16 @@ module _ (old : List ℕ) (t current link : ℕ) (long : length old ≡ 0x20_000
   abbrev new : List ℕ
   new = with_word third below_word link
 
-  long1 : length first ≡ 0x20_0000
+  long1 : length first ≡ memory_bytes
   long1 = length-with_word old (active t) 0 ∙ long
 
-  long2 : length second ≡ 0x20_0000
+  long2 : length second ≡ memory_bytes
   long2 = length-with_word first (events t) 0 ∙ long1
 
-  long3 : length third ≡ 0x20_0000
+  long3 : length third ≡ memory_bytes
   long3 = length-with_word second cur current ∙ long2
 
-  long4 : length new ≡ 0x20_0000
+  long4 : length new ≡ memory_bytes
   long4 = length-with_word third below_word link ∙ long3
 
   high : (i : ℕ) → idle_context ≤ i → slice_index new i ≡ slice_index old i

@@ -4,6 +4,7 @@ use Rattle.std.specs.Prelude.{slice_index}
 use Rattle.std.proofs.lemmas.List.{get_or-set_same, get_or-set_other, length-set}
 use Rattle.sloth_base.specs.declared.service.Service.{Service}
 use Rattle.sloth_base.specs.Machine.{State}
+use Rattle.sloth_base.specs.Limits.{task_limit}
 use Rattle.sloth_region.specs.Layout.{cur, resume}
 use Rattle.rv32_instr.specs.Ram.{word_at}
 use Rattle.masked_code.proofs.Words.{word_below}
@@ -56,7 +57,7 @@ module _ (b : Build) (state : State) (s : System) (t : ℕ) (called : Task) (ser
     here : IsActive b s t
     here = falling_head b s t below stack.falling
 
-    few30 : t < 30
+    few30 : t < task_limit
     few30 = let g = fits.few_tasks in let h = here.declared in omega arith
 
     mem : EndRam old new t (word_at old (place + 8)) (word_at old (place + 12))

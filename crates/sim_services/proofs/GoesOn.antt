@@ -142,6 +142,32 @@ module _ (b : Build) (state : State) (s : System) (t : ℕ) (called : Task) (ser
       (long_status own.registers state.core.registers end.core.registers long_registers held_registers status status_is)
       (status_held own.registers state.core.registers end.core.registers long_registers held_registers status status_is back.kept)
 
+  -- so it does with RAM and the lines as they were, whatever the service leaves of them
+  pub behind_as_before : IsFollowed b frame.func frame.item → (end : State) (ram pending enabled old_ram old_pending old_enabled : List ℕ)
+      → WentBack a0 (record state.core { ram = ram; pending = pending; enabled = enabled }) state end
+      → old_ram ≡ state.core.ram → old_pending ≡ state.core.pending → old_enabled ≡ state.core.enabled → (status : ℕ) → slice_index end.core.registers a0 ≡ status
+      → Stands b (record { pc = end.pc; core = record end.core { ram = old_ram; pending = old_pending; enabled = old_enabled } }) (settled_state (answered_state status t s))
+  behind_as_before followed end ram pending enabled old_ram old_pending old_enabled back same_ram same_pending same_enabled status status_is =
+      let l = back.left in
+      let left : LeftAs state.core (record end.core { ram = old_ram; pending = old_pending; enabled = old_enabled }) =
+      record {
+        zero = l.zero;
+        registers = l.registers;
+        opened = l.opened;
+        previous = l.previous;
+        running = l.running;
+        same_level = l.same_level;
+        bases = l.bases;
+        pending = same_pending;
+        enabled = same_enabled;
+        levels = l.levels;
+        ram = same_ram;
+        scratch = l.scratch;
+        controller = l.controller;
+      } in
+      behind_status followed (record { pc = end.pc; core = record end.core { ram = old_ram; pending = old_pending; enabled = old_enabled } })
+      (record { left = left; pc = back.pc; x2 = back.x2; kept = back.kept }) status status_is
+
   module _ (touched : List ℕ) (end : State) (one other : ℕ) (touches : AllByRecursion (Contains (one ∷ other ∷ [])) touched)
       (names : is_there b.config called.held served opening.block.call.object ≡ true) where
     -- the call has this outcome

@@ -17,6 +17,7 @@ use Rattle.osek_scheduler.specs.declared.state.TaskState.{TaskState}
 use Rattle.osek_scheduler.specs.declared.state.TaskState.TheVariants as mode
 use Rattle.osek_scheduler.specs.State.{Task, System, task, with_task}
 use Rattle.sloth_base.specs.Named.{declaration}
+use Rattle.sloth_base.specs.Limits.{task_limit, ceiling_count}
 use Rattle.code_rules.specs.Code.{is_in}
 use Rattle.osek_scheduler.specs.Priority.{is_active, ceiling}
 use Rattle.osek_scheduler.specs.Services.{answered_task, is_there, GoesOn}
@@ -127,10 +128,10 @@ module _ (b : Build) (state : State) (s : System) (t : ℕ) (called : Task) (obj
       words_push b new base own.held object
       (held_kept b old new base own.held (λ q i. named (saved_level q) (omega arith) (differs q i)) (k.words t here.declared).held) saved_is
 
-  few : (q : ℕ) → is_in q held_now ≡ true → q < 33
+  few : (q : ℕ) → is_in q held_now ≡ true → q < ceiling_count
   few q i = by (or_cases _ _ (sym (is_in-append q own.held (object ∷ [])) ∙ i))
     where
-      by : (is_in q own.held ≡ true) ⊎ (is_in q (object ∷ []) ≡ true) → q < 33
+      by : (is_in q own.held ≡ true) ⊎ (is_in q (object ∷ []) ≡ true) → q < ceiling_count
       by (inl e) = (k.tidy.each t here.declared).few q e
       by (inr e) = ⊎_elim (λ x. let same = eqb-true object q x in let l = may.is_resource in omega arith) (λ x. absurd cc) (or_cases _ _ e)
 
@@ -182,7 +183,7 @@ module _ (b : Build) (state : State) (s : System) (k : Stands b state s) (t : �
   popped = words_pop b state.core.ram (base_priority b t (task s t)) (task s t).held r last (k.words t declared).held
 
   -- the saved level has room in a byte
-  pub saved_few : length b.config.tasks ≤ 30 → word_at state.core.ram (saved_level r) < 256
+  pub saved_few : length b.config.tasks ≤ task_limit → word_at state.core.ram (saved_level r) < 256
   saved_few f =
       let e = popped.level in
       let m = level_of-few b.config (with_held b (base_priority b t (task s t)) (without_last (task s t).held)) in

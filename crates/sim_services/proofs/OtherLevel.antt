@@ -10,6 +10,7 @@ use Rattle.masked_code.specs.Kernel.{LeftAs}
 use Rattle.osek_scheduler.specs.declared.state.TaskState.TheVariants as mode
 use Rattle.osek_scheduler.specs.State.{Task, System, task}
 use Rattle.sloth_base.specs.Named.{declaration}
+use Rattle.sloth_base.specs.Limits.{ceiling_count}
 use Rattle.osek_scheduler.specs.Meaning.{going_on_frame}
 use Rattle.code_rules.specs.Code.{is_in}
 use Rattle.osek_scheduler.specs.Priority.{is_active, current_priority}
@@ -42,7 +43,7 @@ pub record AtOtherLevel (b : Build) (state : State) (s : System) (t resource : �
   pub long : length own.registers ≡ 25
   pub same : (i : ℕ) → i < 25 → slice_index own.registers i ≡ slice_index end.core.registers (i + 5)
   pub words : AreHeldWords b ram (base_priority b t own) own.held
-  pub few : (r : ℕ) → is_in r own.held ≡ true → r < 33
+  pub few : (r : ℕ) → is_in r own.held ≡ true → r < ceiling_count
   pub ram_long : length ram ≡ length state.core.ram
   pub high : (i : ℕ) → idle_context ≤ i → slice_index ram i ≡ slice_index state.core.ram i
   pub named : (p : ℕ) → p % 4 ≡ 0 → p ≢ saved_level resource → word_at ram p ≡ word_at state.core.ram p

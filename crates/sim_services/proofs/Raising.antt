@@ -3,6 +3,7 @@ use Rattle.std.proofs.Common.{◌≡◌, ℕ, ◌<◌, ◌≤◌, [], ◌∷◌,
 use Rattle.std.specs.Prelude.{slice_index}
 use Rattle.sloth_base.specs.Arrive.{state_arrive}
 use Rattle.sloth_base.specs.Machine.{State}
+use Rattle.sloth_base.specs.MemoryMap.{line_count}
 use Rattle.sloth_region.specs.Layout.{active}
 use Rattle.rv32_instr.specs.Ram.{word_at}
 use Rattle.block_parts.specs.Looks.{LooksSuspended}
@@ -74,7 +75,7 @@ module _ (b : Build) (state : State) (s : System) (k : Stands b state s) (u : �
   pub enabled_bit : slice_index state.core.enabled u < 2
   enabled_bit = enabled_small (task s u).state (slice_index state.core.pending u) (slice_index state.core.enabled u) line_is
 
-  module _ (few : length b.config.tasks ≤ 32) where
+  module _ (few : length b.config.tasks ≤ line_count) where
     one : Stands b (state_arrive (u ∷ []) state) (admitted_state u s)
     one = arrived_one b state s u k declared few
 

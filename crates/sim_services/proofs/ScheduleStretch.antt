@@ -42,6 +42,7 @@ use Rattle.sim_relation.proofs.Levels.{level_of-few}
 use Rattle.sim_relation.proofs.Placed.{active_by_word, code_behind, first_by_word, placed_in}
 use Rattle.osek_scheduler.specs.Priority.{highest_priority}
 use Rattle.sloth_base.specs.Named.{declaration}
+use Rattle.sloth_base.specs.MemoryMap.{line_count}
 use Rattle.sim_services.specs.ServiceSteps.{Returns}
 use Rattle.sim_services.specs.Stretch.{OpensSchedule, OpensWayBack, Stretches}
 use Rattle.sim_services.proofs.ComingBack.{comes_back, owing_of}
@@ -86,7 +87,7 @@ module _ (b : Build) (view : View) (arrivals : List Arrival) (count : ℕ) (stat
   abbrev offset : ℕ
   offset = opens.way.offset
 
-  few : length b.config.tasks ≤ 32
+  few : length b.config.tasks ≤ line_count
   few = let f = fits.few_tasks in omega arith
 
   all_owned : (i : ℕ) → AreOwned (owners_in b.config) (lines_at arrivals i)

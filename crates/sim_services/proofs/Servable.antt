@@ -1,6 +1,7 @@
 -- What the contracts of service blocks ask of the machine.
 use Rattle.std.specs.Prelude.{ℕ, ◌+◌, ◌<◌, ◌≡◌, List}
 use Rattle.sloth_base.specs.Machine.{Core}
+use Rattle.sloth_base.specs.Limits.{task_limit}
 use Rattle.sloth_region.specs.Layout.{cur}
 use Rattle.rv32_instr.specs.declared.InstrKind.{InstrKind}
 use Rattle.rv32_instr.specs.Ram.{word_at}
@@ -13,5 +14,5 @@ pub record CanServe (offset : ℕ) (code : List InstrKind) (t place : ℕ) (core
   pub goes_back : CanGoBack offset code core
   pub level : core.ilevel < 256
   pub current : word_at core.ram cur ≡ t + 1
-  pub is_task : t < 30
+  pub is_task : t < task_limit
   pub below : IsBelow place core

@@ -10,6 +10,7 @@ use Rattle.sloth_base.specs.Take.{line_to_take, entry_state, execution_state}
 use Rattle.sloth_base.specs.Owners.{owners_in, IsOwned, AreOwned, AreTasks}
 use Rattle.sloth_base.specs.Stretches.{Masks, stretch_limit}
 use Rattle.sloth_base.specs.declared.lines.Owners.{Owners}
+use Rattle.sloth_base.specs.MemoryMap.{memory_base, line_count}
 use Rattle.rv32_instr.specs.declared.InstrKind.{InstrKind}
 use Rattle.rv32_instr.specs.Execute.{touched, touched_line_by}
 use Rattle.rv32_machine.specs.Run.{state_with_arrivals}
@@ -66,7 +67,7 @@ module _ (b : Build) (view : View) (arrivals : List Arrival) (count : ℕ) (stat
   abbrev offset : ℕ
   offset = opens.block.offset
 
-  few : length b.config.tasks ≤ 32
+  few : length b.config.tasks ≤ line_count
   few = let f = fits.few_tasks in omega arith
 
   all_owned : (i : ℕ) → AreOwned (owners_in b.config) (lines_at arrivals i)
@@ -79,7 +80,7 @@ module _ (b : Build) (view : View) (arrivals : List Arrival) (count : ℕ) (stat
   none : line_to_take n ≡ None
   none = ap (λ m. cond m (choose n.core) None) stands.fixed.open_to_lines ∙ opens.none
 
-  pc_is : n.pc ≡ 0x8000_0000 + offset
+  pc_is : n.pc ≡ memory_base + offset
   pc_is = op.block.pc
       ∙ ap (λ v. block_address b.places v op.block.call.object) op.calls
       ∙ opens.block.is

@@ -5,6 +5,7 @@ use Rattle.sloth_base.specs.declared.event.Arrival.{Arrival}
 use Rattle.sloth_base.specs.declared.service.Service.TheVariants as service
 use Rattle.sloth_base.specs.Arrive.{state_arrive}
 use Rattle.sloth_base.specs.Machine.{State}
+use Rattle.sloth_base.specs.MemoryMap.{memory_base}
 use Rattle.sim_services.proofs.Touching.{touches_none}
 use Rattle.sloth_region.specs.Layout.{context_bytes}
 use Rattle.rv32_instr.specs.declared.InstrKind.{InstrKind}
@@ -44,7 +45,7 @@ chain_apart b ram s t (u ∷ below) place own fits apart f l h c =
 
 -- the offset of the context that is kept directly below x2
 abbrev kept_at : State → ℕ
-kept_at state = slice_index state.core.registers 2 - (0x8000_0000 + context_bytes)
+kept_at state = slice_index state.core.registers 2 - (memory_base + context_bytes)
 
 -- the machine is as the contract asks, with the task's own context directly below x2
 module _ (b : Build) (state : State) (s : System) (t offset place : ℕ) (code : List InstrKind) (fits : Fits b) (stands : Stands b state s) (some : 0 < length code)

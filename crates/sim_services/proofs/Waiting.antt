@@ -7,6 +7,8 @@ use Rattle.std.proofs.lemmas.List.{get_or-set_same, get_or-set_other, length-set
 use Rattle.sloth_base.specs.Machine.{State}
 use Rattle.sloth_base.specs.Status.{E_OK}
 use Rattle.sloth_base.specs.declared.service.Service.TheVariants as service
+use Rattle.sloth_base.specs.Limits.{task_limit}
+use Rattle.sloth_base.specs.MemoryMap.{memory_bytes}
 use Rattle.sloth_region.specs.Layout.{cur, events, context_bytes}
 use Rattle.rv32_instr.specs.Ram.{word_at}
 use Rattle.expansion_parts.specs.Expansion.{mask_of}
@@ -109,13 +111,13 @@ module _ (b : Build) (state : State) (s : System) (t : ℕ) (own : Task) (object
       run : RunsTask b state s t below
       run = subst (RunsFirst b state s) stack_is k.running
 
-      few : t < 30
+      few : t < task_limit
       few = let g = fits.few_tasks in let d = here.declared in omega arith
 
       place_is : run.place ≡ kept + context_bytes
       place_is = let a = run.context.x2 in let c = may.x2 in omega arith
 
-      spot : (b.low t ≤ kept) × (kept + context_bytes ≤ b.top t) × (b.top t ≤ 0x20_0000) × (1024 ≤ kept) × (kept % 4 ≡ 0)
+      spot : (b.low t ≤ kept) × (kept + context_bytes ≤ b.top t) × (b.top t ≤ memory_bytes) × (1024 ≤ kept) × (kept % 4 ≡ 0)
       spot =
           let p = place_is in
           let r = run.context.room in

@@ -21,6 +21,7 @@ use Rattle.osek_scheduler.specs.Priority.{ceiling, IsTop}
 use Rattle.osek_scheduler.specs.Steps.{OsekStep}
 use Rattle.sloth_base.specs.PriorityLevels.{level_of}
 use Rattle.sloth_base.specs.MemoryMap.{memory_base}
+use Rattle.sloth_base.specs.Limits.{ceiling_count}
 use Rattle.osek_scheduler.specs.Services.{is_there}
 use Rattle.sim_relation.specs.Build.{Build, Fits}
 use Rattle.sim_relation.specs.Stands.{Stands}
@@ -80,7 +81,7 @@ IsCeilingLevel b resource level = (priority : ℕ) → max (level_of b.config pr
 -- the running task may take a resource, whose ceiling has this level: it does not hold it yet, and is not above its ceiling
 pub record MayHaveResource (b : Build) (t : ℕ) (own : Task) (resource level : ℕ) : Type 0 where
   pub is_level : IsCeilingLevel b resource level
-  pub is_resource : resource < 33
+  pub is_resource : resource < ceiling_count
   pub new : is_in resource own.held ≡ false
   pub below : (declaration b.config t).priority ≤ ceiling b.config resource
 

@@ -1,5 +1,12 @@
-//! Services of the kernel as events of the abstract scheduler. What all share stands once (`specs/Opening`, `specs/Served`,
-//! `proofs/ServiceStretch`); a service adds its own law, by the effect of its block in `service_gen`.
+//! Services of the kernel as events of the abstract scheduler: those on tasks, resources and events, and the way back from Schedule. What all share
+//! stands once (`specs/Opening`, `specs/Served`, `proofs/ServiceStretch`); a service adds its own law, by the effect of its block in `service_gen` or
+//! `event_gen`.
+//!
+//! Each service is a step of the abstract scheduler, said without arrivals, and then with any (`terminate_task_ends`, `activate_task_goes_on`,
+//! `chain_task_answers`, `schedule_gives_way`, `schedule_returns`, `set_event_goes_on`, `wait_event_answers`, ..; `specs/ServiceSteps`,
+//! `specs/EventServiceSteps`). From a block's contract and a service's own law to its stretch: `specs/Stretch`, `specs/EventStretch`. A service
+//! touches lines of tasks alone (`specs/Served`), so the early arrivals of its stretch are those of tasks. A change of a task's events:
+//! `sim_relation` (`Changes`).
 #![tactic(auto)]
 
 pub mod event_services;

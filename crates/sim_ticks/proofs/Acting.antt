@@ -7,6 +7,8 @@ use Rattle.std.proofs.lemmas.Nat.{or_of_32}
 use Rattle.sloth_base.specs.declared.config.Action.{Action}
 use Rattle.sloth_base.specs.declared.config.Action.TheVariants.{Activate, Set}
 use Rattle.sloth_base.specs.Machine.{State}
+use Rattle.sloth_base.specs.Limits.{task_limit}
+use Rattle.sloth_base.specs.MemoryMap.{line_count}
 use Rattle.sloth_region.specs.Layout.{active, events, wait}
 use Rattle.rv32_instr.specs.Ram.{word_at, with_word}
 use Rattle.masked_code.proofs.Words.{word_at-same, get_or-with_word, length-with_word, word_below}
@@ -26,6 +28,7 @@ use Rattle.sim_relation.specs.ServiceWords.{IsWaitWord}
 use Rattle.sim_relation.specs.Stands.{Stands, AreLineBytes}
 use Rattle.sim_relation.proofs.Arrive.{is_suspended, not_suspended}
 use Rattle.sim_relation.proofs.Changing.{change_stands}
+use Rattle.sim_relation.proofs.Machines.{changed_machine}
 use Rattle.sim_relation.proofs.Parts.{word_other}
 use Rattle.sim_services.proofs.Raising.{looks, is_so, readied, stayed}
 use Rattle.sim_services.proofs.TaskAfter.{state_after, after_active, after_awake, after_none, some_line, some_word, woken_is}
@@ -51,7 +54,7 @@ module _ (b : Build) (end : State) (fits : Fits b) where
   abbrev pub at : Ground → State
   at g = record { pc = end.pc; core = core_with_ground end.core g }
 
-  few_32 : length b.config.tasks ≤ 32
+  few_32 : length b.config.tasks ≤ line_count
   few_32 = let f = fits.few_tasks in omega arith
 
   -- the system stands there
@@ -78,7 +81,7 @@ module _ (b : Build) (end : State) (fits : Fits b) where
     abbrev k : Stands b (at g) (settled_state s)
     k = h.stands
 
-    few : t < 30
+    few : t < task_limit
     few = let f = fits.few_tasks in omega arith
 
     abbrev now : ℕ
@@ -118,19 +121,7 @@ module _ (b : Build) (end : State) (fits : Fits b) where
           record {
             same_active = same_active;
             awake = awake;
-            machine = record {
-              ram = length-with_word g.ram (events t) word;
-              registers = refl;
-              zero = refl;
-              pending = long_p;
-              enabled = long_e;
-              levels = refl;
-              controller = refl;
-              open_to_lines = k.fixed.open_to_lines;
-              previous = k.fixed.previous;
-              same_level = k.fixed.same_level;
-              bases = k.fixed.bases;
-            };
+            machine = changed_machine b (at g) k.fixed end.pc after.ram pending enabled (length-with_word g.ram (events t) word) long_p long_e;
             pc = refl;
             registers = refl;
             level = refl;

@@ -3,9 +3,9 @@ use Rattle.std.proofs.Common.{◌≡◌, ℕ, ◌%◌, ◌<◌, ◌≤◌, List,
 use Rattle.std.specs.Prelude.{◌≢◌, slice_index}
 use Rattle.sloth_base.specs.Machine.{State}
 use Rattle.sloth_base.specs.declared.service.Service.{Service}
+use Rattle.sloth_base.specs.Limits.{alarm_limit}
 use Rattle.sloth_region.specs.Layout.{idle_context, below_word, counter_value, alarm_left, alarm_cycle}
 use Rattle.rv32_instr.specs.Ram.{word_at}
-use Rattle.masked_code.specs.Kernel.{LeftAs}
 use Rattle.block_parts.specs.Back.{WentBack, a0}
 use Rattle.osek_scheduler.specs.State.{Task, System, with_alarm}
 use Rattle.osek_scheduler.proofs.ServiceStates.{answered_state}
@@ -13,9 +13,10 @@ use Rattle.osek_scheduler.specs.Steps.{settled_state}
 use Rattle.sim_relation.specs.Build.{Build, Fits}
 use Rattle.sim_relation.specs.Stands.{Stands}
 use Rattle.sim_relation.proofs.Beside.{beside}
+use Rattle.sim_relation.proofs.Machines.{changed_machine}
 use Rattle.sim_services.specs.Opening.{IsFollowed}
 use Rattle.sim_services.specs.Served.{IsServed}
-use Rattle.sim_services.proofs.GoesOn.{behind_status}
+use Rattle.sim_services.proofs.GoesOn.{behind_as_before}
 use Rattle.sim_ticks.proofs.Clocks.{alarm_set}
 
 -- the words of one alarm may have changed alone
@@ -34,33 +35,15 @@ module _ (b : Build) (state : State) (s : System) (t : ℕ) (own : Task) (served
   abbrev middle : State
   middle = record { pc = end.pc; core = record end.core { ram = state.core.ram } }
 
-  left_as : LeftAs state.core middle.core
-  left_as =
-      let l = back.left in
-      record {
-        zero = l.zero;
-        registers = l.registers;
-        opened = l.opened;
-        previous = l.previous;
-        running = l.running;
-        same_level = l.same_level;
-        bases = l.bases;
-        pending = l.pending;
-        enabled = l.enabled;
-        levels = l.levels;
-        ram = refl;
-        scratch = l.scratch;
-        controller = l.controller;
-      }
-
   abbrev answer : System
   answer = settled_state (answered_state status t s)
 
   before : Stands b middle answer
   before =
-      behind_status b state s t own served is fits followed middle (record { left = left_as; pc = back.pc; x2 = back.x2; kept = back.kept }) status status_is
+      behind_as_before b state s t own served is fits followed end ram state.core.pending state.core.enabled state.core.ram end.core.pending end.core.enabled
+      back refl back.left.pending back.left.enabled status status_is
 
-  few : a < 32
+  few : a < alarm_limit
   few = let f = fits.few_alarms in omega (arith, there, f)
 
   other : (p : ℕ) → p % 4 ≡ 0 → p ≢ alarm_left a → p ≢ alarm_cycle a → word_at end.core.ram p ≡ word_at state.core.ram p
@@ -72,19 +55,7 @@ module _ (b : Build) (state : State) (s : System) (t : ℕ) (own : Task) (served
       let f = few in
       beside b middle end answer before fits
       (record {
-        machine = record {
-          ram = ap length back.left.ram ∙ alone.long;
-          registers = refl;
-          zero = refl;
-          pending = refl;
-          enabled = refl;
-          levels = refl;
-          controller = refl;
-          open_to_lines = back.left.opened;
-          previous = back.left.previous;
-          same_level = back.left.same_level;
-          bases = back.left.bases;
-        };
+        machine = changed_machine b middle before.fixed end.pc end.core.ram end.core.pending end.core.enabled (ap length back.left.ram ∙ alone.long) refl refl;
         pc = refl;
         x2 = refl;
         x = λ i l. refl;

@@ -6,9 +6,12 @@ use Rattle.std.proofs.lemmas.Bool.{cases_eq, cases_lt, eq-eqb, ne_eqb, le-leb, l
 use Rattle.sloth_base.specs.Machine.{Core, State}
 use Rattle.sloth_base.specs.Named.{counter_of, alarm_declaration, undeclared_alarm, undeclared_counter}
 use Rattle.sloth_base.specs.Status.{E_OK, E_OS_NOFUNC, E_OS_STATE, E_OS_VALUE}
+use Rattle.sloth_base.specs.Ticks.{ticks_to}
 use Rattle.sloth_base.specs.declared.config.CounterDecl.{CounterDecl}
 use Rattle.sloth_base.specs.declared.service.Service.{Service}
 use Rattle.sloth_base.specs.declared.service.Service.TheVariants as service
+use Rattle.sloth_base.specs.Limits.{alarm_limit}
+use Rattle.sloth_base.specs.MemoryMap.{memory_bytes}
 use Rattle.sloth_region.specs.Layout.{cur, counter_value, alarm_left, alarm_cycle}
 use Rattle.rv32_instr.specs.Ram.{word_at, with_word}
 use Rattle.masked_code.proofs.Words.{word_at-same, length-with_word, get_or-with_word}
@@ -18,7 +21,7 @@ use Rattle.alarm_gen.specs.GetAlarm.{HasToldLeft, AlarmTold}
 use Rattle.alarm_gen.specs.SetAlarm.{CycleFits, TicksFit, AlarmValueFits, first_operand, second_operand, ticks_until, HasAlarm, HasNoFit, HasAlarmSet, AlarmSet}
 use Rattle.osek_scheduler.specs.declared.state.Alarm.{Alarm}
 use Rattle.osek_scheduler.specs.State.{Task, System, task, counter, alarm, with_alarm}
-use Rattle.osek_scheduler.specs.Services.{is_in_use, allows_cycle, allows_relative, allows_absolute, ticks_to, is_there, Outcome, GoesOn}
+use Rattle.osek_scheduler.specs.Services.{is_in_use, allows_cycle, allows_relative, allows_absolute, is_there, Outcome, GoesOn}
 use Rattle.osek_scheduler.proofs.ServiceStates.{answered_state, answered_state_with}
 use Rattle.osek_scheduler.specs.Outcomes.{outcome}
 use Rattle.sim_relation.specs.Build.{Build, Fits}
@@ -55,7 +58,7 @@ absolute_no d start c n =
     (cases_lt d.max start)
 
 -- both words of an alarm are written
-set_alone : (ram : List ℕ) (a left cycle : ℕ) → a < 32 → left < 2 ^ 32 → cycle < 2 ^ 32 → length ram ≡ 0x20_0000
+set_alone : (ram : List ℕ) (a left cycle : ℕ) → a < alarm_limit → left < 2 ^ 32 → cycle < 2 ^ 32 → length ram ≡ memory_bytes
     → AlarmAlone a left cycle ram (with_word (with_word ram (alarm_left a) left) (alarm_cycle a) cycle)
 set_alone ram a left cycle few small word long =
     let mid : List ℕ = with_word ram (alarm_left a) left in
@@ -83,7 +86,7 @@ module _ (b : Build) (state : State) (s : System) (t : ℕ) (own : Task) (served
   abbrev used : Alarm
   used = alarm s a
 
-  few : a < 32
+  few : a < alarm_limit
   few = let f = fits.few_alarms in omega (arith, there, f)
 
   left_is : left_ticks a state.core ≡ used.left
@@ -175,7 +178,7 @@ module _ (b : Build) (state : State) (s : System) (t : ℕ) (own : Task) (a : �
   cancels may effect =
       let there = ltb-true a (length b.config.alarms) may.goes_on.names in
       let k = may.goes_on.is_served.stands in
-      let few : a < 32 = let f = fits.few_alarms in omega (arith, there, f) in
+      let few : a < alarm_limit = let f = fits.few_alarms in omega (arith, there, f) in
       let cycle : ℕ = (alarm s a).cycle in
       let now : Outcome = GoesOn E_OK (with_alarm (answered_state E_OK t s) a (record { left = 0; cycle = cycle })) in
       let no : Outcome = GoesOn E_OS_NOFUNC (answered_state E_OS_NOFUNC t s) in

@@ -6,6 +6,7 @@ use Rattle.sloth_base.specs.Machine.{State}
 use Rattle.sloth_base.specs.Named.{counter_of, alarm_declaration, undeclared_alarm}
 use Rattle.sloth_base.specs.declared.event.Arrival.{Arrival}
 use Rattle.sloth_base.specs.declared.service.Service.TheVariants as service
+use Rattle.sloth_base.specs.Limits.{alarm_limit}
 use Rattle.rv32_machine.specs.Run.{state_with_arrivals}
 use Rattle.observe.specs.Observe.{View}
 use Rattle.alarm_gen.specs.Block.{ServesAlarm}
@@ -32,7 +33,7 @@ module _ (b : Build) (view : View) (arrivals : List Arrival) (count : ℕ) (stat
   abbrev found : System
   found = with_admits (lines_at arrivals count) s
 
-  few : (a : ℕ) → a < length b.config.alarms → a < 32
+  few : (a : ℕ) → a < length b.config.alarms → a < alarm_limit
   few a h = let f = fits.few_alarms in omega (arith, h, f)
 
   -- SetRelAlarm

@@ -7,6 +7,7 @@ use Rattle.std.proofs.lemmas.List.{set-get_or}
 use Rattle.sloth_base.specs.declared.config.Action.{Action}
 use Rattle.sloth_base.specs.declared.config.AlarmDecl.{AlarmDecl}
 use Rattle.sloth_base.specs.Machine.{State}
+use Rattle.sloth_base.specs.Limits.{alarm_limit}
 use Rattle.sloth_region.specs.Layout.{alarm_left, alarm_cycle, counter_value, below_word}
 use Rattle.rv32_instr.specs.Ram.{word_at}
 use Rattle.masked_code.proofs.Words.{word_below}
@@ -19,6 +20,7 @@ use Rattle.osek_scheduler.specs.Services.{acted_state, with_left, alarm_ticked_s
 use Rattle.osek_scheduler.specs.Steps.{settled_state}
 use Rattle.sim_relation.specs.Build.{Build, Fits}
 use Rattle.sim_relation.proofs.Beside.{beside}
+use Rattle.sim_relation.proofs.Machines.{changed_machine}
 use Rattle.sim_ticks.proofs.Acting.{ActsOn, at, Holds, acts_hold}
 use Rattle.sim_ticks.proofs.Clocks.{OneWord, alarm_set, written, twice}
 
@@ -32,19 +34,7 @@ module _ (b : Build) (end : State) (fits : Fits b) where
       record {
         stands = beside b (at b end fits g) (at b end fits (record g { ram = ram })) (settled_state s) k fits
             (record {
-              machine = record {
-                ram = w.long;
-                registers = refl;
-                zero = refl;
-                pending = refl;
-                enabled = refl;
-                levels = refl;
-                controller = refl;
-                open_to_lines = k.fixed.open_to_lines;
-                previous = k.fixed.previous;
-                same_level = k.fixed.same_level;
-                bases = k.fixed.bases;
-              };
+              machine = changed_machine b (at b end fits g) k.fixed end.pc ram g.pending g.enabled w.long refl refl;
               pc = refl;
               x2 = refl;
               x = λ i l. refl;
@@ -76,7 +66,7 @@ module _ (b : Build) (end : State) (fits : Fits b) where
     cycle_is : cycle ≡ (alarm s a).cycle
     cycle_is = h.stands.clock.cycles a there
 
-    is_alarm : a < 32
+    is_alarm : a < alarm_limit
     is_alarm = let f = fits.few_alarms in omega (arith, there, f)
 
     v_small : v < 2 ^ 32

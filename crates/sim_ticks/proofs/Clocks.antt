@@ -2,6 +2,7 @@
 use Rattle.std.proofs.Common.{◌≡◌, ℕ, zero, suc, ◌+◌, ◌%◌, ◌^◌, ◌<◌, ◌≤◌, List, [], ◌∷◌, length, ◌∙◌, arith, inr}
 use Rattle.std.specs.Prelude.{◌≢◌, ◌/◌, slice_index, set}
 use Rattle.std.proofs.lemmas.List.{length-set}
+use Rattle.sloth_base.specs.MemoryMap.{memory_bytes}
 use Rattle.sloth_region.specs.Layout.{idle_context, counter_value, alarm_left, alarm_cycle}
 use Rattle.rv32_instr.specs.Ram.{word_at, with_word}
 use Rattle.masked_code.proofs.Words.{word_at-same, get_or-with_word, length-with_word}
@@ -75,7 +76,7 @@ pub record OneWord (place v : ℕ) (old new : List ℕ) : Type 0 where
   pub bytes : AreBelow 256 new
 
 -- a word is written
-pub written : (place v : ℕ) (old : List ℕ) → place % 4 ≡ 0 → place + 4 ≤ idle_context → v < 2 ^ 32 → length old ≡ 0x20_0000 → AreBelow 256 old
+pub written : (place v : ℕ) (old : List ℕ) → place % 4 ≡ 0 → place + 4 ≤ idle_context → v < 2 ^ 32 → length old ≡ memory_bytes → AreBelow 256 old
     → OneWord place v old (with_word old place v)
 written place v old aligned low small long bytes = record {
   long = length-with_word old place v;

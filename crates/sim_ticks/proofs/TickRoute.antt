@@ -16,8 +16,10 @@ use Rattle.sloth_base.specs.declared.event.Arrival.{Arrival}
 use Rattle.sloth_base.specs.declared.event.Event.TheVariants as event
 use Rattle.sloth_base.specs.declared.lines.LineKind.TheVariants as line_of
 use Rattle.sloth_base.specs.declared.step.Step.{Step}
+use Rattle.sloth_base.specs.Limits.{task_limit, counter_limit}
+use Rattle.sloth_base.specs.MemoryMap.{memory_base, vectors_base}
 use Rattle.sloth_base.proofs.Owners.{kind_of_counter, tasks_owned}
-use Rattle.sloth_base.proofs.Stretches.{counter_limit, counter_touches}
+use Rattle.sloth_base.proofs.Stretches.{counter_entry_limit, counter_touches}
 use Rattle.rv32_instr.specs.Execute.{touched}
 use Rattle.rv32_machine.specs.Advance.{seen_step}
 use Rattle.rv32_machine.specs.Run.{state_with_arrivals}
@@ -95,10 +97,10 @@ module _ (b : Build) (view : View) (arrivals : List Arrival) (setting : IsSettin
   abbrev alarms : List NumberedAlarm
   alarms = counter_alarms b.config c
 
-  few : length b.config.tasks ≤ 30
+  few : length b.config.tasks ≤ task_limit
   few = fits.few_tasks
 
-  number : c < 2
+  number : c < counter_limit
   number = let f = fits.few_counters in let l = may.declared in omega (arith, f, l)
 
   taken : line_to_take now ≡ Some line
@@ -165,7 +167,7 @@ module _ (b : Build) (view : View) (arrivals : List Arrival) (setting : IsSettin
 
   at_vector : offset_state (vector line) core ≡ execution_state now
   at_vector =
-      let e : 0x8000_0000 + vector line ≡ 0x8000_0400 + 4 * line = omega arith in
+      let e : memory_base + vector line ≡ vectors_base + 4 * line = omega arith in
       ap (λ p. record { pc = p; core = core }) e ∙ sym (ap (λ o. entry_state o now) taken)
 
   abbrev most : ℕ
@@ -266,7 +268,7 @@ module _ (b : Build) (view : View) (arrivals : List Arrival) (setting : IsSettin
         few =
             let f = route.few in
             let n = as_many in
-            let limit = counter_limit b.config c fits.few_tasks may.declared in
+            let limit = counter_entry_limit b.config c fits.few_tasks may.declared in
             subst (λ o. suc route.more ≤ stretch_limit b.config (later_beginning o)) (sym taken) (omega (arith, f, n, limit));
         steps = route.steps;
         ends = route.ends;

@@ -14,6 +14,7 @@ use Rattle.sloth_base.specs.Take.{take}
 use Rattle.sloth_base.specs.declared.config.Action.{Action}
 use Rattle.sloth_base.specs.declared.config.Action.TheVariants.{Activate, Set}
 use Rattle.sloth_base.specs.declared.config.AlarmDecl.{AlarmDecl}
+use Rattle.sloth_base.specs.Limits.{counter_limit}
 use Rattle.sloth_region.specs.Layout.{counter_value, below_word}
 use Rattle.rv32_instr.specs.Ram.{word_at}
 use Rattle.alarm_gen.specs.Alarms.{counter_alarms}
@@ -77,7 +78,7 @@ module _ (b : Build) (old end : State) (s : System) (c : â„•) (touched : List â„
   abbrev own : Counter
   own = record { value = next_value max value; due = false }
 
-  number : c < 2
+  number : c < counter_limit
   number = let f = fits.few_counters in let l = may.declared in omega (arith, f, l)
 
   max_small : max < 2 ^ 31

@@ -1,5 +1,9 @@
-//! Ticks and the services on alarms in the simulation (OSEK OS 2.2.3, sections 9 and 13.6): each is a step of the abstract scheduler, and a stretch of
-//! a run.
+//! Ticks and the services on alarms in the simulation (OSEK OS 2.2.3, sections 9 and 13.6): each is a step of the abstract scheduler, and a stretch
+//! of a run.
+//!
+//! The tick of a counter is its event Tick, whatever ran and whatever lines arrive, and each service on alarms is its event Call (`tick_law`,
+//! `tick_stretch`, `set_rel_alarm_goes_on`, `alarm_services_stretch`, ..; `specs/TickSteps`, `specs/AlarmSteps`). Effects: `alarm_gen`; from a law to
+//! its stretch: `sim_services` (`Stretch`).
 #![tactic(auto)]
 
 ghost use Rattle.sloth_base.specs.declared.service.Service.TheVariants.{SetRelAlarm, SetAbsAlarm, CancelAlarm, GetAlarm};

@@ -5,9 +5,10 @@ use Rattle.std.proofs.lemmas.Bool.Decides.{nat_tests}
 use Rattle.std.specs.Prelude.{nat_lt}
 use Rattle.sloth_base.specs.Lines.{Lines}
 use Rattle.sloth_base.specs.Choose.{MayTake, Precedes, IsChosen, may_take, better_line, best_line_below, choose_line}
+use Rattle.sloth_base.specs.MemoryMap.{line_count}
 
 -- the test tells whether the line may be taken
-may-from : (lines : Lines) (level line : ℕ) → line < 32 → may_take lines level line ≡ true → MayTake lines level line
+may-from : (lines : Lines) (level line : ℕ) → line < line_count → may_take lines level line ≡ true → MayTake lines level line
 may-from lines level line h e = record {
   in_range = h;
   is_pending = grind (arith, nat_tests);
@@ -61,7 +62,7 @@ as_before lines level n (Some best) h m =
     let lower = h.0 in
     (omega arith, h.1, below_more (λ k. MayTake lines level k → Precedes lines best k) n h.2 (λ t. absurd (m t)))
 
-best : (lines : Lines) (level n : ℕ) → n ≤ 32 → IsBest lines level n (best_line_below lines level n)
+best : (lines : Lines) (level n : ℕ) → n ≤ line_count → IsBest lines level n (best_line_below lines level n)
 unfolding IsBest best_line_below
 best lines level zero b = λ line h. absurd (omega arith)
 best lines level (suc n) b =
@@ -75,7 +76,7 @@ best lines level (suc n) b =
     (as_before lines level n (best_line_below lines level n) earlier (λ m. let y = may-to lines level n m in cc)))
     (cases_Bool (may_take lines level n))
 
-chosen-best : (lines : Lines) (level : ℕ) (o : Option ℕ) → IsBest lines level 32 o → IsChosen lines level o
+chosen-best : (lines : Lines) (level : ℕ) (o : Option ℕ) → IsBest lines level line_count o → IsChosen lines level o
 unfolding IsBest
 chosen-best lines level None h = λ line m. h line m.in_range m
 chosen-best lines level (Some line) h = (h.1, λ other m. h.2 other m.in_range m)
@@ -84,7 +85,7 @@ chosen-best lines level (Some line) h = (h.1, λ other m. h.2 other m.in_range m
 pub choose_line-is : (lines : Lines) (level : ℕ) → IsChosen lines level (choose_line lines level)
 unfolding choose_line
 choose_line-is lines level =
-    chosen-best lines level (best_line_below lines level 32) (best lines level 32 (omega arith))
+    chosen-best lines level (best_line_below lines level line_count) (best lines level line_count (omega arith))
 
 -- there is only one choice
 pub only_choice : (lines : Lines) (level : ℕ) (a b : Option ℕ) → IsChosen lines level a → IsChosen lines level b → a ≡ b

@@ -5,6 +5,8 @@ use Rattle.sloth_base.specs.declared.lines.LineKind.{LineKind}
 use Rattle.sloth_base.specs.declared.lines.LineKind.TheVariants as line_of
 use Rattle.sloth_base.specs.declared.lines.Owners.{Owners}
 use Rattle.sloth_base.specs.Owners.{first_counter_line, counter_line, is_counter_line, line_kind, IsOwned, AreOwned, AreTasks}
+use Rattle.sloth_base.specs.Limits.{task_limit, counter_limit}
+use Rattle.sloth_base.specs.MemoryMap.{line_count}
 
 -- what a line is for that is no task's
 abbrev pub later_kind : Owners → ℕ → LineKind
@@ -86,7 +88,7 @@ owned_task owners line none h =
     (owned_cases owners line h)
 
 -- of at most 30 tasks and 2 counters it is one of the controller
-pub owned_below : (owners : Owners) (line : ℕ) → owners.tasks ≤ 30 → owners.counters ≤ 2 → IsOwned owners line → line < 32
+pub owned_below : (owners : Owners) (line : ℕ) → owners.tasks ≤ task_limit → owners.counters ≤ counter_limit → IsOwned owners line → line < line_count
 owned_below owners line few counters h =
     ⊎_elim (λ (l : line < owners.tasks). omega (arith, l, few))
     (λ (found : (c : ℕ) × IsCounterLine owners line c). let d = found.1.declared in let e = found.1.is in omega (arith, d, e, counters))

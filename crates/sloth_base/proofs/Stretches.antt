@@ -58,13 +58,13 @@ limit_some config (Some line) = by (line_kind (owners_in config) line)
     by line_of.Unused = omega arith
 
 -- the limit where a task's line is taken
-pub task_limit : (config : Config) (t : ℕ) → t < length config.tasks → stretch_limit config (Takes t) ≡ entry_limit config (line_of.Task t)
-task_limit config t h = ap (entry_limit config) (kind_of_task (owners_in config) t h)
+pub task_entry_limit : (config : Config) (t : ℕ) → t < length config.tasks → stretch_limit config (Takes t) ≡ entry_limit config (line_of.Task t)
+task_entry_limit config t h = ap (entry_limit config) (kind_of_task (owners_in config) t h)
 
 -- the limits where a counter's line is taken
-pub counter_limit : (config : Config) (c : ℕ) → length config.tasks ≤ first_counter_line → c < length config.counters
+pub counter_entry_limit : (config : Config) (c : ℕ) → length config.tasks ≤ first_counter_line → c < length config.counters
     → stretch_limit config (Takes (counter_line c)) ≡ entry_limit config (line_of.Counter c)
-counter_limit config c few h = ap (entry_limit config) (kind_of_counter (owners_in config) c few h)
+counter_entry_limit config c few h = ap (entry_limit config) (kind_of_counter (owners_in config) c few h)
 
 pub counter_touches : (config : Config) (c : ℕ) → length config.tasks ≤ first_counter_line → c < length config.counters
     → touch_limit config (Takes (counter_line c)) ≡ entry_touches config (line_of.Counter c)

@@ -3,6 +3,7 @@ use Rattle.std.specs.Prelude.{ℕ, ◌&&◌, List, [], ◌∷◌, filter, nat_le
 use Rattle.sloth_base.specs.declared.event.Arrival.{Arrival}
 use Rattle.sloth_base.specs.declared.lines.Owners.{Owners}
 use Rattle.sloth_base.specs.Owners.{IsOwned}
+use Rattle.sloth_base.specs.Limits.{arrival_limit, count_limit}
 
 -- the arrivals whose moment is at least `from` and below `to`
 abbrev pub moments : ℕ → ℕ → List Arrival → List Arrival
@@ -15,7 +16,7 @@ NeverFalls before (a ∷ rest) = (before ≤ a.at) × NeverFalls a.at rest
 
 -- at most 100,000 arrivals, at moments from 1 to 1,000,000 that never fall, of lines that have owners
 pub record AreArrivals (owners : Owners) (arrivals : List Arrival) : Type 0 where
-  pub few : length arrivals ≤ 100000
-  pub moments_in_range : All (λ a. a.at ≤ 1000000) arrivals
+  pub few : length arrivals ≤ arrival_limit
+  pub moments_in_range : All (λ a. a.at ≤ count_limit) arrivals
   pub ordered : NeverFalls 1 arrivals
   pub lines_owned : All (λ a. IsOwned owners a.line) arrivals

@@ -2,10 +2,11 @@
 use Rattle.std.specs.Prelude.{ℕ, zero, suc, ◌≡◌, ◌<◌, ◌≤◌, ◌⊎◌, Option, Some, None, Bool, ◌&&◌, ◌==◌, nat_lt, if◌then◌else◌, slice_index}
 use Rattle.sloth_base.specs.Machine.{Core}
 use Rattle.sloth_base.specs.Lines.{Lines, lines_of}
+use Rattle.sloth_base.specs.MemoryMap.{line_count}
 
 -- a line may be taken where this level runs
 pub record MayTake (lines : Lines) (level line : ℕ) : Type 0 where
-  pub in_range : line < 32
+  pub in_range : line < line_count
   pub is_pending : slice_index lines.pending line ≡ 1
   pub is_enabled : slice_index lines.enabled line ≡ 1
   pub is_above : level < slice_index lines.levels line
@@ -42,7 +43,7 @@ best_line_below lines level (suc line) =
 
 -- the best of the 32 lines
 unfoldable pub choose_line : Lines → ℕ → Option ℕ
-choose_line lines level = best_line_below lines level 32
+choose_line lines level = best_line_below lines level line_count
 
 -- the choice in a state of the machine; without a controller there is none
 unfoldable pub choose : Core → Option ℕ

@@ -9,6 +9,7 @@ use Rattle.sloth_base.specs.declared.config.AlarmDecl.{AlarmDecl}
 use Rattle.sloth_base.specs.declared.config.Config.{Config}
 use Rattle.sloth_base.specs.ImageRange.{AreNames, AreApart}
 use Rattle.sloth_base.specs.Named.{declaration, counter_declaration}
+use Rattle.sloth_base.specs.Limits.{task_limit, counter_limit, alarm_limit, resource_limit, event_limit, priority_limit, tick_limit}
 
 -- "RES_SCHEDULER"
 abbrev pub res_scheduler_name : List ℕ
@@ -16,7 +17,7 @@ res_scheduler_name = 82 ∷ 69 ∷ 83 ∷ 95 ∷ 83 ∷ 67 ∷ 72 ∷ 69 ∷ 68 
 
 -- the number of the resource RES_SCHEDULER, behind those of RESOURCE objects
 abbrev pub scheduler_number : ℕ
-scheduler_number = 32
+scheduler_number = resource_limit
 
 -- The mask is the union of the masks of some of the events, of which no two share a bit.
 abbrev pub IsUnionOf : List EventDecl → ℕ → Type 0
@@ -26,7 +27,7 @@ IsUnionOf (event ∷ events) mask =
 
 -- a task of a configuration with these resources and events
 pub record IsTask (config : Config) (task : TaskDecl) : Type 0 where
-  pub priority : task.priority ≤ 65535
+  pub priority : task.priority ≤ priority_limit
   -- each is a RESOURCE object, or RES_SCHEDULER where that resource exists
   pub resources : All (λ r. (r < length config.resources) ⊎ ((r ≡ scheduler_number) × IsTrue config.res_scheduler)) task.resources
   pub events : IsUnionOf config.events task.events
@@ -34,8 +35,8 @@ pub record IsTask (config : Config) (task : TaskDecl) : Type 0 where
 
 -- the limits of a counter
 pub record IsCounter (counter : CounterDecl) : Type 0 where
-  pub max : (1 ≤ counter.max) × (counter.max ≤ 2147483647)
-  pub min_cycle : (1 ≤ counter.min_cycle) × (counter.min_cycle ≤ 2147483647)
+  pub max : (1 ≤ counter.max) × (counter.max ≤ tick_limit)
+  pub min_cycle : (1 ≤ counter.min_cycle) × (counter.min_cycle ≤ tick_limit)
 
 -- what stands in the place of an event that is not there
 abbrev pub no_event : EventDecl
@@ -63,9 +64,9 @@ pub record IsAlarm (config : Config) (alarm : AlarmDecl) : Type 0 where
 
 -- the configuration is in range
 pub record InRange (config : Config) : Type 0 where
-  pub few_tasks : length config.tasks ≤ 30
+  pub few_tasks : length config.tasks ≤ task_limit
   pub few_resources : length config.resources ≤ scheduler_number
-  pub few_events : length config.events ≤ 32
+  pub few_events : length config.events ≤ event_limit
   pub task_names : AreNames (map (λ t. t.name) config.tasks)
   pub resource_names : AreNames config.resources
   pub event_names : AreNames (map (λ e. e.name) config.events)
@@ -74,8 +75,8 @@ pub record InRange (config : Config) : Type 0 where
   pub tasks : All (IsTask config) config.tasks
   -- where RES_SCHEDULER exists, no RESOURCE object has its name
   pub scheduler_alone : IsTrue config.res_scheduler → All (λ name. name ≢ res_scheduler_name) config.resources
-  pub few_counters : length config.counters ≤ 2
-  pub few_alarms : length config.alarms ≤ 32
+  pub few_counters : length config.counters ≤ counter_limit
+  pub few_alarms : length config.alarms ≤ alarm_limit
   pub counter_names : AreNames (map (λ c. c.name) config.counters)
   pub alarm_names : AreNames (map (λ a. a.name) config.alarms)
   -- no counter has a task's name

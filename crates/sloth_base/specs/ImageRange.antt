@@ -7,7 +7,8 @@ use Rattle.sloth_base.specs.declared.image.Image.{Image}
 use Rattle.sloth_base.specs.declared.image.Mark.{Mark}
 use Rattle.sloth_base.specs.declared.image.MarkKind.{MarkKind}
 use Rattle.sloth_base.specs.declared.image.MarkKind.TheVariants as kind
-use Rattle.sloth_base.specs.MemoryMap.{memory_base}
+use Rattle.sloth_base.specs.MemoryMap.{memory_base, memory_bytes}
+use Rattle.sloth_base.specs.Limits.{task_limit, counter_limit, name_limit, body_limit, mark_limit}
 
 -- a letter or `_`
 abbrev pub begins_word : ℕ → Bool
@@ -25,7 +26,7 @@ IsWord (first ∷ rest) = IsTrue (begins_word first) × AllPass continues_word r
 -- a word of at most 64 bytes
 pub record IsName (bytes : List ℕ) : Type 0 where
   pub word : IsWord bytes
-  pub short : length bytes ≤ 64
+  pub short : length bytes ≤ name_limit
 
 -- names that differ from one another
 pub record AreNames (names : List (List ℕ)) : Type 0 where
@@ -61,16 +62,16 @@ AreAscending marks = IsStrictlyIncreasing (map (λ mark. mark.address) marks)
 
 -- the image is in the range of the format
 pub record InFormat (image : Image) : Type 0 where
-  pub few_tasks : length image.tasks ≤ 30
-  pub few_functions : length image.funcs ≤ 64
-  pub few_counters : length image.counters ≤ 2
+  pub few_tasks : length image.tasks ≤ task_limit
+  pub few_functions : length image.funcs ≤ body_limit
+  pub few_counters : length image.counters ≤ counter_limit
   pub tasks : AreNames image.tasks
   pub functions : AreNames image.funcs
   pub counters : AreNames image.counters
   -- no counter has a task's name
   pub counters_apart : AreApart image.counters image.tasks
-  pub memory_fits : length image.memory ≤ 2097152
+  pub memory_fits : length image.memory ≤ memory_bytes
   pub whole_words : length image.memory % 4 ≡ 0
-  pub few_marks : length image.marks ≤ 16384
+  pub few_marks : length image.marks ≤ mark_limit
   pub marks : All (IsMark (service_limit (length image.counters)) (length image.funcs) (length image.memory)) image.marks
   pub ascending : AreAscending image.marks

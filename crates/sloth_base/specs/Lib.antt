@@ -1,3 +1,4 @@
+pub mod Limits
 pub mod Machine
 pub mod Arrivals
 pub mod ImageRange
@@ -17,3 +18,5 @@ pub mod Blocks
 pub mod MemoryMap
 pub mod Owners
 pub mod Stretches
+pub mod DeclaredNames
+pub mod Ticks

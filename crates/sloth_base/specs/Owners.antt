@@ -6,10 +6,11 @@ use Rattle.sloth_base.specs.declared.image.Image.{Image}
 use Rattle.sloth_base.specs.declared.lines.LineKind.{LineKind}
 use Rattle.sloth_base.specs.declared.lines.LineKind.TheVariants as line_of
 use Rattle.sloth_base.specs.declared.lines.Owners.{Owners}
+use Rattle.sloth_base.specs.Limits.{task_limit}
 
 -- the line of the first counter; the others follow it
 abbrev pub first_counter_line : ℕ
-first_counter_line = 30
+first_counter_line = task_limit
 
 -- the line of a counter
 abbrev pub counter_line : ℕ → ℕ

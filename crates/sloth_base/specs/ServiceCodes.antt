@@ -4,6 +4,7 @@ use Rattle.sloth_base.specs.declared.service.ObjectKind.{ObjectKind}
 use Rattle.sloth_base.specs.declared.service.ObjectKind.TheVariants as object
 use Rattle.sloth_base.specs.declared.service.Service.{Service}
 use Rattle.sloth_base.specs.declared.service.Service.TheVariants as service
+use Rattle.sloth_base.specs.Limits.{task_limit, alarm_limit, resource_limit}
 
 -- the number of a service
 abbrev pub code_of : Service → ℕ
@@ -96,6 +97,6 @@ has_mask _ = false
 -- the numbers of the objects of a kind, in every configuration; where there is no object it is 0
 abbrev pub IsObjectNumber : ObjectKind → ℕ → Type 0
 IsObjectNumber object.Nothing number = number ≡ 0
-IsObjectNumber object.Task number = number < 30
-IsObjectNumber object.Resource number = number ≤ 32
-IsObjectNumber object.Alarm number = number < 32
+IsObjectNumber object.Task number = number < task_limit
+IsObjectNumber object.Resource number = number ≤ resource_limit
+IsObjectNumber object.Alarm number = number < alarm_limit

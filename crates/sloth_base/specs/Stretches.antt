@@ -6,6 +6,7 @@ use Rattle.sloth_base.specs.declared.lines.LineKind.TheVariants as line_of
 use Rattle.sloth_base.specs.declared.step.Step.{Step}
 use Rattle.sloth_base.specs.Owners.{line_kind, owners_in}
 use Rattle.sloth_base.specs.Named.{alarms_of, most_alarms}
+use Rattle.sloth_base.specs.Limits.{stretch_instructions, alarm_instructions, boot_instructions}
 
 -- how a stretch begins: boot at count 0, with the taking of a line, or with the instruction that masks interrupts
 pub data Beginning : Type 0 where
@@ -24,15 +25,15 @@ beginning_of first = if first.count == 0 then Boots else later_beginning first.e
 
 -- the most instructions of a stretch that begins with the taking of a line of this kind
 abbrev pub entry_limit : Config → LineKind → ℕ
-entry_limit config (line_of.Task t) = 160
-entry_limit config (line_of.Counter c) = 160 + 40 * alarms_of config c
-entry_limit config line_of.Unused = 160
+entry_limit config (line_of.Task t) = stretch_instructions
+entry_limit config (line_of.Counter c) = stretch_instructions + alarm_instructions * alarms_of config c
+entry_limit config line_of.Unused = stretch_instructions
 
 -- the most instructions of a stretch
 abbrev pub stretch_limit : Config → Beginning → ℕ
-stretch_limit config Boots = 400
+stretch_limit config Boots = boot_instructions
 stretch_limit config (Takes line) = entry_limit config (line_kind (owners_in config) line)
-stretch_limit config Masks = 160
+stretch_limit config Masks = stretch_instructions
 
 -- the most lines whose pending bytes a stretch touches that begins with the taking of a line of this kind
 abbrev pub entry_touches : Config → LineKind → ℕ
@@ -48,4 +49,4 @@ touch_limit config Masks = 2
 
 -- the most instructions of any stretch behind boot
 abbrev pub longest_stretch : Config → ℕ
-longest_stretch config = 160 + 40 * most_alarms config
+longest_stretch config = stretch_instructions + alarm_instructions * most_alarms config

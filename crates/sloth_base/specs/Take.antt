@@ -3,6 +3,7 @@ use Rattle.std.specs.Prelude.{ℕ, ◌+◌, ◌*◌, Option, Some, None, false, 
 use Rattle.sloth_base.specs.Machine.{State}
 use Rattle.sloth_base.specs.Lines.{Lines}
 use Rattle.sloth_base.specs.Choose.{choose}
+use Rattle.sloth_base.specs.MemoryMap.{vectors_base}
 
 -- the bytes with the line no longer pending
 abbrev pub without_pending : ℕ → Lines → Lines
@@ -11,7 +12,7 @@ without_pending line lines = record lines { pending = slice_set lines.pending li
 -- the state after the entry of a line: its vector word is at 4 times its number behind the base of the vectors
 abbrev pub take : ℕ → State → State
 take line state = record {
-  pc = 0x8000_0400 + 4 * line;
+  pc = vectors_base + 4 * line;
   core = record state.core {
     mepc = state.pc;
     plevel = state.core.ilevel;

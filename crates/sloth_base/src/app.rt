@@ -46,7 +46,7 @@ pub enum BranchKind {
 }
 
 /// The width of an access, and for a load whether it extends the sign: `lb`, `lh`, `lw`, `lbu`, `lhu`.
-#[derive(Clone, Copy, Debug, PartialEq, Eq)]
+#[derive(Clone, Copy, Debug)]
 pub enum Width {
     Byte,
     Half,

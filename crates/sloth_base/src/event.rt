@@ -4,14 +4,14 @@ use crate::numbers::Line;
 use crate::service::Service;
 
 /// An interrupt line is raised before the instruction of count `at`, 1 to 1,000,000.
-#[derive(Clone, Copy, Debug, PartialEq, Eq)]
+#[derive(Clone, Copy)]
 pub struct Arrival {
     pub at: u32,
     pub line: Line,
 }
 
 /// The counts of the first and the last instruction of an event.
-#[derive(Clone, Copy, Debug, PartialEq, Eq)]
+#[derive(Clone, Copy, PartialEq, Eq)]
 pub struct Stamp {
     pub from: u32,
     pub at: u32,
@@ -48,7 +48,7 @@ pub enum Event {
 }
 
 /// An event and its counts.
-#[derive(Clone, Copy, Debug, PartialEq, Eq)]
+#[derive(Clone, Copy, PartialEq, Eq)]
 pub struct Stamped {
     pub stamp: Stamp,
     pub event: Event,

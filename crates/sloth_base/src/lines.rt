@@ -2,10 +2,11 @@
 ghost use Rattle.std.specs.Prelude.{◌≡◌};
 ghost use Rattle.sloth_base.specs.Owners.{line_kind};
 
+use crate::limits::TASK_LIMIT;
 use crate::numbers::Line;
 
 /// What a line is for.
-#[derive(Clone, Copy, Debug, PartialEq, Eq)]
+#[derive(Clone, Copy)]
 pub enum LineKind {
     /// It enters this task.
     Task(u32),
@@ -15,10 +16,10 @@ pub enum LineKind {
 }
 
 /// The line of the first counter; the others follow it.
-pub const COUNTER_LINE: u8 = 30;
+pub const FIRST_COUNTER_LINE: u8 = TASK_LIMIT as u8;
 
 /// The owners of lines: so many tasks, and so many counters.
-#[derive(Clone, Copy, Debug, PartialEq, Eq)]
+#[derive(Clone, Copy)]
 pub struct Owners {
     pub tasks: usize,
     pub counters: usize,
@@ -31,8 +32,10 @@ impl Owners {
     {
         if usize::from(line.0) < self.tasks {
             LineKind::Task(u32::from(line.0))
-        } else if COUNTER_LINE <= line.0 && usize::from(line.0 - COUNTER_LINE) < self.counters {
-            LineKind::Counter(u32::from(line.0 - COUNTER_LINE))
+        } else if FIRST_COUNTER_LINE <= line.0
+            && usize::from(line.0 - FIRST_COUNTER_LINE) < self.counters
+        {
+            LineKind::Counter(u32::from(line.0 - FIRST_COUNTER_LINE))
         } else {
             LineKind::Unused
         }

@@ -2,6 +2,7 @@
 ghost use Rattle.std.specs.Prelude.{◌≡◌, ◌↔◌, IsTrue, IfOk};
 ghost use Rattle.sloth_base.specs.ImageRange.{begins_word, continues_word, IsName};
 
+use crate::limits::NAME_LIMIT;
 use crate::memory::NoMemory;
 use std::alloc::Global;
 use std::marker::Model;
@@ -58,7 +59,7 @@ pub fn is_name(bytes: &[u8]) -> bool
     let Some((first, rest)) = bytes.split_first() else {
         return false;
     };
-    if !begins_word(*first) || bytes.len() > 64 {
+    if !begins_word(*first) || bytes.len() > NAME_LIMIT {
         return false;
     }
     rest.iter().all(|byte| continues_word(*byte))

@@ -1,9 +1,10 @@
 //! Numbers that name things. Contracts see each as its number.
 
+use crate::limits::RESOURCE_LIMIT;
 use std::marker::Model;
 
 /// A task: its place among the TASK objects of the configuration, from 0. Its interrupt line has the same number.
-#[derive(Clone, Copy, Debug, PartialEq, Eq)]
+#[derive(Clone, Copy, Debug)]
 pub struct TaskId(pub u32);
 
 impl Model for TaskId {
@@ -17,7 +18,7 @@ impl Model for TaskId {
 }
 
 /// The number of the resource RES_SCHEDULER, behind those of RESOURCE objects.
-pub const RES_SCHEDULER: u32 = 32;
+pub const RES_SCHEDULER: u32 = RESOURCE_LIMIT as u32;
 
 /// A resource: its place among the RESOURCE objects of the configuration, from 0, or `RES_SCHEDULER`.
 #[derive(Clone, Copy, Debug, PartialEq, Eq)]
@@ -62,7 +63,7 @@ impl Model for SymId {
 }
 
 /// A line of the interrupt controller, 0 to 31.
-#[derive(Clone, Copy, Debug, PartialEq, Eq)]
+#[derive(Clone, Copy)]
 pub struct Line(pub u8);
 
 impl Model for Line {
@@ -76,7 +77,7 @@ impl Model for Line {
 }
 
 /// A register, x0 to x31.
-#[derive(Clone, Copy, Debug, PartialEq, Eq)]
+#[derive(Clone, Copy, Debug)]
 pub struct Reg(pub u8);
 
 impl Model for Reg {

@@ -3,6 +3,7 @@
 ghost use Rattle.std.specs.Prelude.{◌≡◌, ◌<◌};
 ghost use Rattle.sloth_base.specs.Blocks.{block_count, block_number, block_service, block_object};
 
+use crate::limits::{CEILING_COUNT, TASK_LIMIT};
 use crate::list::List;
 use crate::service::Service;
 
@@ -15,8 +16,8 @@ pub const BLOCK_COUNT: usize = 640;
 /// The levels of the tasks, of the resources' ceilings and of RES_SCHEDULER (the last entry of `ceiling`).
 #[derive(Clone, Copy)]
 pub struct Levels {
-    pub task: [u8; 30],
-    pub ceiling: [u8; 33],
+    pub task: [u8; TASK_LIMIT],
+    pub ceiling: [u8; CEILING_COUNT],
     /// The number of tasks, which is the highest task's level.
     pub top: u8,
 }

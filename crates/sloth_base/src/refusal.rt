@@ -5,7 +5,7 @@ ghost use Rattle.sloth_base.specs.declared.refusal.BuildError.TheVariants.{Memor
 use crate::memory::NoMemory;
 
 /// The text that is at fault: the configuration, the task code or the arrivals.
-#[derive(Clone, Copy, Debug, PartialEq, Eq)]
+#[derive(Clone, Copy)]
 pub enum Part {
     Oil,
     Src,
@@ -13,7 +13,7 @@ pub enum Part {
 }
 
 /// The rule that is broken. The letter names the stage: O the configuration, A the task code, V the verifier, T the arrivals.
-#[derive(Clone, Copy, Debug, PartialEq, Eq)]
+#[derive(Clone, Copy, Debug)]
 pub enum Code {
     O1,
     O2,
@@ -56,7 +56,7 @@ pub enum Code {
 }
 
 /// A refusal: the text, the line in it, counted from 1, and the rule.
-#[derive(Clone, Copy, Debug, PartialEq, Eq)]
+#[derive(Clone, Copy)]
 pub struct Refusal {
     pub part: Part,
     pub line: u32,
@@ -64,7 +64,7 @@ pub struct Refusal {
 }
 
 /// Why nothing was built.
-#[derive(Clone, Copy, Debug, PartialEq, Eq)]
+#[derive(Clone, Copy)]
 pub enum BuildError {
     Refused(Refusal),
     Memory,

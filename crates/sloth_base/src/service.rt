@@ -39,7 +39,7 @@ pub enum Service {
 }
 
 /// What a service names.
-#[derive(Clone, Copy, Debug, PartialEq, Eq)]
+#[derive(Clone, Copy)]
 pub enum ObjectKind {
     Nothing,
     Task,

@@ -3,7 +3,7 @@
 use crate::numbers::Line;
 
 /// One step: the line taken before it, if one was, and the instruction executed.
-#[derive(Clone, Copy, Debug, PartialEq, Eq)]
+#[derive(Clone, Copy)]
 pub struct Step {
     /// Instructions executed before this one.
     pub count: u32,

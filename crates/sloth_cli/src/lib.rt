@@ -1,4 +1,10 @@
-//! The program's top call.
+//! The program's top call, `sloth_top`, for any store of files and any sink; and what the program does with its words: they go to the top call, over
+//! the system's files and standard output, and the status is how it ends.
+//!
+//! Clause `answers`: each answer has its cause, the sink took exactly the text that is due, and the files hold what it says. The other clauses say
+//! which answer comes: `usage`, `refused` and `complete`; of image files `fault`, `no_image`, `exec_refused`, `executed` and `listed`; of `sample`
+//! `sample_refused` and `sampled`; of tools `tool` and `tool_done`. All of them are defined in `sloth_commands` (`Top`, `ImageAnswers`,
+//! `SampleAnswers`, `ToolAnswers`).
 #![tactic(auto)]
 
 pub mod program;

@@ -1,5 +1,5 @@
 //! What the program does with its words: they go to the top call, over the system's files and standard output, and the status is how it ends.
-use sloth_cli::{Status, sloth_top};
+use crate::top::sloth_top;
 use sloth_io::file_store::FileStore;
 use sloth_io::out_sink::OutSink;
 use std::env;
@@ -7,6 +7,7 @@ use std::env::Env;
 use std::io::ErrorKind;
 use std::process::ExitCode;
 use std::rt::Files;
+use tool_answers::Status;
 
 // The words without the program's own name, or how the program ends without them: a word that is not UTF-8 is none of a command's.
 fn words(rt: &(impl Env + AllocGlobal)) -> Result<Vec<String>, Status> {

@@ -35,8 +35,15 @@ fn attempt<F: Store, S: Sink>(
         (world (F.seen files.old) (S.seen out.old)) (world (F.seen files.new) (S.seen out.new)) (Builds (building_of c.now))) }
 {
     let inputs = read_inputs(alloc, files, c)?;
-    let judged = judge(alloc, inputs)?;
-    perform(alloc, files, out, c, judged)
+    let judged = judge(alloc, &inputs)?;
+    perform(
+        alloc,
+        files,
+        out,
+        c,
+        &judged.built.image,
+        judged.arrivals.as_slice(),
+    )
 }
 
 // Does what the command says, but for the last line of a failure.
@@ -64,7 +71,8 @@ fn obey<F: Store, S: Sink>(
     }
 }
 
-// Does what the words say, and puts the last line of a failure.
+// Does what the words say, and puts the last line of a failure. It has one clause, proved on each of its ways out; from that clause alone
+// those of `sloth_top` follow, by a law each.
 fn answer<F: Store, S: Sink>(alloc: Global, words: &[String], files: &mut F, out: &mut S) -> Status
     ensures { Answers (words_of words.now) (world (F.seen files.old) (S.seen out.old)) (world (F.seen files.new) (S.seen out.new)) result }
 {

@@ -22,8 +22,7 @@ use Rattle.tool_answers.specs.declared.status.Status.TheVariants as status
 use Rattle.sloth_commands.specs.declared.failure.Failure.{Failure}
 use Rattle.sloth_commands.specs.declared.failure.Failure.TheVariants as failure
 use Rattle.sloth_commands.specs.Top.{World, world, inputs_of, AreInputs, FilesStay, IsAccepted, IsBuiltImage}
-use Rattle.trace_check.specs.Inputs.{names_of}
-use Rattle.trace_check.specs.Verdicts.{counter_names}
+use Rattle.sloth_base.specs.DeclaredNames.{task_names, counter_names}
 use Rattle.sloth_commands.specs.Top.{IsWritten, IsDone, Requires, Took, Puts, Closes, BrokeOff, Answers, done_text}
 use Rattle.sloth_commands.specs.Failures.{ReadFailed, JudgeFailed, PerformFailed, Ends, EndsPlainly, CommandFailed, IsPerformed, Finished}
 use Rattle.sloth_commands.proofs.Ceilings.{shown-keep, shown-keep_bounds}
@@ -62,7 +61,7 @@ pub record IsBuilt (old mid : Files) (c : Building) (image : Image) (arrivals : 
   pub kept : KeepsFiles old mid
 
 pub built-of : (old mid : Files) (c : Building) (config : Config) (app : App) (image : Image) (arrivals : List Arrival) (oil src arr : List ℕ)
-    → AreInputs old c oil src arr → AreAccepted oil src config app → AreRead (names_of config) (counter_names config) arr arrivals → AreArrivals (owners_in config) arrivals
+    → AreInputs old c oil src arr → AreAccepted oil src config app → AreRead (task_names config) (counter_names config) arr arrivals → AreArrivals (owners_in config) arrivals
     → IsBuiltImage config app image → IsInLimit c.run → KeepsFiles old mid → IsBuilt old mid c image arrivals
 built-of old mid c config app image arrivals oil src arr inputs accepted read in_range is_image in_limit kept = record {
   config = config;

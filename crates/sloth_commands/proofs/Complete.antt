@@ -9,6 +9,7 @@ use Rattle.least_fault.specs.Order.{NoFault}
 use Rattle.trace_text.specs.ArrivalsText.{arrivals_in, ArrivalsFault}
 use Rattle.sloth_base.specs.declared.image.Image.{Image}
 use Rattle.sloth_base.specs.declared.refusal.Refusal.{Refusal}
+use Rattle.sloth_base.specs.Limits.{file_limit}
 use Rattle.sloth_io.specs.Counts.{Rose, Stays}
 use Rattle.sloth_io.specs.Sink.{Output, HasNoSpace}
 use Rattle.sloth_io.specs.Store.{Files, Holds, IsMissing, IsTooLong, IsUnwritten}
@@ -18,15 +19,14 @@ use Rattle.sloth_source.proofs.Unique.{one_meaning}
 use Rattle.command_line.specs.LastLine.{refusal_line}
 use Rattle.command_line.specs.Command.{Command, Building, Run, Builds, Uses, IsCommand, IsNoTool, NoCommand}
 use Rattle.command_line.specs.Tools.{ToolUse}
-use Rattle.sloth_commands.specs.Inputs.{input_limit}
 use Rattle.trace_check.specs.Inputs.{AreRead}
 use Rattle.sloth_commands.specs.ImageFiles.{IsNoImage}
 use Rattle.tool_answers.specs.declared.status.Status.{Status}
 use Rattle.tool_answers.specs.declared.status.Status.TheVariants as status
 use Rattle.sloth_commands.specs.Top.{World, arrivals_named, inputs_of, FirstUnread, AreInputs, HoldsArrivals, AreThere, IsFailedRead, IsLongRead}
 use Rattle.sloth_commands.specs.Top.{CommandDone, CommandRefused, CommandUnwritten, CommandStopped, done_text, IsRefused, IsAccepted, IsBuiltImage, Requires, Puts, Took, BrokeOff, EndsAs, Answers}
-use Rattle.trace_check.specs.Inputs.{names_of, IsRefusal}
-use Rattle.trace_check.specs.Verdicts.{counter_names}
+use Rattle.trace_check.specs.Inputs.{IsRefusal}
+use Rattle.sloth_base.specs.DeclaredNames.{task_names, counter_names}
 use Rattle.sloth_commands.specs.Top.{AnswersUsage, AnswersRefused, ReadsWork, WritesWork, HasSpace, PutsWork, CallsWork, TellsUsage, TellsRefused, IsComplete}
 use Rattle.command_line.proofs.Commands.{one-command}
 use Rattle.trace_check.proofs.Refused.{not-refused, one-way}
@@ -46,14 +46,14 @@ told-arrivals files None one other tells h i = h ∙ sym i
 told-arrivals files (Some run) one other tells h i = told files run.arr one other tells h i
 
 -- of inputs that are there, none is the first that is not read
-no-arrivals : (P : List ℕ → Type 0) (old : Files) (run : Option Run) (arr : List ℕ) → HoldsArrivals old run arr → length arr ≤ input_limit
-    → ((name bytes : List ℕ) → Holds old name bytes → length bytes ≤ input_limit → P name → ⊥) → FirstUnread old P (arrivals_named run) → ⊥
+no-arrivals : (P : List ℕ → Type 0) (old : Files) (run : Option Run) (arr : List ℕ) → HoldsArrivals old run arr → length arr ≤ file_limit
+    → ((name bytes : List ℕ) → Holds old name bytes → length bytes ≤ file_limit → P name → ⊥) → FirstUnread old P (arrivals_named run) → ⊥
 no-arrivals P old None arr holds short f h = h
 no-arrivals P old (Some run) arr holds short f (inl h) = f run.arr arr holds short h
 no-arrivals P old (Some run) arr holds short f (inr h) = h.1
 
 none-unread : (P : List ℕ → Type 0) (old : Files) (c : Building) (oil src arr : List ℕ) → AreInputs old c oil src arr
-    → ((name bytes : List ℕ) → Holds old name bytes → length bytes ≤ input_limit → P name → ⊥) → FirstUnread old P (inputs_of (Builds c)) → ⊥
+    → ((name bytes : List ℕ) → Holds old name bytes → length bytes ≤ file_limit → P name → ⊥) → FirstUnread old P (inputs_of (Builds c)) → ⊥
 none-unread P old c oil src arr i f (inl h) = f c.oil oil i.oil_read i.oil_short h
 none-unread P old c oil src arr i f (inr h) = behind h.1
   where
@@ -68,13 +68,13 @@ not-missing old new name bytes tells (inr sure) holds (inl h) = let a : IsTrue o
 not-missing old new name bytes tells works holds (inr h) = let a = holds tells in let b = h.1 in cc
 
 -- and not too long, where it is short enough
-pub not-long : (old new : Files) (name bytes : List ℕ) → IsTrue old.tells → Holds old name bytes → length bytes ≤ input_limit
-    → IsTooLong old new name input_limit → ⊥
+pub not-long : (old new : Files) (name bytes : List ℕ) → IsTrue old.tells → Holds old name bytes → length bytes ≤ file_limit
+    → IsTooLong old new name file_limit → ⊥
 not-long old new name bytes tells holds short h =
     let long = h.1 tells in
     let same : bytes ≡ long.0 = told old name bytes long.0 tells holds (λ yes. long.1) in
-    let m : length bytes ≤ 4194304 = short in
-    let k : 4194304 < length bytes = subst (λ x. 4194304 < length x) (sym same) long.2 in omega (arith, m, k)
+    let m : length bytes ≤ file_limit = short in
+    let k : file_limit < length bytes = subst (λ x. file_limit < length x) (sym same) long.2 in omega (arith, m, k)
 
 no-failed-read : (old new : Files) (c : Building) (oil src arr : List ℕ) → AreThere old c oil src arr → ReadsWork old new → IsFailedRead old new (Builds c) → ⊥
 no-failed-read old new c oil src arr there works =
@@ -82,7 +82,7 @@ no-failed-read old new c oil src arr there works =
 
 no-long-read : (old new : Files) (c : Building) (oil src arr : List ℕ) → AreThere old c oil src arr → IsLongRead old new (Builds c) → ⊥
 no-long-read old new c oil src arr there =
-    none-unread (λ name. IsTooLong old new name input_limit) old c oil src arr there.inputs
+    none-unread (λ name. IsTooLong old new name file_limit) old c oil src arr there.inputs
     (λ name bytes holds short. not-long old new name bytes there.tells holds short)
 
 one-verdict : (old : Files) (c : Building) (config : Config) (app : App) (arrivals : List Arrival) (oil src arr : List ℕ) (r : Refusal)
@@ -107,7 +107,7 @@ told-refusal old c oil src arr r s there refused refusal =
     one-way refused.oil refused.src refused.arr r s refused.is (subst (λ x. IsRefusal x refused.src refused.arr s) oil_is by_src)
 
 refused-verdict : (old : Files) (c : Building) (config : Config) (app : App) (oil src arr : List ℕ) (r : Refusal)
-    → AreThere old c oil src arr → AreAccepted oil src config app → NoFault (ArrivalsFault (names_of config) (counter_names config) arr) → IsRefused old c r → ⊥
+    → AreThere old c oil src arr → AreAccepted oil src config app → NoFault (ArrivalsFault (task_names config) (counter_names config) arr) → IsRefused old c r → ⊥
 refused-verdict old c config app oil src arr r there h none refused =
     let i = refused.inputs in
     let oil_is : refused.oil ≡ oil = told old c.oil refused.oil oil there.tells i.oil_read there.inputs.oil_read in
@@ -209,7 +209,7 @@ stands wanted answer words old new text w q (inr p) = absurd (no-broken-put old.
 
 -- the inputs have one meaning
 one-app : (old : Files) (c : Building) (oil src arr : List ℕ) (config other : Config) (app another : App) (arrivals others : List Arrival)
-    → AreThere old c oil src arr → AreAccepted oil src config app → AreRead (names_of config) (counter_names config) arr arrivals → IsAccepted old c other another others
+    → AreThere old c oil src arr → AreAccepted oil src config app → AreRead (task_names config) (counter_names config) arr arrivals → IsAccepted old c other another others
     → (other ≡ config) × (another ≡ app) × (others ≡ arrivals)
 one-app old c oil src arr config other app another arrivals others there h read g =
     let i = g.inputs in
@@ -218,8 +218,8 @@ one-app old c oil src arr config other app another arrivals others there h read 
     let arr_is : g.arr ≡ arr = told-arrivals old c.run g.arr arr there.tells i.arr_read there.inputs.arr_read in
     let by_src : AreAccepted g.oil src other another = subst (λ x. AreAccepted g.oil x other another) src_is g.accepted in
     let same = one_meaning oil src other config another app (subst (λ x. AreAccepted x src other another) oil_is by_src) h in
-    let by_names = ap (λ (k : Config). arrivals_in (names_of k) (counter_names k) g.arr) same.0 in
-    let by_text = ap (λ x. arrivals_in (names_of config) (counter_names config) x) arr_is in
+    let by_names = ap (λ (k : Config). arrivals_in (task_names k) (counter_names k) g.arr) same.0 in
+    let by_text = ap (λ x. arrivals_in (task_names config) (counter_names config) x) arr_is in
     (same.0, same.1, g.read.arrivals_are ∙ (by_names ∙ (by_text ∙ sym read.arrivals_are)))
 
 -- an image of one is an image of the other
@@ -229,7 +229,7 @@ image-of config other app another image same h =
     subst (λ x. IsBuiltImage config x image) same.1 (subst (λ x. IsBuiltImage x another image) same.0 h)
 
 module _ (old new : World) (c : Building) (oil src arr : List ℕ) (config : Config) (app : App) (arrivals : List Arrival)
-    (there : AreThere old.files c oil src arr) (h : AreAccepted oil src config app) (read : AreRead (names_of config) (counter_names config) arr arrivals)
+    (there : AreThere old.files c oil src arr) (h : AreAccepted oil src config app) (read : AreRead (task_names config) (counter_names config) arr arrivals)
     (works : CallsWork c config app arrivals old new) where
   complete-by : (wanted answer : Status) (words : List (List ℕ)) (text : List ℕ) → Requires wanted words old.files new.files text
       → Puts wanted answer old.sink new.sink text → IsCommand words (Builds c)

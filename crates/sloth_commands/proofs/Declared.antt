@@ -4,6 +4,7 @@ use Rattle.std.specs.Prelude.{codes}
 use Rattle.std.specs.Fmt.{digits}
 use Rattle.std.proofs.lemmas.List.{take-append-drop, length-drop, length-map}
 use Rattle.sloth_base.specs.declared.config.Config.{Config}
+use Rattle.sloth_base.specs.Limits.{task_limit}
 use Rattle.app_gen.specs.Oil.{oil_text, event_object, resource_object, schedule_of, autostart_of, event_attribute, task_object}
 use Rattle.app_gen.specs.Pieces.{number_behind}
 use Rattle.oil_lex.specs.Bytes.{class_of, is_word_byte, is_digit, is_hex_digit, is_quoted, is_not_lf}
@@ -63,30 +64,30 @@ same-objects t ts tree are is =
     sym taken.3 ∙ ap (λ (b : PartialTree). b.objects) (sym taken.1.builds) ∙ ap objects_of (tokens_one t ts (tokens_in t) are own)
 
 -- 30 of the objects of the generated text are tasks
-thirty-objects : length (filter (is_of_kind (codes "TASK")) (objects_of (tokens_in (oil_text 30)))) ≡ 30
+thirty-objects : length (filter (is_of_kind (codes "TASK")) (objects_of (tokens_in (oil_text task_limit)))) ≡ task_limit
 unfolding pieces oil_text event_object resource_object schedule_of autostart_of event_attribute task_object number_behind digits class_of is_word_byte is_digit is_hex_digit is_quoted is_not_lf comment_length comment_piece text_piece slash_piece number_piece piece_by next partial_tree_after key_of sign_of shape_by
 thirty-objects = refl
 
-pub thirty-tasks : (config : Config) → OilText (oil_text 30) config → length config.tasks ≡ 30
+pub thirty-tasks : (config : Config) → OilText (oil_text task_limit) config → length config.tasks ≡ task_limit
 thirty-tasks config h =
     let objects : List OilObject = h.tree.objects in
     let tree = h.has_tree in
-    let same = same-objects (oil_text 30) tree.tokens h.tree tree.are_tokens tree.is_file in
+    let same = same-objects (oil_text task_limit) tree.tokens h.tree tree.are_tokens tree.is_file in
     ap (λ (c : Config). length c.tasks) h.means
     ∙ length-map (filter (is_of_kind (codes "TASK")) objects) (declared_task (resource_names objects) (events_of objects))
     ∙ ap (λ (os : List OilObject). length (filter (is_of_kind (codes "TASK")) os)) same
     ∙ thirty-objects
 
 -- none of them is a counter
-no-objects : length (filter (is_of_kind (codes "COUNTER")) (objects_of (tokens_in (oil_text 30)))) ≡ 0
+no-objects : length (filter (is_of_kind (codes "COUNTER")) (objects_of (tokens_in (oil_text task_limit)))) ≡ 0
 unfolding pieces oil_text event_object resource_object schedule_of autostart_of event_attribute task_object number_behind digits class_of is_word_byte is_digit is_hex_digit is_quoted is_not_lf comment_length comment_piece text_piece slash_piece number_piece piece_by next partial_tree_after key_of sign_of shape_by
 no-objects = refl
 
-pub no-counters : (config : Config) → OilText (oil_text 30) config → length config.counters ≡ 0
+pub no-counters : (config : Config) → OilText (oil_text task_limit) config → length config.counters ≡ 0
 no-counters config h =
     let objects : List OilObject = h.tree.objects in
     let tree = h.has_tree in
-    let same = same-objects (oil_text 30) tree.tokens h.tree tree.are_tokens tree.is_file in
+    let same = same-objects (oil_text task_limit) tree.tokens h.tree tree.are_tokens tree.is_file in
     ap (λ (c : Config). length c.counters) h.means
     ∙ length-map (filter (is_of_kind (codes "COUNTER")) objects) declared_counter
     ∙ ap (λ (os : List OilObject). length (filter (is_of_kind (codes "COUNTER")) os)) same

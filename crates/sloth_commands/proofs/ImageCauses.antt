@@ -5,13 +5,13 @@ use Rattle.sloth_base.specs.Arrivals.{AreArrivals}
 use Rattle.sloth_base.specs.declared.event.Arrival.{Arrival}
 use Rattle.sloth_base.specs.declared.image.Image.{Image}
 use Rattle.sloth_base.specs.Owners.{owners_named}
+use Rattle.sloth_base.specs.Limits.{file_limit}
 use Rattle.sloth_io.specs.Sink.{Output, output_with, GainsPart}
 use Rattle.sloth_io.specs.Store.{Files, Holds}
 use Rattle.sloth_io.proofs.Gains.{gains-gains, gains-nil, part-behind}
 use Rattle.image_file.specs.ImageText.{ImageText}
 use Rattle.trace_text.specs.Listing.{listing}
 use Rattle.command_line.specs.Command.{Execution, Executes, Lists}
-use Rattle.sloth_commands.specs.Inputs.{input_limit}
 use Rattle.trace_check.specs.Inputs.{AreRead}
 use Rattle.sloth_commands.specs.ImageFiles.{AreExecInputs, IsRunnable, IsExecuted, IsListed, exec_text}
 use Rattle.sloth_commands.specs.ImageAnswers.{end_status}
@@ -90,7 +90,7 @@ runnable old e image arrivals file arr inputs is read in_range =
 
 -- ---- `list`
 
-pub listed : (old : Files) (img file : List ℕ) (image : Image) → Holds old img file → length file ≤ input_limit → ImageText file image
+pub listed : (old : Files) (img file : List ℕ) (image : Image) → Holds old img file → length file ≤ file_limit → ImageText file image
     → IsListed old img (listing image)
 listed old img file image read short is = record { file = file; image = image; input = record { read = read; short = short }; is_image = is; text_is = refl }
 

@@ -5,6 +5,7 @@ use Rattle.sloth_base.specs.declared.event.Arrival.{Arrival}
 use Rattle.sloth_base.specs.declared.image.Image.{Image}
 use Rattle.sloth_base.specs.declared.refusal.Part.TheVariants.{Arr}
 use Rattle.sloth_base.specs.declared.refusal.Refusal.{Refusal}
+use Rattle.sloth_base.specs.Limits.{file_limit}
 use Rattle.least_fault.specs.Order.{IsLeast}
 use Rattle.sloth_io.specs.Store.{Files, Holds, IsMissing, IsTooLong}
 use Rattle.image_file.specs.ImageText.{ImageText}
@@ -25,7 +26,6 @@ use Rattle.tool_answers.specs.Statuses.{tool_status}
 use Rattle.sloth_commands.specs.ToolFiles.{IsToolAnswer, ReadsImageFirst}
 use Rattle.sloth_commands.proofs.ToolReads.{told-inputs, none-unread as no-tool-unread}
 use Rattle.sloth_commands.proofs.ToolComplete.{AnswersAs, tool-image}
-use Rattle.sloth_commands.specs.Inputs.{input_limit}
 use Rattle.trace_check.specs.Inputs.{AreRead}
 use Rattle.sloth_commands.specs.ImageFiles.{AreExecInputs, ReadsImageFile, IsRunnable, IsExecuted, IsNoImage, exec_text}
 use Rattle.sloth_commands.specs.ImageAnswers.{end_status, LinesWork, AnswersNoImage, AnswersFault, TellsFault, TellsNoImage, TellsExecRefused, TellsExecuted, TellsListed}
@@ -44,7 +44,7 @@ use Rattle.trace_check.proofs.Refused.{of-arrivals}
 -- ---- the inputs that are told
 
 no-exec-unread : (P : List ℕ → Type 0) (old : Files) (e : Execution) (file arr : List ℕ) → AreExecInputs old e file arr
-    → ((name bytes : List ℕ) → Holds old name bytes → length bytes ≤ input_limit → P name → ⊥) → FirstUnread old P (e.img ∷ e.arr ∷ []) → ⊥
+    → ((name bytes : List ℕ) → Holds old name bytes → length bytes ≤ file_limit → P name → ⊥) → FirstUnread old P (e.img ∷ e.arr ∷ []) → ⊥
 no-exec-unread P old e file arr i f (inl h) = f e.img file i.image_file.read i.image_file.short h
 no-exec-unread P old e file arr i f (inr h) = behind h.1
   where
@@ -53,12 +53,12 @@ no-exec-unread P old e file arr i f (inr h) = behind h.1
     behind (inr h) = h.1
 
 no-list-unread : (P : List ℕ → Type 0) (old : Files) (img file : List ℕ) → IsInput old img file
-    → ((name bytes : List ℕ) → Holds old name bytes → length bytes ≤ input_limit → P name → ⊥) → FirstUnread old P (img ∷ []) → ⊥
+    → ((name bytes : List ℕ) → Holds old name bytes → length bytes ≤ file_limit → P name → ⊥) → FirstUnread old P (img ∷ []) → ⊥
 no-list-unread P old img file i f (inl h) = f img file i.read i.short h
 no-list-unread P old img file i f (inr h) = h.1
 
 none-unread : (P : List ℕ → Type 0) (old : Files) (c : Command) (file : List ℕ) → ReadsImageFile old c file
-    → ((name bytes : List ℕ) → Holds old name bytes → length bytes ≤ input_limit → P name → ⊥) → FirstUnread old P (inputs_of c) → ⊥
+    → ((name bytes : List ℕ) → Holds old name bytes → length bytes ≤ file_limit → P name → ⊥) → FirstUnread old P (inputs_of c) → ⊥
 none-unread P old (Builds b) file i f h = i
 none-unread P old (Executes e) file i f h = no-exec-unread P old e file i.0 i.1 f h
 none-unread P old (Lists img) file i f h = no-list-unread P old img file i f h
@@ -71,7 +71,7 @@ no-failed-read old new c file tells i works =
 
 no-long-read : (old new : Files) (c : Command) (file : List ℕ) → IsTrue old.tells → ReadsImageFile old c file → IsLongRead old new c → ⊥
 no-long-read old new c file tells i =
-    none-unread (λ name. IsTooLong old new name input_limit) old c file i (λ name bytes holds short. not-long old new name bytes tells holds short)
+    none-unread (λ name. IsTooLong old new name file_limit) old c file i (λ name bytes holds short. not-long old new name bytes tells holds short)
 
 told-file : (old : Files) (c : Command) (one other : List ℕ) → IsTrue old.tells → ReadsImageFile old c one → ReadsImageFile old c other → one ≡ other
 told-file old (Builds b) one other tells h i = absurd h

@@ -14,4 +14,5 @@ mod ToolReads
 mod LinePuts
 pub mod Declared
 pub mod Registers
+pub mod TaskDeclared
 pub mod Printed

@@ -8,6 +8,7 @@ use Rattle.sloth_base.specs.declared.image.Image.{Image}
 use Rattle.sloth_base.specs.declared.lines.Owners.{Owners}
 use Rattle.sloth_base.specs.Arrivals.{AreArrivals}
 use Rattle.sloth_base.specs.Owners.{IsOwned, owners_in}
+use Rattle.sloth_base.specs.Limits.{count_limit}
 use Rattle.code_rules.specs.AppRange.{AppInRange}
 use Rattle.osek_blocking.proofs.WithoutArrivals.{only_run}
 use Rattle.sim_induction.specs.Sound.{Sound, events_of}
@@ -18,7 +19,7 @@ use Rattle.sloth_commands.specs.Top.{RunsAreOnly}
 no_arrivals : (owners : Owners) → AreArrivals owners []
 no_arrivals owners = record {
   few = omega arith;
-  moments_in_range = All-nil (λ (a : Arrival). a.at ≤ 1000000);
+  moments_in_range = All-nil (λ (a : Arrival). a.at ≤ count_limit);
   ordered = tt;
   lines_owned = All-nil (λ (a : Arrival). IsOwned owners a.line);
 }

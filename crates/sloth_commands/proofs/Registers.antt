@@ -1,5 +1,5 @@
 -- The results and statuses that are observed of a run are values of registers, and so below 2^32.
-use Rattle.std.proofs.Common.{◌≡◌, ◌∙◌, ℕ, zero, suc, ◌+◌, ◌<◌, List, [], ◌∷◌, ◌++◌, Bool, true, false, Option, Some, None, map, refl, sym, ap, subst, arith, replicate}
+use Rattle.std.proofs.Common.{◌≡◌, ◌∙◌, ℕ, zero, suc, ◌+◌, ◌<◌, List, [], ◌∷◌, ◌++◌, Bool, true, false, Option, Some, None, map, refl, sym, ap, subst}
 use Rattle.std.specs.Prelude.{◌==◌, nat_lt, if◌then◌else◌, not, filter, slice_index}
 use Rattle.std.specs.List.{AllByRecursion, flat_map}
 use Rattle.sloth_base.specs.Arrivals.{moments}
@@ -26,11 +26,10 @@ use Rattle.rv32_machine.specs.Start.{start}
 use Rattle.observe.specs.Pieces.{Piece, Outside, Stretch, cut_off_steps, is_outside, pieces}
 use Rattle.observe.specs.Pieces as cut
 use Rattle.observe.specs.Observe.{NO_COUNTER, NO_TASK, View, admission, arrival_event, entry_event, events_of_kind, found_admits, is_early, last_of, later_event, mark_at, marked_event, first_masked_moment, observe, outside_events, piece_events, running_task, service_event, stamp, stretch_event, unentered_event, view_of_image}
-use Rattle.sim_entries.proofs.Boot.{ram_at}
-use Rattle.sim_entries.proofs.Spot.{zero_at}
 use Rattle.sim_induction.specs.Sound.{events_of}
 use Rattle.sim_laws.specs.Bounded.{IsBounded}
 use Rattle.sim_laws.proofs.Bounded.{bounds_stay}
+use Rattle.sim_laws.proofs.KernelRuns.{start_bounded}
 use Rattle.sim_relation.specs.Bounds.{AreBelow}
 
 -- ---- the steps of a run
@@ -64,40 +63,13 @@ steps_fit (suc n) arrivals count state h = by (moment arrivals count state) refl
         (subst P (sym (registers_after arrivals count state s after e)) bounded.core.registers, more after bounded)
     by (Halts stop) e more = tt
 
-zero_below : (bound n : ℕ) → 0 < bound → AreBelow bound (replicate n 0)
-zero_below bound n h i = let z = zero_at n i in omega (arith, z, h)
-
-starts_bounded : (image : Image) → AreBelow 256 image.memory → IsBounded (start image)
-starts_bounded image bytes = record {
-  pc = omega arith;
-  core = record {
-    registers = zero_below 4294967296 32 (omega arith);
-    scratch = omega arith;
-    return_address = omega arith;
-    level = omega arith;
-    previous_level = omega arith;
-    bytes = λ i. (let a = ram_at image.memory i in let c = bytes i in omega arith);
-    pending = zero_below 256 32 (omega arith);
-    enabled = zero_below 256 32 (omega arith);
-    levels = zero_below 256 32 (omega arith);
-  };
-}
-
 -- ---- the events that they show
 
 -- the result or the status of an event is below 2^32
 abbrev pub HasValue : Event → Type 0
-HasValue event.Boot = Unit {0}
-HasValue (event.Admit t) = Unit {0}
-HasValue (event.Enter t) = Unit {0}
 HasValue (event.Run t function item result) = result < 4294967296
 HasValue (event.Call t called status) = status < 4294967296
-HasValue (event.Left t called) = Unit {0}
-HasValue (event.Back t) = Unit {0}
-HasValue event.Idle = Unit {0}
-HasValue event.Stray = Unit {0}
-HasValue (event.Due c) = Unit {0}
-HasValue (event.Tick c) = Unit {0}
+HasValue _ = Unit {0}
 
 abbrev pub HasValueAt : Stamped → Type 0
 HasValueAt e = HasValue e.event
@@ -220,4 +192,4 @@ module _ (view : View) where
 
 pub values_fit : (image : Image) (arrivals : List Arrival) (n : ℕ) → AreBelow 256 image.memory → AllByRecursion HasValueAt (events_of image arrivals n)
 values_fit image arrivals n bytes =
-    observed_fit (view_of_image image) arrivals (steps_of (run_from n arrivals 0 (start image))) (steps_fit n arrivals 0 (start image) (starts_bounded image bytes))
+    observed_fit (view_of_image image) arrivals (steps_of (run_from n arrivals 0 (start image))) (steps_fit n arrivals 0 (start image) (start_bounded image bytes))

@@ -6,6 +6,7 @@ use Rattle.sloth_base.specs.Arrivals.{AreArrivals}
 use Rattle.sloth_base.specs.declared.event.Arrival.{Arrival}
 use Rattle.sloth_base.specs.declared.image.Image.{Image}
 use Rattle.sloth_base.specs.Owners.{owners_in}
+use Rattle.sloth_base.specs.Limits.{count_limit}
 use Rattle.sloth_io.specs.Sink.{Output}
 use Rattle.sloth_io.specs.Store.{Files}
 use Rattle.image_file.specs.ImageText.{image_bytes}
@@ -47,9 +48,9 @@ sampled old new seed img image is written = record {
   is_image = is.is_image;
   written = written;
   text_is = refl;
-  whole = whole-run is.config is.app image (sample_arrivals seed) 1000000 is.is_image.sound is.in_range (omega arith);
-  protocol = is.is_image.protocol (sample_arrivals seed) 1000000 is.in_range (omega arith);
-  bounds = is.is_image.bounds (sample_arrivals seed) 1000000 is.in_range (omega arith);
+  whole = whole-run is.config is.app image (sample_arrivals seed) count_limit is.is_image.sound is.in_range (omega arith);
+  protocol = is.is_image.protocol (sample_arrivals seed) count_limit is.in_range (omega arith);
+  bounds = is.is_image.bounds (sample_arrivals seed) count_limit is.in_range (omega arith);
 }
 
 pub sample-failed : (f : Failure) (old : Files) (sink : Output) (new : World) (seed : ℕ) (img : List ℕ) (image : Image)

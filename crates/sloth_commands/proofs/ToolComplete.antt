@@ -1,6 +1,7 @@
 -- Which answer a tool has, where the files that it reads are told.
 use Rattle.std.proofs.Common.{◌≡◌, ◌∙◌, inl, inr, ℕ, List, ◌∷◌, length, refl, ap, subst}
 use Rattle.std.specs.Prelude.{IsTrue, ◌⊎◌, Option, Some, None, codes}
+use Rattle.sloth_base.specs.Limits.{file_limit}
 use Rattle.sloth_io.specs.Counts.{Rose}
 use Rattle.sloth_io.specs.Store.{Files, IsMissing, IsTooLong}
 use Rattle.image_file.specs.declared.fault.ImageFault.{ImageFault}
@@ -14,7 +15,6 @@ use Rattle.tool_answers.specs.declared.answer.Outcome.{Outcome}
 use Rattle.tool_answers.specs.declared.answer.ToolAnswer.{ToolAnswer}
 use Rattle.tool_answers.specs.declared.answer.ToolAnswer.TheVariants as tool_answer
 use Rattle.tool_commands.proofs.OneAnswer.{HasImage, image-or-fault, no-image, one_answer}
-use Rattle.sloth_commands.specs.Inputs.{input_limit}
 use Rattle.sloth_commands.specs.ImageFiles.{IsNoImage}
 use Rattle.tool_answers.specs.Statuses.{tool_status}
 use Rattle.sloth_commands.specs.ToolFiles.{AreToolInputs, IsToolAnswer, ReadsImageFirst}
@@ -42,7 +42,7 @@ no-failed-tool-read old new u inputs tells i works =
 pub no-long-tool-read : (old new : Files) (u : ToolUse) (inputs : List (List ℕ)) → IsTrue old.tells → AreToolInputs old u.inputs inputs
     → IsLongRead old new (Uses u) → ⊥
 no-long-tool-read old new u inputs tells i =
-    none-unread (λ name. IsTooLong old new name input_limit) old u.inputs inputs i (λ name bytes holds short. not-long old new name bytes tells holds short)
+    none-unread (λ name. IsTooLong old new name file_limit) old u.inputs inputs i (λ name bytes holds short. not-long old new name bytes tells holds short)
 
 -- what an answer says of the image file that a tool reads first
 pub tool-image : (old : Files) (u : ToolUse) (file : List ℕ) (b : ToolAnswer) → IsTrue old.tells → ReadsImageFirst old u file → IsToolAnswer old u b

@@ -3,10 +3,10 @@ use Rattle.std.proofs.Common.{◌≡◌, ◌≤◌, ◌<◌, ◌+◌, ◌∙◌,
 use Rattle.std.specs.Prelude.{IsTrue, String, string_bytes}
 use Rattle.std.proofs.lemmas.List.{take_more, map-append, take-append-drop}
 use Rattle.std.specs.List.{AllByRecursion}
+use Rattle.sloth_base.specs.Limits.{file_limit}
 use Rattle.sloth_io.specs.Counts.{Rose}
 use Rattle.sloth_io.specs.Store.{Files, Holds, KeepsFiles, IsMissing, IsTooLong}
 use Rattle.command_line.specs.Command.{words_of}
-use Rattle.sloth_commands.specs.Inputs.{input_limit}
 use Rattle.sloth_commands.specs.FileInputs.{IsInput}
 use Rattle.sloth_commands.specs.ToolFiles.{AreToolInputs}
 use Rattle.sloth_commands.specs.Top.{FirstUnread}
@@ -41,7 +41,7 @@ missing-kept old mid new name kept (inl h) =
     inl (rose-below old.failed_reads mid.failed_reads new.failed_reads more rose, sym kept.sure ∙ h.1)
 missing-kept old mid new name kept (inr h) = inr (subst (λ t. IsTrue t) kept.tells h.0, sym (kept.holds name) ∙ h.1)
 
-long-kept : (old mid new : Files) (name : List ℕ) → KeepsFiles old mid → IsTooLong mid new name input_limit → IsTooLong old new name input_limit
+long-kept : (old mid new : Files) (name : List ℕ) → KeepsFiles old mid → IsTooLong mid new name file_limit → IsTooLong old new name file_limit
 long-kept old mid new name kept h =
     let more = kept.overlong_reads in
     let rose = h.0 in (
@@ -54,8 +54,8 @@ pub fetch-ends : (f : Failure) (old mid new : Files) (names inputs : List (List 
 fetch-ends failure.ReadFault old mid new names inputs name rest all are kept e h =
     subst (λ xs. FirstUnread old (IsMissing old new) xs) e (unread-behind old (IsMissing old new) names inputs name rest are (missing-kept old mid new name kept h))
 fetch-ends failure.TooLong old mid new names inputs name rest all are kept e h =
-    subst (λ xs. FirstUnread old (λ n. IsTooLong old new n input_limit) xs) e
-    (unread-behind old (λ n. IsTooLong old new n input_limit) names inputs name rest are (long-kept old mid new name kept h))
+    subst (λ xs. FirstUnread old (λ n. IsTooLong old new n file_limit) xs) e
+    (unread-behind old (λ n. IsTooLong old new n file_limit) names inputs name rest are (long-kept old mid new name kept h))
 fetch-ends failure.NoMemory old mid new names inputs name rest all are kept e h = tt
 fetch-ends (failure.Refused r) old mid new names inputs name rest all are kept e h = absurd h
 fetch-ends (failure.NotAnImage r) old mid new names inputs name rest all are kept e h = absurd h
@@ -89,14 +89,14 @@ kept-none files = record {
   failed_writes = refl;
 }
 
-pub input-kept : (old mid : Files) (name bytes : List ℕ) → KeepsFiles old mid → Holds mid name bytes → length bytes ≤ input_limit → IsInput old name bytes
+pub input-kept : (old mid : Files) (name bytes : List ℕ) → KeepsFiles old mid → Holds mid name bytes → length bytes ≤ file_limit → IsInput old name bytes
 input-kept old mid name bytes kept holds short = record {
   read = λ tells. sym (kept.holds name) ∙ holds (subst (λ t. IsTrue t) (sym kept.tells) tells);
   short = short;
 }
 
 -- each is short
-pub all-short : (files : Files) (names inputs : List (List ℕ)) → AreToolInputs files names inputs → AllByRecursion (λ input. length input ≤ 4194304) inputs
+pub all-short : (files : Files) (names inputs : List (List ℕ)) → AreToolInputs files names inputs → AllByRecursion (λ input. length input ≤ file_limit) inputs
 all-short files [] [] h = tt
 all-short files [] (b ∷ inputs) h = absurd h
 all-short files (n ∷ names) [] h = absurd h
@@ -124,7 +124,7 @@ told-inputs files (n ∷ names) (b ∷ one) (c ∷ other) tells h i =
 
 -- of files that are there none is the first that is not read
 pub none-unread : (P : List ℕ → Type 0) (old : Files) (names inputs : List (List ℕ)) → AreToolInputs old names inputs
-    → ((name bytes : List ℕ) → Holds old name bytes → length bytes ≤ input_limit → P name → ⊥) → FirstUnread old P names → ⊥
+    → ((name bytes : List ℕ) → Holds old name bytes → length bytes ≤ file_limit → P name → ⊥) → FirstUnread old P names → ⊥
 none-unread P old [] inputs i f h = h
 none-unread P old (n ∷ names) [] i f h = i
 none-unread P old (n ∷ names) (b ∷ inputs) i f (inl h) = f n b i.0.read i.0.short h
@@ -152,7 +152,7 @@ pub record AreFetched (old mid : Files) (names : List (String Global)) (i : ℕ)
   pub kept : KeepsFiles old mid
 
 pub fetched-more : (old mid new : Files) (names : List (String Global)) (i : ℕ) (d : String Global) (inputs after : List (List ℕ)) (name bytes : List ℕ) → i < length names
-    → AreFetched old mid names i inputs → name ≡ string_bytes (get_or names i d) → Holds mid name bytes → length bytes ≤ input_limit → KeepsFiles mid new
+    → AreFetched old mid names i inputs → name ≡ string_bytes (get_or names i d) → Holds mid name bytes → length bytes ≤ file_limit → KeepsFiles mid new
     → after ≡ inputs ++ bytes ∷ [] → AreFetched old new names (i + 1) after
 fetched-more old mid new names i d inputs after name bytes lt before is holds short kept e =
     let one : IsInput old (string_bytes (get_or names i d)) bytes =

@@ -6,6 +6,7 @@ use Rattle.sloth_base.specs.declared.app.App.{App}
 use Rattle.sloth_base.specs.declared.config.Config.{Config}
 use Rattle.sloth_base.specs.declared.event.Arrival.{Arrival}
 use Rattle.sloth_base.specs.declared.image.Image.{Image}
+use Rattle.sloth_base.specs.Limits.{count_limit}
 use Rattle.code_rules.specs.AppRange.{AppInRange}
 use Rattle.rv32_expand.specs.InPlace.{ItemsInPlace}
 use Rattle.sim_induction.specs.Sound.{Sound}
@@ -16,7 +17,7 @@ use Rattle.sloth_runner.specs.Runner.{run_text}
 
 -- the text of each run, in the counted form, is that of a run of the abstract scheduler in which the arrivals are admitted in time
 abbrev pub RunsAreChecked : Config → App → Image → Type 0
-RunsAreChecked config app image = (arrivals : List Arrival) (n : ℕ) → AreArrivals (owners_in config) arrivals → n ≤ 1000000
+RunsAreChecked config app image = (arrivals : List Arrival) (n : ℕ) → AreArrivals (owners_in config) arrivals → n ≤ count_limit
     → Checked config app arrivals (run_text image arrivals Counted n) n
 
 -- so it is of a sound image with its items in place, whose bytes are below 256

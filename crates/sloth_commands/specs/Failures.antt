@@ -7,6 +7,7 @@ use Rattle.sloth_io.specs.Store.{Files, KeepsOthers, IsMissing, IsTooLong, IsUnw
 use Rattle.sloth_io.specs.declared.store.StoreFault.{StoreFault}
 use Rattle.sloth_io.specs.declared.store.StoreFault.TheVariants as fault
 use Rattle.sloth_base.specs.declared.image.Image.{Image}
+use Rattle.sloth_base.specs.Limits.{file_limit}
 use Rattle.least_fault.specs.Order.{IsLeast}
 use Rattle.trace_text.specs.ArrivalsText.{ArrivalsFault}
 use Rattle.image_file.specs.ImageText.{ImageText}
@@ -19,7 +20,6 @@ use Rattle.command_line.specs.Command.{Command, Builds, Executes, Lists, Samples
 use Rattle.tool_commands.specs.Lines.{tool_text}
 use Rattle.tool_answers.specs.declared.answer.ToolAnswer.{ToolAnswer}
 use Rattle.tool_answers.specs.declared.answer.ToolAnswer.TheVariants as tool_answer
-use Rattle.sloth_commands.specs.Inputs.{input_limit}
 use Rattle.sloth_commands.specs.ImageFiles.{IsNoImage}
 use Rattle.command_line.specs.LastLine.{refusal_line, no_image_line}
 use Rattle.sloth_commands.specs.Samples.{sample_oil, sample_source}
@@ -50,14 +50,14 @@ image_failure image_error.Memory = failure.NoMemory
 -- the file of this name was not read for this reason
 abbrev pub FetchFailed : Failure → Files → Files → List ℕ → Type 0
 FetchFailed failure.ReadFault old new name = IsMissing old new name
-FetchFailed failure.TooLong old new name = IsTooLong old new name input_limit
+FetchFailed failure.TooLong old new name = IsTooLong old new name file_limit
 FetchFailed failure.NoMemory old new name = Unit {0}
 FetchFailed _ old new name = ⊥
 
 -- not all of these files were read for this reason, which is that of the first that was not
 abbrev pub ReadFailed : Failure → Files → Files → List (List ℕ) → Type 0
 ReadFailed failure.ReadFault old new names = FirstUnread old (IsMissing old new) names
-ReadFailed failure.TooLong old new names = FirstUnread old (λ name. IsTooLong old new name input_limit) names
+ReadFailed failure.TooLong old new names = FirstUnread old (λ name. IsTooLong old new name file_limit) names
 ReadFailed failure.NoMemory old new names = Unit {0}
 ReadFailed _ old new names = ⊥
 

@@ -1,4 +1,3 @@
-pub mod Inputs
 pub mod ImageFiles
 pub mod Samples
 pub mod Top

@@ -8,6 +8,7 @@ use Rattle.sloth_base.specs.declared.refusal.Refusal.{Refusal}
 use Rattle.sloth_base.specs.Arrivals.{AreArrivals}
 use Rattle.sloth_base.specs.ImageRange.{InFormat}
 use Rattle.sloth_base.specs.Owners.{owners_in}
+use Rattle.sloth_base.specs.Limits.{file_limit, count_limit}
 use Rattle.sloth_commands.specs.CheckedRuns.{RunsAreChecked}
 use Rattle.rv32_expand.specs.InPlace.{ItemsInPlace}
 use Rattle.osek_blocking.specs.Protocol.{KeepsCeilingProtocol}
@@ -31,9 +32,8 @@ use Rattle.tool_answers.specs.declared.answer.ToolAnswer.{ToolAnswer}
 use Rattle.tool_answers.specs.declared.answer.ToolAnswer.TheVariants as tool_answer
 use Rattle.tool_answers.specs.declared.answer.Outcome.{Outcome}
 use Rattle.tool_answers.specs.declared.answer.TraceFault.{TraceFault}
-use Rattle.trace_check.specs.Inputs.{names_of, IsRefusal}
-use Rattle.trace_check.specs.Verdicts.{counter_names}
-use Rattle.sloth_commands.specs.Inputs.{input_limit}
+use Rattle.trace_check.specs.Inputs.{IsRefusal}
+use Rattle.sloth_base.specs.DeclaredNames.{task_names, counter_names}
 use Rattle.trace_check.specs.Inputs.{AreRead}
 use Rattle.tool_answers.specs.Statuses.{tool_status}
 use Rattle.sloth_commands.specs.ToolFiles.{IsToolAnswer}
@@ -79,13 +79,13 @@ pub record AreInputs (files : Files) (c : Building) (oil src arr : List ℕ) : T
   pub oil_read : Holds files c.oil oil
   pub src_read : Holds files c.src src
   pub arr_read : HoldsArrivals files c.run arr
-  pub oil_short : length oil ≤ input_limit
-  pub src_short : length src ≤ input_limit
-  pub arr_short : length arr ≤ input_limit
+  pub oil_short : length oil ≤ file_limit
+  pub src_short : length src ≤ file_limit
+  pub arr_short : length arr ≤ file_limit
 
 -- a file of at most 4 MiB is there, where the store tells its files
 abbrev pub IsReadable : Files → List ℕ → Type 0
-IsReadable files name = (bytes : List ℕ) × Holds files name bytes × (length bytes ≤ input_limit)
+IsReadable files name = (bytes : List ℕ) × Holds files name bytes × (length bytes ≤ file_limit)
 
 -- the first of these files that is not read is so; those before it are readable
 abbrev pub FirstUnread : Files → (List ℕ → Type 0) → List (List ℕ) → Type 0
@@ -98,7 +98,7 @@ IsFailedRead old new c = FirstUnread old (IsMissing old new) (inputs_of c)
 
 -- the first input that is not read is longer than 4 MiB
 abbrev pub IsLongRead : Files → Files → Command → Type 0
-IsLongRead old new c = FirstUnread old (λ name. IsTooLong old new name input_limit) (inputs_of c)
+IsLongRead old new c = FirstUnread old (λ name. IsTooLong old new name file_limit) (inputs_of c)
 
 -- ---- what stands after an answer
 
@@ -122,25 +122,25 @@ pub record IsAccepted (old : Files) (c : Building) (config : Config) (app : App)
   pub arr : List ℕ
   pub inputs : AreInputs old c oil src arr
   pub accepted : AreAccepted oil src config app
-  pub read : AreRead (names_of config) (counter_names config) arr arrivals
+  pub read : AreRead (task_names config) (counter_names config) arr arrivals
   -- so they are among those of which an image is sound
   pub in_range : AreArrivals (owners_in config) arrivals
 
 -- in every run of an image, whatever lines arrive, the observed events keep the priority ceiling protocol
 abbrev pub RunsKeepProtocol : Config → App → Image → Type 0
 RunsKeepProtocol config app image =
-    (arrivals : List Arrival) (n : ℕ) → AreArrivals (owners_in config) arrivals → n ≤ 1000000
+    (arrivals : List Arrival) (n : ℕ) → AreArrivals (owners_in config) arrivals → n ≤ count_limit
     → KeepsCeilingProtocol config app (events_of image arrivals n)
 
 -- and the blocking bounds of the tasks
 abbrev pub RunsKeepBlockingBounds : Config → App → Image → Type 0
 RunsKeepBlockingBounds config app image =
-    (arrivals : List Arrival) (n : ℕ) → AreArrivals (owners_in config) arrivals → n ≤ 1000000
+    (arrivals : List Arrival) (n : ℕ) → AreArrivals (owners_in config) arrivals → n ≤ count_limit
     → KeepsBlockingBounds config app n (events_of image arrivals n)
 
 -- in every run of an image in which no line arrives, the observed events are the only run of their number of the abstract scheduler
 abbrev pub RunsAreOnly : Config → App → Image → Type 0
-RunsAreOnly config app image = (n : ℕ) → n ≤ 1000000 → IsOnlyRun config app (events_of image [] n)
+RunsAreOnly config app image = (n : ℕ) → n ≤ count_limit → IsOnlyRun config app (events_of image [] n)
 
 -- an image of a configuration and its task code
 pub record IsBuiltImage (config : Config) (app : App) (image : Image) : Type 0 where
@@ -161,7 +161,7 @@ pub record IsBuiltImage (config : Config) (app : App) (image : Image) : Type 0 w
   -- its numbers and names are those of an image file
   pub format : InFormat image
   -- its tasks and counters have the names of the configuration
-  pub names : image.tasks ≡ names_of config
+  pub names : image.tasks ≡ task_names config
   pub counters : image.counters ≡ counter_names config
 
 -- the events that a run of the image shows keep the priority ceiling protocol; a command that runs nothing shows none
@@ -218,10 +218,10 @@ pub record IsSampled (old new : Files) (seed : ℕ) (img text : List ℕ) : Type
   pub written : IsWritten old new img (image_bytes image)
   pub text_is : text ≡ sample_text image (sample_arrivals seed)
   -- so all its instructions are run
-  pub whole : run_end image (sample_arrivals seed) 1000000 ≡ ends.Whole
+  pub whole : run_end image (sample_arrivals seed) count_limit ≡ ends.Whole
   -- and the events that are counted keep the priority ceiling protocol and the blocking bounds
-  pub protocol : KeepsCeilingProtocol config app (events_of image (sample_arrivals seed) 1000000)
-  pub bounds : KeepsBlockingBounds config app 1000000 (events_of image (sample_arrivals seed) 1000000)
+  pub protocol : KeepsCeilingProtocol config app (events_of image (sample_arrivals seed) count_limit)
+  pub bounds : KeepsBlockingBounds config app count_limit (events_of image (sample_arrivals seed) count_limit)
 
 -- the generated texts are accepted, the write of the image's file failed, and no other file has changed
 pub record IsUnwrittenSample (old new : Files) (seed : ℕ) (img : List ℕ) : Type 0 where
@@ -412,5 +412,5 @@ TellsRefused words old new answer =
 abbrev pub IsComplete : List (List ℕ) → World → World → Status → Type 0
 IsComplete words old new answer =
     (c : Building) → IsCommand words (Builds c) → (oil src arr : List ℕ) → AreThere old.files c oil src arr
-    → (config : Config) (app : App) → AreAccepted oil src config app → (arrivals : List Arrival) → AreRead (names_of config) (counter_names config) arr arrivals
+    → (config : Config) (app : App) → AreAccepted oil src config app → (arrivals : List Arrival) → AreRead (task_names config) (counter_names config) arr arrivals
     → CallsWork c config app arrivals old new → EndsAs status.Done words old new answer ⊎ EndsAs status.NoMemory words old new answer

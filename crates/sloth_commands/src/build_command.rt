@@ -3,18 +3,17 @@ ghost use Rattle.std.specs.Prelude.{◌≤◌, IfOk, IfErr, OnOk, length};
 ghost use Rattle.sloth_base.specs.Arrivals.{AreArrivals};
 ghost use Rattle.sloth_base.specs.Owners.{owners_in, owners_named};
 ghost use Rattle.sloth_base.specs.ImageRange.{InFormat};
+ghost use Rattle.sloth_base.specs.Limits.{file_limit, count_limit};
 ghost use Rattle.sloth_io.specs.Store.{KeepsFiles};
 ghost use Rattle.image_file.specs.ImageText.{image_bytes};
 ghost use Rattle.sloth_source.specs.Texts.{AreAccepted};
 ghost use Rattle.command_line.specs.Command.{Builds, IsInLimit};
 ghost use Rattle.command_line.specs.Words.{building_of, run_of};
-ghost use Rattle.sloth_commands.specs.Inputs.{input_limit};
 ghost use Rattle.trace_check.specs.Inputs.{AreRead};
 ghost use Rattle.command_line.specs.LastLine.{built_line};
 ghost use Rattle.sloth_runner.specs.Runner.{IsFresh, image_of, given_arrivals, run_text};
 ghost use Rattle.sloth_commands.specs.Top.{world, arrivals_named, inputs_of, AreInputs, HoldsArrivals, IsBuiltImage, IsWritten, done_text, Took};
-ghost use Rattle.trace_check.specs.Inputs.{names_of};
-ghost use Rattle.trace_check.specs.Verdicts.{counter_names};
+ghost use Rattle.sloth_base.specs.DeclaredNames.{task_names, counter_names};
 ghost use Rattle.sloth_commands.specs.Failures.{ReadFailed, JudgeFailed, PerformFailed};
 
 use crate::building::build_image;
@@ -47,7 +46,7 @@ fn fetch_arrivals<F: Store>(
     run: &Option<RunWords>,
 ) -> Result<Vec<u8>, Failure>
     ensures ok { IfOk result (λ bytes. HoldsArrivals (F.seen files.old) (run_of run.now) bytes.items) }
-    ensures short { IfOk result (λ bytes. length bytes.items ≤ input_limit) }
+    ensures short { IfOk result (λ bytes. length bytes.items ≤ file_limit) }
     ensures err { IfErr result (λ failure.
         ReadFailed failure (F.seen files.old) (F.seen files.new) (arrivals_named (run_of run.now))) }
     ensures keeps { KeepsFiles (F.seen files.old) (F.seen files.new) }
@@ -82,15 +81,15 @@ pub struct Judged {
     pub arrivals: Vec<Arrival>,
 }
 
-// Judges the inputs, and builds the image.
-fn judge_texts(alloc: Global, inputs: &Inputs) -> Result<Judged, Failure>
-    requires oil { length inputs.now.oil.items ≤ input_limit }
-    requires src { length inputs.now.src.items ≤ input_limit }
-    requires arr { length inputs.now.arr.items ≤ input_limit }
+/// Judges the inputs, and builds the image.
+pub fn judge(alloc: Global, inputs: &Inputs) -> Result<Judged, Failure>
+    requires oil { length inputs.now.oil.items ≤ file_limit }
+    requires src { length inputs.now.src.items ≤ file_limit }
+    requires arr { length inputs.now.arr.items ≤ file_limit }
     ensures accepted { IfOk result (λ judged. AreAccepted inputs.now.oil.items inputs.now.src.items judged.built.config judged.built.app) }
     ensures image { IfOk result (λ judged. IsBuiltImage judged.built.config judged.built.app judged.built.image) }
     ensures read { IfOk result (λ judged.
-        AreRead (names_of judged.built.config) (counter_names judged.built.config) inputs.now.arr.items judged.arrivals.items) }
+        AreRead (task_names judged.built.config) (counter_names judged.built.config) inputs.now.arr.items judged.arrivals.items) }
     ensures in_range { IfOk result (λ judged. AreArrivals (owners_in judged.built.config) judged.arrivals.items) }
     ensures err { IfErr result (λ failure. JudgeFailed failure inputs.now.oil.items inputs.now.src.items inputs.now.arr.items) }
 {
@@ -102,21 +101,6 @@ fn judge_texts(alloc: Global, inputs: &Inputs) -> Result<Judged, Failure>
         built.image.counters.items(),
     )?;
     Ok(Judged { built, arrivals })
-}
-
-/// Judges the inputs, and builds the image.
-pub fn judge(alloc: Global, inputs: Inputs) -> Result<Judged, Failure>
-    requires oil { length inputs.oil.items ≤ input_limit }
-    requires src { length inputs.src.items ≤ input_limit }
-    requires arr { length inputs.arr.items ≤ input_limit }
-    ensures accepted { IfOk result (λ judged. AreAccepted inputs.oil.items inputs.src.items judged.built.config judged.built.app) }
-    ensures image { IfOk result (λ judged. IsBuiltImage judged.built.config judged.built.app judged.built.image) }
-    ensures read { IfOk result (λ judged.
-        AreRead (names_of judged.built.config) (counter_names judged.built.config) inputs.arr.items judged.arrivals.items) }
-    ensures in_range { IfOk result (λ judged. AreArrivals (owners_in judged.built.config) judged.arrivals.items) }
-    ensures err { IfErr result (λ failure. JudgeFailed failure inputs.oil.items inputs.src.items inputs.arr.items) }
-{
-    judge_texts(alloc, &inputs)
 }
 
 // Writes the image's file, and puts its length.
@@ -147,7 +131,7 @@ fn write_and_run<F: Store, S: Sink>(
     runner: &mut Runner,
 ) -> Result<(), Failure>
     requires fresh { IsFresh runner.old }
-    requires few { run.now.n ≤ 1000000 }
+    requires few { run.now.n ≤ count_limit }
     ensures written { OnOk result (IsWritten (F.seen files.old) (F.seen files.new) img.now bytes.now) }
     ensures text { OnOk result (Took (S.seen out.old) (S.seen out.new)
         (run_text (image_of runner.old) (given_arrivals runner.old) run.now.form run.now.n)) }
@@ -173,7 +157,7 @@ fn perform_run<F: Store, S: Sink>(
 ) -> Result<(), Failure>
     requires format { InFormat image.now }
     requires arrivals { AreArrivals (owners_named image.now) arrivals.now }
-    requires few { run.now.n ≤ 1000000 }
+    requires few { run.now.n ≤ count_limit }
     ensures written { OnOk result (IsWritten (F.seen files.old) (F.seen files.new) img.now bytes.now) }
     ensures text { OnOk result (Took (S.seen out.old) (S.seen out.new) (run_text image.now arrivals.now run.now.form run.now.n)) }
     ensures err { IfErr result (λ failure.
@@ -184,8 +168,8 @@ fn perform_run<F: Store, S: Sink>(
     write_and_run(files, out, img, run, bytes, &mut runner)
 }
 
-// Writes the image's file, runs the image where the words say so, and puts the lines.
-fn perform_lent<F: Store, S: Sink>(
+/// Writes the image's file, runs the image where the words say so, and puts the lines.
+pub fn perform<F: Store, S: Sink>(
     alloc: Global,
     files: &mut F,
     out: &mut S,
@@ -216,31 +200,4 @@ fn perform_lent<F: Store, S: Sink>(
             bytes.as_slice(),
         ),
     }
-}
-
-/// Writes the image's file, runs the image where the words say so, and puts the lines.
-pub fn perform<F: Store, S: Sink>(
-    alloc: Global,
-    files: &mut F,
-    out: &mut S,
-    c: &BuildWords,
-    judged: Judged,
-) -> Result<(), Failure>
-    requires format { InFormat judged.built.image }
-    requires arrivals { AreArrivals (owners_named judged.built.image) judged.arrivals.items }
-    requires few { IsInLimit (run_of c.now.run) }
-    ensures written { OnOk result (IsWritten (F.seen files.old) (F.seen files.new) c.now.img.now (image_bytes judged.built.image)) }
-    ensures text { OnOk result (Took (S.seen out.old) (S.seen out.new) (done_text judged.built.image judged.arrivals.items (run_of c.now.run))) }
-    ensures err { IfErr result (λ failure.
-        PerformFailed failure (world (F.seen files.old) (S.seen out.old)) (world (F.seen files.new) (S.seen out.new))
-        c.now.img.now (image_bytes judged.built.image) (done_text judged.built.image judged.arrivals.items (run_of c.now.run))) }
-{
-    perform_lent(
-        alloc,
-        files,
-        out,
-        c,
-        &judged.built.image,
-        judged.arrivals.as_slice(),
-    )
 }

@@ -1,8 +1,7 @@
 //! Builds an image, with what holds of each of its runs.
 ghost use Rattle.std.specs.Prelude.{◌≡◌, ◌<◌, IfOk, IfErr, length};
 ghost use Rattle.sloth_source.specs.Texts.{AreAccepted, ErrorIs};
-ghost use Rattle.trace_check.specs.Inputs.{names_of};
-ghost use Rattle.trace_check.specs.Verdicts.{counter_names};
+ghost use Rattle.sloth_base.specs.DeclaredNames.{task_names, counter_names};
 ghost use Rattle.sloth_commands.specs.Top.{IsBuiltImage};
 
 use sloth_base::refusal::BuildError;
@@ -15,7 +14,7 @@ pub fn build_image(alloc: Global, oil: &[u8], src: &[u8]) -> Result<Built, Build
     requires src { length src.now < 4294967295 }
     ensures accepted { IfOk result (λ built. AreAccepted oil.now src.now built.config built.app) }
     ensures image { IfOk result (λ built. IsBuiltImage built.config built.app built.image) }
-    ensures names { IfOk result (λ built. built.image.tasks ≡ names_of built.config) }
+    ensures names { IfOk result (λ built. built.image.tasks ≡ task_names built.config) }
     ensures counters { IfOk result (λ built. built.image.counters ≡ counter_names built.config) }
     ensures refused { IfErr result (ErrorIs oil.now src.now) }
 {

@@ -3,12 +3,12 @@ ghost use Rattle.std.specs.Prelude.{◌≡◌, ◌≤◌, IfOk, IfErr, OnOk, OnE
 ghost use Rattle.sloth_base.specs.Arrivals.{AreArrivals};
 ghost use Rattle.sloth_base.specs.Owners.{owners_named};
 ghost use Rattle.sloth_base.specs.ImageRange.{InFormat};
+ghost use Rattle.sloth_base.specs.Limits.{file_limit, count_limit};
 ghost use Rattle.sloth_io.specs.Sink.{output_with, GainsPart};
 ghost use Rattle.sloth_io.specs.Store.{KeepsFiles};
 ghost use Rattle.image_file.specs.ImageText.{ImageText};
 ghost use Rattle.command_line.specs.Command.{Executes, Lists};
 ghost use Rattle.command_line.specs.Words.{execution_of};
-ghost use Rattle.sloth_commands.specs.Inputs.{input_limit};
 ghost use Rattle.trace_check.specs.Inputs.{AreRead};
 ghost use Rattle.sloth_commands.specs.ImageFiles.{AreExecInputs, end_line, exec_text};
 ghost use Rattle.sloth_commands.specs.ImageAnswers.{end_status};
@@ -56,7 +56,7 @@ fn read_inputs<F: Store>(alloc: Global, files: &mut F, e: &ExecWords) -> Result<
 
 // Judges the inputs of a run, the image before its arrivals.
 fn load(alloc: Global, inputs: ExecInputs) -> Result<RunInputs, Failure>
-    requires { length inputs.arr.items ≤ input_limit }
+    requires { length inputs.arr.items ≤ file_limit }
     ensures image { IfOk result (λ loaded. ImageText inputs.file.items loaded.image) }
     ensures read { IfOk result (λ loaded. AreRead loaded.image.tasks loaded.image.counters inputs.arr.items loaded.arrivals.items) }
     ensures in_range { IfOk result (λ loaded. AreArrivals (owners_named loaded.image) loaded.arrivals.items) }
@@ -94,7 +94,7 @@ fn status_of(end: RunEnd) -> Status
 // Runs the image of a runner that has run nothing, and puts its lines.
 fn run_lines<S: Sink>(runner: &mut Runner, n: u32, out: &mut S) -> Result<Status, Failure>
     requires fresh { IsFresh runner.old }
-    requires few { n ≤ 1000000 }
+    requires few { n ≤ count_limit }
     ensures end { IfOk result (λ status. status ≡ end_status (run_end (image_of runner.old) (given_arrivals runner.old) n)) }
     ensures text { OnOk result (Took (S.seen out.old) (S.seen out.new) (exec_text (image_of runner.old) (given_arrivals runner.old) n)) }
     ensures err { IfErr result (λ failure.
@@ -115,7 +115,7 @@ fn run_image<S: Sink>(
 ) -> Result<Status, Failure>
     requires format { InFormat image.now }
     requires arrivals { AreArrivals (owners_named image.now) arrivals.now }
-    requires few { n ≤ 1000000 }
+    requires few { n ≤ count_limit }
     ensures end { IfOk result (λ status. status ≡ end_status (run_end image.now arrivals.now n)) }
     ensures text { OnOk result (Took (S.seen out.old) (S.seen out.new) (exec_text image.now arrivals.now n)) }
     ensures err { IfErr result (λ failure.
@@ -132,7 +132,7 @@ pub fn execute<F: Store, S: Sink>(
     out: &mut S,
     e: &ExecWords,
 ) -> Result<Status, Failure>
-    requires { e.now.n ≤ 1000000 }
+    requires { e.now.n ≤ count_limit }
     ensures done { IfOk result (λ status. IsPerformed status
         (world (F.seen files.old) (S.seen out.old)) (world (F.seen files.new) (S.seen out.new)) (Executes (execution_of e.now))) }
     ensures err { IfErr result (λ failure. CommandFailed failure

@@ -1,4 +1,16 @@
-//! The commands of the program: what each does, and what each of its answers requires.
+//! The commands of the program: what each reads, judges, writes and puts, up to its last line, and what each of its answers requires.
+//!
+//! Each command is performed as its answer requires, or is not for one of the causes of `specs/Failures`, and then its last line is put
+//! (`build_command::judge`, `build_command::perform`, `execute`, `list`, `sample_run`, `use_tool`, `finish`). The image that is built keeps in each
+//! run the ceiling protocol and the blocking bounds. Calls in memory work (`calls_work_in_memory`, `lines_work_in_memory`, `sample_works_in_memory`).
+//!
+//! What the top call promises: `specs/Top`; of commands on image files `specs/ImageFiles`, `specs/ImageAnswers`; of `sample` `specs/Samples`,
+//! `specs/SampleAnswers`; of tools `specs/ToolFiles`, `specs/ToolAnswers`; `specs/Inputs`, `specs/InMemory`.
+//!
+//! Two laws stand here since the promise cites them. The text of each run of a sound image with its items in place is that of a run of the abstract
+//! scheduler with the arrivals in time, so `check` answers yes (`runs_are_checked`, `specs/CheckedRuns`). And the OIL text of a generated application
+//! of 30 tasks declares 30 tasks and no counter (`all_tasks_are_declared`, `no_counter_is_declared`). The image: `sim_induction` (`Sound`),
+//! `osek_blocking` (`Protocol`), `run_bounds` (`BlockingBounds`), `rv32_expand` (`InPlace`).
 #![tactic(auto)]
 
 pub mod build_command;

@@ -20,6 +20,7 @@ use app_gen::sample;
 use image_file::write_image;
 use sloth_base::event::Arrival;
 use sloth_base::image::Image;
+use sloth_base::limits::{COUNT_LIMIT, TASK_LIMIT};
 use sloth_base::list::List;
 use sloth_build::Built;
 use sloth_io::sink::{Sink, SinkFault};
@@ -28,12 +29,6 @@ use sloth_runner::runner::Runner;
 use sloth_runner::summary::put_summary;
 use std::alloc::Global;
 use tool_answers::Status;
-
-/// The number of tasks.
-const TASKS: u32 = 30;
-
-/// The number of instructions that are run.
-const INSTRUCTIONS: u32 = 1_000_000;
 
 // What is built of generated texts, and the arrivals.
 #[derive(Drop)]
@@ -50,7 +45,7 @@ fn generate(alloc: Global, seed: u32) -> Result<Generated, Failure>
     ensures in_range { IfOk result (λ made. AreArrivals (owners_in made.built.config) made.arrivals) }
     ensures err { IfErr result (λ failure. SampleFailed failure seed) }
 {
-    let Sample { oil, src, arrivals } = sample(alloc, seed, TASKS)?;
+    let Sample { oil, src, arrivals } = sample(alloc, seed, TASK_LIMIT as u32)?;
     let built = build_image(alloc, oil.items(), src.items())?;
     Ok(Generated { built, arrivals })
 }
@@ -62,7 +57,7 @@ fn show<S: Sink>(runner: &mut Runner, out: &mut S) -> Result<(), SinkFault>
     ensures ok { OnOk result (S.seen out.new ≡ output_with (S.seen out.old) (sample_text (image_of runner.old) (given_arrivals runner.old))) }
     ensures err { OnErr result (GainsPart (S.seen out.old) (S.seen out.new) (sample_text (image_of runner.old) (given_arrivals runner.old))) }
 {
-    let tally = runner.tally(INSTRUCTIONS);
+    let tally = runner.tally(COUNT_LIMIT);
     put_summary(&tally.counts, out)
 }
 

@@ -1,6 +1,7 @@
 -- The states of tasks, as the memory and the controller of the machine show them.
 use Rattle.std.specs.Prelude.{ℕ, ◌-◌, ◌==◌, if◌then◌else◌, Bool, false, List, ◌++◌, map, replicate, slice_index}
 use Rattle.std.specs.List.{range_with_len}
+use Rattle.sloth_base.specs.Limits.{task_limit}
 use Rattle.sloth_region.specs.Layout.{cur, active, wait}
 use Rattle.rv32_instr.specs.Ram.{word_at}
 use Rattle.rv32_instr.specs.Memory.{Memory}
@@ -18,7 +19,7 @@ state_in memory task =
 
 -- those of so many tasks, in 30 places; an unused place has Suspended
 abbrev pub states_in : Memory → ℕ → List TaskState
-states_in memory tasks = map (state_in memory) (range_with_len 0 tasks) ++ replicate (30 - tasks) mode.Suspended
+states_in memory tasks = map (state_in memory) (range_with_len 0 tasks) ++ replicate (task_limit - tasks) mode.Suspended
 
 -- the running task's number and 1 more, or 0, as the first service word says
 abbrev pub running_number_in : Memory → ℕ
@@ -30,8 +31,8 @@ is_pending_in memory task = slice_index memory.lines.pending task == 1
 
 -- that of each of so many tasks, in 30 places; an unused place has false
 abbrev pub pending_lines_in : Memory → ℕ → List Bool
-pending_lines_in memory tasks = map (is_pending_in memory) (range_with_len 0 tasks) ++ replicate (30 - tasks) false
+pending_lines_in memory tasks = map (is_pending_in memory) (range_with_len 0 tasks) ++ replicate (task_limit - tasks) false
 
 -- the level byte of the line of each of so many tasks, in 30 places; an unused place has 0
 abbrev pub levels_in : Memory → ℕ → List ℕ
-levels_in memory tasks = map (λ task. slice_index memory.lines.levels task) (range_with_len 0 tasks) ++ replicate (30 - tasks) 0
+levels_in memory tasks = map (λ task. slice_index memory.lines.levels task) (range_with_len 0 tasks) ++ replicate (task_limit - tasks) 0

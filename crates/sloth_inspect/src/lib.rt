@@ -1,24 +1,25 @@
-//! The states of tasks, as the memory and the interrupt controller of the machine show them.
+//! The states of tasks, as the memory and the interrupt controller of the machine show them: exactly the definition (`specs/States`). Service words:
+//! `sloth_region` (`Layout`); memory: `rv32_instr` (`Memory`).
 #![tactic(auto)]
 
 ghost use Rattle.std.specs.Prelude.{◌≡◌, ◌≤◌, ◌<◌, ◌+◌, ◌%◌};
+ghost use Rattle.sloth_base.specs.Limits.{task_limit};
+ghost use Rattle.sloth_base.specs.MemoryMap.{memory_bytes};
 ghost use Rattle.rv32_instr.specs.Ram.{word_at};
 ghost use Rattle.sloth_inspect.specs.States.{state_in, states_in, running_number_in, pending_lines_in, levels_in};
 
 use osek_scheduler::state::TaskState;
 use rv32_machine::{Bus, SlothBus};
 use sloth_base::app::Width;
+use sloth_base::limits::TASK_LIMIT;
 use sloth_base::memory_map::MEMORY_BASE;
 use sloth_base::numbers::Line;
 use sloth_region::layout::{CUR, active, wait};
 
-/// How many tasks there are at most.
-pub const TASKS: usize = 30;
-
 // The word at an offset in RAM.
 fn word(bus: &mut SlothBus, offset: u32) -> u32
     requires aligned { offset % 4 ≡ 0 }
-    requires inside { offset + 4 ≤ 2097152 }
+    requires inside { offset + 4 ≤ memory_bytes }
     ensures is { result ≡ word_at bus.old.ram offset }
     ensures same { bus.new ≡ bus.old }
 {
@@ -31,7 +32,7 @@ fn word(bus: &mut SlothBus, offset: u32) -> u32
 // The state of a task.
 #[tactic(auto, unfolding(crate::specs::States::state_in))]
 fn state(bus: &mut SlothBus, task: u8) -> TaskState
-    requires { task < 30 }
+    requires { task < task_limit }
     ensures is { result ≡ state_in bus.old task }
     ensures same { bus.new ≡ bus.old }
 {
@@ -49,12 +50,12 @@ fn state(bus: &mut SlothBus, task: u8) -> TaskState
 }
 
 /// The states of so many tasks, as the machine shows them; an unused place has Suspended. The bus keeps its contents.
-pub fn states(bus: &mut SlothBus, tasks: u32) -> [TaskState; TASKS]
-    requires { tasks ≤ 30 }
+pub fn states(bus: &mut SlothBus, tasks: u32) -> [TaskState; TASK_LIMIT]
+    requires { tasks ≤ task_limit }
     ensures states { result ≡ states_in bus.old tasks }
     ensures same { bus.new ≡ bus.old }
 {
-    let mut states = [TaskState::Suspended; TASKS];
+    let mut states = [TaskState::Suspended; TASK_LIMIT];
     for task in 0..tasks {
         states[task as usize] = state(bus, task as u8);
     }
@@ -70,11 +71,11 @@ pub fn running(bus: &mut SlothBus) -> u32
 }
 
 /// Whether the line of each of so many tasks is pending; an unused place has false.
-pub fn pending(bus: &SlothBus, tasks: u32) -> [bool; TASKS]
-    requires { tasks ≤ 30 }
+pub fn pending(bus: &SlothBus, tasks: u32) -> [bool; TASK_LIMIT]
+    requires { tasks ≤ task_limit }
     ensures { result ≡ pending_lines_in bus.now tasks }
 {
-    let mut pending = [false; TASKS];
+    let mut pending = [false; TASK_LIMIT];
     for task in 0..tasks {
         pending[task as usize] = bus.is_pending(Line(task as u8));
     }
@@ -82,11 +83,11 @@ pub fn pending(bus: &SlothBus, tasks: u32) -> [bool; TASKS]
 }
 
 /// The level byte of the line of each of so many tasks; an unused place has 0.
-pub fn levels(bus: &SlothBus, tasks: u32) -> [u8; TASKS]
-    requires { tasks ≤ 30 }
+pub fn levels(bus: &SlothBus, tasks: u32) -> [u8; TASK_LIMIT]
+    requires { tasks ≤ task_limit }
     ensures { result ≡ levels_in bus.now tasks }
 {
-    let mut levels = [0; TASKS];
+    let mut levels = [0; TASK_LIMIT];
     for task in 0..tasks {
         levels[task as usize] = bus.level_of(Line(task as u8));
     }

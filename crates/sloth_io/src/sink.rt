@@ -5,7 +5,7 @@ ghost use Rattle.sloth_io.specs.Sink.{Output, output_with, GainsPart, FailsToPas
 use thiserror::Error;
 
 /// Why a sink refused a piece.
-#[derive(Clone, Copy, Debug, PartialEq, Eq, Error)]
+#[derive(Clone, Copy, Debug, Error)]
 pub enum SinkFault {
     #[error("the bytes could not be written")]
     Failed,

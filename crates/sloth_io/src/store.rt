@@ -5,7 +5,7 @@ ghost use Rattle.sloth_io.specs.Store.{Files, Appends, IsMissing, IsTooLong, IsU
 use thiserror::Error;
 
 /// Why a store refused a call.
-#[derive(Clone, Copy, Debug, PartialEq, Eq, Error)]
+#[derive(Clone, Copy, Debug, Error)]
 pub enum StoreFault {
     #[error("the file could not be read or written")]
     Failed,

@@ -4,6 +4,8 @@ use Rattle.std.specs.Prelude.{All, AllPairs, map}
 use Rattle.std.proofs.lemmas.List.Elements.{All-cons, All-append}
 use Rattle.std.proofs.lemmas.List.Kept.{AllPairs-cons}
 use Rattle.sloth_base.specs.declared.config.AlarmDecl.{AlarmDecl}
+use Rattle.sloth_base.specs.Limits.{alarm_limit}
+use Rattle.sloth_base.specs.MemoryMap.{memory_base, vectors_base}
 use Rattle.rv32_instr.specs.declared.block.Block.{Block}
 use Rattle.sloth_link.specs.declared.datum.Datum.{Datum}
 use Rattle.sloth_link.specs.Symbols.{alarm_bytes, alarm_data}
@@ -30,13 +32,13 @@ between first (alarm ∷ later) =
     (λ k d l. let r = rest k d l in (omega (arith, r.0), omega (arith, r.1)))
 
 -- and apart from one another, and from sections behind the service words
-alarms_apart : (first : ℕ) (alarms : List AlarmDecl) (others : List Section) → first + length alarms ≤ 32 → All (λ s. 1024 ≤ s.offset) others
+alarms_apart : (first : ℕ) (alarms : List AlarmDecl) (others : List Section) → first + length alarms ≤ alarm_limit → All (λ s. 1024 ≤ s.offset) others
     → AllPairs AreApart others → AllPairs AreApart (alarm_sections first alarms ++ others)
 alarms_apart first [] others few behind apart = apart
 alarms_apart first (alarm ∷ later) others few behind apart =
     let eight : length (alarm_bytes alarm) ≡ 8 = refl in
     let rest = between (first + 1) later in
-    let own : Section = datum_section (record { at = 0x8000_0000 + (372 + 8 * first); bytes = alarm_bytes alarm }) in
+    let own : Section = datum_section (record { at = memory_base + (372 + 8 * first); bytes = alarm_bytes alarm }) in
     AllPairs-cons AreApart own (alarm_sections (first + 1) later ++ others)
     (All-append (AreApart own) (alarm_sections (first + 1) later) others
     (λ k d l. let r = (rest k d l).0 in inl (omega (arith, r, eight)))
@@ -54,8 +56,8 @@ put_between (x ∷ xs) ys zs p q h =
     (All-append (AreApart x) ys zs (h 0 x (omega arith)) (back (AreApart x) xs zs later)))
     (put_between xs ys zs (λ i j d l m. p (suc i) (suc j) d (omega (arith, l)) (omega (arith, m))) q (λ k d l. h (suc k) d (omega (arith, l))))
 
-sections_behind : {X : Type 0} (f : X → Section) (address : X → ℕ) → ((x : X) → (f x).offset ≡ address x - 0x8000_0000) → (xs : List X)
-    → All (λ x. 0x8000_0400 ≤ address x) xs → All (λ s. 1024 ≤ s.offset) (map f xs)
+sections_behind : {X : Type 0} (f : X → Section) (address : X → ℕ) → ((x : X) → (f x).offset ≡ address x - memory_base) → (xs : List X)
+    → All (λ x. vectors_base ≤ address x) xs → All (λ s. 1024 ≤ s.offset) (map f xs)
 sections_behind f address is [] h = λ k d l. absurd (omega (arith, l))
 sections_behind f address is (x ∷ xs) h =
     All-cons (λ s. 1024 ≤ s.offset) (f x) (map f xs) (let e = is x in let a = h 0 x (omega arith) in omega (arith, e, a))
@@ -65,14 +67,14 @@ data_join : (xs ys : List Datum) → map datum_section (xs ++ ys) ≡ map datum_
 data_join [] ys = refl
 data_join (x ∷ xs) ys = ap (λ l. datum_section x ∷ l) (data_join xs ys)
 
-alarms_above : (first : ℕ) (alarms : List AlarmDecl) → All (λ d. 0x8000_0000 ≤ d.at) (alarm_data first alarms)
+alarms_above : (first : ℕ) (alarms : List AlarmDecl) → All (λ d. memory_base ≤ d.at) (alarm_data first alarms)
 alarms_above first [] = λ k d l. absurd (omega (arith, l))
 alarms_above first (alarm ∷ later) =
-    All-cons (λ (d : Datum). 0x8000_0000 ≤ d.at) _ (alarm_data (first + 1) later) (omega arith) (alarms_above (first + 1) later)
+    All-cons (λ (d : Datum). memory_base ≤ d.at) _ (alarm_data (first + 1) later) (omega arith) (alarms_above (first + 1) later)
 
 -- so the alarms' words may be linked with all else
-pub alarms_have_room : (size : ℕ) (blocks : List Block) (symbols : List Datum) (alarms : List AlarmDecl) → length alarms ≤ 32 → 1024 ≤ size
-    → All (λ b. 0x8000_0400 ≤ b.at) blocks → All (λ d. 0x8000_0400 ≤ d.at) symbols → HaveRoom size blocks symbols
+pub alarms_have_room : (size : ℕ) (blocks : List Block) (symbols : List Datum) (alarms : List AlarmDecl) → length alarms ≤ alarm_limit → 1024 ≤ size
+    → All (λ b. vectors_base ≤ b.at) blocks → All (λ d. vectors_base ≤ d.at) symbols → HaveRoom size blocks symbols
     → HaveRoom size blocks (alarm_data 0 alarms ++ symbols)
 alarms_have_room size blocks symbols alarms few large blocks_behind symbols_behind room =
     let xs : List Section = map block_section blocks in
@@ -85,7 +87,7 @@ alarms_have_room size blocks symbols alarms few large blocks_behind symbols_behi
     let last_apart : AllPairs AreApart zs = back_pairs xs zs room.apart in
     record {
       blocks_above = room.blocks_above;
-      symbols_above = All-append (λ (d : Datum). 0x8000_0000 ≤ d.at) (alarm_data 0 alarms) symbols (alarms_above 0 alarms) room.symbols_above;
+      symbols_above = All-append (λ (d : Datum). memory_base ≤ d.at) (alarm_data 0 alarms) symbols (alarms_above 0 alarms) room.symbols_above;
       inside = subst (All (IsInside size)) all
           (All-append (IsInside size) xs (ys ++ zs) (front (IsInside size) xs zs room.inside)
           (All-append (IsInside size) ys zs (λ k d l. let r = (low k d l).1 in omega (arith, r, few, large)) (back (IsInside size) xs zs room.inside)));

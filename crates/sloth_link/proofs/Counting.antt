@@ -8,6 +8,7 @@ use Rattle.sloth_base.specs.Named.{function, no_function}
 use Rattle.sloth_base.specs.declared.app.App.{App}
 use Rattle.sloth_base.specs.declared.app.Func.{Func}
 use Rattle.sloth_base.specs.declared.places.Places.{Places}
+use Rattle.sloth_base.specs.Limits.{item_limit}
 use Rattle.rv32_instr.specs.declared.block.Block.{Block}
 use Rattle.rv32_expand.specs.Sizes.{IsVerified, items_before}
 use Rattle.rv32_expand.proofs.InRangeOf.{small}
@@ -65,7 +66,7 @@ located (f ∷ funcs) (suc n) k l =
     (cases_lt k (length f.items))
 
 -- a verified body has at most 4,096 items
-pub few_items : (app : App) → IsVerified app → (func : ℕ) → func < length app.funcs → length (function app func).items ≤ 4096
+pub few_items : (app : App) → IsVerified app → (func : ℕ) → func < length app.funcs → length (function app func).items ≤ item_limit
 few_items app verified func l = (small app (verified.0, verified.1.in_range) func no_function l).items
 
 module _ (app : App) (places : Places) where

@@ -3,6 +3,7 @@ use Rattle.std.proofs.Common.{◌≤◌, ◌+◌, ℕ, List, [], ◌∷◌, ◌+
 use Rattle.std.specs.Prelude.{All, AllPairs, map}
 use Rattle.std.proofs.lemmas.List.Elements.{All-cons}
 use Rattle.std.proofs.lemmas.List.Kept.{AllPairs-cons}
+use Rattle.sloth_base.specs.MemoryMap.{memory_base}
 use Rattle.sloth_region.specs.declared.extent.Extent.{Extent}
 use Rattle.sloth_region.specs.Region.{FollowWithin}
 use Rattle.mem_map.specs.Sections.{Section, IsInside, block_section}
@@ -19,7 +20,7 @@ follow_le : (from end : ℕ) (xs : List Extent) → FollowWithin from end xs →
 follow_le from end [] f = f
 follow_le from end (x ∷ xs) f = let le = follow_le (x.base + x.len) end xs f.2 in omega (arith, le, f.0)
 
-behind : (from end : ℕ) (p : Section) (extents : List Extent) (sections : List Section) → 0x8000_0000 + p.offset + length p.bytes ≤ from → FollowWithin from end extents → AreIn extents sections → All (AreApart p) sections
+behind : (from end : ℕ) (p : Section) (extents : List Extent) (sections : List Section) → memory_base + p.offset + length p.bytes ≤ from → FollowWithin from end extents → AreIn extents sections → All (AreApart p) sections
 behind from end p [] [] le f z = λ k d l. absurd (omega arith)
 behind from end p [] (q ∷ sections) le f z = absurd z
 behind from end p (e ∷ extents) [] le f z = absurd z
@@ -36,7 +37,7 @@ sections_apart from end (e ∷ extents) (q ∷ sections) f z =
     AllPairs-cons AreApart q sections (behind (e.base + e.len) end q extents sections z.0.1 f.2 z.1) (sections_apart (e.base + e.len) end extents sections f.2 z.1)
 
 -- and all are inside the memory
-pub sections_inside : (size from end : ℕ) (extents : List Extent) (sections : List Section) → end ≤ 0x8000_0000 + size → FollowWithin from end extents → AreIn extents sections → All (IsInside size) sections
+pub sections_inside : (size from end : ℕ) (extents : List Extent) (sections : List Section) → end ≤ memory_base + size → FollowWithin from end extents → AreIn extents sections → All (IsInside size) sections
 sections_inside size from end [] [] h f z = λ k d l. absurd (omega arith)
 sections_inside size from end [] (q ∷ sections) h f z = absurd z
 sections_inside size from end (e ∷ extents) [] h f z = absurd z

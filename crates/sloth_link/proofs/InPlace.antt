@@ -14,7 +14,7 @@ use Rattle.sloth_link.specs.Image.{MayLink, all_blocks, all_data, symbol_data, m
 use Rattle.sloth_link.specs.Items.{MarksAreOfItems, item_block, item_blocks}
 use Rattle.sloth_link.specs.Linked.{AreLinked, BlockStands, sections_of}
 use Rattle.mem_map.specs.Sections.{marks_of}
-use Rattle.sloth_link.specs.Names.{task_names, function_names}
+use Rattle.sloth_base.specs.DeclaredNames.{task_names, function_names}
 use Rattle.sloth_link.specs.Standing.{ItemsStand}
 use Rattle.sloth_link.proofs.ItemBlocks.{item_among, items_own}
 use Rattle.sloth_link.proofs.Placing.{items_are_placed}

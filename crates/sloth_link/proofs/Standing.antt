@@ -7,6 +7,7 @@ use Rattle.std.specs.List.Sorted.{IsPermutation}
 use Rattle.sloth_base.specs.declared.app.App.{App}
 use Rattle.sloth_base.specs.declared.image.Mark.{Mark}
 use Rattle.sloth_base.specs.declared.places.Places.{Places}
+use Rattle.sloth_base.specs.MemoryMap.{memory_base}
 use Rattle.rv32_instr.specs.declared.InstrKind.{InstrKind}
 use Rattle.rv32_instr.specs.declared.block.Block.{Block}
 use Rattle.masked_code.specs.Place.{AreWritten}
@@ -19,10 +20,10 @@ use Rattle.sloth_link.proofs.Written.{code_bytes_length}
 use Rattle.sloth_link.specs.Items.{item_block, HaveItems, IsOwnMark, MarksAreOfItems}
 use Rattle.sloth_link.specs.Standing.{ItemsStand}
 
-code_at : (code : List InstrKind) (memory : List ℕ) (address offset : ℕ) → address ≡ 0x8000_0000 + offset → AreWritten memory offset code → CodeAt memory address code
+code_at : (code : List InstrKind) (memory : List ℕ) (address offset : ℕ) → address ≡ memory_base + offset → AreWritten memory offset code → CodeAt memory address code
 code_at [] memory address offset e w = tt
 code_at (kind ∷ code) memory address offset e w =
-    let o : address - 0x8000_0000 ≡ offset = omega (arith, e) in
+    let o : address - memory_base ≡ offset = omega (arith, e) in
     (ap (word_at memory) o ∙ w.0, code_at code memory (address + 4) (offset + 4) (omega (arith, e)) w.1)
 
 -- a mark of one of the blocks is one of all marks
@@ -40,16 +41,16 @@ all_marks P (b ∷ blocks) h = All-append P b.marks (marks_of blocks) (All-head 
 
 -- items that were linked, each as a block of its own, stand
 pub items_stand : (app : App) (places : Places) (size : ℕ) (blocks : List Block) (memory : List ℕ) (marks : List Mark)
-    → HaveItems app places blocks → All (MarksAreOfItems app places) blocks → All (λ b. 0x8000_0000 ≤ b.at) blocks
+    → HaveItems app places blocks → All (MarksAreOfItems app places) blocks → All (λ b. memory_base ≤ b.at) blocks
     → All (λ b. IsInside size (block_section b)) blocks → length memory ≡ size → All (BlockStands memory) blocks
     → IsPermutation (marks_of blocks) marks → ItemsStand app places memory marks
 items_stand app places size blocks memory marks items of above inside n code moved =
     let Inside : Block → Type 0 = λ x. IsInside size (block_section x) in
-    let Above : Block → Type 0 = λ x. 0x8000_0000 ≤ x.at in
+    let Above : Block → Type 0 = λ x. memory_base ≤ x.at in
     record {
       code = λ func index is.
           let a = All-contains Above blocks (item_block app places func index) above (items func index is) in
-          code_at (expansion app places func index) memory (item_address places func index) (item_address places func index - 0x8000_0000) (omega (arith, a))
+          code_at (expansion app places func index) memory (item_address places func index) (item_address places func index - memory_base) (omega (arith, a))
           (All-contains (BlockStands memory) blocks (item_block app places func index) code (items func index is));
       inside = λ func index is.
           let a = All-contains Above blocks (item_block app places func index) above (items func index is) in

@@ -1,7 +1,6 @@
 pub mod Image
 pub mod Items
 pub mod Linked
-pub mod Names
 pub mod Room
 pub mod Standing
 pub mod Symbols

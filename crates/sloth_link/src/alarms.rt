@@ -1,21 +1,22 @@
 //! The words of alarms in an image.
 ghost use Rattle.std.specs.Prelude.{◌≡◌, ◌≤◌, ◌<◌, ◌+◌, IfOk, length};
 ghost use Rattle.sloth_base.specs.MemoryMap.{memory_base};
+ghost use Rattle.sloth_base.specs.Limits.{alarm_limit};
 ghost use Rattle.sloth_region.specs.Layout.{alarm_left};
 ghost use Rattle.sloth_link.specs.Symbols.{alarm_bytes, alarm_data};
 
 use crate::datum::Datum;
-use crate::symbols::push;
 use sloth_base::config::{AlarmDecl, Config};
 use sloth_base::list::List;
 use sloth_base::memory::NoMemory;
 use sloth_base::memory_map::MEMORY_BASE;
 use sloth_region::layout::alarm_left;
 use std::alloc::Global;
+use text_pieces::growth::push;
 
 /// The ticks to the first expiry and the cycle of each alarm, at its words.
 pub fn alarms(alloc: Global, config: &Config) -> Result<Vec<Datum>, NoMemory>
-    requires { length config.now.alarms ≤ 32 }
+    requires { length config.now.alarms ≤ alarm_limit }
     ensures { IfOk result (λ alarms. alarms.items ≡ alarm_data 0 config.now.alarms) }
 {
     let mut alarms = Vec::new(alloc);

@@ -1,6 +1,7 @@
 //! The items of task code, each as a block of its own.
-ghost use Rattle.std.specs.Prelude.{◌≡◌, ◌<◌, ◌++◌, ◌∷◌, [], IfOk, OnOk, length};
+ghost use Rattle.std.specs.Prelude.{◌≡◌, ◌<◌, IfOk, length};
 ghost use Rattle.sloth_base.specs.Named.{function, item_of};
+ghost use Rattle.sloth_base.specs.Limits.{body_limit};
 ghost use Rattle.rv32_expand.specs.InPlace.{IsItem};
 ghost use Rattle.rv32_expand.specs.Sizes.{AgreeWithSizes, Covers, IsVerified};
 ghost use Rattle.sloth_link.specs.Items.{item_block, items_of, item_blocks};
@@ -13,20 +14,11 @@ use sloth_base::app::{App, Item};
 use sloth_base::list::List;
 use sloth_base::memory::NoMemory;
 use sloth_base::places::Places;
-use std::alloc::{AllocError, Global};
+use std::alloc::Global;
+use text_pieces::growth::push;
 
 /// The bytes of an instruction.
 const INSTRUCTION: u32 = 4;
-
-// One more block.
-fn push(blocks: &mut Vec<Block>, block: Block) -> Result<(), NoMemory>
-    ensures { OnOk result (blocks.new.items ≡ blocks.old.items ++ block ∷ []) }
-{
-    match blocks.push(block) {
-        Ok(()) => Ok(()),
-        Err(failed) => Err(AllocError::from(failed).into()),
-    }
-}
 
 // An item of a function: its code where it stands, and its mark on the last instruction.
 fn one(
@@ -38,7 +30,7 @@ fn one(
     places: &Places,
 ) -> Result<Block, NoMemory>
     requires verified { IsVerified app.now }
-    requires few { func < 64 }
+    requires few { func < body_limit }
     requires is_item { IsItem app.now func index }
     requires is { item.now ≡ item_of (function app.now func) index }
     requires covers { Covers app.now places.now }

@@ -3,25 +3,26 @@ ghost use Rattle.std.specs.Prelude.{◌≡◌, ◌<◌, ◌≤◌, ◌+◌, ◌+
 ghost use Rattle.std.specs.List.Sorted.{IsPermutation, IsStrictlyIncreasing};
 ghost use Rattle.std.specs.Vec.{vec_len};
 ghost use Rattle.sloth_base.specs.MemoryMap.{vectors_base};
+ghost use Rattle.sloth_base.specs.Limits.{alarm_limit};
 ghost use Rattle.rv32_instr.specs.Range.{InRange};
 ghost use Rattle.rv32_expand.specs.InPlace.{ItemsInPlace};
 ghost use Rattle.mem_map.specs.Zones.{data_zone};
 ghost use Rattle.sloth_link.specs.Image.{MayLink, HasMemory, all_blocks, all_data, memory_size};
 ghost use Rattle.mem_map.specs.Sections.{marks_of, HaveOwnAddresses, addresses, linked_memory};
 ghost use Rattle.sloth_link.specs.Linked.{HaveRoom, AreLinked, sections_of, BlockStands, datum_section, Holds};
-ghost use Rattle.sloth_link.specs.Names.{task_names, counter_names, function_names};
+ghost use Rattle.sloth_base.specs.DeclaredNames.{task_names, counter_names, function_names};
 ghost use Rattle.sloth_link.specs.Standing.{ItemsStand};
 
 use crate::alarms::alarms;
 use crate::datum::Datum;
 use crate::items::items;
-use crate::names::image_names;
 use crate::symbols::symbols;
 use crate::writing::write_data;
 use mem_map::{data_zone, marks, write_blocks};
 use rv32_instr::{Block, Instr};
 use sloth_base::app::App;
 use sloth_base::config::Config;
+use sloth_base::declared_names::declared_names;
 use sloth_base::image::{Image, Mark};
 use sloth_base::list::List;
 use sloth_base::memory::NoMemory;
@@ -138,7 +139,7 @@ fn memory_size(map: &Map) -> usize
 
 // The words of the alarms, and the bytes of the symbols.
 fn all_data(alloc: Global, config: &Config, app: &App, map: &Map) -> Result<Vec<Datum>, NoMemory>
-    requires few { length config.now.alarms ≤ 32 }
+    requires few { length config.now.alarms ≤ alarm_limit }
     requires symbols { length map.now.places.symbols ≡ length app.now.symbols }
     ensures { IfOk result (λ all. all.items ≡ all_data config.now app.now map.now) }
 {
@@ -191,10 +192,10 @@ pub fn link(
     ensures counters { IfOk result (λ image. image.counters ≡ counter_names config.now) }
 {
     let linked = link_memory(alloc, blocks, app, config, map)?;
-    let names = image_names(alloc, config, app)?;
+    let names = declared_names(alloc, config, app)?;
     Ok(Image {
         tasks: names.tasks,
-        funcs: names.functions,
+        funcs: names.funcs,
         counters: names.counters,
         memory: linked.memory,
         marks: linked.marks,

@@ -1,5 +1,5 @@
 //! The data of an image.
-ghost use Rattle.std.specs.Prelude.{◌≡◌, ◌++◌, ◌∷◌, [], IfOk, OnOk, length};
+ghost use Rattle.std.specs.Prelude.{◌≡◌, IfOk, length};
 ghost use Rattle.sloth_link.specs.Symbols.{data_of};
 
 use crate::datum::Datum;
@@ -7,17 +7,8 @@ use sloth_base::app::App;
 use sloth_base::list::List;
 use sloth_base::memory::NoMemory;
 use sloth_base::places::Places;
-use std::alloc::{AllocError, Global};
-
-/// One more run of bytes.
-pub fn push(data: &mut Vec<Datum>, datum: Datum) -> Result<(), NoMemory>
-    ensures { OnOk result (data.new.items ≡ data.old.items ++ datum ∷ []) }
-{
-    match data.push(datum) {
-        Ok(()) => Ok(()),
-        Err(failed) => Err(AllocError::from(failed).into()),
-    }
-}
+use std::alloc::Global;
+use text_pieces::growth::push;
 
 /// The bytes of each symbol, at its address in the places.
 pub fn symbols(alloc: Global, app: &App, places: &Places) -> Result<Vec<Datum>, NoMemory>

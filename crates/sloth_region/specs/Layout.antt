@@ -1,6 +1,7 @@
 -- The first 1,024 bytes of RAM: the service words, at offsets from the base of memory, and the contexts that they point to.
 -- `src/layout.rt` has them under the same names.
 use Rattle.std.specs.Prelude.{ℕ, ◌+◌, ◌*◌}
+use Rattle.sloth_base.specs.MemoryMap.{enabled_offset, levels_offset}
 
 -- the running task's number and 1 more, or 0
 abbrev pub cur : ℕ
@@ -71,10 +72,6 @@ context_below = 12
 abbrev pub words_high : ℕ
 words_high = 0x8_0000
 
--- The address of the controller, and its bits 31 to 12.
-abbrev pub controller_base : ℕ
-controller_base = 0x1000_0000
-
 -- bits 31 to 12 of that address
 abbrev pub controller_high : ℕ
 controller_high = 0x1_0000
@@ -85,8 +82,8 @@ pending_byte line = line
 
 -- the enable byte of a line
 abbrev pub enabled_byte : ℕ → ℕ
-enabled_byte line = 32 + line
+enabled_byte line = enabled_offset + line
 
 -- the level byte of a line
 abbrev pub level_byte : ℕ → ℕ
-level_byte line = 64 + line
+level_byte line = levels_offset + line

@@ -1,7 +1,7 @@
 //! Runs of addresses.
 
 /// The `len` addresses from `base` on.
-#[derive(Clone, Copy, Debug, PartialEq, Eq)]
+#[derive(Clone, Copy)]
 pub struct Extent {
     pub base: u32,
     pub len: u32,

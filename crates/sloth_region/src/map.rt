@@ -2,6 +2,7 @@
 
 use crate::extent::Extent;
 use sloth_base::list::List;
+use sloth_base::memory_map::LINE_COUNT;
 use sloth_base::places::Places;
 
 /// The map of an image. The vector words stand at the base of the vectors, and boot at the base of boot.
@@ -20,5 +21,5 @@ pub struct Map {
     /// The address of the idle loop.
     pub idle: u32,
     /// For each line the address of the routine to which its vector word jumps: `idle` where the line has none.
-    pub handlers: [u32; 32],
+    pub handlers: [u32; LINE_COUNT],
 }

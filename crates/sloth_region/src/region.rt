@@ -9,7 +9,7 @@ use std::marker::Model;
 const MOST: usize = 96;
 
 /// The extent would end behind the region's end.
-#[derive(Clone, Copy, Debug, PartialEq, Eq)]
+#[derive(Clone, Copy)]
 pub struct Full;
 
 /// A run of addresses in which extents are placed. It holds its extents in itself, up to 96.

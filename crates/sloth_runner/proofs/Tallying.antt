@@ -9,6 +9,7 @@ use Rattle.std.proofs.lemmas.Bool.Decides.{eqb_tells}
 use Rattle.sloth_base.specs.declared.event.Event.{Event}
 use Rattle.sloth_base.specs.declared.event.Event.TheVariants as event
 use Rattle.sloth_base.specs.declared.event.Stamped.{Stamped}
+use Rattle.sloth_base.specs.Limits.{arrival_limit, count_limit}
 use Rattle.line_words.specs.EventWords.{kind_of}
 use Rattle.trace_text.specs.Summary.{count_of_kind, counts_of}
 use Rattle.observe.specs.Progress.{remaining}
@@ -69,7 +70,7 @@ adds-of r0 r p k ran advanced same =
     adds-at (image_of r) (image_of r0) (given_arrivals r) (given_arrivals r0) (count_of r) k (remaining p.observer) ran.image ran.arrivals ran.count (advanced-adds r p ran.running advanced same)
 
 -- there is room for them
-pub room-of : (r0 r p : Runner) (k : ℕ) → Ran r0 r k → Advanced r p → given_arrivals p ≡ given_arrivals r → length (given_arrivals r0) ≤ 100000 → k < 1000000
+pub room-of : (r0 r p : Runner) (k : ℕ) → Ran r0 r k → Advanced r p → given_arrivals p ≡ given_arrivals r → length (given_arrivals r0) ≤ arrival_limit → k < count_limit
     → All (λ number. number + length (remaining p.observer) < 2 ^ 32) (counts_of (events_of (image_of r0) (given_arrivals r0) k))
 room-of r0 r p k ran advanced same few short =
     let adds = ap length (adds-of r0 r p k ran advanced same) in

@@ -10,6 +10,8 @@ use Rattle.sloth_base.specs.declared.event.Stamped.{Stamped}
 use Rattle.sloth_base.specs.declared.step.Step.{Step}
 use Rattle.sloth_base.specs.Owners.{owners_named, IsOwned}
 use Rattle.sloth_base.specs.declared.lines.Owners.{Owners}
+use Rattle.sloth_base.specs.Limits.{task_limit, counter_limit}
+use Rattle.sloth_base.specs.MemoryMap.{line_count}
 use Rattle.sloth_base.proofs.Owners.{owned_below}
 use Rattle.observe.specs.Observe.{observe, view_of_image}
 use Rattle.observe.specs.Progress.{Fed, remaining, view_of, arrivals_of, expected_count, arrivals_from, arrivals_due, arrivals_behind}
@@ -43,7 +45,7 @@ in-order r image k ran = weaker 1 0 (given_arrivals r) (omega arith) ran.arrival
 
 -- the state with the arrivals of the next moment
 pub arrived-is : (r : Runner) (image : Image) (k : ℕ) (h : List Arrival) (m : State) → HasRun r image k
-    → h ≡ take (length (arrivals_due r.count r.coming.now)) r.coming.now → m ≡ state_arrive (map (λ a. a.line) h) (sloth_state r.machine)
+    → h ≡ take (length (arrivals_due (count_of r) r.coming.now)) r.coming.now → m ≡ state_arrive (map (λ a. a.line) h) (sloth_state r.machine)
     → m ≡ state_with_arrivals (given_arrivals r) k (sloth_state r.machine)
 arrived-is r image k h m st e n =
     let H : ℕ → List Arrival → List Arrival = λ c xs. take (length (arrivals_due c xs)) xs in
@@ -52,13 +54,12 @@ arrived-is r image k h m st e n =
     n ∙ ap (λ g. state_arrive (map (λ a. a.line) g) (sloth_state r.machine)) mine
 
 -- where none is due nothing arrives
-pub none-arrive : (r : Runner) → HasRun r (image_of r) (count_of r) → length (arrivals_due r.count r.coming.now) ≡ 0 → HasArrived r r
+pub none-arrive : (r : Runner) → HasRun r (image_of r) (count_of r) → length (arrivals_due (count_of r) r.coming.now) ≡ 0 → HasArrived r r
 none-arrive r ran none = record {
   state = arrived-is r (image_of r) (count_of r) [] (sloth_state r.machine) ran (sym (ap (λ n. take n r.coming.now) none)) refl;
   coming = sym (ap (λ n. drop n r.coming.now) none);
   lines = ran.lines;
   count = refl;
-  executed = refl;
 }
 
 map-append : (xs : List Moment) (m : Moment) → steps_of (xs ++ m ∷ []) ≡ steps_of xs ++ m.step ∷ []
@@ -70,10 +71,10 @@ steps-more : (k : ℕ) (A : List Arrival) (m0 m n : State) (s : Step) → state_
 steps-more k A m0 m n s h g = ap steps_of (run_more k A m0 m n s h g) ∙ map-append (run k A m0) (moment_of A k m s n)
 
 -- what the machine does at a moment, behind its arrivals
-pub moment-is : (r a : Runner) (o : Outcome) → r.machine.count ≡ count_of r → HasArrived r a → advance a.machine.count (sloth_state a.machine) ≡ o
+pub moment-is : (r a : Runner) (o : Outcome) → HasArrived r a → advance (count_of a) (sloth_state a.machine) ≡ o
     → moment (given_arrivals r) (count_of r) (sloth_state r.machine) ≡ o
-moment-is r a o e arrived does =
-    ap (advance (count_of r)) (sym arrived.state) ∙ ap (λ c. advance c (sloth_state a.machine)) (sym (arrived.executed ∙ e)) ∙ does
+moment-is r a o arrived does =
+    ap (advance (count_of r)) (sym arrived.state) ∙ ap (λ c. advance c (sloth_state a.machine)) (sym arrived.count) ∙ does
 
 -- the machine after an instruction
 pub machine-more : (r a q : Runner) (image : Image) (step : Step) → HasRun r image (count_of r) → HasArrived r a → HasExecuted a q step
@@ -82,14 +83,13 @@ machine-more r a q image step ran arrived executed same coming =
     let k : ℕ = count_of r in
     let A : List Arrival = given_arrivals r in
     let L : List Arrival → Type 0 = AreLines in
-    let goes = moment-is r a (Goes step (sloth_state q.machine)) ran.executed arrived executed.goes in
+    let goes = moment-is r a (Goes step (sloth_state q.machine)) arrived executed.goes in
     record {
       arrivals = subst (λ B. AreArrivals (owners_named image) B) (sym same) ran.arrivals;
       lines = subst L (sym coming) arrived.lines;
       after = ap (λ B. state_after (k + 1) B (start image)) same ∙ after_more k A (start image) (sloth_state r.machine) (sloth_state q.machine) step ran.after goes;
       coming = coming ∙ arrived.coming ∙ ap (arrivals_behind k) ran.coming ∙ behind-from 0 k A (in-order r image k ran) ∙ ap (arrivals_from (k + 1)) (sym same);
       count = executed.count ∙ ap (λ c. c + 1) arrived.count;
-      executed = executed.executed ∙ ap (λ c. c + 1) (arrived.executed ∙ ran.executed);
     }
 
 -- the events that an instruction adds
@@ -108,17 +108,16 @@ pub advanced-adds : (r p : Runner) → IsRunning r → (a : Advanced r p) → gi
 advanced-adds r p st a arrivals = adds-is r (image_of r) (count_of r) a.step (sloth_state p.machine) p.observer st a.goes a.fed a.view arrivals
 
 -- what the machine has done, with another observer of the same arrivals
-ran-beside : (p q : Runner) (image : Image) (k : ℕ) → HasRun p image k → given_arrivals q ≡ given_arrivals p → q.machine ≡ p.machine → q.coming.now ≡ p.coming.now → q.count ≡ p.count
+ran-beside : (p q : Runner) (image : Image) (k : ℕ) → HasRun p image k → given_arrivals q ≡ given_arrivals p → q.machine ≡ p.machine → q.coming.now ≡ p.coming.now
     → HasRun q image k
-ran-beside p q image k ran same machine coming count =
+ran-beside p q image k ran same machine coming =
     let L : List Arrival → Type 0 = AreLines in
     record {
       arrivals = subst (λ B. AreArrivals (owners_named image) B) (sym same) ran.arrivals;
       lines = subst L (sym coming) ran.lines;
       after = ap (λ B. state_after k B (start image)) same ∙ ran.after ∙ ap (λ (m : Machine SlothBus). Some (sloth_state m)) (sym machine);
       coming = coming ∙ ran.coming ∙ ap (arrivals_from k) (sym same);
-      count = count ∙ ran.count;
-      executed = ap (λ (m : Machine SlothBus). m.count) machine ∙ ran.executed;
+      count = ap (λ (m : Machine SlothBus). m.count) machine ∙ ran.count;
     }
 
 -- the runner behind an instruction whose events were all handed out
@@ -146,23 +145,24 @@ done-more r p q st a arrivals hands view same expected none ran =
       expected = expected ∙ a.expected ∙ ap (λ c. c + 1) st.expected;
     }
 
-running-at : (q : Runner) (k : ℕ) → HasDone q q.image.now k → IsRunning q
+-- a runner behind k instructions is between two
+pub running-at : (q : Runner) (k : ℕ) → HasDone q q.image.now k → IsRunning q
 running-at q k st = let P : ℕ → Type 0 = λ n. HasDone q q.image.now n in subst P (sym st.ran.count) st
 
 -- the runner behind an instruction, once its events were handed out
 pub running-behind : (r p q : Runner) → IsRunning r → Advanced r p → image_of q ≡ image_of r → given_arrivals p ≡ given_arrivals r → HandsOut p.observer q.observer
     → view_of q.observer ≡ view_of p.observer → arrivals_of q.observer ≡ arrivals_of p.observer → expected_count q.observer ≡ expected_count p.observer → remaining q.observer ≡ []
-    → q.machine ≡ p.machine → q.coming.now ≡ p.coming.now → q.count ≡ p.count → IsRunning q
-running-behind r p q st a image arrivals hands view same expected none machine coming count =
+    → q.machine ≡ p.machine → q.coming.now ≡ p.coming.now → IsRunning q
+running-behind r p q st a image arrivals hands view same expected none machine coming =
     let P : Image → Type 0 = λ i. HasDone q i (count_of r + 1) in
-    let ran = ran-beside p q (image_of r) (count_of r + 1) a.ran same machine coming count in
+    let ran = ran-beside p q (image_of r) (count_of r + 1) a.ran same machine coming in
     running-at q (count_of r + 1) (subst P (sym image) (done-more r p q st a arrivals hands view same expected none ran))
 
 pub lines-drop : (n : ℕ) (A : List Arrival) → AreLines A → AreLines (drop n A)
-lines-drop n A h = All-drop (λ (a : Arrival). a.line < 32) n A h
+lines-drop n A h = All-drop (λ (a : Arrival). a.line < line_count) n A h
 
 -- lines that have owners are lines of the controller
-pub controller-lines : (owners : Owners) (A : List Arrival) → owners.tasks ≤ 30 → owners.counters ≤ 2 → All (λ (a : Arrival). IsOwned owners a.line) A → AreLines A
+pub controller-lines : (owners : Owners) (A : List Arrival) → owners.tasks ≤ task_limit → owners.counters ≤ counter_limit → All (λ (a : Arrival). IsOwned owners a.line) A → AreLines A
 controller-lines owners A few counters h k d l = owned_below owners _ few counters (h k d l)
 
 -- an observer that was fed nothing

@@ -4,6 +4,7 @@ use Rattle.sloth_base.specs.Machine.{State}
 use Rattle.sloth_base.specs.declared.event.Arrival.{Arrival}
 use Rattle.sloth_base.specs.declared.event.Stamped.{Stamped}
 use Rattle.sloth_base.specs.declared.step.Step.{Step}
+use Rattle.sloth_base.specs.MemoryMap.{line_count}
 use Rattle.rv32_instr.specs.Memory.{memory_of}
 use Rattle.rv32_machine.specs.State.{state}
 use Rattle.rv32_machine.specs.declared.machine.Machine.{Machine}
@@ -20,7 +21,7 @@ sloth_state machine = state (λ bus. bus) machine
 
 -- each line is one of the controller's 32
 abbrev pub AreLines : List Arrival → Type 0
-AreLines arrivals = All (λ arrival. arrival.line < 32) arrivals
+AreLines arrivals = All (λ arrival. arrival.line < line_count) arrivals
 
 -- what a state shows of so many tasks at a count, where it finds MIE 1
 abbrev pub seen_at : (tasks count : ℕ) → State → Option Seen

@@ -60,9 +60,9 @@ image_of runner = runner.image.now
 abbrev pub given_arrivals : Runner → List Arrival
 given_arrivals runner = arrivals_of runner.observer
 
--- how many instructions are done
+-- how many instructions are done: the machine counts them
 abbrev pub count_of : Runner → ℕ
-count_of runner = runner.count
+count_of runner = runner.machine.count
 
 -- k instructions are done on its machine
 pub record HasRun (runner : Runner) (image : Image) (k : ℕ) : Type 0 where
@@ -70,8 +70,7 @@ pub record HasRun (runner : Runner) (image : Image) (k : ℕ) : Type 0 where
   pub lines : AreLines runner.coming.now
   pub after : state_after k (given_arrivals runner) (start image) ≡ Some (sloth_state runner.machine)
   pub coming : runner.coming.now ≡ arrivals_from k (given_arrivals runner)
-  pub count : runner.count ≡ k
-  pub executed : runner.machine.count ≡ k
+  pub count : count_of runner ≡ k
 
 -- k instructions are done, and all their finished events were handed out
 pub record HasDone (runner : Runner) (image : Image) (k : ℕ) : Type 0 where
@@ -84,11 +83,11 @@ pub record HasDone (runner : Runner) (image : Image) (k : ℕ) : Type 0 where
 
 -- between two instructions
 abbrev pub IsRunning : Runner → Type 0
-IsRunning runner = HasDone runner runner.image.now runner.count
+IsRunning runner = HasDone runner runner.image.now (count_of runner)
 
 -- it has run nothing
 abbrev pub IsFresh : Runner → Type 0
-IsFresh runner = IsRunning runner × (runner.count ≡ 0)
+IsFresh runner = IsRunning runner × (count_of runner ≡ 0)
 
 -- these are the events that the instruction of count k adds
 abbrev pub Adds : Image → List Arrival → ℕ → List Stamped → Type 0
@@ -97,21 +96,19 @@ Adds image arrivals k events = events_of image arrivals (k + 1) ≡ events_of im
 -- the arrivals of the moment have come
 pub record HasArrived (old new : Runner) : Type 0 where
   pub state : sloth_state new.machine ≡ state_with_arrivals (given_arrivals old) (count_of old) (sloth_state old.machine)
-  pub coming : new.coming.now ≡ arrivals_behind old.count old.coming.now
+  pub coming : new.coming.now ≡ arrivals_behind (count_of old) old.coming.now
   pub lines : AreLines new.coming.now
   pub count : count_of new ≡ count_of old
-  pub executed : new.machine.count ≡ old.machine.count
 
 -- the machine did one instruction, which shows this step
 pub record HasExecuted (old new : Runner) (step : Step) : Type 0 where
-  pub goes : advance old.machine.count (sloth_state old.machine) ≡ Goes step (sloth_state new.machine)
-  pub shown : step.count ≡ old.machine.count
+  pub goes : advance (count_of old) (sloth_state old.machine) ≡ Goes step (sloth_state new.machine)
+  pub shown : step.count ≡ count_of old
   pub count : count_of new ≡ count_of old + 1
-  pub executed : new.machine.count ≡ old.machine.count + 1
 
 -- the machine stops at the next one, there and so
 pub record HaltsAt (old : Runner) (halt : Halt) : Type 0 where
-  pub halts : advance old.machine.count (sloth_state old.machine) ≡ Halts halt.stop
+  pub halts : advance (count_of old) (sloth_state old.machine) ≡ Halts halt.stop
   pub pc : halt.pc ≡ (execution_state (sloth_state old.machine)).pc
 
 -- an instruction was done, and its step fed to the observer, which has its events

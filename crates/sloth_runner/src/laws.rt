@@ -6,6 +6,7 @@ ghost use Rattle.sloth_base.specs.declared.image.Image.{Image};
 ghost use Rattle.sloth_base.specs.declared.event.Arrival.{Arrival};
 ghost use Rattle.sloth_base.specs.Arrivals.{AreArrivals};
 ghost use Rattle.sloth_base.specs.Owners.{owners_in};
+ghost use Rattle.sloth_base.specs.Limits.{count_limit};
 ghost use Rattle.sim_induction.specs.Sound.{Sound};
 ghost use Rattle.sloth_runner.specs.Runner.{run_end};
 ghost use Rattle.sloth_runner.specs.Sight.{IsSight};
@@ -15,7 +16,7 @@ ghost use Rattle.sloth_runner.specs.declared.runner.RunEnd.TheVariants.{Whole};
 /// A run of a sound image, of at most 1,000,000 instructions, never stops.
 pub fn sound_runs_are_whole()
     ensures { (config : Config) (app : App) (image : Image) (arrivals : List Arrival) (n : ℕ) →
-        Sound config app image → AreArrivals (owners_in config) arrivals → n ≤ 1000000 → run_end image arrivals n ≡ Whole }
+        Sound config app image → AreArrivals (owners_in config) arrivals → n ≤ count_limit → run_end image arrivals n ≡ Whole }
 {}
 
 /// A run shows one thing of its tasks.

@@ -1,24 +1,26 @@
 //! What a machine shows of its tasks at a count.
 ghost use Rattle.std.specs.Prelude.{◌≡◌, ◌+◌, ◌<◌, ◌≤◌};
+ghost use Rattle.sloth_base.specs.Limits.{task_limit};
 ghost use Rattle.sloth_inspect.specs.States.{states_in, running_number_in};
 ghost use Rattle.sloth_runner.specs.Moments.{seen_at, sloth_state};
 
 use osek_scheduler::state::TaskState;
 use rv32_machine::{Machine, SlothBus};
-use sloth_inspect::{TASKS, running, states};
+use sloth_base::limits::TASK_LIMIT;
+use sloth_inspect::{running, states};
 
 /// The states of the tasks at a count, in 30 places.
 #[derive(Clone, Copy)]
 pub struct Seen {
     pub count: u32,
-    pub tasks: [TaskState; TASKS],
+    pub tasks: [TaskState; TASK_LIMIT],
     /// The number of the running task and 1 more, or 0 where none runs.
     pub running: u32,
 }
 
 // What memory and the controller show of so many tasks, at a count.
 fn seen_of(bus: &mut SlothBus, count: u32, tasks: u32) -> Seen
-    requires { tasks ≤ 30 }
+    requires { tasks ≤ task_limit }
     ensures is { result ≡ record { count = count; tasks = states_in bus.old tasks; running = running_number_in bus.old } }
     ensures same { bus.new ≡ bus.old }
 {
@@ -31,7 +33,7 @@ fn seen_of(bus: &mut SlothBus, count: u32, tasks: u32) -> Seen
 
 /// What the machine shows of so many tasks at a count, where interrupts are open.
 pub fn look(machine: &mut Machine<SlothBus>, count: u32, tasks: u32) -> Option<Seen>
-    requires { tasks ≤ 30 }
+    requires { tasks ≤ task_limit }
     ensures seen { result ≡ seen_at tasks count (sloth_state machine.old) }
     ensures same { machine.new ≡ machine.old }
 {

@@ -3,6 +3,7 @@ ghost use Rattle.std.specs.Prelude.{◌≡◌, ◌<◌, ◌≤◌, ◌∷◌, []
 ghost use Rattle.sloth_base.specs.ImageRange.{InFormat};
 ghost use Rattle.sloth_base.specs.Arrivals.{AreArrivals};
 ghost use Rattle.sloth_base.specs.Owners.{owners_named};
+ghost use Rattle.sloth_base.specs.Limits.{count_limit};
 ghost use Rattle.sloth_io.specs.Sink.{output_with, GainsPart};
 ghost use Rattle.trace_text.specs.Texts.{ends_idle, is_idle};
 ghost use Rattle.observe.specs.Progress.{remaining, view_of, arrivals_of, expected_count, arrivals_due};
@@ -96,9 +97,8 @@ pub struct Runner<'a> {
     pub(crate) image: &'a Image,
     pub(crate) machine: Machine<SlothBus>,
     pub(crate) observer: Observer<'a>,
-    // The arrivals of the next moment and of later ones.
+    // The arrivals of the next moment and of later ones. The observer keeps its own place among them, since it may be fed no step.
     pub(crate) coming: &'a [Arrival],
-    pub(crate) count: u32,
     // The record of the last instruction.
     pub(crate) shown: Step,
 }
@@ -125,7 +125,6 @@ impl<'a> Runner<'a> {
             machine,
             observer,
             coming: arrivals,
-            count: 0,
             shown: blank_step(),
         })
     }
@@ -138,7 +137,7 @@ impl<'a> Runner<'a> {
         ensures image { image_of self.new ≡ image_of self.old }
         ensures observer { self.new.observer ≡ self.old.observer }
     {
-        let due = passing(self.coming, self.count);
+        let due = passing(self.coming, self.machine.count());
         if due > 0 {
             self.arrive_first(due);
         }
@@ -148,7 +147,7 @@ impl<'a> Runner<'a> {
     #[inline(never)]
     fn arrive_first(&mut self, due: usize)
         requires ran { HasRun self.old (image_of self.old) (count_of self.old) }
-        requires due { due ≡ length (arrivals_due self.old.count self.old.coming.now) }
+        requires due { due ≡ length (arrivals_due (count_of self.old) self.old.coming.now) }
         ensures arrived { HasArrived self.old self.new }
         ensures image { image_of self.new ≡ image_of self.old }
         ensures observer { self.new.observer ≡ self.old.observer }
@@ -159,8 +158,7 @@ impl<'a> Runner<'a> {
     // One instruction, unless the machine stops at it. Its record is kept.
     #[inline(always)]
     fn record(&mut self) -> Result<(), Halt>
-        requires few { count_of self.old < 1000000 }
-        requires executed { self.old.machine.count ≡ count_of self.old }
+        requires few { count_of self.old < count_limit }
         ensures ok { OnOk result (HasExecuted self.old self.new self.new.shown) }
         ensures err { IfErr result (HaltsAt self.old) }
         ensures coming { self.new.coming.now ≡ self.old.coming.now }
@@ -168,10 +166,7 @@ impl<'a> Runner<'a> {
         ensures observer { self.new.observer ≡ self.old.observer }
     {
         match self.machine.step_into(&mut self.shown) {
-            Ok(()) => {
-                self.count += 1;
-                Ok(())
-            }
+            Ok(()) => Ok(()),
             Err(stop) => Err(Halt {
                 pc: self.machine.next_pc(),
                 stop,
@@ -181,8 +176,7 @@ impl<'a> Runner<'a> {
 
     /// One instruction, unless the machine stops at it.
     pub fn execute(&mut self) -> Result<Step, Halt>
-        requires few { count_of self.old < 1000000 }
-        requires executed { self.old.machine.count ≡ count_of self.old }
+        requires few { count_of self.old < count_limit }
         ensures ok { IfOk result (HasExecuted self.old self.new) }
         ensures err { IfErr result (HaltsAt self.old) }
         ensures coming { self.new.coming.now ≡ self.old.coming.now }
@@ -198,7 +192,7 @@ impl<'a> Runner<'a> {
     // One instruction, unless the machine stops at it. Its finished events are left with the observer.
     #[inline(always)]
     pub(crate) fn advance(&mut self) -> Option<RunEnd>
-        requires few { count_of self.old < 1000000 }
+        requires few { count_of self.old < count_limit }
         requires running { IsRunning self.old }
         ensures went { IfNone result (Advanced self.old self.new) }
         ensures halted { IfSome result (HaltsWith self.old) }
@@ -224,7 +218,7 @@ impl<'a> Runner<'a> {
         printer: &mut Printer,
         out: &mut S,
     ) -> Result<Option<RunEnd>, SinkFault>
-        requires few { count_of self.old < 1000000 }
+        requires few { count_of self.old < count_limit }
         requires running { IsRunning self.old }
         requires printer { printer.old.image.now ≡ image_of self.old }
         ensures went { IfOk result (λ end. IfNone end
@@ -247,7 +241,7 @@ impl<'a> Runner<'a> {
     /// Runs n instructions, at most 1,000,000, and puts the line of each event.
     pub fn run<S: Sink>(&mut self, n: u32, form: Form, out: &mut S) -> Result<RunEnd, SinkFault>
         requires fresh { IsFresh self.old }
-        requires few { n ≤ 1000000 }
+        requires few { n ≤ count_limit }
         ensures text { OnOk result (S.seen out.new ≡ output_with (S.seen out.old) (run_text (image_of self.old) (given_arrivals self.old) form n)) }
         ensures end { IfOk result (λ end. end ≡ run_end (image_of self.old) (given_arrivals self.old) n) }
         ensures broke { OnErr result
@@ -258,7 +252,7 @@ impl<'a> Runner<'a> {
             form,
             after_idle: false,
         };
-        while self.count < n {
+        while self.machine.count() < n {
             if let Some(end) = self.turn(&mut printer, out)? {
                 return Ok(end);
             }

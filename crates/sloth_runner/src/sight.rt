@@ -1,5 +1,6 @@
 //! The states of the tasks at a count of a run.
 ghost use Rattle.std.specs.Prelude.{◌≡◌, ◌<◌, ◌≤◌, length};
+ghost use Rattle.sloth_base.specs.Limits.{task_limit, count_limit};
 ghost use Rattle.sloth_runner.specs.Moments.{sloth_state};
 ghost use Rattle.sloth_runner.specs.Sight.{sight_at, pending_counters_in, interrupts_in, task_levels};
 
@@ -7,25 +8,23 @@ pub use crate::looks::Seen;
 use crate::looks::{instructions_through, look};
 use crate::runner::Runner;
 use rv32_machine::{SlothBus, Stop};
-use sloth_base::lines::COUNTER_LINE;
+use sloth_base::limits::{COUNTER_LIMIT, TASK_LIMIT};
+use sloth_base::lines::FIRST_COUNTER_LINE;
 use sloth_base::numbers::Line;
-use sloth_inspect::{TASKS, levels, pending};
+use sloth_inspect::{levels, pending};
 
 /// What the machine shows of interrupts at a count.
 #[derive(Clone, Copy)]
 pub struct Interrupts {
     /// Whether each task's line is pending, in 30 places.
-    pub pending: [bool; TASKS],
+    pub pending: [bool; TASK_LIMIT],
     /// Whether the line of each counter is pending.
-    pub counters_pending: [bool; COUNTERS],
+    pub counters_pending: [bool; COUNTER_LIMIT],
     /// The running level, 0 to 255.
     pub level: u8,
     /// Whether interrupts are masked.
     pub masked: bool,
 }
-
-/// How many counters there are at most.
-pub const COUNTERS: usize = 2;
 
 /// What a run shows of its tasks.
 #[derive(Clone, Copy)]
@@ -39,12 +38,12 @@ pub enum Sight {
 }
 
 // Whether the line of each counter is pending.
-fn counters_pending(bus: &SlothBus) -> [bool; COUNTERS]
+fn counters_pending(bus: &SlothBus) -> [bool; COUNTER_LIMIT]
     ensures { result ≡ pending_counters_in bus.now }
 {
     [
-        bus.is_pending(Line(COUNTER_LINE)),
-        bus.is_pending(Line(COUNTER_LINE + 1)),
+        bus.is_pending(Line(FIRST_COUNTER_LINE)),
+        bus.is_pending(Line(FIRST_COUNTER_LINE + 1)),
     ]
 }
 
@@ -54,17 +53,18 @@ impl<'a> Runner<'a> {
 
     /// What the machine shows of the tasks, where interrupts are open.
     pub fn look(&mut self) -> Option<Seen>
-        requires { length (image_of self.old).tasks ≤ 30 }
+        requires { length (image_of self.old).tasks ≤ task_limit }
         ensures seen { result ≡ sight_at (image_of self.old) (count_of self.old) (sloth_state self.old.machine) }
         ensures same { self.new ≡ self.old }
     {
         let tasks = self.image.tasks.items().len() as u32;
-        look(&mut self.machine, self.count, tasks)
+        let count = self.machine.count();
+        look(&mut self.machine, count, tasks)
     }
 
     /// What the machine shows of interrupts.
     pub fn interrupts(&mut self) -> Interrupts
-        requires { length (image_of self.old).tasks ≤ 30 }
+        requires { length (image_of self.old).tasks ≤ task_limit }
         ensures interrupts { result ≡ interrupts_in (image_of self.old) (sloth_state self.old.machine) }
         ensures same { self.new ≡ self.old }
     {
@@ -78,8 +78,8 @@ impl<'a> Runner<'a> {
     }
 
     /// The level byte of each task's line, in 30 places.
-    pub fn levels(&mut self) -> [u8; TASKS]
-        requires { length (image_of self.old).tasks ≤ 30 }
+    pub fn levels(&mut self) -> [u8; TASK_LIMIT]
+        requires { length (image_of self.old).tasks ≤ task_limit }
         ensures levels { result ≡ task_levels (image_of self.old) (sloth_state self.old.machine) }
         ensures same { self.new ≡ self.old }
     {
@@ -90,12 +90,12 @@ impl<'a> Runner<'a> {
     /// Runs k + 1 instructions, and tells the states of the tasks at the last count that finds interrupts open.
     pub fn state_at(&mut self, k: u32) -> Sight
         requires fresh { IsFresh self.old }
-        requires few { k < 1000000 }
+        requires few { k < count_limit }
         ensures { IsSight (image_of self.old) (given_arrivals self.old) k result }
     {
         let n = instructions_through(k);
         let mut last = None;
-        while self.count < n {
+        while self.machine.count() < n {
             self.arrive_now();
             last = self.look().or(last);
             if let Err(halt) = self.execute() {

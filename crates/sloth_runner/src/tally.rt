@@ -1,5 +1,6 @@
 //! Counts what is observed of a run.
 ghost use Rattle.std.specs.Prelude.{◌≡◌, ◌≤◌};
+ghost use Rattle.sloth_base.specs.Limits.{count_limit};
 ghost use Rattle.sim_induction.specs.Sound.{events_of};
 ghost use Rattle.trace_text.specs.Summary.{counts_of};
 
@@ -20,12 +21,12 @@ impl<'a> Runner<'a> {
     /// Runs n instructions, at most 1,000,000, and counts the events.
     pub fn tally(&mut self, n: u32) -> Tally
         requires fresh { IsFresh self.old }
-        requires few { n ≤ 1000000 }
+        requires few { n ≤ count_limit }
         ensures counts { result.counts ≡ counts_of (events_of (image_of self.old) (given_arrivals self.old) n) }
         ensures end { result.end ≡ run_end (image_of self.old) (given_arrivals self.old) n }
     {
         let mut counts = [0; KINDS];
-        while self.count < n {
+        while self.machine.count() < n {
             if let Some(end) = self.advance() {
                 return Tally { counts, end };
             }

@@ -7,6 +7,7 @@ use Rattle.sloth_base.specs.declared.app.App.{App}
 use Rattle.sloth_base.specs.Named.{declaration}
 use Rattle.call_graph.specs.declared.ranking.Ranks.{Ranks}
 use Rattle.sloth_base.specs.declared.places.Bounds.{Bounds}
+use Rattle.sloth_base.specs.Limits.{task_limit}
 use Rattle.stack_bounds.specs.Bounds.{total, IsGreatest, IsBasic, MayBePreempted, AreStacked, AreBounds, AreParts}
 use Rattle.call_graph.specs.Tables.{sum_below, most_stacked, AreOffsets}
 use Rattle.stack_bounds.proofs.Below.{max_below-at, max_below-le, sum_below-le, sum_below-gain}
@@ -73,7 +74,7 @@ module _ (config : Config) (app : App) (ranks : Ranks) (yielding : List Bool) (b
       (λ no. omega (arith, no))
       (counts config app ranks yielding bytes h below t l)
 
-  few : n ≤ 30
+  few : n ≤ task_limit
   few = h.verified.in_range.configuration.few_tasks
 
   best_small : (t : ℕ) → t < n → best config app ranks yielding bytes h t ≤ 269824

@@ -7,10 +7,8 @@ use crate::task_bodies::body_of;
 use sloth_base::app::Func;
 use sloth_base::config::TaskDecl;
 use sloth_base::memory::NoMemory;
+use sloth_base::memory_map::WORD;
 use std::alloc::Global;
-
-/// The bytes of a word.
-const WORD: u32 = 4;
 
 /// The bytes of a context, 32 words: where a task goes on, what was below it, and its registers.
 const CONTEXT: u32 = 128;

@@ -1,4 +1,7 @@
 //! The verifier: V2 to V12 judged exactly, and task code that keeps them.
+//!
+//! With ranks that belong to the task code, `verify` gives exactly the least of V2 to V12, or equal copies that are well formed (`Verified`,
+//! `specs/Accepted`). The rules: `code_rules` (`WellFormed`); one body: `body_faults`.
 #![tactic(auto)]
 
 ghost use Rattle.std.specs.Prelude.{◌≡◌, IfErr, IfOk, OnOk};

@@ -1,5 +1,6 @@
 //! The command `check`.
 ghost use Rattle.std.specs.Prelude.{◌≤◌, IfOk, length};
+ghost use Rattle.sloth_base.specs.Limits.{file_limit};
 ghost use Rattle.tool_answers.specs.CheckAnswers.{IsCheckAnswer};
 
 use crate::answer::{ToolAnswer, TraceFault};
@@ -17,10 +18,10 @@ pub fn check(
     text: &[u8],
     n: u32,
 ) -> Result<ToolAnswer, NoMemory>
-    requires oil { length oil.now ≤ 4194304 }
-    requires src { length src.now ≤ 4194304 }
-    requires arr { length arr.now ≤ 4194304 }
-    requires text { length text.now ≤ 4194304 }
+    requires oil { length oil.now ≤ file_limit }
+    requires src { length src.now ≤ file_limit }
+    requires arr { length arr.now ≤ file_limit }
+    requires text { length text.now ≤ file_limit }
     ensures { IfOk result (λ answer. IsCheckAnswer oil.now src.now arr.now text.now n answer) }
 {
     match judge_trace(alloc, oil, src, arr, text, n)? {

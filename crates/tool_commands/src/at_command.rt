@@ -3,6 +3,7 @@ ghost use Rattle.std.specs.Prelude.{◌≡◌, ◌≤◌, ℕ, List as Sequence,
 ghost use Rattle.sloth_base.specs.ImageRange.{InFormat};
 ghost use Rattle.sloth_base.specs.Arrivals.{AreArrivals};
 ghost use Rattle.sloth_base.specs.Owners.{owners_named};
+ghost use Rattle.sloth_base.specs.Limits.{file_limit};
 ghost use Rattle.sloth_runner.specs.Sight.{IsSight};
 ghost use Rattle.tool_commands.specs.AtAnswers.{IsAtAnswer, sight_answer};
 ghost use Rattle.tool_commands.specs.RunAnswers.{AreRunInputs};
@@ -65,7 +66,7 @@ fn seen_of(alloc: Global, run: &RunInputs, k: u32) -> Result<ToolAnswer, NoMemor
 
 /// The states of the tasks at the last count up to k, in the run of an image file with arrivals, that finds interrupts open.
 pub fn at(alloc: Global, img: &[u8], arr: &[u8], k: u32) -> Result<ToolAnswer, NoMemory>
-    requires arr { length arr.now ≤ 4194304 }
+    requires arr { length arr.now ≤ file_limit }
     requires k { k ≤ 999999 }
     ensures { IfOk result (λ answer. IsAtAnswer img.now arr.now k answer) }
 {

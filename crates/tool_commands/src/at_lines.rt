@@ -5,8 +5,8 @@ ghost use Rattle.tool_commands.specs.SightText.{state_text, task_line, count_lin
 
 use osek_scheduler::state::TaskState;
 use sloth_base::image::Image;
+use sloth_base::limits::TASK_LIMIT;
 use sloth_base::memory::NoMemory;
-use sloth_inspect::TASKS;
 use sloth_runner::sight::Seen;
 use std::alloc::Global;
 use trace_text::line_text::LineText;
@@ -30,7 +30,7 @@ fn push_state(line: &mut LineText, state: TaskState)
 
 // The line of a task.
 #[tactic(auto, unfolding(crate::specs::SightText::task_line))]
-fn task_line(image: &Image, states: &[TaskState; TASKS], task: usize) -> LineText
+fn task_line(image: &Image, states: &[TaskState; TASK_LIMIT], task: usize) -> LineText
     requires format { InFormat image.now }
     requires there { task < length image.now.tasks }
     ensures { result ≡ task_line image.now states.now task }

@@ -1,5 +1,6 @@
 //! The command `bounds`, and `bounds` with `latency`.
 ghost use Rattle.std.specs.Prelude.{◌≤◌, IfOk, length};
+ghost use Rattle.sloth_base.specs.Limits.{file_limit};
 ghost use Rattle.tool_commands.specs.BoundsAnswers.{IsBoundsAnswer, IsLatencyAnswer};
 
 use bounds_text::bounds_text;
@@ -12,8 +13,8 @@ use tool_answers::told::told;
 
 /// How much work of lower tasks may stand between each task's becoming Ready and its entry; or the first refusal.
 pub fn bounds(alloc: Global, oil: &[u8], src: &[u8]) -> Result<ToolAnswer, NoMemory>
-    requires oil { length oil.now ≤ 4194304 }
-    requires src { length src.now ≤ 4194304 }
+    requires oil { length oil.now ≤ file_limit }
+    requires src { length src.now ≤ file_limit }
     ensures { IfOk result (λ answer. IsBoundsAnswer oil.now src.now answer) }
 {
     match bounds_text(alloc, oil, src) {
@@ -25,8 +26,8 @@ pub fn bounds(alloc: Global, oil: &[u8], src: &[u8]) -> Result<ToolAnswer, NoMem
 
 /// The same, and how long the task of highest priority may wait for its entry; or the first refusal.
 pub fn latency(alloc: Global, oil: &[u8], src: &[u8]) -> Result<ToolAnswer, NoMemory>
-    requires oil { length oil.now ≤ 4194304 }
-    requires src { length src.now ≤ 4194304 }
+    requires oil { length oil.now ≤ file_limit }
+    requires src { length src.now ≤ file_limit }
     ensures { IfOk result (λ answer. IsLatencyAnswer oil.now src.now answer) }
 {
     match latency_lines(alloc, oil, src) {

@@ -1,5 +1,6 @@
 //! The command `infer`.
 ghost use Rattle.std.specs.Prelude.{◌≤◌, IfOk, length};
+ghost use Rattle.sloth_base.specs.Limits.{file_limit};
 ghost use Rattle.tool_commands.specs.InferAnswers.{IsInferAnswer};
 
 use crate::elf_commands::written;
@@ -10,8 +11,8 @@ use tool_answers::answer::ToolAnswer;
 
 /// The source with the list of each label filled in; or that no lists keep every rule; or the first refusal before the rules V2 to V12.
 pub fn infer(alloc: Global, oil: &[u8], src: &[u8]) -> Result<ToolAnswer, NoMemory>
-    requires oil { length oil.now ≤ 4194304 }
-    requires src { length src.now ≤ 4194304 }
+    requires oil { length oil.now ≤ file_limit }
+    requires src { length src.now ≤ file_limit }
     ensures { IfOk result (λ answer. IsInferAnswer oil.now src.now answer) }
 {
     let file = match fill_source(alloc, oil, src) {

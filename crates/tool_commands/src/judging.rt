@@ -1,5 +1,6 @@
 //! The answer of a tool.
 ghost use Rattle.std.specs.Prelude.{◌≡◌, ◌≤◌, IfOk, All, length};
+ghost use Rattle.sloth_base.specs.Limits.{file_limit};
 ghost use Rattle.command_line.specs.Tools.{input_count, counts_limit, AreCounts};
 ghost use Rattle.tool_commands.specs.Answers.{IsAnswer};
 
@@ -27,7 +28,7 @@ pub fn judge(
 ) -> Result<ToolAnswer, NoMemory>
     requires counted { length inputs.now ≡ input_count tool }
     requires counts { AreCounts (counts_limit tool) counts }
-    requires short { All (λ input. length input ≤ 4194304) inputs.now }
+    requires short { All (λ input. length input ≤ file_limit) inputs.now }
     ensures { IfOk result (λ answer. IsAnswer tool counts inputs.now answer) }
 {
     match tool {

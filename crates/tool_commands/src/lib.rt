@@ -1,4 +1,11 @@
-//! The commands that read files, judge what they hold, and end with one answer: which answer each of them has.
+//! The commands that read files, judge what they hold, and end with one answer: `elf`, `unelf`, `infer`, `check`, `at`, `wave`, `picture`, `bounds`
+//! without and with `latency`, `map`.
+//!
+//! The files have exactly the answer that one table of all such commands says, and have one at most (`judge`, `one_answer`). The table:
+//! `specs/Answers`, with a row for each in `specs/ElfAnswers`, `specs/InferAnswers`, `specs/AtAnswers`, `specs/BoundsAnswers`, `specs/MapAnswers`,
+//! `specs/WaveAnswers`, `specs/PictureAnswers`; what two of them share: `specs/SourceAnswers` (`bounds` and `map`), `specs/RunAnswers` (`wave` and
+//! `picture`); `specs/Lines`. The lines of task states: `specs/SightText`. Words: `command_line` (`Tools`); the answer of `check`: `tool_answers`
+//! (`CheckAnswers`).
 #![tactic(auto)]
 
 mod at_command;

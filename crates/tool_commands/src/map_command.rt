@@ -1,5 +1,6 @@
 //! The command `map`.
 ghost use Rattle.std.specs.Prelude.{◌≤◌, IfOk, length};
+ghost use Rattle.sloth_base.specs.Limits.{file_limit};
 ghost use Rattle.tool_commands.specs.MapAnswers.{IsMapAnswer};
 
 use map_text::map_text;
@@ -11,8 +12,8 @@ use tool_answers::told::told;
 
 /// What the image of these texts takes of memory, and what its tasks need of the stacks; or the first refusal.
 pub fn map(alloc: Global, oil: &[u8], src: &[u8]) -> Result<ToolAnswer, NoMemory>
-    requires oil { length oil.now ≤ 4194304 }
-    requires src { length src.now ≤ 4194304 }
+    requires oil { length oil.now ≤ file_limit }
+    requires src { length src.now ≤ file_limit }
     ensures { IfOk result (λ answer. IsMapAnswer oil.now src.now answer) }
 {
     match map_text(alloc, oil, src) {

@@ -3,6 +3,7 @@ ghost use Rattle.std.specs.Prelude.{◌≤◌, ℕ, List, IfOk, length};
 ghost use Rattle.sloth_base.specs.Arrivals.{AreArrivals};
 ghost use Rattle.sloth_base.specs.ImageRange.{InFormat};
 ghost use Rattle.sloth_base.specs.Owners.{owners_named};
+ghost use Rattle.sloth_base.specs.Limits.{file_limit, picture_limit, count_limit};
 ghost use Rattle.command_line.specs.Tools.{IsWindow};
 ghost use Rattle.tool_commands.specs.PictureAnswers.{IsPictureAnswer};
 ghost use Rattle.tool_commands.specs.RunAnswers.{AreRunInputs};
@@ -19,7 +20,7 @@ use tool_answers::answer::ToolAnswer;
 fn picture_of(alloc: Global, run: &RunInputs, window: Window) -> Result<ToolAnswer, NoMemory>
     requires format { InFormat run.now.image }
     requires arrivals { AreArrivals (owners_named run.now.image) run.now.arrivals.items }
-    requires window { IsWindow 1000000 100000 window }
+    requires window { IsWindow count_limit picture_limit window }
     ensures { (img arr : List ℕ) → AreRunInputs img arr run.now.image run.now.arrivals.items
         → IfOk result (λ answer. IsPictureAnswer img arr window answer) }
 {
@@ -45,8 +46,8 @@ pub fn picture(
     arr: &[u8],
     window: Window,
 ) -> Result<ToolAnswer, NoMemory>
-    requires arr { length arr.now ≤ 4194304 }
-    requires window { IsWindow 1000000 100000 window }
+    requires arr { length arr.now ≤ file_limit }
+    requires window { IsWindow count_limit picture_limit window }
     ensures { IfOk result (λ answer. IsPictureAnswer img.now arr.now window answer) }
 {
     match read_run(alloc, img, arr) {

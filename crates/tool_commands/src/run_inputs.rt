@@ -3,6 +3,7 @@ ghost use Rattle.std.specs.Prelude.{◌≡◌, ◌≤◌, IfOk, IfErr, length};
 ghost use Rattle.sloth_base.specs.Arrivals.{AreArrivals};
 ghost use Rattle.sloth_base.specs.ImageRange.{InFormat};
 ghost use Rattle.sloth_base.specs.Owners.{owners_named};
+ghost use Rattle.sloth_base.specs.Limits.{file_limit};
 ghost use Rattle.tool_commands.specs.RunAnswers.{AreRunInputs, AreUnread, image_unread, arrivals_unread};
 
 use image_file::fault::{ImageError, ImageFault};
@@ -53,7 +54,7 @@ impl From<BuildError> for Unread {
 
 /// Reads an image file, and arrivals by its names.
 pub fn read_run(alloc: Global, img: &[u8], arr: &[u8]) -> Result<RunInputs, Unread>
-    requires { length arr.now ≤ 4194304 }
+    requires { length arr.now ≤ file_limit }
     ensures inputs { IfOk result (λ run. AreRunInputs img.now arr.now run.image run.arrivals.items) }
     ensures format { IfOk result (λ run. InFormat run.image) }
     ensures in_range { IfOk result (λ run. AreArrivals (owners_named run.image) run.arrivals.items) }

@@ -3,6 +3,7 @@ ghost use Rattle.std.specs.Prelude.{◌≤◌, ℕ, List, IfOk, length};
 ghost use Rattle.sloth_base.specs.Arrivals.{AreArrivals};
 ghost use Rattle.sloth_base.specs.ImageRange.{InFormat};
 ghost use Rattle.sloth_base.specs.Owners.{owners_named};
+ghost use Rattle.sloth_base.specs.Limits.{file_limit, count_limit};
 ghost use Rattle.tool_commands.specs.RunAnswers.{AreRunInputs};
 ghost use Rattle.tool_commands.specs.WaveAnswers.{IsWaveAnswer};
 
@@ -17,7 +18,7 @@ use wave_text::{Recorded, waves};
 fn waves_of(alloc: Global, run: &RunInputs, n: u32) -> Result<ToolAnswer, NoMemory>
     requires format { InFormat run.now.image }
     requires arrivals { AreArrivals (owners_named run.now.image) run.now.arrivals.items }
-    requires n { n ≤ 1000000 }
+    requires n { n ≤ count_limit }
     ensures { (img arr : List ℕ) → AreRunInputs img arr run.now.image run.now.arrivals.items → IfOk result (λ answer. IsWaveAnswer img arr n answer) }
 {
     match waves(alloc, &run.image, run.arrivals.as_slice(), n)? {
@@ -31,8 +32,8 @@ fn waves_of(alloc: Global, run: &RunInputs, n: u32) -> Result<ToolAnswer, NoMemo
 
 /// The waves of n instructions of the run of an image file with arrivals.
 pub fn wave(alloc: Global, img: &[u8], arr: &[u8], n: u32) -> Result<ToolAnswer, NoMemory>
-    requires arr { length arr.now ≤ 4194304 }
-    requires n { n ≤ 1000000 }
+    requires arr { length arr.now ≤ file_limit }
+    requires n { n ≤ count_limit }
     ensures { IfOk result (λ answer. IsWaveAnswer img.now arr.now n answer) }
 {
     match read_run(alloc, img, arr) {

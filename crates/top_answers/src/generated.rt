@@ -3,6 +3,7 @@ use crate::syntax::shown;
 use app_gen::application::Sample;
 use app_gen::sample;
 use sloth_base::event::Arrival;
+use sloth_base::limits::TASK_LIMIT;
 use text_pieces::bytes::{before, behind};
 use text_pieces::numerals::value;
 
@@ -27,7 +28,7 @@ fn list_texts(rt: &impl Print, sample: &Sample) -> anyhow::Result<()> {
 /// Prints the two texts and the arrivals of the application that a seed and a number of tasks ask for.
 pub fn list_sample(rt: &(impl Print + AllocGlobal), asked: &[u8]) -> anyhow::Result<()> {
     let tasks = number(behind(asked, b' '));
-    if tasks < 1 || tasks > 30 {
+    if tasks < 1 || tasks > TASK_LIMIT as u32 {
         return Ok(());
     }
     let sample = sample(rt.alloc(), number(before(asked, b' ')), tasks)?;

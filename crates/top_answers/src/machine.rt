@@ -1,6 +1,7 @@
 //! An instruction, the controller, the buses and the machine.
 ghost use Rattle.std.specs.Prelude.{◌<◌};
 ghost use Rattle.sloth_base.specs.ImageRange.{InFormat};
+ghost use Rattle.sloth_base.specs.Limits.{count_limit};
 
 use crate::rows::{Piece, row};
 use irq_ctrl::Controller;
@@ -131,7 +132,7 @@ pub fn list_choice(rt: &(impl Print + AllocGlobal), image: &Image) -> anyhow::Re
 }
 
 fn list_step(rt: &impl Print, machine: &mut Machine<SlothBus>) -> anyhow::Result<()>
-    requires { machine.old.count < 1000000 }
+    requires { machine.old.count < count_limit }
 {
     match machine.step() {
         Ok(step) => row(
@@ -149,7 +150,7 @@ fn list_step(rt: &impl Print, machine: &mut Machine<SlothBus>) -> anyhow::Result
 
 // The first step of a machine, and where the next one is behind an arrival.
 fn list_steps(rt: &impl Print, machine: &mut Machine<SlothBus>) -> anyhow::Result<()>
-    requires { machine.old.count < 1000000 }
+    requires { machine.old.count < count_limit }
 {
     list_step(rt, machine)?;
     machine.bus_mut().arrive(Line(1));

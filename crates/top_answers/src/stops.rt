@@ -1,6 +1,7 @@
 //! Stops of the machine over a flat memory, and what a controller adds. Words are those that an independent assembler writes.
 ghost use Rattle.std.specs.Prelude.{◌≡◌, ◌≤◌, ◌<◌, ◌+◌, IfOk};
 ghost use Rattle.sloth_base.specs.ImageRange.{InFormat};
+ghost use Rattle.sloth_base.specs.Limits.{count_limit};
 
 use crate::machine::is_stored;
 use crate::rows::{Piece, row};
@@ -141,7 +142,7 @@ fn list_address(rt: &impl Print, machine: &Machine<SlothBus>) -> anyhow::Result<
 
 // How a step stops, or that it does not.
 fn list_next(rt: &impl Print, machine: &mut Machine<SlothBus>) -> anyhow::Result<()>
-    requires { machine.old.count < 1000000 }
+    requires { machine.old.count < count_limit }
     ensures { machine.new.count ≤ machine.old.count + 1 }
 {
     match machine.step() {

@@ -12,7 +12,8 @@ use Rattle.osek_scheduler.specs.Runs.{OsekRun}
 use Rattle.osek_scheduler.specs.InTime.{InTime}
 use Rattle.walked_events.specs.TraceText.{Shows, IsFirstBad}
 use Rattle.walked_events.specs.Walk.{StraysAt}
-use Rattle.trace_check.specs.Verdicts.{Checked, IsFirstStray, IsLate, task_names, func_names, counter_names}
+use Rattle.sloth_base.specs.DeclaredNames.{task_names, counter_names, function_names}
+use Rattle.trace_check.specs.Verdicts.{Checked, IsFirstStray, IsLate}
 use Rattle.trace_check.specs.Answer.{IsVerdict}
 use Rattle.trace_check.specs.declared.verdict.Verdict.{Verdict}
 use Rattle.trace_check.specs.declared.verdict.Verdict.TheVariants as verdict
@@ -50,16 +51,16 @@ module _ (config : Config) (app : App) (events : List Stamped) where
 
 -- ---- all verdicts
 
-module _ (config : Config) (app : App) (arrivals : List Arrival) (text : List ℕ) (n : ℕ) (tasks : AreNames (task_names config)) (funcs : AreNames (func_names app)) (counters : AreNames (counter_names config))
+module _ (config : Config) (app : App) (arrivals : List Arrival) (text : List ℕ) (n : ℕ) (tasks : AreNames (task_names config)) (funcs : AreNames (function_names app)) (counters : AreNames (counter_names config))
     (apart : AreApart (counter_names config) (task_names config)) where
   abbrev ShowsThese : List Stamped → Type 0
-  ShowsThese events = Shows (task_names config) (func_names app) (counter_names config) events text
+  ShowsThese events = Shows (task_names config) (function_names app) (counter_names config) events text
 
   one_list : (events others : List Stamped) → ShowsThese events → ShowsThese others → events ≡ others
-  one_list events others h k = shows_one (task_names config) (func_names app) (counter_names config) tasks funcs counters apart text events others h k
+  one_list events others h k = shows_one (task_names config) (function_names app) (counter_names config) tasks funcs counters apart text events others h k
 
-  not_bad : (k : ℕ) (events : List Stamped) → IsFirstBad (task_names config) (func_names app) (counter_names config) text k → ShowsThese events → ⊥
-  not_bad k events b h = bad_shows_none (task_names config) (func_names app) (counter_names config) tasks funcs counters apart text k events b h
+  not_bad : (k : ℕ) (events : List Stamped) → IsFirstBad (task_names config) (function_names app) (counter_names config) text k → ShowsThese events → ⊥
+  not_bad k events b h = bad_shows_none (task_names config) (function_names app) (counter_names config) tasks funcs counters apart text k events b h
 
   not_stray : (k : ℕ) (events : List Stamped) → IsFirstStray config app text k → ShowsThese events → OsekRun config app events → ⊥
   not_stray k events b h run =
@@ -85,7 +86,7 @@ module _ (config : Config) (app : App) (arrivals : List Arrival) (text : List �
   one_verdict verdict.Yes (verdict.Step k) a b = absurd (not_stray k a.events b a.shows a.run)
   one_verdict verdict.Yes verdict.Time a b = absurd (not_late b a)
   one_verdict (verdict.Line j) verdict.Yes a b = absurd (not_bad j b.events a b.shows)
-  one_verdict (verdict.Line j) (verdict.Line k) a b = ap verdict.Line (one_bad (task_names config) (func_names app) (counter_names config) tasks funcs counters apart text j k a b)
+  one_verdict (verdict.Line j) (verdict.Line k) a b = ap verdict.Line (one_bad (task_names config) (function_names app) (counter_names config) tasks funcs counters apart text j k a b)
   one_verdict (verdict.Line j) (verdict.Step k) a b = absurd (not_bad j b.events a b.shows)
   one_verdict (verdict.Line j) verdict.Time a b = absurd (not_bad j b.events a b.shows)
   one_verdict (verdict.Step j) verdict.Yes a b = absurd (not_stray j b.events a b.shows b.run)

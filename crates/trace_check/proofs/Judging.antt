@@ -15,31 +15,31 @@ use Rattle.sloth_base.specs.declared.event.Stamped.{Stamped}
 use Rattle.sloth_base.specs.Events.{admitted_line}
 use Rattle.sloth_base.specs.ConfigRange.{InRange}
 use Rattle.sloth_base.specs.Owners.{IsOwned, owners_in}
+use Rattle.sloth_base.specs.Limits.{counter_limit}
 use Rattle.sloth_base.proofs.Owners.{IsCounterLine, owned_cases}
 use Rattle.osek_scheduler.specs.InTime.{InTime}
 use Rattle.line_words.specs.EventNumbers.{HasNumbers}
 use Rattle.trace_time.specs.Counts.{AreSmall, IsSmall}
 use Rattle.walked_events.specs.TraceText.{BeginsWithNone, HasLine, IsFirstBad, Shows}
+use Rattle.sloth_base.specs.DeclaredNames.{AreNamesOf, task_names, counter_names, function_names}
+use Rattle.sloth_base.specs.declared.declared_names.DeclaredNames.{DeclaredNames}
 use Rattle.walked_events.proofs.ReadEvents.{HasRead}
-use Rattle.trace_check.specs.Begun.{AreNamesOf}
-use Rattle.trace_check.specs.Verdicts.{counter_names, func_names, task_names}
-use Rattle.trace_check.specs.declared.verdict.Names.{Names}
 use Rattle.walked_events.specs.Walk.{StraysAt, IsWalked, WalksOrStrays, Walk}
 use Rattle.walked_events.proofs.TraceText.{reads_all}
 
 -- the admissions of events that have lines are of numbers of 32 bits
-line_small : (tasks functions counters : ℕ) → counters ≤ 2 → (e : Event) → HasNumbers tasks functions counters e → IsSmall (admitted_line e)
+line_small : (tasks functions counters : ℕ) → counters ≤ counter_limit → (e : Event) → HasNumbers tasks functions counters e → IsSmall (admitted_line e)
 line_small tasks functions counters few (event.Admit t) h = h.word
 line_small tasks functions counters few (event.Due c) h = let inside = h.inside in omega (arith, inside, few)
 line_small tasks functions counters few e h = tt
 
-pub lines_small : (tasks functions counters : List (List ℕ)) → length counters ≤ 2 → (events : List Stamped) → All (HasLine tasks functions counters) events
+pub lines_small : (tasks functions counters : List (List ℕ)) → length counters ≤ counter_limit → (events : List Stamped) → All (HasLine tasks functions counters) events
     → AreSmall events
 lines_small tasks functions counters few events h k d l =
     line_small (length tasks) (length functions) (length counters) few (get_or events k d).event (h k d l).numbers
 
 -- the names of the counters are few
-pub few_names : (config : Config) → length config.counters ≤ 2 → length (counter_names config) ≤ 2
+pub few_names : (config : Config) → length config.counters ≤ counter_limit → length (counter_names config) ≤ counter_limit
 few_names config few = let long = length-map config.counters (λ (c : CounterDecl). c.name) in omega (arith, long, few)
 
 -- ---- names that were made, in the place of those of the configuration and its task code
@@ -49,26 +49,26 @@ is_left : (rest : List ℕ) → (length rest == 0) ≡ false → rest ≢ []
 is_left [] h e = true≢false h
 is_left (x ∷ rest) h e = cc
 
-module _ (config : Config) (app : App) (names : Names) (named : AreNamesOf config app names) where
+module _ (config : Config) (app : App) (names : DeclaredNames) (named : AreNamesOf config app names) where
   pub all_read : (text rest : List ℕ) (events : List Stamped) → HasRead names.tasks names.funcs names.counters text events rest
-      → HasRead (task_names config) (func_names app) (counter_names config) text events rest
+      → HasRead (task_names config) (function_names app) (counter_names config) text events rest
   all_read text rest events reads =
       let P : List (List ℕ) → List (List ℕ) → List (List ℕ) → Type 0 = λ ts fs cs. HasRead ts fs cs text events rest in
-      subst (λ (ts : List (List ℕ)). P ts (func_names app) (counter_names config)) named.tasks
+      subst (λ (ts : List (List ℕ)). P ts (function_names app) (counter_names config)) named.tasks
       (subst (λ (fs : List (List ℕ)). P names.tasks fs (counter_names config)) named.funcs
       (subst (λ (cs : List (List ℕ)). P names.tasks names.funcs cs) named.counters reads))
 
-  none_begins : (rest : List ℕ) → BeginsWithNone names.tasks names.funcs names.counters rest → BeginsWithNone (task_names config) (func_names app) (counter_names config) rest
+  none_begins : (rest : List ℕ) → BeginsWithNone names.tasks names.funcs names.counters rest → BeginsWithNone (task_names config) (function_names app) (counter_names config) rest
   none_begins rest none =
       let P : List (List ℕ) → List (List ℕ) → List (List ℕ) → Type 0 = λ ts fs cs. BeginsWithNone ts fs cs rest in
-      subst (λ (ts : List (List ℕ)). P ts (func_names app) (counter_names config)) named.tasks
+      subst (λ (ts : List (List ℕ)). P ts (function_names app) (counter_names config)) named.tasks
       (subst (λ (fs : List (List ℕ)). P names.tasks fs (counter_names config)) named.funcs
       (subst (λ (cs : List (List ℕ)). P names.tasks names.funcs cs) named.counters none))
 
   -- the line behind those that were read is no event's
   pub bad_line : (text rest : List ℕ) (events : List Stamped) → HasRead names.tasks names.funcs names.counters text events rest → (length rest == 0) ≡ false
       → BeginsWithNone names.tasks names.funcs names.counters rest → (k : ℕ) → k ≡ length events + 1
-      → IsFirstBad (task_names config) (func_names app) (counter_names config) text k
+      → IsFirstBad (task_names config) (function_names app) (counter_names config) text k
   bad_line text rest events reads left none k is =
       let read = all_read text rest events reads in
       record { front = events; rest = rest; lines = read.lines; is = read.is; line = is; more = is_left rest left; bad = none_begins rest none }

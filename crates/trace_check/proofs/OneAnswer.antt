@@ -8,8 +8,7 @@ use Rattle.trace_text.specs.ArrivalsText.{arrivals_in}
 use Rattle.trace_check.specs.Answer.{IsVerdict}
 use Rattle.trace_check.specs.declared.verdict.Verdict.{Verdict}
 use Rattle.trace_check.proofs.Exact.{one_verdict}
-use Rattle.trace_check.specs.Verdicts.{counter_names}
-use Rattle.trace_check.specs.Inputs.{names_of}
+use Rattle.sloth_base.specs.DeclaredNames.{task_names, counter_names}
 use Rattle.trace_check.specs.TraceAnswers.{IsJudged, IsTraceAnswer}
 use Rattle.trace_check.specs.declared.answer.TraceAnswer.{TraceAnswer}
 use Rattle.trace_check.specs.declared.answer.TraceAnswer.TheVariants as answer
@@ -21,7 +20,7 @@ module _ (oil src arr trace : List ℕ) (n : ℕ) where
   one_judged v w a b =
       let same = one_meaning oil src a.config b.config a.app b.app a.accepted b.accepted in
       let P : Config → App → List Arrival → Type 0 = λ config app arrivals. IsVerdict config app arrivals trace n v in
-      let arrivals : a.arrivals ≡ b.arrivals = a.read.arrivals_are ∙ (ap (λ (c : Config). arrivals_in (names_of c) (counter_names c) arr) same.0 ∙ sym b.read.arrivals_are) in
+      let arrivals : a.arrivals ≡ b.arrivals = a.read.arrivals_are ∙ (ap (λ (c : Config). arrivals_in (task_names c) (counter_names c) arr) same.0 ∙ sym b.read.arrivals_are) in
       let here = subst (λ (l : List Arrival). P b.config b.app l) arrivals (subst (λ (y : App). P b.config y a.arrivals) same.1 (subst (λ (x : Config). P x a.app a.arrivals) same.0 a.is)) in
       one_verdict b.config b.app b.arrivals trace n b.well_formed.in_range.configuration.task_names b.well_formed.in_range.func_names
       b.well_formed.in_range.configuration.counter_names b.well_formed.in_range.configuration.counters_apart v w here b.is

@@ -11,16 +11,16 @@ use Rattle.sloth_source.proofs.Least.{one_least, of_some}
 use Rattle.sloth_source.proofs.Refusals.{one_refusal}
 use Rattle.sloth_source.proofs.Unique.{one_meaning, never_both}
 use Rattle.trace_text.specs.ArrivalsText.{ArrivalsFault, FaultAt, LineFault, arrivals_of}
-use Rattle.trace_check.specs.Inputs.{IsRefusal, names_of}
-use Rattle.trace_check.specs.Verdicts.{counter_names}
+use Rattle.trace_check.specs.Inputs.{IsRefusal}
+use Rattle.sloth_base.specs.DeclaredNames.{task_names, counter_names}
 
 -- accepted inputs are not refused
 pub not-refused : (oil src arr : List ℕ) (config : Config) (app : App) (r : Refusal) → AreAccepted oil src config app
-    → NoFault (ArrivalsFault (names_of config) (counter_names config) arr) → IsRefusal oil src arr r → ⊥
+    → NoFault (ArrivalsFault (task_names config) (counter_names config) arr) → IsRefusal oil src arr r → ⊥
 not-refused oil src arr config app r h none (inl first) = never_both oil src config app r h first
 not-refused oil src arr config app r h none (inr other) =
     let same = one_meaning oil src other.config config other.app app other.accepted h in
-    none r (subst (λ (c : Config). ArrivalsFault (names_of c) (counter_names c) arr r) same.0 other.least.is_fault)
+    none r (subst (λ (c : Config). ArrivalsFault (task_names c) (counter_names c) arr r) same.0 other.least.is_fault)
 
 -- a fault of arrivals is one of their text
 part-is : (tasks counters : List (List ℕ)) (before : List Arrival) (n : ℕ) (line : List ℕ) (r : Refusal) → LineFault tasks counters before n line r → r.part ≡ Arr
@@ -40,5 +40,5 @@ one-way oil src arr r s (inl a) (inr b) = absurd (never_both oil src b.config b.
 one-way oil src arr r s (inr a) (inl b) = absurd (never_both oil src a.config a.app s a.accepted b)
 one-way oil src arr r s (inr a) (inr b) =
     let same = one_meaning oil src a.config b.config a.app b.app a.accepted b.accepted in
-    one_least Arr (ArrivalsFault (names_of b.config) (counter_names b.config) arr) (of-arrivals (names_of b.config) (counter_names b.config) arr) r s
-    (subst (λ (c : Config). IsLeast (ArrivalsFault (names_of c) (counter_names c) arr) r) same.0 a.least) b.least
+    one_least Arr (ArrivalsFault (task_names b.config) (counter_names b.config) arr) (of-arrivals (task_names b.config) (counter_names b.config) arr) r s
+    (subst (λ (c : Config). IsLeast (ArrivalsFault (task_names c) (counter_names c) arr) r) same.0 a.least) b.least

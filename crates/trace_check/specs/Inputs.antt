@@ -1,8 +1,7 @@
 -- A configuration, its task source and arrivals: what they mean, or how they are refused.
-use Rattle.std.specs.Prelude.{ℕ, ◌≡◌, ◌⊎◌, List, map}
+use Rattle.std.specs.Prelude.{ℕ, ◌≡◌, ◌⊎◌, List}
 use Rattle.sloth_base.specs.declared.app.App.{App}
 use Rattle.sloth_base.specs.declared.config.Config.{Config}
-use Rattle.sloth_base.specs.declared.config.TaskDecl.{TaskDecl}
 use Rattle.sloth_base.specs.declared.event.Arrival.{Arrival}
 use Rattle.sloth_base.specs.declared.refusal.BuildError.{BuildError}
 use Rattle.sloth_base.specs.declared.refusal.BuildError.TheVariants as error
@@ -10,11 +9,7 @@ use Rattle.sloth_base.specs.declared.refusal.Refusal.{Refusal}
 use Rattle.least_fault.specs.Order.{IsLeast, NoFault}
 use Rattle.sloth_source.specs.Texts.{AreAccepted, FirstRefusal}
 use Rattle.trace_text.specs.ArrivalsText.{ArrivalsFault, arrivals_in}
-use Rattle.trace_check.specs.Verdicts.{counter_names}
-
--- the names of the tasks of a configuration
-abbrev pub names_of : Config → List (List ℕ)
-names_of config = map (λ (t : TaskDecl). t.name) config.tasks
+use Rattle.sloth_base.specs.DeclaredNames.{task_names, counter_names}
 
 -- with these names of tasks and of counters the arrivals are read without a fault, and these are they
 pub record AreRead (names counters : List (List ℕ)) (arr : List ℕ) (arrivals : List Arrival) : Type 0 where
@@ -26,7 +21,7 @@ pub record IsArrivalsRefusal (oil src arr : List ℕ) (refusal : Refusal) : Type
   pub config : Config
   pub app : App
   pub accepted : AreAccepted oil src config app
-  pub least : IsLeast (ArrivalsFault (names_of config) (counter_names config) arr) refusal
+  pub least : IsLeast (ArrivalsFault (task_names config) (counter_names config) arr) refusal
 
 -- The texts are refused so: the configuration or the task code, or else the arrivals.
 abbrev pub IsRefusal : List ℕ → List ℕ → List ℕ → Refusal → Type 0

@@ -1,5 +1,6 @@
 -- What a verdict on a text says.
-use Rattle.std.specs.Prelude.{ℕ, List, map}
+use Rattle.std.specs.Prelude.{ℕ, List}
+use Rattle.sloth_base.specs.DeclaredNames.{task_names, counter_names, function_names}
 use Rattle.sloth_base.specs.declared.config.Config.{Config}
 use Rattle.sloth_base.specs.declared.app.App.{App}
 use Rattle.sloth_base.specs.declared.event.Arrival.{Arrival}
@@ -9,31 +10,22 @@ use Rattle.osek_scheduler.specs.InTime.{InTime}
 use Rattle.walked_events.specs.TraceText.{Shows}
 use Rattle.walked_events.specs.Walk.{StraysAt}
 
-abbrev pub task_names : Config → List (List ℕ)
-task_names config = map (λ t. t.name) config.tasks
-
-abbrev pub counter_names : Config → List (List ℕ)
-counter_names config = map (λ c. c.name) config.counters
-
-abbrev pub func_names : App → List (List ℕ)
-func_names app = map (λ f. f.name) app.funcs
-
 -- the text is that of a run of n instructions with these arrivals
 pub record Checked (config : Config) (app : App) (arrivals : List Arrival) (text : List ℕ) (n : ℕ) : Type 0 where
   pub events : List Stamped
-  pub shows : Shows (task_names config) (func_names app) (counter_names config) events text
+  pub shows : Shows (task_names config) (function_names app) (counter_names config) events text
   pub run : OsekRun config app events
   pub in_time : InTime config n arrivals events
 
 -- all lines are events', and line k is the first with which the events are no run
 pub record IsFirstStray (config : Config) (app : App) (text : List ℕ) (k : ℕ) : Type 0 where
   pub events : List Stamped
-  pub shows : Shows (task_names config) (func_names app) (counter_names config) events text
+  pub shows : Shows (task_names config) (function_names app) (counter_names config) events text
   pub strays : StraysAt config app events k
 
 -- the events are a run, and not in time
 pub record IsLate (config : Config) (app : App) (arrivals : List Arrival) (text : List ℕ) (n : ℕ) : Type 0 where
   pub events : List Stamped
-  pub shows : Shows (task_names config) (func_names app) (counter_names config) events text
+  pub shows : Shows (task_names config) (function_names app) (counter_names config) events text
   pub run : OsekRun config app events
   pub late : InTime config n arrivals events → ⊥

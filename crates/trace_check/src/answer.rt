@@ -3,13 +3,13 @@ ghost use Rattle.std.specs.Prelude.{◌<◌, IfOk, length};
 ghost use Rattle.trace_check.specs.TraceAnswers.{IsTraceAnswer};
 
 use crate::inputs::{Inputs, read_inputs};
+use crate::verdict::{Verdict, check};
 use sloth_base::memory::NoMemory;
 use sloth_base::refusal::{BuildError, Refusal};
 use std::alloc::Global;
-use trace_check::{Verdict, check};
 
 /// What is said of a configuration, its task source, arrivals and a text of events.
-#[derive(Clone, Copy, Debug, PartialEq, Eq)]
+#[derive(Clone, Copy)]
 pub enum TraceAnswer {
     /// The inputs are refused.
     Refused(Refusal),

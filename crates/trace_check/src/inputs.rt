@@ -4,12 +4,12 @@ ghost use Rattle.sloth_base.specs.Arrivals.{AreArrivals};
 ghost use Rattle.sloth_base.specs.Owners.{owners_in};
 ghost use Rattle.code_rules.specs.WellFormed.{WellFormed};
 ghost use Rattle.sloth_source.specs.Texts.{AreAccepted};
-ghost use Rattle.trace_check.specs.Inputs.{AreRead, InputsErrorIs, names_of};
-ghost use Rattle.trace_check.specs.Verdicts.{counter_names};
+ghost use Rattle.trace_check.specs.Inputs.{AreRead, InputsErrorIs};
+ghost use Rattle.sloth_base.specs.DeclaredNames.{task_names, counter_names};
 
-use crate::verdict::{counter_names, task_names};
 use sloth_base::app::App;
 use sloth_base::config::Config;
+use sloth_base::declared_names::{counter_names, task_names};
 use sloth_base::event::Arrival;
 use sloth_base::refusal::BuildError;
 use sloth_source::{Source, read};
@@ -31,14 +31,14 @@ pub fn read_inputs(alloc: Global, oil: &[u8], src: &[u8], arr: &[u8]) -> Result<
     requires arr { length arr.now < 4294967295 }
     ensures accepted { IfOk result (λ inputs. AreAccepted oil.now src.now inputs.config inputs.app) }
     ensures well_formed { IfOk result (λ inputs. WellFormed inputs.config inputs.app) }
-    ensures read { IfOk result (λ inputs. AreRead (names_of inputs.config) (counter_names inputs.config) arr.now inputs.arrivals.items) }
+    ensures read { IfOk result (λ inputs. AreRead (task_names inputs.config) (counter_names inputs.config) arr.now inputs.arrivals.items) }
     ensures in_range { IfOk result (λ inputs. AreArrivals (owners_in inputs.config) inputs.arrivals.items) }
     ensures refused { IfErr result (InputsErrorIs oil.now src.now arr.now) }
 {
     let Source { config, app, .. } = read(alloc, oil, src)?;
     let names = task_names(alloc, &config)?;
     let counters = counter_names(alloc, &config)?;
-    let arrivals = read_arrivals(alloc, arr, names.as_slice(), counters.as_slice())?;
+    let arrivals = read_arrivals(alloc, arr, names.items(), counters.items())?;
     Ok(Inputs {
         config,
         app,

@@ -1,4 +1,10 @@
 //! Whether a text of events is that of a run.
+//!
+//! A text in the counted form is that of a run of the abstract scheduler in which arrivals are admitted in time: *Yes* exactly there (`check`, clause
+//! `exact`); *Line* with the first line that is no event's or has no LF; *Step* with the first line with which the events are no run; *Time* where
+//! only the arrivals do not fit. Each text has one verdict (`one_verdict`; `specs/Verdicts`, `specs/Answer`, `specs/Begun`). The same from the texts
+//! of a configuration, its task source and arrivals, or their first refusal (`judge_trace`, `one_answer`; `specs/Inputs`, `specs/TraceAnswers`).
+//! Runs: `osek_scheduler` (`Runs`, `InTime`); what a text shows: `walked_events` (`TraceText`, `Walk`).
 #![tactic(auto)]
 
 pub mod answer;

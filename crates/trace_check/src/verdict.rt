@@ -1,5 +1,5 @@
 //! The verdict on a text.
-ghost use Rattle.std.specs.Prelude.{◌≡◌, ◌<◌, ◌↔◌, ◌++◌, ◌∷◌, [], IfOk, OnOk, IfSome, IfNone, All, length};
+ghost use Rattle.std.specs.Prelude.{◌≡◌, ◌<◌, ◌↔◌, IfOk, IfSome, IfNone, All, length};
 ghost use Rattle.sloth_base.specs.Arrivals.{AreArrivals, NeverFalls};
 ghost use Rattle.sloth_base.specs.ImageRange.{AreApart, AreNames};
 ghost use Rattle.sloth_base.specs.Owners.{owners_in};
@@ -7,25 +7,23 @@ ghost use Rattle.sloth_base.specs.declared.app.App.{App as AnyApp};
 ghost use Rattle.sloth_base.specs.declared.config.Config.{Config as AnyConfig};
 ghost use Rattle.code_rules.specs.WellFormed.{WellFormed};
 ghost use Rattle.walked_events.specs.TraceText.{Begins, BeginsWithNone};
-ghost use Rattle.trace_check.specs.Verdicts.{Checked, counter_names, func_names, task_names};
+ghost use Rattle.trace_check.specs.Verdicts.{Checked};
 ghost use Rattle.trace_check.specs.Answer.{IsVerdict};
-ghost use Rattle.trace_check.specs.Begun.{AreNamesOf, IsBegun};
+ghost use Rattle.trace_check.specs.Begun.{IsBegun};
 
 use sloth_base::app::App;
 use sloth_base::config::Config;
+use sloth_base::declared_names::{DeclaredNames, declared_names};
 use sloth_base::event::{Arrival, Stamped};
-use sloth_base::list::List;
 use sloth_base::memory::NoMemory;
-use sloth_base::name::Name;
 use std::alloc::Global;
 use text_pieces::bytes::behind;
-use text_pieces::growth::push;
 use trace_time::Timing;
 use walked_events::lines::first_event;
 use walked_events::walk::Walk;
 
 /// What is said of a text of events.
-#[derive(Clone, Copy, Debug, PartialEq, Eq)]
+#[derive(Clone, Copy)]
 pub enum Verdict {
     /// It is that of a run.
     Yes,
@@ -37,70 +35,8 @@ pub enum Verdict {
     Time,
 }
 
-// The names that a line may have.
-#[derive(Drop)]
-struct Names {
-    tasks: List<Name>,
-    funcs: List<Name>,
-    counters: List<Name>,
-}
-
-// One more name.
-fn push_name(alloc: Global, names: &mut Vec<Name>, name: &Name) -> Result<(), NoMemory>
-    ensures { OnOk result (names.new.items ≡ names.old.items ++ name.now ∷ []) }
-{
-    push(names, Name::new(alloc, name.bytes())?)
-}
-
-/// The names of the tasks.
-pub fn task_names(alloc: Global, config: &Config) -> Result<Vec<Name>, NoMemory>
-    ensures { IfOk result (λ names. names.items ≡ task_names config.now) }
-{
-    let mut names = Vec::new(alloc);
-    for task in config.tasks.items() {
-        push_name(alloc, &mut names, &task.name)?;
-    }
-    Ok(names)
-}
-
-/// The names of the counters.
-pub fn counter_names(alloc: Global, config: &Config) -> Result<Vec<Name>, NoMemory>
-    ensures { IfOk result (λ names. names.items ≡ counter_names config.now) }
-{
-    let mut names = Vec::new(alloc);
-    for counter in config.counters.items() {
-        push_name(alloc, &mut names, &counter.name)?;
-    }
-    Ok(names)
-}
-
-// The names of the functions.
-fn func_names(alloc: Global, app: &App) -> Result<Vec<Name>, NoMemory>
-    ensures { IfOk result (λ names. names.items ≡ func_names app.now) }
-{
-    let mut names = Vec::new(alloc);
-    for func in app.funcs.items() {
-        push_name(alloc, &mut names, &func.name)?;
-    }
-    Ok(names)
-}
-
-// All names.
-fn names_of(alloc: Global, config: &Config, app: &App) -> Result<Names, NoMemory>
-    ensures { IfOk result (AreNamesOf config.now app.now) }
-{
-    let tasks = task_names(alloc, config)?;
-    let funcs = func_names(alloc, app)?;
-    let counters = counter_names(alloc, config)?;
-    Ok(Names {
-        tasks: List::from_vec(tasks),
-        funcs: List::from_vec(funcs),
-        counters: List::from_vec(counters),
-    })
-}
-
 // The event of the first line, if an LF ends it.
-fn next_event(names: &Names, text: &[u8]) -> Option<Stamped>
+fn next_event(names: &DeclaredNames, text: &[u8]) -> Option<Stamped>
     requires tasks { AreNames names.now.tasks }
     requires funcs { AreNames names.now.funcs }
     requires counters { AreNames names.now.counters }
@@ -119,7 +55,7 @@ fn next_event(names: &Names, text: &[u8]) -> Option<Stamped>
 // The verdict on a text, by a walk and a look at the arrivals before their first event.
 fn judge_lines(
     alloc: Global,
-    names: &Names,
+    names: &DeclaredNames,
     walk: &mut Walk,
     timing: &mut Timing,
     text: &[u8],
@@ -169,7 +105,7 @@ fn judge(
     requires short { length text.now < 4294967295 }
     ensures { IfOk result (λ v. IsVerdict config.now app.now arrivals.now text.now n v) }
 {
-    let names = names_of(alloc, config, app)?;
+    let names = declared_names(alloc, config, app)?;
     let mut walk = Walk::new(alloc, config, app)?;
     let mut timing = Timing::new(alloc, config, n, arrivals);
     judge_lines(alloc, &names, &mut walk, &mut timing, text)

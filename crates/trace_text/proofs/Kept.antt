@@ -15,6 +15,7 @@ use Rattle.sloth_base.specs.declared.refusal.Code.TheVariants.{T2, T3, T4}
 use Rattle.sloth_base.specs.Owners.{IsOwned, counter_line, first_counter_line, is_counter_line}
 use Rattle.sloth_base.specs.declared.lines.LineKind.TheVariants as line_of
 use Rattle.sloth_base.specs.declared.lines.Owners.{Owners}
+use Rattle.sloth_base.specs.Limits.{count_limit, arrival_limit}
 use Rattle.sloth_base.proofs.Owners.{task_owned}
 use Rattle.least_fault.specs.Order.{NoFault}
 use Rattle.least_fault.proofs.Nowhere.{case_false}
@@ -32,9 +33,9 @@ pub last-is : (none : ℕ) (xs : List Arrival) (d : Arrival) → (length xs == 0
 last-is none [] d h = cc
 last-is none (x ∷ xs) d h = last-at none (x ∷ xs) (length (x ∷ xs) - 1) d (omega arith)
 
-pub last-fits : (none : ℕ) (xs : List Arrival) → none ≤ 1000000 → All (λ a. a.at ≤ 1000000) xs → last_moment none xs ≤ 1000000
+pub last-fits : (none : ℕ) (xs : List Arrival) → none ≤ count_limit → All (λ a. a.at ≤ count_limit) xs → last_moment none xs ≤ count_limit
 last-fits none [] h all = h
-last-fits none (x ∷ xs) h all = last-fits x.at xs (All-head (λ a. a.at ≤ 1000000) x xs all) (All-tail (λ a. a.at ≤ 1000000) x xs all)
+last-fits none (x ∷ xs) h all = last-fits x.at xs (All-head (λ a. a.at ≤ count_limit) x xs all) (All-tail (λ a. a.at ≤ count_limit) x xs all)
 
 -- a place that is found is one of the first
 pub found-below : (o : Option ℕ) (most : ℕ) (names : List (List ℕ)) (line : List ℕ) → o ≡ named_among most names line → (i : ℕ) → o ≡ Some i → (i < most) × (i < length names)
@@ -91,15 +92,15 @@ some-of None h = cc
 some-of (Some i) h = (i, refl)
 
 module _ (tasks counters : List (List ℕ)) (before : List Arrival) (n : ℕ) (line : List ℕ) (none : NoFault (LineFault tasks counters before n line)) (is : is_arrival line ≡ true) where
-  is-in : (nat_le 100000 (length before) ≡ false) × (nat_lt (moment_of line) 1 ≡ false) × (nat_lt 1000000 (moment_of line) ≡ false)
+  is-in : (nat_le arrival_limit (length before) ≡ false) × (nat_lt (moment_of line) 1 ≡ false) × (nat_lt count_limit (moment_of line) ≡ false)
   is-in =
       let t4 = case_false Arr (is_t4 before line) n T4 (λ r f. none r (inr (inr (inr f)))) in
-      let w = or_parts (nat_le 100000 (length before)) (is_outside line) (without (is_arrival line) (nat_le 100000 (length before) || is_outside line) is t4) in
-      let v = or_parts (nat_lt (moment_of line) 1) (nat_lt 1000000 (moment_of line)) w.1 in
+      let w = or_parts (nat_le arrival_limit (length before)) (is_outside line) (without (is_arrival line) (nat_le arrival_limit (length before) || is_outside line) is t4) in
+      let v = or_parts (nat_lt (moment_of line) 1) (nat_lt count_limit (moment_of line)) w.1 in
       (w.0, v.0, v.1)
 
-  pub moment-fits : moment_of line ≤ 1000000
-  moment-fits = ltb-false 1000000 (moment_of line) is-in.2
+  pub moment-fits : moment_of line ≤ count_limit
+  moment-fits = ltb-false count_limit (moment_of line) is-in.2
 
   names-owner : IsOwned (owners_read tasks counters) (unwrap_or (named_line tasks counters line) 0)
   names-owner =
@@ -119,11 +120,11 @@ module _ (tasks counters : List (List ℕ)) (before : List Arrival) (n : ℕ) (l
   one-more h =
       let a = arrival_of tasks counters line in
       let single : (P : Arrival → Type 0) → P a → All P (a ∷ []) = λ P p. All-cons P a [] p (All-nil P) in
-      let few = leb-false 100000 (length before) is-in.0 in
+      let few = leb-false arrival_limit (length before) is-in.0 in
       let l : length (before ++ a ∷ []) ≡ length before + 1 = length-append before (a ∷ []) in
       record {
         few = omega (arith, few, l);
-        moments_in_range = All-append (λ a. a.at ≤ 1000000) before (a ∷ []) h.moments_in_range (single (λ a. a.at ≤ 1000000) moment-fits);
+        moments_in_range = All-append (λ a. a.at ≤ count_limit) before (a ∷ []) h.moments_in_range (single (λ a. a.at ≤ count_limit) moment-fits);
         ordered = falls 1 before a h.ordered (last-by before (moment_of line) rises (ltb-false (moment_of line) 1 is-in.1));
         lines_owned = All-append (λ a. IsOwned (owners_read tasks counters) a.line) before (a ∷ []) h.lines_owned (single (λ a. IsOwned (owners_read tasks counters) a.line) names-owner);
       }

@@ -1,5 +1,6 @@
 pub mod Appends
 pub mod Digits
+pub mod TasksBack
 pub mod EventsBack
 pub mod Kept
 pub mod Reading

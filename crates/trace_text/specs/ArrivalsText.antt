@@ -9,6 +9,7 @@ use Rattle.sloth_base.specs.declared.refusal.Code.TheVariants as code
 use Rattle.sloth_base.specs.declared.refusal.Refusal.{Refusal}
 use Rattle.sloth_base.specs.declared.lines.Owners.{Owners}
 use Rattle.sloth_base.specs.Owners.{counter_line}
+use Rattle.sloth_base.specs.Limits.{count_limit, arrival_limit}
 use Rattle.least_fault.specs.Search.{Somewhere}
 use Rattle.least_fault.specs.Cases.{CaseOf}
 use Rattle.text_pieces.specs.Bytes.{is_name}
@@ -92,11 +93,11 @@ is_t3 before line = is_arrival line && nat_lt (moment_of line) (last_moment 0 be
 
 -- a moment outside 1 to 1,000,000
 abbrev pub is_outside : List ℕ → Bool
-is_outside line = nat_lt (moment_of line) 1 || nat_lt 1000000 (moment_of line)
+is_outside line = nat_lt (moment_of line) 1 || nat_lt count_limit (moment_of line)
 
 -- T4: one arrival more than 100,000, or a moment out of range
 abbrev pub is_t4 : List Arrival → List ℕ → Bool
-is_t4 before line = is_arrival line && (nat_le 100000 (length before) || is_outside line)
+is_t4 before line = is_arrival line && (nat_le arrival_limit (length before) || is_outside line)
 
 -- r is a fault of a line of this number, which these arrivals stand before
 abbrev pub LineFault : (tasks counters : List (List ℕ)) → List Arrival → ℕ → List ℕ → Refusal → Type 0

@@ -7,7 +7,7 @@ use Rattle.sloth_base.specs.declared.event.Event.TheVariants as event
 use Rattle.sloth_base.specs.declared.event.Stamped.{Stamped}
 use Rattle.text_pieces.specs.Digits.{value_from, capped_value}
 use Rattle.asm_lines.specs.Operands.{before, behind}
-use Rattle.line_words.specs.EventWords.{single_in}
+use Rattle.line_words.specs.EventWords.{bare_in, single_in}
 
 infixl 10 ◌>>=◌
 -- goes on with what there is
@@ -99,13 +99,14 @@ named_in tasks functions counters kind text =
     else if bytes_eq kind (codes "tick") then tick_in counters text
     else of_task tasks functions kind text
 
+-- the event that one word shows, if it does, or else another
+abbrev pub bare_or : Option Event → Option Event → Option Event
+bare_or (Some e) other = Some e
+bare_or None other = other
+
 -- an event
 unfoldable pub event_in : (tasks functions counters : List (List ℕ)) → List ℕ → Option Event
-event_in tasks functions counters text =
-    if bytes_eq text (codes "boot") then Some event.Boot
-    else if bytes_eq text (codes "idle") then Some event.Idle
-    else if bytes_eq text (codes "stray") then Some event.Stray
-    else named_in tasks functions counters (first_word text) (other_words text)
+event_in tasks functions counters text = bare_or (bare_in text) (named_in tasks functions counters (first_word text) (other_words text))
 
 -- an event behind its counts
 unfoldable pub stamped_in : (tasks functions counters : List (List ℕ)) → List ℕ → Option Stamped

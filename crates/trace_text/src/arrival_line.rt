@@ -2,6 +2,7 @@
 ghost use Rattle.std.specs.Prelude.{◌≡◌, ◌<◌, ◌≤◌, take, position, bytes_eq, IfSome};
 ghost use Rattle.std.specs.List.{list_all};
 ghost use Rattle.std.specs.Char.{is_ascii_digit};
+ghost use Rattle.sloth_base.specs.Limits.{count_limit};
 ghost use Rattle.least_fault.specs.Search.{Finds};
 ghost use Rattle.text_pieces.specs.Digits.{capped_value};
 ghost use Rattle.trace_text.specs.ArrivalsText.{is_comment, are_digits, is_arrival, moment_of, named_among, named_line, arrival_of};
@@ -9,24 +10,19 @@ ghost use Rattle.trace_text.specs.ArrivalsText.{last_moment, is_outside, is_t1, 
 
 use least_fault::{merge, when};
 use sloth_base::event::Arrival;
-use sloth_base::lines::COUNTER_LINE;
+use sloth_base::limits::{ARRIVAL_LIMIT, COUNT_LIMIT, TASK_LIMIT};
+use sloth_base::lines::FIRST_COUNTER_LINE;
 use sloth_base::name::Name;
 use sloth_base::numbers::Line;
 use sloth_base::refusal::{Code, Part, Refusal};
 use text_pieces::bytes::{before, behind, is_name, same};
 use text_pieces::numerals::value;
 
-/// The greatest number of arrivals.
-const MOST_ARRIVALS: usize = 100_000;
-
-/// The last moment of an arrival.
-const LAST_MOMENT: u64 = 1_000_000;
-
 /// How many numbers a controller's line may have.
 const LINES: usize = 256;
 
 /// How many of them may be counters'.
-const COUNTER_LINES: usize = 226;
+const COUNTER_LINES: usize = LINES - TASK_LIMIT;
 
 // Empty, or a comment.
 fn is_comment(line: &[u8]) -> bool
@@ -95,14 +91,14 @@ fn named_line(tasks: &[Name], counters: &[Name], line: &[u8]) -> Option<u8>
         return Some(task as u8);
     }
     match named_among(COUNTER_LINES, counters, line) {
-        Some(counter) => Some(COUNTER_LINE + counter as u8),
+        Some(counter) => Some(FIRST_COUNTER_LINE + counter as u8),
         None => None,
     }
 }
 
 /// The arrival of a line, whose moment is at most 1,000,000.
 pub fn arrival_of(tasks: &[Name], counters: &[Name], line: &[u8]) -> Arrival
-    requires { moment_of line.now ≤ 1000000 }
+    requires { moment_of line.now ≤ count_limit }
     ensures { result ≡ arrival_of tasks.now counters.now line.now }
 {
     let at = moment(line) as u32;
@@ -139,7 +135,7 @@ fn is_t2(tasks: &[Name], counters: &[Name], line: &[u8]) -> bool
 
 // A moment less than that of the arrival before, which is at most 1,000,000.
 fn is_t3(before: &[Arrival], line: &[u8]) -> bool
-    requires { last_moment 0 before.now ≤ 1000000 }
+    requires { last_moment 0 before.now ≤ count_limit }
     ensures { result ≡ is_t3 before.now line.now }
 {
     is_arrival(line) && moment(line) < u64::from(last_moment(before))
@@ -149,7 +145,7 @@ fn is_t3(before: &[Arrival], line: &[u8]) -> bool
 fn is_t4(before: &[Arrival], line: &[u8]) -> bool
     ensures { result ≡ is_t4 before.now line.now }
 {
-    is_arrival(line) && (before.len() >= MOST_ARRIVALS || is_outside(line))
+    is_arrival(line) && (before.len() >= ARRIVAL_LIMIT || is_outside(line))
 }
 
 // A moment out of range.
@@ -157,7 +153,7 @@ fn is_outside(line: &[u8]) -> bool
     ensures { result ≡ is_outside line.now }
 {
     let moment = moment(line);
-    moment < 1 || LAST_MOMENT < moment
+    moment < 1 || u64::from(COUNT_LIMIT) < moment
 }
 
 /// The least fault of a line that these arrivals stand before, each at a moment of at most 1,000,000.
@@ -168,7 +164,7 @@ pub fn line_fault(
     number: u32,
     line: &[u8],
 ) -> Option<Refusal>
-    requires { last_moment 0 before.now ≤ 1000000 }
+    requires { last_moment 0 before.now ≤ count_limit }
     ensures { Finds (LineFault tasks.now counters.now before.now number line.now) result }
 {
     let t1 = when(is_t1(line), Part::Arr, number, Code::T1);

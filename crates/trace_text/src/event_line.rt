@@ -11,7 +11,7 @@ use crate::arrival_line::position;
 use crate::printing::push_counts;
 use line_words::events::push_event;
 use line_words::line_text::LineText;
-use line_words::reading::single_in;
+use line_words::reading::{bare_in, single_in};
 use sloth_base::event::{Event, Stamp, Stamped};
 use sloth_base::name::Name;
 use sloth_base::service::service_named;
@@ -195,14 +195,8 @@ fn event_in(tasks: &[Name], functions: &[Name], counters: &[Name], text: &[u8]) 
     ensures event { result ≡ event_in tasks.now functions.now counters.now text.now }
     ensures numbers { IfSome result (λ event. HasNumbers (length tasks.now) (length functions.now) (length counters.now) event) }
 {
-    if same(text, b"boot") {
-        return Some(Event::Boot);
-    }
-    if same(text, b"idle") {
-        return Some(Event::Idle);
-    }
-    if same(text, b"stray") {
-        return Some(Event::Stray);
+    if let Some(event) = bare_in(text) {
+        return Some(event);
     }
     named_in(
         tasks,

@@ -9,7 +9,7 @@ use sloth_base::event::Stamped;
 use sloth_base::image::Image;
 
 /// The form of an event line: with the counts of its first and last instruction in front, or bare.
-#[derive(Clone, Copy, Debug, PartialEq, Eq)]
+#[derive(Clone, Copy)]
 pub enum Form {
     Counted,
     Bare,

@@ -3,14 +3,15 @@ use Rattle.std.specs.Prelude.{ℕ, ◌<◌, ◌≤◌, ◌≡◌, ◌⊎◌, ◌
 use Rattle.sloth_base.specs.declared.config.Config.{Config}
 use Rattle.sloth_base.specs.declared.event.Arrival.{Arrival}
 use Rattle.sloth_base.specs.declared.event.Stamped.{Stamped}
+use Rattle.sloth_base.specs.Limits.{counter_limit, alarm_limit}
 use Rattle.osek_scheduler.specs.InTime.{longest_cut_off_stretch}
 use Rattle.trace_time.specs.Scan.{Scan, scan_start, scan_after_events}
 use Rattle.trace_time.specs.Counts.{admit_numbers}
 
 -- the configuration has no more counters and alarms than one in range
 pub record HasFewAlarms (config : Config) : Type 0 where
-  pub counters : length config.counters ≤ 2
-  pub alarms : length config.alarms ≤ 32
+  pub counters : length config.counters ≤ counter_limit
+  pub alarms : length config.alarms ≤ alarm_limit
 
 -- what is kept: the configuration, the number of instructions and the arrivals, where the pass stands, the numbers of the admits, the longest stretch that
 -- the end may cut off, and whether the pass stopped at an event

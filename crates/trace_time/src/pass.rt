@@ -4,10 +4,8 @@ ghost use Rattle.sloth_base.specs.Events.{admitted_line, is_single};
 ghost use Rattle.trace_time.specs.Scan.{scan_after_admit, scan_after_other, behind_first, from_moment, is_stamped, scan_after_event, scan_start};
 
 use sloth_base::event::{Arrival, Event, Stamped};
+use sloth_base::lines::FIRST_COUNTER_LINE;
 use std::marker::Model;
-
-/// The line of the first counter; the others follow it.
-const FIRST_COUNTER_LINE: u64 = 30;
 
 /// Where a pass stands.
 #[derive(Drop)]
@@ -64,16 +62,8 @@ pub fn admitted_line(event: &Event) -> Option<u64>
 {
     match *event {
         Event::Admit(task) => Some(u64::from(task)),
-        Event::Due(counter) => Some(FIRST_COUNTER_LINE + u64::from(counter)),
-        Event::Boot
-        | Event::Enter(_)
-        | Event::Run { .. }
-        | Event::Call { .. }
-        | Event::Left { .. }
-        | Event::Back(_)
-        | Event::Idle
-        | Event::Stray
-        | Event::Tick(_) => None,
+        Event::Due(counter) => Some(u64::from(FIRST_COUNTER_LINE) + u64::from(counter)),
+        _ => None,
     }
 }
 
@@ -83,13 +73,7 @@ fn is_single(event: &Event) -> bool
 {
     match *event {
         Event::Idle | Event::Run { .. } | Event::Admit(_) | Event::Due(_) => true,
-        Event::Boot
-        | Event::Enter(_)
-        | Event::Call { .. }
-        | Event::Left { .. }
-        | Event::Back(_)
-        | Event::Stray
-        | Event::Tick(_) => false,
+        _ => false,
     }
 }
 

@@ -2,15 +2,17 @@
 ghost use Rattle.std.specs.Prelude.{◌≡◌, ◌≤◌, length};
 ghost use Rattle.sloth_base.specs.Named.{alarms_of, most_alarms};
 ghost use Rattle.sloth_base.specs.Stretches.{Boots, longest_stretch, stretch_limit};
+ghost use Rattle.sloth_base.specs.Limits.{counter_limit};
 ghost use Rattle.trace_time.specs.Timed.{HasFewAlarms};
 
 use sloth_base::config::Config;
+use sloth_base::limits::{ALARM_INSTRUCTIONS, BOOT_INSTRUCTIONS, STRETCH_INSTRUCTIONS};
 
 /// The most instructions of boot.
 pub fn boot_limit(_config: &Config) -> u32
     ensures { result ≡ stretch_limit _config.now Boots }
 {
-    400
+    BOOT_INSTRUCTIONS
 }
 
 // How many alarms a counter has.
@@ -29,7 +31,7 @@ fn alarms_of(config: &Config, counter: u32) -> usize
 
 // The most alarms of one counter.
 fn most_alarms(config: &Config) -> usize
-    requires { length config.now.counters ≤ 2 }
+    requires { length config.now.counters ≤ counter_limit }
     ensures is { result ≡ most_alarms config.now }
     ensures few { result ≤ length config.now.alarms }
 {
@@ -45,5 +47,5 @@ pub fn longest_stretch(config: &Config) -> u32
     requires { HasFewAlarms config.now }
     ensures { result ≡ longest_stretch config.now }
 {
-    160 + 40 * most_alarms(config) as u32
+    STRETCH_INSTRUCTIONS + ALARM_INSTRUCTIONS * most_alarms(config) as u32
 }

@@ -58,16 +58,7 @@ fn most_behind(config: &Config, event: &Event, most: u32) -> u32
 {
     match *event {
         Event::Boot => longest_stretch(config),
-        Event::Admit(_)
-        | Event::Enter(_)
-        | Event::Run { .. }
-        | Event::Call { .. }
-        | Event::Left { .. }
-        | Event::Back(_)
-        | Event::Idle
-        | Event::Stray
-        | Event::Due(_)
-        | Event::Tick(_) => most,
+        _ => most,
     }
 }
 

@@ -4,13 +4,14 @@ use Rattle.std.specs.Prelude.{Bool, false, true, set, pos}
 use Rattle.std.proofs.lemmas.Bool.{cases_eq}
 use Rattle.std.proofs.lemmas.List.{length-set, get_or-set_same, get_or-set_other}
 use Rattle.sloth_base.specs.declared.config.TaskDecl.{TaskDecl}
-use Rattle.sloth_base.specs.Owners.{counter_line}
+use Rattle.sloth_base.specs.Owners.{counter_line, first_counter_line}
 use Rattle.sloth_base.specs.Machine.{Core, State}
-use Rattle.sloth_region.specs.Layout.{idle_context, context_bytes, controller_base, enabled_byte}
+use Rattle.sloth_region.specs.Layout.{idle_context, context_bytes, enabled_byte}
 use Rattle.rv32_instr.specs.declared.InstrKind.{InstrKind}
 use Rattle.rv32_instr.specs.declared.InstrKind.TheVariants.{Sb}
 use Rattle.sloth_base.specs.Arithmetic.{hi}
-use Rattle.sloth_base.specs.MemoryMap.{memory_base}
+use Rattle.sloth_base.specs.MemoryMap.{memory_base, controller_base, line_count}
+use Rattle.sloth_base.specs.Limits.{task_limit, counter_limit}
 use Rattle.masked_code.specs.Place.{offset_state}
 use Rattle.masked_code.specs.Masked.{Masked, WithArrivals}
 use Rattle.masked_code.proofs.Owes.{◌▸◌, writes, raises, sets_enabled, sets_level, accesses, Owes}
@@ -49,7 +50,7 @@ module _ (from to : ℕ) (E : List ℕ → State → State → Type 0) (start : 
   abbrev with_x1 : ℕ → Core → Core
   with_x1 x1 c = record c { registers = 0 ∷ x1 ∷ x2 ∷ controller_base ∷ 1 ∷ tail }
 
-  raises_owe : (auto : Bool) (line o : ℕ) (code : List InstrKind) (c : Core) → line < 32
+  raises_owe : (auto : Bool) (line o : ℕ) (code : List InstrKind) (c : Core) → line < line_count
       → ((o' : ℕ) → Owes from to o' code 0 E start (record c { pending = raised_if auto line c.pending })) → get_or c.registers 3 0 ≡ controller_base
       → get_or c.registers 4 0 ≡ 1 → Owes from to o (line_code line auto ++ code) 0 E start c
   raises_owe true line o code c h go three four =
@@ -57,7 +58,7 @@ module _ (from to : ℕ) (E : List ℕ → State → State → Type 0) (start : 
       ▸ go (o + 4)
   raises_owe false line o code c h go three four = go o
 
-  starts_owe : (tasks : List TaskDecl) (line o x1 : ℕ) (code : List InstrKind) (c : Core) → line + length tasks ≤ 32
+  starts_owe : (tasks : List TaskDecl) (line o x1 : ℕ) (code : List InstrKind) (c : Core) → line + length tasks ≤ line_count
       → ((o' x1' : ℕ) → Owes from to o' code 0 E start (with_x1 x1' (record c { levels = levels_with line tasks levels c.levels; enabled = enabled_with line tasks c.enabled; pending = pending_with line tasks c.pending })))
       → Owes from to o (lines_code line tasks levels ++ code) 0 E start (with_x1 x1 c)
   starts_owe [] line o x1 code c h go = go o x1
@@ -79,7 +80,7 @@ module _ (from to : ℕ) (E : List ℕ → State → State → Type 0) (start : 
       ▸ sets_level line (omega arith, omega arith)
       ▸ subst (λ b. Owes from to o2 (Sb 3 4 (pos (enabled_byte line)) ∷ ((line_code line task.autostart ++ lines_code (suc line) tasks levels) ++ code)) 0 E start (with_x1 v (record c { levels = set c.levels line b }))) (sym e) levelled
 
-  counters_owe : (count line v o x1 : ℕ) (code : List InstrKind) (c : Core) → line + count ≤ 32 → v < 256
+  counters_owe : (count line v o x1 : ℕ) (code : List InstrKind) (c : Core) → line + count ≤ line_count → v < 256
       → ((o' x1' : ℕ) → Owes from to o' code 0 E start (with_x1 x1' (record c { levels = filled count line v c.levels; enabled = filled count line 1 c.enabled })))
       → Owes from to o (counters_code count line v ++ code) 0 E start (with_x1 x1 c)
   counters_owe zero line v o x1 code c h byte go = go o x1
@@ -231,17 +232,17 @@ length-starts (task ∷ tasks) line levels =
 
 -- the code of boot
 abbrev pub boot_code : List TaskDecl → (counters : ℕ) → List ℕ → (top idle : ℕ) → List InstrKind
-boot_code tasks counters levels top idle = register_code ++ (lines_code 0 tasks levels ++ (counters_code counters 30 (top + 1) ++ finishing_code idle))
+boot_code tasks counters levels top idle = register_code ++ (lines_code 0 tasks levels ++ (counters_code counters first_counter_line (top + 1) ++ finishing_code idle))
 
 -- the end of the idle loop's context
 abbrev idle_end : ℕ
 idle_end = memory_base + (idle_context + context_bytes)
 
-module _ (tasks : List TaskDecl) (counters : ℕ) (levels : List ℕ) (top idle : ℕ) (few : length tasks ≤ 30) (few_counters : counters ≤ 2) (byte : top + 1 < 256) (small : (k : ℕ) → get_or levels k 0 < 256) (fits : idle < 2 ^ 32)
+module _ (tasks : List TaskDecl) (counters : ℕ) (levels : List ℕ) (top idle : ℕ) (few : length tasks ≤ task_limit) (few_counters : counters ≤ counter_limit) (byte : top + 1 < 256) (small : (k : ℕ) → get_or levels k 0 < 256) (fits : idle < 2 ^ 32)
     (aligned : idle % 4 ≡ 0) (offset : ℕ) (c : Core) (h : MayBoot offset (boot_code tasks counters levels top idle) c) where
   end_owes : (from to o x2 x1 : ℕ)
       → Owes from to o (finishing_code idle) 0 (Booted tasks counters levels top idle) (offset_state offset (spread c))
-      (record (spread c) { registers = 0 ∷ x1 ∷ x2 ∷ controller_base ∷ 1 ∷ spread_from 27 5 c.registers; levels = filled counters 30 (top + 1) (levels_with 0 tasks levels c.levels); enabled = filled counters 30 1 (enabled_with 0 tasks c.enabled); pending = pending_with 0 tasks c.pending })
+      (record (spread c) { registers = 0 ∷ x1 ∷ x2 ∷ controller_base ∷ 1 ∷ spread_from 27 5 c.registers; levels = filled counters first_counter_line (top + 1) (levels_with 0 tasks levels c.levels); enabled = filled counters first_counter_line 1 (enabled_with 0 tasks c.enabled); pending = pending_with 0 tasks c.pending })
   end_owes from to o x2 x1 =
       let n = length tasks in
       let long_levels = h.levels in
@@ -261,27 +262,27 @@ module _ (tasks : List TaskDecl) (counters : ℕ) (levels : List ℕ) (top idle 
       ▸ record {
         touches = refl;
         level = λ line below.
-            filled_other counters 30 (top + 1) (levels_with 0 tasks levels c.levels) line (inl (omega arith))
+            filled_other counters first_counter_line (top + 1) (levels_with 0 tasks levels c.levels) line (inl (omega arith))
             ∙ levels_at tasks 0 levels c.levels line (omega arith) (omega arith) (omega arith);
         counter_level = λ counter below.
-            filled_at counters 30 (top + 1) (levels_with 0 tasks levels c.levels) (counter_line counter) (omega arith) (omega arith) (omega arith);
+            filled_at counters first_counter_line (top + 1) (levels_with 0 tasks levels c.levels) (counter_line counter) (omega arith) (omega arith) (omega arith);
         other_levels = λ line unused.
-            filled_other counters 30 (top + 1) (levels_with 0 tasks levels c.levels) line unused.1
+            filled_other counters first_counter_line (top + 1) (levels_with 0 tasks levels c.levels) line unused.1
             ∙ levels_other tasks 0 levels c.levels line (inr (past line unused));
         enabled = λ line below.
-            filled_other counters 30 1 (enabled_with 0 tasks c.enabled) line (inl (omega arith))
+            filled_other counters first_counter_line 1 (enabled_with 0 tasks c.enabled) line (inl (omega arith))
             ∙ enabled_at tasks 0 c.enabled line (omega arith) (omega arith) (omega arith);
-        counter_enabled = λ counter below. filled_at counters 30 1 (enabled_with 0 tasks c.enabled) (counter_line counter) (omega arith) (omega arith) (omega arith);
+        counter_enabled = λ counter below. filled_at counters first_counter_line 1 (enabled_with 0 tasks c.enabled) (counter_line counter) (omega arith) (omega arith) (omega arith);
         other_enabled = λ line unused.
-            filled_other counters 30 1 (enabled_with 0 tasks c.enabled) line unused.1
+            filled_other counters first_counter_line 1 (enabled_with 0 tasks c.enabled) line unused.1
             ∙ enabled_other tasks 0 c.enabled line (inr (past line unused));
         raised = λ line d below auto. subst (λ k. get_or (pending_with 0 tasks c.pending) k 0 ≡ 1) (at_line line) (pending_raised tasks 0 c.pending line d below (omega arith) auto);
         unraised = λ line d below auto. subst (λ k. get_or (pending_with 0 tasks c.pending) k 0 ≡ get_or c.pending k 0) (at_line line) (pending_kept tasks 0 c.pending line d below auto);
         other_pending = λ line past. pending_other tasks 0 c.pending line (inr (omega arith));
         lines = (
           length-pending tasks 0 c.pending ∙ h.can_run.lines,
-          length-filled counters 30 1 (enabled_with 0 tasks c.enabled) ∙ more_enabled ∙ h.enabled,
-          length-filled counters 30 (top + 1) (levels_with 0 tasks levels c.levels) ∙ more_levels ∙ h.levels,
+          length-filled counters first_counter_line 1 (enabled_with 0 tasks c.enabled) ∙ more_enabled ∙ h.enabled,
+          length-filled counters first_counter_line (top + 1) (levels_with 0 tasks levels c.levels) ∙ more_levels ∙ h.levels,
         );
         pc = omega arith;
         left = record { zero = refl; registers = refl; bases = (refl, refl); opened = refl; previous = refl; running = refl; same_level = refl; pending = refl; enabled = refl; levels = refl; ram = refl; scratch = refl; controller = refl };
@@ -293,8 +294,8 @@ module _ (tasks : List TaskDecl) (counters : ℕ) (levels : List ℕ) (top idle 
   owes from to =
       writes controller_base refl
       ▸ writes 1 refl
-      ▸ starts_owe from to (Booted tasks counters levels top idle) (offset_state offset (spread c)) (get_or c.registers 2 0) (spread_from 27 5 c.registers) levels small tasks 0 (offset + 4 + 4) (get_or c.registers 1 0) (counters_code counters 30 (top + 1) ++ finishing_code idle) (spread c) (omega arith)
-      (λ o x1. counters_owe from to (Booted tasks counters levels top idle) (offset_state offset (spread c)) (get_or c.registers 2 0) (spread_from 27 5 c.registers) levels small counters 30 (top + 1) o x1
+      ▸ starts_owe from to (Booted tasks counters levels top idle) (offset_state offset (spread c)) (get_or c.registers 2 0) (spread_from 27 5 c.registers) levels small tasks 0 (offset + 4 + 4) (get_or c.registers 1 0) (counters_code counters first_counter_line (top + 1) ++ finishing_code idle) (spread c) (omega arith)
+      (λ o x1. counters_owe from to (Booted tasks counters levels top idle) (offset_state offset (spread c)) (get_or c.registers 2 0) (spread_from 27 5 c.registers) levels small counters first_counter_line (top + 1) o x1
       (finishing_code idle) (record (spread c) { levels = levels_with 0 tasks levels c.levels; enabled = enabled_with 0 tasks c.enabled; pending = pending_with 0 tasks c.pending })
       (omega arith) byte
       (λ o2 y1. end_owes from to o2 (get_or c.registers 2 0) y1))
@@ -306,22 +307,22 @@ module _ (tasks : List TaskDecl) (counters : ℕ) (levels : List ℕ) (top idle 
       let to = offset + 4 * length (boot_code tasks counters levels top idle) in
       let long = length-starts tasks 0 levels in
       let bound = short_lines tasks in
-      let all = length-append (lines_code 0 tasks levels) (counters_code counters 30 (top + 1) ++ finishing_code idle) in
-      let more = length-append (counters_code counters 30 (top + 1)) (finishing_code idle) in
-      let lasts = length-counters counters 30 (top + 1) in
+      let all = length-append (lines_code 0 tasks levels) (counters_code counters first_counter_line (top + 1) ++ finishing_code idle) in
+      let more = length-append (counters_code counters first_counter_line (top + 1)) (finishing_code idle) in
+      let lasts = length-counters counters first_counter_line (top + 1) in
       handles offset 136 (boot_code tasks counters levels top idle) c (Booted tasks counters levels top idle) (offset_state offset c)
       (record { masked = h.masked; there = can.controller; lines = can.lines; aligned = can.aligned; fits = can.inside; placed = can.placed })
       (omega arith)
       (subst (λ x. Owes offset to offset (boot_code tasks counters levels top idle) 0 (Booted tasks counters levels top idle) (offset_state offset x) x) (spread_is c can.registers can.zero) (owes offset to))
 
 -- for each list of tasks and number of counters that it is generated for
-pub boots : (tasks : List TaskDecl) (counters : ℕ) (levels : List ℕ) (top idle : ℕ) → length tasks ≤ 30 → counters ≤ 2 → top + 1 < 256
+pub boots : (tasks : List TaskDecl) (counters : ℕ) (levels : List ℕ) (top idle : ℕ) → length tasks ≤ task_limit → counters ≤ counter_limit → top + 1 < 256
     → ((k : ℕ) → get_or levels k 0 < 256) → idle < 2 ^ 32 → Boots tasks counters levels top idle (boot_code tasks counters levels top idle)
 boots tasks counters levels top idle few few_counters byte small fits =
     let long = length-starts tasks 0 levels in
-    let lasts = length-counters counters 30 (top + 1) in
-    let all = length-append (lines_code 0 tasks levels) (counters_code counters 30 (top + 1) ++ finishing_code idle) in
-    let more = length-append (counters_code counters 30 (top + 1)) (finishing_code idle) in
+    let lasts = length-counters counters first_counter_line (top + 1) in
+    let all = length-append (lines_code 0 tasks levels) (counters_code counters first_counter_line (top + 1) ++ finishing_code idle) in
+    let more = length-append (counters_code counters first_counter_line (top + 1)) (finishing_code idle) in
     record {
       size = omega arith;
       runs = λ offset c aligned h. runs_it tasks counters levels top idle few few_counters byte small fits aligned offset c h;

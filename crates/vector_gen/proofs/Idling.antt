@@ -4,13 +4,13 @@ use Rattle.std.specs.Prelude.{pos}
 use Rattle.sloth_base.specs.Machine.{Core}
 use Rattle.rv32_instr.specs.declared.InstrKind.TheVariants.{Jal}
 use Rattle.sloth_base.specs.Arithmetic.{plus}
-use Rattle.sloth_base.specs.MemoryMap.{memory_base}
+use Rattle.sloth_base.specs.MemoryMap.{memory_base, memory_bytes}
 use Rattle.rv32_instr.specs.Execute.{Going, step, touched, perform, touched_line_by, jumps}
 use Rattle.masked_code.specs.Place.{offset_state, InPlace}
 use Rattle.masked_code.proofs.Machine.{step_at, touched_at, jump_at}
 use Rattle.vector_gen.specs.Idle.{Idles}
 
-stays : (o : ℕ) (c : Core) → o % 4 ≡ 0 → o + 4 ≤ 0x20_0000 → InPlace c.ram o (Jal 0 (pos 0) ∷ []) → step (offset_state o c) ≡ Going (offset_state o c)
+stays : (o : ℕ) (c : Core) → o % 4 ≡ 0 → o + 4 ≤ memory_bytes → InPlace c.ram o (Jal 0 (pos 0) ∷ []) → step (offset_state o c) ≡ Going (offset_state o c)
 unfolding perform
 stays o c al h p =
     let e : plus (memory_base + o) (pos 0) ≡ memory_base + o = omega arith in

@@ -7,7 +7,7 @@ use Rattle.rv32_instr.specs.declared.InstrKind.TheVariants.{Jal}
 use Rattle.rv32_instr.specs.Ram.{word_at}
 use Rattle.rv32_instr.specs.Table.{Decode}
 use Rattle.sloth_base.specs.Arithmetic.{plus}
-use Rattle.sloth_base.specs.MemoryMap.{memory_base, vectors_base}
+use Rattle.sloth_base.specs.MemoryMap.{memory_base, vectors_base, line_count}
 use Rattle.rv32_instr.specs.Execute.{Going, step, touched, perform, touched_line_by, jumps}
 use Rattle.masked_code.specs.Place.{offset_state, InPlace}
 use Rattle.masked_code.proofs.Machine.{step_at, touched_at, jump_at}
@@ -21,13 +21,13 @@ placed_at ram o (kind ∷ code) (suc i) d h p =
     let e : o + 4 * suc i ≡ o + 4 + 4 * i = omega arith in
     ap (λ x. Decode (word_at ram x)) e ∙ placed_at ram (o + 4) code i d (omega arith) p.1
 
-module _ (handlers : List ℕ) (code : List InstrKind) (reach : AreInReach handlers) (words : AreJumps 32 handlers code) where
-  here : (k : ℕ) (c : Core) (h : k < 32) → InPlace c.ram 0x400 code → Decode (word_at c.ram (0x400 + 4 * k)) ≡ Some (Jal 0 (words.each k (Jal 0 (pos 0)) h).0)
+module _ (handlers : List ℕ) (code : List InstrKind) (reach : AreInReach handlers) (words : AreJumps line_count handlers code) where
+  here : (k : ℕ) (c : Core) (h : k < line_count) → InPlace c.ram 0x400 code → Decode (word_at c.ram (0x400 + 4 * k)) ≡ Some (Jal 0 (words.each k (Jal 0 (pos 0)) h).0)
   here k c h p =
       let many = words.many in
       placed_at c.ram 0x400 code k (Jal 0 (pos 0)) (omega arith) p ∙ ap Some (words.each k (Jal 0 (pos 0)) h).1
 
-  goes : (k : ℕ) (c : Core) → k < 32 → InPlace c.ram 0x400 code → step (offset_state (0x400 + 4 * k) c) ≡ Going (record { pc = get_or handlers k 0; core = c })
+  goes : (k : ℕ) (c : Core) → k < line_count → InPlace c.ram 0x400 code → step (offset_state (0x400 + 4 * k) c) ≡ Going (record { pc = get_or handlers k 0; core = c })
   unfolding perform
   goes k c h p =
       let w = words.each k (Jal 0 (pos 0)) h in
@@ -42,7 +42,7 @@ module _ (handlers : List ℕ) (code : List InstrKind) (reach : AreInReach handl
       ∙ jump_at o c (omega arith)
       ∙ ap (λ x. Going (record { pc = x; core = c })) (sym f)
 
-  quiet : (k : ℕ) (c : Core) → k < 32 → InPlace c.ram 0x400 code → touched (offset_state (0x400 + 4 * k) c) ≡ None
+  quiet : (k : ℕ) (c : Core) → k < line_count → InPlace c.ram 0x400 code → touched (offset_state (0x400 + 4 * k) c) ≡ None
   unfolding touched_line_by
   quiet k c h p = touched_at (0x400 + 4 * k) c (Jal 0 (words.each k (Jal 0 (pos 0)) h).0) (here k c h p)
 

@@ -9,7 +9,7 @@ use Rattle.rv32_instr.specs.declared.csr.TheConstants.{MSTATUS, MEPC, MPIE}
 use Rattle.rv32_instr.specs.declared.InstrKind.{InstrKind}
 use Rattle.rv32_instr.specs.declared.InstrKind.TheVariants.{Lui, Addi, Sb, Csrrw, Mret}
 use Rattle.sloth_base.specs.Arithmetic.{hi, lo}
-use Rattle.sloth_base.specs.MemoryMap.{memory_base}
+use Rattle.sloth_base.specs.MemoryMap.{memory_base, line_count}
 use Rattle.masked_code.specs.Place.{offset_state}
 use Rattle.masked_code.specs.Masked.{Masked, WithArrivals}
 use Rattle.masked_code.specs.Kernel.{CanRun, LeftAs}
@@ -46,8 +46,8 @@ finishing_code idle =
 -- the code stands at an offset, and runs masked
 pub record MayBoot (offset : ℕ) (code : List InstrKind) (core : Core) : Type 0 where
   pub masked : core.mie ≡ false
-  pub enabled : length core.enabled ≡ 32
-  pub levels : length core.levels ≡ 32
+  pub enabled : length core.enabled ≡ line_count
+  pub levels : length core.levels ≡ line_count
   pub can_run : CanRun offset code core
 
 -- a core at the level that was to be gone back to, with the lines' bytes of another
@@ -74,7 +74,7 @@ pub record Booted (tasks : List TaskDecl) (counters : ℕ) (levels : List ℕ) (
       (line : ℕ) (d : TaskDecl) → line < length tasks → (slice_index_or tasks line d).autostart ≡ false
       → slice_index end.core.pending line ≡ slice_index start.core.pending line
   pub other_pending : (line : ℕ) → length tasks ≤ line → slice_index end.core.pending line ≡ slice_index start.core.pending line
-  pub lines : (length end.core.pending ≡ 32) × (length end.core.enabled ≡ 32) × (length end.core.levels ≡ 32)
+  pub lines : (length end.core.pending ≡ line_count) × (length end.core.enabled ≡ line_count) × (length end.core.levels ≡ line_count)
   pub pc : end.pc ≡ idle
   pub left : LeftAs (with_lines_of end.core start.core) end.core
   pub x2 : slice_index end.core.registers 2 ≡ memory_base + (idle_context + context_bytes)

@@ -3,6 +3,7 @@ use Rattle.std.specs.Prelude.{ℕ, ◌+◌, ◌%◌, ◌≡◌, ◌≤◌, List,
 use Rattle.sloth_base.specs.declared.image.Mark.{Mark}
 use Rattle.sloth_base.specs.declared.image.MarkKind.TheVariants as mark
 use Rattle.sloth_base.specs.Machine.{Core}
+use Rattle.sloth_base.specs.MemoryMap.{memory_bytes}
 use Rattle.rv32_instr.specs.declared.InstrKind.{InstrKind}
 use Rattle.rv32_instr.specs.Execute.{Going, step, touched}
 use Rattle.masked_code.specs.Place.{offset_state, InPlace}
@@ -15,6 +16,6 @@ idle_mark address = record { address = address; kind = mark.Idle; a = 0; b = 0; 
 pub record Idles (code : List InstrKind) : Type 0 where
   pub word : length code ≡ 1
   pub stays :
-      (offset : ℕ) (core : Core) → offset % 4 ≡ 0 → offset + 4 ≤ 0x20_0000 → InPlace core.ram offset code
+      (offset : ℕ) (core : Core) → offset % 4 ≡ 0 → offset + 4 ≤ memory_bytes → InPlace core.ram offset code
       → step (offset_state offset core) ≡ Going (offset_state offset core)
   pub untouched : (offset : ℕ) (core : Core) → InPlace core.ram offset code → touched (offset_state offset core) ≡ None

@@ -1,10 +1,11 @@
 //! Boot: the levels and enable bytes of the lines of tasks and counters, and the first activations.
 ghost use Rattle.std.specs.Prelude.{ℕ, ◌^◌, slice_index, ◌≡◌, ◌++◌, [], ◌<◌, ◌≤◌, IfOk, OnOk, length};
-ghost use Rattle.sloth_base.specs.MemoryMap.{boot_base};
+ghost use Rattle.sloth_base.specs.MemoryMap.{boot_base, line_count};
 ghost use Rattle.sloth_base.specs.ConfigRange.{InRange};
 ghost use Rattle.code_lengths.specs.CodeLengths.{boot_length};
 ghost use Rattle.vector_gen.specs.Boot.{register_code, line_start_code, lines_code, counters_code, finishing_code, Boots};
 ghost use Rattle.sloth_base.specs.Owners.{first_counter_line};
+ghost use Rattle.sloth_base.specs.Limits.{task_limit, counter_limit, level_count};
 
 use block_parts::boot::{counter_level, raise_autostarted};
 use masked_code::emit::emit;
@@ -13,7 +14,8 @@ use rv32_instr::constant::{hi, lo};
 use rv32_instr::csr::{MEPC, MPIE, MSTATUS};
 use rv32_instr::{Block, Instr};
 use sloth_base::config::{Config, CounterDecl, TaskDecl};
-use sloth_base::lines::COUNTER_LINE;
+use sloth_base::limits::TASK_LIMIT;
+use sloth_base::lines::FIRST_COUNTER_LINE;
 use sloth_base::list::List;
 use sloth_base::memory::NoMemory;
 use sloth_base::memory_map::BOOT_BASE;
@@ -27,7 +29,7 @@ use std::alloc::{AllocError, Global};
 /// The block of boot. It stores no zero to a pending byte and loads none.
 pub fn boot(alloc: Global, config: &Config, levels: &Levels, map: &Map) -> Result<Block, NoMemory>
     requires range { InRange config.now }
-    requires levels { levels.now.top < 32 }
+    requires levels { levels.now.top < level_count }
     ensures at { IfOk result (λ block. block.at ≡ boot_base) }
     ensures marks { IfOk result (λ block. block.marks ≡ []) }
     ensures size { IfOk result (λ block. length block.code ≡ boot_length config.now.tasks (length config.now.counters)) }
@@ -55,7 +57,7 @@ fn begin(code: &mut Vec<Instr>) -> Result<(), AllocError>
 
 /// A line gets its level and is enabled, and is raised where its task is autostarted.
 fn start(code: &mut Vec<Instr>, line: u8, level: u8, autostart: bool) -> Result<(), AllocError>
-    requires { line < 32 }
+    requires { line < line_count }
     ensures { OnOk result (code.new.items ≡ code.old.items ++ line_start_code line level autostart) }
 {
     let enabled = [
@@ -68,8 +70,12 @@ fn start(code: &mut Vec<Instr>, line: u8, level: u8, autostart: bool) -> Result<
 }
 
 /// All tasks' lines.
-fn start_all(code: &mut Vec<Instr>, tasks: &[TaskDecl], levels: [u8; 30]) -> Result<(), AllocError>
-    requires { length tasks.now ≤ 30 }
+fn start_all(
+    code: &mut Vec<Instr>,
+    tasks: &[TaskDecl],
+    levels: [u8; TASK_LIMIT],
+) -> Result<(), AllocError>
+    requires { length tasks.now ≤ task_limit }
     ensures added { OnOk result (code.new.items ≡ code.old.items ++ lines_code 0 tasks.now levels) }
     ensures bytes { (line : ℕ) → slice_index levels line < 256 }
 {
@@ -85,12 +91,12 @@ fn start_counters(
     counters: &[CounterDecl],
     level: u8,
 ) -> Result<(), AllocError>
-    requires { length counters.now ≤ 2 }
+    requires { length counters.now ≤ counter_limit }
     ensures added { OnOk result (code.new.items ≡ code.old.items ++ counters_code (length counters.now) first_counter_line level) }
     ensures byte { level < 256 }
 {
     for i in 0..counters.len() {
-        start(code, COUNTER_LINE + i as u8, level, false)?;
+        start(code, FIRST_COUNTER_LINE + i as u8, level, false)?;
     }
     Ok(())
 }

@@ -1,6 +1,6 @@
 //! The vector words: for each line a jump to its handler.
 ghost use Rattle.std.specs.Prelude.{◌≡◌, ◌≤◌, [], length, IfOk};
-ghost use Rattle.sloth_base.specs.MemoryMap.{vectors_base};
+ghost use Rattle.sloth_base.specs.MemoryMap.{vectors_base, line_count};
 ghost use Rattle.vector_gen.specs.Vectors.{AreInReach, AreJumps, StepToHandlers};
 
 use block_parts::boot::jump;
@@ -8,7 +8,7 @@ use masked_code::emit::emit;
 use rv32_instr::Block;
 use sloth_base::list::List;
 use sloth_base::memory::NoMemory;
-use sloth_base::memory_map::VECTORS_BASE;
+use sloth_base::memory_map::{LINE_COUNT, VECTORS_BASE};
 use sloth_region::map::Map;
 use std::alloc::Global;
 
@@ -18,11 +18,11 @@ pub fn vectors(alloc: Global, map: &Map) -> Result<Block, NoMemory>
     ensures at { IfOk result (λ block. block.at ≡ vectors_base) }
     ensures marks { IfOk result (λ block. block.marks ≡ []) }
     ensures size { IfOk result (λ block. length block.code ≤ 256) }
-    ensures effect { IfOk result (λ block. AreJumps 32 map.now.handlers block.code) }
+    ensures effect { IfOk result (λ block. AreJumps line_count map.now.handlers block.code) }
     ensures steps { IfOk result (λ block. StepToHandlers map.now.handlers block.code) }
 {
     let mut code = Vec::new(alloc);
-    for line in 0..32 {
+    for line in 0..LINE_COUNT as u32 {
         let from = VECTORS_BASE + 4 * line;
         emit(&mut code, &[jump(from, map.handlers[line as usize])])?;
     }

@@ -1,4 +1,5 @@
 pub mod Moments
 pub mod Walking
+pub mod OneLine
 pub mod TraceText
 pub mod ReadEvents

@@ -13,11 +13,14 @@ use Rattle.osek_scheduler.specs.declared.state.TaskState.{TaskState}
 use Rattle.osek_scheduler.specs.declared.state.TaskState.TheVariants as mode
 use Rattle.osek_scheduler.specs.State.{Task, System, task, sleeping_task, opening}
 use Rattle.sloth_base.specs.Named.{declaration}
+use Rattle.sloth_base.specs.Limits.{task_limit}
+use Rattle.sloth_base.specs.MemoryMap.{line_count}
 use Rattle.osek_scheduler.specs.Services.{if_suspended, activated_state, started_task}
 use Rattle.osek_scheduler.specs.Steps.{OsekStep, admitted_state}
 use Rattle.osek_scheduler.specs.Runs.{Leads, ReadySince}
 use Rattle.osek_scheduler.proofs.Leading.{leads-append, leads-parts, one_end}
-use Rattle.osek_blocking.proofs.Effects.{Ordered, Effect, effect, opening_ordered, leads_ordered}
+use Rattle.osek_blocking.proofs.Effects.{Ordered, Effect}
+use Rattle.osek_blocking.proofs.Ordering.{effect, opening_ordered, leads_ordered}
 use Rattle.walked_events.specs.Moments.{KeepsMoments, noted_moments}
 
 -- ---- lists
@@ -208,19 +211,14 @@ module _ (config : Config) (app : App) where
   module _ (s next : System) where
     -- each task that is Ready stays so, but for one that is entered
     stays_ready : (e : Event) → Effect config s next e → (u : ℕ) → IsReady s u → (e ≡ event.Enter u → ⊥) → IsReady next u
-    stays_ready event.Boot f u r n = f.ready u r
-    stays_ready (event.Admit t) f u r n = f.ready u r
     stays_ready (event.Enter t) f u r n = f.moves.stays.ready u (λ same. n (ap event.Enter (sym same))) r
     stays_ready (event.Run t func item result) f u r n = f.moves.stays.ready u (λ same. not_both (task s t).state (subst (IsReady s) same r) f.was) r
     stays_ready (event.Call t served status) f u r n = f.moves.stays.ready u (λ same. not_both (task s t).state (subst (IsReady s) same r) f.was) r
     stays_ready (event.Left t served) f u r n = f.moves.stays.ready u (λ same. not_both (task s t).state (subst (IsReady s) same r) f.was) r
     stays_ready (event.Back t) f u r n = f.moves.stays.ready u (λ same. not_both (task s t).state (subst (IsReady s) same r) f.was) r
-    stays_ready event.Idle f u r n = f.ready u r
-    stays_ready event.Stray f u r n = absurd f
-    stays_ready (event.Due c) f u r n = f.ready u r
-    stays_ready (event.Tick c) f u r n = f.ready u r
+    stays_ready e f u r n = f.ready u r
 
-  module _ (past : List Stamped) (s : System) (moments : List ℕ) (keeps : KeepsMoments config app past s moments) (few : length config.tasks ≤ 30) where
+  module _ (past : List Stamped) (s : System) (moments : List ℕ) (keeps : KeepsMoments config app past s moments) (few : length config.tasks ≤ task_limit) where
     ordered : Ordered config s
     ordered = leads_ordered config app past (opening config app) s (opening_ordered config app) keeps.leads
 
@@ -308,20 +306,11 @@ module _ (config : Config) (app : App) where
       admits t step (mode.Waiting mask) is = passes_by t step (λ asleep. cc)
 
       told : (what : Event) → OsekStep config app what s next → Told what (noted_moments what stamp.at s moments)
-      told event.Boot step = plain event.Boot step (λ u h. cc) (λ u h. cc)
       told (event.Admit t) step = admits t step (task s t).state refl
       told (event.Enter t) step = enters t step
-      told (event.Run t func item result) step = plain (event.Run t func item result) step (λ u h. cc) (λ u h. cc)
-      told (event.Call t served status) step = plain (event.Call t served status) step (λ u h. cc) (λ u h. cc)
-      told (event.Left t served) step = plain (event.Left t served) step (λ u h. cc) (λ u h. cc)
-      told (event.Back t) step = plain (event.Back t) step (λ u h. cc) (λ u h. cc)
-      told event.Idle step = plain event.Idle step (λ u h. cc) (λ u h. cc)
-      told event.Stray step = absurd step
-      told (event.Due c) step = plain (event.Due c) step (λ u h. cc) (λ u h. cc)
-      told (event.Tick c) step = plain (event.Tick c) step (λ u h. cc) (λ u h. cc)
+      told what step = plain what step (λ u h. cc) (λ u h. cc)
 
       kept_count : (what : Event) → length (noted_moments what stamp.at s moments) ≡ length moments
-      kept_count event.Boot = refl
       kept_count (event.Admit t) = by (task s t).state
         where
           by : (m : TaskState) → length (if_suspended m (set moments t stamp.at) moments) ≡ length moments
@@ -330,14 +319,7 @@ module _ (config : Config) (app : App) where
           by mode.Active = refl
           by (mode.Waiting mask) = refl
       kept_count (event.Enter t) = length-set moments t 0
-      kept_count (event.Run t func item result) = refl
-      kept_count (event.Call t served status) = refl
-      kept_count (event.Left t served) = refl
-      kept_count (event.Back t) = refl
-      kept_count event.Idle = refl
-      kept_count event.Stray = refl
-      kept_count (event.Due c) = refl
-      kept_count (event.Tick c) = refl
+      kept_count what = refl
 
       -- the moments behind one event more
       pub moments_more : (what : Event) → OsekStep config app what s next → KeepsMoments config app (past ++ it what ∷ []) next (noted_moments what stamp.at s moments)
@@ -348,7 +330,7 @@ module _ (config : Config) (app : App) where
       }
 
   -- before the first event no task has been Ready since an admit
-  pub no_moments : (moments : List ℕ) → length moments ≡ 32 → ((u : ℕ) → get_or moments u 0 ≡ 0) → KeepsMoments config app [] (opening config app) moments
+  pub no_moments : (moments : List ℕ) → length moments ≡ line_count → ((u : ℕ) → get_or moments u 0 ≡ 0) → KeepsMoments config app [] (opening config app) moments
   no_moments moments count zeros = record {
     leads = refl;
     count = count;

@@ -1,121 +1,36 @@
 -- A text shows one list of events at most, and none where a line is bad.
-use Rattle.std.proofs.Common.{◌≡◌, ◌∙◌, ℕ, suc, ◌+◌, ◌<◌, ◌≤◌, ◌⊎◌, inl, inr, Bool, true, false, List, [], ◌∷◌, ◌++◌, Some, None, length, get_or, refl, sym, ap, subst, arith, append_assoc, length-append, true≢false}
-use Rattle.std.specs.Prelude.{◌==◌, ◌&&◌, ◌||◌, decimal, codes, All, ◌≢◌, unwrap_or, IfSome, IfNone, Option, ◌↔◌}
+use Rattle.std.proofs.Common.{◌≡◌, ◌∙◌, ℕ, suc, ◌+◌, ◌<◌, Bool, true, false, List, [], ◌∷◌, ◌++◌, Some, None, length, refl, sym, ap, subst, arith, append_assoc, length-append, true≢false}
+use Rattle.std.specs.Prelude.{◌==◌, ◌||◌, decimal, codes, All, ◌≢◌, IfSome, IfNone, Option, ◌↔◌}
 use Rattle.std.proofs.lemmas.List.{append-nil}
-use Rattle.std.specs.Char.{is_ascii_digit}
-use Rattle.std.proofs.lemmas.Bool.{cases_lt, eqb-true, false≢true}
+use Rattle.std.proofs.lemmas.Bool.{eqb-true, false≢true}
 use Rattle.std.proofs.lemmas.List.Elements.{All-cons, All-head, All-tail}
-use Rattle.std.proofs.lemmas.List.Sums.{list_all-from_AllPass}
 use Rattle.std.specs.List.{list_any}
-use Rattle.std.proofs.lemmas.Option.{same_Some, slice_get-get_or, slice_get_past}
-use Rattle.sloth_base.specs.ImageRange.{AreApart, AreNames, IsName, begins_word, continues_word}
+use Rattle.std.proofs.lemmas.Option.{same_Some}
+use Rattle.sloth_base.specs.ImageRange.{AreApart, AreNames}
 use Rattle.sloth_base.specs.declared.event.Event.{Event}
 use Rattle.sloth_base.specs.declared.event.Event.TheVariants as event
 use Rattle.sloth_base.specs.declared.event.Stamped.{Stamped}
-use Rattle.sloth_base.specs.declared.service.Service.{Service}
-use Rattle.sloth_base.specs.declared.service.Service.TheVariants as service
 use Rattle.text_pieces.specs.Bytes.{is_byte_of}
 use Rattle.asm_lines.specs.Operands.{before, behind}
-use Rattle.asm_lines.proofs.Cuts.{lacks, has_in, has_here, before_is, behind_is}
+use Rattle.asm_lines.proofs.Cuts.{has_here, before_is, behind_is}
 use Rattle.line_words.specs.EventNumbers.{HasNumbers}
 use Rattle.trace_text.specs.EventLines.{IsLineOf, counted_line}
-use Rattle.sloth_base.specs.ServiceCodes.{service_name}
 use Rattle.line_words.specs.EventWords.{name_of, event_text}
-use Rattle.trace_text.proofs.Digits.{writes}
 use Rattle.trace_text.proofs.EventsBack.{stamped_back}
 use Rattle.walked_events.specs.TraceText.{text_of, HasLine, Shows, IsFirstBad, Begins, BeginsWithNone}
+use Rattle.walked_events.proofs.OneLine.{number_lacks, fixed, named_lacks, and, task_lacks}
 use Rattle.walked_events.proofs.ReadEvents.{HasRead}
 
--- ---- no LF stands in a line
-
-number_lacks : (n : ℕ) → n < 0x1_0000_0000 → is_byte_of 10 (decimal n) ≡ false
-number_lacks n h = lacks is_ascii_digit 10 refl (decimal n) (writes n (omega (arith, h))).digits_alone
-
-name_lacks : (name : List ℕ) → IsName name → is_byte_of 10 name ≡ false
-name_lacks [] h = absurd h.word
-name_lacks (first ∷ rest) h =
-    has_in 10 (first ∷ []) rest
-    (lacks begins_word 10 refl (first ∷ []) (ap (λ b. b && true) h.word.0))
-    (lacks continues_word 10 refl rest (list_all-from_AllPass continues_word rest h.word.1))
-
-service_lacks : (s : Service) → is_byte_of 10 (service_name s) ≡ false
-unfolding is_byte_of
-service_lacks service.ActivateTask = refl
-service_lacks service.TerminateTask = refl
-service_lacks service.ChainTask = refl
-service_lacks service.Schedule = refl
-service_lacks service.GetTaskID = refl
-service_lacks service.GetTaskState = refl
-service_lacks service.GetResource = refl
-service_lacks service.ReleaseResource = refl
-service_lacks service.SetEvent = refl
-service_lacks service.ClearEvent = refl
-service_lacks service.GetEvent = refl
-service_lacks service.WaitEvent = refl
-service_lacks service.SetRelAlarm = refl
-service_lacks service.SetAbsAlarm = refl
-service_lacks service.CancelAlarm = refl
-service_lacks service.GetAlarm = refl
-
--- fixed words
-record Fixed : Type 0 where
-  space : is_byte_of 10 (codes " ") ≡ false
-  dash : is_byte_of 10 (codes "-") ≡ false
-  boot : is_byte_of 10 (codes "boot") ≡ false
-  admit : is_byte_of 10 (codes "admit ") ≡ false
-  enter : is_byte_of 10 (codes "enter ") ≡ false
-  run : is_byte_of 10 (codes "run ") ≡ false
-  call : is_byte_of 10 (codes "call ") ≡ false
-  left : is_byte_of 10 (codes "left ") ≡ false
-  back : is_byte_of 10 (codes "back ") ≡ false
-  idle : is_byte_of 10 (codes "idle") ≡ false
-  stray : is_byte_of 10 (codes "stray") ≡ false
-  tick : is_byte_of 10 (codes "tick ") ≡ false
-
-fixed : Fixed
-unfolding is_byte_of
-fixed = record { space = refl; dash = refl; boot = refl; admit = refl; enter = refl; run = refl; call = refl; left = refl; back = refl; idle = refl; stray = refl; tick = refl }
-
-named_lacks : (names : List (List ℕ)) → AreNames names → (i : ℕ) → is_byte_of 10 (name_of names i) ≡ false
-named_lacks names named i = by (cases_lt i (length names))
-  where
-    by : (i < length names) ⊎ (length names ≤ i) → is_byte_of 10 (name_of names i) ≡ false
-    by (inl lt) =
-        let e : name_of names i ≡ get_or names i [] = ap (λ o. unwrap_or o (codes "-")) (slice_get-get_or names i [] lt) in
-        ap (is_byte_of 10) e ∙ name_lacks (get_or names i []) (named.each i [] lt)
-    by (inr ge) = ap (λ o. is_byte_of 10 (unwrap_or o (codes "-"))) (slice_get_past names i ge) ∙ fixed.dash
-
 module _ (tasks functions counters : List (List ℕ)) (named : AreNames tasks) (called : AreNames functions) (counted : AreNames counters) (apart : AreApart counters tasks) where
-  and : (a b : List ℕ) → is_byte_of 10 a ≡ false → is_byte_of 10 b ≡ false → is_byte_of 10 (a ++ b) ≡ false
-  and a b p q = has_in 10 a b p q
+  -- ---- no LF stands in a line
 
   event_lacks : (e : Event) → HasNumbers (length tasks) (length functions) (length counters) e → is_byte_of 10 (event_text tasks functions counters e) ≡ false
   event_lacks event.Boot h = fixed.boot
-  event_lacks (event.Admit t) h = and (codes "admit ") (name_of tasks t) fixed.admit (named_lacks tasks named t)
-  event_lacks (event.Enter t) h = and (codes "enter ") (name_of tasks t) fixed.enter (named_lacks tasks named t)
-  event_lacks (event.Run t f item result) h =
-      and _ (decimal result)
-      (and _ (codes " ")
-      (and _ (decimal item)
-      (and _ (codes " ")
-      (and _ (name_of functions f)
-      (and _ (codes " ") (and (codes "run ") (name_of tasks t) fixed.run (named_lacks tasks named t)) fixed.space)
-      (named_lacks functions called f))
-      fixed.space)
-      (number_lacks item h.2))
-      fixed.space)
-      (number_lacks result h.3)
-  event_lacks (event.Call t s status) h =
-      and _ (decimal status)
-      (and _ (codes " ") (and _ (service_name s) (and _ (codes " ") (and (codes "call ") (name_of tasks t) fixed.call (named_lacks tasks named t)) fixed.space) (service_lacks s)) fixed.space)
-      (number_lacks status h.1)
-  event_lacks (event.Left t s) h =
-      and _ (service_name s) (and _ (codes " ") (and (codes "left ") (name_of tasks t) fixed.left (named_lacks tasks named t)) fixed.space) (service_lacks s)
-  event_lacks (event.Back t) h = and (codes "back ") (name_of tasks t) fixed.back (named_lacks tasks named t)
   event_lacks (event.Due c) h = and (codes "admit ") (name_of counters c) fixed.admit (named_lacks counters counted c)
   event_lacks (event.Tick c) h = and (codes "tick ") (name_of counters c) fixed.tick (named_lacks counters counted c)
   event_lacks event.Idle h = fixed.idle
   event_lacks event.Stray h = fixed.stray
+  event_lacks e h = task_lacks tasks functions counters named called e h refl
 
   line_lacks : (e : Stamped) → HasLine tasks functions counters e → is_byte_of 10 (counted_line tasks functions counters e) ≡ false
   line_lacks e h =

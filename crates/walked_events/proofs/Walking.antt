@@ -22,7 +22,9 @@ use Rattle.osek_scheduler.specs.Next.{all_below}
 use Rattle.osek_scheduler.specs.Runs.{Follows, ReadySince, OsekRun, PassesOver, PassesOverArrivals}
 use Rattle.osek_scheduler.proofs.Tests.{Decides-is_ready, Decides-is_active}
 use Rattle.osek_scheduler.proofs.Leading.{follows_leads, one_end}
-use Rattle.sloth_base.specs.Owners.{is_counter_line, owners_in}
+use Rattle.sloth_base.specs.Owners.{is_counter_line, owners_in, first_counter_line}
+use Rattle.sloth_base.specs.Limits.{task_limit}
+use Rattle.sloth_base.specs.MemoryMap.{line_count}
 use Rattle.osek_plans.specs.Above.{is_above, is_due_line, is_line_above}
 use Rattle.walked_events.specs.Moments.{KeepsMoments, all_later}
 use Rattle.walked_events.specs.Walk.{Walk, Walks, WalksOrStrays, StraysAt, Stops, IsWalked, task_passes, event_passes}
@@ -33,7 +35,7 @@ one_bit b = cond b 1 0
 
 -- ---- what is passed over
 
-module _ (config : Config) (app : App) (past : List Stamped) (s : System) (moments : List ℕ) (keeps : KeepsMoments config app past s moments) (few : length config.tasks ≤ 30) where
+module _ (config : Config) (app : App) (past : List Stamped) (s : System) (moments : List ℕ) (keeps : KeepsMoments config app past s moments) (few : length config.tasks ≤ task_limit) where
   abbrev IsAbove : ℕ → ℕ → Type 0
   IsAbove t u = (u < length config.tasks) × (((task s u).state ≡ mode.Ready) × (rank config s t < rank config s u))
 
@@ -51,7 +53,7 @@ module _ (config : Config) (app : App) (past : List Stamped) (s : System) (momen
   abbrev Later : ℕ → ℕ → ℕ → Type 0
   Later t k u = (¬ (IsLineAbove t u)) ⊎ (k < get_or moments u 0)
 
-  Decides-all_later : (t k : ℕ) → Decides (all_later (is_line_above config s t) moments k) ((u : ℕ) → u < 32 → Later t k u)
+  Decides-all_later : (t k : ℕ) → Decides (all_later (is_line_above config s t) moments k) ((u : ℕ) → u < line_count → Later t k u)
   unfolding all_later
   Decides-all_later t k =
       Decides-below_and (λ u. not (is_line_above config s t u) || ltb k (get_or moments u 0)) (Later t k)
@@ -68,9 +70,9 @@ module _ (config : Config) (app : App) (past : List Stamped) (s : System) (momen
   -- where a task runs, no counter is due
   no_due_line : NoTicks config s → (u : ℕ) → is_due_line config s u ≡ true → ⊥
   no_due_line quiet u e =
-      let due = and_parts (is_counter_line (owners_in config) u) (counter s (u - 30)).due e in
-      let line = and_parts (leb 30 u) (ltb (u - 30) (length config.counters)) due.0 in
-      true≢false (sym due.1 ∙ quiet (u - 30) (ltb-true (u - 30) (length config.counters) line.1))
+      let due = and_parts (is_counter_line (owners_in config) u) (counter s (u - first_counter_line)).due e in
+      let line = and_parts (leb first_counter_line u) (ltb (u - first_counter_line) (length config.counters)) due.0 in
+      true≢false (sym due.1 ∙ quiet (u - first_counter_line) (ltb-true (u - first_counter_line) (length config.counters) line.1))
 
   pub passes_is : (t k : ℕ) → NoTicks config s → PassesOver config app past s t k → all_later (is_line_above config s t) moments k ≡ true
   passes_is t k quiet h = (Decides-all_later t k).1 (λ u _. by u (is_line_above config s t u) refl)
@@ -94,30 +96,14 @@ module _ (config : Config) (app : App) (past : List Stamped) (s : System) (momen
 
   -- the test decides, where the event is a step
   pub event_of : (e : Event) (k : ℕ) (next : System) → OsekStep config app e s next → event_passes config s moments e k ≡ true → PassesOverArrivals config app past s k e
-  event_of event.Boot k next step h = tt
-  event_of (event.Admit t) k next step h = tt
-  event_of (event.Enter t) k next step h = tt
-  event_of (event.Run t func item result) k next step h = tt
   event_of (event.Call t served status) k next step h = task_of t k step.1.1.top.declared step.1.1.at.active h
   event_of (event.Left t served) k next step h = task_of t k step.1.1.top.declared step.1.1.at.active h
-  event_of (event.Back t) k next step h = tt
-  event_of event.Idle k next step h = tt
-  event_of event.Stray k next step h = tt
-  event_of (event.Due c) k next step h = tt
-  event_of (event.Tick c) k next step h = tt
+  event_of e k next step h = tt
 
   pub event_is : (e : Event) (k : ℕ) (next : System) → OsekStep config app e s next → PassesOverArrivals config app past s k e → event_passes config s moments e k ≡ true
-  event_is event.Boot k next step h = refl
-  event_is (event.Admit t) k next step h = refl
-  event_is (event.Enter t) k next step h = refl
-  event_is (event.Run t func item result) k next step h = refl
   event_is (event.Call t served status) k next step h = task_is t k step.1.1.top.declared step.1.1.at.active step.1.1.top.no_ticks h
   event_is (event.Left t served) k next step h = task_is t k step.1.1.top.declared step.1.1.at.active step.1.1.top.no_ticks h
-  event_is (event.Back t) k next step h = refl
-  event_is event.Idle k next step h = refl
-  event_is event.Stray k next step h = refl
-  event_is (event.Due c) k next step h = refl
-  event_is (event.Tick c) k next step h = refl
+  event_is e k next step h = refl
 
 -- ---- runs, one event more
 
@@ -223,8 +209,8 @@ walks_here config app events None walk none h = h
 walks_here config app events (Some k) walk none h = absurd cc
 
 -- before the first event
-pub walked_none : (config : Config) (app : App) (walk : Walk) → length config.tasks ≤ 30 → walk.machine ≡ record { config = config; app = app; system = opening config app }
-    → length walk.moments ≡ 32 → ((u : ℕ) → get_or walk.moments u 0 ≡ 0) → IsWalked config app [] walk
+pub walked_none : (config : Config) (app : App) (walk : Walk) → length config.tasks ≤ task_limit → walk.machine ≡ record { config = config; app = app; system = opening config app }
+    → length walk.moments ≡ line_count → ((u : ℕ) → get_or walk.moments u 0 ≡ 0) → IsWalked config app [] walk
 walked_none config app walk few is count zeros = record {
   few = few;
   config_is = ap (λ (m : Machine). m.config) is;

@@ -5,6 +5,7 @@ use Rattle.sloth_base.specs.declared.app.App.{App}
 use Rattle.sloth_base.specs.declared.event.Event.{Event}
 use Rattle.sloth_base.specs.declared.event.Event.TheVariants as event
 use Rattle.sloth_base.specs.declared.event.Stamped.{Stamped}
+use Rattle.sloth_base.specs.MemoryMap.{line_count}
 use Rattle.osek_scheduler.specs.State.{System, task, opening}
 use Rattle.osek_scheduler.specs.Services.{if_suspended}
 use Rattle.osek_scheduler.specs.Next.{all_below}
@@ -20,9 +21,9 @@ noted_moments _ at s moments = moments
 -- admit behind k: the moment of that admit, or 0 where there is none.
 pub record KeepsMoments (config : Config) (app : App) (past : List Stamped) (s : System) (moments : List ℕ) : Type 0 where
   pub leads : Leads config app past (opening config app) s
-  pub count : length moments ≡ 32
+  pub count : length moments ≡ line_count
   pub tells : (u k : ℕ) → (k < get_or moments u 0) ↔ ReadySince config app past u k
 
 -- the moment of each line of this row is behind k
 unfoldable pub all_later : (ℕ → Bool) → List ℕ → ℕ → Bool
-all_later row moments k = all_below 32 (λ u. not (row u) || ltb k (get_or moments u 0))
+all_later row moments k = all_below line_count (λ u. not (row u) || ltb k (get_or moments u 0))

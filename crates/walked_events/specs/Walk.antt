@@ -5,6 +5,7 @@ use Rattle.sloth_base.specs.declared.app.App.{App}
 use Rattle.sloth_base.specs.declared.event.Event.{Event}
 use Rattle.sloth_base.specs.declared.event.Stamped.{Stamped}
 use Rattle.sloth_base.specs.Events.{served_task}
+use Rattle.sloth_base.specs.Limits.{task_limit}
 use Rattle.osek_scheduler.specs.State.{System, task, opening}
 use Rattle.osek_scheduler.specs.Priority.{is_active}
 use Rattle.osek_scheduler.specs.Steps.{OsekStep}
@@ -51,7 +52,7 @@ Stops e old = event_passes old.machine.config old.machine.system old.moments e.e
 
 -- a walk of a configuration behind these events
 pub record IsWalked (config : Config) (app : App) (past : List Stamped) (walk : Walk) : Type 0 where
-  pub few : length config.tasks ≤ 30
+  pub few : length config.tasks ≤ task_limit
   pub config_is : walk.machine.config ≡ config
   pub app_is : walk.machine.app ≡ app
   pub follows : Follows config app [] (opening config app) past walk.machine.system

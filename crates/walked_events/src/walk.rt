@@ -4,6 +4,7 @@ ghost use Rattle.std.specs.Int.{bit_at};
 ghost use Rattle.sloth_base.specs.declared.app.App.{App as AnyApp};
 ghost use Rattle.sloth_base.specs.declared.config.Config.{Config as AnyConfig};
 ghost use Rattle.sloth_base.specs.declared.event.Stamped.{Stamped as AnyEvent};
+ghost use Rattle.sloth_base.specs.MemoryMap.{line_count};
 ghost use Rattle.code_rules.specs.WellFormed.{WellFormed};
 ghost use Rattle.osek_scheduler.specs.State.{System, task as task_of};
 ghost use Rattle.osek_scheduler.specs.Steps.{OsekStep};
@@ -19,18 +20,16 @@ use sloth_base::app::App;
 use sloth_base::config::Config;
 use sloth_base::event::{Event, Stamped};
 use sloth_base::memory::NoMemory;
+use sloth_base::memory_map::LINE_COUNT;
 use sloth_base::numbers::TaskId;
 use std::alloc::Global;
 use std::marker::Model;
-
-/// How many lines there are.
-const LINES: usize = 32;
 
 /// The scheduler, and for each task that is Ready since an admit that admit's moment, else 0.
 #[derive(Drop)]
 pub struct Walk {
     osek: Osek,
-    moments: [u32; LINES],
+    moments: [u32; LINE_COUNT],
 }
 
 impl Model for Walk {
@@ -44,17 +43,17 @@ impl Model for Walk {
 // Whether a line is not in the row, or its moment is behind a count.
 #[tactic(auto, using(std::proofs::lemmas::Nat::Bits::shr_and_one))]
 fn is_later(row: u32, line: u32, moment: u32, count: u32) -> bool
-    requires { line < 32 }
+    requires { line < line_count }
     ensures { result ≡ (not (bit_at row line == 1) || ltb count moment) }
 {
     row >> line & 1 != 1 || count < moment
 }
 
 // Whether the moment of each line of the row is behind a count.
-fn all_later(row: u32, moments: &[u32; LINES], count: u32) -> bool
+fn all_later(row: u32, moments: &[u32; LINE_COUNT], count: u32) -> bool
     ensures { result ≡ all_later (λ u. bit_at row u == 1) moments.now count }
 {
-    for line in 0..LINES {
+    for line in 0..LINE_COUNT {
         if !is_later(row, line as u32, moments[line], count) {
             return false;
         }
@@ -63,11 +62,11 @@ fn all_later(row: u32, moments: &[u32; LINES], count: u32) -> bool
 }
 
 // Keeps the moment of a task.
-fn keep(moments: &mut [u32; LINES], note: Option<(u32, u32)>)
+fn keep(moments: &mut [u32; LINE_COUNT], note: Option<(u32, u32)>)
     ensures { moments.new ≡ with_moment note moments.old }
 {
     if let Some((task, moment)) = note {
-        if (task as usize) < LINES {
+        if (task as usize) < LINE_COUNT {
             moments[task as usize] = moment;
         }
     }
@@ -82,7 +81,7 @@ impl Walk {
         let osek = Osek::boot(alloc, config, app)?;
         Ok(Walk {
             osek,
-            moments: [0; LINES],
+            moments: [0; LINE_COUNT],
         })
     }
 
@@ -117,15 +116,7 @@ impl Walk {
         match *event {
             Event::Call { task, .. } => self.task_passes(task, count),
             Event::Left { task, .. } => self.task_passes(task, count),
-            Event::Boot
-            | Event::Admit(_)
-            | Event::Enter(_)
-            | Event::Run { .. }
-            | Event::Back(_)
-            | Event::Idle
-            | Event::Stray
-            | Event::Due(_)
-            | Event::Tick(_) => true,
+            _ => true,
         }
     }
 
@@ -143,15 +134,7 @@ impl Walk {
                 }
             }
             Event::Enter(task) => Some((task, 0)),
-            Event::Boot
-            | Event::Run { .. }
-            | Event::Call { .. }
-            | Event::Left { .. }
-            | Event::Back(_)
-            | Event::Idle
-            | Event::Stray
-            | Event::Due(_)
-            | Event::Tick(_) => None,
+            _ => None,
         }
     }
 

@@ -4,6 +4,7 @@ use Rattle.std.specs.Prelude.{Bool, true, false, ◌==◌, nat_le, if◌then◌e
 use Rattle.std.proofs.lemmas.Bool.{cases_lt, false≢true}
 use Rattle.std.proofs.lemmas.Bool.Decides.{eqb_tells, leb_tells}
 use Rattle.sloth_base.specs.declared.lines.Owners.{Owners}
+use Rattle.sloth_base.specs.Limits.{task_limit, counter_limit}
 use Rattle.run_samples.specs.declared.sampling.Sample.{Sample}
 use Rattle.wave_text.specs.declared.signals.Scope.{Scope}
 use Rattle.wave_text.specs.declared.signals.Scope.TheVariants as scope
@@ -104,7 +105,7 @@ pub record IsFollowed (owners : Owners) (code : ℕ) (val : Option Sample → Op
 parts : (a b c f d e rest : List Entry) → (a ++ b ++ c ++ f ++ d ++ e) ++ rest ≡ a ++ (b ++ (c ++ (f ++ (d ++ (e ++ rest)))))
 parts a b c f d e rest = simp append_assoc
 
-module _ (owners : Owners) (few : owners.tasks ≤ 30) (at : ℕ) (old new : Option Sample) (rest : List Entry) where
+module _ (owners : Owners) (few : owners.tasks ≤ task_limit) (at : ℕ) (old new : Option Sample) (rest : List Entry) where
   abbrev A : List Entry
   A = scope_changes scope.State old new owners.tasks
 
@@ -194,7 +195,7 @@ module _ (owners : Owners) (few : owners.tasks ≤ 30) (at : ℕ) (old new : Opt
       ∙ other-change masked_code at level_signal width.Eight (level_value old) (level_value new) (masked_value old) (E ++ rest) (λ (e : 123 ≡ 124). omega arith)
       ∙ own-change masked_code at width.One (masked_value old) (masked_value new) rest
 
-scope-followed : (owners : Owners) → owners.tasks ≤ 30 → (s : Scope) (place : ℕ) → place < signal_count owners s
+scope-followed : (owners : Owners) → owners.tasks ≤ task_limit → (s : Scope) (place : ℕ) → place < signal_count owners s
     → IsFollowed owners (first_code s + place) (λ sample. value_of s sample place)
 scope-followed owners few scope.State task l = record { follows = λ at old new rest. of-state owners few at old new rest task l; unknown = refl }
 scope-followed owners few scope.Runs task l = record { follows = λ at old new rest. of-runs owners few at old new rest task l; unknown = refl }
@@ -257,7 +258,7 @@ signal-reads owners code val follow xs k below =
     let same : 0 + k ≡ k = omega arith in
     ap (λ v. value_behind code k v es) (sym follow.unknown) ∙ subst P same (value-at owners (length xs) code val follow xs 0 k None below (omega (arith, below)))
 
-pub reads-back : (owners : Owners) (samples : List Sample) (k : ℕ) → owners.tasks ≤ 30 → owners.counters ≤ 2 → k < length samples → ReadsBack owners samples k
+pub reads-back : (owners : Owners) (samples : List Sample) (k : ℕ) → owners.tasks ≤ task_limit → owners.counters ≤ counter_limit → k < length samples → ReadsBack owners samples k
 reads-back owners samples k few counters below = record {
   of_scope = λ s place l. signal-reads owners (first_code s + place) (λ sample. value_of s sample place) (scope-followed owners few s place l) samples k below;
   of_level = signal-reads owners level_signal level_value (record { follows = λ at old new rest. of-level owners few at old new rest; unknown = refl }) samples k below;

@@ -5,6 +5,7 @@ use Rattle.osek_scheduler.specs.declared.state.TaskState.{TaskState}
 use Rattle.osek_scheduler.specs.declared.state.TaskState.TheVariants as mode
 use Rattle.run_samples.specs.declared.sampling.Sample.{Sample}
 use Rattle.sloth_base.specs.declared.lines.Owners.{Owners}
+use Rattle.sloth_base.specs.Limits.{task_limit, counter_limit}
 use Rattle.sloth_runner.specs.declared.looks.Seen.{Seen}
 use Rattle.wave_text.specs.declared.signals.Scope.{Scope}
 use Rattle.wave_text.specs.declared.signals.Scope.TheVariants as scope
@@ -42,10 +43,10 @@ signal_count owners scope.Counters = owners.counters
 
 -- how many there are at most
 abbrev pub most_signals : Scope → ℕ
-most_signals scope.State = 30
-most_signals scope.Runs = 30
-most_signals scope.Pending = 30
-most_signals scope.Counters = 2
+most_signals scope.State = task_limit
+most_signals scope.Runs = task_limit
+most_signals scope.Pending = task_limit
+most_signals scope.Counters = counter_limit
 
 -- 1 for true, 0 for false
 abbrev pub bit : Bool → ℕ

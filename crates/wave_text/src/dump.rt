@@ -1,5 +1,6 @@
 //! The changes of signals, written as they come.
 ghost use Rattle.std.specs.Prelude.{◌≡◌, ◌≤◌, ◌++◌, true, false, Some, None, OnOk};
+ghost use Rattle.sloth_base.specs.Limits.{task_limit, counter_limit};
 ghost use Rattle.wave_text.specs.Changes.{Entry, same_value, change_entries, changes, scope_changes, moment_entries, with_moment};
 ghost use Rattle.wave_text.specs.Text.{digit, entry_line, entry_lines};
 ghost use Rattle.wave_text.specs.Signals.{most_signals};
@@ -159,7 +160,7 @@ impl Dump {
         before: &Option<Sample>,
         after: &Option<Sample>,
     ) -> Result<(), NoMemory>
-        requires small { count ≤ 30 }
+        requires small { count ≤ task_limit }
         requires few { count ≤ most_signals scope }
         ensures { OnOk result (Gets self.old self.new (scope_changes scope before.now after.now count)) }
     {
@@ -185,8 +186,8 @@ impl Dump {
         before: &Option<Sample>,
         after: &Option<Sample>,
     ) -> Result<(), NoMemory>
-        requires tasks { owners.now.tasks ≤ 30 }
-        requires counters { owners.now.counters ≤ 2 }
+        requires tasks { owners.now.tasks ≤ task_limit }
+        requires counters { owners.now.counters ≤ counter_limit }
         ensures { OnOk result
             (self.new.text.items ≡ self.old.text.items ++ entry_lines (with_moment count false (changes owners.now before.now after.now))) }
     {

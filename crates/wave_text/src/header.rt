@@ -1,6 +1,7 @@
 //! The declarations of signals.
 ghost use Rattle.std.specs.Prelude.{◌≡◌, ◌≤◌, ◌++◌, IfOk, OnOk, All, length};
 ghost use Rattle.sloth_base.specs.ImageRange.{InFormat, IsName};
+ghost use Rattle.sloth_base.specs.Limits.{task_limit, name_limit};
 ghost use Rattle.wave_text.specs.Header.{scope_name, width_digit, variable_line, variable_lines, scope_line, scope_text, header};
 
 use crate::signals::{Scope, Width, first_code, width_of};
@@ -35,7 +36,7 @@ fn width_digit(width: Width) -> &'static [u8]
 // The line that declares a signal.
 #[tactic(auto, unfolding(crate::specs::Header::variable_line))]
 fn variable_line(width: Width, code: u8, name: &Name) -> LineText
-    requires { length name.now ≤ 64 }
+    requires { length name.now ≤ name_limit }
     ensures { result ≡ variable_line width code name.now }
 {
     let mut line = LineText::new();
@@ -63,7 +64,7 @@ fn scope_line(scope: Scope) -> LineText
 
 // Appends the declarations of signals, one for each name.
 fn push_variables(text: &mut Vec<u8>, scope: Scope, names: &[Name]) -> Result<(), NoMemory>
-    requires few { length names.now ≤ 30 }
+    requires few { length names.now ≤ task_limit }
     requires short { All IsName names.now }
     ensures { OnOk result (text.new.items ≡ text.old.items ++ variable_lines scope names.now (length names.now)) }
 {
@@ -85,7 +86,7 @@ fn push_scope(
     tasks: &[Name],
     counters: &[Name],
 ) -> Result<(), NoMemory>
-    requires few_tasks { length tasks.now ≤ 30 }
+    requires few_tasks { length tasks.now ≤ task_limit }
     requires short_tasks { All IsName tasks.now }
     requires few_counters { length counters.now ≤ 30 }
     requires short_counters { All IsName counters.now }

@@ -1,17 +1,18 @@
 //! Whether signals keep their values: told by one look at the parts of two samples, since most counts change nothing.
 ghost use Rattle.std.specs.Prelude.{ℕ, ◌≡◌, ◌<◌, ◌≤◌, IsTrue, false, get_or};
+ghost use Rattle.sloth_base.specs.Limits.{task_limit, counter_limit};
 ghost use Rattle.osek_scheduler.specs.declared.state.TaskState.TheVariants as mode;
 ghost use Rattle.wave_text.specs.Signals.{KeepValues, most_signals, state_number, seen_state, running_value, value_in};
 
 use crate::signals::{Scope, state_number};
 use osek_scheduler::state::TaskState;
 use run_samples::Sample;
-use sloth_inspect::TASKS;
-use sloth_runner::sight::{COUNTERS, Seen};
+use sloth_base::limits::{COUNTER_LIMIT, TASK_LIMIT};
+use sloth_runner::sight::Seen;
 
 // Whether the states of the tasks have the same numbers.
-fn same_states(tasks: usize, one: &[TaskState; TASKS], other: &[TaskState; TASKS]) -> bool
-    requires { tasks ≤ 30 }
+fn same_states(tasks: usize, one: &[TaskState; TASK_LIMIT], other: &[TaskState; TASK_LIMIT]) -> bool
+    requires { tasks ≤ task_limit }
     ensures { IsTrue result → (t : ℕ) → t < tasks → state_number (get_or one.now t mode.Suspended) ≡ state_number (get_or other.now t mode.Suspended) }
 {
     for task in 0..tasks {
@@ -23,8 +24,8 @@ fn same_states(tasks: usize, one: &[TaskState; TASKS], other: &[TaskState; TASKS
 }
 
 // Whether the same lines are pending.
-fn same_pending(tasks: usize, one: &[bool; TASKS], other: &[bool; TASKS]) -> bool
-    requires { tasks ≤ 30 }
+fn same_pending(tasks: usize, one: &[bool; TASK_LIMIT], other: &[bool; TASK_LIMIT]) -> bool
+    requires { tasks ≤ task_limit }
     ensures { IsTrue result → (t : ℕ) → t < tasks → get_or one.now t false ≡ get_or other.now t false }
 {
     for task in 0..tasks {
@@ -36,8 +37,12 @@ fn same_pending(tasks: usize, one: &[bool; TASKS], other: &[bool; TASKS]) -> boo
 }
 
 // Whether the same lines of counters are pending.
-fn same_counters(counters: usize, one: &[bool; COUNTERS], other: &[bool; COUNTERS]) -> bool
-    requires { counters ≤ 2 }
+fn same_counters(
+    counters: usize,
+    one: &[bool; COUNTER_LIMIT],
+    other: &[bool; COUNTER_LIMIT],
+) -> bool
+    requires { counters ≤ counter_limit }
     ensures { IsTrue result → (t : ℕ) → t < counters → get_or one.now t false ≡ get_or other.now t false }
 {
     for counter in 0..counters {
@@ -50,7 +55,7 @@ fn same_counters(counters: usize, one: &[bool; COUNTERS], other: &[bool; COUNTER
 
 // Whether the tasks were seen before and are seen in the same states.
 fn keeps_states(tasks: usize, before: &Option<Seen>, after: &Option<Seen>) -> bool
-    requires { tasks ≤ 30 }
+    requires { tasks ≤ task_limit }
     ensures { IsTrue result → (t : ℕ) → t < tasks → seen_state before.now t ≡ seen_state after.now t }
 {
     match before {

@@ -1,4 +1,11 @@
 //! The waves of a run: a value change dump, as IEEE 1364-2005, section 18, describes it.
+//!
+//! `waves` gives the text of the samples of all counts of a run, in which each signal's line stands exactly where its value changes; or where the run
+//! stops (`specs/Changes`, `specs/Text`, `specs/Header`, `specs/Waves`). Read back, the entries of the dump give each signal at each count the value
+//! that it has in the sample; that a text has one list of entries is not proved (`waves_read_back`, `specs/Reading`).
+//!
+//! The code and the width of each signal, and its value in a sample: the number of a task's state, whether it runs, what is pending, the level, the
+//! mask (`value_of`, `level_value`, `masked_value`; `specs/Signals`). Samples: `run_samples` (`Samples`).
 #![tactic(auto)]
 
 mod dump;

@@ -3,6 +3,7 @@ ghost use Rattle.std.specs.Prelude.{◌≤◌, IfOk};
 ghost use Rattle.sloth_base.specs.ImageRange.{InFormat};
 ghost use Rattle.sloth_base.specs.Arrivals.{AreArrivals};
 ghost use Rattle.sloth_base.specs.Owners.{owners_named};
+ghost use Rattle.sloth_base.specs.Limits.{count_limit};
 ghost use Rattle.wave_text.specs.Waves.{AreWaves};
 
 use crate::dump::Dump;
@@ -31,7 +32,7 @@ pub fn waves(
 ) -> Result<Recorded, NoMemory>
     requires format { InFormat image.now }
     requires arrivals { AreArrivals (owners_named image.now) arrivals.now }
-    requires few { n ≤ 1000000 }
+    requires few { n ≤ count_limit }
     ensures { IfOk result (AreWaves image.now arrivals.now n) }
 {
     let owners = Owners {

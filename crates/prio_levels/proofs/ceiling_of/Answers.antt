@@ -3,10 +3,11 @@ use Rattle.std.specs.Prelude.{max}
 use Rattle.std.proofs.lemmas.Grind.{common_steps}
 use Rattle.prio_levels.specs.Levels.{lists}
 use Rattle.sloth_base.specs.PriorityLevels.{level_among}
+use Rattle.sloth_base.specs.Limits.{task_limit}
 use Rattle.prio_levels.proofs.Greatest.{greatest_more}
 use Rattle.prio_levels.proofs.ceiling_of.Goals as goal
 
-few : (b : Bool) (n m o : ℕ) → n ≤ 30 → m ≤ 30 → o ≡ cond b (max n m) n → o ≤ 30
+few : (b : Bool) (n m o : ℕ) → n ≤ task_limit → m ≤ task_limit → o ≡ cond b (max n m) n → o ≤ task_limit
 few true n m o h k e = omega (arith, e)
 few false n m o h k e = omega (arith, e)
 

@@ -1,10 +1,11 @@
 use Rattle.std.proofs.Common.{◌∙◌, refl, arith}
 use Rattle.std.proofs.lemmas.List.{get_or-replicate, get_or-set_other}
 use Rattle.std.proofs.lemmas.Grind.{common_steps}
+use Rattle.sloth_base.specs.Limits.{task_limit}
 use Rattle.prio_levels.proofs.task_levels.Goals as goal
 
 pub loop-number-init : goal.loop-number-init
-loop-number-init c = record { done = λ t d h. absurd (omega arith); rest = λ t h k. get_or-replicate 30 t 0 0 k; whole = refl }
+loop-number-init c = record { done = λ t d h. absurd (omega arith); rest = λ t h k. get_or-replicate task_limit t 0 0 k; whole = refl }
 
 pub loop-number-preserved : goal.loop-number-preserved
 loop-number-preserved c =

@@ -1,6 +1,7 @@
 use Rattle.std.proofs.Common.{◌≤◌, ◌∙◌, List, ℕ, length, ap, sym, subst, arith}
 use Rattle.sloth_base.specs.Arrivals.{AreArrivals}
 use Rattle.sloth_base.specs.declared.event.Arrival.{Arrival}
+use Rattle.sloth_base.specs.Limits.{file_limit}
 use Rattle.std.specs.List.{All}
 use Rattle.app_gen.specs.Source.{source_text}
 use Rattle.app_gen.specs.Load.{owners_of}
@@ -10,12 +11,12 @@ use Rattle.app_gen.proofs.generate.sample.Goals as goal
 
 pub returns-clause-short_oil : goal.returns-clause-short_oil
 returns-clause-short_oil c =
-    let P : List ℕ → Type 0 = λ t. length t ≤ 4194304 in
+    let P : List ℕ → Type 0 = λ t. length t ≤ file_limit in
     subst P (sym (c.from_vec.ensures ∙ c.in_ok-oil_text.ensures)) (short-oil c.args.tasks (omega arith))
 
 pub returns-clause-short_src : goal.returns-clause-short_src
 returns-clause-short_src c =
-    let P : List ℕ → Type 0 = λ t. length t ≤ 4194304 in
+    let P : List ℕ → Type 0 = λ t. length t ≤ file_limit in
     let is = c.from_vec-2.ensures ∙ c.in_ok-source_text.ensures.text ∙ ap (λ x. source_text x c.args.tasks) c.from_seed-draws.ensures in
     subst P (sym is) (short-source c.args.seed c.args.tasks (omega arith) (omega arith) (omega arith))
 

@@ -6,9 +6,11 @@ use Rattle.least_fault.proofs.Kept.{both_are}
 use Rattle.code_rules.specs.WellFormed.{RunsOut, LeavesWrongly, UsesUndeclared}
 use Rattle.body_faults.proofs.Tested.{tested}
 use Rattle.body_faults.specs.Cases.{Case}
-use Rattle.body_faults.specs.Tests.{runs_out, leaves_wrongly, uses_undeclared}
+use Rattle.body_faults.specs.Tests.{runs_out, leaves_wrongly}
+use Rattle.body_faults.specs.Uses.{uses_undeclared}
 use Rattle.body_faults.proofs.Lists.{item_is}
-use Rattle.body_faults.proofs.Tests.{Decides-runs_out, Decides-leaves_wrongly, Decides-uses_undeclared}
+use Rattle.body_faults.proofs.Tests.{Decides-runs_out, Decides-leaves_wrongly}
+use Rattle.body_faults.proofs.Uses.{Decides-uses_undeclared}
 use Rattle.body_faults.proofs.items.flow_fault.Goals as goal
 
 pub returns : goal.returns

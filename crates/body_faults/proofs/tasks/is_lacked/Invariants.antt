@@ -1,7 +1,7 @@
 use Rattle.std.proofs.Common.{◌≡◌, ◌&&◌}
 use Rattle.call_graph.specs.Bits.{is_member}
 use Rattle.call_graph.specs.Reached.{any_below}
-use Rattle.body_faults.specs.Tests.{lacks}
+use Rattle.body_faults.specs.Uses.{lacks}
 use Rattle.body_faults.proofs.tasks.is_lacked.Given as goal
 
 abbrev pub invariant-loop-number : goal.invariant-loop-number

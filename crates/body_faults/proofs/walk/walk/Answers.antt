@@ -11,8 +11,8 @@ use Rattle.body_faults.proofs.Labelled.{last_inside, held_is}
 use Rattle.body_faults.proofs.Lists.{item_is}
 use Rattle.body_faults.proofs.walk.walk.Goals as goal
 
-pub at_label-requires : goal.at_label-requires
-at_label-requires c =
+pub held_at_label-requires : goal.held_at_label-requires
+held_at_label-requires c =
     let f = c.args.func.now in
     let i = c.loop-number.number in
     let inside = subst (λ (x : List Item). i < length x) c.items-number-end.ensures c.loop-number-test.true in

@@ -2,6 +2,7 @@ use Rattle.std.proofs.Common.{◌≡◌, ◌∙◌, ⊎_elim, inl, inr, ℕ, ◌
 use Rattle.std.specs.Prelude.{map}
 use Rattle.std.proofs.lemmas.List.{length-map}
 use Rattle.sloth_base.specs.Owners.{counter_line}
+use Rattle.sloth_base.specs.Limits.{task_limit}
 use Rattle.mem_map.specs.Starts.{starts, end_of}
 use Rattle.mem_map.specs.Starts.{code_byte_count}
 use Rattle.mem_map.specs.Plan.{prologues_at, ticks_at}
@@ -58,4 +59,4 @@ returns-clause-unused c = λ line l m other.
     c.in_ok-ticks.ensures.starts c.items-2.ensures in
     let k = long (ticks_at lengths) _ lengths.ticks f in
     c.handlers.ensures.unused line (omega (arith, n, l)) m
-    (⊎_elim (λ (b : line < 30). inl b) (λ (b : counter_line (length lengths.ticks) ≤ line). inr (omega (arith, b, k))) other)
+    (⊎_elim (λ (b : line < task_limit). inl b) (λ (b : counter_line (length lengths.ticks) ≤ line). inr (omega (arith, b, k))) other)

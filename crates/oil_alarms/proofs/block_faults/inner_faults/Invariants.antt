@@ -6,5 +6,6 @@ use Rattle.oil_alarms.proofs.block_faults.inner_faults.Given as goal
 abbrev pub invariant-loop-number : goal.invariant-loop-number
 invariant-loop-number l = record {
   finds : Loop (InsideFault l.objects l.limits l.place l.inner) l.inner l.number l.least;
-  behind : l.before ≡ take l.number l.inner;
+  depth : l.before.depth ≡ 1;
+  behind : l.before.attrs ≡ take l.number l.inner;
 }

@@ -5,6 +5,8 @@ use Rattle.sloth_base.specs.declared.config.EventDecl.{EventDecl}
 use Rattle.sloth_base.specs.declared.refusal.Refusal.{Refusal}
 use Rattle.sloth_base.specs.ConfigRange.{InRange}
 use Rattle.sloth_base.specs.ImageRange.{IsWord}
+use Rattle.sloth_base.specs.Limits.{resource_limit}
+use Rattle.sloth_base.specs.MemoryMap.{line_count}
 use Rattle.least_fault.specs.Search.{Finds}
 use Rattle.oil_parse.specs.declared.tree.OilObject.{OilObject}
 use Rattle.oil_parse.specs.Words.{IsObjectOfWords}
@@ -19,7 +21,7 @@ use Rattle.oil_model.proofs.resolving.config_or_refusal.Goals as goal
 pub config_of-requires-clause-few : goal.config_of-requires-clause-few
 config_of-requires-clause-few c =
     let tree = c.args.tree.now in
-    subst (λ (x : List OilObject). length (resource_names x) ≤ 32) (sym c.items.ensures)
+    subst (λ (x : List OilObject). length (resource_names x) ≤ resource_limit) (sym c.items.ensures)
     (few_names tree (subst (λ (o : Option Refusal). Finds (ModelFault tree) o) c.in_default.is c.in_ok-refusal.ensures))
 
 pub config_of-requires-clause-few_tasks : goal.config_of-requires-clause-few_tasks
@@ -28,7 +30,7 @@ config_of-requires-clause-few_tasks c =
     let none = subst (λ (o : Option Refusal). Finds (ModelFault tree) o) c.in_default.is c.in_ok-refusal.ensures in
     let n = number_of_names tree none (codes "TASK") in
     let few = few_tasks tree none in
-    subst (λ (x : List OilObject). length (names_of (codes "TASK") x) ≤ 32) (sym c.items.ensures) (omega (arith, n, few))
+    subst (λ (x : List OilObject). length (names_of (codes "TASK") x) ≤ line_count) (sym c.items.ensures) (omega (arith, n, few))
 
 pub config_of-requires-clause-few_counters : goal.config_of-requires-clause-few_counters
 config_of-requires-clause-few_counters c =
@@ -36,7 +38,7 @@ config_of-requires-clause-few_counters c =
     let none = subst (λ (o : Option Refusal). Finds (ModelFault tree) o) c.in_default.is c.in_ok-refusal.ensures in
     let n = number_of_names tree none (codes "COUNTER") in
     let few = few_counters tree none in
-    subst (λ (x : List OilObject). length (names_of (codes "COUNTER") x) ≤ 32) (sym c.items.ensures) (omega (arith, n, few))
+    subst (λ (x : List OilObject). length (names_of (codes "COUNTER") x) ≤ line_count) (sym c.items.ensures) (omega (arith, n, few))
 
 pub returns-clause-in_range : goal.returns-clause-in_range
 returns-clause-in_range c =

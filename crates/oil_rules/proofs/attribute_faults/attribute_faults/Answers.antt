@@ -27,7 +27,8 @@ loop-number-preserved c =
           c.merge-least.ensures k.finds;
       opens = c.opened-inner.ensures ∙ ap (λ p. opened_place place p x) k.opens ∙ ap (opened_place place (inner_place place (take i attrs))) c.index-attrs-number.is
           ∙ sym (fold_more (opened_place place) Nowhere attrs i x c.loop-number-test.true);
-      behind = c.in_ok-before.ensures;
+      depth = c.in_ok-before.ensures.depth ∙ k.depth;
+      behind = c.in_ok-before.ensures.attrs;
     }
 
 pub returns : goal.returns

@@ -7,5 +7,6 @@ abbrev pub invariant-loop-number : goal.invariant-loop-number
 invariant-loop-number l = record {
   finds : Loop (AttributeFault l.objects l.scheduler l.place) l.attrs l.number l.least;
   opens : l.inner ≡ inner_place l.place (take l.number l.attrs);
-  behind : l.before ≡ take l.number l.attrs;
+  depth : l.before.depth ≡ 0;
+  behind : l.before.attrs ≡ take l.number l.attrs;
 }

@@ -1,4 +1,5 @@
 use Rattle.std.proofs.Common.{◌∙◌, ℕ, ◌+◌, ◌<◌, sym, ap, subst, arith, length}
+use Rattle.sloth_base.specs.Owners.{first_counter_line}
 use Rattle.osek_scheduler.specs.declared.state.Counter.{Counter}
 use Rattle.osek_plans.specs.Above.{is_line_above}
 use Rattle.osek_plans.proofs.Lines.{tasks_row, counter_set, counter_kept, whole_row}
@@ -19,7 +20,7 @@ loop-counter-preserved c =
     let long = ap length c.items-counter-end.ensures in
     let lt : c.loop-counter.counter < length config.counters = omega (arith, inside, long) in
     let due = ap (λ (k : Counter). k.due) (sym c.counter.ensures) in
-    let P : ℕ → Type 0 = λ r. Row (is_line_above config s c.args.task) (30 + (c.loop-counter.counter + 1)) r in
+    let P : ℕ → Type 0 = λ r. Row (is_line_above config s c.args.task) (first_counter_line + (c.loop-counter.counter + 1)) r in
     elim c.if-counter.branch [
       | then-counter w ↦ subst P (sym (w.row-is ∙ w.with_line-row.ensures))
           (counter_set config s c.args.task c.requires.few c.loop-counter.counter c.loop-counter.row c.loop-counter.invariant few lt (due ∙ w.if-counter.true))

@@ -1,6 +1,7 @@
 use Rattle.std.proofs.Common.{◌%◌, get_or, refl}
 use Rattle.std.specs.Prelude.{ltb, leb, eqb, set, replicate}
 use Rattle.std.proofs.lemmas.Bool.{ltb-true, leb-true, eqb-true}
+use Rattle.sloth_base.specs.MemoryMap.{boot_base}
 use Rattle.rv32_words.proofs.Every.{every_at}
 use Rattle.rv32_words.proofs.kernel.map.Goals as goal
 
@@ -10,6 +11,6 @@ returns-clause-reach c =
     record {
       long = refl;
       aligned = λ k h. eqb-true (get_or handlers k 0 % 4) 0 (every_at (λ x. eqb (x % 4) 0) handlers refl k h);
-      behind = λ k h. leb-true 0x8000_0480 (get_or handlers k 0) (every_at (λ x. leb 0x8000_0480 x) handlers refl k h);
+      behind = λ k h. leb-true boot_base (get_or handlers k 0) (every_at (λ x. leb boot_base x) handlers refl k h);
       near = λ k h. ltb-true (get_or handlers k 0) 0x8010_0400 (every_at (λ x. ltb x 0x8010_0400) handlers refl k h);
     }

@@ -22,7 +22,8 @@ returns-clause-err g c =
     let of = c.in_ok-judged.ensures in
     let built =
     built-of _ _ (building_of c.args.c.now) _ _ c.in_ok-judged.judged.built.image _ _ _ _ c.in_ok-inputs.ensures.ok of.accepted of.read of.in_range of.image c.requires c.read_inputs.ensures.keeps in
-    IfErr-weaker c.perform.result _ _ (λ failure h. perform-ends failure _ _ _ _ (building_of c.args.c.now) c.in_ok-judged.judged.built.image _ built h) c.perform.ensures.err
+    IfErr-weaker c.perform.result _ _ (λ failure h. perform-ends failure _ _ _ _ (building_of c.args.c.now) c.in_ok-judged.judged.built.image _ built h)
+    (rw c.as_slice.ensures.value at c.perform.ensures.err)
 
 pub returns-clause-done : goal.returns-clause-done
 returns-clause-done g c =
@@ -30,4 +31,4 @@ returns-clause-done g c =
     let built =
     built-of _ _ (building_of c.args.c.now) _ _ c.in_ok-judged.judged.built.image _ _ _ _ c.in_ok-inputs.ensures.ok of.accepted of.read of.in_range of.image c.requires c.read_inputs.ensures.keeps in
     both-ok c.perform.result _ _ _ (λ written text. (_, done _ _ _ (building_of c.args.c.now) c.in_ok-judged.judged.built.image _ built written, text))
-    c.perform.ensures.written c.perform.ensures.text
+    c.perform.ensures.written (rw c.as_slice.ensures.value at c.perform.ensures.text)

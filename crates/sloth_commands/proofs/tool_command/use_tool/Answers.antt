@@ -2,6 +2,7 @@ use Rattle.std.proofs.Common.{◌≤◌, ◌∙◌, ℕ, List, ap, subst, sym, l
 use Rattle.std.specs.Prelude.{All}
 use Rattle.std.proofs.lemmas.Result.{err_from_is_err_and, IfErr-weaker}
 use Rattle.std.proofs.lemmas.List.Elements.{All-from_recursion}
+use Rattle.sloth_base.specs.Limits.{file_limit}
 use Rattle.command_line.specs.Command.{Uses, words_of}
 use Rattle.command_line.specs.Words.{use_of}
 use Rattle.sloth_commands.proofs.Causes.{read-ends}
@@ -18,7 +19,7 @@ judge-requires-clause-counted g c =
 
 pub judge-requires-clause-short : goal.judge-requires-clause-short
 judge-requires-clause-short g c =
-    let P : List ℕ → Type 0 = λ input. length input ≤ 4194304 in
+    let P : List ℕ → Type 0 = λ input. length input ≤ file_limit in
     let Q : List (List ℕ) → Type 0 = λ xs. All P xs in
     subst Q (sym c.as_slice.ensures.value)
     (All-from_recursion P _ (all-short _ (words_of c.args.words.now.inputs.now) _ c.in_ok-inputs.ensures.ok))

@@ -10,8 +10,8 @@ returns c =
     let h = c.in_ok-linked.ensures in
     record {
       items = in_place c.args.config.now c.args.app.now c.args.map.now c.args.blocks.now c.requires
-          (record { tasks = names.tasks; funcs = names.functions; counters = names.counters; memory = memory; marks = marks })
-          h.stand are.tasks are.functions;
+          (record { tasks = names.tasks; funcs = names.funcs; counters = names.counters; memory = memory; marks = marks })
+          h.stand are.tasks are.funcs;
       stand = h.stand;
       range = h.range;
       code = h.code;
@@ -21,6 +21,6 @@ returns c =
       marks = h.moved;
       ascending = h.ascending;
       tasks = are.tasks;
-      functions = are.functions;
+      functions = are.funcs;
       counters = are.counters;
     }

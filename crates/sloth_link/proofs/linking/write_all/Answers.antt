@@ -1,5 +1,6 @@
 use Rattle.std.proofs.Common.{◌≤◌, ◌++◌, ap, length, ◌∙◌}
 use Rattle.std.specs.Prelude.{map}
+use Rattle.sloth_base.specs.MemoryMap.{memory_base}
 use Rattle.rv32_instr.specs.declared.block.Block.{Block}
 use Rattle.mem_map.specs.Sections.{block_section, linked_memory}
 use Rattle.sloth_link.specs.Linked.{datum_section}
@@ -9,13 +10,13 @@ use Rattle.sloth_link.proofs.WrittenMemory.{symbols_inside}
 use Rattle.sloth_link.proofs.linking.write_all.Goals as goal
 
 pub write_blocks-requires-clause-above : goal.write_blocks-requires-clause-above
-write_blocks-requires-clause-above c = front (λ (b : Block). 0x8000_0000 ≤ b.at) c.args.blocks.now c.args.items.now c.requires.room.blocks_above
+write_blocks-requires-clause-above c = front (λ (b : Block). memory_base ≤ b.at) c.args.blocks.now c.args.items.now c.requires.room.blocks_above
 
 pub write_blocks-requires-clause-inside : goal.write_blocks-requires-clause-inside
 write_blocks-requires-clause-inside c = front_inside _ c.args.blocks.now c.args.items.now c.args.symbols.now c.requires.room
 
 pub write_blocks-requires-2-clause-above : goal.write_blocks-requires-2-clause-above
-write_blocks-requires-2-clause-above c = back (λ (b : Block). 0x8000_0000 ≤ b.at) c.args.blocks.now c.args.items.now c.requires.room.blocks_above
+write_blocks-requires-2-clause-above c = back (λ (b : Block). memory_base ≤ b.at) c.args.blocks.now c.args.items.now c.requires.room.blocks_above
 
 pub write_blocks-requires-2-clause-inside : goal.write_blocks-requires-2-clause-inside
 write_blocks-requires-2-clause-inside c =

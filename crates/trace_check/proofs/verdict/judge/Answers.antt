@@ -6,7 +6,7 @@ use Rattle.sloth_base.specs.ImageRange.{AreApart, AreNames}
 use Rattle.sloth_base.specs.declared.event.Arrival.{Arrival}
 use Rattle.trace_check.specs.Answer.{IsVerdict}
 use Rattle.trace_check.specs.Begun.{IsBegun}
-use Rattle.trace_check.specs.Verdicts.{counter_names}
+use Rattle.sloth_base.specs.DeclaredNames.{counter_names}
 use Rattle.trace_check.proofs.Judging.{line_words}
 use Rattle.trace_check.proofs.verdict.judge.Goals as goal
 

@@ -1,4 +1,4 @@
-use Rattle.trace_text.proofs.EventsBack.{short_names}
+use Rattle.trace_text.proofs.TasksBack.{short_names}
 use Rattle.trace_text.proofs.event_line.counted_line.Goals as goal
 
 pub push_event-requires-clause-tasks : goal.push_event-requires-clause-tasks

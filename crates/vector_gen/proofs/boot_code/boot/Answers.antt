@@ -1,4 +1,5 @@
 use Rattle.std.proofs.Common.{◌≡◌, ◌+◌, List, ◌++◌, length, sym, ap, subst, append_assoc, arith}
+use Rattle.sloth_base.specs.Owners.{first_counter_line}
 use Rattle.rv32_instr.specs.declared.InstrKind.{InstrKind}
 use Rattle.vector_gen.specs.Boot.{register_code, lines_code, counters_code, finishing_code, Boots}
 use Rattle.vector_gen.proofs.Booting.{boot_code, boots}
@@ -13,7 +14,7 @@ returns-clause-effect c =
     let idle = c.args.map.now.idle in
     let e : c.from_vec.result ≡ boot_code tasks counters levels top idle =
     rw (c.from_vec.ensures, c.in_ok-finish.ensures.added, c.in_ok-start_counters.ensures.added, c.counter_level.ensures, c.in_ok-start_all.ensures.added, c.in_ok-begin.ensures, c.new-code.ensures.items, c.items-2.ensures, c.items.ensures)
-    (ap (λ (l : List InstrKind). register_code ++ l) (append_assoc (lines_code 0 tasks levels) (counters_code counters 30 (top + 1)) (finishing_code idle)))
+    (ap (λ (l : List InstrKind). register_code ++ l) (append_assoc (lines_code 0 tasks levels) (counters_code counters first_counter_line (top + 1)) (finishing_code idle)))
     in
     let level = c.counter_level.ensures in
     let byte = c.start_counters.ensures.byte in

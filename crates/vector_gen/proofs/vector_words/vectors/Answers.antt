@@ -1,4 +1,5 @@
 use Rattle.std.proofs.Common.{◌≡◌, sym, subst, arith}
+use Rattle.sloth_base.specs.MemoryMap.{line_count}
 use Rattle.vector_gen.specs.Vectors.{AreJumps, StepToHandlers}
 use Rattle.vector_gen.proofs.Jumping.{jumps_more}
 use Rattle.vector_gen.proofs.Stepping.{step_to_handlers}
@@ -12,6 +13,6 @@ returns-clause-steps c =
     let handlers = c.args.map.now.handlers in
     let past = c.loop-line-test.false in
     let most = c.loop-line.auto.line-end in
-    let e : c.loop-line.line ≡ 32 = omega arith in
+    let e : c.loop-line.line ≡ line_count = omega arith in
     let words = subst (λ n. AreJumps n handlers c.loop-line.code.items) e c.loop-line.invariant in
     subst (StepToHandlers handlers) (sym c.from_vec.ensures) (step_to_handlers handlers c.loop-line.code.items c.requires words)

@@ -23,10 +23,10 @@ returns-in-Ok-clause-went c =
     let F : Observer → Type 0 = λ o. (steps : List Step) (events : List Stamped) → Fed o steps events → Fed c.feed.new.self (steps ++ step ∷ []) events in
     let behind : Runner = record q { observer = c.feed.new.self } in
     let ok = c.in-Ok.ensures.ok in
-    let executed : HasExecuted a behind step = record { goes = ok.goes; shown = ok.shown; count = ok.count; executed = ok.executed } in
+    let executed : HasExecuted a behind step = record { goes = ok.goes; shown = ok.shown; count = ok.count } in
     record {
       step = step;
-      goes = moment-is r a (Goes step (sloth_state q.machine)) c.requires.running.ran.executed c.arrive_now.ensures.arrived ok.goes;
+      goes = moment-is r a (Goes step (sloth_state q.machine)) c.arrive_now.ensures.arrived ok.goes;
       fed = subst F observer c.feed.ensures.fed;
       view = c.feed.ensures.view ∙ ap view_of observer;
       expected = c.feed.ensures.expected ∙ ap (λ (o : Observer). expected_count o + 1) observer;
@@ -40,6 +40,6 @@ returns-in-Err-clause-halted c =
     let a = c.arrive_now.new.self in
     let halt = c.in-Err.ensures.err in (
       c.in-Err.halt.stop,
-      moment-is r a (Halts c.in-Err.halt.stop) c.requires.running.ran.executed c.arrive_now.ensures.arrived halt.halts,
+      moment-is r a (Halts c.in-Err.halt.stop) c.arrive_now.ensures.arrived halt.halts,
       ap (λ pc. ends.Stopped pc c.in-Err.halt.stop) (halt.pc ∙ ap (λ (m : State). (execution_state m).pc) c.arrive_now.ensures.arrived.state),
     )

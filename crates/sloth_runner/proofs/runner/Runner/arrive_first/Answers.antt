@@ -1,4 +1,4 @@
-use Rattle.std.proofs.Common.{List, ◌∙◌, ap, take, drop, refl, subst, sym}
+use Rattle.std.proofs.Common.{List, ◌∙◌, ap, take, drop, subst, sym}
 use Rattle.sloth_base.specs.declared.event.Arrival.{Arrival}
 use Rattle.sloth_runner.specs.Moments.{AreLines}
 use Rattle.sloth_runner.specs.Runner.{count_of, image_of}
@@ -13,6 +13,5 @@ returns-clause-arrived c =
       state = arrived-is r (image_of r) (count_of r) (take c.args.due r.coming.now) _ c.requires.ran (ap (λ n. take n r.coming.now) c.requires.due) c.arrive_front-self.ensures.state;
       coming = c.arrive_front-self.ensures.behind ∙ ap (λ n. drop n r.coming.now) c.requires.due;
       lines = subst L (sym c.arrive_front-self.ensures.behind) (lines-drop _ r.coming.now c.requires.ran.lines);
-      count = refl;
-      executed = c.arrive_front-self.ensures.count;
+      count = c.arrive_front-self.ensures.count;
     }

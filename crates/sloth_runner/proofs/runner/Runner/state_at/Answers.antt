@@ -37,7 +37,7 @@ returns-in-Err c =
     let halt = c.in-Err.ensures.err in
     sight-stopped (image_of c.args.self.now) (given_arrivals c.args.self.now) k c.args.k c.in-Err.halt.pc m c.in-Err.halt.stop (omega arith)
     (ap (λ A. state_after k A (start (image_of c.args.self.now))) (sym h.arrivals) ∙ h.ran.after)
-    (ap (λ A. moment A k m) (sym h.arrivals) ∙ moment-is r c.look.new.self (Halts c.in-Err.halt.stop) h.ran.executed looked halt.halts)
+    (ap (λ A. moment A k m) (sym h.arrivals) ∙ moment-is r c.look.new.self (Halts c.in-Err.halt.stop) looked halt.halts)
     (halt.pc ∙ ap (λ (x : State). (execution_state x).pc) looked.state ∙ ap (λ A. (execution_state (state_with_arrivals A k m)).pc) h.arrivals)
 
 pub loop-self-preserved : goal.loop-self-preserved

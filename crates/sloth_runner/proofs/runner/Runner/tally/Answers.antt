@@ -50,7 +50,7 @@ loop-self-preserved c =
     let q : Runner = record p { observer = c.count_events.new.observer } in
     let P : ℕ → Type 0 = λ k. Ran r0 q k in
     let running = running-behind r p q c.loop-self.invariant.ran.running advanced c.advance.ensures.image c.advance.ensures.arrivals c.count_events.ensures.fed
-    c.count_events.ensures.view c.count_events.ensures.arrivals c.count_events.ensures.expected c.count_events.ensures.drained refl refl refl in
+    c.count_events.ensures.view c.count_events.ensures.arrivals c.count_events.ensures.expected c.count_events.ensures.drained refl refl in
     let more = advanced.ran.count in
     record {
       ran = subst P (sym more) (ran-more r0 r q (count_of r) c.loop-self.invariant.ran running more c.advance.ensures.image (c.count_events.ensures.arrivals ∙ c.advance.ensures.arrivals));

@@ -27,7 +27,7 @@ returns-clause-went g c =
     let events = remaining c.advance.new.self.observer in
     record {
       running = running-behind r c.advance.new.self _ c.requires.running advanced c.advance.ensures.image c.advance.ensures.arrivals c.in_ok-drain.ensures.fed
-          c.drain.ensures.view c.drain.ensures.arrivals c.drain.ensures.expected c.in_ok-drain.ensures.drained refl refl refl;
+          c.drain.ensures.view c.drain.ensures.arrivals c.drain.ensures.expected c.in_ok-drain.ensures.drained refl refl;
       count = advanced.ran.count;
       events = events;
       adds = advanced-adds r c.advance.new.self c.requires.running advanced c.advance.ensures.arrivals;
