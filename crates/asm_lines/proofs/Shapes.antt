@@ -21,9 +21,6 @@ use Rattle.asm_lines.specs.Grammar.{IsRemains, is_whole, is_commented, IsOperand
 use Rattle.asm_lines.proofs.Trims.{stops, run_length, run_front, trim_is, trimmed}
 use Rattle.asm_lines.proofs.Cuts.{has_here, before_is, behind_is, cut_there, has_some}
 
-comma : ℕ → Bool
-comma b = b == 44
-
 split_none : (t : List ℕ) → is_byte_of 44 t ≡ false → slice_split (λ b. b == 44) t ≡ t ∷ []
 unfolding is_byte_of
 split_none [] h = refl

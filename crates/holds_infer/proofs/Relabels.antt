@@ -33,14 +33,6 @@ strip l = l
 abbrev pub strip_all : List SourceLine → List SourceLine
 strip_all ls = map strip ls
 
-strip_name : (l : SourceLine) → name_of (strip l) ≡ name_of l
-strip_name (Statement m.Label os) = refl
-strip_name _ = refl
-
-strip_label : (l : SourceLine) → is_label (strip l) ≡ is_label l
-strip_label (Statement m.Label os) = refl
-strip_label _ = refl
-
 strip_closes : (l : SourceLine) → closes_body (strip l) ≡ closes_body l
 strip_closes (Statement m.Label os) = refl
 strip_closes _ = refl

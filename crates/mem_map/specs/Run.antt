@@ -2,7 +2,6 @@
 use Rattle.std.specs.Prelude.{ℕ, ◌+◌, ◌-◌, ◌%◌, ◌≡◌, List, [], ◌∷◌, map, All}
 use Rattle.sloth_region.specs.declared.extent.Extent.{Extent}
 use Rattle.sloth_region.specs.Region.{aligned, AreApartWithin}
-use Rattle.mem_map.specs.Starts.{starts, end_of}
 
 -- ---- each right behind the one before it
 

@@ -4,7 +4,6 @@ use Rattle.sloth_base.specs.Limits.{ceiling_count, body_limit, frame_limit}
 use Rattle.osek_scheduler.specs.State.{Task}
 use Rattle.osek_scheduler.specs.declared.change.TaskChange.{TaskChange}
 use Rattle.osek_scheduler.specs.declared.change.TaskChange.TheVariants as change
-use Rattle.osek_scheduler.specs.Changes.{changed_task, entry, woken_task_state, with_change}
 use Rattle.osek_scheduler.specs.Changes.{outer_frames}
 use Rattle.osek_plans.specs.Frames.{CanMove, HasWord}
 

@@ -1,7 +1,6 @@
 -- Functions in progress, the innermost first.
 use Rattle.std.specs.Prelude.{ℕ, ◌<◌, List, [], ◌∷◌, length}
 use Rattle.osek_scheduler.specs.State.{Frame}
-use Rattle.osek_scheduler.specs.Changes.{frames_at_item, with_word, outer_frames}
 
 -- the number of the innermost function's next item may grow
 abbrev pub CanMove : List Frame → Type 0

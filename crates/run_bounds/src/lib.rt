@@ -2,7 +2,7 @@
 //! stand in `specs/`, and their law (`sound_runs_keep_blocking_bounds`).
 //!
 //! Of well-formed task code: each event but the boot ends at most 200 counts behind the one before it, and one that the taking of a line begins at
-//! most 200 and 40 for each alarm of the counter that has the most; so the bounds are kept in events and in counts (`specs/PacedRun`,
+//! most 200 and 40 for each alarm of the counter that has the most; so the bounds are kept in events and in counts (`proofs/PacedRun`,
 //! `specs/BlockingBounds`).
 //!
 //! And from the moment of an arrival that makes the task of highest priority Ready, if it has a bound, its entry ends within: the longest stretch

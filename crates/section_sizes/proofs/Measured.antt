@@ -109,10 +109,6 @@ returns_is op.Return lt = refl
 returns_is (op.Invoke g) lt = absurd (omega (arith, lt))
 returns_is _ lt = absurd (omega (arith, lt))
 
--- no call, `ret` or Schedule: what is neither keeps its kind under an equation
-call_calm : (g : ℕ) → is_schedule (op.Invoke g) ≡ false
-call_calm g = refl
-
 -- a trail is extended by a node
 going : (ways : List Ways) (steps ends : List ℕ) (i j u v : ℕ) → Goes ways i j → IsLongest ways steps ends i u → IsLongest ways steps ends j v → 0 < v
     → min size_limit (get_or steps i 0 + v) ≤ u
@@ -193,9 +189,6 @@ module _ (config : Config) (app : App) (level : Option ℕ) (f : ℕ) (m : Measu
       m.alive_is i l.item.inside
       ∙ and_join (get_or m.body.reached i false) (reaches_level level (get_or m.body.ceilings i 0)) ((m.is_body.reached i).1 l.reached)
       (ap (reaches_level level) (m.is_body.ceilings i l.item.inside) ∙ l.raised)
-
-  begins_lives : (i : ℕ) → ReachesItem app f i → Begins config app level f i → Lives i
-  begins_lives i r b = record { reached = r; item = b.item; raised = b.raised }
 
   pub there : (i : ℕ) → Lives i → i < length m.ways
   there i l = let lt = l.item.inside in let c = m.ways_count in omega (arith, lt, c)

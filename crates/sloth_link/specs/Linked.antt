@@ -3,7 +3,7 @@ use Rattle.std.specs.Prelude.{ℕ, ◌+◌, ◌-◌, ◌<◌, ◌≤◌, ◌≡�
 use Rattle.sloth_base.specs.MemoryMap.{memory_base}
 use Rattle.rv32_instr.specs.declared.block.Block.{Block}
 use Rattle.masked_code.specs.Place.{AreWritten}
-use Rattle.mem_map.specs.Sections.{Section, code_bytes, block_section, IsInside, with_bytes, linked_memory, marks_of, addresses, HaveOwnAddresses}
+use Rattle.mem_map.specs.Sections.{Section, block_section, IsInside}
 use Rattle.sloth_link.specs.declared.datum.Datum.{Datum}
 
 -- the bytes of a symbol, or of the words of an alarm

@@ -1,12 +1,10 @@
 -- The listing of an image: its numbers, and a line for each word of its memory.
-use Rattle.std.specs.Prelude.{ℕ, zero, suc, ◌+◌, ◌-◌, ◌*◌, ◌/◌, ◌==◌, List, [], ◌∷◌, ◌++◌, length, codes, decimal, slice_index}
-use Rattle.std.specs.Prelude.{find, Option, Some, None, if◌then◌else◌}
+use Rattle.std.specs.Prelude.{ℕ, zero, suc, ◌+◌, ◌-◌, ◌*◌, ◌/◌, ◌==◌, List, [], ◌∷◌, ◌++◌, length, codes, decimal, slice_index, find, Option, Some, None, if◌then◌else◌}
 use Rattle.hex.specs.Hex.{encode_lower}
 use Rattle.sloth_base.specs.declared.image.Image.{Image}
 use Rattle.sloth_base.specs.declared.image.Mark.{Mark}
 use Rattle.sloth_base.specs.MemoryMap.{memory_base}
-use Rattle.line_words.specs.MarkWords.{word_text}
-use Rattle.line_words.specs.MarkWords.{called_text, kind_text, mark_text}
+use Rattle.line_words.specs.MarkWords.{word_text, mark_text}
 
 -- ---- words and marks
 
