@@ -13,7 +13,6 @@ use Rattle.sloth_base.specs.declared.service.Service.{Service}
 use Rattle.sloth_base.specs.declared.service.Service.TheVariants as service
 use Rattle.sloth_base.specs.Arithmetic.{size_of}
 use Rattle.sloth_base.specs.Named.{item_of, label_of, symbol_size}
-use Rattle.sloth_base.specs.ConfigRange.{scheduler_number}
 use Rattle.sloth_base.specs.Limits.{mask_limit}
 use Rattle.code_rules.specs.AppRange.{AppInRange, IsOp}
 use Rattle.code_rules.specs.Code.{is_followed, way, Ends, Pauses, is_in, is_last}
