@@ -68,7 +68,7 @@ module _ (b : Build) (view : View) (func item : ℕ) (w : WellFormed b.config b.
   access : (width : Width) (y offset : ℕ) → offset + size_of width ≤ symbol_size b.app y → ¬ (offset % size_of width ≢ 0) → IsAccess b.app width y offset
   access width y offset l e = record { inside = l; aligned = multiple (offset % size_of width) e }
 
-  masked_access : (width : Width) (y mask : ℕ) → mask + size_of width ≤ symbol_size b.app y → ¬ (mask % size_of width ≢ 0) → ¬ (32767 < mask) → IsMasked b.app width y mask
+  masked_access : (width : Width) (y mask : ℕ) → mask + size_of width ≤ symbol_size b.app y → ¬ (mask % size_of width ≢ 0) → ¬ (mask_limit < mask) → IsMasked b.app width y mask
   masked_access width y mask l e f = record { inside = l; aligned = multiple (mask % size_of width) e; few = few mask f }
 
   by_kind : (o : Op) → operation b.app func item ≡ o → IsKnown b view func item

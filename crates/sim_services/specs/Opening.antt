@@ -14,7 +14,6 @@ use Rattle.sloth_base.specs.ServiceCodes.{service_of}
 use Rattle.osek_scheduler.specs.State.{Frame, Task, System, task}
 use Rattle.sloth_base.specs.Named.{function}
 use Rattle.sloth_base.specs.MemoryMap.{memory_base}
-use Rattle.sloth_base.specs.Limits.{task_limit}
 use Rattle.code_rules.specs.Code.{is_in}
 use Rattle.sim_relation.specs.Bounds.{AreBelow}
 use Rattle.sim_relation.specs.Build.{Build}

@@ -11,7 +11,6 @@ use Rattle.image_gen.proofs.ImageOf.{IsImageOf}
 use Rattle.image_gen.proofs.Formed.{in_format}
 use Rattle.image_gen.proofs.Linking.{linked_image, sound, shows}
 use Rattle.sloth_base.specs.Limits.{task_limit}
-use Rattle.sloth_base.specs.Limits.{task_limit}
 use Rattle.image_gen.proofs.Planning.{may_generate}
 use Rattle.image_gen.proofs.image.image.Goals.{In_ok-image}
 use Rattle.image_gen.proofs.image.image.Goals as goal
