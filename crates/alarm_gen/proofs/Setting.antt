@@ -23,7 +23,7 @@ use Rattle.block_parts.proofs.Returning.{goes_back}
 use Rattle.block_parts.proofs.Serving.{opens}
 use Rattle.alarm_gen.specs.ServicePieces.{unused_alarm_test, cycle_test, alarm_value_test, ticks_test, setting_code, state_refusal_code, refusing_code}
 use Rattle.alarm_gen.specs.CancelAlarm.{MayUse, left_ticks}
-use Rattle.alarm_gen.specs.SetAlarm.{CycleFits, TicksFit, AlarmValueFits, first_operand, ticks_until, with_alarm, AlarmSet, MaySetAbsolute, SetsRelative, SetsAbsolute}
+use Rattle.alarm_gen.specs.SetAlarm.{CycleFits, TicksFit, AlarmValueFits, first_operand, ticks_until, with_alarm, SetAlarmEffect, MaySetAbsolute, IsSetRelAlarmCode, IsSetAbsAlarmCode}
 use Rattle.block_parts.specs.Alarms.{finding_code}
 use Rattle.block_parts.specs.Ticks.{passing_distance}
 use Rattle.alarm_gen.proofs.Passing.{passes}
@@ -106,7 +106,7 @@ module _ (from to : ℕ) (E : List ℕ → State → State → Type 0) (start : 
 
 module _ (offset to alarm : ℕ) (code : List InstrKind) (c : Core) (may : MayUse offset alarm code c) (Fits : Core → Type 0) (ticks : Core → ℕ) where
   abbrev E : List ℕ → State → State → Type 0
-  E = AlarmSet alarm Fits ticks
+  E = SetAlarmEffect alarm Fits ticks
 
   abbrev x2 : ℕ
   x2 = get_or c.registers 2 0
@@ -158,7 +158,7 @@ module _ (offset alarm max least : ℕ) (max_fits : max < 2 ^ 32) (least_fits : 
   Fits1 = TicksFit max least
 
   abbrev E1 : List ℕ → State → State → Type 0
-  E1 = AlarmSet alarm Fits1 first_operand
+  E1 = SetAlarmEffect alarm Fits1 first_operand
 
   abbrev to1 : ℕ
   to1 = offset + 4 + 88
@@ -240,7 +240,7 @@ module _ (offset alarm counter max least : ℕ) (max_fits : max < 2 ^ 31) (least
   ticks2 = ticks_until counter max
 
   abbrev E2 : List ℕ → State → State → Type 0
-  E2 = AlarmSet alarm Fits2 ticks2
+  E2 = SetAlarmEffect alarm Fits2 ticks2
 
   abbrev to2 : ℕ
   to2 = offset + 4 + 108
@@ -332,12 +332,12 @@ module _ (offset alarm counter max least : ℕ) (max_fits : max < 2 ^ 31) (least
   runs_abs = opens offset 27 (abs_body alarm counter max least) c E2 h.may_use.goes_back.can_run h.may_use.goes_back.bases (omega arith) abs_owes
 
 -- the alarm is set by ticks from now, or is not, with the status that says why
-pub sets_relative : (alarm max least : ℕ) → max < 2 ^ 32 → least < 2 ^ 32 → SetsRelative alarm max least (masking ∷ rel_body alarm max least)
+pub sets_relative : (alarm max least : ℕ) → max < 2 ^ 32 → least < 2 ^ 32 → IsSetRelAlarmCode alarm max least (masking ∷ rel_body alarm max least)
 sets_relative alarm max least a b =
     record { size = refl; masks = (rel_body alarm max least, refl); runs = λ offset core h. runs_rel offset alarm max least a b core h }
 
 -- the same by a value of its counter
 pub sets_absolute : (alarm counter max least : ℕ) → max < 2 ^ 31 → least < 2 ^ 32
-    → SetsAbsolute alarm counter max least (masking ∷ abs_body alarm counter max least)
+    → IsSetAbsAlarmCode alarm counter max least (masking ∷ abs_body alarm counter max least)
 sets_absolute alarm counter max least a b =
     record { size = refl; masks = (abs_body alarm counter max least, refl); runs = λ offset core h. runs_abs offset alarm counter max least a b core h }

@@ -25,7 +25,7 @@ use Rattle.block_parts.proofs.Landing.{lands}
 use Rattle.alarm_gen.specs.declared.alarms.NumberedAlarm.{NumberedAlarm}
 use Rattle.alarm_gen.specs.Alarms.{AreNumbered, is_target, targets}
 use Rattle.alarm_gen.specs.Pieces.{look_clearing_code, looks_code, basing_code, alarms_code, returning_code, tick_code}
-use Rattle.alarm_gen.specs.Tick.{Ground, vector, next_value, counted_ground, alarms_ground, AreTaskBits, MayTick, Ticked, Ticks}
+use Rattle.alarm_gen.specs.Tick.{Ground, vector, next_value, counted_ground, alarms_ground, AreTaskBits, MayTick, TickEffect, IsTickCode}
 use Rattle.alarm_gen.proofs.Looking.{looks_owe}
 use Rattle.alarm_gen.proofs.Acting.{alarms_owe}
 use Rattle.alarm_gen.proofs.Lengths.{tick_few}
@@ -73,7 +73,7 @@ module _ (counter max : ℕ) (alarms : List NumberedAlarm) (small : counter < co
   behind_count = look_clearing_code ++ (looks_code alarms ++ (basing_code ++ (alarms_code alarms ++ returning_code)))
 
   ends : (x1 : ℕ) (q : List ℕ)
-      → Ticked counter max alarms (targets alarms ++ []) (st q) (record {
+      → TickEffect counter max alarms (targets alarms ++ []) (st q) (record {
         pc = c.mepc;
         core = record (mach (alarms_ground alarms (grown q)) x1 controller_base) { ilevel = c.plevel; mie = c.mpie; mpie = true };
       })
@@ -100,28 +100,28 @@ module _ (counter max : ℕ) (alarms : List NumberedAlarm) (small : counter < co
   }
 
   rest_owe : (o x1 x3 : ℕ) → o + 4 * length behind_count ≤ memory_bytes
-      → Owes offset to o behind_count 0 (Ticked counter max alarms) first (mach (grown c.pending) x1 x3)
+      → Owes offset to o behind_count 0 (TickEffect counter max alarms) first (mach (grown c.pending) x1 x3)
   rest_owe o x1 x3 fits =
       writes 0 refl
-      ▸ looks_owe offset to (basing_code ++ (alarms_code alarms ++ returning_code)) (based c) (grown c.pending) x2 tail first alarms (Ticked counter max alarms)
+      ▸ looks_owe offset to (basing_code ++ (alarms_code alarms ++ returning_code)) (based c) (grown c.pending) x2 tail first alarms (TickEffect counter max alarms)
       (o + 4) x1 memory_base 0 c.pending (omega arith)
       (told_counted c.ram c.enabled c.pending counter (next_value max value) (targets alarms) h.told)
       h.can_run.lines (λ u k. bit_at-zero u)
       (λ o2 y1 y4 now q f k.
       writes memory_base refl
-      ▸ alarms_owe offset to h.can_run.behind (λ u. Ticked counter max alarms (targets alarms ++ u)) (st q) x2 tail (based c) (λ u. is_target u alarms)
+      ▸ alarms_owe offset to h.can_run.behind (λ u. TickEffect counter max alarms (targets alarms ++ u)) (st q) x2 tail (based c) (λ u. is_target u alarms)
       alarms numbered (λ u l. l) returning_code (grown q) (o2 + 4) y1 now (omega arith) k.knows k.long
       (λ o3 z1 after g k2 l2.
       writes controller_base refl
       ▸ ends z1 q))
 
-  owes : Owes offset to offset (tick_code counter max alarms) 0 (Ticked counter max alarms) first (based c)
+  owes : Owes offset to offset (tick_code counter max alarms) 0 (TickEffect counter max alarms) first (based c)
   owes =
       let low = h.can_run.behind in
       let fits = h.can_run.inside in
       let v = value in
       let o7 = behind 7 offset in
-      let P : ℕ → Type 0 = λ w. Owes offset to o7 behind_count 0 (Ticked counter max alarms) first
+      let P : ℕ → Type 0 = λ w. Owes offset to o7 behind_count 0 (TickEffect counter max alarms) first
       (record (based c) { registers = 0 ∷ w ∷ x2 ∷ max ∷ memory_base ∷ tail; ram = with_word c.ram (counter_value counter) w }) in
       let next : P (next_value max v) = rest_owe o7 (next_value max v) max (omega arith) in
       loads (counter_value counter) (record { is = omega arith; aligned = omega arith; inside = omega arith }) v refl
@@ -147,20 +147,20 @@ module _ (counter max : ℕ) (alarms : List NumberedAlarm) (small : counter < co
             (cases_eq v max);
       }
 
-  runs_it : Masked (12 + 34 * length alarms) (offset_state (vector (counter_line counter)) c) (WithArrivals (Ticked counter max alarms) (offset_state (vector (counter_line counter)) c))
+  runs_it : Masked (12 + 34 * length alarms) (offset_state (vector (counter_line counter)) c) (WithArrivals (TickEffect counter max alarms) (offset_state (vector (counter_line counter)) c))
   runs_it =
       let can = h.can_run in
       let few = tick_few counter max alarms in
       let n = 11 + 34 * length alarms in
       let e : suc n ≡ 12 + 34 * length alarms = omega arith in
       let v = vector (counter_line counter) in
-      subst (λ k. Masked k (offset_state v c) (WithArrivals (Ticked counter max alarms) (offset_state v c))) e
-      (jumps_in v offset n h.jump (tick_code counter max alarms) c (Ticked counter max alarms) (offset_state v c) (omega arith) h.vector_word h.to_code
+      subst (λ k. Masked k (offset_state v c) (WithArrivals (TickEffect counter max alarms) (offset_state v c))) e
+      (jumps_in v offset n h.jump (tick_code counter max alarms) c (TickEffect counter max alarms) (offset_state v c) (omega arith) h.vector_word h.to_code
       (record { masked = h.masked; there = can.controller; lines = can.lines; aligned = can.aligned; fits = can.inside; placed = can.placed })
       few
-      (subst (λ x. Owes offset to offset (tick_code counter max alarms) 0 (Ticked counter max alarms) (offset_state v x) x) (based_is c can.registers can.zero h.bases) owes))
+      (subst (λ x. Owes offset to offset (tick_code counter max alarms) 0 (TickEffect counter max alarms) (offset_state v x) x) (based_is c can.registers can.zero h.bases) owes))
 
 -- from the vector word back to what it interrupts, for each counter with its alarms
 pub ticks : (counter max : ℕ) (alarms : List NumberedAlarm) → counter < counter_limit → max < 2 ^ 32 → AreNumbered alarms
-    → Ticks counter max alarms (tick_code counter max alarms)
+    → IsTickCode counter max alarms (tick_code counter max alarms)
 ticks counter max alarms small fits numbered = λ offset core h. runs_it counter max alarms small fits numbered offset core h

@@ -19,8 +19,8 @@ use Rattle.block_parts.proofs.Returning.{goes_back, goes_back_with}
 use Rattle.block_parts.proofs.Serving.{opens}
 use Rattle.block_parts.specs.Pieces.{back_code}
 use Rattle.alarm_gen.specs.ServicePieces.{used_alarm_test, cancelling_code, telling_code}
-use Rattle.alarm_gen.specs.CancelAlarm.{MayUse, left_ticks, AlarmCancelled, CancelsAlarm}
-use Rattle.alarm_gen.specs.GetAlarm.{AlarmTold, TellsAlarm}
+use Rattle.alarm_gen.specs.CancelAlarm.{MayUse, left_ticks, CancelAlarmEffect, IsCancelAlarmCode}
+use Rattle.alarm_gen.specs.GetAlarm.{GetAlarmEffect, IsGetAlarmCode}
 
 -- ---- CancelAlarm
 
@@ -32,7 +32,7 @@ module _ (offset alarm : ℕ) (c : Core) (h : MayUse offset alarm (masking ∷ c
   abbrev v : ℕ
   v = left_ticks alarm c
 
-  cancels_owe : Owes offset (offset + 4 + 28) (offset + 4) (cancel_body alarm) 0 (AlarmCancelled alarm) (offset_state offset (based c)) (masked (based c))
+  cancels_owe : Owes offset (offset + 4 + 28) (offset + 4) (cancel_body alarm) 0 (CancelAlarmEffect alarm) (offset_state offset (based c)) (masked (based c))
   cancels_owe =
       let few = h.is_alarm in
       let low = h.goes_back.can_run.behind in
@@ -43,7 +43,7 @@ module _ (offset alarm : ℕ) (c : Core) (h : MayUse offset alarm (masking ∷ c
         passed = 2;
         lands = lands (behind 3 offset) 12 2 (omega arith) (omega arith) refl;
         when_taken = λ t. ⊎_elim
-            (λ (z : v ≡ 0). goes_back offset (masking ∷ cancel_body alarm) c h.goes_back (AlarmCancelled alarm) v E_OS_NOFUNC c.pending c.pending c.ram
+            (λ (z : v ≡ 0). goes_back offset (masking ∷ cancel_body alarm) c h.goes_back (CancelAlarmEffect alarm) v E_OS_NOFUNC c.pending c.pending c.ram
             (λ last is went. record { touches = refl; done = inl (record { unused = z; status = is; back = went }) }))
             (λ (n : v ≢ 0). let f = ne_eqb v 0 n in absurd (cc))
             (cases_eq v 0);
@@ -52,17 +52,17 @@ module _ (offset alarm : ℕ) (c : Core) (h : MayUse offset alarm (masking ∷ c
             (λ (n : v ≢ 0).
             stores (alarm_left alarm) (record { is = omega arith; aligned = omega arith; inside = omega arith }) (inl (omega arith))
             ▸ writes E_OK refl
-            ▸ goes_back offset (masking ∷ cancel_body alarm) c h.goes_back (AlarmCancelled alarm) v E_OK c.pending c.pending
+            ▸ goes_back offset (masking ∷ cancel_body alarm) c h.goes_back (CancelAlarmEffect alarm) v E_OK c.pending c.pending
             (with_word c.ram (alarm_left alarm) 0)
             (λ last is went. record { touches = refl; done = inr (record { used = n; status = is; back = went }) }))
             (cases_eq v 0);
       }
 
-  runs_cancel : FromOpening 7 (offset_state offset c) (AlarmCancelled alarm)
-  runs_cancel = opens offset 7 (cancel_body alarm) c (AlarmCancelled alarm) h.goes_back.can_run h.goes_back.bases (omega arith) cancels_owe
+  runs_cancel : FromOpening 7 (offset_state offset c) (CancelAlarmEffect alarm)
+  runs_cancel = opens offset 7 (cancel_body alarm) c (CancelAlarmEffect alarm) h.goes_back.can_run h.goes_back.bases (omega arith) cancels_owe
 
 -- for each alarm
-pub cancels : (alarm : ℕ) → CancelsAlarm alarm (masking ∷ cancel_body alarm)
+pub cancels : (alarm : ℕ) → IsCancelAlarmCode alarm (masking ∷ cancel_body alarm)
 cancels alarm = record { size = refl; masks = (cancel_body alarm, refl); runs = λ offset core h. runs_cancel offset alarm core h }
 
 -- ---- GetAlarm
@@ -75,7 +75,7 @@ module _ (offset alarm : ℕ) (c : Core) (h : MayUse offset alarm (masking ∷ t
   abbrev w : ℕ
   w = left_ticks alarm c
 
-  tells_owe : Owes offset (offset + 4 + 28) (offset + 4) (tell_body alarm) 0 (AlarmTold alarm) (offset_state offset (based c)) (masked (based c))
+  tells_owe : Owes offset (offset + 4 + 28) (offset + 4) (tell_body alarm) 0 (GetAlarmEffect alarm) (offset_state offset (based c)) (masked (based c))
   tells_owe =
       let few = h.is_alarm in
       let fits = h.goes_back.can_run.inside in
@@ -85,7 +85,7 @@ module _ (offset alarm : ℕ) (c : Core) (h : MayUse offset alarm (masking ∷ t
         passed = 2;
         lands = lands (behind 3 offset) 12 2 (omega arith) (omega arith) refl;
         when_taken = λ t. ⊎_elim
-            (λ (z : w ≡ 0). goes_back offset (masking ∷ tell_body alarm) c h.goes_back (AlarmTold alarm) w E_OS_NOFUNC c.pending c.pending c.ram
+            (λ (z : w ≡ 0). goes_back offset (masking ∷ tell_body alarm) c h.goes_back (GetAlarmEffect alarm) w E_OS_NOFUNC c.pending c.pending c.ram
             (λ last is went. record { touches = refl; done = inl (record { unused = z; status = is; back = went }) }))
             (λ (n : w ≢ 0). let f = ne_eqb w 0 n in absurd (cc))
             (cases_eq w 0);
@@ -94,14 +94,14 @@ module _ (offset alarm : ℕ) (c : Core) (h : MayUse offset alarm (masking ∷ t
             (λ (n : w ≢ 0).
             loads (alarm_left alarm) (record { is = omega arith; aligned = omega arith; inside = omega arith }) w refl
             ▸ writes E_OK refl
-            ▸ goes_back_with offset (masking ∷ tell_body alarm) c h.goes_back (AlarmTold alarm) w E_OK w c.pending c.pending c.ram
+            ▸ goes_back_with offset (masking ∷ tell_body alarm) c h.goes_back (GetAlarmEffect alarm) w E_OK w c.pending c.pending c.ram
             (λ last is answer went. record { touches = refl; done = inr (record { used = n; status = is; answer = answer; back = went }) }))
             (cases_eq w 0);
       }
 
-  runs_tell : FromOpening 7 (offset_state offset c) (AlarmTold alarm)
-  runs_tell = opens offset 7 (tell_body alarm) c (AlarmTold alarm) h.goes_back.can_run h.goes_back.bases (omega arith) tells_owe
+  runs_tell : FromOpening 7 (offset_state offset c) (GetAlarmEffect alarm)
+  runs_tell = opens offset 7 (tell_body alarm) c (GetAlarmEffect alarm) h.goes_back.can_run h.goes_back.bases (omega arith) tells_owe
 
 -- for each alarm
-pub tells : (alarm : ℕ) → TellsAlarm alarm (masking ∷ tell_body alarm)
+pub tells : (alarm : ℕ) → IsGetAlarmCode alarm (masking ∷ tell_body alarm)
 tells alarm = record { size = refl; masks = (tell_body alarm, refl); runs = λ offset core h. runs_tell offset alarm core h }

@@ -9,9 +9,9 @@ use Rattle.sloth_base.specs.declared.service.Service.TheVariants.{SetRelAlarm, S
 use Rattle.sloth_base.specs.Named.{alarm_declaration, counter_of}
 use Rattle.sloth_base.specs.ServiceCodes.{object_kind}
 use Rattle.rv32_instr.specs.declared.InstrKind.{InstrKind}
-use Rattle.alarm_gen.specs.SetAlarm.{SetsRelative, SetsAbsolute}
-use Rattle.alarm_gen.specs.CancelAlarm.{CancelsAlarm}
-use Rattle.alarm_gen.specs.GetAlarm.{TellsAlarm}
+use Rattle.alarm_gen.specs.SetAlarm.{IsSetRelAlarmCode, IsSetAbsAlarmCode}
+use Rattle.alarm_gen.specs.CancelAlarm.{IsCancelAlarmCode}
+use Rattle.alarm_gen.specs.GetAlarm.{IsGetAlarmCode}
 
 -- an object of this kind is an alarm of the configuration
 abbrev pub IsAlarmOf : Config → ObjectKind → ℕ → Type 0
@@ -27,10 +27,10 @@ abbrev pub no_marks : ℕ → List Mark
 no_marks at = []
 
 -- the code of a service with its alarm has the service's effect
-abbrev pub ServesAlarm : Config → Service → ℕ → List InstrKind → Type 0
-ServesAlarm config SetRelAlarm a code = SetsRelative a (counter_of config a).max (counter_of config a).min_cycle code
-ServesAlarm config SetAbsAlarm a code =
-    SetsAbsolute a (alarm_declaration config a).counter (counter_of config a).max (counter_of config a).min_cycle code
-ServesAlarm config CancelAlarm a code = CancelsAlarm a code
-ServesAlarm config GetAlarm a code = TellsAlarm a code
-ServesAlarm config service a code = ⊥
+abbrev pub IsAlarmServiceBlock : Config → Service → ℕ → List InstrKind → Type 0
+IsAlarmServiceBlock config SetRelAlarm a code = IsSetRelAlarmCode a (counter_of config a).max (counter_of config a).min_cycle code
+IsAlarmServiceBlock config SetAbsAlarm a code =
+    IsSetAbsAlarmCode a (alarm_declaration config a).counter (counter_of config a).max (counter_of config a).min_cycle code
+IsAlarmServiceBlock config CancelAlarm a code = IsCancelAlarmCode a code
+IsAlarmServiceBlock config GetAlarm a code = IsGetAlarmCode a code
+IsAlarmServiceBlock config service a code = ⊥

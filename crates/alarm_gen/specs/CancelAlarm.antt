@@ -10,7 +10,7 @@ use Rattle.rv32_instr.specs.Ram.{word_at, with_word}
 use Rattle.masked_code.specs.Masked.{FromOpening}
 use Rattle.masked_code.specs.Place.{offset_state}
 use Rattle.block_parts.specs.ServiceCode.{IsServiceCode}
-use Rattle.block_parts.specs.Back.{CanGoBack, WentBack, a0}
+use Rattle.block_parts.specs.Back.{CanGoBack, BackEffect, a0}
 
 -- the code can run
 pub record MayUse (offset alarm : ℕ) (code : List InstrKind) (core : Core) : Type 0 where
@@ -25,20 +25,20 @@ left_ticks alarm core = word_at core.ram (alarm_left alarm)
 pub record HasNoAlarm (alarm : ℕ) (start end : State) : Type 0 where
   pub unused : left_ticks alarm start.core ≡ 0
   pub status : slice_index end.core.registers a0 ≡ E_OS_NOFUNC
-  pub back : WentBack a0 start.core start end
+  pub back : BackEffect a0 start.core start end
 
 -- It is in use, and is no longer; the status is E_OK.
 pub record HasCancelled (alarm : ℕ) (start end : State) : Type 0 where
   pub used : left_ticks alarm start.core ≢ 0
   pub status : slice_index end.core.registers a0 ≡ E_OK
-  pub back : WentBack a0 (record start.core { ram = with_word start.core.ram (alarm_left alarm) 0 }) start end
+  pub back : BackEffect a0 (record start.core { ram = with_word start.core.ram (alarm_left alarm) 0 }) start end
 
 -- what CancelAlarm does
-pub record AlarmCancelled (alarm : ℕ) (touched : List ℕ) (start end : State) : Type 0 where
+pub record CancelAlarmEffect (alarm : ℕ) (touched : List ℕ) (start end : State) : Type 0 where
   pub touches : touched ≡ []
   pub done : HasNoAlarm alarm start end ⊎ HasCancelled alarm start end
 
 -- Code of CancelAlarm: behind its first instruction at most 7 more lead to its effect, whatever lines arrive.
-abbrev pub CancelsAlarm : ℕ → List InstrKind → Type 0
-CancelsAlarm alarm code =
-    IsServiceCode service.CancelAlarm code ((offset : ℕ) (core : Core) → MayUse offset alarm code core → FromOpening 7 (offset_state offset core) (AlarmCancelled alarm))
+abbrev pub IsCancelAlarmCode : ℕ → List InstrKind → Type 0
+IsCancelAlarmCode alarm code =
+    IsServiceCode service.CancelAlarm code ((offset : ℕ) (core : Core) → MayUse offset alarm code core → FromOpening 7 (offset_state offset core) (CancelAlarmEffect alarm))

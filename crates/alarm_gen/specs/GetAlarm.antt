@@ -7,7 +7,7 @@ use Rattle.rv32_instr.specs.declared.InstrKind.{InstrKind}
 use Rattle.masked_code.specs.Masked.{FromOpening}
 use Rattle.masked_code.specs.Place.{offset_state}
 use Rattle.block_parts.specs.ServiceCode.{IsServiceCode}
-use Rattle.block_parts.specs.Back.{WentBack, a0, a1}
+use Rattle.block_parts.specs.Back.{BackEffect, a0, a1}
 use Rattle.alarm_gen.specs.CancelAlarm.{MayUse, left_ticks, HasNoAlarm}
 
 -- The alarm is in use: a1 is the ticks that it has left, the status E_OK.
@@ -15,14 +15,14 @@ pub record HasToldLeft (alarm : ℕ) (start end : State) : Type 0 where
   pub used : left_ticks alarm start.core ≢ 0
   pub status : slice_index end.core.registers a0 ≡ E_OK
   pub answer : slice_index end.core.registers a1 ≡ left_ticks alarm start.core
-  pub back : WentBack a1 start.core start end
+  pub back : BackEffect a1 start.core start end
 
 -- what GetAlarm does
-pub record AlarmTold (alarm : ℕ) (touched : List ℕ) (start end : State) : Type 0 where
+pub record GetAlarmEffect (alarm : ℕ) (touched : List ℕ) (start end : State) : Type 0 where
   pub touches : touched ≡ []
   pub done : HasNoAlarm alarm start end ⊎ HasToldLeft alarm start end
 
 -- Code of GetAlarm: behind its first instruction at most 7 more lead to its effect, whatever lines arrive.
-abbrev pub TellsAlarm : ℕ → List InstrKind → Type 0
-TellsAlarm alarm code =
-    IsServiceCode service.GetAlarm code ((offset : ℕ) (core : Core) → MayUse offset alarm code core → FromOpening 7 (offset_state offset core) (AlarmTold alarm))
+abbrev pub IsGetAlarmCode : ℕ → List InstrKind → Type 0
+IsGetAlarmCode alarm code =
+    IsServiceCode service.GetAlarm code ((offset : ℕ) (core : Core) → MayUse offset alarm code core → FromOpening 7 (offset_state offset core) (GetAlarmEffect alarm))

@@ -11,7 +11,7 @@ use Rattle.rv32_instr.specs.Ram.{word_at, with_word}
 use Rattle.masked_code.specs.Masked.{FromOpening}
 use Rattle.masked_code.specs.Place.{offset_state}
 use Rattle.block_parts.specs.ServiceCode.{IsServiceCode}
-use Rattle.block_parts.specs.Back.{WentBack, a0, a1}
+use Rattle.block_parts.specs.Back.{BackEffect, a0, a1}
 use Rattle.alarm_gen.specs.CancelAlarm.{MayUse, left_ticks}
 
 -- the operand in a0: the ticks from now on, or the value that is to come
@@ -44,14 +44,14 @@ ticks_until counter max core = ticks_to max (word_at core.ram (counter_value cou
 pub record HasAlarm (alarm : ℕ) (start end : State) : Type 0 where
   pub used : left_ticks alarm start.core ≢ 0
   pub status : slice_index end.core.registers a0 ≡ E_OS_STATE
-  pub back : WentBack a0 start.core start end
+  pub back : BackEffect a0 start.core start end
 
 -- It is not, and the operands are out of range: the status is E_OS_VALUE, and nothing happens.
 pub record HasNoFit (alarm : ℕ) (Fits : Core → Type 0) (start end : State) : Type 0 where
   pub unused : left_ticks alarm start.core ≡ 0
   pub none : Fits start.core → ⊥
   pub status : slice_index end.core.registers a0 ≡ E_OS_VALUE
-  pub back : WentBack a0 start.core start end
+  pub back : BackEffect a0 start.core start end
 
 -- the bytes in which an alarm has these ticks left and this cycle
 abbrev pub with_alarm : List ℕ → (alarm left cycle : ℕ) → List ℕ
@@ -62,18 +62,18 @@ pub record HasAlarmSet (alarm : ℕ) (Fits : Core → Type 0) (ticks : Core → 
   pub unused : left_ticks alarm start.core ≡ 0
   pub fits : Fits start.core
   pub status : slice_index end.core.registers a0 ≡ E_OK
-  pub back : WentBack a0 (record start.core { ram = with_alarm start.core.ram alarm (ticks start.core) (second_operand start.core) }) start end
+  pub back : BackEffect a0 (record start.core { ram = with_alarm start.core.ram alarm (ticks start.core) (second_operand start.core) }) start end
 
 -- what a service does that sets an alarm
-pub record AlarmSet (alarm : ℕ) (Fits : Core → Type 0) (ticks : Core → ℕ) (touched : List ℕ) (start end : State) : Type 0 where
+pub record SetAlarmEffect (alarm : ℕ) (Fits : Core → Type 0) (ticks : Core → ℕ) (touched : List ℕ) (start end : State) : Type 0 where
   pub touches : touched ≡ []
   pub done : HasAlarm alarm start end ⊎ (HasNoFit alarm Fits start end ⊎ HasAlarmSet alarm Fits ticks start end)
 
 -- Code of SetRelAlarm: behind its first instruction at most 22 more lead to its effect, whatever lines arrive.
-abbrev pub SetsRelative : (alarm max least : ℕ) → List InstrKind → Type 0
-SetsRelative alarm max least code =
+abbrev pub IsSetRelAlarmCode : (alarm max least : ℕ) → List InstrKind → Type 0
+IsSetRelAlarmCode alarm max least code =
     IsServiceCode service.SetRelAlarm code ((offset : ℕ) (core : Core) → MayUse offset alarm code core
-    → FromOpening 22 (offset_state offset core) (AlarmSet alarm (TicksFit max least) first_operand))
+    → FromOpening 22 (offset_state offset core) (SetAlarmEffect alarm (TicksFit max least) first_operand))
 
 -- the code can run; the counter's value is at most the greatest, and the value that is to come is a word
 pub record MaySetAbsolute (offset alarm counter max : ℕ) (code : List InstrKind) (core : Core) : Type 0 where
@@ -83,7 +83,7 @@ pub record MaySetAbsolute (offset alarm counter max : ℕ) (code : List InstrKin
   pub value : word_at core.ram (counter_value counter) ≤ max
 
 -- Code of SetAbsAlarm: behind its first instruction at most 27 more lead to its effect, whatever lines arrive.
-abbrev pub SetsAbsolute : (alarm counter max least : ℕ) → List InstrKind → Type 0
-SetsAbsolute alarm counter max least code =
+abbrev pub IsSetAbsAlarmCode : (alarm counter max least : ℕ) → List InstrKind → Type 0
+IsSetAbsAlarmCode alarm counter max least code =
     IsServiceCode service.SetAbsAlarm code ((offset : ℕ) (core : Core) → MaySetAbsolute offset alarm counter max code core
-    → FromOpening 27 (offset_state offset core) (AlarmSet alarm (AlarmValueFits max least) (ticks_until counter max)))
+    → FromOpening 27 (offset_state offset core) (SetAlarmEffect alarm (AlarmValueFits max least) (ticks_until counter max)))

@@ -14,7 +14,7 @@ use Rattle.rv32_instr.specs.declared.InstrKind.TheVariants.{Jal}
 use Rattle.rv32_instr.specs.Ram.{word_at, with_word}
 use Rattle.masked_code.specs.Masked.{Masked, WithArrivals}
 use Rattle.masked_code.specs.Place.{offset_state, InPlace}
-use Rattle.masked_code.specs.Kernel.{CanRun, HoldBases, LeftAs}
+use Rattle.masked_code.specs.Kernel.{CanRun, HasBases, IsOpenedCore}
 use Rattle.alarm_gen.specs.declared.alarms.NumberedAlarm.{NumberedAlarm}
 use Rattle.alarm_gen.specs.Alarms.{targets}
 
@@ -119,7 +119,7 @@ pub record MayTick (offset counter : ℕ) (alarms : List NumberedAlarm) (code : 
   pub can_run : CanRun offset code core
   pub masked : core.mie ≡ false
   pub previous : core.mpie ≡ true
-  pub bases : HoldBases core.registers
+  pub bases : HasBases core.registers
   pub jump : ℤ
   pub vector_word : InPlace core.ram (vector (counter_line counter)) (Jal 0 jump ∷ [])
   pub to_code : plus (memory_base + vector (counter_line counter)) jump ≡ memory_base + offset
@@ -127,16 +127,16 @@ pub record MayTick (offset counter : ℕ) (alarms : List NumberedAlarm) (code : 
 
 -- The counter's value has grown and its alarms have acted, in order. What was interrupted goes on at its level, and of its registers x1
 -- alone holds anything. The line of each task whose events some alarm sets has been touched once.
-pub record Ticked (counter max : ℕ) (alarms : List NumberedAlarm) (touched : List ℕ) (start end : State) : Type 0 where
+pub record TickEffect (counter max : ℕ) (alarms : List NumberedAlarm) (touched : List ℕ) (start end : State) : Type 0 where
   pub touches : touched ≡ targets alarms
-  pub left : LeftAs (record (core_with_ground start.core (ticked_ground counter max alarms (ground start.core))) { ilevel = start.core.plevel }) end.core
+  pub left : IsOpenedCore (record (core_with_ground start.core (ticked_ground counter max alarms (ground start.core))) { ilevel = start.core.plevel }) end.core
   pub pc : end.pc ≡ start.core.mepc
   pub x2 : slice_index end.core.registers 2 ≡ slice_index start.core.registers 2
   pub kept : (i : ℕ) → 5 ≤ i → slice_index end.core.registers i ≡ slice_index start.core.registers i
 
 -- Code of a tick: with the jump of the vector word, at most 12 instructions and 34 for each alarm lead to its effect, whatever lines arrive.
-abbrev pub Ticks : (counter max : ℕ) → List NumberedAlarm → List InstrKind → Type 0
-Ticks counter max alarms code =
+abbrev pub IsTickCode : (counter max : ℕ) → List NumberedAlarm → List InstrKind → Type 0
+IsTickCode counter max alarms code =
     (offset : ℕ) (core : Core) → MayTick offset counter alarms code core
     → Masked (12 + 34 * length alarms) (offset_state (vector (counter_line counter)) core)
-    (WithArrivals (Ticked counter max alarms) (offset_state (vector (counter_line counter)) core))
+    (WithArrivals (TickEffect counter max alarms) (offset_state (vector (counter_line counter)) core))

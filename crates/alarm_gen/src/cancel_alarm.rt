@@ -2,7 +2,7 @@
 ghost use Rattle.std.specs.Prelude.{◌≡◌, ◌<◌, ◌++◌, IfOk, OnOk};
 ghost use Rattle.sloth_base.specs.Limits.{alarm_limit};
 ghost use Rattle.alarm_gen.specs.ServicePieces.{cancelling_code};
-ghost use Rattle.alarm_gen.specs.CancelAlarm.{CancelsAlarm};
+ghost use Rattle.alarm_gen.specs.CancelAlarm.{IsCancelAlarmCode};
 
 use crate::pieces::ask_used;
 use block_parts::pieces::{go_back, open};
@@ -16,7 +16,7 @@ use std::alloc::{AllocError, Global};
 /// The look at the alarm, its end, and the way back.
 pub fn code(alloc: Global, alarm: u8) -> Result<Vec<Instr>, AllocError>
     requires { alarm < alarm_limit }
-    ensures { IfOk result (λ code. CancelsAlarm alarm code.items) }
+    ensures { IfOk result (λ code. IsCancelAlarmCode alarm code.items) }
 {
     let mut code = Vec::new(alloc);
     open(&mut code)?;

@@ -2,7 +2,7 @@
 ghost use Rattle.std.specs.Prelude.{◌≡◌, ◌<◌, ◌++◌, IfOk, OnOk};
 ghost use Rattle.sloth_base.specs.Limits.{alarm_limit};
 ghost use Rattle.alarm_gen.specs.ServicePieces.{telling_code};
-ghost use Rattle.alarm_gen.specs.GetAlarm.{TellsAlarm};
+ghost use Rattle.alarm_gen.specs.GetAlarm.{IsGetAlarmCode};
 
 use crate::pieces::ask_used;
 use block_parts::pieces::{go_back, open};
@@ -16,7 +16,7 @@ use std::alloc::{AllocError, Global};
 /// The look at the alarm, its ticks, and the way back.
 pub fn code(alloc: Global, alarm: u8) -> Result<Vec<Instr>, AllocError>
     requires { alarm < alarm_limit }
-    ensures { IfOk result (λ code. TellsAlarm alarm code.items) }
+    ensures { IfOk result (λ code. IsGetAlarmCode alarm code.items) }
 {
     let mut code = Vec::new(alloc);
     open(&mut code)?;

@@ -12,17 +12,17 @@ ghost use Rattle.sloth_base.specs.Named.{counter_declaration};
 ghost use Rattle.sloth_base.specs.Owners.{counter_line};
 ghost use Rattle.block_parts.specs.ServiceBlock.{IsServiceBlock};
 ghost use Rattle.alarm_gen.specs.Alarms.{counter_alarms};
-ghost use Rattle.alarm_gen.specs.Block.{HasAlarmBlock, ServesAlarm, no_marks};
-ghost use Rattle.alarm_gen.specs.Tick.{Ticks};
+ghost use Rattle.alarm_gen.specs.Block.{HasAlarmBlock, IsAlarmServiceBlock, no_marks};
+ghost use Rattle.alarm_gen.specs.Tick.{IsTickCode};
 
 mod actions;
 pub mod alarms;
 mod cancel_alarm;
 mod get_alarm;
-mod looks;
 mod pieces;
 mod set_abs_alarm;
 mod set_rel_alarm;
+mod task_bits;
 mod tick_code;
 
 use crate::alarms::alarms_of;
@@ -51,7 +51,7 @@ pub fn tick(
     ensures at { IfOk result (λ block. block.at ≡ slice_index map.now.handlers (counter_line counter)) }
     ensures marks { IfOk result (λ block. block.marks ≡ []) }
     ensures size { IfOk result (λ block. length block.code ≡ tick_length counter config.now.alarms) }
-    ensures effect { IfOk result (λ block. Ticks counter (counter_declaration config.now counter).max (counter_alarms config.now counter) block.code) }
+    ensures effect { IfOk result (λ block. IsTickCode counter (counter_declaration config.now counter).max (counter_alarms config.now counter) block.code) }
 {
     let alarms = alarms_of(alloc, config.alarms.items(), counter)?;
     let max = config.counters.items()[counter as usize].max;
@@ -76,7 +76,7 @@ pub fn block(
     requires alarm { HasAlarmBlock config.now service object }
     requires range { InRange config.now }
     ensures block { IfOk result (IsServiceBlock service object map.now.places.blocks no_marks) }
-    ensures effect { IfOk result (λ block. ServesAlarm config.now service object block.code) }
+    ensures effect { IfOk result (λ block. IsAlarmServiceBlock config.now service object block.code) }
 {
     let at = map.places.blocks[block_number(service, object)];
     let code = code(alloc, service, object, config)?;
@@ -98,7 +98,7 @@ fn code(
     requires alarm { HasAlarmBlock config.now service alarm }
     requires range { InRange config.now }
     ensures long { IfOk result (λ code. length code.items ≡ service_length service) }
-    ensures serves { IfOk result (λ code. ServesAlarm config.now service alarm code.items) }
+    ensures serves { IfOk result (λ code. IsAlarmServiceBlock config.now service alarm code.items) }
 {
     let counter = config.alarms.items()[alarm as usize].counter;
     let declared = &config.counters.items()[counter as usize];

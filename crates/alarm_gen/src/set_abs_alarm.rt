@@ -1,7 +1,7 @@
 //! SetAbsAlarm: an alarm that is not in use expires as its counter has a value the next time, and then by its cycle.
 ghost use Rattle.std.specs.Prelude.{◌<◌, ◌^◌, IfOk};
 ghost use Rattle.sloth_base.specs.Limits.{counter_limit, alarm_limit};
-ghost use Rattle.alarm_gen.specs.SetAlarm.{SetsAbsolute};
+ghost use Rattle.alarm_gen.specs.SetAlarm.{IsSetAbsAlarmCode};
 
 use crate::pieces::{CYCLE, REFUSAL, SET, VALUE, ask_cycle, ask_unused, ask_value, refuse, set};
 use block_parts::alarms::find_ticks;
@@ -21,7 +21,7 @@ pub fn code(
     least: u32,
 ) -> Result<Vec<Instr>, AllocError>
     requires { (alarm < alarm_limit) × (counter < counter_limit) × (max < 2 ^ 31) }
-    ensures { IfOk result (λ code. SetsAbsolute alarm counter max least code.items) }
+    ensures { IfOk result (λ code. IsSetAbsAlarmCode alarm counter max least code.items) }
 {
     let mut code = Vec::new(alloc);
     open(&mut code)?;

@@ -2,7 +2,7 @@
 ghost use Rattle.std.specs.Prelude.{◌≡◌, ◌<◌, ◌++◌, IfOk, OnOk};
 ghost use Rattle.sloth_base.specs.Limits.{alarm_limit};
 ghost use Rattle.alarm_gen.specs.ServicePieces.{ticks_test};
-ghost use Rattle.alarm_gen.specs.SetAlarm.{SetsRelative};
+ghost use Rattle.alarm_gen.specs.SetAlarm.{IsSetRelAlarmCode};
 
 use crate::pieces::{CYCLE, REFUSAL, SET, VALUE, ask_cycle, ask_unused, ask_value, refuse, set};
 use block_parts::pieces::open;
@@ -17,7 +17,7 @@ const TICKS: u32 = 1 + VALUE;
 /// The looks at the alarm and at the operands, the ticks and the cycle, and the refusals.
 pub fn code(alloc: Global, alarm: u8, max: u32, least: u32) -> Result<Vec<Instr>, AllocError>
     requires { alarm < alarm_limit }
-    ensures { IfOk result (λ code. SetsRelative alarm max least code.items) }
+    ensures { IfOk result (λ code. IsSetRelAlarmCode alarm max least code.items) }
 {
     let mut code = Vec::new(alloc);
     open(&mut code)?;

@@ -3,12 +3,12 @@
 ghost use Rattle.std.specs.Prelude.{◌≡◌, ◌<◌, ◌^◌, ◌++◌, IfOk, OnOk};
 ghost use Rattle.sloth_base.specs.Limits.{counter_limit};
 ghost use Rattle.alarm_gen.specs.Alarms.{AreNumbered};
-ghost use Rattle.alarm_gen.specs.Tick.{Ticks};
+ghost use Rattle.alarm_gen.specs.Tick.{IsTickCode};
 ghost use Rattle.alarm_gen.specs.Pieces.{counting_code, look_clearing_code, returning_code, tick_code};
 
 use crate::actions::{base, run_all};
 use crate::alarms::NumberedAlarm;
-use crate::looks::look_at_all;
+use crate::task_bits::look_at_all;
 use block_parts::ticks::ask_greatest;
 use masked_code::emit::emit;
 use rv32_instr::Instr;
@@ -25,7 +25,7 @@ pub fn code(
 ) -> Result<Vec<Instr>, AllocError>
     requires { (counter < counter_limit) × AreNumbered alarms.now }
     ensures is { IfOk result (λ code. code.items ≡ tick_code counter max alarms.now) }
-    ensures effect { IfOk result (λ code. Ticks counter max alarms.now code.items) }
+    ensures effect { IfOk result (λ code. IsTickCode counter max alarms.now code.items) }
 {
     let mut code = Vec::new(alloc);
     count(&mut code, counter, max)?;

@@ -3,7 +3,7 @@ use Rattle.std.proofs.Common.{◌≡◌, ◌∙◌, ℕ, zero, suc, ◌+◌, ◌
 use Rattle.std.specs.List.{All, range_with_len}
 use Rattle.std.proofs.lemmas.List.Elements.{All-nil, All-cons}
 use Rattle.std.proofs.lemmas.List.FromFn.{length-map-range_with_len, map-range_with_len_more}
-use Rattle.sloth_base.specs.Arrivals.{AreArrivals, NeverFalls}
+use Rattle.sloth_base.specs.Arrivals.{AreArrivals, AreRisingMoments}
 use Rattle.sloth_base.specs.declared.event.Arrival.{Arrival}
 use Rattle.sloth_base.specs.Limits.{count_limit}
 use Rattle.sloth_base.proofs.Owners.{task_owned}
@@ -33,7 +33,7 @@ abbrev of : ℕ → ℕ → Arrival
 of at line = record { at = at; line = line }
 
 module _ (x n : ℕ) where
-  never_falls : (k count b : ℕ) → b ≤ moment_before x k → NeverFalls b (map (arrival x n) (range_with_len k count))
+  never_falls : (k count b : ℕ) → b ≤ moment_before x k → AreRisingMoments b (map (arrival x n) (range_with_len k count))
   never_falls k zero b h = tt
   never_falls k (suc count) b h =
       let e = moment_next x k in (omega (arith, h), never_falls (k + 1) count (moment_before x k + gap x k) (omega (arith, e)))

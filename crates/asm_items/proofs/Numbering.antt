@@ -8,7 +8,7 @@ use Rattle.sloth_base.specs.declared.config.Config.{Config}
 use Rattle.sloth_base.specs.declared.config.TaskDecl.{TaskDecl}
 use Rattle.sloth_base.specs.declared.config.AlarmDecl.{AlarmDecl}
 use Rattle.asm_lines.specs.declared.source_line.SourceLine.{SourceLine}
-use Rattle.asm_scopes.specs.Said.{is_data, name_of}
+use Rattle.asm_scopes.specs.Statements.{is_data, name_of}
 use Rattle.asm_scopes.specs.Bodies.{bodies_of, body_name}
 use Rattle.asm_scopes.specs.Scopes.{scope_of}
 use Rattle.asm_scopes.proofs.Short.{few_bodies}

@@ -14,7 +14,7 @@ use Rattle.asm_lines.specs.declared.operands.Operand.TheVariants.{Bytes}
 use Rattle.asm_lines.specs.declared.source_line.SourceLine.{SourceLine}
 use Rattle.asm_lines.specs.declared.source_line.SourceLine.TheVariants.{Statement}
 use Rattle.asm_scopes.specs.declared.scope.Scope.{Scope}
-use Rattle.asm_scopes.specs.Said.{is_data, is_label, name_of, number_of, written_name, label_names}
+use Rattle.asm_scopes.specs.Statements.{is_data, is_label, name_of, number_of, written_name, label_names}
 use Rattle.asm_scopes.specs.Bodies.{BodyText, bodies_of, body_name, is_task_body}
 use Rattle.asm_scopes.specs.Scopes.{scope_of}
 use Rattle.asm_items.specs.Operations.{op_of, resource_number, behind_first}

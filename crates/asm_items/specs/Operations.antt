@@ -23,7 +23,7 @@ use Rattle.asm_lines.specs.declared.source_line.SourceLine.{SourceLine}
 use Rattle.asm_lines.specs.declared.source_line.SourceLine.TheVariants.{Statement}
 use Rattle.asm_lines.specs.Numbers.{is_within}
 use Rattle.asm_scopes.specs.declared.scope.Scope.{Scope}
-use Rattle.asm_scopes.specs.Said.{first_name, written_name}
+use Rattle.asm_scopes.specs.Statements.{first_name, written_name}
 use Rattle.asm_scopes.specs.Scopes.{is_scheduler}
 use Rattle.asm_items.specs.declared.operations.Access.{Access}
 use Rattle.asm_items.specs.declared.operations.Access.TheVariants.{Load, Store}

@@ -1,6 +1,6 @@
 //! The task code of lines.
 ghost use Rattle.std.specs.Prelude.{◌≡◌, ◌+◌, [], ◌∷◌, ◌++◌, ◌<◌, ◌^◌, length, map, filter, All, IfOk, OnOk};
-ghost use Rattle.asm_scopes.specs.Said.{is_data};
+ghost use Rattle.asm_scopes.specs.Statements.{is_data};
 ghost use Rattle.asm_items.specs.Numbered.{IsNumbered};
 ghost use Rattle.asm_scopes.specs.Bodies.{bodies_of};
 ghost use Rattle.asm_scopes.specs.Scopes.{scope_of};

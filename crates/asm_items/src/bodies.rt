@@ -1,6 +1,6 @@
 //! The items and labels of a body.
 ghost use Rattle.std.specs.Prelude.{◌≡◌, ◌+◌, ◌++◌, ◌<◌, ◌^◌, length, IfOk, OnOk};
-ghost use Rattle.asm_scopes.specs.Said.{label_names, written_name};
+ghost use Rattle.asm_scopes.specs.Statements.{label_names, written_name};
 ghost use Rattle.asm_items.specs.Numbered.{IsNumbered};
 ghost use Rattle.asm_items.specs.Apps.{item_by, count_op, items_from, held_resource_by, holds_of, label_holds, label_of, labels_from, body_task, func_of};
 

@@ -10,9 +10,9 @@ use Rattle.sloth_base.specs.ImageRange.{continues_word}
 use Rattle.text_pieces.specs.Bytes.{is_name, begins_name}
 use Rattle.asm_lines.specs.Bytes.{is_blank}
 use Rattle.text_pieces.specs.Digits.{capped_value, value_from}
-use Rattle.asm_lines.specs.Numbers.{number, magnitude, signed_number, is_hexadecimal, all_some}
+use Rattle.asm_lines.specs.Numbers.{number, magnitude, signed_number, is_hexadecimal, is_numeral_of}
 use Rattle.asm_lines.specs.Registers.{register, small_number, lettered_register, lettered_register_by}
-use Rattle.asm_lines.specs.Grammar.{HasBareEnds, starts_bare}
+use Rattle.asm_lines.specs.Grammar.{HasBareEnds, has_bare_start}
 use Rattle.asm_lines.proofs.Trims.{reversed_all}
 use Rattle.asm_lines.proofs.Cuts.{all_weaker}
 
@@ -38,7 +38,7 @@ signed_some : (b : Bool) (o : Option ℕ) (z : ℤ) → signed_number b o ≡ So
 signed_some b None z h = cc
 signed_some b (Some n) z h = (n, refl)
 
-hex_bytes : (t : List ℕ) → is_hexadecimal t ≡ true → all_some is_ascii_hexdigit (drop 2 t) ≡ true → list_all is_number_byte t ≡ true
+hex_bytes : (t : List ℕ) → is_hexadecimal t ≡ true → is_numeral_of is_ascii_hexdigit (drop 2 t) ≡ true → list_all is_number_byte t ≡ true
 hex_bytes [] e g = cc
 hex_bytes (a ∷ []) e g = let w = and_parts (a == 48) false e in let x = w.1 in cc
 hex_bytes (a ∷ b ∷ d) e g =
@@ -50,13 +50,13 @@ hex_bytes (a ∷ b ∷ d) e g =
 magnitude_bytes : (t : List ℕ) (n : ℕ) → magnitude t ≡ Some n → list_all is_number_byte t ≡ true
 unfolding magnitude
 magnitude_bytes t n h =
-    let hex : Option ℕ = cond (all_some is_ascii_hexdigit (drop 2 t)) (Some (capped_value (value_from 16 0 (drop 2 t)))) None in
-    let dec : Option ℕ = cond (all_some is_ascii_digit t) (Some (capped_value (value_from 10 0 t))) None in
+    let hex : Option ℕ = cond (is_numeral_of is_ascii_hexdigit (drop 2 t)) (Some (capped_value (value_from 16 0 (drop 2 t)))) None in
+    let dec : Option ℕ = cond (is_numeral_of is_ascii_digit t) (Some (capped_value (value_from 10 0 t))) None in
     let P : Bool → Type 0 = λ v. is_hexadecimal t ≡ v → cond v hex dec ≡ Some n → list_all is_number_byte t ≡ true in
     elim (is_hexadecimal t) as P [
-      | true ↦ λ e g. hex_bytes t e (some_if (all_some is_ascii_hexdigit (drop 2 t)) (capped_value (value_from 16 0 (drop 2 t))) n g)
+      | true ↦ λ e g. hex_bytes t e (some_if (is_numeral_of is_ascii_hexdigit (drop 2 t)) (capped_value (value_from 16 0 (drop 2 t))) n g)
       | false ↦ λ e g. all_weaker is_ascii_digit is_number_byte digit_is t
-          (and_parts (not (length t == 0)) (list_all is_ascii_digit t) (some_if (all_some is_ascii_digit t) (capped_value (value_from 10 0 t)) n g)).1
+          (and_parts (not (length t == 0)) (list_all is_ascii_digit t) (some_if (is_numeral_of is_ascii_digit t) (capped_value (value_from 10 0 t)) n g)).1
     ] refl h
 
 negative_bytes : (t : List ℕ) (z : ℤ) → (slice_index t 0 == 45) ≡ true → signed_number true (magnitude (drop 1 t)) ≡ Some z → list_all is_number_byte t ≡ true
@@ -86,7 +86,7 @@ not_blank p s t b h =
       ]
     ] refl refl
 
-starts : (t : List ℕ) → list_all (λ b. not (is_blank b)) t ≡ true → starts_bare t ≡ true
+starts : (t : List ℕ) → list_all (λ b. not (is_blank b)) t ≡ true → has_bare_start t ≡ true
 starts [] h = refl
 starts (b ∷ t) h = (and_parts (not (is_blank b)) (list_all (λ x. not (is_blank x)) t) h).0
 

@@ -10,7 +10,7 @@ use Rattle.asm_lines.specs.Bytes.{is_blank, trim}
 use Rattle.asm_lines.specs.Numbers.{number}
 use Rattle.asm_lines.specs.Registers.{register}
 use Rattle.asm_lines.specs.Operands.{before, behind, small_of, direct_operand, direct_operand_at, indexed_operand, indexed_operand_at, frame_operand, in_brackets, bracketed_operand, place}
-use Rattle.asm_lines.specs.Grammar.{Blanks, starts_bare, HasBareEnds, IsPlace, is_alone, is_offset, is_indexed, is_frame}
+use Rattle.asm_lines.specs.Grammar.{Blanks, has_bare_start, HasBareEnds, IsPlace, is_alone, is_offset, is_indexed, is_frame}
 use Rattle.asm_lines.proofs.Trims.{trim_is}
 use Rattle.asm_lines.proofs.Cuts.{lacks, has_here, has_in, before_is, behind_is, last_is, but_last}
 use Rattle.asm_lines.proofs.Parts.{is_number_byte, name_bytes, number_bytes, number_some, register_bytes, register_some, bare_of}
@@ -75,12 +75,12 @@ in_frame : (f : Bool) (k : List ℕ) (z : ℤ) → f ≡ true → is_byte_of 38 
 unfolding in_brackets
 in_frame f k z e p g = rw (p, e, g) refl
 
-front_on : (x y : List ℕ) → 0 < length x → starts_bare x ≡ true → starts_bare (x ++ y) ≡ true
+front_on : (x y : List ℕ) → 0 < length x → has_bare_start x ≡ true → has_bare_start (x ++ y) ≡ true
 front_on [] y l h = absurd (omega arith)
 front_on (b ∷ x) y l h = h
 
-pub end_on : (y x : List ℕ) → 0 < length x → starts_bare (reverse x) ≡ true → starts_bare (reverse (y ++ x)) ≡ true
-end_on y x l h = let n = length-reverse x in ap starts_bare (reverse-append y x) ∙ front_on (reverse x) (reverse y) (omega (arith, n)) h
+pub end_on : (y x : List ℕ) → 0 < length x → has_bare_start (reverse x) ≡ true → has_bare_start (reverse (y ++ x)) ≡ true
+end_on y x l h = let n = length-reverse x in ap has_bare_start (reverse-append y x) ∙ front_on (reverse x) (reverse y) (omega (arith, n)) h
 
 long : (y x : List ℕ) → 0 < length x → 0 < length (y ++ x)
 long [] x l = l

@@ -16,7 +16,7 @@ use Rattle.asm_lines.specs.Numbers.{number}
 use Rattle.asm_lines.specs.Registers.{register}
 use Rattle.asm_lines.specs.Operands.{before, behind, small_of, direct_operand, direct_operand_at, indexed_operand, indexed_operand_at, frame_operand, in_brackets, bracketed_operand, place}
 use Rattle.asm_lines.specs.Faults.{is_wrong}
-use Rattle.asm_lines.specs.Grammar.{Blanks, starts_bare, HasBareEnds, IsPlace, is_alone, is_offset, is_indexed, is_frame}
+use Rattle.asm_lines.specs.Grammar.{Blanks, has_bare_start, HasBareEnds, IsPlace, is_alone, is_offset, is_indexed, is_frame}
 use Rattle.asm_lines.proofs.Trims.{trimmed, reversed_all}
 use Rattle.asm_lines.proofs.Cuts.{cut_there, ends_there}
 
@@ -24,13 +24,13 @@ blanks_both : (a b : List ℕ) → Blanks a → Blanks b → Blanks (a ++ b)
 blanks_both a b h g = list_all-append is_blank a b ∙ rw (h, g) refl
 
 -- blanks in front of a text that has none there are nothing
-none_before : (a y : List ℕ) → Blanks a → starts_bare (a ++ y) ≡ true → a ≡ []
+none_before : (a y : List ℕ) → Blanks a → has_bare_start (a ++ y) ≡ true → a ≡ []
 none_before [] y h s = refl
 none_before (b ∷ a) y h s = let w = (and_parts (is_blank b) (list_all is_blank a) h).0 in let q : not true ≡ true = ap not (sym w) ∙ s in cc
 
-none_behind : (y b : List ℕ) → Blanks b → starts_bare (reverse (y ++ b)) ≡ true → b ≡ []
+none_behind : (y b : List ℕ) → Blanks b → has_bare_start (reverse (y ++ b)) ≡ true → b ≡ []
 none_behind y b h s =
-    let e = none_before (reverse b) (reverse y) (reversed_all is_blank b h) (ap starts_bare (sym (reverse-append y b)) ∙ s) in
+    let e = none_before (reverse b) (reverse y) (reversed_all is_blank b h) (ap has_bare_start (sym (reverse-append y b)) ∙ s) in
     sym (reverse-reverse b) ∙ ap reverse e
 
 -- what names a number, and is not wrong
@@ -64,8 +64,8 @@ plus_read f t o bare h d w =
     cut_there 43 t h ∙ (ap (λ y. y ++ 43 ∷ behind 43 t) l.text ∙ ap (λ y. (l.before ++ (n ++ l.behind)) ++ 43 ∷ y) r.text) in
     let e1 : t ≡ l.before ++ (n ++ (l.behind ++ 43 ∷ (r.before ++ (k ++ r.behind)))) = e ∙ simp append_assoc in
     let e2 : t ≡ (l.before ++ (n ++ (l.behind ++ 43 ∷ (r.before ++ k)))) ++ r.behind = e ∙ simp append_assoc in
-    let z1 = none_before l.before (n ++ (l.behind ++ 43 ∷ (r.before ++ (k ++ r.behind)))) l.blanks_before (ap starts_bare (sym e1) ∙ bare.front) in
-    let z2 = none_behind (l.before ++ (n ++ (l.behind ++ 43 ∷ (r.before ++ k)))) r.behind r.blanks_behind (ap (λ y. starts_bare (reverse y)) (sym e2) ∙ bare.end) in
+    let z1 = none_before l.before (n ++ (l.behind ++ 43 ∷ (r.before ++ (k ++ r.behind)))) l.blanks_before (ap has_bare_start (sym e1) ∙ bare.front) in
+    let z2 = none_behind (l.before ++ (n ++ (l.behind ++ 43 ∷ (r.before ++ k)))) r.behind r.blanks_behind (ap (λ y. has_bare_start (reverse y)) (sym e2) ∙ bare.end) in
     let e3 : t ≡ n ++ (l.behind ++ 43 ∷ (r.before ++ k)) =
     e1 ∙ (ap (λ y. y ++ (n ++ (l.behind ++ 43 ∷ (r.before ++ (k ++ r.behind))))) z1
     ∙ (ap (λ y. n ++ (l.behind ++ 43 ∷ (r.before ++ (k ++ y)))) z2 ∙ ap (λ y. n ++ (l.behind ++ 43 ∷ (r.before ++ y))) (append-nil k))) in

@@ -7,7 +7,7 @@ use Rattle.std.proofs.lemmas.Bool.{eqb-true, cases_lt, lt-ltb, and_parts}
 use Rattle.std.proofs.lemmas.Option.{cond_some}
 use mathlib.Core.Bool.{and-false}
 use Rattle.text_pieces.specs.Digits.{capped_value, value_from}
-use Rattle.asm_lines.specs.Numbers.{number, magnitude, signed_number, is_hexadecimal, all_some, is_within}
+use Rattle.asm_lines.specs.Numbers.{number, magnitude, signed_number, is_hexadecimal, is_numeral_of, is_within}
 use Rattle.asm_lines.specs.Grammar.{IsNumber, is_decimal, is_hex, is_minus, is_minus_hex, capped_integer, is_near}
 use borrow.Author.Tests.{ltb-true}
 
@@ -38,11 +38,11 @@ not_minus (a ∷ d) h =
       | false ↦ λ e. refl
     ] refl
 
-decimal_magnitude : (d : List ℕ) → all_some is_ascii_digit d ≡ true → magnitude d ≡ Some (capped_value (value_from 10 0 d))
+decimal_magnitude : (d : List ℕ) → is_numeral_of is_ascii_digit d ≡ true → magnitude d ≡ Some (capped_value (value_from 10 0 d))
 unfolding magnitude
 decimal_magnitude d h = let n = not_hex d (and_parts (not (length d == 0)) (list_all is_ascii_digit d) h).1 in rw (n, h) refl
 
-hex_magnitude : (d : List ℕ) → all_some is_ascii_hexdigit d ≡ true → magnitude (48 ∷ 120 ∷ d) ≡ Some (capped_value (value_from 16 0 d))
+hex_magnitude : (d : List ℕ) → is_numeral_of is_ascii_hexdigit d ≡ true → magnitude (48 ∷ 120 ∷ d) ≡ Some (capped_value (value_from 16 0 d))
 unfolding magnitude
 hex_magnitude d h = rw h refl
 
@@ -95,8 +95,8 @@ Reads t w = (z : ℤ) × IsNumber t z × (w ≡ capped_integer z)
 
 -- the digits of a magnitude
 abbrev Digits : List ℕ → ℕ → Type 0
-Digits t n = ((all_some is_ascii_digit t ≡ true) × (capped_value (value_from 10 0 t) ≡ n))
-    ⊎ ((d : List ℕ) × (t ≡ 48 ∷ 120 ∷ d) × (all_some is_ascii_hexdigit d ≡ true) × (capped_value (value_from 16 0 d) ≡ n))
+Digits t n = ((is_numeral_of is_ascii_digit t ≡ true) × (capped_value (value_from 10 0 t) ≡ n))
+    ⊎ ((d : List ℕ) × (t ≡ 48 ∷ 120 ∷ d) × (is_numeral_of is_ascii_hexdigit d ≡ true) × (capped_value (value_from 16 0 d) ≡ n))
 
 prefix_is : (t : List ℕ) → is_hexadecimal t ≡ true → t ≡ 48 ∷ 120 ∷ drop 2 t
 prefix_is [] e = cc
@@ -106,12 +106,12 @@ prefix_is (a ∷ b ∷ d) e = let w = and_parts (a == 48) (b == 120) e in ap (λ
 digits_of : (t : List ℕ) (n : ℕ) → magnitude t ≡ Some n → Digits t n
 unfolding magnitude
 digits_of t n h =
-    let hex : Option ℕ = cond (all_some is_ascii_hexdigit (drop 2 t)) (Some (capped_value (value_from 16 0 (drop 2 t)))) None in
-    let dec : Option ℕ = cond (all_some is_ascii_digit t) (Some (capped_value (value_from 10 0 t))) None in
+    let hex : Option ℕ = cond (is_numeral_of is_ascii_hexdigit (drop 2 t)) (Some (capped_value (value_from 16 0 (drop 2 t)))) None in
+    let dec : Option ℕ = cond (is_numeral_of is_ascii_digit t) (Some (capped_value (value_from 10 0 t))) None in
     let P : Bool → Type 0 = λ v. is_hexadecimal t ≡ v → cond v hex dec ≡ Some n → Digits t n in
     elim (is_hexadecimal t) as P [
-      | true ↦ λ e g. let s = cond_some (all_some is_ascii_hexdigit (drop 2 t)) (capped_value (value_from 16 0 (drop 2 t))) n g in inr (drop 2 t, prefix_is t e, s.0, s.1)
-      | false ↦ λ e g. inl (cond_some (all_some is_ascii_digit t) (capped_value (value_from 10 0 t)) n g)
+      | true ↦ λ e g. let s = cond_some (is_numeral_of is_ascii_hexdigit (drop 2 t)) (capped_value (value_from 16 0 (drop 2 t))) n g in inr (drop 2 t, prefix_is t e, s.0, s.1)
+      | false ↦ λ e g. inl (cond_some (is_numeral_of is_ascii_digit t) (capped_value (value_from 10 0 t)) n g)
     ] refl h
 
 plain_read : (t : List ℕ) (n : ℕ) → Digits t n → Reads t (pos n)

@@ -16,8 +16,8 @@ use Rattle.asm_lines.specs.Lines.{lines}
 use Rattle.asm_lines.specs.SourceLines.{source_line}
 
 -- The test says that there is a fault of this code on this line, and it is r.
-abbrev pub Case : Bool → ℕ → Code → Refusal → Type 0
-Case test line code r = CaseOf Src test line code r
+abbrev pub SourceCase : Bool → ℕ → Code → Refusal → Type 0
+SourceCase test line code r = CaseOf Src test line code r
 
 -- an operand without the form that it is to have
 abbrev pub is_wrong : Operand → Bool
@@ -68,19 +68,19 @@ after_line inside _ = inside
 
 -- r is a fault of a line of this number
 abbrev pub LineFault : Bool → ℕ → SourceLine → Refusal → Type 0
-LineFault inside n s r = Case (is_a1 inside s) n code.A1 r ⊎ (Case (is_a2 inside s) n code.A2 r ⊎ (Case (is_a3 s) n code.A3 r ⊎ Case (is_a4 s) n code.A4 r))
+LineFault inside n s r = SourceCase (is_a1 inside s) n code.A1 r ⊎ (SourceCase (is_a2 inside s) n code.A2 r ⊎ (SourceCase (is_a3 s) n code.A3 r ⊎ SourceCase (is_a4 s) n code.A4 r))
 
 -- what follows these lines is inside a body
-abbrev pub ends_inside : List SourceLine → Bool
-ends_inside ls = fold after_line false ls
+abbrev pub is_end_inside : List SourceLine → Bool
+is_end_inside ls = fold after_line false ls
 
 -- r is a fault of a line with these lines before it
 abbrev pub FaultAt : List SourceLine → SourceLine → Refusal → Type 0
-FaultAt front s r = LineFault (ends_inside front) (length front + 1) s r
+FaultAt front s r = LineFault (is_end_inside front) (length front + 1) s r
 
 -- r is a fault of these lines; the source may not end inside a body
 abbrev pub SourceFault : List SourceLine → Refusal → Type 0
-SourceFault ls r = Somewhere FaultAt ls r ⊎ Case (ends_inside ls) (length ls) code.A1 r
+SourceFault ls r = Somewhere FaultAt ls r ⊎ SourceCase (is_end_inside ls) (length ls) code.A1 r
 
 -- what the lines of a text are
 abbrev pub source_lines : List ℕ → List SourceLine

@@ -10,7 +10,7 @@ use Rattle.text_pieces.specs.Bytes.{is_name, is_byte_of}
 use Rattle.asm_lines.specs.Bytes.{is_blank, is_shown, is_letter}
 use Rattle.asm_lines.specs.SourceLines.{has_empty}
 use Rattle.text_pieces.specs.Digits.{value_from, capped_value}
-use Rattle.asm_lines.specs.Numbers.{number, all_some}
+use Rattle.asm_lines.specs.Numbers.{number, is_numeral_of}
 use Rattle.std.specs.Char.{is_ascii_digit, is_ascii_hexdigit}
 use Rattle.asm_lines.specs.Registers.{register}
 use Rattle.asm_lines.specs.Operands.{small_of, direct_operand_at, indexed_operand_at, frame_operand}
@@ -20,14 +20,14 @@ abbrev pub Blanks : List ℕ → Type 0
 Blanks t = list_all is_blank t ≡ true
 
 -- no blank stands in front
-abbrev pub starts_bare : List ℕ → Bool
-starts_bare [] = true
-starts_bare (b ∷ t) = not (is_blank b)
+abbrev pub has_bare_start : List ℕ → Bool
+has_bare_start [] = true
+has_bare_start (b ∷ t) = not (is_blank b)
 
 -- no blank stands at either end
 pub record HasBareEnds (t : List ℕ) : Type 0 where
-  pub front : starts_bare t ≡ true
-  pub end : starts_bare (reverse t) ≡ true
+  pub front : has_bare_start t ≡ true
+  pub end : has_bare_start (reverse t) ≡ true
 
 -- x is t without the blanks at both ends
 pub record IsTrimmed (t x : List ℕ) : Type 0 where
@@ -80,10 +80,10 @@ is_shapeless _ = false
 
 -- t is the number z: digits in one of two bases, with an optional `-` (45) before them
 pub data IsNumber : List ℕ → ℤ → Type 0 where
-  is_decimal : (d : List ℕ) → all_some is_ascii_digit d ≡ true → IsNumber d (pos (value_from 10 0 d))
-  is_hex : (d : List ℕ) → all_some is_ascii_hexdigit d ≡ true → IsNumber (48 ∷ 120 ∷ d) (pos (value_from 16 0 d))
-  is_minus : (d : List ℕ) → all_some is_ascii_digit d ≡ true → IsNumber (45 ∷ d) (neg_ℤ (pos (value_from 10 0 d)))
-  is_minus_hex : (d : List ℕ) → all_some is_ascii_hexdigit d ≡ true → IsNumber (45 ∷ 48 ∷ 120 ∷ d) (neg_ℤ (pos (value_from 16 0 d)))
+  is_decimal : (d : List ℕ) → is_numeral_of is_ascii_digit d ≡ true → IsNumber d (pos (value_from 10 0 d))
+  is_hex : (d : List ℕ) → is_numeral_of is_ascii_hexdigit d ≡ true → IsNumber (48 ∷ 120 ∷ d) (pos (value_from 16 0 d))
+  is_minus : (d : List ℕ) → is_numeral_of is_ascii_digit d ≡ true → IsNumber (45 ∷ d) (neg_ℤ (pos (value_from 10 0 d)))
+  is_minus_hex : (d : List ℕ) → is_numeral_of is_ascii_hexdigit d ≡ true → IsNumber (45 ∷ 48 ∷ 120 ∷ d) (neg_ℤ (pos (value_from 16 0 d)))
 
 -- a number as the reader keeps it: no further from 0 than 4,294,967,296
 abbrev pub capped_integer : ℤ → ℤ

@@ -9,14 +9,14 @@ abbrev pub is_hexadecimal : List ℕ → Bool
 is_hexadecimal t = (slice_index t 0 == 48) && (slice_index t 1 == 120)
 
 -- at least one, and each passes
-abbrev pub all_some : (ℕ → Bool) → List ℕ → Bool
-all_some p t = not (length t == 0) && list_all p t
+abbrev pub is_numeral_of : (ℕ → Bool) → List ℕ → Bool
+is_numeral_of p t = not (length t == 0) && list_all p t
 
 -- the number without its sign
 unfoldable pub magnitude : List ℕ → Option ℕ
 magnitude t =
-    if is_hexadecimal t then (if all_some is_ascii_hexdigit (drop 2 t) then Some (capped_value (value_from 16 0 (drop 2 t))) else None)
-    else (if all_some is_ascii_digit t then Some (capped_value (value_from 10 0 t)) else None)
+    if is_hexadecimal t then (if is_numeral_of is_ascii_hexdigit (drop 2 t) then Some (capped_value (value_from 16 0 (drop 2 t))) else None)
+    else (if is_numeral_of is_ascii_digit t then Some (capped_value (value_from 10 0 t)) else None)
 
 -- the number with its sign
 abbrev pub signed_number : Bool → Option ℕ → Option ℤ

@@ -10,9 +10,9 @@ use Rattle.sloth_base.specs.Limits.{name_limit, body_limit, item_limit, symbol_l
 use Rattle.least_fault.specs.Search.{Somewhere}
 use Rattle.asm_lines.specs.declared.source_line.SourceLine.{SourceLine}
 use Rattle.asm_lines.specs.declared.source_line.SourceLine.TheVariants.{Statement}
-use Rattle.asm_lines.specs.Faults.{Case}
+use Rattle.asm_lines.specs.Faults.{SourceCase}
 use Rattle.asm_scopes.specs.declared.scope.Scope.{Scope}
-use Rattle.asm_scopes.specs.Said.{is_data, is_task, is_label, is_item, name_of, number_of, written_name, symbol_names, label_names}
+use Rattle.asm_scopes.specs.Statements.{is_data, is_task, is_label, is_item, name_of, number_of, written_name, symbol_names, label_names}
 use Rattle.asm_scopes.specs.Bodies.{BodyText, bodies_of, function_names, task_body_names}
 use Rattle.asm_scopes.specs.Scopes.{scope_of, has_unknown}
 
@@ -21,13 +21,13 @@ abbrev pub is_long : List ℕ → Bool
 is_long name = nat_lt name_limit (length name)
 
 -- a name above 64 bytes is written here
-abbrev pub writes_long : Option (List ℕ) → Bool
-writes_long None = false
-writes_long (Some name) = is_long name
+abbrev pub has_long_name : Option (List ℕ) → Bool
+has_long_name None = false
+has_long_name (Some name) = is_long name
 
 -- one of the names that a line writes is long
 abbrev pub has_long : SourceLine → Bool
-has_long (Statement m os) = list_any (λ x. writes_long (written_name x)) os
+has_long (Statement m os) = list_any (λ x. has_long_name (written_name x)) os
 has_long _ = false
 
 -- ---- symbols
@@ -46,7 +46,7 @@ is_too_much count bytes l = is_data l && ((count == symbol_limit) || (nat_lt dat
 
 -- A5 and A6 of a `data` on line n, behind so many symbols of these names, which have so many bytes
 abbrev pub SymbolFault : List (List ℕ) → ℕ → ℕ → ℕ → SourceLine → Refusal → Type 0
-SymbolFault earlier count bytes n l r = Case (is_taken earlier l) n A5 r ⊎ Case (is_too_much count bytes l) n A6 r
+SymbolFault earlier count bytes n l r = SourceCase (is_taken earlier l) n A5 r ⊎ SourceCase (is_too_much count bytes l) n A6 r
 
 -- the same of a line with these before it
 abbrev pub DataFault : List SourceLine → SourceLine → Refusal → Type 0
@@ -65,9 +65,9 @@ is_strange scope header = is_task header && not (list_any (bytes_eq (name_of hea
 -- A5, A6 and A7 of a header on line n, behind so many bodies of these names
 abbrev pub HeaderFault : Scope → List (List ℕ) → ℕ → ℕ → SourceLine → Refusal → Type 0
 HeaderFault scope earlier count n header r =
-    Case (list_any (bytes_eq (name_of header)) earlier) n A5 r
-    ⊎ (Case (is_too_great count header) n A6 r
-    ⊎ Case (is_strange scope header) n A7 r)
+    SourceCase (list_any (bytes_eq (name_of header)) earlier) n A5 r
+    ⊎ (SourceCase (is_too_great count header) n A6 r
+    ⊎ SourceCase (is_strange scope header) n A7 r)
 
 -- ---- lines of a body
 
@@ -81,7 +81,7 @@ is_beyond items l = (is_item l && (items == item_limit)) || has_long l
 
 -- A5 and A6 of line n, in a body with these labels, behind labels of these earlier names and so many items of all bodies
 abbrev pub InnerFault : Scope → List (List ℕ) → List (List ℕ) → ℕ → ℕ → SourceLine → Refusal → Type 0
-InnerFault scope labels earlier items n l r = Case (is_misnamed scope labels earlier l) n A5 r ⊎ Case (is_beyond items l) n A6 r
+InnerFault scope labels earlier items n l r = SourceCase (is_misnamed scope labels earlier l) n A5 r ⊎ SourceCase (is_beyond items l) n A6 r
 
 -- the same of a line with these lines of the body before it, where the header stands on line n, behind so many items
 abbrev pub LineFault : Scope → List (List ℕ) → ℕ → ℕ → List SourceLine → SourceLine → Refusal → Type 0
@@ -100,12 +100,12 @@ BodyFault scope front body r =
 -- ---- all
 
 -- a task of the configuration has no body
-abbrev pub lacks_body : Config → List BodyText → Bool
-lacks_body config bodies = list_any (λ (t : TaskDecl). not (list_any (bytes_eq t.name) (task_body_names bodies))) config.tasks
+abbrev pub is_body_missing : Config → List BodyText → Bool
+is_body_missing config bodies = list_any (λ (t : TaskDecl). not (list_any (bytes_eq t.name) (task_body_names bodies))) config.tasks
 
 -- a fault of names or limits of these lines
 abbrev pub NameFault : Config → List SourceLine → Refusal → Type 0
 NameFault config ls r =
     Somewhere DataFault ls r
     ⊎ (Somewhere (BodyFault (scope_of config ls (bodies_of ls))) (bodies_of ls) r
-    ⊎ Case (lacks_body config (bodies_of ls)) 1 A7 r)
+    ⊎ SourceCase (is_body_missing config (bodies_of ls)) 1 A7 r)

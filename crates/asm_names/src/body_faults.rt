@@ -1,14 +1,14 @@
 //! A5 to A7 of bodies.
 ghost use Rattle.std.specs.Prelude.{◌≡◌, ◌+◌, ◌<◌, ◌^◌, take, length, ◌⊎◌, All, IfOk};
-ghost use Rattle.least_fault.specs.Search.{Finds, Somewhere};
-ghost use Rattle.asm_scopes.specs.Said.{label_names};
+ghost use Rattle.least_fault.specs.Search.{IsSearchResult, Somewhere};
+ghost use Rattle.asm_scopes.specs.Statements.{label_names};
 ghost use Rattle.asm_scopes.specs.Bodies.{function_names};
 ghost use Rattle.asm_names.specs.NameFaults.{is_too_great, is_strange, is_misnamed, is_beyond, HeaderFault, InnerFault, LineFault, BodyFault};
 
 use crate::limits::{count_item, count_items, count_label, has_long};
 use asm_lines::SourceLine;
 use asm_scopes::{Body, Scope, is_item, is_label, is_task, label_names, name_of, number_of};
-use least_fault::{merge, when};
+use least_fault::{fault_if, merge};
 use sloth_base::limits::{BODY_LIMIT, FRAME_LIMIT, ITEM_LIMIT};
 use sloth_base::memory::NoMemory;
 use sloth_base::refusal::{Code, Part, Refusal};
@@ -29,12 +29,12 @@ fn is_strange(scope: &Scope, header: &SourceLine) -> bool
 
 // The least fault of a header behind the first `count` bodies.
 fn header_fault(scope: &Scope, count: usize, number: u32, header: &SourceLine) -> Option<Refusal>
-    ensures { Finds (HeaderFault scope.now (take count scope.now.functions) count number header.now) result }
+    ensures { IsSearchResult (HeaderFault scope.now (take count scope.now.functions) count number header.now) result }
 {
     let doubled = scope.functions.is_among_first(count, name_of(header));
-    let doubled = when(doubled, Part::Src, number, Code::A5);
-    let great = when(is_too_great(count, header), Part::Src, number, Code::A6);
-    let strange = when(is_strange(scope, header), Part::Src, number, Code::A7);
+    let doubled = fault_if(doubled, Part::Src, number, Code::A5);
+    let great = fault_if(is_too_great(count, header), Part::Src, number, Code::A6);
+    let strange = fault_if(is_strange(scope, header), Part::Src, number, Code::A7);
     merge(doubled, merge(great, strange))
 }
 
@@ -61,15 +61,15 @@ fn inner_fault(
     number: u32,
     line: &SourceLine,
 ) -> Option<Refusal>
-    ensures { Finds (InnerFault scope.now labels.now (take count labels.now) items number line.now) result }
+    ensures { IsSearchResult (InnerFault scope.now labels.now (take count labels.now) items number line.now) result }
 {
-    let misnamed = when(
+    let misnamed = fault_if(
         is_misnamed(scope, labels, count, line),
         Part::Src,
         number,
         Code::A5,
     );
-    let beyond = when(is_beyond(items, line), Part::Src, number, Code::A6);
+    let beyond = fault_if(is_beyond(items, line), Part::Src, number, Code::A6);
     merge(misnamed, beyond)
 }
 
@@ -84,7 +84,7 @@ fn line_faults(
     requires few { number + length lines.now < 2 ^ 32 }
     requires items { items + length lines.now < 2 ^ 64 }
     requires labels { labels.now ≡ label_names lines.now }
-    ensures { Finds (Somewhere (LineFault scope.now labels.now items number) lines.now) result }
+    ensures { IsSearchResult (Somewhere (LineFault scope.now labels.now items number) lines.now) result }
 {
     let mut least = None;
     let mut count = 0;
@@ -109,7 +109,7 @@ fn body_fault(
 ) -> Result<Option<Refusal>, NoMemory>
     requires few { body.now.line + length body.now.lines < 2 ^ 32 }
     requires items { items + length body.now.lines < 2 ^ 64 }
-    ensures { IfOk result (λ found. Finds (λ r.
+    ensures { IfOk result (λ found. IsSearchResult (λ r.
         HeaderFault scope.now (take count scope.now.functions) count body.now.line body.now.header r
         ⊎ Somewhere (LineFault scope.now (label_names body.now.lines) items body.now.line) body.now.lines r) found) }
 {
@@ -128,7 +128,7 @@ pub fn body_faults(
     requires few { length bodies.now < 2 ^ 32 }
     requires short { All (λ body. body.line + length body.lines < 2 ^ 32) bodies.now }
     requires functions { scope.now.functions ≡ function_names bodies.now }
-    ensures { IfOk result (λ found. Finds (Somewhere (BodyFault scope.now) bodies.now) found) }
+    ensures { IfOk result (λ found. IsSearchResult (Somewhere (BodyFault scope.now) bodies.now) found) }
 {
     let mut least = None;
     let mut items = 0;

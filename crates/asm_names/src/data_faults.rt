@@ -1,13 +1,13 @@
 //! A5 and A6 of symbols.
 ghost use Rattle.std.specs.Prelude.{◌≡◌, ◌<◌, ◌^◌, take, length};
-ghost use Rattle.least_fault.specs.Search.{Finds, Somewhere};
-ghost use Rattle.asm_scopes.specs.Said.{symbol_names};
+ghost use Rattle.least_fault.specs.Search.{IsSearchResult, Somewhere};
+ghost use Rattle.asm_scopes.specs.Statements.{symbol_names};
 ghost use Rattle.asm_names.specs.NameFaults.{is_taken, is_too_much, SymbolFault, DataFault};
 
 use crate::limits::{bytes_of, count_data, has_long};
 use asm_lines::SourceLine;
 use asm_scopes::{is_data, name_of, number_of};
-use least_fault::{merge, when};
+use least_fault::{fault_if, merge};
 use sloth_base::limits::{DATA_LIMIT, SYMBOL_LIMIT};
 use sloth_base::refusal::{Code, Part, Refusal};
 use text_pieces::bytes::same;
@@ -40,10 +40,10 @@ fn symbol_fault(
     line: &SourceLine,
 ) -> Option<Refusal>
     requires { bytes < 2 ^ 63 }
-    ensures { Finds (SymbolFault (take count symbols.now) count bytes number line.now) result }
+    ensures { IsSearchResult (SymbolFault (take count symbols.now) count bytes number line.now) result }
 {
-    let taken = when(is_taken(symbols, count, line), Part::Src, number, Code::A5);
-    let too_much = when(is_too_much(count, bytes, line), Part::Src, number, Code::A6);
+    let taken = fault_if(is_taken(symbols, count, line), Part::Src, number, Code::A5);
+    let too_much = fault_if(is_too_much(count, bytes, line), Part::Src, number, Code::A6);
     merge(taken, too_much)
 }
 
@@ -51,7 +51,7 @@ fn symbol_fault(
 pub fn data_faults(symbols: &Names, lines: &[SourceLine]) -> Option<Refusal>
     requires few { length lines.now < 2 ^ 32 }
     requires symbols { symbols.now ≡ symbol_names lines.now }
-    ensures { Finds (Somewhere DataFault lines.now) result }
+    ensures { IsSearchResult (Somewhere DataFault lines.now) result }
 {
     let mut least = None;
     let mut count = 0;

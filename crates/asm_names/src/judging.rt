@@ -2,16 +2,16 @@
 ghost use Rattle.std.specs.Prelude.{◌≡◌, ◌<◌, ◌^◌, not, length, IfOk, bytes_eq};
 ghost use Rattle.std.specs.List.{list_any};
 ghost use Rattle.sloth_base.specs.declared.config.TaskDecl.{TaskDecl};
-ghost use Rattle.least_fault.specs.Search.{Finds};
+ghost use Rattle.least_fault.specs.Search.{IsSearchResult};
 ghost use Rattle.asm_scopes.specs.Bodies.{bodies_of};
 ghost use Rattle.asm_scopes.specs.Scopes.{scope_of};
-ghost use Rattle.asm_names.specs.NameFaults.{lacks_body, NameFault};
+ghost use Rattle.asm_names.specs.NameFaults.{is_body_missing, NameFault};
 
 use crate::body_faults::body_faults;
 use crate::data_faults::data_faults;
 use asm_lines::SourceLine;
 use asm_scopes::{Body, Scope, scope_of, task_body_names};
-use least_fault::{merge, when};
+use least_fault::{fault_if, merge};
 use sloth_base::config::{Config, TaskDecl};
 use sloth_base::memory::NoMemory;
 use sloth_base::refusal::{Code, Part, Refusal};
@@ -25,8 +25,8 @@ fn any_without(names: &Names, tasks: &[TaskDecl]) -> bool
 }
 
 // Whether a task of the configuration has no body.
-fn lacks_body(alloc: Global, config: &Config, bodies: &[Body]) -> Result<bool, NoMemory>
-    ensures { IfOk result (λ lacks. lacks ≡ lacks_body config.now bodies.now) }
+fn is_body_missing(alloc: Global, config: &Config, bodies: &[Body]) -> Result<bool, NoMemory>
+    ensures { IfOk result (λ lacks. lacks ≡ is_body_missing config.now bodies.now) }
 {
     let names = task_body_names(alloc, bodies)?;
     Ok(any_without(&names, config.tasks.items()))
@@ -43,12 +43,12 @@ fn fault_in_scope(
     requires few { length lines.now < 2 ^ 32 }
     requires bodies { bodies.now ≡ bodies_of lines.now }
     requires scope { scope.now ≡ scope_of config.now lines.now bodies.now }
-    ensures { IfOk result (λ found. Finds (NameFault config.now lines.now) found) }
+    ensures { IfOk result (λ found. IsSearchResult (NameFault config.now lines.now) found) }
 {
     let of_data = data_faults(&scope.symbols, lines);
     let of_bodies = body_faults(alloc, scope, bodies)?;
-    let lacks = lacks_body(alloc, config, bodies)?;
-    let of_tasks = when(lacks, Part::Src, 1, Code::A7);
+    let lacks = is_body_missing(alloc, config, bodies)?;
+    let of_tasks = fault_if(lacks, Part::Src, 1, Code::A7);
     Ok(merge(of_data, merge(of_bodies, of_tasks)))
 }
 
@@ -62,7 +62,7 @@ pub fn judge(
 ) -> Result<Option<Refusal>, NoMemory>
     requires few { length lines.now < 2 ^ 32 }
     requires bodies { bodies.now ≡ bodies_of lines.now }
-    ensures { IfOk result (λ found. Finds (NameFault config.now lines.now) found) }
+    ensures { IfOk result (λ found. IsSearchResult (NameFault config.now lines.now) found) }
 {
     let scope = scope_of(alloc, config, lines, bodies)?;
     fault_in_scope(alloc, config, lines, bodies, &scope)

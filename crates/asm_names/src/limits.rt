@@ -1,15 +1,15 @@
 //! Long names, and what counts against a limit.
 ghost use Rattle.std.specs.Prelude.{◌≡◌, ◌≤◌, if◌then◌else◌, count_by, length};
 ghost use Rattle.std.specs.List.{list_any};
-ghost use Rattle.asm_scopes.specs.Said.{is_data, is_label, is_item, written_name};
-ghost use Rattle.asm_names.specs.NameFaults.{writes_long, has_long, bytes_of};
+ghost use Rattle.asm_scopes.specs.Statements.{is_data, is_label, is_item, written_name};
+ghost use Rattle.asm_names.specs.NameFaults.{has_long_name, has_long, bytes_of};
 
 use asm_lines::{Operand, SourceLine};
 use asm_scopes::{is_data, is_item, is_label, number_of, written};
 use sloth_base::limits::NAME_LIMIT;
 
-fn writes_long(operand: &Operand) -> bool
-    ensures { result ≡ writes_long (written_name operand.now) }
+fn has_long_name(operand: &Operand) -> bool
+    ensures { result ≡ has_long_name (written_name operand.now) }
 {
     match written(operand) {
         Some(name) => name.len() > NAME_LIMIT,
@@ -18,9 +18,9 @@ fn writes_long(operand: &Operand) -> bool
 }
 
 fn any_long(operands: &[Operand]) -> bool
-    ensures { result ≡ list_any (λ x. writes_long (written_name x)) operands.now }
+    ensures { result ≡ list_any (λ x. has_long_name (written_name x)) operands.now }
 {
-    operands.iter().any(|operand| writes_long(operand))
+    operands.iter().any(|operand| has_long_name(operand))
 }
 
 /// Whether one of the names that a line writes is long.

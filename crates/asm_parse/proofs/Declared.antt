@@ -17,8 +17,8 @@ use Rattle.statement_forms.specs.declared.forms.Mnemonic.TheVariants as m
 use Rattle.asm_lines.specs.Faults.{is_long}
 use Rattle.asm_lines.specs.Numbers.{is_within}
 use Rattle.statement_forms.specs.Forms.{is_operand_count, form_of, is_body_start}
-use Rattle.asm_scopes.specs.Said.{is_data, opens_body, name_of, first_name, second_number, written_name}
-use Rattle.asm_names.specs.NameFaults.{writes_long, has_long}
+use Rattle.asm_scopes.specs.Statements.{is_data, opens_body, name_of, first_name, second_number, written_name}
+use Rattle.asm_names.specs.NameFaults.{has_long_name, has_long}
 use Rattle.asm_items.specs.Apps.{third_bytes, bytes_with}
 use Rattle.asm_parse.proofs.Fit.{FitsBytes, Fits, AllFit}
 use Rattle.asm_parse.proofs.Operands.{name_case, number_case, some_of, two_of, three_of}
@@ -53,7 +53,7 @@ declares m os is_name some h s =
     some_of (λ os. AllFit m 0 os → has_long (Statement m os) ≡ false → IsName (first_name os))
     (λ a os h s.
     name_case (λ a. has_long (Statement m (a ∷ os)) ≡ false → IsName (first_name (a ∷ os)))
-    (λ n w s. record { word = w; short = ltb-false name_limit (length n) (or_parts (nat_lt name_limit (length n)) (list_any (λ x. writes_long (written_name x)) os) s).0 })
+    (λ n w s. record { word = w; short = ltb-false name_limit (length n) (or_parts (nat_lt name_limit (length n)) (list_any (λ x. has_long_name (written_name x)) os) s).0 })
     a (subst (λ F. Fits F a) is_name h.0) s)
     os some h s
 

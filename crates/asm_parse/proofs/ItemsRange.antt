@@ -19,7 +19,7 @@ use Rattle.asm_lines.specs.declared.source_line.SourceLine.TheVariants.{Statemen
 use Rattle.statement_forms.specs.declared.forms.Mnemonic.TheVariants as m
 use Rattle.asm_scopes.specs.declared.scope.Kind.TheVariants as kind
 use Rattle.asm_scopes.specs.declared.scope.Scope.{Scope}
-use Rattle.asm_scopes.specs.Said.{is_item, is_label, name_of, label_names, written_name}
+use Rattle.asm_scopes.specs.Statements.{is_item, is_label, name_of, label_names, written_name}
 use Rattle.asm_scopes.specs.Scopes.{is_lacking, any_unknown, has_unknown}
 use Rattle.asm_items.specs.Operations.{op_of, resource_number, behind_first}
 use Rattle.asm_items.specs.Apps.{item_by, count_op, items_from, held_resource_by, holds_of, label_holds, label_of, labels_from}

@@ -11,7 +11,7 @@ use Rattle.asm_lines.specs.Numbers.{is_within}
 use Rattle.statement_forms.specs.Forms.{form_of}
 use Rattle.asm_scopes.specs.declared.scope.Kind.{Kind}
 use Rattle.asm_scopes.specs.declared.scope.Scope.{Scope}
-use Rattle.asm_scopes.specs.Said.{written_name}
+use Rattle.asm_scopes.specs.Statements.{written_name}
 use Rattle.asm_scopes.specs.Scopes.{is_named, is_lacking, any_unknown, kind_of}
 use Rattle.code_rules.specs.AppRange.{IsRegister}
 use Rattle.sloth_base.specs.ImageRange.{IsWord}

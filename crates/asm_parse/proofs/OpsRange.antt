@@ -25,7 +25,7 @@ use Rattle.statement_forms.specs.declared.forms.Form.TheVariants as form
 use Rattle.statement_forms.specs.Forms.{is_operand_count, form_of}
 use Rattle.asm_scopes.specs.declared.scope.Kind.TheVariants as kind
 use Rattle.asm_scopes.specs.declared.scope.Scope.{Scope}
-use Rattle.asm_scopes.specs.Said.{is_action, written_name}
+use Rattle.asm_scopes.specs.Statements.{is_action, written_name}
 use Rattle.asm_scopes.specs.Scopes.{is_named, is_lacking, any_unknown, kind_of, service_kind}
 use Rattle.asm_items.specs.declared.operations.Access.{Access}
 use Rattle.asm_items.specs.declared.operations.Access.TheVariants.{Load, Store}

@@ -31,11 +31,11 @@ use Rattle.asm_lines.specs.declared.source_line.SourceLine.{SourceLine}
 use Rattle.asm_lines.specs.declared.source_line.SourceLine.TheVariants.{Empty}
 use Rattle.asm_lines.specs.Faults.{source_lines, TextFault}
 use Rattle.asm_scopes.specs.declared.scope.Scope.{Scope}
-use Rattle.asm_scopes.specs.Said.{is_data, is_label, is_task, name_of, label_names, symbol_names}
+use Rattle.asm_scopes.specs.Statements.{is_data, is_label, is_task, name_of, label_names, symbol_names}
 use Rattle.asm_scopes.specs.Bodies.{BodyText, bodies_of, body_name, is_task_body, is_called_body, function_names, called_names, task_body_names}
 use Rattle.sloth_base.specs.DeclaredNames.{task_names, event_names, alarm_names}
 use Rattle.asm_scopes.specs.Scopes.{scope_of, is_scheduler}
-use Rattle.asm_names.specs.NameFaults.{has_long, items_in, lacks_body, BodyFault, NameFault}
+use Rattle.asm_names.specs.NameFaults.{has_long, items_in, is_body_missing, BodyFault, NameFault}
 use Rattle.asm_items.specs.Operations.{number_of as number_in, resource_number, mask_given, mask_at}
 use Rattle.asm_items.specs.Apps.{func_of, symbol_of, body_task, app_of, labels_from}
 use Rattle.asm_parse.specs.AppTexts.{AppText, SourceTextFault}
@@ -151,7 +151,7 @@ module _ (config : Config) (ls : List SourceLine) (range : InRange config) (read
 
   has_body : (t : ℕ) → t < length config.tasks → (f : ℕ) × IsBodyOf app t f
   has_body t h =
-      let lacks = none_pass (λ (t : TaskDecl). not (list_any (bytes_eq t.name) (task_body_names bodies))) config.tasks (case_false Src (lacks_body config bodies) 1 A7 (λ r x. none r (inr (inr x)))) in
+      let lacks = none_pass (λ (t : TaskDecl). not (list_any (bytes_eq t.name) (task_body_names bodies))) config.tasks (case_false Src (is_body_missing config bodies) 1 A7 (λ r x. none r (inr (inr x)))) in
       let name = (get_or config.tasks t no_task).name in
       let k = found_kept is_task_body body_name (bytes_eq name) bodies (not-false (list_any (bytes_eq name) (task_body_names bodies)) (lacks t no_task h)) in
       let same : name ≡ body_name (body_at bodies k.place) = (bytes_eq-Decides name (body_name (body_at bodies k.place))).0 (k.found no_body) in

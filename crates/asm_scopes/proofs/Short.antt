@@ -4,7 +4,7 @@ use Rattle.std.specs.Prelude.{All, if◌then◌else◌}
 use Rattle.std.specs.List.{take_while, prefix_len}
 use Rattle.std.proofs.lemmas.List.Elements.{All-nil, All-cons}
 use Rattle.asm_lines.specs.declared.source_line.SourceLine.{SourceLine}
-use Rattle.asm_scopes.specs.Said.{opens_body, closes_body}
+use Rattle.asm_scopes.specs.Statements.{opens_body, closes_body}
 use Rattle.asm_scopes.specs.Bodies.{BodyText, bodies_from}
 
 abbrev pub EndsBefore : ℕ → BodyText → Type 0

@@ -2,7 +2,7 @@
 use Rattle.std.specs.Prelude.{ℕ, ◌+◌, Bool, true, false, not, if◌then◌else◌, List, [], ◌∷◌, map, filter}
 use Rattle.std.specs.List.{take_while}
 use Rattle.asm_lines.specs.declared.source_line.SourceLine.{SourceLine}
-use Rattle.asm_scopes.specs.Said.{opens_body, closes_body, is_task, name_of}
+use Rattle.asm_scopes.specs.Statements.{opens_body, closes_body, is_task, name_of}
 
 -- a body: the number of its header's line, the header, and the lines behind it
 pub record BodyText : Type 0 where

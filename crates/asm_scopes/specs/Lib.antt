@@ -1,3 +1,3 @@
-pub mod Said
+pub mod Statements
 pub mod Scopes
 pub mod Bodies

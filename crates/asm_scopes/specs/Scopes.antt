@@ -16,7 +16,7 @@ use Rattle.asm_lines.specs.declared.source_line.SourceLine.TheVariants.{Statemen
 use Rattle.asm_scopes.specs.declared.scope.Kind.{Kind}
 use Rattle.asm_scopes.specs.declared.scope.Kind.TheVariants as kind
 use Rattle.asm_scopes.specs.declared.scope.Scope.{Scope}
-use Rattle.asm_scopes.specs.Said.{written_name, symbol_names}
+use Rattle.asm_scopes.specs.Statements.{written_name, symbol_names}
 use Rattle.asm_scopes.specs.Bodies.{BodyText, function_names, called_names}
 
 -- the names that a source with these lines and bodies may use

@@ -1,10 +1,10 @@
 //! The bodies of task source.
 ghost use Rattle.std.specs.Prelude.{◌≡◌, ◌^◌, ◌<◌, not, IfOk, take, length};
 ghost use Rattle.std.specs.List.{take_while, prefix_len};
-ghost use Rattle.asm_scopes.specs.Said.{closes_body};
+ghost use Rattle.asm_scopes.specs.Statements.{closes_body};
 ghost use Rattle.asm_scopes.specs.Bodies.{bodies_of, body_name, is_task_body};
 
-use crate::said::{closes_body, is_task, name_of, opens_body};
+use crate::statements::{closes_body, is_task, name_of, opens_body};
 use asm_lines::SourceLine;
 use sloth_base::memory::NoMemory;
 use std::alloc::Global;

@@ -1,9 +1,9 @@
 //! What a name may stand for where it is used.
 ghost use Rattle.std.specs.Prelude.{◌≡◌};
 ghost use Rattle.asm_scopes.specs.Scopes.{object_name, service_kind, kind_of, is_scheduler, is_named, is_lacking, any_unknown, has_unknown};
-ghost use Rattle.asm_scopes.specs.Said.{written_name};
+ghost use Rattle.asm_scopes.specs.Statements.{written_name};
 
-use crate::said::written;
+use crate::statements::written;
 use asm_lines::{Mnemonic, Operand, SourceLine};
 use sloth_base::service::{ObjectKind, Service};
 use text_pieces::bytes::same;

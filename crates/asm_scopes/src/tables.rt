@@ -1,13 +1,13 @@
 //! The names of a configuration and of bodies.
 ghost use Rattle.std.specs.Prelude.{◌≡◌, map, filter, IfOk};
-ghost use Rattle.asm_scopes.specs.Said.{symbol_names};
+ghost use Rattle.asm_scopes.specs.Statements.{symbol_names};
 ghost use Rattle.sloth_base.specs.DeclaredNames.{task_names, event_names, alarm_names};
 ghost use Rattle.asm_scopes.specs.Scopes.{scope_of};
 ghost use Rattle.asm_scopes.specs.Bodies.{body_name, is_body_of, function_names, called_names, task_body_names};
 
 use crate::body::Body;
-use crate::said::symbol_names;
 use crate::scope::Scope;
+use crate::statements::symbol_names;
 use asm_lines::SourceLine;
 use sloth_base::config::Config;
 use sloth_base::memory::NoMemory;

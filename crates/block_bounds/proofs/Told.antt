@@ -24,7 +24,7 @@ use Rattle.bound_rules.specs.declared.sizes.Summary.{Summary}
 use Rattle.section_sizes.specs.Parts.{called_level, CountsWithin}
 use Rattle.bound_rules.specs.Summaries.{summary_of}
 use Rattle.section_sizes.specs.Known.{IsExact, IsEndless, IsSummary, AreSummaries}
-use Rattle.block_bounds.specs.Bounds.{IsTold, is_below, some_endless, greatest_section, greatest_sections}
+use Rattle.block_bounds.specs.Bounds.{IsTold, is_below, is_some_unlimited, greatest_section, greatest_sections}
 use Rattle.bound_rules.specs.Tasks.{task_summary, told}
 use Rattle.section_sizes.proofs.Counting.{any_is, none_is}
 use Rattle.section_sizes.proofs.Decomposed.{L, section_part}
@@ -92,7 +92,7 @@ module _ (config : Config) (app : App) (w : Facts config app) (h : ℕ) (there :
 
   -- ---- no limit
 
-  pub endless : some_endless config.tasks app.funcs whole own P ≡ true → HasNoBound config app h
+  pub endless : is_some_unlimited config.tasks app.funcs whole own P ≡ true → HasNoBound config app h
   endless e n =
       let f = any_is (length config.tasks) (λ t. is_below config.tasks P t && (S t).is_endless) e in
       let both = and_parts (is_below config.tasks P f.0) (S f.0).is_endless f.2 in
@@ -106,7 +106,7 @@ module _ (config : Config) (app : App) (w : Facts config app) (h : ℕ) (there :
 
   -- ---- a limit
 
-  module _ (bounded : some_endless config.tasks app.funcs whole own P ≡ false) where
+  module _ (bounded : is_some_unlimited config.tasks app.funcs whole own P ≡ false) where
     exact : (t : ℕ) → IsLower config h t → IsExact config app (Level t) (body_of app.funcs t) (S t)
     exact t low =
         let none = none_is (length config.tasks) (λ t. is_below config.tasks P t && (S t).is_endless) bounded t low.0 in
@@ -230,18 +230,18 @@ module _ (config : Config) (app : App) (well : WellFormed config app) (h : ℕ) 
   own_here : AreSummaries config app (Some (static_priority config h)) own
   own_here = subst (λ (p : ℕ). AreSummaries config app (Some p) own) is own_is
 
-  endless_here : some_endless config.tasks app.funcs whole own (static_priority config h) ≡ some_endless tasks funcs whole own priority
+  endless_here : is_some_unlimited config.tasks app.funcs whole own (static_priority config h) ≡ is_some_unlimited tasks funcs whole own priority
   endless_here =
       sym (
-      ap (λ (x : List TaskDecl). some_endless x funcs whole own priority) tasks_are
-      ∙ ap (λ (x : List Func). some_endless config.tasks x whole own priority) funcs_are
-      ∙ ap (λ (p : ℕ). some_endless config.tasks app.funcs whole own p) is
+      ap (λ (x : List TaskDecl). is_some_unlimited x funcs whole own priority) tasks_are
+      ∙ ap (λ (x : List Func). is_some_unlimited config.tasks x whole own priority) funcs_are
+      ∙ ap (λ (p : ℕ). is_some_unlimited config.tasks app.funcs whole own p) is
       )
 
-  pub endless_as : some_endless tasks funcs whole own priority ≡ true → HasNoBound config app h
+  pub endless_as : is_some_unlimited tasks funcs whole own priority ≡ true → HasNoBound config app h
   endless_as e = endless config app (facts config app well) h there whole own whole_is own_here (endless_here ∙ e)
 
-  pub told_as : any_below (length config.tasks) (is_below config.tasks priority) ≡ true → some_endless tasks funcs whole own priority ≡ false
+  pub told_as : any_below (length config.tasks) (is_below config.tasks priority) ≡ true → is_some_unlimited tasks funcs whole own priority ≡ false
       → (most : ℕ) → most ≡ greatest_sections tasks funcs whole own priority → (b : Bound) → b ≡ told most → IsTold config app h b
   told_as some bounded most m b e =
       let same =

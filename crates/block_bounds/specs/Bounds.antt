@@ -30,8 +30,8 @@ abbrev pub is_below : List TaskDecl → (priority t : ℕ) → Bool
 is_below tasks priority t = ltb (task_at tasks t).priority priority
 
 -- sections of some lower task have no limit
-abbrev pub some_endless : List TaskDecl → List Func → (whole own : List Summary) → (priority : ℕ) → Bool
-some_endless tasks funcs whole own priority =
+abbrev pub is_some_unlimited : List TaskDecl → List Func → (whole own : List Summary) → (priority : ℕ) → Bool
+is_some_unlimited tasks funcs whole own priority =
     any_below (length tasks) (λ t. is_below tasks priority t && (task_summary tasks funcs whole own t).is_endless)
 
 -- the greatest size of sections of a lower task

@@ -4,7 +4,7 @@ use Rattle.sloth_base.specs.declared.config.Config.{Config}
 use Rattle.sloth_base.specs.declared.app.App.{App}
 use Rattle.sloth_base.specs.declared.event.Stamped.{Stamped}
 use Rattle.osek_scheduler.specs.State.{System, opening}
-use Rattle.osek_scheduler.specs.Runs.{Leads, OsekRun}
+use Rattle.osek_scheduler.specs.Runs.{AreStepsTo, OsekRun}
 use Rattle.osek_blocking.specs.Blocking.{events_up_to_entry, MakesReady}
 use Rattle.raised_sections.specs.Kept.{lower_events}
 use Rattle.bound_rules.specs.declared.bound.Bound.{Bound}
@@ -14,7 +14,7 @@ use Rattle.bound_rules.specs.declared.bound.Bound.TheVariants as bound
 abbrev pub WaitsForItems : Config → App → (h b : ℕ) → List Stamped → Type 0
 WaitsForItems config app h b events =
     (before behind : List Stamped) (made : Stamped) (found s : System) → events ≡ before ++ made ∷ behind
-    → Leads config app before (opening config app) found → MakesReady config app h made.event found s → lower_events config h (events_up_to_entry h behind) ≤ b
+    → AreStepsTo config app before (opening config app) found → MakesReady config app h made.event found s → lower_events config h (events_up_to_entry h behind) ≤ b
 
 -- in every run of the abstract scheduler each task of which a number is told waits for at most so many
 abbrev pub RunsKeepTold : Config → App → List Bound → Type 0

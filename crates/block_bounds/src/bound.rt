@@ -8,7 +8,7 @@ ghost use Rattle.call_graph.specs.Tables.{HasBody};
 ghost use Rattle.section_sizes.specs.CallOrder.{IsCallOrder};
 ghost use Rattle.section_sizes.specs.Known.{AreKnownBodies, AreSummaries};
 ghost use Rattle.block_bounds.specs.Kept.{RunsKeepTold};
-ghost use Rattle.block_bounds.specs.Bounds.{IsTold, AreBounds, is_below, some_endless, greatest_section, greatest_sections};
+ghost use Rattle.block_bounds.specs.Bounds.{IsTold, AreBounds, is_below, is_some_unlimited, greatest_section, greatest_sections};
 
 use bound_rules::bodies::Body;
 pub use bound_rules::bound::Bound;
@@ -46,7 +46,7 @@ fn has_lower(tasks: &[TaskDecl], priority: u32) -> bool
 }
 
 /// Whether sections of some lower task have no limit.
-fn some_endless(
+fn is_some_unlimited(
     tasks: &[TaskDecl],
     funcs: &[Func],
     whole: &[Summary],
@@ -56,7 +56,7 @@ fn some_endless(
     requires bodies { (t : ℕ) → t < length tasks.now → HasBody funcs.now t }
     requires whole_count { length whole.now ≡ length funcs.now }
     requires own_count { length own.now ≡ length funcs.now }
-    ensures { result ≡ some_endless tasks.now funcs.now whole.now own.now priority }
+    ensures { result ≡ is_some_unlimited tasks.now funcs.now whole.now own.now priority }
 {
     let mut endless = false;
     for task in 0..tasks.len() {
@@ -134,7 +134,7 @@ fn bound_above(
 {
     let tasks = config.tasks.items();
     let funcs = app.funcs.items();
-    if some_endless(tasks, funcs, whole, own, priority) {
+    if is_some_unlimited(tasks, funcs, whole, own, priority) {
         return Bound::Endless;
     }
     told(greatest_sections(tasks, funcs, whole, own, priority))

@@ -16,7 +16,7 @@ use Rattle.masked_code.specs.Place.{offset_state}
 use Rattle.masked_code.proofs.Leave.{behind}
 use Rattle.masked_code.proofs.Spread.{based, spread_from}
 use Rattle.masked_code.proofs.Routines.{masked}
-use Rattle.block_parts.specs.Looks.{LooksSuspended}
+use Rattle.block_parts.specs.SuspensionTest.{IsFoundSuspended}
 use Rattle.block_parts.specs.Pieces.{looking_code}
 
 -- a pending byte stays a bit under arrivals
@@ -49,7 +49,7 @@ suspends (suc (suc e)) p a x y z = absurd (omega arith)
 
 -- 1 is found where the task is Suspended, else 0
 abbrev pub Finds : ℕ → Core → ℕ → Type 0
-Finds task core v = (LooksSuspended task core × (v ≡ 1)) ⊎ ((LooksSuspended task core → ⊥) × (v ≡ 0))
+Finds task core v = (IsFoundSuspended task core × (v ≡ 1)) ⊎ ((IsFoundSuspended task core → ⊥) × (v ≡ 0))
 
 -- what is owed of the look, which finds v in x1 behind arrivals of the task's line
 module _ (offset to task : ℕ) (E : List ℕ → State → State → Type 0) (rest : List InstrKind) (c : Core) (is_task : task < task_limit) (lines_32 : length c.pending ≡ line_count)

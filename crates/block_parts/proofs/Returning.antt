@@ -9,7 +9,7 @@ use Rattle.masked_code.specs.Place.{offset_state}
 use Rattle.masked_code.proofs.Owes.{◌▸◌, accesses, Owes}
 use Rattle.masked_code.proofs.Spread.{based, spread_from, others}
 use Rattle.masked_code.proofs.Routines.{masked}
-use Rattle.block_parts.specs.Back.{CanGoBack, WentBack, a0, a1}
+use Rattle.block_parts.specs.Back.{CanGoBack, BackEffect, a0, a1}
 use Rattle.block_parts.specs.Pieces.{level_back_code, back_code}
 
 module _ (offset : ℕ) (code : List InstrKind) (c : Core) (can : CanGoBack offset code c) where
@@ -37,7 +37,7 @@ module _ (offset : ℕ) (code : List InstrKind) (c : Core) (can : CanGoBack offs
         core = record (based c) { registers = 0 ∷ x1 ∷ x2 ∷ controller_base ∷ memory_base ∷ rest; mepc = x31 - x31 % 4; plevel = goes_to; ilevel = goes_to; mie = c.mpie; mpie = true; pending = pending; ram = ram };
       }
 
-  returned : (last x1 goes_to level : ℕ) (rest before pending ram : List ℕ) → length rest ≡ 27 → goes_to ≡ level → ((i : ℕ) → 5 ≤ i → (i < a0) ⊎ (last < i) → get_or (0 ∷ x1 ∷ x2 ∷ controller_base ∷ memory_base ∷ rest) i 0 ≡ get_or (based c).registers i 0) → WentBack last (left level pending ram) (start before) (end x1 goes_to rest pending ram)
+  returned : (last x1 goes_to level : ℕ) (rest before pending ram : List ℕ) → length rest ≡ 27 → goes_to ≡ level → ((i : ℕ) → 5 ≤ i → (i < a0) ⊎ (last < i) → get_or (0 ∷ x1 ∷ x2 ∷ controller_base ∷ memory_base ∷ rest) i 0 ≡ get_or (based c).registers i 0) → BackEffect last (left level pending ram) (start before) (end x1 goes_to rest pending ram)
   returned last x1 goes_to level rest before pending ram long running kept =
       let aligned = can.back in
       record {
@@ -57,13 +57,13 @@ module _ (offset : ℕ) (code : List InstrKind) (c : Core) (can : CanGoBack offs
   not_a1 i apart e = ⊎_elim (λ below. absurd (omega arith)) (λ above. absurd (omega arith)) apart
 
   -- with a status
-  answered : (x1 goes_to level status : ℕ) (before pending ram : List ℕ) → goes_to ≡ level → WentBack a0 (left level pending ram) (start before) (end x1 goes_to (set tail 5 status) pending ram)
+  answered : (x1 goes_to level status : ℕ) (before pending ram : List ℕ) → goes_to ≡ level → BackEffect a0 (left level pending ram) (start before) (end x1 goes_to (set tail 5 status) pending ram)
   answered x1 goes_to level status before pending ram running =
       returned a0 x1 goes_to level (set tail 5 status) before pending ram refl running
       (λ i past apart. get_or-set_other (0 ∷ x1 ∷ x2 ∷ controller_base ∷ memory_base ∷ tail) 10 i status 0 (not_a0 a0 i (omega arith) apart) ∙ other x1 i past)
 
   -- with a status and an answer
-  answered_with : (x1 goes_to level status answer : ℕ) (before pending ram : List ℕ) → goes_to ≡ level → WentBack a1 (left level pending ram) (start before) (end x1 goes_to (set (set tail 6 answer) 5 status) pending ram)
+  answered_with : (x1 goes_to level status answer : ℕ) (before pending ram : List ℕ) → goes_to ≡ level → BackEffect a1 (left level pending ram) (start before) (end x1 goes_to (set (set tail 6 answer) 5 status) pending ram)
   answered_with x1 goes_to level status answer before pending ram running =
       let low = 0 ∷ x1 ∷ x2 ∷ controller_base ∷ memory_base ∷ tail in
       returned a1 x1 goes_to level (set (set tail 6 answer) 5 status) before pending ram refl running
@@ -71,7 +71,7 @@ module _ (offset : ℕ) (code : List InstrKind) (c : Core) (can : CanGoBack offs
 
   -- What is owed of the way back, wherever it stands: at the level in plevel, with a status.
   pub goes_back_to : (E : List ℕ → State → State → Type 0) (x1 goes_to level status : ℕ) (before pending ram : List ℕ) → goes_to ≡ level
-      → ((last : State) → slice_index last.core.registers a0 ≡ status → WentBack a0 (left level pending ram) (start before) last → E [] (start before) last)
+      → ((last : State) → slice_index last.core.registers a0 ≡ status → BackEffect a0 (left level pending ram) (start before) last → E [] (start before) last)
       → Owes 0 0 0 back_code 0 E (start before)
       (record (masked (based c)) { registers = 0 ∷ x1 ∷ x2 ∷ controller_base ∷ memory_base ∷ set tail 5 status; plevel = goes_to; pending = pending; ram = ram })
   goes_back_to E x1 goes_to level status before pending ram running go =
@@ -80,7 +80,7 @@ module _ (offset : ℕ) (code : List InstrKind) (c : Core) (can : CanGoBack offs
 
   -- the same at the level in x1
   pub goes_back_at : (E : List ℕ → State → State → Type 0) (x1 level status : ℕ) (before pending ram : List ℕ) → x1 % 256 ≡ level
-      → ((last : State) → slice_index last.core.registers a0 ≡ status → WentBack a0 (left level pending ram) (start before) last → E [] (start before) last)
+      → ((last : State) → slice_index last.core.registers a0 ≡ status → BackEffect a0 (left level pending ram) (start before) last → E [] (start before) last)
       → Owes 0 0 0 level_back_code 0 E (start before)
       (record (masked (based c)) { registers = 0 ∷ x1 ∷ x2 ∷ controller_base ∷ memory_base ∷ set tail 5 status; pending = pending; ram = ram })
   goes_back_at E x1 level status before pending ram running go =
@@ -89,7 +89,7 @@ module _ (offset : ℕ) (code : List InstrKind) (c : Core) (can : CanGoBack offs
 
   -- at the level that runs, which plevel holds
   pub goes_back : (E : List ℕ → State → State → Type 0) (x1 status : ℕ) (before pending ram : List ℕ)
-      → ((last : State) → slice_index last.core.registers a0 ≡ status → WentBack a0 (left c.ilevel pending ram) (start before) last → E [] (start before) last)
+      → ((last : State) → slice_index last.core.registers a0 ≡ status → BackEffect a0 (left c.ilevel pending ram) (start before) last → E [] (start before) last)
       → Owes 0 0 0 back_code 0 E (start before)
       (record (masked (based c)) { registers = 0 ∷ x1 ∷ x2 ∷ controller_base ∷ memory_base ∷ set tail 5 status; pending = pending; ram = ram })
   goes_back E x1 status before pending ram go = goes_back_to E x1 c.plevel c.ilevel status before pending ram can.same_level go
@@ -97,7 +97,7 @@ module _ (offset : ℕ) (code : List InstrKind) (c : Core) (can : CanGoBack offs
   -- with a status and an answer
   pub goes_back_with : (E : List ℕ → State → State → Type 0) (x1 status answer : ℕ) (before pending ram : List ℕ)
       → ((last : State) → slice_index last.core.registers a0 ≡ status → slice_index last.core.registers a1 ≡ answer
-      → WentBack a1 (left c.ilevel pending ram) (start before) last → E [] (start before) last)
+      → BackEffect a1 (left c.ilevel pending ram) (start before) last → E [] (start before) last)
       → Owes 0 0 0 back_code 0 E (start before)
       (record (masked (based c)) { registers = 0 ∷ x1 ∷ x2 ∷ controller_base ∷ memory_base ∷ set (set tail 6 answer) 5 status; pending = pending; ram = ram })
   goes_back_with E x1 status answer before pending ram go =

@@ -3,7 +3,7 @@ pub mod ServiceCode
 pub mod ServiceBlock
 pub mod Pieces
 pub mod Marks
-pub mod Looks
+pub mod SuspensionTest
 pub mod Objects
 pub mod Alarms
 pub mod Boot

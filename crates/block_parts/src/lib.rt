@@ -2,7 +2,7 @@
 //! pieces of all routines on which their effects turn.
 //!
 //! An opening and a back mark are as defined; each piece of code is appended as the list of instructions that is its definition (`opening`,
-//! `back_mark`, `open`, `end`, `look_at`, `raise`, `go_back`, `go_on`; `specs/Marks`, `specs/Pieces`, `specs/Looks`, `specs/Back`). What the code and
+//! `back_mark`, `open`, `end`, `look_at`, `raise`, `go_back`, `go_on`; `specs/Marks`, `specs/Pieces`, `specs/SuspensionTest`, `specs/Back`). What the code and
 //! the block of each service promise: `specs/ServiceCode`, `specs/ServiceBlock`, `specs/Objects`.
 //!
 //! The pieces of routines are the way to what runs below, tests, what is loaded, computed and stored, the level of an entry and of the counters'

@@ -3,8 +3,8 @@ use Rattle.std.specs.Prelude.{◌≡◌, length}
 use Rattle.sloth_base.specs.declared.app.Func.{Func}
 use Rattle.sloth_base.specs.declared.refusal.Code.TheVariants as code
 use Rattle.sloth_base.specs.declared.refusal.Refusal.{Refusal}
-use Rattle.body_faults.specs.Cases.{Case}
+use Rattle.body_faults.specs.Cases.{BodyCase}
 
 -- V5 of a body without items
 abbrev pub EmptyFault : Func → Refusal → Type 0
-EmptyFault f r = Case (length f.items ≡ 0) f.line code.V5 r
+EmptyFault f r = BodyCase (length f.items ≡ 0) f.line code.V5 r

@@ -10,7 +10,7 @@ use Rattle.sloth_base.specs.declared.refusal.Code.TheVariants as code
 use Rattle.sloth_base.specs.declared.refusal.Refusal.{Refusal}
 use Rattle.sloth_base.specs.Named.{function, item_of, label_of}
 use Rattle.code_rules.specs.Code.{held_list_fallen_into, is_fallen_into, held_list_entering, is_entered}
-use Rattle.code_rules.specs.WellFormed.{Breaks, accesses_past, is_uneven, masks_past, runs_out, is_unreached, holds_other, releases_other, takes_held, leaves_holding, leaves_wrongly, uses_undeclared, Differs, falling_in, at_begin, BodyFault, at_header, at_label, at_item, fault_at_line}
+use Rattle.code_rules.specs.WellFormed.{IsBreach, is_access_past, is_uneven, is_mask_past, is_run_out, is_unreached, is_other_list_jump, is_wrong_release, is_second_take, is_leave_with_resource, is_wrong_leave, is_undeclared_use, HasOtherList, falling_in, at_begin, BodyFault, at_header, at_label, at_item, fault_at_line}
 use Rattle.body_faults.specs.Cases.{LabelFaults, ItemFaults, PlacesFault, FallFault}
 use Rattle.body_faults.proofs.EmptyBodies.{EmptyFault}
 use Rattle.body_faults.specs.Labels.{last_label_below, list_of, ArePlaced}
@@ -27,7 +27,7 @@ fall_of f k l entered differs none =
     (k, is_first f.labels place (length f.labels) k l refl none, ((into, λ e. differs (e ∙ sym held)), refl))
 
 differs_of : (f : Func) (place : ℕ) (r : Refusal) → FallFault f place r
-    → (k : ℕ) × (k < length f.labels) × Differs f k × (r ≡ fault_at_line (label_of f k).line code.V7)
+    → (k : ℕ) × (k < length f.labels) × HasOtherList f k × (r ≡ fault_at_line (label_of f k).line code.V7)
 differs_of f place r x =
     let k = x.0 in
     let first = first_is f.labels place (length f.labels) k x.1 in
@@ -51,7 +51,7 @@ module _ (config : Config) (app : App) (b : ℕ) where
       (λ ge. let e : place ≡ length (function app b).items = omega (arith, l, ge) in inr (subst (λ (p : ℕ). FallFault (function app b) p r) e x))
       (cases_lt place (length (function app b).items))
 
-  label_part : ArePlaced (function app b) → (k : ℕ) → k < length (function app b).labels → Differs (function app b) k → Parts (fault_at_line (label_of (function app b) k).line code.V7)
+  label_part : ArePlaced (function app b) → (k : ℕ) → k < length (function app b).labels → HasOtherList (function app b) k → Parts (fault_at_line (label_of (function app b) k).line code.V7)
   label_part placed k l (at_begin e n) = inr (inl (k, l, (inr (e, n), refl)))
   label_part placed k l (falling_in entered differs) = by (last_label_below (function app b).labels (label_of (function app b) k).item k) refl
     where
@@ -63,18 +63,18 @@ module _ (config : Config) (app : App) (b : ℕ) where
       by None e =
           let f = function app b in inr (inr (inr (fallen_part (label_of f k).item _ (placed k l) (fall_of f k l entered differs e))))
 
-  item_part : (i : ℕ) (c : Code) → i < length (function app b).items → Breaks config app b i c → Parts (fault_at_line (item_of (function app b) i).line c)
-  item_part i c l (accesses_past x) = inr (inr (inl (i, l, inl (inl (x, refl)))))
+  item_part : (i : ℕ) (c : Code) → i < length (function app b).items → IsBreach config app b i c → Parts (fault_at_line (item_of (function app b) i).line c)
+  item_part i c l (is_access_past x) = inr (inr (inl (i, l, inl (inl (x, refl)))))
   item_part i c l (is_uneven x) = inr (inr (inl (i, l, inl (inr (inl (x, refl))))))
-  item_part i c l (masks_past x) = inr (inr (inl (i, l, inl (inr (inr (x, refl))))))
-  item_part i c l (runs_out x) = inr (inr (inl (i, l, inr (inl (inl (x, refl))))))
-  item_part i c l (leaves_wrongly x) = inr (inr (inl (i, l, inr (inl (inr (inl (x, refl)))))))
-  item_part i c l (uses_undeclared x) = inr (inr (inl (i, l, inr (inl (inr (inr (x, refl)))))))
+  item_part i c l (is_mask_past x) = inr (inr (inl (i, l, inl (inr (inr (x, refl))))))
+  item_part i c l (is_run_out x) = inr (inr (inl (i, l, inr (inl (inl (x, refl))))))
+  item_part i c l (is_wrong_leave x) = inr (inr (inl (i, l, inr (inl (inr (inl (x, refl)))))))
+  item_part i c l (is_undeclared_use x) = inr (inr (inl (i, l, inr (inl (inr (inr (x, refl)))))))
   item_part i c l (is_unreached x) = inr (inr (inl (i, l, inr (inr (x, refl)))))
-  item_part i c l (holds_other x) = inr (inr (inr (inl (i, l, inr (inl (x, refl))))))
-  item_part i c l (releases_other x) = inr (inr (inr (inl (i, l, inr (inr (inl (x, refl)))))))
-  item_part i c l (takes_held x) = inr (inr (inr (inl (i, l, inr (inr (inr (inl (x, refl))))))))
-  item_part i c l (leaves_holding x) = inr (inr (inr (inl (i, l, inr (inr (inr (inr (x, refl))))))))
+  item_part i c l (is_other_list_jump x) = inr (inr (inr (inl (i, l, inr (inl (x, refl))))))
+  item_part i c l (is_wrong_release x) = inr (inr (inr (inl (i, l, inr (inr (inl (x, refl)))))))
+  item_part i c l (is_second_take x) = inr (inr (inr (inl (i, l, inr (inr (inr (inl (x, refl))))))))
+  item_part i c l (is_leave_with_resource x) = inr (inr (inr (inl (i, l, inr (inr (inr (inr (x, refl))))))))
 
   pub to_parts : ArePlaced (function app b) → (r : Refusal) → BodyFault config app b r → Parts r
   to_parts placed r (at_header e) = inl (e, refl)
@@ -83,7 +83,7 @@ module _ (config : Config) (app : App) (b : ℕ) where
 
   -- ---- the other way
 
-  at : (i : ℕ) (c : Code) (r : Refusal) → i < length (function app b).items → Breaks config app b i c → r ≡ fault_at_line (item_of (function app b) i).line c → BodyFault config app b r
+  at : (i : ℕ) (c : Code) (r : Refusal) → i < length (function app b).items → IsBreach config app b i c → r ≡ fault_at_line (item_of (function app b) i).line c → BodyFault config app b r
   at i c r l breaks e = subst (BodyFault config app b) (sym e) (at_item i c l breaks)
 
   fall_back : (place : ℕ) (r : Refusal) → FallFault (function app b) place r → BodyFault config app b r
@@ -98,16 +98,16 @@ module _ (config : Config) (app : App) (b : ℕ) where
       (at_label k l
       (falling_in (entered_is f k l ∙ ap (λ o. is_some o || is_fallen_into f (label_of f k).item) e) (λ same. differs (same ∙ held))))
   from_parts r (inr (inl (k, l, (inr z, q)))) = subst (BodyFault config app b) (sym q) (at_label k l (at_begin z.0 z.1))
-  from_parts r (inr (inr (inl (i, l, inl (inl x))))) = at i code.V2 r l (accesses_past x.0) x.1
+  from_parts r (inr (inr (inl (i, l, inl (inl x))))) = at i code.V2 r l (is_access_past x.0) x.1
   from_parts r (inr (inr (inl (i, l, inl (inr (inl x)))))) = at i code.V3 r l (is_uneven x.0) x.1
-  from_parts r (inr (inr (inl (i, l, inl (inr (inr x)))))) = at i code.V4 r l (masks_past x.0) x.1
-  from_parts r (inr (inr (inl (i, l, inr (inl (inl x)))))) = at i code.V5 r l (runs_out x.0) x.1
-  from_parts r (inr (inr (inl (i, l, inr (inl (inr (inl x))))))) = at i code.V11 r l (leaves_wrongly x.0) x.1
-  from_parts r (inr (inr (inl (i, l, inr (inl (inr (inr x))))))) = at i code.V12 r l (uses_undeclared x.0) x.1
+  from_parts r (inr (inr (inl (i, l, inl (inr (inr x)))))) = at i code.V4 r l (is_mask_past x.0) x.1
+  from_parts r (inr (inr (inl (i, l, inr (inl (inl x)))))) = at i code.V5 r l (is_run_out x.0) x.1
+  from_parts r (inr (inr (inl (i, l, inr (inl (inr (inl x))))))) = at i code.V11 r l (is_wrong_leave x.0) x.1
+  from_parts r (inr (inr (inl (i, l, inr (inl (inr (inr x))))))) = at i code.V12 r l (is_undeclared_use x.0) x.1
   from_parts r (inr (inr (inl (i, l, inr (inr x))))) = at i code.V6 r l (is_unreached x.0) x.1
   from_parts r (inr (inr (inr (inl (i, l, inl x))))) = fall_back i r x
-  from_parts r (inr (inr (inr (inl (i, l, inr (inl x)))))) = at i code.V7 r l (holds_other x.0) x.1
-  from_parts r (inr (inr (inr (inl (i, l, inr (inr (inl x))))))) = at i code.V8 r l (releases_other x.0) x.1
-  from_parts r (inr (inr (inr (inl (i, l, inr (inr (inr (inl x)))))))) = at i code.V9 r l (takes_held x.0) x.1
-  from_parts r (inr (inr (inr (inl (i, l, inr (inr (inr (inr x)))))))) = at i code.V10 r l (leaves_holding x.0) x.1
+  from_parts r (inr (inr (inr (inl (i, l, inr (inl x)))))) = at i code.V7 r l (is_other_list_jump x.0) x.1
+  from_parts r (inr (inr (inr (inl (i, l, inr (inr (inl x))))))) = at i code.V8 r l (is_wrong_release x.0) x.1
+  from_parts r (inr (inr (inr (inl (i, l, inr (inr (inr (inl x)))))))) = at i code.V9 r l (is_second_take x.0) x.1
+  from_parts r (inr (inr (inr (inl (i, l, inr (inr (inr (inr x)))))))) = at i code.V10 r l (is_leave_with_resource x.0) x.1
   from_parts r (inr (inr (inr (inr x)))) = fall_back (length (function app b).items) r x

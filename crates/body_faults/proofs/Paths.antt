@@ -6,7 +6,7 @@ use Rattle.std.proofs.lemmas.List.{get_or_past}
 use Rattle.sloth_base.specs.declared.app.Func.{Func}
 use Rattle.sloth_base.specs.Named.{item_of, label_of, no_item}
 use Rattle.std.specs.Bool.{Decides}
-use Rattle.code_rules.specs.Code.{is_followed, way, GoesOn, IsPath}
+use Rattle.code_rules.specs.Code.{is_followed, way, IsPathStep, IsPath}
 use Rattle.code_rules.specs.WellFormed.{IsUnreached}
 use Rattle.body_faults.specs.Ways.{inside_or, next_of, label_place, jump_of, IsReachedItem, first, by_next, by_jump, IsMarked}
 
@@ -21,7 +21,7 @@ pub path_joins : (f : Func) (i j k : ℕ) (between more : List ℕ) → IsPath f
 path_joins f i j k [] more a b = subst (λ (x : ℕ). IsPath f x more k) (sym a) b
 path_joins f i j k (h ∷ between) more a b = (a.0, path_joins f h j k between more a.1 b)
 
-step_of : (f : Func) (i j k : ℕ) (between : List ℕ) → IsPath f i between j → GoesOn f j k → (more : List ℕ) × IsPath f i more k
+step_of : (f : Func) (i j k : ℕ) (between : List ℕ) → IsPath f i between j → IsPathStep f j k → (more : List ℕ) × IsPath f i more k
 step_of f i j k between path goes = (between ++ k ∷ [], path_joins f i j k between (k ∷ []) path (goes, refl))
 
 stays : (f : Func) (i j k : ℕ) (between : List ℕ) → IsPath f i between j → j ≡ k → (more : List ℕ) × IsPath f i more k
@@ -35,17 +35,17 @@ chosen f place itself k e = by (nat_lt place (length f.items)) refl
     by true g = inl (sym (ap (λ c. cond c place itself) g) ∙ e)
     by false g = inr (sym (ap (λ c. cond c place itself) g) ∙ e)
 
-pub next_goes : (f : Func) (i k : ℕ) → next_of f i ≡ k → GoesOn f i k ⊎ (i ≡ k)
+pub next_goes : (f : Func) (i k : ℕ) → next_of f i ≡ k → IsPathStep f i k ⊎ (i ≡ k)
 next_goes f i k e = by (is_followed (item_of f i).op) refl
   where
-    by : (b : Bool) → is_followed (item_of f i).op ≡ b → GoesOn f i k ⊎ (i ≡ k)
+    by : (b : Bool) → is_followed (item_of f i).op ≡ b → IsPathStep f i k ⊎ (i ≡ k)
     by true g = ⊎_elim (λ a. inl (inl (g, sym a))) inr (chosen f (i + 1) i k (sym (ap (λ c. cond c (inside_or f (i + 1) i) i) g) ∙ e))
     by false g = inr (sym (ap (λ c. cond c (inside_or f (i + 1) i) i) g) ∙ e)
 
-pub jump_goes : (f : Func) (i k : ℕ) → jump_of f i ≡ k → GoesOn f i k ⊎ (i ≡ k)
+pub jump_goes : (f : Func) (i k : ℕ) → jump_of f i ≡ k → IsPathStep f i k ⊎ (i ≡ k)
 jump_goes f i k e = by (way (item_of f i).op) refl
   where
-    by : (o : Option ℕ) → way (item_of f i).op ≡ o → GoesOn f i k ⊎ (i ≡ k)
+    by : (o : Option ℕ) → way (item_of f i).op ≡ o → IsPathStep f i k ⊎ (i ≡ k)
     by None g = inr (sym (ap (λ o. label_place f o i) g) ∙ e)
     by (Some l) g = ⊎_elim (λ a. inl (inr (l, g, sym a))) inr (chosen f (label_of f l).item i k (sym (ap (λ o. label_place f o i) g) ∙ e))
 
@@ -57,17 +57,17 @@ path_of {f} {i} (by_jump k j l r e) =
     let p = path_of r in ⊎_elim (λ g. step_of f 0 k j p.0 p.1 g) (λ g. stays f 0 k j p.0 p.1 g) (jump_goes f k j e)
 
 -- behind the last item nothing goes on
-pub goes_from_inside : (f : Func) (i j : ℕ) → GoesOn f i j → i < length f.items
+pub goes_from_inside : (f : Func) (i j : ℕ) → IsPathStep f i j → i < length f.items
 goes_from_inside f i j g = ⊎_elim (λ l. l) (λ l. absurd (none l g)) (cases_lt i (length f.items))
   where
-    none : length f.items ≤ i → GoesOn f i j → ⊥
+    none : length f.items ≤ i → IsPathStep f i j → ⊥
     none l (inl a) = false≢true (sym (ap (λ x. is_followed x.op) (get_or_past f.items i no_item l)) ∙ a.0)
     none l (inr a) = let e : None ≡ Some a.0 = sym (ap (λ x. way x.op) (get_or_past f.items i no_item l)) ∙ a.1 in cc
 
 lands : (f : Func) (place itself : ℕ) → place < length f.items → inside_or f place itself ≡ place
 lands f place itself l = ap (λ c. cond c place itself) (lt-ltb place (length f.items) l)
 
-reach_on : (f : Func) (i j : ℕ) → j < length f.items → IsReachedItem f i → GoesOn f i j → IsReachedItem f j
+reach_on : (f : Func) (i j : ℕ) → j < length f.items → IsReachedItem f i → IsPathStep f i j → IsReachedItem f j
 reach_on f i j l r (inl a) =
     let inside = goes_from_inside f i j (inl a) in
     by_next i j inside r (ap (λ c. cond c (inside_or f (i + 1) i) i) a.0 ∙ subst (λ (x : ℕ). inside_or f x i ≡ j) a.1 (lands f j i l))

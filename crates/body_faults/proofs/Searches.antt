@@ -7,7 +7,7 @@ use Rattle.std.proofs.lemmas.List.Folds.{list_any-append}
 use Rattle.sloth_base.specs.declared.app.Func.{Func}
 use Rattle.sloth_base.specs.Named.{item_of, label_of}
 use Rattle.code_rules.specs.Code.{is_followed, way, is_in}
-use Rattle.body_faults.specs.Ways.{inside_or, next_of, label_place, jump_of, IsReachedItem, first, by_next, by_jump, IsMarked, Visited, IsMarking}
+use Rattle.body_faults.specs.Ways.{inside_or, next_of, label_place, jump_of, IsReachedItem, first, by_next, by_jump, IsMarked, IsMarkVisit, IsMarking}
 use Rattle.body_faults.proofs.Paths.{closed_all}
 
 -- ---- members
@@ -97,7 +97,7 @@ pub record Kept (f : Func) (marks new : List Bool) (pending : List ℕ) (x at : 
   pub marked : IsMarked new at
   pub keeps : (i : ℕ) → IsMarked marks i → IsMarked new i
 
-pub visited : (f : Func) (marks new : List Bool) (pending kept : List ℕ) (x at : ℕ) → at < length f.items → IsReachedItem f at → Visited marks new pending kept at
+pub visited : (f : Func) (marks new : List Bool) (pending kept : List ℕ) (x at : ℕ) → at < length f.items → IsReachedItem f at → IsMarkVisit marks new pending kept at
     → Owing f marks pending x → Kept f marks new kept x at
 visited f marks new pending kept x at l r v o = by (get_or marks at false) refl v
   where
@@ -146,7 +146,7 @@ visited f marks new pending kept x at l r v o = by (get_or marks at false) refl 
 
 -- both ways of x are visited
 pub gone_on : (f : Func) (marks mid new : List Bool) (pending more kept : List ℕ) (x : ℕ) → next_of f x < length f.items → jump_of f x < length f.items
-    → Visited marks mid pending more (next_of f x) → Visited mid new more kept (jump_of f x) → Owing f marks pending x → IsMarking f new kept
+    → IsMarkVisit marks mid pending more (next_of f x) → IsMarkVisit mid new more kept (jump_of f x) → Owing f marks pending x → IsMarking f new kept
 gone_on f marks mid new pending more kept x l m v w o =
     let one = visited f marks mid pending more x (next_of f x) l (by_next x (next_of f x) o.known (o.sound x o.here) refl) v o in
     let p = one.owing in
@@ -172,7 +172,7 @@ ended f marks pending e s i = (
 
 -- the first item alone is marked and kept
 pub begun : (f : Func) (marks new : List Bool) (pending kept : List ℕ) → length marks ≡ length f.items → 0 < length marks
-    → ((i : ℕ) → i < length marks → get_or marks i false ≡ false) → pending ≡ [] → Visited marks new pending kept 0 → IsMarking f new kept
+    → ((i : ℕ) → i < length marks → get_or marks i false ≡ false) → pending ≡ [] → IsMarkVisit marks new pending kept 0 → IsMarking f new kept
 begun f marks new pending kept count some clear none v = by (get_or marks 0 false) refl v
   where
     clear_all : (i : ℕ) → get_or marks i false ≡ false

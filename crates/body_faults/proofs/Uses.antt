@@ -14,11 +14,11 @@ use Rattle.sloth_base.specs.declared.service.Service.TheVariants as service
 use Rattle.sloth_base.specs.Named.{declaration}
 use Rattle.code_rules.specs.AppRange.{AppInRange}
 use Rattle.code_rules.specs.Code.{TaskReaches, is_in}
-use Rattle.code_rules.specs.WellFormed.{Lists, HasEvents, IsUnlisted, IsLacked, Misuses, UsesUndeclared}
+use Rattle.code_rules.specs.WellFormed.{HasResource, HasEvents, IsUnlisted, IsLacked, IsMisuse, IsUndeclaredUse}
 use Rattle.call_graph.specs.Bits.{is_member}
 use Rattle.call_graph.specs.Reached.{any_below}
 use Rattle.call_graph.proofs.Itself.{number_found, number_counts}
-use Rattle.body_faults.specs.Uses.{is_unlisted, lacks, is_lacked, is_misuse, uses_undeclared}
+use Rattle.body_faults.specs.Uses.{is_unlisted, lacks, is_lacked, is_misuse, is_undeclared_use}
 use Rattle.body_faults.proofs.Tests.{none, itself, is_false, differs_decides}
 
 module _ (config : Config) (app : App) (in_range : AppInRange config app) where
@@ -41,7 +41,7 @@ module _ (config : Config) (app : App) (in_range : AppInRange config app) where
   Decides-is_unlisted : (f users r : ℕ) → ((t : ℕ) → Decides (is_member users t) (TaskReaches app t f)) → Decides (not (r == scheduler_number) && is_unlisted config users r) (IsUnlisted config app f r)
   Decides-is_unlisted f users r reach =
       Decides-and (not (r == scheduler_number)) (is_unlisted config users r) (differs_decides r scheduler_number)
-      (some_user f users (λ t. not (is_in r (declaration config t).resources)) (λ t. ¬ (Lists (declaration config t) r)) reach
+      (some_user f users (λ t. not (is_in r (declaration config t).resources)) (λ t. ¬ (HasResource (declaration config t) r)) reach
       (λ t. Decides-not (is_in r (declaration config t).resources) (itself (is_in r (declaration config t).resources))))
 
   Decides-is_lacked : (f users mask : ℕ) → ((t : ℕ) → Decides (is_member users t) (TaskReaches app t f)) → Decides (is_lacked config users mask) (IsLacked config app f mask)
@@ -49,7 +49,7 @@ module _ (config : Config) (app : App) (in_range : AppInRange config app) where
       some_user f users (λ t. lacks config t mask) (λ t. ¬ (HasEvents (declaration config t) mask)) reach (λ t. Decides-lacks t mask)
 
   Decides-misuses : (f users : ℕ) (s : Service) (object mask : ℕ) → ((t : ℕ) → Decides (is_member users t) (TaskReaches app t f))
-      → Decides (is_misuse config users s object mask) (Misuses config app f s object mask)
+      → Decides (is_misuse config users s object mask) (IsMisuse config app f s object mask)
   Decides-misuses f users service.GetResource r mask reach = Decides-is_unlisted f users r reach
   Decides-misuses f users service.ReleaseResource r mask reach = Decides-is_unlisted f users r reach
   Decides-misuses f users service.ClearEvent object mask reach = Decides-is_lacked f users mask reach
@@ -58,7 +58,7 @@ module _ (config : Config) (app : App) (in_range : AppInRange config app) where
   Decides-misuses f users service.GetEvent t mask reach = is_false (declaration config t).extended
   Decides-misuses f users _ object mask reach = none
 
-  pub Decides-uses_undeclared : (f users : ℕ) (o : Op) → ((t : ℕ) → Decides (is_member users t) (TaskReaches app t f))
-      → Decides (uses_undeclared config users o) (UsesUndeclared config app f o)
-  Decides-uses_undeclared f users (op.Serve call) reach = Decides-misuses f users call.service call.object call.mask reach
-  Decides-uses_undeclared f users _ reach = none
+  pub Decides-is_undeclared_use : (f users : ℕ) (o : Op) → ((t : ℕ) → Decides (is_member users t) (TaskReaches app t f))
+      → Decides (is_undeclared_use config users o) (IsUndeclaredUse config app f o)
+  Decides-is_undeclared_use f users (op.Serve call) reach = Decides-misuses f users call.service call.object call.mask reach
+  Decides-is_undeclared_use f users _ reach = none

@@ -16,12 +16,12 @@ use Rattle.call_graph.specs.Bits.{is_member}
 use Rattle.call_graph.specs.Rows.{is_get, is_pausing}
 
 -- V2
-abbrev pub accesses_past : App → Func → Op → Bool
-accesses_past app f (op.FrameLoad rd word) = nat_le f.frame_words word
-accesses_past app f (op.FrameStore rs word) = nat_le f.frame_words word
-accesses_past app f (op.Load w rd y offset) = nat_lt (symbol_size app y) (offset + size_of w)
-accesses_past app f (op.Store w rs y offset) = nat_lt (symbol_size app y) (offset + size_of w)
-accesses_past app f _ = false
+abbrev pub is_access_past : App → Func → Op → Bool
+is_access_past app f (op.FrameLoad rd word) = nat_le f.frame_words word
+is_access_past app f (op.FrameStore rs word) = nat_le f.frame_words word
+is_access_past app f (op.Load w rd y offset) = nat_lt (symbol_size app y) (offset + size_of w)
+is_access_past app f (op.Store w rs y offset) = nat_lt (symbol_size app y) (offset + size_of w)
+is_access_past app f _ = false
 
 -- V3
 abbrev pub is_uneven : Op → Bool
@@ -32,19 +32,19 @@ is_uneven (op.StoreAt w rs y index mask) = not (mask % size_of w == 0)
 is_uneven _ = false
 
 -- V4
-abbrev pub masks_past : App → Op → Bool
-masks_past app (op.LoadAt w rd y index mask) = nat_lt mask_limit mask || nat_lt (symbol_size app y) (mask + size_of w)
-masks_past app (op.StoreAt w rs y index mask) = nat_lt mask_limit mask || nat_lt (symbol_size app y) (mask + size_of w)
-masks_past app _ = false
+abbrev pub is_mask_past : App → Op → Bool
+is_mask_past app (op.LoadAt w rd y index mask) = nat_lt mask_limit mask || nat_lt (symbol_size app y) (mask + size_of w)
+is_mask_past app (op.StoreAt w rs y index mask) = nat_lt mask_limit mask || nat_lt (symbol_size app y) (mask + size_of w)
+is_mask_past app _ = false
 
 -- the label of this number stands behind the last item
-abbrev pub leads_out : Func → Option ℕ → Bool
-leads_out f None = false
-leads_out f (Some k) = nat_le (length f.items) (label_of f k).item
+abbrev pub is_label_past : Func → Option ℕ → Bool
+is_label_past f None = false
+is_label_past f (Some k) = nat_le (length f.items) (label_of f k).item
 
 -- V5
-abbrev pub runs_out : Func → ℕ → Bool
-runs_out f i = (is_followed (item_of f i).op && nat_le (length f.items) (i + 1)) || leads_out f (way (item_of f i).op)
+abbrev pub is_run_out : Func → ℕ → Bool
+is_run_out f i = (is_followed (item_of f i).op && nat_le (length f.items) (i + 1)) || is_label_past f (way (item_of f i).op)
 
 -- a service that ends the caller
 abbrev pub is_ending : Service → Bool
@@ -58,29 +58,29 @@ is_release service.ReleaseResource = true
 is_release _ = false
 
 -- a resource is held
-abbrev pub holds_any : List ℕ → Bool
-holds_any held = not (length held == 0)
+abbrev pub is_any_held : List ℕ → Bool
+is_any_held held = not (length held == 0)
 
 -- V8
-abbrev pub releases_other : List ℕ → Op → Bool
-releases_other held (op.Serve call) = is_release call.service && not (is_last call.object held)
-releases_other held _ = false
+abbrev pub is_wrong_release : List ℕ → Op → Bool
+is_wrong_release held (op.Serve call) = is_release call.service && not (is_last call.object held)
+is_wrong_release held _ = false
 
 -- V9
-abbrev pub takes_held : Ranks → List ℕ → Op → Bool
-takes_held ranks held (op.Serve call) = is_get call.service && is_in call.object held
-takes_held ranks held (op.Invoke g) = list_any (λ r. is_member (get_or ranks.resources g 0) r) held
-takes_held ranks held _ = false
+abbrev pub is_second_take : Ranks → List ℕ → Op → Bool
+is_second_take ranks held (op.Serve call) = is_get call.service && is_in call.object held
+is_second_take ranks held (op.Invoke g) = list_any (λ r. is_member (get_or ranks.resources g 0) r) held
+is_second_take ranks held _ = false
 
 -- V10
-abbrev pub leaves_holding : Ranks → List ℕ → Op → Bool
-leaves_holding ranks held (op.Serve call) = (is_ending call.service || is_pausing call.service) && holds_any held
-leaves_holding ranks held op.Return = holds_any held
-leaves_holding ranks held (op.Invoke g) = get_or ranks.pauses g false && holds_any held
-leaves_holding ranks held _ = false
+abbrev pub is_leave_with_resource : Ranks → List ℕ → Op → Bool
+is_leave_with_resource ranks held (op.Serve call) = (is_ending call.service || is_pausing call.service) && is_any_held held
+is_leave_with_resource ranks held op.Return = is_any_held held
+is_leave_with_resource ranks held (op.Invoke g) = get_or ranks.pauses g false && is_any_held held
+is_leave_with_resource ranks held _ = false
 
 -- V11
-abbrev pub leaves_wrongly : Func → Op → Bool
-leaves_wrongly f (op.Serve call) = is_ending call.service && is_none f.task
-leaves_wrongly f op.Return = is_some f.task
-leaves_wrongly f _ = false
+abbrev pub is_wrong_leave : Func → Op → Bool
+is_wrong_leave f (op.Serve call) = is_ending call.service && is_none f.task
+is_wrong_leave f op.Return = is_some f.task
+is_wrong_leave f _ = false

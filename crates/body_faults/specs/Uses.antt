@@ -35,9 +35,9 @@ is_misuse config users service.GetEvent t mask = not (declaration config t).exte
 is_misuse config users _ object mask = false
 
 -- V12, where these tasks reach the item
-abbrev pub uses_undeclared : Config → (users : ℕ) → Op → Bool
-uses_undeclared config users (op.Serve call) = is_misuse config users call.service call.object call.mask
-uses_undeclared config users _ = false
+abbrev pub is_undeclared_use : Config → (users : ℕ) → Op → Bool
+is_undeclared_use config users (op.Serve call) = is_misuse config users call.service call.object call.mask
+is_undeclared_use config users _ = false
 
 -- the operands of a service are in range
 abbrev pub OperandsOf : Config → Op → Type 0

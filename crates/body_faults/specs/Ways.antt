@@ -6,8 +6,8 @@ use Rattle.sloth_base.specs.Named.{item_of, label_of}
 use Rattle.code_rules.specs.Code.{is_followed, way, is_in}
 
 -- the label of a branch or jump is one of the body
-abbrev pub LeadsToLabels : Func → Op → Type 0
-LeadsToLabels f o = (k : ℕ) → way o ≡ Some k → k < length f.labels
+abbrev pub HasBodyLabel : Func → Op → Type 0
+HasBodyLabel f o = (k : ℕ) → way o ≡ Some k → k < length f.labels
 
 -- the place, or the item itself where it is behind the last one
 abbrev pub inside_or : Func → (place itself : ℕ) → ℕ
@@ -43,8 +43,8 @@ abbrev pub unmarked_count : List Bool → ℕ
 unmarked_count marks = count_by not marks
 
 -- a visit marks an item and keeps it, where it is not marked yet
-abbrev pub Visited : (old new : List Bool) → (pending kept : List ℕ) → (at : ℕ) → Type 0
-Visited old new pending kept at = MatchBool (get_or old at false)
+abbrev pub IsMarkVisit : (old new : List Bool) → (pending kept : List ℕ) → (at : ℕ) → Type 0
+IsMarkVisit old new pending kept at = MatchBool (get_or old at false)
     ((new ≡ old) × (kept ≡ pending))
     ((new ≡ set old at true) × (kept ≡ pending ++ at ∷ []))
 

@@ -2,7 +2,7 @@
 ghost use Rattle.std.specs.Prelude.{◌≡◌};
 ghost use Rattle.sloth_base.specs.Named.{symbol_size};
 ghost use Rattle.sloth_base.specs.Arithmetic.{size_of};
-ghost use Rattle.body_faults.specs.Tests.{accesses_past, is_uneven, masks_past};
+ghost use Rattle.body_faults.specs.Tests.{is_access_past, is_uneven, is_mask_past};
 
 use sloth_base::app::{App, Func, Op, Width};
 use sloth_base::limits::MASK_LIMIT;
@@ -28,8 +28,8 @@ fn symbol_size(app: &App, symbol: SymId) -> usize
 }
 
 /// V2: an access past the frame, or a direct access past its symbol.
-pub fn accesses_past(app: &App, func: &Func, op: Op) -> bool
-    ensures { result ≡ accesses_past app.now func.now op }
+pub fn is_access_past(app: &App, func: &Func, op: Op) -> bool
+    ensures { result ≡ is_access_past app.now func.now op }
 {
     match op {
         Op::FrameLoad { word, .. } | Op::FrameStore { word, .. } => func.frame_words <= word,
@@ -65,8 +65,8 @@ pub fn is_uneven(op: Op) -> bool
 }
 
 /// V4: a mask above the greatest, or mask plus access size above the symbol's size.
-pub fn masks_past(app: &App, op: Op) -> bool
-    ensures { result ≡ masks_past app.now op }
+pub fn is_mask_past(app: &App, op: Op) -> bool
+    ensures { result ≡ is_mask_past app.now op }
 {
     match op {
         Op::LoadAt {

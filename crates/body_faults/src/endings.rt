@@ -1,6 +1,6 @@
 //! V11: what ends a task, and what a function.
 ghost use Rattle.std.specs.Prelude.{◌≡◌};
-ghost use Rattle.body_faults.specs.Tests.{is_ending, leaves_wrongly};
+ghost use Rattle.body_faults.specs.Tests.{is_ending, is_wrong_leave};
 
 use sloth_base::app::{Func, Op};
 use sloth_base::service::Service;
@@ -13,8 +13,8 @@ pub fn is_ending(service: Service) -> bool
 }
 
 /// V11: an end of the task in the body of a function, a `ret` in that of a task.
-pub fn leaves_wrongly(func: &Func, op: Op) -> bool
-    ensures { result ≡ leaves_wrongly func.now op }
+pub fn is_wrong_leave(func: &Func, op: Op) -> bool
+    ensures { result ≡ is_wrong_leave func.now op }
 {
     match op {
         Op::Serve(call) => is_ending(call.service) && func.task.is_none(),

@@ -1,6 +1,6 @@
 //! V2 to V12 of one body.
 ghost use Rattle.std.specs.Prelude.{◌≡◌, ◌<◌, length, IfOk};
-ghost use Rattle.least_fault.specs.Search.{Finds};
+ghost use Rattle.least_fault.specs.Search.{IsSearchResult};
 ghost use Rattle.code_rules.specs.AppRange.{AppInRange};
 ghost use Rattle.sloth_base.specs.Named.{function};
 ghost use Rattle.code_rules.specs.WellFormed.{BodyFault};
@@ -10,7 +10,7 @@ use crate::items::item_faults;
 use crate::labels::label_faults;
 use crate::walk::held_faults;
 use call_graph::ranking::Ranks;
-use least_fault::{merge, when};
+use least_fault::{fault_if, merge};
 use sloth_base::app::{App, Func};
 use sloth_base::config::Config;
 use sloth_base::memory::NoMemory;
@@ -30,10 +30,10 @@ pub fn body_fault(
     requires belong { RanksOf app.now ranks.now }
     requires known { body < length app.now.funcs }
     requires is { func.now ≡ function app.now body }
-    ensures { IfOk result (Finds (BodyFault config.now app.now body)) }
+    ensures { IfOk result (IsSearchResult (BodyFault config.now app.now body)) }
 {
     let users = u64::from(ranks.users.items()[body]);
-    let empty = when(
+    let empty = fault_if(
         func.items.items().is_empty(),
         Part::Src,
         func.line,

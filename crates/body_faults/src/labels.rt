@@ -1,11 +1,11 @@
 //! The labels at each place of a body.
 ghost use Rattle.std.specs.Prelude.{◌≡◌, ◌≢◌, ℕ, ◌+◌, ◌<◌, ◌≤◌, ◌||◌, [], Some, None, length, get_or, Decides, IfOk};
-ghost use Rattle.least_fault.specs.Search.{Finds};
+ghost use Rattle.least_fault.specs.Search.{IsSearchResult};
 ghost use Rattle.sloth_base.specs.Named.{label_of};
 ghost use Rattle.body_faults.specs.Labels.{or_else, first_label_below, last_label_below, ArePlaced};
-ghost use Rattle.body_faults.specs.Cases.{FollowsOther, LabelFault, LabelFaults};
+ghost use Rattle.body_faults.specs.Cases.{IsBehindOther, LabelFault, LabelFaults};
 
-use least_fault::{merge, when};
+use least_fault::{fault_if, merge};
 use sloth_base::app::{Func, Label};
 use sloth_base::memory::NoMemory;
 use sloth_base::numbers::ResId;
@@ -88,10 +88,10 @@ fn have_other_lists(func: &Func, one: usize, other: usize) -> bool
 }
 
 /// Whether the label before this one at the same place has another list.
-fn follows_other(func: &Func, number: usize, before: Option<usize>) -> bool
+fn is_behind_other(func: &Func, number: usize, before: Option<usize>) -> bool
     requires inside { number < length func.now.labels }
     requires before { before ≡ last_label_below func.now.labels (label_of func.now number).item number }
-    ensures { Decides result (FollowsOther func.now number) }
+    ensures { Decides result (IsBehindOther func.now number) }
 {
     match before {
         Some(earlier) => have_other_lists(func, number, earlier),
@@ -99,7 +99,7 @@ fn follows_other(func: &Func, number: usize, before: Option<usize>) -> bool
     }
 }
 
-fn begins_holding(label: &Label) -> bool
+fn is_start_with_resource(label: &Label) -> bool
     ensures { Decides result ((label.now.item ≡ 0) × (label.now.holds ≢ [])) }
 {
     label.item == 0 && !label.holds.items().is_empty()
@@ -114,11 +114,14 @@ fn either(one: bool, other: bool) -> bool
 fn label_fault(func: &Func, number: usize, before: Option<usize>) -> Option<Refusal>
     requires inside { number < length func.now.labels }
     requires before { before ≡ last_label_below func.now.labels (label_of func.now number).item number }
-    ensures { Finds (LabelFault func.now number) result }
+    ensures { IsSearchResult (LabelFault func.now number) result }
 {
     let label = &func.labels.items()[number];
-    let differs = either(follows_other(func, number, before), begins_holding(label));
-    when(differs, Part::Src, label.line, Code::V7)
+    let differs = either(
+        is_behind_other(func, number, before),
+        is_start_with_resource(label),
+    );
+    fault_if(differs, Part::Src, label.line, Code::V7)
 }
 
 /// For each label the last one before it at its place.
@@ -141,7 +144,7 @@ fn labels_before(alloc: Global, func: &Func) -> Result<Vec<Option<usize>>, NoMem
 fn judged_labels(func: &Func, before: &[Option<usize>]) -> Option<Refusal>
     requires count { length before.now ≡ length func.now.labels }
     requires exact { (k : ℕ) → k < length func.now.labels → get_or before.now k None ≡ last_label_below func.now.labels (label_of func.now k).item k }
-    ensures { Finds (LabelFaults func.now) result }
+    ensures { IsSearchResult (LabelFaults func.now) result }
 {
     let mut least = None;
     for number in 0..func.labels.items().len() {
@@ -153,7 +156,7 @@ fn judged_labels(func: &Func, before: &[Option<usize>]) -> Option<Refusal>
 /// V7 of labels that stand behind others at their place, or before the first item.
 pub fn label_faults(alloc: Global, func: &Func) -> Result<Option<Refusal>, NoMemory>
     requires { ArePlaced func.now }
-    ensures { IfOk result (Finds (LabelFaults func.now)) }
+    ensures { IfOk result (IsSearchResult (LabelFaults func.now)) }
 {
     let before = labels_before(alloc, func)?;
     Ok(judged_labels(func, &before))

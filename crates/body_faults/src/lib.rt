@@ -7,7 +7,7 @@
 pub mod accesses;
 pub mod endings;
 pub mod faults;
-pub mod held;
+pub mod held_resources;
 pub mod items;
 pub mod labels;
 pub mod reachable;

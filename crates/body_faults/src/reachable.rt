@@ -1,7 +1,7 @@
 //! V6: which items the paths from the first one reach.
 ghost use Rattle.std.specs.Prelude.{◌≡◌, ℕ, ◌+◌, ◌*◌, ◌<◌, ◌≤◌, ◌↔◌, false, length, get_or, [], IfOk, OnOk};
 ghost use Rattle.sloth_base.specs.Named.{item_of};
-ghost use Rattle.body_faults.specs.Ways.{LeadsToLabels, IsMarked, IsReachedItem, unmarked_count, Visited, IsMarking};
+ghost use Rattle.body_faults.specs.Ways.{HasBodyLabel, IsMarked, IsReachedItem, unmarked_count, IsMarkVisit, IsMarking};
 
 use crate::ways::{jump_of, next_of};
 use sloth_base::app::Func;
@@ -12,7 +12,7 @@ use text_pieces::growth::push;
 /// Marks an item and keeps it to go on from, where it is not marked yet.
 fn visit(marks: &mut [bool], pending: &mut Vec<usize>, at: usize) -> Result<(), NoMemory>
     requires { at < length marks.old }
-    ensures visited { OnOk result (Visited marks.old marks.new pending.old.items pending.new.items at) }
+    ensures visited { OnOk result (IsMarkVisit marks.old marks.new pending.old.items pending.new.items at) }
     ensures cost { OnOk result (2 * unmarked_count marks.new + length pending.new.items ≤ 2 * unmarked_count marks.old + length pending.old.items) }
 {
     if marks[at] {
@@ -25,7 +25,7 @@ fn visit(marks: &mut [bool], pending: &mut Vec<usize>, at: usize) -> Result<(), 
 
 /// Marks what the items that are kept lead to.
 fn spread(func: &Func, marks: &mut [bool], pending: &mut Vec<usize>) -> Result<(), NoMemory>
-    requires labels { (i : ℕ) → i < length func.now.items → LeadsToLabels func.now (item_of func.now i).op }
+    requires labels { (i : ℕ) → i < length func.now.items → HasBodyLabel func.now (item_of func.now i).op }
     requires searching { IsMarking func.now marks.old pending.old.items }
     ensures { OnOk result ((i : ℕ) → IsMarked marks.new i ↔ IsReachedItem func.now i) }
 {
@@ -46,7 +46,7 @@ fn mark_reached(func: &Func, marks: &mut [bool], pending: &mut Vec<usize>) -> Re
     requires clear { (i : ℕ) → i < length marks.old → get_or marks.old i false ≡ false }
     requires count { length marks.old ≡ length func.now.items }
     requires none { pending.old.items ≡ [] }
-    requires labels { (i : ℕ) → i < length func.now.items → LeadsToLabels func.now (item_of func.now i).op }
+    requires labels { (i : ℕ) → i < length func.now.items → HasBodyLabel func.now (item_of func.now i).op }
     ensures { OnOk result ((i : ℕ) → IsMarked marks.new i ↔ IsReachedItem func.now i) }
 {
     visit(marks, pending, 0)?;
@@ -67,7 +67,7 @@ fn no_marks(alloc: Global, count: usize) -> Result<Vec<bool>, NoMemory>
 /// The items that paths from the first one reach.
 pub fn reached(alloc: Global, func: &Func) -> Result<Vec<bool>, NoMemory>
     requires some { 0 < length func.now.items }
-    requires labels { (i : ℕ) → i < length func.now.items → LeadsToLabels func.now (item_of func.now i).op }
+    requires labels { (i : ℕ) → i < length func.now.items → HasBodyLabel func.now (item_of func.now i).op }
     ensures count { IfOk result (λ marks. length marks.items ≡ length func.now.items) }
     ensures exact { IfOk result (λ marks. (i : ℕ) → IsMarked marks.items i ↔ IsReachedItem func.now i) }
 {

@@ -4,7 +4,7 @@ ghost use Rattle.std.specs.List.{list_any};
 ghost use Rattle.code_rules.specs.AppRange.{AreOperands};
 ghost use Rattle.code_rules.specs.Code.{is_in};
 ghost use Rattle.call_graph.specs.Bits.{is_member};
-ghost use Rattle.body_faults.specs.Uses.{is_unlisted, lacks, is_lacked, is_misuse, OperandsOf, uses_undeclared};
+ghost use Rattle.body_faults.specs.Uses.{is_unlisted, lacks, is_lacked, is_misuse, OperandsOf, is_undeclared_use};
 
 use call_graph::word_bits::has;
 use sloth_base::app::{Call, Func, Op};
@@ -91,9 +91,9 @@ fn misuses(config: &Config, users: u64, call: Call) -> bool
 }
 
 /// V12, where these tasks reach the item.
-pub fn uses_undeclared(config: &Config, users: u64, op: Op) -> bool
+pub fn is_undeclared_use(config: &Config, users: u64, op: Op) -> bool
     requires { OperandsOf config.now op }
-    ensures { result ≡ uses_undeclared config.now users op }
+    ensures { result ≡ is_undeclared_use config.now users op }
 {
     match op {
         Op::Serve(call) => misuses(config, users, call),

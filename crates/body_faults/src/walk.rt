@@ -1,20 +1,21 @@
 //! V7 to V10: a walk over the items of a body with the list of held resources.
 ghost use Rattle.std.specs.Prelude.{◌≡◌, ◌≢◌, ◌<◌, ◌≤◌, true, length, Decides, IfOk};
-ghost use Rattle.least_fault.specs.Search.{Finds};
+ghost use Rattle.least_fault.specs.Search.{IsSearchResult};
 ghost use Rattle.code_rules.specs.AppRange.{AppInRange, IsOp};
 ghost use Rattle.sloth_base.specs.Named.{item_of, label_of};
 ghost use Rattle.code_rules.specs.Code.{held_list_fallen_into, is_fallen_into};
 ghost use Rattle.call_graph.specs.Ranks.{RanksOf};
 ghost use Rattle.body_faults.specs.Labels.{first_label_below, ArePlaced, AreTables};
-ghost use Rattle.body_faults.specs.Cases.{FallsOther, FallFault, HeldFault, PlacesFault, AreOps};
+ghost use Rattle.body_faults.specs.Cases.{FallIntoFault, FallFault, HeldFault, PlacesFault, AreOps};
 
-use crate::held::{
-    held_after, held_at_label, holds_other, is_held, leaves_holding, releases_other, takes_held,
+use crate::held_resources::{
+    held_after, held_at_label, is_held, is_leave_with_resource, is_other_list_jump, is_second_take,
+    is_wrong_release,
 };
 use crate::labels::{first_labels, last_labels};
 use crate::ways::falls;
 use call_graph::ranking::Ranks;
-use least_fault::{merge, when};
+use least_fault::{fault_if, merge};
 use sloth_base::app::{App, Func};
 use sloth_base::config::Config;
 use sloth_base::memory::NoMemory;
@@ -45,18 +46,18 @@ fn labelled_fault(func: &Func, place: usize, label: usize, held: &[u32]) -> Opti
     requires inside { place ≤ length func.now.items }
     requires known { label < length func.now.labels }
     requires held { held.now ≡ held_list_fallen_into func.now place }
-    ensures { Finds (FallsOther func.now place label) result }
+    ensures { IsSearchResult (FallIntoFault func.now place label) result }
 {
     let differs = falls_other(func, place, label, held);
     let at = &func.labels.items()[label];
-    when(differs, Part::Src, at.line, Code::V7)
+    fault_if(differs, Part::Src, at.line, Code::V7)
 }
 
 fn fall_fault(func: &Func, place: usize, first: Option<usize>, held: &[u32]) -> Option<Refusal>
     requires inside { place ≤ length func.now.items }
     requires first { first ≡ first_label_below func.now.labels place (length func.now.labels) }
     requires held { held.now ≡ held_list_fallen_into func.now place }
-    ensures { Finds (FallFault func.now place) result }
+    ensures { IsSearchResult (FallFault func.now place) result }
 {
     match first {
         Some(label) => labelled_fault(func, place, label, held),
@@ -76,29 +77,29 @@ fn held_fault(
     requires belong { RanksOf app.now ranks.now }
     requires inside { number < length func.now.items }
     requires item { IsOp config.now app.now func.now (item_of func.now number).op }
-    ensures { Finds (HeldFault app.now func.now held.now (item_of func.now number).line (item_of func.now number).op) result }
+    ensures { IsSearchResult (HeldFault app.now func.now held.now (item_of func.now number).line (item_of func.now number).op) result }
 {
     let item = &func.items.items()[number];
-    let other = when(
-        holds_other(func, held, item.op),
+    let other = fault_if(
+        is_other_list_jump(func, held, item.op),
         Part::Src,
         item.line,
         Code::V7,
     );
-    let releases = when(
-        releases_other(held, item.op),
+    let releases = fault_if(
+        is_wrong_release(held, item.op),
         Part::Src,
         item.line,
         Code::V8,
     );
-    let takes = when(
-        takes_held(ranks, held, item.op),
+    let takes = fault_if(
+        is_second_take(ranks, held, item.op),
         Part::Src,
         item.line,
         Code::V9,
     );
-    let leaves = when(
-        leaves_holding(ranks, held, item.op),
+    let leaves = fault_if(
+        is_leave_with_resource(ranks, held, item.op),
         Part::Src,
         item.line,
         Code::V10,
@@ -119,7 +120,7 @@ fn walk(
     requires belong { RanksOf app.now ranks.now }
     requires items { AreOps config.now app.now func.now }
     requires tables { AreTables func.now first.now last.now }
-    ensures { IfOk result (Finds (PlacesFault app.now func.now)) }
+    ensures { IfOk result (IsSearchResult (PlacesFault app.now func.now)) }
 {
     let mut least = None;
     let mut held = Vec::new(alloc);
@@ -147,7 +148,7 @@ pub fn held_faults(
     requires belong { RanksOf app.now ranks.now }
     requires placed { ArePlaced func.now }
     requires items { AreOps config.now app.now func.now }
-    ensures { IfOk result (Finds (PlacesFault app.now func.now)) }
+    ensures { IfOk result (IsSearchResult (PlacesFault app.now func.now)) }
 {
     let first = first_labels(alloc, func)?;
     let last = last_labels(alloc, func)?;

@@ -2,8 +2,8 @@
 ghost use Rattle.std.specs.Prelude.{◌≡◌, ℕ, ◌<◌, length, Some};
 ghost use Rattle.sloth_base.specs.Named.{item_of};
 ghost use Rattle.code_rules.specs.Code.{ends_for_good, is_followed, way};
-ghost use Rattle.body_faults.specs.Tests.{leads_out, runs_out};
-ghost use Rattle.body_faults.specs.Ways.{inside_or, next_of, label_place, jump_of, LeadsToLabels};
+ghost use Rattle.body_faults.specs.Tests.{is_label_past, is_run_out};
+ghost use Rattle.body_faults.specs.Ways.{inside_or, next_of, label_place, jump_of, HasBodyLabel};
 
 use sloth_base::app::{Call, Func, Op};
 use sloth_base::service::Service;
@@ -35,9 +35,9 @@ pub fn way(op: Op) -> Option<u32>
     }
 }
 
-fn leads_out(func: &Func, way: Option<u32>) -> bool
+fn is_label_past(func: &Func, way: Option<u32>) -> bool
     requires { (k : ℕ) → way ≡ Some k → k < length func.now.labels }
-    ensures { result ≡ leads_out func.now way }
+    ensures { result ≡ is_label_past func.now way }
 {
     match way {
         Some(label) => func.items.items().len()
@@ -47,14 +47,14 @@ fn leads_out(func: &Func, way: Option<u32>) -> bool
 }
 
 /// V5: whether the item can go on past the last one.
-pub fn runs_out(func: &Func, number: usize) -> bool
+pub fn is_run_out(func: &Func, number: usize) -> bool
     requires inside { number < length func.now.items }
-    requires labels { LeadsToLabels func.now (item_of func.now number).op }
-    ensures { result ≡ runs_out func.now number }
+    requires labels { HasBodyLabel func.now (item_of func.now number).op }
+    ensures { result ≡ is_run_out func.now number }
 {
     let items = func.items.items();
     let falls_out = falls(items[number].op) && items.len() <= number + 1;
-    falls_out || leads_out(func, way(items[number].op))
+    falls_out || is_label_past(func, way(items[number].op))
 }
 
 fn inside_or(func: &Func, place: usize, itself: usize) -> usize
@@ -96,7 +96,7 @@ fn label_place(func: &Func, way: Option<u32>, from: usize) -> usize
 /// Where item `from` jumps to; itself, where it does not.
 pub fn jump_of(func: &Func, from: usize) -> usize
     requires inside { from < length func.now.items }
-    requires labels { LeadsToLabels func.now (item_of func.now from).op }
+    requires labels { HasBodyLabel func.now (item_of func.now from).op }
     ensures { result ≡ jump_of func.now from }
 {
     label_place(func, way(func.items.items()[from].op), from)

@@ -7,7 +7,7 @@ use Rattle.sloth_base.specs.declared.refusal.BuildError.TheVariants as build_err
 use Rattle.least_fault.specs.Order.{NoFault}
 use Rattle.code_rules.specs.WellFormed.{RuleFault}
 use Rattle.task_verify.specs.Accepted.{VerifiedCode}
-use Rattle.sloth_source.specs.Ranked.{HasRanks}
+use Rattle.sloth_source.specs.RankedTexts.{HasRanks}
 use Rattle.sloth_source.specs.Texts.{AreAccepted, ErrorIs}
 use Rattle.bounds_text.specs.BoundsText.{RulesErrorIs}
 

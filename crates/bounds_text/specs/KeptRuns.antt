@@ -11,7 +11,7 @@ use Rattle.sloth_base.specs.Stretches.{longest_stretch}
 use Rattle.sloth_base.specs.Limits.{item_counts}
 use Rattle.osek_scheduler.specs.State.{System, opening}
 use Rattle.osek_scheduler.specs.InTime.{is_admit}
-use Rattle.osek_scheduler.specs.Runs.{Leads}
+use Rattle.osek_scheduler.specs.Runs.{AreStepsTo}
 use Rattle.osek_blocking.specs.Blocking.{events_up_to_entry, MakesReady}
 use Rattle.raised_sections.specs.Pace.{last_count}
 use Rattle.raised_sections.specs.Spent.{spent_counts}
@@ -27,7 +27,7 @@ use Rattle.bound_rules.specs.declared.bound.Bound.TheVariants as bound
 abbrev pub WaitsForCounts : Config → App → (h limit : ℕ) → List Stamped → Type 0
 WaitsForCounts config app h limit events =
     (before behind : List Stamped) (made : Stamped) (found s : System) → events ≡ before ++ made ∷ behind
-    → Leads config app before (opening config app) found → MakesReady config app h made.event found s
+    → AreStepsTo config app before (opening config app) found → MakesReady config app h made.event found s
     → spent_counts config h (last_count 0 (before ++ made ∷ [])) (events_up_to_entry h behind) ≤ limit
 
 -- task h waits for at most b items of lower tasks, and 200 counts for each
@@ -56,7 +56,7 @@ with_ticks config h limit behind = limit + tick_counts config (events_up_to_entr
 abbrev pub EntersWithin : Config → App → (h limit n : ℕ) → List Stamped → Type 0
 EntersWithin config app h limit n events =
     (before behind : List Stamped) (made : Stamped) (found s : System) → events ≡ before ++ made ∷ behind
-    → Leads config app before (opening config app) found → MakesReady config app h made.event found s → is_admit made ≡ true
+    → AreStepsTo config app before (opening config app) found → MakesReady config app h made.event found s → is_admit made ≡ true
     → IsBehindBoot made.stamp.at before → made.stamp.at + with_ticks config h limit behind ≤ n
     → EntersBefore h (made.stamp.at + with_ticks config h limit behind) behind
 

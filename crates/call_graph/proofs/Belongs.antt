@@ -10,13 +10,13 @@ use Rattle.sloth_base.specs.declared.app.App.{App}
 use Rattle.sloth_base.specs.declared.refusal.Refusal.{Refusal}
 use Rattle.least_fault.specs.Order.{NoFault}
 use Rattle.sloth_base.specs.Options.{is_number}
-use Rattle.code_rules.specs.Code.{Calls, IsCallChain, Reaches, TaskReaches, ReachesTaking, ReachesPause}
+use Rattle.code_rules.specs.Code.{HasCall, IsCallChain, Reaches, TaskReaches, ReachesTaking, ReachesPause}
 use Rattle.code_rules.specs.WellFormed.{CycleFault, on_cycle}
 use Rattle.call_graph.specs.declared.ranking.Ranks.{Ranks}
 use Rattle.call_graph.specs.Bits.{is_member}
 use Rattle.call_graph.specs.Rows.{row_has, IsRowChain}
 use Rattle.call_graph.specs.Cycles.{RowCycle}
-use Rattle.call_graph.specs.Reached.{func_of, calls_itself, takes_itself, pauses_itself, reaches_by, takes_by, pauses_by, used_by}
+use Rattle.call_graph.specs.Reached.{func_of, is_direct_call, is_direct_taking, is_direct_pause, reaches_by, takes_by, pauses_by, used_by}
 use Rattle.call_graph.specs.Gathered.{AreGathered}
 use Rattle.call_graph.specs.Ranks.{RanksOf}
 use Rattle.call_graph.proofs.Sets.{row_inside}
@@ -29,16 +29,16 @@ none_counted = omega (arith, ones_le_self 0)
 -- the rows of direct calls, and their closure
 pub record Closed (app : App) (direct rows : List ℕ) : Type 0 where
   pub count : length direct ≡ length app.funcs
-  pub calls : (f g : ℕ) → f < length app.funcs → row_has direct f g ≡ calls_itself (func_of app.funcs f) g
+  pub calls : (f g : ℕ) → f < length app.funcs → row_has direct f g ≡ is_direct_call (func_of app.funcs f) g
   pub closed : (i j : ℕ) → Decides (row_has rows i j) ((between : List ℕ) × IsRowChain direct i between j)
 
 module _ (app : App) (direct rows : List ℕ) (c : Closed app direct rows) where
-  calls_are : (f g : ℕ) → row_has direct f g ≡ true → Calls app f g
+  calls_are : (f g : ℕ) → row_has direct f g ≡ true → HasCall app f g
   calls_are f g h =
       let known : f < length app.funcs = subst (λ (n : ℕ). f < n) c.count (row_inside direct f g h) in
       (Decides-calls app f known g).0 (sym (c.calls f g known) ∙ h)
 
-  are_calls : (f g : ℕ) → Calls app f g → row_has direct f g ≡ true
+  are_calls : (f g : ℕ) → HasCall app f g → row_has direct f g ≡ true
   are_calls f g x = c.calls f g x.1.known ∙ (Decides-calls app f x.1.known g).1 x
 
   chain_is : (f g : ℕ) (between : List ℕ) → IsRowChain direct f between g → IsCallChain app f between g
@@ -67,26 +67,26 @@ module _ (app : App) (direct rows : List ℕ) (c : Closed app direct rows) where
 
   pub Decides-takes : (f r : ℕ) → Decides (takes_by app.funcs f (get_or rows f 0) r) (ReachesTaking app f r)
   Decides-takes f r =
-      let test : ℕ → Bool = λ g. reaches_by f (get_or rows f 0) g && takes_itself (func_of app.funcs g) r in (
+      let test : ℕ → Bool = λ g. reaches_by f (get_or rows f 0) g && is_direct_taking (func_of app.funcs g) r in (
         λ h.
             let x = number_found test (length app.funcs) h in
-            let parts = and_parts (reaches_by f (get_or rows f 0) x.0) (takes_itself (func_of app.funcs x.0) r) x.2 in
+            let parts = and_parts (reaches_by f (get_or rows f 0) x.0) (is_direct_taking (func_of app.funcs x.0) r) x.2 in
             let y = takes_are app x.0 x.1 r parts.1 in
             (x.0, y.0, y.1, (Decides-reaches f x.0).0 parts.0, y.2),
         λ x. number_counts test (length app.funcs) x.0 x.4.known
-            (and_from (reaches_by f (get_or rows f 0) x.0) (takes_itself (func_of app.funcs x.0) r) ((Decides-reaches f x.0).1 x.3) (are_takes app x.0 x.4.known r x.1 x.2 x.4)),
+            (and_from (reaches_by f (get_or rows f 0) x.0) (is_direct_taking (func_of app.funcs x.0) r) ((Decides-reaches f x.0).1 x.3) (are_takes app x.0 x.4.known r x.1 x.2 x.4)),
       )
 
   pub Decides-pauses : (f : ℕ) → Decides (pauses_by app.funcs f (get_or rows f 0)) (ReachesPause app f)
   Decides-pauses f =
-      let test : ℕ → Bool = λ g. reaches_by f (get_or rows f 0) g && pauses_itself (func_of app.funcs g) in (
+      let test : ℕ → Bool = λ g. reaches_by f (get_or rows f 0) g && is_direct_pause (func_of app.funcs g) in (
         λ h.
             let x = number_found test (length app.funcs) h in
-            let parts = and_parts (reaches_by f (get_or rows f 0) x.0) (pauses_itself (func_of app.funcs x.0)) x.2 in
+            let parts = and_parts (reaches_by f (get_or rows f 0) x.0) (is_direct_pause (func_of app.funcs x.0)) x.2 in
             let y = pauses_are app x.0 x.1 parts.1 in
             (x.0, y.0, y.1, y.2, y.3, (Decides-reaches f x.0).0 parts.0, y.4, y.5),
         λ x. number_counts test (length app.funcs) x.0 x.6.known
-            (and_from (reaches_by f (get_or rows f 0) x.0) (pauses_itself (func_of app.funcs x.0)) ((Decides-reaches f x.0).1 x.5) (are_pauses app x.0 x.6.known x.1 x.3 x.4 x.2 x.6 x.7)),
+            (and_from (reaches_by f (get_or rows f 0) x.0) (is_direct_pause (func_of app.funcs x.0)) ((Decides-reaches f x.0).1 x.5) (are_pauses app x.0 x.6.known x.1 x.3 x.4 x.2 x.6 x.7)),
       )
 
   pub Decides-used : (f t : ℕ) → Decides (used_by app.funcs rows f t) (TaskReaches app t f)
@@ -116,7 +116,7 @@ module _ (app : App) (direct rows : List ℕ) (c : Closed app direct rows) where
 
   -- ---- ranks
 
-  rank_above : (f g : ℕ) → NoFault (RowCycle app.funcs rows) → Calls app f g → count_ones (get_or rows g 0) < count_ones (get_or rows f 0)
+  rank_above : (f g : ℕ) → NoFault (RowCycle app.funcs rows) → HasCall app f g → count_ones (get_or rows g 0) < count_ones (get_or rows f 0)
   rank_above f g none calls =
       counts_less (get_or rows g 0) (get_or rows f 0) g
       (λ i h. let x = (c.closed g i).0 h in (c.closed f i).1 (g ∷ x.0, (are_calls f g calls, x.1)))

@@ -15,9 +15,9 @@ use Rattle.sloth_base.specs.declared.service.Service.{Service}
 use Rattle.sloth_base.specs.declared.service.Service.TheVariants as service
 use Rattle.sloth_base.specs.Named.{function, no_function, no_item}
 use Rattle.sloth_base.specs.Options.{is_number}
-use Rattle.code_rules.specs.Code.{IsItem, service_op, Calls, Pauses}
+use Rattle.code_rules.specs.Code.{IsItem, service_op, HasCall, IsPausing}
 use Rattle.call_graph.specs.Rows.{is_call, is_get, is_taking, is_pausing, is_pause}
-use Rattle.call_graph.specs.Reached.{any_below, func_of, calls_itself, takes_itself, pauses_itself}
+use Rattle.call_graph.specs.Reached.{any_below, func_of, is_direct_call, is_direct_taking, is_direct_pause}
 
 -- ---- some item, some number
 
@@ -63,44 +63,44 @@ taking_is r (op.Serve call) e =
     )
 taking_is r _ e = absurd (false≢true e)
 
-pub pausing_is : (s : Service) → is_pausing s ≡ true → Pauses s
+pub pausing_is : (s : Service) → is_pausing s ≡ true → IsPausing s
 pausing_is service.WaitEvent e = inl refl
 pausing_is service.Schedule e = inr refl
 pausing_is _ e = absurd (false≢true e)
 
-pub is_pausing_of : (s : Service) → Pauses s → is_pausing s ≡ true
+pub is_pausing_of : (s : Service) → IsPausing s → is_pausing s ≡ true
 is_pausing_of s (inl e) = ap is_pausing e
 is_pausing_of s (inr e) = ap is_pausing e
 
-pause_is : (o : Op) → is_pause o ≡ true → (s : Service) × (object : ℕ) × (mask : ℕ) × (o ≡ service_op s object mask) × Pauses s
+pause_is : (o : Op) → is_pause o ≡ true → (s : Service) × (object : ℕ) × (mask : ℕ) × (o ≡ service_op s object mask) × IsPausing s
 pause_is (op.Serve call) e = (call.service, call.object, call.mask, refl, pausing_is call.service e)
 pause_is _ e = absurd (false≢true e)
 
 -- ---- functions
 
 module _ (app : App) (f : ℕ) (known : f < length app.funcs) where
-  pub Decides-calls : (g : ℕ) → Decides (calls_itself (function app f) g) (Calls app f g)
+  pub Decides-calls : (g : ℕ) → Decides (is_direct_call (function app f) g) (HasCall app f g)
   Decides-calls g = (
     λ h. let r = item_found (λ item. is_call g item.op) (function app f).items h in (r.0, record { known = known; inside = r.1; is = call_is g _ r.2 }),
     λ c. list_any_at (λ item. is_call g item.op) (function app f).items c.0 no_item c.1.inside (ap (is_call g) c.1.is ∙ eq-eqb g g refl),
   )
 
-  pub takes_are : (r : ℕ) → takes_itself (function app f) r ≡ true → (i : ℕ) × (mask : ℕ) × IsItem app f i (service_op service.GetResource r mask)
+  pub takes_are : (r : ℕ) → is_direct_taking (function app f) r ≡ true → (i : ℕ) × (mask : ℕ) × IsItem app f i (service_op service.GetResource r mask)
   takes_are r h =
       let x = item_found (λ item. is_taking r item.op) (function app f).items h in
       let y = taking_is r _ x.2 in (x.0, y.0, record { known = known; inside = x.1; is = y.1 })
 
-  pub are_takes : (r i mask : ℕ) → IsItem app f i (service_op service.GetResource r mask) → takes_itself (function app f) r ≡ true
+  pub are_takes : (r i mask : ℕ) → IsItem app f i (service_op service.GetResource r mask) → is_direct_taking (function app f) r ≡ true
   are_takes r i mask is =
       list_any_at (λ item. is_taking r item.op) (function app f).items i no_item is.inside (ap (is_taking r) is.is ∙ eq-eqb r r refl)
 
-  pub pauses_are : pauses_itself (function app f) ≡ true
-      → (i : ℕ) × (s : Service) × (object : ℕ) × (mask : ℕ) × IsItem app f i (service_op s object mask) × Pauses s
+  pub pauses_are : is_direct_pause (function app f) ≡ true
+      → (i : ℕ) × (s : Service) × (object : ℕ) × (mask : ℕ) × IsItem app f i (service_op s object mask) × IsPausing s
   pauses_are h =
       let x = item_found (λ item. is_pause item.op) (function app f).items h in
       let y = pause_is _ x.2 in (x.0, y.0, y.1, y.2, record { known = known; inside = x.1; is = y.3 }, y.4)
 
-  pub are_pauses : (i object mask : ℕ) (s : Service) → IsItem app f i (service_op s object mask) → Pauses s → pauses_itself (function app f) ≡ true
+  pub are_pauses : (i object mask : ℕ) (s : Service) → IsItem app f i (service_op s object mask) → IsPausing s → is_direct_pause (function app f) ≡ true
   are_pauses i object mask s is pauses =
       list_any_at (λ item. is_pause item.op) (function app f).items i no_item is.inside (ap is_pause is.is ∙ is_pausing_of s pauses)
 

@@ -1,7 +1,7 @@
 -- What is known of each function from its calls.
 use Rattle.std.specs.Prelude.{ℕ, ◌<◌, ◌≡◌, false, length, get_or, Decides}
 use Rattle.sloth_base.specs.declared.app.App.{App}
-use Rattle.code_rules.specs.Code.{Calls, ReachesTaking, ReachesPause, TaskReaches}
+use Rattle.code_rules.specs.Code.{HasCall, ReachesTaking, ReachesPause, TaskReaches}
 use Rattle.call_graph.specs.declared.ranking.Ranks.{Ranks}
 use Rattle.call_graph.specs.Bits.{is_member}
 
@@ -16,7 +16,7 @@ pub record CoversFunctions (app : App) (ranks : Ranks) : Type 0 where
 pub record RanksOf (app : App) (ranks : Ranks) : Type 0 where
   pub covers : CoversFunctions app ranks
   -- a rank is above that of every function that is called
-  pub above : (f g : ℕ) → Calls app f g → get_or ranks.rank g 0 < get_or ranks.rank f 0
+  pub above : (f g : ℕ) → HasCall app f g → get_or ranks.rank g 0 < get_or ranks.rank f 0
   -- the resources that each function reaches taking
   pub resources : (f r : ℕ) → f < length app.funcs → Decides (is_member (get_or ranks.resources f 0) r) (ReachesTaking app f r)
   -- whether it reaches a WaitEvent or a Schedule

@@ -20,24 +20,24 @@ func_of funcs f = get_or funcs f no_function
 -- ---- what a function does itself
 
 -- an item of function f calls function g
-abbrev pub calls_itself : Func → ℕ → Bool
-calls_itself f g = list_any (λ item. is_call g item.op) f.items
+abbrev pub is_direct_call : Func → ℕ → Bool
+is_direct_call f g = list_any (λ item. is_call g item.op) f.items
 
 -- an item of function f takes resource r
-abbrev pub takes_itself : Func → ℕ → Bool
-takes_itself f r = list_any (λ item. is_taking r item.op) f.items
+abbrev pub is_direct_taking : Func → ℕ → Bool
+is_direct_taking f r = list_any (λ item. is_taking r item.op) f.items
 
 -- an item of function f is a WaitEvent or a Schedule
-abbrev pub pauses_itself : Func → Bool
-pauses_itself f = list_any (λ item. is_pause item.op) f.items
+abbrev pub is_direct_pause : Func → Bool
+is_direct_pause f = list_any (λ item. is_pause item.op) f.items
 
 -- the numbers of the functions that f calls fit a set of 64
 abbrev pub CallsFew : Func → Type 0
-CallsFew f = (g : ℕ) → calls_itself f g ≡ true → g < 64
+CallsFew f = (g : ℕ) → is_direct_call f g ≡ true → g < 64
 
 -- so do those of the resources that it takes
 abbrev pub TakesFew : Func → Type 0
-TakesFew f = (r : ℕ) → takes_itself f r ≡ true → r < 64
+TakesFew f = (r : ℕ) → is_direct_taking f r ≡ true → r < 64
 
 -- and that of its task fits a set of 32
 abbrev pub IsOfFew : Func → Type 0
@@ -58,11 +58,11 @@ reaches_by from row to = (from == to) || is_member row to
 
 -- the function with this number and this row reaches taking resource r
 abbrev pub takes_by : List Func → (from row r : ℕ) → Bool
-takes_by funcs from row r = any_below (length funcs) (λ g. reaches_by from row g && takes_itself (func_of funcs g) r)
+takes_by funcs from row r = any_below (length funcs) (λ g. reaches_by from row g && is_direct_taking (func_of funcs g) r)
 
 -- the function with this number and this row reaches a WaitEvent or a Schedule
 abbrev pub pauses_by : List Func → (from row : ℕ) → Bool
-pauses_by funcs from row = any_below (length funcs) (λ g. reaches_by from row g && pauses_itself (func_of funcs g))
+pauses_by funcs from row = any_below (length funcs) (λ g. reaches_by from row g && is_direct_pause (func_of funcs g))
 
 -- the body of task t reaches the function
 abbrev pub used_by : List Func → List ℕ → (to t : ℕ) → Bool

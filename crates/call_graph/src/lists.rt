@@ -3,7 +3,7 @@ ghost use Rattle.std.specs.Prelude.{◌≡◌, ℕ, ◌<◌, ◌≤◌, false, l
 ghost use Rattle.sloth_base.specs.Limits.{body_limit};
 ghost use Rattle.call_graph.specs.Bits.{is_member};
 ghost use Rattle.call_graph.specs.Rows.{row_has};
-ghost use Rattle.call_graph.specs.Reached.{AreFew, func_of, calls_itself, takes_by, pauses_by, used_by};
+ghost use Rattle.call_graph.specs.Reached.{AreFew, func_of, is_direct_call, takes_by, pauses_by, used_by};
 ghost use Rattle.call_graph.specs.Gathered.{AreGathered};
 
 use crate::calls::called;
@@ -19,7 +19,7 @@ use text_pieces::growth::push;
 pub fn direct_calls(alloc: Global, funcs: &[Func]) -> Result<Vec<u64>, NoMemory>
     requires { AreFew funcs.now }
     ensures count { IfOk result (λ rows. length rows.items ≡ length funcs.now) }
-    ensures calls { IfOk result (λ rows. (f g : ℕ) → f < length funcs.now → row_has rows.items f g ≡ calls_itself (func_of funcs.now f) g) }
+    ensures calls { IfOk result (λ rows. (f g : ℕ) → f < length funcs.now → row_has rows.items f g ≡ is_direct_call (func_of funcs.now f) g) }
 {
     let mut rows = Vec::new(alloc);
     for func in funcs {

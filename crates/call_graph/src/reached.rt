@@ -3,7 +3,7 @@ ghost use Rattle.std.specs.Prelude.{◌≡◌, ℕ, ◌<◌, ◌≤◌, ◌||◌
 ghost use Rattle.sloth_base.specs.Options.{is_number};
 ghost use Rattle.sloth_base.specs.Limits.{body_limit};
 ghost use Rattle.call_graph.specs.Bits.{is_member};
-ghost use Rattle.call_graph.specs.Reached.{AreFew, TakesFew, IsOfFew, takes_itself, pauses_itself, reaches_by, takes_by, pauses_by, used_by};
+ghost use Rattle.call_graph.specs.Reached.{AreFew, TakesFew, IsOfFew, is_direct_taking, is_direct_pause, reaches_by, takes_by, pauses_by, used_by};
 
 use crate::bits::with_task;
 use crate::calls::{pauses, taken};
@@ -20,7 +20,7 @@ fn is_reached(from: usize, row: u64, to: usize) -> bool
 
 fn with_taken(resources: u64, reached: bool, func: &Func) -> u64
     requires { TakesFew func.now }
-    ensures { (r : ℕ) → is_member result r ≡ (is_member resources r || (reached && takes_itself func.now r)) }
+    ensures { (r : ℕ) → is_member result r ≡ (is_member resources r || (reached && is_direct_taking func.now r)) }
 {
     if reached {
         union(resources, taken(func.items.items()))
@@ -42,7 +42,7 @@ pub fn resources_of(funcs: &[Func], from: usize, row: u64) -> u64
 }
 
 fn pauses_with(pausing: bool, reached: bool, func: &Func) -> bool
-    ensures { result ≡ (pausing || (reached && pauses_itself func.now)) }
+    ensures { result ≡ (pausing || (reached && is_direct_pause func.now)) }
 {
     pausing || (reached && pauses(func.items.items()))
 }

@@ -4,9 +4,9 @@ use Rattle.std.proofs.lemmas.Bool.{cases_eq}
 use Rattle.std.specs.Bool.{Decides}
 use Rattle.sloth_base.specs.declared.refusal.Code.{Code}
 use Rattle.sloth_base.specs.declared.refusal.Refusal.{Refusal}
-use Rattle.least_fault.specs.Search.{Finds, merge, when}
+use Rattle.least_fault.specs.Search.{IsSearchResult, merge, fault_if}
 use Rattle.least_fault.proofs.Searching.{KeepsLeast}
-use Rattle.least_fault.proofs.Kept.{kept_start, kept_on, kept_merge, kept_finds, finds_when}
+use Rattle.least_fault.proofs.Kept.{kept_start, kept_on, kept_merge, kept_finds, fault_if_found}
 use Rattle.code_rules.specs.WellFormed.{fault_at_line}
 
 module _ (Fault : ℕ → Refusal → Type 0) (count : ℕ) where
@@ -25,7 +25,7 @@ module _ (Fault : ℕ → Refusal → Type 0) (count : ℕ) where
   pub judged_start : Judged 0 None
   judged_start = kept_on Below Below (From 0) None (λ r x. (x.0, omega arith, x.1, x.2)) (λ r x. (x.0, x.2, x.3)) (kept_start Below)
 
-  pub judged_more : (n : ℕ) (least found new : Option Refusal) → n < count → Finds (Fault n) found → new ≡ merge least found → Judged n least → Judged (n + 1) new
+  pub judged_more : (n : ℕ) (least found new : Option Refusal) → n < count → IsSearchResult (Fault n) found → new ≡ merge least found → Judged n least → Judged (n + 1) new
   judged_more n least found new l finds is judged =
       subst (λ (o : Option Refusal). Judged (n + 1) o) (sym is)
       (kept_merge Below (From n) (Fault n) (From (n + 1)) least found finds
@@ -34,11 +34,11 @@ module _ (Fault : ℕ → Refusal → Type 0) (count : ℕ) where
       (λ r x. (x.0, omega (arith, x.1), x.2, x.3))
       judged)
 
-  pub judged_end : (n : ℕ) (least : Option Refusal) → count ≤ n → Judged n least → Finds Below least
+  pub judged_end : (n : ℕ) (least : Option Refusal) → count ≤ n → Judged n least → IsSearchResult Below least
   judged_end n least l judged = kept_finds Below (From n) least (λ r x. omega (arith, x.1, x.2, l)) judged
 
 -- A test that decides a fact finds the refusal where it holds.
-pub decided : (P : Type 0) (test : Bool) (line : ℕ) (c : Code) (found : Option Refusal) → found ≡ when test (fault_at_line line c) → Decides test P
-    → Finds (λ r. P × (r ≡ fault_at_line line c)) found
+pub decided : (P : Type 0) (test : Bool) (line : ℕ) (c : Code) (found : Option Refusal) → found ≡ fault_if test (fault_at_line line c) → Decides test P
+    → IsSearchResult (λ r. P × (r ≡ fault_at_line line c)) found
 decided P test line c found is decides =
-    subst (Finds (λ r. P × (r ≡ fault_at_line line c))) (sym is) (finds_when P test (fault_at_line line c) decides.0 decides.1)
+    subst (IsSearchResult (λ r. P × (r ≡ fault_at_line line c))) (sym is) (fault_if_found P test (fault_at_line line c) decides.0 decides.1)

@@ -81,7 +81,7 @@ Refuses app line c = WellFormed.RuleFault config app (WellFormed.fault_at_line l
 
 -- item i of the first body does not break the rule
 abbrev Passes : App → (i : ℕ) → Code → Type 0
-Passes app i c = WellFormed.Breaks config app 0 i c → ⊥
+Passes app i c = WellFormed.IsBreach config app 0 i c → ⊥
 
 -- ---- V1
 
@@ -107,19 +107,19 @@ abbrev stores : ℕ → App
 stores word = one (at 2 (op.FrameStore 5 word) ∷ at 3 ends ∷ [])
 
 frame_word_4 : Refuses (stores 4) 2 code.V2
-frame_word_4 = (0, omega arith, WellFormed.at_item 0 code.V2 (omega arith) (WellFormed.accesses_past (omega arith)))
+frame_word_4 = (0, omega arith, WellFormed.at_item 0 code.V2 (omega arith) (WellFormed.is_access_past (omega arith)))
 
 frame_word_3 : Passes (stores 3) 0 code.V2
-frame_word_3 (WellFormed.accesses_past le) = omega (arith, le)
+frame_word_3 (WellFormed.is_access_past le) = omega (arith, le)
 
 abbrev loads_half : ℕ → App
 loads_half offset = one (at 2 (op.Load width.Half 5 0 offset) ∷ at 3 ends ∷ [])
 
 half_at_3 : Refuses (loads_half 3) 2 code.V2
-half_at_3 = (0, omega arith, WellFormed.at_item 0 code.V2 (omega arith) (WellFormed.accesses_past (omega arith)))
+half_at_3 = (0, omega arith, WellFormed.at_item 0 code.V2 (omega arith) (WellFormed.is_access_past (omega arith)))
 
 half_at_2 : Passes (loads_half 2) 0 code.V2
-half_at_2 (WellFormed.accesses_past le) = omega (arith, le)
+half_at_2 (WellFormed.is_access_past le) = omega (arith, le)
 
 -- ---- V3
 
@@ -152,11 +152,11 @@ size_is size mask = length-replicate size 0
 
 mask_past : (size mask : ℕ) → size < mask + 1 → Refuses (masks size mask) 3 code.V4
 mask_past size mask l =
-    let e = size_is size mask in (0, omega arith, WellFormed.at_item 0 code.V4 (omega arith) (WellFormed.masks_past (inr (omega (arith, e, l)))))
+    let e = size_is size mask in (0, omega arith, WellFormed.at_item 0 code.V4 (omega arith) (WellFormed.is_mask_past (inr (omega (arith, e, l)))))
 
 mask_inside : (size mask : ℕ) → mask ≤ 32767 → mask + 1 ≤ size → Passes (masks size mask) 0 code.V4
-mask_inside size mask m l (WellFormed.masks_past (inl h)) = omega (arith, m, h)
-mask_inside size mask m l (WellFormed.masks_past (inr h)) = let e = size_is size mask in omega (arith, e, l, h)
+mask_inside size mask m l (WellFormed.is_mask_past (inl h)) = omega (arith, m, h)
+mask_inside size mask m l (WellFormed.is_mask_past (inr h)) = let e = size_is size mask in omega (arith, e, l, h)
 
 mask_2047_of_2048 : Passes (masks 2048 2047) 0 code.V4
 mask_2047_of_2048 = mask_inside 2048 2047 (omega arith) (omega arith)
@@ -177,11 +177,11 @@ abbrev jumps_to : ℕ → App
 jumps_to item = code_of (main (at 3 nop ∷ at 4 (op.Jump 0) ∷ []) (label 2 item [] ∷ []) ∷ [])
 
 jumps_behind : Refuses (jumps_to 2) 4 code.V5
-jumps_behind = (0, omega arith, WellFormed.at_item 1 code.V5 (omega arith) (WellFormed.runs_out (2, inr (0, refl, refl), omega arith)))
+jumps_behind = (0, omega arith, WellFormed.at_item 1 code.V5 (omega arith) (WellFormed.is_run_out (2, inr (0, refl, refl), omega arith)))
 
 jumps_back : Passes (jumps_to 0) 1 code.V5
-jumps_back (WellFormed.runs_out (j, inl a, l)) = false≢true a.0
-jumps_back (WellFormed.runs_out (j, inr (k, e, q), l)) =
+jumps_back (WellFormed.is_run_out (j, inl a, l)) = false≢true a.0
+jumps_back (WellFormed.is_run_out (j, inr (k, e, q), l)) =
     let same : 0 ≡ k = cc in
     let h : j ≡ 0 = q ∙ ap (λ n. (label_of (function (jumps_to 0) 0) n).item) (sym same) in
     omega (arith, h, l)
@@ -190,11 +190,11 @@ no_items : Refuses (one []) 1 code.V5
 no_items = (0, omega arith, WellFormed.at_header refl)
 
 falls_out : Refuses (one (at 2 nop ∷ [])) 2 code.V5
-falls_out = (0, omega arith, WellFormed.at_item 0 code.V5 (omega arith) (WellFormed.runs_out (1, inl (refl, refl), omega arith)))
+falls_out = (0, omega arith, WellFormed.at_item 0 code.V5 (omega arith) (WellFormed.is_run_out (1, inl (refl, refl), omega arith)))
 
 ends_there : Passes (one (at 2 ends ∷ [])) 0 code.V5
-ends_there (WellFormed.runs_out (j, inl a, l)) = false≢true a.0
-ends_there (WellFormed.runs_out (j, inr (k, e, q), l)) = absurd cc
+ends_there (WellFormed.is_run_out (j, inl a, l)) = false≢true a.0
+ends_there (WellFormed.is_run_out (j, inr (k, e, q), l)) = absurd cc
 
 -- ---- V6
 
@@ -241,12 +241,12 @@ abbrev branches : List ℕ → App
 branches holds = code_of (main (at 2 (takes 0) ∷ at 3 (op.Branch branch.Beq 5 0 0) ∷ at 4 (gives 0) ∷ at 6 ends ∷ []) (label 5 3 holds ∷ []) ∷ [])
 
 branch_differs : Refuses (branches []) 3 code.V7
-branch_differs = (0, omega arith, WellFormed.at_item 1 code.V7 (omega arith) (WellFormed.holds_other (0, refl, λ e. cc)))
+branch_differs = (0, omega arith, WellFormed.at_item 1 code.V7 (omega arith) (WellFormed.is_other_list_jump (0, refl, λ e. cc)))
 
 label_differs : Refuses (branches (0 ∷ [])) 5 code.V7
 label_differs = (0, omega arith, WellFormed.at_label 0 (omega arith) (WellFormed.falling_in refl (λ e. cc)))
 
-label_agrees : WellFormed.Differs (function (branches []) 0) 0 → ⊥
+label_agrees : WellFormed.HasOtherList (function (branches []) 0) 0 → ⊥
 label_agrees (WellFormed.falling_in into ne) = ne refl
 label_agrees (WellFormed.at_begin e ne) = ne refl
 
@@ -255,46 +255,46 @@ abbrev takes_in_turns : App
 takes_in_turns = code_of (main (at 3 (takes 0) ∷ at 4 (op.Jump 0) ∷ []) (label 2 0 [] ∷ []) ∷ [])
 
 each_turn_holds_more : Refuses takes_in_turns 4 code.V7
-each_turn_holds_more = (0, omega arith, WellFormed.at_item 1 code.V7 (omega arith) (WellFormed.holds_other (0, refl, λ e. cc)))
+each_turn_holds_more = (0, omega arith, WellFormed.at_item 1 code.V7 (omega arith) (WellFormed.is_other_list_jump (0, refl, λ e. cc)))
 
 -- a loop that holds it in all turns
 abbrev holds_in_turns : App
 holds_in_turns = code_of (main (at 2 (takes 0) ∷ at 4 nop ∷ at 5 (op.Jump 0) ∷ []) (label 3 1 (0 ∷ []) ∷ []) ∷ [])
 
 each_turn_holds_it : Passes holds_in_turns 2 code.V7
-each_turn_holds_it (WellFormed.holds_other (k, e, ne)) =
+each_turn_holds_it (WellFormed.is_other_list_jump (k, e, ne)) =
     let same : 0 ≡ k = cc in ne (ap (λ n. (label_of (function holds_in_turns 0) n).holds) (sym same))
 
-begins_holding : Refuses (code_of (main (at 3 ends ∷ []) (label 2 0 (0 ∷ []) ∷ []) ∷ [])) 2 code.V7
-begins_holding = (0, omega arith, WellFormed.at_label 0 (omega arith) (WellFormed.at_begin refl (λ e. cc)))
+is_start_with_resource : Refuses (code_of (main (at 3 ends ∷ []) (label 2 0 (0 ∷ []) ∷ []) ∷ [])) 2 code.V7
+is_start_with_resource = (0, omega arith, WellFormed.at_label 0 (omega arith) (WellFormed.at_begin refl (λ e. cc)))
 
 -- ---- V8
 
 releases_nothing : Refuses (one (at 2 (gives 0) ∷ at 3 ends ∷ [])) 2 code.V8
-releases_nothing = (0, omega arith, WellFormed.at_item 0 code.V8 (omega arith) (WellFormed.releases_other (refl, refl)))
+releases_nothing = (0, omega arith, WellFormed.at_item 0 code.V8 (omega arith) (WellFormed.is_wrong_release (refl, refl)))
 
 abbrev releases : ℕ → App
 releases r = one (at 2 (takes 0) ∷ at 3 (takes 32) ∷ at 4 (gives r) ∷ [])
 
 releases_the_first : Refuses (releases 0) 4 code.V8
-releases_the_first = (0, omega arith, WellFormed.at_item 2 code.V8 (omega arith) (WellFormed.releases_other (refl, refl)))
+releases_the_first = (0, omega arith, WellFormed.at_item 2 code.V8 (omega arith) (WellFormed.is_wrong_release (refl, refl)))
 
 releases_the_last : Passes (releases 32) 2 code.V8
-releases_the_last (WellFormed.releases_other (e, not_last)) = true≢false not_last
+releases_the_last (WellFormed.is_wrong_release (e, not_last)) = true≢false not_last
 
 releases_the_only : Passes (one (at 2 (takes 0) ∷ at 3 (gives 0) ∷ [])) 1 code.V8
-releases_the_only (WellFormed.releases_other (e, not_last)) = true≢false not_last
+releases_the_only (WellFormed.is_wrong_release (e, not_last)) = true≢false not_last
 
 -- ---- V9
 
 takes_twice : Refuses (one (at 2 (takes 0) ∷ at 3 (takes 0) ∷ [])) 3 code.V9
-takes_twice = (0, omega arith, WellFormed.at_item 1 code.V9 (omega arith) (WellFormed.takes_held (refl, refl)))
+takes_twice = (0, omega arith, WellFormed.at_item 1 code.V9 (omega arith) (WellFormed.is_second_take (refl, refl)))
 
 takes_another : Passes (one (at 2 (takes 0) ∷ at 3 (takes 32) ∷ [])) 1 code.V9
-takes_another (WellFormed.takes_held (e, held)) = false≢true held
+takes_another (WellFormed.is_second_take (e, held)) = false≢true held
 
 takes_again : Passes (one (at 2 (takes 0) ∷ at 3 (gives 0) ∷ at 4 (takes 0) ∷ [])) 2 code.V9
-takes_again (WellFormed.takes_held (e, held)) = false≢true held
+takes_again (WellFormed.is_second_take (e, held)) = false≢true held
 
 -- `GetResource R / call f`, and f
 abbrev calls_holding : List Item → App
@@ -305,23 +305,23 @@ calls_what_takes = (
   0,
   omega arith,
   WellFormed.at_item 1 code.V9 (omega arith)
-      (WellFormed.takes_held (0, (1, 0, 0, inl refl, record { known = omega arith; inside = omega arith; is = refl }), refl)),
+      (WellFormed.is_second_take (0, (1, 0, 0, inl refl, record { known = omega arith; inside = omega arith; is = refl }), refl)),
 )
 
 -- ---- V10
 
 ends_holding : Refuses (one (at 2 (takes 0) ∷ at 3 ends ∷ at 4 (gives 0) ∷ [])) 3 code.V10
-ends_holding = (0, omega arith, WellFormed.at_item 1 code.V10 (omega arith) (WellFormed.leaves_holding (inl (inl refl), λ e. cc)))
+ends_holding = (0, omega arith, WellFormed.at_item 1 code.V10 (omega arith) (WellFormed.is_leave_with_resource (inl (inl refl), λ e. cc)))
 
 ends_free : Passes (one (at 2 (takes 0) ∷ at 3 (gives 0) ∷ at 4 ends ∷ [])) 2 code.V10
-ends_free (WellFormed.leaves_holding (leaves, ne)) = ne refl
+ends_free (WellFormed.is_leave_with_resource (leaves, ne)) = ne refl
 
 calls_what_schedules : Refuses (calls_holding (at 21 (service_op service.Schedule 0 0) ∷ at 22 op.Return ∷ [])) 3 code.V10
 calls_what_schedules = (
   0,
   omega arith,
   WellFormed.at_item 1 code.V10 (omega arith)
-      (WellFormed.leaves_holding ((1, 0, service.Schedule, 0, 0, inl refl, record { known = omega arith; inside = omega arith; is = refl }, inr refl), λ e. cc)),
+      (WellFormed.is_leave_with_resource ((1, 0, service.Schedule, 0, 0, inl refl, record { known = omega arith; inside = omega arith; is = refl }, inr refl), λ e. cc)),
 )
 
 -- a call while the resource is held, of a function that neither waits nor calls Schedule
@@ -329,7 +329,7 @@ abbrev calls_plainly : App
 calls_plainly = calls_holding (at 21 op.Return ∷ [])
 
 calls_what_returns : Passes calls_plainly 1 code.V10
-calls_what_returns (WellFormed.leaves_holding ((g, i, s, object, mask, reach, is, pauses), ne)) = by reach
+calls_what_returns (WellFormed.is_leave_with_resource ((g, i, s, object, mask, reach, is, pauses), ne)) = by reach
   where
     -- the function has one item, a `ret`
     alone : (i : ℕ) (o : Op) → IsItem calls_plainly 1 i o → op.Return ≡ o
@@ -344,16 +344,16 @@ calls_what_returns (WellFormed.leaves_holding ((g, i, s, object, mask, reach, is
 -- ---- V11
 
 task_returns : Refuses (one (at 2 op.Return ∷ [])) 2 code.V11
-task_returns = (0, omega arith, WellFormed.at_item 0 code.V11 (omega arith) (WellFormed.leaves_wrongly (0, refl)))
+task_returns = (0, omega arith, WellFormed.at_item 0 code.V11 (omega arith) (WellFormed.is_wrong_leave (0, refl)))
 
 function_ends : Refuses (code_of (main (at 2 ends ∷ []) [] ∷ func (at 21 (service_op service.ChainTask 1 0) ∷ []) ∷ [])) 21 code.V11
-function_ends = (1, omega arith, WellFormed.at_item 0 code.V11 (omega arith) (WellFormed.leaves_wrongly (inr refl, refl)))
+function_ends = (1, omega arith, WellFormed.at_item 0 code.V11 (omega arith) (WellFormed.is_wrong_leave (inr refl, refl)))
 
 task_ends : Passes (one (at 2 ends ∷ [])) 0 code.V11
-task_ends (WellFormed.leaves_wrongly (ending, none)) = absurd cc
+task_ends (WellFormed.is_wrong_leave (ending, none)) = absurd cc
 
 task_chains : Passes (one (at 2 (service_op service.ChainTask 1 0) ∷ [])) 0 code.V11
-task_chains (WellFormed.leaves_wrongly (ending, none)) = absurd cc
+task_chains (WellFormed.is_wrong_leave (ending, none)) = absurd cc
 
 -- ---- V12
 
@@ -365,23 +365,23 @@ takes_unlisted = (
   0,
   omega arith,
   WellFormed.at_item 0 code.V12 (omega arith)
-      (WellFormed.uses_undeclared (omega arith, (0, (0, (omega arith, refl), inl refl), λ listed. false≢true listed))),
+      (WellFormed.is_undeclared_use (omega arith, (0, (0, (omega arith, refl), inl refl), λ listed. false≢true listed))),
 )
 
 takes_scheduler : Passes (serves service.GetResource 32 0) 0 code.V12
-takes_scheduler (WellFormed.uses_undeclared (ne, user)) = ne refl
+takes_scheduler (WellFormed.is_undeclared_use (ne, user)) = ne refl
 
 sets_unknown : Refuses (serves service.SetEvent 0 2) 2 code.V12
-sets_unknown = (0, omega arith, WellFormed.at_item 0 code.V12 (omega arith) (WellFormed.uses_undeclared (λ e. cc)))
+sets_unknown = (0, omega arith, WellFormed.at_item 0 code.V12 (omega arith) (WellFormed.is_undeclared_use (λ e. cc)))
 
 sets_its_own : Passes (serves service.SetEvent 0 1) 0 code.V12
-sets_its_own (WellFormed.uses_undeclared lacks) = lacks refl
+sets_its_own (WellFormed.is_undeclared_use lacks) = lacks refl
 
 gets_of_basic : Refuses (serves service.GetEvent 1 0) 2 code.V12
-gets_of_basic = (0, omega arith, WellFormed.at_item 0 code.V12 (omega arith) (WellFormed.uses_undeclared refl))
+gets_of_basic = (0, omega arith, WellFormed.at_item 0 code.V12 (omega arith) (WellFormed.is_undeclared_use refl))
 
 gets_of_extended : Passes (serves service.GetEvent 0 0) 0 code.V12
-gets_of_extended (WellFormed.uses_undeclared e) = true≢false e
+gets_of_extended (WellFormed.is_undeclared_use e) = true≢false e
 
 -- ---- V1, accepted
 

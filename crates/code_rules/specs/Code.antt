@@ -24,13 +24,13 @@ service_op s object mask = op.Serve (record { service = s; object = object; mask
 -- ---- calls
 
 -- function f calls function g
-abbrev pub Calls : App → ℕ → ℕ → Type 0
-Calls app f g = (i : ℕ) × IsItem app f i (op.Invoke g)
+abbrev pub HasCall : App → ℕ → ℕ → Type 0
+HasCall app f g = (i : ℕ) × IsItem app f i (op.Invoke g)
 
 -- f calls the first of these, each calls the next, and the last calls g
 abbrev pub IsCallChain : App → ℕ → List ℕ → ℕ → Type 0
-IsCallChain app f [] g = Calls app f g
-IsCallChain app f (h ∷ between) g = Calls app f h × IsCallChain app h between g
+IsCallChain app f [] g = HasCall app f g
+IsCallChain app f (h ∷ between) g = HasCall app f h × IsCallChain app h between g
 
 -- g is f, or there is a chain of calls from f to g
 abbrev pub Reaches : App → ℕ → ℕ → Type 0
@@ -43,15 +43,15 @@ TaskReaches app t f = (b : ℕ) × IsBodyOf app t b × Reaches app b f
 -- Function f was called by the first of these functions, that one by the next, and so on. Without a caller f is the body of task t.
 abbrev pub IsCalledBy : App → (t f : ℕ) → (callers : List ℕ) → Type 0
 IsCalledBy app t f [] = f ≡ body_of app.funcs t
-IsCalledBy app t f (caller ∷ outer) = Calls app caller f × IsCalledBy app t caller outer
+IsCalledBy app t f (caller ∷ outer) = HasCall app caller f × IsCalledBy app t caller outer
 
 -- a service in which the caller may wait, or let others run
-abbrev pub Pauses : Service → Type 0
-Pauses s = (s ≡ service.WaitEvent) ⊎ (s ≡ service.Schedule)
+abbrev pub IsPausing : Service → Type 0
+IsPausing s = (s ≡ service.WaitEvent) ⊎ (s ≡ service.Schedule)
 
 -- a service that ends the caller
-abbrev pub Ends : Service → Type 0
-Ends s = (s ≡ service.TerminateTask) ⊎ (s ≡ service.ChainTask)
+abbrev pub IsEnding : Service → Type 0
+IsEnding s = (s ≡ service.TerminateTask) ⊎ (s ≡ service.ChainTask)
 
 -- function f reaches an item that takes resource r
 abbrev pub ReachesTaking : App → ℕ → ℕ → Type 0
@@ -59,7 +59,7 @@ ReachesTaking app f r = (g : ℕ) × (i : ℕ) × (mask : ℕ) × Reaches app f 
 
 -- function f reaches a WaitEvent or a Schedule
 abbrev pub ReachesPause : App → ℕ → Type 0
-ReachesPause app f = (g : ℕ) × (i : ℕ) × (s : Service) × (object : ℕ) × (mask : ℕ) × Reaches app f g × IsItem app g i (service_op s object mask) × Pauses s
+ReachesPause app f = (g : ℕ) × (i : ℕ) × (s : Service) × (object : ℕ) × (mask : ℕ) × Reaches app f g × IsItem app g i (service_op s object mask) × IsPausing s
 
 -- ---- paths
 
@@ -82,15 +82,15 @@ way (op.Jump k) = Some k
 way _ = None
 
 -- from item i of a body a path goes on to item j
-abbrev pub GoesOn : Func → (i j : ℕ) → Type 0
-GoesOn f i j =
+abbrev pub IsPathStep : Func → (i j : ℕ) → Type 0
+IsPathStep f i j =
     ((is_followed (item_of f i).op ≡ true) × (j ≡ i + 1))
     ⊎ ((k : ℕ) × (way (item_of f i).op ≡ Some k) × (j ≡ (label_of f k).item))
 
 -- a path from item i of a body by way of these items to item j
 abbrev pub IsPath : Func → ℕ → List ℕ → ℕ → Type 0
 IsPath f i [] j = i ≡ j
-IsPath f i (k ∷ between) j = GoesOn f i k × IsPath f k between j
+IsPath f i (k ∷ between) j = IsPathStep f i k × IsPath f k between j
 
 -- ---- held resources
 

@@ -15,7 +15,7 @@ use Rattle.sloth_base.specs.declared.service.Service.TheVariants as service
 use Rattle.least_fault.specs.Order.{NoFault}
 use Rattle.sloth_base.specs.Named.{declaration, function, item_of, operation, label_of, symbol_size}
 use Rattle.code_rules.specs.AppRange.{AppInRange}
-use Rattle.code_rules.specs.Code.{IsCallChain, TaskReaches, Pauses, Ends, ReachesTaking, ReachesPause, way, GoesOn, IsPath, is_in, is_last, held_list_at, is_entered, held_list_entering}
+use Rattle.code_rules.specs.Code.{IsCallChain, TaskReaches, IsPausing, IsEnding, ReachesTaking, ReachesPause, way, IsPathStep, IsPath, is_in, is_last, held_list_at, is_entered, held_list_entering}
 use Rattle.sloth_base.specs.Arithmetic.{size_of}
 use Rattle.sloth_base.specs.ConfigRange.{scheduler_number}
 use Rattle.sloth_base.specs.Limits.{mask_limit}
@@ -23,12 +23,12 @@ use Rattle.sloth_base.specs.Limits.{mask_limit}
 -- ---- what an operation does against a rule
 
 -- V2: an access past the frame, or a direct access past its symbol
-abbrev pub AccessesPast : App → Func → Op → Type 0
-AccessesPast app f (op.FrameLoad rd word) = f.frame_words ≤ word
-AccessesPast app f (op.FrameStore rs word) = f.frame_words ≤ word
-AccessesPast app f (op.Load w rd y offset) = symbol_size app y < offset + size_of w
-AccessesPast app f (op.Store w rs y offset) = symbol_size app y < offset + size_of w
-AccessesPast app f _ = ⊥
+abbrev pub IsAccessPast : App → Func → Op → Type 0
+IsAccessPast app f (op.FrameLoad rd word) = f.frame_words ≤ word
+IsAccessPast app f (op.FrameStore rs word) = f.frame_words ≤ word
+IsAccessPast app f (op.Load w rd y offset) = symbol_size app y < offset + size_of w
+IsAccessPast app f (op.Store w rs y offset) = symbol_size app y < offset + size_of w
+IsAccessPast app f _ = ⊥
 
 -- V3: a direct offset or a mask that is no multiple of the access size
 abbrev pub IsUneven : Op → Type 0
@@ -39,51 +39,51 @@ IsUneven (op.StoreAt w rs y index mask) = mask % size_of w ≢ 0
 IsUneven _ = ⊥
 
 -- V4: a mask above 32,767, or mask plus access size above the symbol's size
-abbrev pub MasksPast : App → Op → Type 0
-MasksPast app (op.LoadAt w rd y index mask) = (mask_limit < mask) ⊎ (symbol_size app y < mask + size_of w)
-MasksPast app (op.StoreAt w rs y index mask) = (mask_limit < mask) ⊎ (symbol_size app y < mask + size_of w)
-MasksPast app _ = ⊥
+abbrev pub IsMaskPast : App → Op → Type 0
+IsMaskPast app (op.LoadAt w rd y index mask) = (mask_limit < mask) ⊎ (symbol_size app y < mask + size_of w)
+IsMaskPast app (op.StoreAt w rs y index mask) = (mask_limit < mask) ⊎ (symbol_size app y < mask + size_of w)
+IsMaskPast app _ = ⊥
 
 -- V5: an item that can go on past the last item
-abbrev pub RunsOut : Func → ℕ → Type 0
-RunsOut f i = (j : ℕ) × GoesOn f i j × (length f.items ≤ j)
+abbrev pub IsRunOut : Func → ℕ → Type 0
+IsRunOut f i = (j : ℕ) × IsPathStep f i j × (length f.items ≤ j)
 
 -- V6: an item that no path from the body's first item reaches
 abbrev pub IsUnreached : Func → ℕ → Type 0
 IsUnreached f i = (between : List ℕ) → ¬ (IsPath f 0 between i)
 
 -- V7: a jump or branch to a label whose list is not the held one
-abbrev pub HoldsOther : Func → List ℕ → Op → Type 0
-HoldsOther f held o = (k : ℕ) × (way o ≡ Some k) × ((label_of f k).holds ≢ held)
+abbrev pub IsOtherListJump : Func → List ℕ → Op → Type 0
+IsOtherListJump f held o = (k : ℕ) × (way o ≡ Some k) × ((label_of f k).holds ≢ held)
 
 -- V8: a release of a resource that is not the last of the held list
-abbrev pub ReleasesOther : List ℕ → Op → Type 0
-ReleasesOther held (op.Serve call) = (call.service ≡ service.ReleaseResource) × (is_last call.object held ≡ false)
-ReleasesOther held _ = ⊥
+abbrev pub IsWrongRelease : List ℕ → Op → Type 0
+IsWrongRelease held (op.Serve call) = (call.service ≡ service.ReleaseResource) × (is_last call.object held ≡ false)
+IsWrongRelease held _ = ⊥
 
 -- V9: taking a resource of the held list; a call of a function that reaches taking one
-abbrev pub TakesHeld : App → List ℕ → Op → Type 0
-TakesHeld app held (op.Serve call) = (call.service ≡ service.GetResource) × (is_in call.object held ≡ true)
-TakesHeld app held (op.Invoke g) = (r : ℕ) × ReachesTaking app g r × (is_in r held ≡ true)
-TakesHeld app held _ = ⊥
+abbrev pub IsSecondTake : App → List ℕ → Op → Type 0
+IsSecondTake app held (op.Serve call) = (call.service ≡ service.GetResource) × (is_in call.object held ≡ true)
+IsSecondTake app held (op.Invoke g) = (r : ℕ) × ReachesTaking app g r × (is_in r held ≡ true)
+IsSecondTake app held _ = ⊥
 
 -- V10: TerminateTask, ChainTask, WaitEvent, Schedule or `ret` with a held list that is not empty;
 -- a call, with such a list, of a function that reaches WaitEvent or Schedule
-abbrev pub LeavesHolding : App → List ℕ → Op → Type 0
-LeavesHolding app held (op.Serve call) = (Ends call.service ⊎ Pauses call.service) × (held ≢ [])
-LeavesHolding app held op.Return = held ≢ []
-LeavesHolding app held (op.Invoke g) = ReachesPause app g × (held ≢ [])
-LeavesHolding app held _ = ⊥
+abbrev pub IsLeaveWithResource : App → List ℕ → Op → Type 0
+IsLeaveWithResource app held (op.Serve call) = (IsEnding call.service ⊎ IsPausing call.service) × (held ≢ [])
+IsLeaveWithResource app held op.Return = held ≢ []
+IsLeaveWithResource app held (op.Invoke g) = ReachesPause app g × (held ≢ [])
+IsLeaveWithResource app held _ = ⊥
 
 -- V11: TerminateTask or ChainTask in the body of a function, `ret` in that of a task
-abbrev pub LeavesWrongly : Func → Op → Type 0
-LeavesWrongly f (op.Serve call) = Ends call.service × (f.task ≡ None)
-LeavesWrongly f op.Return = (t : ℕ) × (f.task ≡ Some t)
-LeavesWrongly f _ = ⊥
+abbrev pub IsWrongLeave : Func → Op → Type 0
+IsWrongLeave f (op.Serve call) = IsEnding call.service × (f.task ≡ None)
+IsWrongLeave f op.Return = (t : ℕ) × (f.task ≡ Some t)
+IsWrongLeave f _ = ⊥
 
 -- a task lists a resource
-abbrev pub Lists : TaskDecl → ℕ → Type 0
-Lists task r = is_in r task.resources ≡ true
+abbrev pub HasResource : TaskDecl → ℕ → Type 0
+HasResource task r = is_in r task.resources ≡ true
 
 -- the task has these events
 abbrev pub HasEvents : TaskDecl → ℕ → Type 0
@@ -91,27 +91,27 @@ HasEvents task mask = bit_and mask task.events ≡ mask
 
 -- some task that reaches function f does not list resource r, which is not RES_SCHEDULER
 abbrev pub IsUnlisted : Config → App → ℕ → ℕ → Type 0
-IsUnlisted config app f r = (r ≢ scheduler_number) × ((t : ℕ) × TaskReaches app t f × ¬ (Lists (declaration config t) r))
+IsUnlisted config app f r = (r ≢ scheduler_number) × ((t : ℕ) × TaskReaches app t f × ¬ (HasResource (declaration config t) r))
 
 -- some task that reaches function f lacks one of these events
 abbrev pub IsLacked : Config → App → ℕ → ℕ → Type 0
 IsLacked config app f mask = (t : ℕ) × TaskReaches app t f × ¬ (HasEvents (declaration config t) mask)
 
 -- a function uses a service with what its tasks do not have
-abbrev pub Misuses : Config → App → ℕ → Service → (object mask : ℕ) → Type 0
-Misuses config app f service.GetResource r mask = IsUnlisted config app f r
-Misuses config app f service.ReleaseResource r mask = IsUnlisted config app f r
-Misuses config app f service.ClearEvent object mask = IsLacked config app f mask
-Misuses config app f service.WaitEvent object mask = IsLacked config app f mask
-Misuses config app f service.SetEvent t mask = ¬ (HasEvents (declaration config t) mask)
-Misuses config app f service.GetEvent t mask = (declaration config t).extended ≡ false
-Misuses config app f _ object mask = ⊥
+abbrev pub IsMisuse : Config → App → ℕ → Service → (object mask : ℕ) → Type 0
+IsMisuse config app f service.GetResource r mask = IsUnlisted config app f r
+IsMisuse config app f service.ReleaseResource r mask = IsUnlisted config app f r
+IsMisuse config app f service.ClearEvent object mask = IsLacked config app f mask
+IsMisuse config app f service.WaitEvent object mask = IsLacked config app f mask
+IsMisuse config app f service.SetEvent t mask = ¬ (HasEvents (declaration config t) mask)
+IsMisuse config app f service.GetEvent t mask = (declaration config t).extended ≡ false
+IsMisuse config app f _ object mask = ⊥
 
 -- V12: GetResource or ReleaseResource of a resource, RES_SCHEDULER excepted, that some task which reaches the item does not list;
 -- ClearEvent or WaitEvent of an event that such a task lacks; SetEvent of one that the named task lacks; GetEvent of a basic task
-abbrev pub UsesUndeclared : Config → App → ℕ → Op → Type 0
-UsesUndeclared config app f (op.Serve call) = Misuses config app f call.service call.object call.mask
-UsesUndeclared config app f _ = ⊥
+abbrev pub IsUndeclaredUse : Config → App → ℕ → Op → Type 0
+IsUndeclaredUse config app f (op.Serve call) = IsMisuse config app f call.service call.object call.mask
+IsUndeclaredUse config app f _ = ⊥
 
 -- ---- faults
 
@@ -120,23 +120,23 @@ abbrev pub held_list_before : App → ℕ → ℕ → List ℕ
 held_list_before app f i = held_list_at (function app f) i
 
 -- the rules that item i of body f breaks
-pub data Breaks (config : Config) (app : App) (f i : ℕ) : Code → Type 0 where
-  accesses_past : AccessesPast app (function app f) (operation app f i) → Breaks config app f i code.V2
-  is_uneven : IsUneven (operation app f i) → Breaks config app f i code.V3
-  masks_past : MasksPast app (operation app f i) → Breaks config app f i code.V4
-  runs_out : RunsOut (function app f) i → Breaks config app f i code.V5
-  is_unreached : IsUnreached (function app f) i → Breaks config app f i code.V6
-  holds_other : HoldsOther (function app f) (held_list_before app f i) (operation app f i) → Breaks config app f i code.V7
-  releases_other : ReleasesOther (held_list_before app f i) (operation app f i) → Breaks config app f i code.V8
-  takes_held : TakesHeld app (held_list_before app f i) (operation app f i) → Breaks config app f i code.V9
-  leaves_holding : LeavesHolding app (held_list_before app f i) (operation app f i) → Breaks config app f i code.V10
-  leaves_wrongly : LeavesWrongly (function app f) (operation app f i) → Breaks config app f i code.V11
-  uses_undeclared : UsesUndeclared config app f (operation app f i) → Breaks config app f i code.V12
+pub data IsBreach (config : Config) (app : App) (f i : ℕ) : Code → Type 0 where
+  is_access_past : IsAccessPast app (function app f) (operation app f i) → IsBreach config app f i code.V2
+  is_uneven : IsUneven (operation app f i) → IsBreach config app f i code.V3
+  is_mask_past : IsMaskPast app (operation app f i) → IsBreach config app f i code.V4
+  is_run_out : IsRunOut (function app f) i → IsBreach config app f i code.V5
+  is_unreached : IsUnreached (function app f) i → IsBreach config app f i code.V6
+  is_other_list_jump : IsOtherListJump (function app f) (held_list_before app f i) (operation app f i) → IsBreach config app f i code.V7
+  is_wrong_release : IsWrongRelease (held_list_before app f i) (operation app f i) → IsBreach config app f i code.V8
+  is_second_take : IsSecondTake app (held_list_before app f i) (operation app f i) → IsBreach config app f i code.V9
+  is_leave_with_resource : IsLeaveWithResource app (held_list_before app f i) (operation app f i) → IsBreach config app f i code.V10
+  is_wrong_leave : IsWrongLeave (function app f) (operation app f i) → IsBreach config app f i code.V11
+  is_undeclared_use : IsUndeclaredUse config app f (operation app f i) → IsBreach config app f i code.V12
 
 -- V7 at label k: it is fallen into with another list, or it stands before the first item with a list that is not empty
-pub data Differs (f : Func) (k : ℕ) : Type 0 where
-  falling_in : is_entered f k ≡ true → (label_of f k).holds ≢ held_list_entering f k → Differs f k
-  at_begin : (label_of f k).item ≡ 0 → (label_of f k).holds ≢ [] → Differs f k
+pub data HasOtherList (f : Func) (k : ℕ) : Type 0 where
+  falling_in : is_entered f k ≡ true → (label_of f k).holds ≢ held_list_entering f k → HasOtherList f k
+  at_begin : (label_of f k).item ≡ 0 → (label_of f k).holds ≢ [] → HasOtherList f k
 
 -- a fault of the task source on a line
 abbrev pub fault_at_line : ℕ → Code → Refusal
@@ -145,9 +145,9 @@ fault_at_line line c = record { part = part.Src; line = line; code = c }
 -- V2 to V12 of body f
 pub data BodyFault (config : Config) (app : App) (f : ℕ) : Refusal → Type 0 where
   at_header : length (function app f).items ≡ 0 → BodyFault config app f (fault_at_line (function app f).line code.V5)
-  at_label : (k : ℕ) → k < length (function app f).labels → Differs (function app f) k
+  at_label : (k : ℕ) → k < length (function app f).labels → HasOtherList (function app f) k
       → BodyFault config app f (fault_at_line (label_of (function app f) k).line code.V7)
-  at_item : (i : ℕ) (c : Code) → i < length (function app f).items → Breaks config app f i c
+  at_item : (i : ℕ) (c : Code) → i < length (function app f).items → IsBreach config app f i c
       → BodyFault config app f (fault_at_line (item_of (function app f) i).line c)
 
 -- V2 to V12

@@ -9,7 +9,7 @@ use Rattle.image_file.specs.Fields.{four_bytes, magic_bytes}
 use Rattle.image_file.specs.ImageText.{counter_bytes, image_bytes, name_bytes}
 use Rattle.image_file.proofs.Images.{image-unique}
 use Rattle.elf_image.specs.ElfText.{ElfText, elf_header, note_bytes}
-use Rattle.elf_image.specs.Faults.{AreRight, Description, FaultIsOne, Fails, IsFirstElfFault, HasElfHeader, HasElfMagic, HasLoadHeader, HasNote, HasNoteHeader, IsFramed, NoneIsBoth, NoneIsNeither, described_bytes}
+use Rattle.elf_image.specs.Faults.{AreRight, Description, FaultIsOne, IsElfErrorOf, IsFirstElfFault, HasElfHeader, HasElfMagic, HasLoadHeader, HasNote, HasNoteHeader, IsFramed, NoneIsBoth, NoneIsNeither, described_bytes}
 use Rattle.elf_image.specs.declared.fault.ElfFault.{ElfFault}
 use Rattle.elf_image.specs.declared.fault.ElfFault.TheVariants as fault
 use Rattle.image_file.specs.declared.fault.FileError.{FileError}
@@ -206,10 +206,10 @@ none_is_both file image f is bad =
 
 -- ---- what a reader may say
 
-pub only_memory : (f : FileError ElfFault) (file : List ℕ) (image : Image) → ElfText file image → Fails f file → f ≡ failure.Memory
+pub only_memory : (f : FileError ElfFault) (file : List ℕ) (image : Image) → ElfText file image → IsElfErrorOf f file → f ≡ failure.Memory
 only_memory (failure.Fault f) file image is bad = absurd (none_is_both file image f is bad)
 only_memory failure.Memory file image is bad = refl
 
-pub this_or_memory : (f : FileError ElfFault) (file : List ℕ) (one : ElfFault) → IsFirstElfFault one file → Fails f file → (f ≡ failure.Fault one) ⊎ (f ≡ failure.Memory)
+pub this_or_memory : (f : FileError ElfFault) (file : List ℕ) (one : ElfFault) → IsFirstElfFault one file → IsElfErrorOf f file → (f ≡ failure.Fault one) ⊎ (f ≡ failure.Memory)
 this_or_memory (failure.Fault f) file one bad told = inl (ap (λ x. failure.Fault x) (fault_is_one file f one told bad))
 this_or_memory failure.Memory file one bad told = inr refl

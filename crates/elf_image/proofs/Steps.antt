@@ -5,8 +5,8 @@ use Rattle.sloth_base.specs.ImageRange.{service_limit}
 use Rattle.sloth_base.specs.declared.image.Image.{Image}
 use Rattle.image_file.specs.declared.sizes.Sizes.{Sizes}
 use Rattle.elf_image.specs.ElfText.{ElfText, note_bytes}
-use Rattle.elf_image.specs.Faults.{Description, Fails, HasNote, IsFramed, described_bytes}
-use Rattle.elf_image.specs.Reading.{AreRead, BeginsWith, ContentsFail, DescriptionFails, IsDescription, IsNote, MarksMiss, NoteFails, PartsMiss, description_at}
+use Rattle.elf_image.specs.Faults.{Description, IsElfErrorOf, HasNote, IsFramed, described_bytes}
+use Rattle.elf_image.specs.Reading.{AreRead, BeginsWith, IsContentsError, IsDescriptionError, IsDescription, IsNote, IsElfMarksError, IsNoteError, IsElfPartsError, description_at}
 use Rattle.elf_image.specs.declared.fault.ElfFault.TheVariants as fault
 use Rattle.elf_image.specs.declared.fault.ElfFault.{ElfFault}
 use Rattle.image_file.specs.declared.fault.FileError.{FileError}
@@ -22,7 +22,7 @@ both-ok (Ok a) P Q R h p q = h a p q
 both-ok (Err e) P Q R h p q = tt
 
 -- parts that are missing are a fault of the description
-pub parts-miss : (f : FileError ElfFault) (description : List ℕ) (s : Sizes) → BeginsWith description s → PartsMiss f description 16 s → DescriptionFails f description
+pub parts-miss : (f : FileError ElfFault) (description : List ℕ) (s : Sizes) → BeginsWith description s → IsElfPartsError f description 16 s → IsDescriptionError f description
 parts-miss (failure.Fault fault.E7) description s has h = λ d w e. h (parts_of d) [] (stands description s d has w e)
 parts-miss (failure.Fault fault.E1) description s has h = absurd h
 parts-miss (failure.Fault fault.E2) description s has h = absurd h
@@ -35,7 +35,7 @@ parts-miss failure.Memory description s has h = h
 
 -- marks that are missing are a fault of the contents
 pub marks-miss : (f : FileError ElfFault) (file : List ℕ) (tasks funcs counters : List (List ℕ)) (at count size : ℕ)
-    → MarksMiss f file at count (service_limit (length counters)) (length funcs) size → ContentsFail f file tasks funcs counters at count size
+    → IsElfMarksError f file at count (service_limit (length counters)) (length funcs) size → IsContentsError f file tasks funcs counters at count size
 marks-miss (failure.Fault fault.E8) file tasks funcs counters at count size h =
     λ image read. h image.marks (drop (at + length image.marks * 12) file) read.counted read.marks.right read.marks.are
 marks-miss (failure.Fault fault.E1) file tasks funcs counters at count size h = absurd h
@@ -49,7 +49,7 @@ marks-miss failure.Memory file tasks funcs counters at count size h = h
 
 module _ (file : List ℕ) (size note : ℕ) (frame : IsFramed file size note) where
   -- a note that is none's is a fault
-  pub note-fails : (f : FileError ElfFault) → NoteFails f (drop (116 + size) file) → Fails f file
+  pub note-fails : (f : FileError ElfFault) → IsNoteError f (drop (116 + size) file) → IsElfErrorOf f file
   note-fails (failure.Fault fault.E7) h =
       (size, note, frame, λ d has. h (described_bytes d) (short-note file size note d frame has) has.are)
   note-fails (failure.Fault fault.E1) h = absurd h
@@ -70,7 +70,7 @@ module _ (file : List ℕ) (size note : ℕ) (frame : IsFramed file size note) w
         omega (arith, e, whole, word)
 
     -- a description that is none is a fault
-    pub description-fails : (f : FileError ElfFault) → DescriptionFails f (take n (drop 20 (drop (116 + size) file))) → Fails f file
+    pub description-fails : (f : FileError ElfFault) → IsDescriptionError f (take n (drop 20 (drop (116 + size) file))) → IsElfErrorOf f file
     description-fails (failure.Fault fault.E7) h = (
       size,
       note,
@@ -98,7 +98,7 @@ module _ (file : List ℕ) (size note : ℕ) (frame : IsFramed file size note) w
       }
 
       -- names or marks that are not right are a fault
-      pub contents-fail : (f : FileError ElfFault) → ContentsFail f (take n (drop 20 (drop (116 + size) file))) tasks funcs counters at count size → Fails f file
+      pub contents-fail : (f : FileError ElfFault) → IsContentsError f (take n (drop 20 (drop (116 + size) file))) tasks funcs counters at count size → IsElfErrorOf f file
       contents-fail (failure.Fault fault.E8) h = (
         size,
         note,

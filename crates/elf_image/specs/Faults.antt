@@ -100,9 +100,9 @@ IsFirstElfFault fault.E8 file =
     (size : ℕ) × (note : ℕ) × (d : Description) × IsFramed file size note × HasNote file size d × ((marks : List Mark) → ¬ (AreRight size d marks))
 
 -- what an error says of a file; want of memory says nothing
-abbrev pub Fails : FileError ElfFault → List ℕ → Type 0
-Fails (failure.Fault fault) file = IsFirstElfFault fault file
-Fails failure.Memory file = ⊤
+abbrev pub IsElfErrorOf : FileError ElfFault → List ℕ → Type 0
+IsElfErrorOf (failure.Fault fault) file = IsFirstElfFault fault file
+IsElfErrorOf failure.Memory file = ⊤
 
 -- each list of bytes is some image's ELF file or has a first fault: none is neither
 abbrev pub NoneIsNeither : Type 0

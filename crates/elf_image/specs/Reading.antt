@@ -21,16 +21,16 @@ abbrev pub IsFramedAt : List ℕ → ℕ → Type 0
 IsFramedAt file size = (note : ℕ) × IsFramed file size note
 
 -- what an error says of parts of these numbers at a place: the fault, that none stand there
-abbrev pub PartsMiss : FileError ElfFault → List ℕ → ℕ → Sizes → Type 0
-PartsMiss (failure.Fault fault.E7) file at sizes = (parts : Parts) (rest : List ℕ) → ¬ (PartsStand file at sizes parts rest)
-PartsMiss (failure.Fault _) file at sizes = ⊥
-PartsMiss failure.Memory file at sizes = ⊤
+abbrev pub IsElfPartsError : FileError ElfFault → List ℕ → ℕ → Sizes → Type 0
+IsElfPartsError (failure.Fault fault.E7) file at sizes = (parts : Parts) (rest : List ℕ) → ¬ (PartsStand file at sizes parts rest)
+IsElfPartsError (failure.Fault _) file at sizes = ⊥
+IsElfPartsError failure.Memory file at sizes = ⊤
 
 -- what an error says of so many marks from a place on
-abbrev pub MarksMiss : FileError ElfFault → List ℕ → ℕ → ℕ → ℕ → ℕ → ℕ → Type 0
-MarksMiss (failure.Fault fault.E8) file at count services funcs size = NoMarks file at count services funcs size
-MarksMiss (failure.Fault _) file at count services funcs size = ⊥
-MarksMiss failure.Memory file at count services funcs size = ⊤
+abbrev pub IsElfMarksError : FileError ElfFault → List ℕ → ℕ → ℕ → ℕ → ℕ → ℕ → Type 0
+IsElfMarksError (failure.Fault fault.E8) file at count services funcs size = NoMarks file at count services funcs size
+IsElfMarksError (failure.Fault _) file at count services funcs size = ⊥
+IsElfMarksError failure.Memory file at count services funcs size = ⊤
 
 -- this is a note with a description of so many bytes
 pub record IsNote (note : List ℕ) (size : ℕ) : Type 0 where
@@ -38,10 +38,10 @@ pub record IsNote (note : List ℕ) (size : ℕ) : Type 0 where
   pub are : note ≡ note_bytes (take size (drop 20 note))
 
 -- what an error says of a note: the fault, that it is the note of no description; want of memory says nothing
-abbrev pub NoteFails : FileError ElfFault → List ℕ → Type 0
-NoteFails (failure.Fault fault.E7) note = (description : List ℕ) → length description < 2 ^ 32 → note ≢ note_bytes description
-NoteFails (failure.Fault _) note = ⊥
-NoteFails failure.Memory note = ⊤
+abbrev pub IsNoteError : FileError ElfFault → List ℕ → Type 0
+IsNoteError (failure.Fault fault.E7) note = (description : List ℕ) → length description < 2 ^ 32 → note ≢ note_bytes description
+IsNoteError (failure.Fault _) note = ⊥
+IsNoteError failure.Memory note = ⊤
 
 -- the four numbers of a description, and `rest` behind them
 abbrev pub numbers_before : Sizes → List ℕ → List ℕ
@@ -71,10 +71,10 @@ pub record IsDescription (description : List ℕ) (tasks funcs counters : List (
   pub ends : at + count * 12 ≡ length description
 
 -- what an error says of a description: the fault, that it is none
-abbrev pub DescriptionFails : FileError ElfFault → List ℕ → Type 0
-DescriptionFails (failure.Fault fault.E7) description = (d : Description) → IsWithin d → description ≢ described_bytes d
-DescriptionFails (failure.Fault _) description = ⊥
-DescriptionFails failure.Memory description = ⊤
+abbrev pub IsDescriptionError : FileError ElfFault → List ℕ → Type 0
+IsDescriptionError (failure.Fault fault.E7) description = (d : Description) → IsWithin d → description ≢ described_bytes d
+IsDescriptionError (failure.Fault _) description = ⊥
+IsDescriptionError failure.Memory description = ⊤
 
 -- these names are right, and so are these marks, which stand there, for so many bytes of memory
 pub record AreRightMarks (file : List ℕ) (tasks funcs counters : List (List ℕ)) (at count size : ℕ) (marks : List Mark) : Type 0 where
@@ -94,8 +94,8 @@ pub record AreRead (file : List ℕ) (tasks funcs counters : List (List ℕ)) (a
   pub ascending : AreAscending image.marks
 
 -- what an error says of the names and marks: the fault, that no marks there are right with these names
-abbrev pub ContentsFail : FileError ElfFault → List ℕ → (tasks funcs counters : List (List ℕ)) → ℕ → ℕ → ℕ → Type 0
-ContentsFail (failure.Fault fault.E8) file tasks funcs counters at count size =
+abbrev pub IsContentsError : FileError ElfFault → List ℕ → (tasks funcs counters : List (List ℕ)) → ℕ → ℕ → ℕ → Type 0
+IsContentsError (failure.Fault fault.E8) file tasks funcs counters at count size =
     (image : Image) → ¬ (AreRead file tasks funcs counters at count size image)
-ContentsFail (failure.Fault _) file tasks funcs counters at count size = ⊥
-ContentsFail failure.Memory file tasks funcs counters at count size = ⊤
+IsContentsError (failure.Fault _) file tasks funcs counters at count size = ⊥
+IsContentsError failure.Memory file tasks funcs counters at count size = ⊤

@@ -6,8 +6,8 @@ ghost use Rattle.sloth_base.specs.ImageRange.{service_limit};
 ghost use Rattle.sloth_base.specs.declared.image.Image.{Image as ImageOf};
 ghost use Rattle.sloth_base.specs.MemoryMap.{memory_bytes};
 ghost use Rattle.elf_image.specs.ElfText.{ElfText, note_bytes};
-ghost use Rattle.elf_image.specs.Faults.{Fails, IsFirstElfFault};
-ghost use Rattle.elf_image.specs.Reading.{IsFramedAt, PartsMiss, MarksMiss, IsNote, NoteFails, BeginsWith, IsDescription, DescriptionFails, AreRead, AreRightMarks, ContentsFail};
+ghost use Rattle.elf_image.specs.Faults.{IsElfErrorOf, IsFirstElfFault};
+ghost use Rattle.elf_image.specs.Reading.{IsFramedAt, IsElfPartsError, IsElfMarksError, IsNote, IsNoteError, BeginsWith, IsDescription, IsDescriptionError, AreRead, AreRightMarks, IsContentsError};
 ghost use Rattle.elf_image.specs.declared.fault.ElfFault.{ElfFault as FaultOf};
 ghost use Rattle.image_file.specs.declared.fault.FileError.TheVariants as failed_by;
 
@@ -33,7 +33,7 @@ const NUMBERS: usize = 16;
 /// The image of an ELF file, or the file's first fault.
 pub fn read_elf(alloc: Global, bytes: &[u8]) -> Result<Image, ElfError>
     ensures read { IfOk result (λ image. ElfText bytes.now image) }
-    ensures failed { IfErr result (λ failure. Fails failure bytes.now) }
+    ensures failed { IfErr result (λ failure. IsElfErrorOf failure bytes.now) }
     ensures refuses_no_image { IfErr result (λ failure. (image : ImageOf) → ElfText bytes.now image → failure ≡ failed_by.Memory) }
     ensures tells_the_fault { IfErr result (λ failure. (fault : FaultOf) → IsFirstElfFault fault bytes.now →
         (failure ≡ failed_by.Fault fault) ⊎ (failure ≡ failed_by.Memory)) }
@@ -46,7 +46,7 @@ pub fn read_elf(alloc: Global, bytes: &[u8]) -> Result<Image, ElfError>
 // The image, or what is wrong.
 fn read_whole(alloc: Global, bytes: &[u8]) -> Result<Image, ElfError>
     ensures read { IfOk result (λ image. ElfText bytes.now image) }
-    ensures failed { IfErr result (λ failure. Fails failure bytes.now) }
+    ensures failed { IfErr result (λ failure. IsElfErrorOf failure bytes.now) }
 {
     let size = read_frame(alloc, bytes)?;
     let note = behind(bytes, HEADERS + size);
@@ -86,7 +86,7 @@ fn is_note(alloc: Global, bytes: &[u8], description: &[u8]) -> Result<bool, NoMe
 // How many bytes of memory the file has, where its headers are those of an image and it ends with the note.
 fn read_frame(alloc: Global, bytes: &[u8]) -> Result<usize, ElfError>
     ensures read { IfOk result (λ size. IsFramedAt bytes.now size) }
-    ensures failed { IfErr result (λ failure. Fails failure bytes.now) }
+    ensures failed { IfErr result (λ failure. IsElfErrorOf failure bytes.now) }
 {
     judge_header(bytes)?;
     let size = read_load_header(alloc, bytes)?;
@@ -101,7 +101,7 @@ fn read_frame(alloc: Global, bytes: &[u8]) -> Result<usize, ElfError>
 fn read_note(alloc: Global, note: &[u8]) -> Result<usize, ElfError>
     requires { 36 ≤ length note.now }
     ensures read { IfOk result (λ size. IsNote note.now size) }
-    ensures failed { IfErr result (λ failure. NoteFails failure note.now) }
+    ensures failed { IfErr result (λ failure. IsNoteError failure note.now) }
 {
     let size = u32_at(note, 4) as usize;
     if note.len() != NOTE_HEAD + size + padding_size(size) {
@@ -141,7 +141,7 @@ fn parts_behind(alloc: Global, description: &[u8], sizes: &Sizes) -> Result<Outl
     ensures read { IfOk result (λ outline.
         NamedPartsStand description.now 16 sizes.now outline.tasks.items outline.funcs.items outline.counters.items outline.memory) }
     ensures count { IfOk result (λ outline. outline.count ≡ sizes.now.marks) }
-    ensures failed { IfErr result (λ failure. PartsMiss failure description.now 16 sizes.now) }
+    ensures failed { IfErr result (λ failure. IsElfPartsError failure description.now 16 sizes.now) }
 {
     match read_parts(alloc, description, NUMBERS, sizes) {
         Ok(outline) => Ok(outline),
@@ -164,7 +164,7 @@ fn marks_at(
         marks.items) }
     ensures counted { IfOk result (λ marks. length marks.items ≡ outline.now.count) }
     ensures failed { IfErr result (λ failure.
-        MarksMiss failure file.now outline.now.memory outline.now.count (service_limit (length outline.now.counters.items))
+        IsElfMarksError failure file.now outline.now.memory outline.now.count (service_limit (length outline.now.counters.items))
         (length outline.now.funcs.items) size) }
 {
     match read_marks(
@@ -195,7 +195,7 @@ fn right_marks(
         AreRightMarks file.now outline.now.tasks.items outline.now.funcs.items outline.now.counters.items outline.now.memory outline.now.count size
         marks.items) }
     ensures failed { IfErr result (λ failure.
-        ContentsFail failure file.now outline.now.tasks.items outline.now.funcs.items outline.now.counters.items outline.now.memory
+        IsContentsError failure file.now outline.now.tasks.items outline.now.funcs.items outline.now.counters.items outline.now.memory
         outline.now.count size) }
 {
     if !has_right_names(outline) {
@@ -212,7 +212,7 @@ fn right_marks(
 fn read_description(alloc: Global, description: &[u8]) -> Result<Outline, ElfError>
     ensures read { IfOk result (λ outline.
         IsDescription description.now outline.tasks.items outline.funcs.items outline.counters.items outline.memory outline.count) }
-    ensures failed { IfErr result (λ failure. DescriptionFails failure description.now) }
+    ensures failed { IfErr result (λ failure. IsDescriptionError failure description.now) }
 {
     let Some(sizes) = read_numbers(description) else {
         return Err(ElfFault::E7.into());
@@ -237,7 +237,7 @@ fn read_contents(
         AreRead file.now outline.tasks.items outline.funcs.items outline.counters.items outline.memory outline.count (length memory.now) image) }
     ensures memory { IfOk result (λ image. image.memory ≡ memory.now) }
     ensures failed { IfErr result (λ failure.
-        ContentsFail failure file.now outline.tasks.items outline.funcs.items outline.counters.items outline.memory outline.count
+        IsContentsError failure file.now outline.tasks.items outline.funcs.items outline.counters.items outline.memory outline.count
         (length memory.now)) }
 {
     let marks = right_marks(alloc, file, &outline, memory.len())?;

@@ -2,7 +2,7 @@
 ghost use Rattle.std.specs.Prelude.{◌≡◌, ◌≤◌, IfOk, IfErr, OnOk, Decides};
 ghost use Rattle.sloth_base.specs.MemoryMap.{memory_bytes};
 ghost use Rattle.elf_image.specs.ElfText.{load_header, note_header};
-ghost use Rattle.elf_image.specs.Faults.{Fails, HasElfHeader, HasElfMagic, HasLoadHeader, HasNoteHeader, IsMemorySize, IsNoteSize};
+ghost use Rattle.elf_image.specs.Faults.{IsElfErrorOf, HasElfHeader, HasElfMagic, HasLoadHeader, HasNoteHeader, IsMemorySize, IsNoteSize};
 
 use crate::fault::{ElfError, ElfFault};
 use crate::headers::{
@@ -23,7 +23,7 @@ fn has_elf_magic(bytes: &[u8]) -> bool
 /// The ELF header is that of an image.
 pub fn judge_header(bytes: &[u8]) -> Result<(), ElfError>
     ensures right { OnOk result (HasElfHeader bytes.now) }
-    ensures failed { IfErr result (λ failure. Fails failure bytes.now) }
+    ensures failed { IfErr result (λ failure. IsElfErrorOf failure bytes.now) }
 {
     if !has_elf_magic(bytes) {
         return Err(ElfFault::E1.into());
@@ -74,7 +74,7 @@ fn is_note_header(alloc: Global, bytes: &[u8], size: u32, note: u32) -> Result<b
 pub fn read_load_header(alloc: Global, bytes: &[u8]) -> Result<u32, ElfError>
     requires { HasElfHeader bytes.now }
     ensures read { IfOk result (λ size. HasLoadHeader bytes.now size) }
-    ensures failed { IfErr result (λ failure. Fails failure bytes.now) }
+    ensures failed { IfErr result (λ failure. IsElfErrorOf failure bytes.now) }
 {
     let size = u32_at(bytes, ELF_HEADER + 16);
     let header = &bytes[ELF_HEADER..ELF_HEADER + PROGRAM_HEADER];
@@ -92,7 +92,7 @@ pub fn read_load_header(alloc: Global, bytes: &[u8]) -> Result<u32, ElfError>
 pub fn read_note_header(alloc: Global, bytes: &[u8], size: u32) -> Result<u32, ElfError>
     requires { HasLoadHeader bytes.now size }
     ensures read { IfOk result (λ note. HasNoteHeader bytes.now size note) }
-    ensures failed { IfErr result (λ failure. Fails failure bytes.now) }
+    ensures failed { IfErr result (λ failure. IsElfErrorOf failure bytes.now) }
 {
     let note = u32_at(bytes, ELF_HEADER + PROGRAM_HEADER + 16);
     let header = &bytes[ELF_HEADER + PROGRAM_HEADER..HEADERS];

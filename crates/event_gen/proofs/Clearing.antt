@@ -20,12 +20,12 @@ use Rattle.masked_code.proofs.Spread.{based, spread_from}
 use Rattle.masked_code.proofs.Routines.{masked}
 use Rattle.block_parts.proofs.Returning.{goes_back}
 use Rattle.block_parts.proofs.Serving.{opens}
-use Rattle.block_parts.specs.Back.{WentBack, a0}
+use Rattle.block_parts.specs.Back.{BackEffect, a0}
 use Rattle.block_parts.specs.Pieces.{back_code}
 use Rattle.event_gen.proofs.Finding.{own_end, finds_by_x10}
 use Rattle.block_parts.specs.Events.{own_clearing_code}
 use Rattle.event_gen.specs.Pieces.{own_finding_code}
-use Rattle.event_gen.specs.ClearEvent.{MayClear, EventsCleared, ClearsEvents, cleared_ram}
+use Rattle.event_gen.specs.ClearEvent.{MayClear, ClearEventEffect, IsClearEventCode, cleared_ram}
 
 -- the code behind the masking instruction
 abbrev pub body : List InstrKind
@@ -114,28 +114,28 @@ module _ (offset task : ℕ) (c : Core) (h : MayClear offset task (masking ∷ b
       ap (with_word c.ram (events task)) (taken_out word mask h.is_word)
       ∙ with_word-low c.ram (events task) (word / 4294967296) (bit_and word (4294967295 - mask))
 
-  body_owes : Owes offset (offset + 4 + 48) (offset + 4) body 0 (EventsCleared task) (offset_state offset (based c)) (masked (based c))
+  body_owes : Owes offset (offset + 4 + 48) (offset + 4) body 0 (ClearEventEffect task) (offset_state offset (based c)) (masked (based c))
   body_owes =
       let small = h.is_task in
       let low = h.goes_back.can_run.behind in
       let r : ℕ → ℕ = λ i. get_or c.registers i 0 in
-      finds_by_x10 offset (offset + 4 + 48) task (EventsCleared task) (offset_state offset (based c)) (own_clearing_code ++ back_code) (masked (based c)) (r 1) (r 2) controller_base
+      finds_by_x10 offset (offset + 4 + 48) task (ClearEventEffect task) (offset_state offset (based c)) (own_clearing_code ++ back_code) (masked (based c)) (r 1) (r 2) controller_base
       (spread_from 27 5 c.registers) small h.runs (offset + 4) (r 5) (r 6) (r 7) (r 8) (r 9) (r 10) (spread_from 21 11 c.registers) (
       loads (events task) (record { is = omega arith; aligned = omega arith; inside = omega arith }) word refl
       ▸ writes (bit_or word mask) refl
       ▸ writes cleared refl
       ▸ stores (events task) (record { is = omega arith; aligned = omega arith; inside = omega arith }) (inl (omega arith))
       ▸ writes E_OK refl
-      ▸ goes_back offset (masking ∷ body) c h.goes_back (EventsCleared task) (own_end task) E_OK c.pending c.pending (with_word c.ram (events task) cleared)
+      ▸ goes_back offset (masking ∷ body) c h.goes_back (ClearEventEffect task) (own_end task) E_OK c.pending c.pending (with_word c.ram (events task) cleared)
       (λ last is went. record {
         touches = refl;
         status = is;
-        back = subst (λ ram. WentBack a0 (record (based c) { ram = ram }) (offset_state offset (based c)) last) ram_is went;
+        back = subst (λ ram. BackEffect a0 (record (based c) { ram = ram }) (offset_state offset (based c)) last) ram_is went;
       }))
 
-  runs_it : FromOpening 12 (offset_state offset c) (EventsCleared task)
-  runs_it = opens offset 12 body c (EventsCleared task) h.goes_back.can_run h.goes_back.bases (omega arith) body_owes
+  runs_it : FromOpening 12 (offset_state offset c) (ClearEventEffect task)
+  runs_it = opens offset 12 body c (ClearEventEffect task) h.goes_back.can_run h.goes_back.bases (omega arith) body_owes
 
 -- the running task's events lose those of the mask
-pub clears : ClearsEvents (masking ∷ body)
+pub clears : IsClearEventCode (masking ∷ body)
 clears = record { size = refl; masks = (body, refl); runs = λ offset task core h. runs_it offset task core h }

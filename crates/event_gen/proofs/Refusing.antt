@@ -13,8 +13,8 @@ use Rattle.masked_code.proofs.Spread.{based, spread_from}
 use Rattle.block_parts.proofs.Busy.{Finds}
 use Rattle.block_parts.proofs.Landing.{lands}
 use Rattle.block_parts.proofs.Returning.{goes_back}
-use Rattle.block_parts.specs.Back.{CanGoBack, WentBack, a0}
-use Rattle.block_parts.specs.Looks.{LooksSuspended}
+use Rattle.block_parts.specs.Back.{CanGoBack, BackEffect, a0}
+use Rattle.block_parts.specs.SuspensionTest.{IsFoundSuspended}
 use Rattle.block_parts.specs.Pieces.{back_code}
 use Rattle.block_parts.specs.Events.{refusal_code}
 
@@ -37,9 +37,9 @@ module _ (offset to task : ℕ) (code : List InstrKind) (c : Core) (can : CanGoB
 
   -- the look found v: of a Suspended task the service goes back with its status, of another it goes on with `first`
   pub refuses_owe : (first : List InstrKind) (o : ℕ) (p : List ℕ) (v x10 : ℕ) → o + 4 ≤ memory_bytes → length first ≤ 68 → Finds task (record c { pending = p }) v
-      → (LooksSuspended task (record c { pending = p }) → (end : State) → slice_index end.core.registers a0 ≡ E_OS_STATE
-      → WentBack a0 (record (based c) { pending = p }) (begun p) end → E [] (begun p) end)
-      → ((LooksSuspended task (record c { pending = p }) → ⊥) → Owes offset to (behind 2 o) (first ++ back_code) 0 E (begun p)
+      → (IsFoundSuspended task (record c { pending = p }) → (end : State) → slice_index end.core.registers a0 ≡ E_OS_STATE
+      → BackEffect a0 (record (based c) { pending = p }) (begun p) end → E [] (begun p) end)
+      → ((IsFoundSuspended task (record c { pending = p }) → ⊥) → Owes offset to (behind 2 o) (first ++ back_code) 0 E (begun p)
       (record (masked (based c)) { registers = 0 ∷ v ∷ x2 ∷ controller_base ∷ memory_base ∷ set tail 5 E_OS_STATE; pending = p }))
       → Owes offset to o (refusal_code (length first) ++ (first ++ back_code)) 0 E (begun p)
       (record (masked (based c)) { registers = 0 ∷ v ∷ x2 ∷ controller_base ∷ memory_base ∷ set tail 5 x10; pending = p })

@@ -21,13 +21,13 @@ use Rattle.block_parts.proofs.Returning.{goes_back}
 use Rattle.block_parts.proofs.Busy.{Finds, looks_owe}
 use Rattle.block_parts.proofs.Landing.{lands}
 use Rattle.block_parts.proofs.Serving.{opens}
-use Rattle.block_parts.specs.Looks.{LooksSuspended}
+use Rattle.block_parts.specs.SuspensionTest.{IsFoundSuspended}
 use Rattle.block_parts.specs.Back.{CanGoBack}
 use Rattle.block_parts.specs.Pieces.{looking_code, raising_code, back_code}
 use Rattle.event_gen.proofs.Refusing.{refuses_owe}
 use Rattle.block_parts.specs.Events.{refusal_code, awaited_mask_test, enabling_code}
 use Rattle.event_gen.specs.Pieces.{mask_adding_code}
-use Rattle.event_gen.specs.SetEvent.{MaySet, EventsSet, SetsEvents, with_mask}
+use Rattle.event_gen.specs.SetEvent.{MaySet, SetEventEffect, IsSetEventCode, with_mask}
 
 -- the code behind the masking instruction
 abbrev pub body : ℕ → List InstrKind
@@ -69,8 +69,8 @@ module _ (offset task : ℕ) (c : Core) (h : MaySet offset task (masking ∷ bod
       }
 
   -- the look at the awaited events
-  asked_owe : (o : ℕ) (p : List ℕ) → o + 12 ≤ memory_bytes → (LooksSuspended task (record c { pending = p }) → ⊥)
-      → Owes offset (offset + 4 + 76) o (awaited_mask_test task ++ (raising_code task ++ (enabling_code task ++ back_code))) 0 (λ u. EventsSet task (task ∷ u)) (st p)
+  asked_owe : (o : ℕ) (p : List ℕ) → o + 12 ≤ memory_bytes → (IsFoundSuspended task (record c { pending = p }) → ⊥)
+      → Owes offset (offset + 4 + 76) o (awaited_mask_test task ++ (raising_code task ++ (enabling_code task ++ back_code))) 0 (λ u. SetEventEffect task (task ∷ u)) (st p)
       (record (masked (based c)) { registers = 0 ∷ grown ∷ x2 ∷ controller_base ∷ memory_base ∷ set tail 5 E_OS_STATE; pending = p; ram = ram })
   asked_owe o p small not_suspended =
       let few = h.is_task in
@@ -83,7 +83,7 @@ module _ (offset task : ℕ) (c : Core) (h : MaySet offset task (masking ∷ bod
         passed = 3;
         lands = lands (o + 4 + 4 + 4) 16 3 (omega arith) (omega arith) refl;
         when_taken = λ t. ⊎_elim
-            (λ none. goes_back offset (masking ∷ body task) c h.goes_back (λ u. EventsSet task (task ∷ u)) v E_OK p p ram
+            (λ none. goes_back offset (masking ∷ body task) c h.goes_back (λ u. SetEventEffect task (task ∷ u)) v E_OK p p ram
             (λ last is went. record {
               touches = refl;
               done = inr (inl (record { not_suspended = not_suspended; none_awaited = none; status = is; back = went }));
@@ -97,7 +97,7 @@ module _ (offset task : ℕ) (c : Core) (h : MaySet offset task (masking ∷ bod
             ▸ raises task (omega arith, line) (λ z. absurd (cc))
             ▸ sets_enabled task (omega arith, line)
             ▸ goes_back offset (masking ∷ body task) (record c { enabled = set c.enabled task 1 }) (enabled_too (set c.enabled task 1))
-            (λ u s last. EventsSet task (task ∷ u) (st p) last) 1 E_OK p (set p task 1) ram
+            (λ u s last. SetEventEffect task (task ∷ u) (st p) last) 1 E_OK p (set p task 1) ram
             (λ last is went. record {
               touches = refl;
               done = inr (inr (record {
@@ -120,13 +120,13 @@ module _ (offset task : ℕ) (c : Core) (h : MaySet offset task (masking ∷ bod
 
   -- behind the look, which found v
   looked_owe : (o : ℕ) (p : List ℕ) (v : ℕ) → o + 40 ≤ memory_bytes → Finds task (record c { pending = p }) v
-      → Owes offset (offset + 4 + 76) o further 0 (λ u. EventsSet task (task ∷ u)) (st p)
+      → Owes offset (offset + 4 + 76) o further 0 (λ u. SetEventEffect task (task ∷ u)) (st p)
       (record (masked (based c)) { registers = 0 ∷ v ∷ x2 ∷ controller_base ∷ memory_base ∷ set tail 5 word; pending = p })
   looked_owe o p v small found =
       let few = h.is_task in
       let low = h.goes_back.can_run.behind in
       let n : length passed_code ≡ 10 = refl in
-      refuses_owe offset (offset + 4 + 76) task (masking ∷ body task) c h.goes_back (λ u. EventsSet task (task ∷ u)) passed_code o p v word
+      refuses_owe offset (offset + 4 + 76) task (masking ∷ body task) c h.goes_back (λ u. SetEventEffect task (task ∷ u)) passed_code o p v word
       (omega arith) (omega arith) found
       (λ is_suspended end is went. record { touches = refl; done = inl (record { suspended = is_suspended; status = is; back = went }) })
       (λ not_suspended.
@@ -135,16 +135,16 @@ module _ (offset task : ℕ) (c : Core) (h : MaySet offset task (masking ∷ bod
       ▸ stores (events task) (record { is = omega arith; aligned = omega arith; inside = omega arith }) (inl (omega arith))
       ▸ asked_owe (behind 5 o) p (omega arith) not_suspended)
 
-  body_owes : Owes offset (offset + 4 + 76) (offset + 4) (body task) 0 (EventsSet task) (offset_state offset (based c)) (masked (based c))
+  body_owes : Owes offset (offset + 4 + 76) (offset + 4) (body task) 0 (SetEventEffect task) (offset_state offset (based c)) (masked (based c))
   body_owes =
       let fits = h.goes_back.can_run.inside in
-      looks_owe offset (offset + 4 + 76) task (EventsSet task) further c h.is_task h.goes_back.can_run.lines
+      looks_owe offset (offset + 4 + 76) task (SetEventEffect task) further c h.is_task h.goes_back.can_run.lines
       h.active_bit h.pending_bit h.enabled_bit (offset + 4) (get_or c.registers 1 0) (get_or c.registers 10 0)
       (λ lines v only found. looked_owe (behind 5 (offset + 4)) (arrive lines c.pending) v (omega arith) found)
 
-  runs_it : FromOpening 19 (offset_state offset c) (EventsSet task)
-  runs_it = opens offset 19 (body task) c (EventsSet task) h.goes_back.can_run h.goes_back.bases (omega arith) body_owes
+  runs_it : FromOpening 19 (offset_state offset c) (SetEventEffect task)
+  runs_it = opens offset 19 (body task) c (SetEventEffect task) h.goes_back.can_run h.goes_back.bases (omega arith) body_owes
 
 -- for each task
-pub sets : (task : ℕ) → SetsEvents task (masking ∷ body task)
+pub sets : (task : ℕ) → IsSetEventCode task (masking ∷ body task)
 sets task = record { size = refl; masks = (body task, refl); runs = λ offset core h. runs_it offset task core h }

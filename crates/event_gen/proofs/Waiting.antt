@@ -14,7 +14,7 @@ use Rattle.masked_code.specs.Place.{offset_state}
 use Rattle.masked_code.specs.Masked.{FromOpening}
 use Rattle.masked_code.specs.Pieces.{saving_code, registers_from}
 use Rattle.masked_code.specs.Kernel.{IsBelow, leaving_code, masking}
-use Rattle.masked_code.proofs.Resumption.{HasLeft}
+use Rattle.masked_code.proofs.Resumption.{IsResumedState}
 use Rattle.masked_code.proofs.Owes.{◌▸◌, writes, loads, stores, sets_enabled, IsApart, Owes}
 use Rattle.masked_code.proofs.Words.{word_at-other, word_at-others}
 use Rattle.masked_code.proofs.Spread.{based, spread_from}
@@ -28,7 +28,7 @@ use Rattle.block_parts.specs.Pieces.{back_code}
 use Rattle.event_gen.proofs.Finding.{own_end, finds_by_x3}
 use Rattle.block_parts.specs.Events.{keeping_code}
 use Rattle.event_gen.specs.Pieces.{own_finding_code, set_events_test, controller_address_code, set_answer_code, resting_code, disabling_code}
-use Rattle.event_gen.specs.WaitEvent.{MayWait, Waited, HasWaited, Waits, set_of, rested_ram, kept_ram}
+use Rattle.event_gen.specs.WaitEvent.{MayWait, WaitEventEffect, HasWaited, IsWaitEventCode, set_of, rested_ram, kept_ram}
 
 -- the registers are saved before this code
 abbrev saved_first : List InstrKind → List InstrKind
@@ -122,7 +122,7 @@ module _ (offset task place own : ℕ) (c : Core) (h : MayWait offset task place
         level = subst (λ w. w < 256) (sym (kept_below context_level (omega arith))) b.level;
       }
 
-  has_waited : (last : State) → found ≡ 0 → HasLeft place d last → HasWaited task place own st last
+  has_waited : (last : State) → found ≡ 0 → IsResumedState place d last → HasWaited task place own st last
   has_waited last none has_left =
       let l = has_left.left in
       let at_cur = kept_below context_cur (omega arith) in
@@ -154,7 +154,7 @@ module _ (offset task place own : ℕ) (c : Core) (h : MayWait offset task place
 
   -- behind the saved registers
   kept_owe : (o : ℕ) → o + 32 ≤ memory_bytes → found ≡ 0
-      → Owes offset end o saved_then 0 (Waited task place own) st
+      → Owes offset end o saved_then 0 (WaitEventEffect task place own) st
       (record (masked (based c)) { registers = 0 ∷ at_own ∷ sp ∷ found ∷ memory_base ∷ tail; ram = with_words (rested_ram (based c) task) (own + 4 * 5) (registers_from 27 5 (based c).registers) })
   kept_owe o near none =
       let small = h.is_task in
@@ -180,7 +180,7 @@ module _ (offset task place own : ℕ) (c : Core) (h : MayWait offset task place
       ▸ writes controller_base refl
       ▸ writes (task + 1 + controller_base) (omega arith)
       ▸ sets_enabled task (omega arith, omega arith)
-      ▸ leave_owes offset end (Waited task place own) st place d at_own sp (task + 1 + controller_base) (set (spread_from 26 6 c.registers) 24 (memory_base + 4 * (task + 1))) refl refl h.goes_back.previous still_below low (behind 8 o) (omega (arith, near))
+      ▸ leave_owes offset end (WaitEventEffect task place own) st place d at_own sp (task + 1 + controller_base) (set (spread_from 26 6 c.registers) 24 (memory_base + 4 * (task + 1))) refl refl h.goes_back.previous still_below low (behind 8 o) (omega (arith, near))
       (λ last left. record { touches = refl; done = inr (has_waited last none left) })
 
   -- the registers are saved; whatever stands behind
@@ -206,12 +206,12 @@ module _ (offset task place own : ℕ) (c : Core) (h : MayWait offset task place
 
   -- the look at the events; whatever stands behind the way back
   looked_owe : (rest : List InstrKind)
-      → (found ≡ 0 → Owes offset end (behind 12 (offset + 4)) rest 0 (Waited task place own) st (record (masked (based c)) { registers = 0 ∷ own_end task ∷ sp ∷ found ∷ memory_base ∷ tail }))
-      → Owes offset end (offset + 4) (own_finding_code 3 ++ (set_events_test ++ (controller_address_code ++ (set_answer_code ++ (back_code ++ rest))))) 0 (Waited task place own) st (masked (based c))
+      → (found ≡ 0 → Owes offset end (behind 12 (offset + 4)) rest 0 (WaitEventEffect task place own) st (record (masked (based c)) { registers = 0 ∷ own_end task ∷ sp ∷ found ∷ memory_base ∷ tail }))
+      → Owes offset end (offset + 4) (own_finding_code 3 ++ (set_events_test ++ (controller_address_code ++ (set_answer_code ++ (back_code ++ rest))))) 0 (WaitEventEffect task place own) st (masked (based c))
   looked_owe rest go =
       let small = h.is_task in
       let fits = h.goes_back.can_run.inside in
-      finds_by_x3 offset end task (Waited task place own) st (set_events_test ++ (controller_address_code ++ (set_answer_code ++ (back_code ++ rest)))) (masked (based c)) (get_or c.registers 1 0) sp
+      finds_by_x3 offset end task (WaitEventEffect task place own) st (set_events_test ++ (controller_address_code ++ (set_answer_code ++ (back_code ++ rest)))) (masked (based c)) (get_or c.registers 1 0) sp
       controller_base tail small h.runs (offset + 4) (
       loads (events task) (record { is = omega arith; aligned = omega arith; inside = omega arith }) (word_at c.ram (events task)) refl
       ▸ writes found refl
@@ -227,23 +227,23 @@ module _ (offset task place own : ℕ) (c : Core) (h : MayWait offset task place
             (λ some.
             writes controller_base refl
             ▸ writes E_OK refl
-            ▸ goes_back offset (masking ∷ body) c h.goes_back (Waited task place own) (own_end task) E_OK
+            ▸ goes_back offset (masking ∷ body) c h.goes_back (WaitEventEffect task place own) (own_end task) E_OK
             c.pending c.pending c.ram (λ last is went. record { touches = refl; done = inl (record { one_set = some; status = is; back = went }) }))
             (cases_eq found 0);
       })
 
-  body_owes : Owes offset end (offset + 4) body 0 (Waited task place own) st (masked (based c))
+  body_owes : Owes offset end (offset + 4) body 0 (WaitEventEffect task place own) st (masked (based c))
   body_owes =
       let fits = h.goes_back.can_run.inside in
       let near : behind 3 (behind 12 (offset + 4)) + 108 + 32 ≤ memory_bytes = omega arith in
       looked_owe (resting_code ++ saved_first saved_then)
-      (λ none. rested_owe (saved_first saved_then) (Waited task place own) (behind 12 (offset + 4))
-      (saved_owe saved_then (Waited task place own) (behind 2 (behind 12 (offset + 4))) (own_end task) found (rested_ram (based c) task)
+      (λ none. rested_owe (saved_first saved_then) (WaitEventEffect task place own) (behind 12 (offset + 4))
+      (saved_owe saved_then (WaitEventEffect task place own) (behind 2 (behind 12 (offset + 4))) (own_end task) found (rested_ram (based c) task)
       (kept_owe (behind 3 (behind 12 (offset + 4)) + 108) near none)))
 
-  runs_it : FromOpening 85 (offset_state offset c) (Waited task place own)
-  runs_it = opens_within offset 85 body c (Waited task place own) h.goes_back.can_run h.goes_back.bases (omega arith) body_owes
+  runs_it : FromOpening 85 (offset_state offset c) (WaitEventEffect task place own)
+  runs_it = opens_within offset 85 body c (WaitEventEffect task place own) h.goes_back.can_run h.goes_back.bases (omega arith) body_owes
 
 -- the task goes to rest with its context, or goes on where one of the events is set
-pub waits : Waits (masking ∷ body)
+pub waits : IsWaitEventCode (masking ∷ body)
 waits = record { size = refl; masks = (body, refl); runs = λ offset task place own core h. runs_it offset task place own core h }

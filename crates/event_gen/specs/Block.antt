@@ -6,10 +6,10 @@ use Rattle.sloth_base.specs.declared.service.Service.TheVariants.{SetEvent, Clea
 use Rattle.sloth_base.specs.ServiceCodes.{object_kind}
 use Rattle.rv32_instr.specs.declared.InstrKind.{InstrKind}
 use Rattle.block_parts.specs.Objects.{is_on_events, HasBlockUnless}
-use Rattle.event_gen.specs.SetEvent.{SetsEvents}
-use Rattle.event_gen.specs.ClearEvent.{ClearsEvents}
-use Rattle.event_gen.specs.GetEvent.{TellsEvents}
-use Rattle.event_gen.specs.WaitEvent.{Waits}
+use Rattle.event_gen.specs.SetEvent.{IsSetEventCode}
+use Rattle.event_gen.specs.ClearEvent.{IsClearEventCode}
+use Rattle.event_gen.specs.GetEvent.{IsGetEventCode}
+use Rattle.event_gen.specs.WaitEvent.{IsWaitEventCode}
 
 -- the services on events; the object is a task, or 0 where there is none
 abbrev pub HasEventBlock : Service → ℕ → Type 0
@@ -20,9 +20,9 @@ abbrev pub no_marks : ℕ → List Mark
 no_marks at = []
 
 -- the code of a service with its object has the service's effect
-abbrev pub ServesEvent : Service → ℕ → List InstrKind → Type 0
-ServesEvent SetEvent object code = SetsEvents object code
-ServesEvent ClearEvent object code = ClearsEvents code
-ServesEvent GetEvent object code = TellsEvents object code
-ServesEvent WaitEvent object code = Waits code
-ServesEvent service object code = ⊥
+abbrev pub IsEventServiceBlock : Service → ℕ → List InstrKind → Type 0
+IsEventServiceBlock SetEvent object code = IsSetEventCode object code
+IsEventServiceBlock ClearEvent object code = IsClearEventCode code
+IsEventServiceBlock GetEvent object code = IsGetEventCode object code
+IsEventServiceBlock WaitEvent object code = IsWaitEventCode code
+IsEventServiceBlock service object code = ⊥

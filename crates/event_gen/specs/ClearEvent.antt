@@ -10,7 +10,7 @@ use Rattle.rv32_instr.specs.Ram.{word_at, with_word}
 use Rattle.masked_code.specs.Masked.{FromOpening}
 use Rattle.masked_code.specs.Place.{offset_state}
 use Rattle.block_parts.specs.ServiceCode.{IsServiceCode}
-use Rattle.block_parts.specs.Back.{CanGoBack, WentBack, a0}
+use Rattle.block_parts.specs.Back.{CanGoBack, BackEffect, a0}
 
 -- the register of the mask of a service's events
 abbrev pub mask_register : ℕ
@@ -28,12 +28,12 @@ abbrev pub cleared_ram : List ℕ → ℕ → ℕ → List ℕ
 cleared_ram ram task mask = with_word ram (events task) (bit_and (word_at ram (events task)) (2 ^ 32 - 1 - mask))
 
 -- The events of the mask are not set for the running task; the status is E_OK.
-pub record EventsCleared (task : ℕ) (touched : List ℕ) (start end : State) : Type 0 where
+pub record ClearEventEffect (task : ℕ) (touched : List ℕ) (start end : State) : Type 0 where
   pub touches : touched ≡ []
   pub status : slice_index end.core.registers a0 ≡ E_OK
-  pub back : WentBack a0 (record start.core { ram = cleared_ram start.core.ram task (slice_index start.core.registers mask_register) }) start end
+  pub back : BackEffect a0 (record start.core { ram = cleared_ram start.core.ram task (slice_index start.core.registers mask_register) }) start end
 
 -- Code of ClearEvent: behind its first instruction at most 12 more lead to its effect, whatever lines arrive.
-abbrev pub ClearsEvents : List InstrKind → Type 0
-ClearsEvents code =
-    IsServiceCode service.ClearEvent code ((offset task : ℕ) (core : Core) → MayClear offset task code core → FromOpening 12 (offset_state offset core) (EventsCleared task))
+abbrev pub IsClearEventCode : List InstrKind → Type 0
+IsClearEventCode code =
+    IsServiceCode service.ClearEvent code ((offset task : ℕ) (core : Core) → MayClear offset task code core → FromOpening 12 (offset_state offset core) (ClearEventEffect task))

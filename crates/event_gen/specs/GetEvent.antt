@@ -10,8 +10,8 @@ use Rattle.rv32_instr.specs.Ram.{word_at}
 use Rattle.masked_code.specs.Masked.{FromOpening}
 use Rattle.masked_code.specs.Place.{offset_state}
 use Rattle.block_parts.specs.ServiceCode.{IsServiceCode}
-use Rattle.block_parts.specs.Back.{CanGoBack, WentBack, a0, a1}
-use Rattle.block_parts.specs.Looks.{LooksSuspended}
+use Rattle.block_parts.specs.Back.{CanGoBack, BackEffect, a0, a1}
+use Rattle.block_parts.specs.SuspensionTest.{IsFoundSuspended}
 
 -- the code can run, and what tells of the task are bits
 pub record MayGet (offset task : ℕ) (code : List InstrKind) (core : Core) : Type 0 where
@@ -23,23 +23,23 @@ pub record MayGet (offset task : ℕ) (code : List InstrKind) (core : Core) : Ty
 
 -- The task is Suspended: the status is E_OS_STATE, and there is no answer.
 pub record HasNotTold (task : ℕ) (start end : State) : Type 0 where
-  pub suspended : LooksSuspended task start.core
+  pub suspended : IsFoundSuspended task start.core
   pub status : slice_index end.core.registers a0 ≡ E_OS_STATE
-  pub back : WentBack a0 start.core start end
+  pub back : BackEffect a0 start.core start end
 
 -- It is not Suspended: a1 is its events, the status E_OK.
 pub record HasTold (task : ℕ) (start end : State) : Type 0 where
-  pub not_suspended : LooksSuspended task start.core → ⊥
+  pub not_suspended : IsFoundSuspended task start.core → ⊥
   pub status : slice_index end.core.registers a0 ≡ E_OK
   pub answer : slice_index end.core.registers a1 ≡ word_at start.core.ram (events task)
-  pub back : WentBack a1 start.core start end
+  pub back : BackEffect a1 start.core start end
 
 -- what GetEvent does
-pub record EventsTold (task : ℕ) (touched : List ℕ) (start end : State) : Type 0 where
+pub record GetEventEffect (task : ℕ) (touched : List ℕ) (start end : State) : Type 0 where
   pub touches : touched ≡ task ∷ []
   pub told : HasNotTold task start end ⊎ HasTold task start end
 
 -- Code of GetEvent: behind its first instruction at most 11 more lead to its effect, whatever lines arrive.
-abbrev pub TellsEvents : ℕ → List InstrKind → Type 0
-TellsEvents task code =
-    IsServiceCode service.GetEvent code ((offset : ℕ) (core : Core) → MayGet offset task code core → FromOpening 11 (offset_state offset core) (EventsTold task))
+abbrev pub IsGetEventCode : ℕ → List InstrKind → Type 0
+IsGetEventCode task code =
+    IsServiceCode service.GetEvent code ((offset : ℕ) (core : Core) → MayGet offset task code core → FromOpening 11 (offset_state offset core) (GetEventEffect task))

@@ -10,8 +10,8 @@ use Rattle.rv32_instr.specs.Ram.{word_at, with_word}
 use Rattle.masked_code.specs.Masked.{FromOpening}
 use Rattle.masked_code.specs.Place.{offset_state}
 use Rattle.block_parts.specs.ServiceCode.{IsServiceCode}
-use Rattle.block_parts.specs.Back.{CanGoBack, WentBack, a0}
-use Rattle.block_parts.specs.Looks.{LooksSuspended}
+use Rattle.block_parts.specs.Back.{CanGoBack, BackEffect, a0}
+use Rattle.block_parts.specs.SuspensionTest.{IsFoundSuspended}
 use Rattle.event_gen.specs.ClearEvent.{mask_register}
 
 -- the code can run, and what tells of the task are bits
@@ -40,30 +40,30 @@ woken_core task core = record (set_core task core) { pending = slice_set core.pe
 
 -- The task is Suspended: nothing happens, and the status is E_OS_STATE.
 pub record HasNotSet (task : ℕ) (start end : State) : Type 0 where
-  pub suspended : LooksSuspended task start.core
+  pub suspended : IsFoundSuspended task start.core
   pub status : slice_index end.core.registers a0 ≡ E_OS_STATE
-  pub back : WentBack a0 start.core start end
+  pub back : BackEffect a0 start.core start end
 
 -- It is not Suspended and awaits none of its events, which now have those of the mask; the status is E_OK.
 pub record HasSet (task : ℕ) (start end : State) : Type 0 where
-  pub not_suspended : LooksSuspended task start.core → ⊥
+  pub not_suspended : IsFoundSuspended task start.core → ⊥
   pub none_awaited : awaited_events task start.core ≡ 0
   pub status : slice_index end.core.registers a0 ≡ E_OK
-  pub back : WentBack a0 (set_core task start.core) start end
+  pub back : BackEffect a0 (set_core task start.core) start end
 
 -- It is not Suspended and awaits one of its events, which now have those of the mask: its line is pending and enabled; the status is E_OK.
 pub record HasWoken (task : ℕ) (start end : State) : Type 0 where
-  pub not_suspended : LooksSuspended task start.core → ⊥
+  pub not_suspended : IsFoundSuspended task start.core → ⊥
   pub one_awaited : awaited_events task start.core ≢ 0
   pub status : slice_index end.core.registers a0 ≡ E_OK
-  pub back : WentBack a0 (woken_core task start.core) start end
+  pub back : BackEffect a0 (woken_core task start.core) start end
 
 -- what SetEvent does
-pub record EventsSet (task : ℕ) (touched : List ℕ) (start end : State) : Type 0 where
+pub record SetEventEffect (task : ℕ) (touched : List ℕ) (start end : State) : Type 0 where
   pub touches : touched ≡ task ∷ []
   pub done : HasNotSet task start end ⊎ (HasSet task start end ⊎ HasWoken task start end)
 
 -- Code of SetEvent: behind its first instruction at most 19 more lead to its effect, whatever lines arrive.
-abbrev pub SetsEvents : ℕ → List InstrKind → Type 0
-SetsEvents task code =
-    IsServiceCode service.SetEvent code ((offset : ℕ) (core : Core) → MaySet offset task code core → FromOpening 19 (offset_state offset core) (EventsSet task))
+abbrev pub IsSetEventCode : ℕ → List InstrKind → Type 0
+IsSetEventCode task code =
+    IsServiceCode service.SetEvent code ((offset : ℕ) (core : Core) → MaySet offset task code core → FromOpening 19 (offset_state offset core) (SetEventEffect task))

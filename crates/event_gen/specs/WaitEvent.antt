@@ -11,9 +11,9 @@ use Rattle.rv32_instr.specs.Ram.{word_at, with_word, with_words}
 use Rattle.masked_code.specs.Masked.{FromOpening}
 use Rattle.masked_code.specs.Place.{offset_state}
 use Rattle.masked_code.specs.Pieces.{registers_from}
-use Rattle.masked_code.specs.Kernel.{IsBelow, LeftAs}
+use Rattle.masked_code.specs.Kernel.{IsBelow, IsOpenedCore}
 use Rattle.block_parts.specs.ServiceCode.{IsServiceCode}
-use Rattle.block_parts.specs.Back.{CanGoBack, WentBack, a0}
+use Rattle.block_parts.specs.Back.{CanGoBack, BackEffect, a0}
 use Rattle.event_gen.specs.ClearEvent.{mask_register}
 
 -- The code can run and this task runs. What runs below it has its context at `place`, and its own is to stand at `own`, directly
@@ -38,7 +38,7 @@ set_of task core = bit_and (word_at core.ram (events task)) (slice_index core.re
 pub record HasNotWaited (task : ℕ) (start end : State) : Type 0 where
   pub one_set : set_of task start.core ≢ 0
   pub status : slice_index end.core.registers a0 ≡ E_OK
-  pub back : WentBack a0 start.core start end
+  pub back : BackEffect a0 start.core start end
 
 -- the bytes in which the task is not Active and waits for the events of the mask
 abbrev pub rested_ram : Core → ℕ → List ℕ
@@ -62,7 +62,7 @@ waiting_core task place own core =
 -- None is: the task waits with its line not enabled, and what runs below goes on as its context says.
 pub record HasWaited (task place own : ℕ) (start end : State) : Type 0 where
   pub none_set : set_of task start.core ≡ 0
-  pub left : LeftAs (waiting_core task place own start.core) end.core
+  pub left : IsOpenedCore (waiting_core task place own start.core) end.core
   pub pc : end.pc ≡ word_at start.core.ram place
   pub x2 : slice_index end.core.registers 2 ≡ memory_base + (place + context_bytes)
   -- nothing is said of the registers where the idle loop runs below
@@ -70,12 +70,12 @@ pub record HasWaited (task place own : ℕ) (start end : State) : Type 0 where
       → slice_index end.core.registers i ≡ word_at start.core.ram (place + 4 * i)
 
 -- what WaitEvent does
-pub record Waited (task place own : ℕ) (touched : List ℕ) (start end : State) : Type 0 where
+pub record WaitEventEffect (task place own : ℕ) (touched : List ℕ) (start end : State) : Type 0 where
   pub touches : touched ≡ []
   pub done : HasNotWaited task start end ⊎ HasWaited task place own start end
 
 -- Code of WaitEvent: behind its first instruction at most 85 more lead to its effect, whatever lines arrive.
-abbrev pub Waits : List InstrKind → Type 0
-Waits code =
+abbrev pub IsWaitEventCode : List InstrKind → Type 0
+IsWaitEventCode code =
     IsServiceCode service.WaitEvent code ((offset task place own : ℕ) (core : Core) → MayWait offset task place own code core
-    → FromOpening 85 (offset_state offset core) (Waited task place own))
+    → FromOpening 85 (offset_state offset core) (WaitEventEffect task place own))

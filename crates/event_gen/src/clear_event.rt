@@ -1,6 +1,6 @@
 //! ClearEvent: the events of the mask are no longer set for the running task.
 ghost use Rattle.std.specs.Prelude.{IfOk};
-ghost use Rattle.event_gen.specs.ClearEvent.{ClearsEvents};
+ghost use Rattle.event_gen.specs.ClearEvent.{IsClearEventCode};
 
 use crate::pieces::find_own;
 use block_parts::events::clear_own;
@@ -11,7 +11,7 @@ use std::alloc::{AllocError, Global};
 
 /// The running task's events without those of the mask, and the way back.
 pub fn code(alloc: Global) -> Result<Vec<Instr>, AllocError>
-    ensures { IfOk result (λ code. ClearsEvents code.items) }
+    ensures { IfOk result (λ code. IsClearEventCode code.items) }
 {
     let mut code = Vec::new(alloc);
     open(&mut code)?;

@@ -1,13 +1,13 @@
 //! The code of the operating system services on events (OSEK OS 2.2.3, section 13.5): SetEvent, ClearEvent, GetEvent, WaitEvent.
 //!
 //! From an opening mark, with any arrivals: the effect within 160 instructions, and the length (`block`; a file of `specs/` for each). The way back,
-//! the look at a task: `block_parts` (`Back`, `Looks`); leaving: `masked_code` (`Kernel`).
+//! the look at a task: `block_parts` (`Back`, `SuspensionTest`); leaving: `masked_code` (`Kernel`).
 #![tactic(auto)]
 
 ghost use Rattle.std.specs.Prelude.{◌≡◌, IfOk, length};
 ghost use Rattle.code_lengths.specs.CodeLengths.{service_length};
 ghost use Rattle.block_parts.specs.ServiceBlock.{IsServiceBlock};
-ghost use Rattle.event_gen.specs.Block.{HasEventBlock, ServesEvent, no_marks};
+ghost use Rattle.event_gen.specs.Block.{HasEventBlock, IsEventServiceBlock, no_marks};
 
 mod clear_event;
 mod get_event;
@@ -38,7 +38,7 @@ pub fn block(
 ) -> Result<Block, NoMemory>
     requires { HasEventBlock service object }
     ensures block { IfOk result (IsServiceBlock service object map.now.places.blocks no_marks) }
-    ensures effect { IfOk result (λ block. ServesEvent service object block.code) }
+    ensures effect { IfOk result (λ block. IsEventServiceBlock service object block.code) }
 {
     let at = map.places.blocks[block_number(service, object)];
     let code = code(alloc, service, object as u8)?;
@@ -54,7 +54,7 @@ pub fn block(
 fn code(alloc: Global, service: Service, object: u8) -> Result<Vec<Instr>, AllocError>
     requires { HasEventBlock service object }
     ensures long { IfOk result (λ code. length code.items ≡ service_length service) }
-    ensures serves { IfOk result (λ code. ServesEvent service object code.items) }
+    ensures serves { IfOk result (λ code. IsEventServiceBlock service object code.items) }
 {
     match service {
         Service::SetEvent => set_event::code(alloc, object),

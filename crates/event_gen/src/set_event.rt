@@ -4,7 +4,7 @@ ghost use Rattle.std.specs.Prelude.{◌≡◌, ◌<◌, ◌++◌, IfOk, OnOk};
 ghost use Rattle.sloth_base.specs.Limits.{task_limit};
 ghost use Rattle.event_gen.specs.Pieces.{mask_adding_code};
 ghost use Rattle.block_parts.specs.Events.{enabling_code};
-ghost use Rattle.event_gen.specs.SetEvent.{SetsEvents};
+ghost use Rattle.event_gen.specs.SetEvent.{IsSetEventCode};
 
 use block_parts::events::{WAKE, ask_awaited, refuse};
 use block_parts::pieces::{go_back, look_at, open, raise};
@@ -23,7 +23,7 @@ const ASK: u32 = 4;
 /// The look at the task, its events, its line where one of them is awaited, and the way back.
 pub fn code(alloc: Global, task: u8) -> Result<Vec<Instr>, AllocError>
     requires { task < task_limit }
-    ensures { IfOk result (λ code. SetsEvents task code.items) }
+    ensures { IfOk result (λ code. IsSetEventCode task code.items) }
 {
     let mut code = Vec::new(alloc);
     open(&mut code)?;

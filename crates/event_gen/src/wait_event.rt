@@ -1,7 +1,7 @@
 //! WaitEvent: the running task goes on where one of the events is set; else it waits, and what runs below it goes on.
 ghost use Rattle.std.specs.Prelude.{◌≡◌, ◌++◌, IfOk, OnOk};
 ghost use Rattle.event_gen.specs.Pieces.{set_events_test, controller_address_code, set_answer_code, resting_code, own_saving_code, disabling_code};
-ghost use Rattle.event_gen.specs.WaitEvent.{Waits};
+ghost use Rattle.event_gen.specs.WaitEvent.{IsWaitEventCode};
 
 use crate::pieces::find_own;
 use block_parts::events::keep;
@@ -22,7 +22,7 @@ const OWN_ENABLED: i32 = 31;
 
 /// The look at the events, and then the way back, or the rest and the way to what runs below.
 pub fn code(alloc: Global) -> Result<Vec<Instr>, AllocError>
-    ensures { IfOk result (λ code. Waits code.items) }
+    ensures { IfOk result (λ code. IsWaitEventCode code.items) }
 {
     let mut code = Vec::new(alloc);
     open(&mut code)?;

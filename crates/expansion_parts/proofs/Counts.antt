@@ -14,7 +14,7 @@ use Rattle.sloth_base.specs.declared.service.Service.{Service}
 use Rattle.sloth_base.specs.Limits.{frame_limit}
 use Rattle.rv32_instr.specs.declared.InstrKind.{InstrKind}
 use Rattle.rv32_instr.specs.declared.InstrKind.TheVariants.{Auipc, Sw, Jal}
-use Rattle.expansion_parts.specs.Expansion.{number_in, zeros, calls, mask_of, service_jump, distance, item_address, operation_code}
+use Rattle.expansion_parts.specs.Expansion.{number_in, zeros, call_code, mask_of, service_jump, distance, item_address, operation_code}
 use Rattle.expansion_parts.specs.Long.{size, no_places}
 
 -- a frame is cleared by an instruction for each word
@@ -27,7 +27,7 @@ abbrev last_three : (address words target : ℕ) → List InstrKind
 last_three address words target = Auipc 31 0 ∷ Sw 2 31 (pos (4 * words)) ∷ Jal 0 (distance (address + 4 * (words + 3)) target) ∷ []
 
 -- a call has four more
-pub calls_length : (address words target : ℕ) → length (calls address words target) ≡ 4 + words
+pub calls_length : (address words target : ℕ) → length (call_code address words target) ≡ 4 + words
 calls_length address words target =
     let l = length-append (zeros words 0) (last_three address words target) in
     let z = zeros_length words 0 in

@@ -11,7 +11,7 @@ use Rattle.sloth_base.specs.declared.app.Op.{Op}
 use Rattle.sloth_base.specs.declared.app.Op.TheVariants as op
 use Rattle.sloth_base.specs.Named.{item_of, no_item}
 use Rattle.sloth_base.specs.Limits.{frame_limit}
-use Rattle.expansion_parts.specs.Long.{Set, size, size_at, place, target_of, IsNear, IsInSet}
+use Rattle.expansion_parts.specs.Long.{BranchSet, size, size_at, place, target_of, IsNear, IsInSet}
 use Rattle.expansion_parts.proofs.Counts.{size_few}
 
 -- only the length of a branch depends on the set
@@ -52,7 +52,7 @@ size_grown app (op.Invoke callee) = omega arith
 size_grown app op.Return = omega arith
 size_grown app (op.Serve call) = omega arith
 
-module _ (app : App) (body : Func) (long : Set) where
+module _ (app : App) (body : Func) (long : BranchSet) where
   -- the first item stands at the start
   pub place_first : place app body long 0 ≡ 0
   unfolding place
@@ -77,7 +77,7 @@ module _ (app : App) (body : Func) (long : Set) where
       let e : suc i ≡ i + 1 = omega arith in
       rw e (let n = place_next i in let l = place_few frames i in let w = size_few app frames (long i) (item_of body i).op in omega (arith, n, l, w.few))
 
-module _ (app : App) (body : Func) (a b : Set) (within : IsInSet body a b) where
+module _ (app : App) (body : Func) (a b : BranchSet) (within : IsInSet body a b) where
   grown : (i : ℕ) → i < length body.items → (x y : Bool) → a i ≡ x → b i ≡ y → size app x (item_of body i).op ≤ size app y (item_of body i).op
   grown i h true true u v = omega arith
   grown i h false false u v = omega arith

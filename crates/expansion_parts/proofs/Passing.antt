@@ -7,8 +7,8 @@ use Rattle.std.proofs.lemmas.List.Sums.{sum_by_push, sum_by_more}
 use Rattle.std.proofs.lemmas.Bool.{or_cases, or_parts, not-true}
 use Rattle.sloth_base.specs.declared.app.App.{App}
 use Rattle.sloth_base.specs.declared.app.Func.{Func}
-use Rattle.expansion_parts.specs.Long.{Set, IsBranchTo, IsNear, Suffices, IsInSet}
-use Rattle.expansion_parts.specs.Passes.{set_in_list, short_count, AreItemLengths, TellsFar, IsPass, AreShortest}
+use Rattle.expansion_parts.specs.Long.{BranchSet, IsBranchTo, IsNear, IsSufficient, IsInSet}
+use Rattle.expansion_parts.specs.Passes.{set_in_list, short_count, AreItemLengths, IsFarMark, IsPass, AreShortest}
 use Rattle.expansion_parts.proofs.PassTo.{IsPassTo}
 use Rattle.expansion_parts.proofs.Growth.{near-stays}
 
@@ -36,7 +36,7 @@ module _ (app : App) (body : Func) (old : List Bool) where
   counted false false false m n f h = omega (arith, h)
 
   -- one item more, whose branch becomes long where it is far
-  pub goes_on : (i : ℕ) (new : List Bool) (changed far : Bool) → i < length body.items → length old ≡ length body.items → IsPassTo app body old i new changed → TellsFar app body (set_in_list old) i far
+  pub goes_on : (i : ℕ) (new : List Bool) (changed far : Bool) → i < length body.items → length old ≡ length body.items → IsPassTo app body old i new changed → IsFarMark app body (set_in_list old) i far
       → IsPassTo app body old (i + 1) (new ++ (set_in_list old i || far) ∷ []) (changed || far)
   goes_on i new changed far inside same so_far tells = record {
     count = length-append new ((set_in_list old i || far) ∷ []) ∙ ap (λ (n : ℕ). n + 1) so_far.count;
@@ -57,7 +57,7 @@ module _ (app : App) (body : Func) (old : List Bool) where
         omega (arith, a, b, c);
   }
     where
-      by : (other : Set) → Suffices app body other → IsInSet body (set_in_list old) other → (t : ℕ) → IsBranchTo body i t → (IsNear app body (set_in_list old) i t → ⊥)
+      by : (other : BranchSet) → IsSufficient app body other → IsInSet body (set_in_list old) other → (t : ℕ) → IsBranchTo body i t → (IsNear app body (set_in_list old) i t → ⊥)
           → (b : Bool) → other i ≡ b → other i ≡ true
       by other s w t p far true e = e
       by other s w t p far false e = absurd (far (near-stays app body (set_in_list old) other w i t (s i t p e)))
@@ -77,12 +77,12 @@ module _ (app : App) (body : Func) (old : List Bool) where
 
 -- where a pass changes nothing, the set is the least one
 pub shortest_of : (app : App) (body : Func) (long seen read new : List Bool) (changed : Bool) → seen ≡ long → read ≡ long
-    → ((other : Set) → Suffices app body other → IsInSet body (set_in_list long) other) → IsPass app body seen new changed → not changed ≡ true
+    → ((other : BranchSet) → IsSufficient app body other → IsInSet body (set_in_list long) other) → IsPass app body seen new changed → not changed ≡ true
     → (lengths : List ℕ) → AreItemLengths app body (set_in_list read) lengths → AreShortest app body lengths
 shortest_of app body long seen read new changed s r least pass stays lengths are = record {
   long = set_in_list long;
   is_least = record {
-    suffices = subst (λ (x : List Bool). Suffices app body (set_in_list x)) s (pass.done (not-true changed stays));
+    suffices = subst (λ (x : List Bool). IsSufficient app body (set_in_list x)) s (pass.done (not-true changed stays));
     least = least;
   };
   are_lengths = subst (λ (x : List Bool). AreItemLengths app body (set_in_list x) lengths) r are;

@@ -105,9 +105,9 @@ abbrev pub index_code : ℕ → ℕ → ℕ → List InstrKind
 index_code index mask address = Andi 31 index (pos mask) ∷ Lui 30 (hi address) ∷ Add 31 31 30 ∷ []
 
 -- a branch at an address: the test itself, or where it is long, a jump to what x31 holds: the next item, or the target where the test holds
-abbrev pub branches : (long : Bool) → BranchKind → (a b address target : ℕ) → List InstrKind
-branches false kind a b address target = test kind a b (distance address target) ∷ []
-branches true kind a b address target =
+abbrev pub branch_code : (long : Bool) → BranchKind → (a b address target : ℕ) → List InstrKind
+branch_code false kind a b address target = test kind a b (distance address target) ∷ []
+branch_code true kind a b address target =
     number_in 31 (address + 24) ++ (test (opposite kind) a b (pos 12) ∷ (number_in 31 target ++ (Jalr 0 31 (pos 0) ∷ [])))
 
 -- zeros in so many words of a new frame, from word k on
@@ -116,8 +116,8 @@ zeros zero k = []
 zeros (suc n) k = Sw 2 0 (pos (4 * k)) ∷ zeros n (k + 1)
 
 -- a call, at an address, of a function with so many frame words
-abbrev pub calls : (address words target : ℕ) → List InstrKind
-calls address words target =
+abbrev pub call_code : (address words target : ℕ) → List InstrKind
+call_code address words target =
     Addi 2 2 (neg_ℤ (pos (4 + 4 * words))) ∷ (zeros words 0
     ++ (Auipc 31 0 ∷ Sw 2 31 (pos (4 * words)) ∷ Jal 0 (distance (address + 4 * (words + 3)) target) ∷ []))
 
@@ -151,9 +151,9 @@ operation_code app places func address long (op.LoadAt w rd symbol index mask) =
 operation_code app places func address long (op.StoreAt w rs symbol index mask) =
     if nat_le mask 2047 then index_code index mask (symbol_address places symbol) ++ (store w rs 31 (lo (symbol_address places symbol)) ∷ [])
     else wide (op.StoreAt w rs symbol index mask) (symbol_address places symbol)
-operation_code app places func address long (op.Branch kind rs1 rs2 label) = branches long kind rs1 rs2 address (label_address app places func label)
+operation_code app places func address long (op.Branch kind rs1 rs2 label) = branch_code long kind rs1 rs2 address (label_address app places func label)
 operation_code app places func address long (op.Jump label) = Jal 0 (distance address (label_address app places func label)) ∷ []
-operation_code app places func address long (op.Invoke callee) = calls address (function app callee).frame_words (item_address places callee 0)
+operation_code app places func address long (op.Invoke callee) = call_code address (function app callee).frame_words (item_address places callee 0)
 operation_code app places func address long op.Return =
     Lw 31 2 (pos (4 * (function app func).frame_words)) ∷ Addi 2 2 (pos (4 + 4 * (function app func).frame_words)) ∷ Jalr 0 31 (pos 12) ∷ []
 operation_code app places func address long (op.Serve call) = service_jump places call address

@@ -2,7 +2,7 @@
 ghost use Rattle.std.specs.Prelude.{◌≡◌, ◌≤◌, ◌<◌, ◌+◌, ◌*◌, ◌^◌, ◌∷◌, [], pos};
 ghost use Rattle.sloth_base.specs.Limits.{frame_limit};
 ghost use Rattle.rv32_instr.specs.Range.{IsSigned};
-ghost use Rattle.expansion_parts.specs.Expansion.{distance, calls};
+ghost use Rattle.expansion_parts.specs.Expansion.{distance, call_code};
 
 use crate::draft::Draft;
 use rv32_instr::InstrKind;
@@ -36,7 +36,7 @@ pub fn call(at: u32, words: u32, target: u32) -> Draft
     requires few { words ≤ frame_limit }
     requires at_in { at < 2 ^ 31 + 2 ^ 22 }
     requires near { IsSigned 21 (distance (at + 4 * (words + 3)) target) }
-    ensures { result ≡ calls at words target }
+    ensures { result ≡ call_code at words target }
 {
     let mut draft = one(addi(X2, X2, -4 - frame_offset(words)));
     for word in 0..words {

@@ -1,8 +1,8 @@
 //! The least set of long branches of a body.
 ghost use Rattle.std.specs.Prelude.{◌≡◌, ◌<◌, ◌↔◌, length, IfOk, IsTrue};
 ghost use Rattle.sloth_base.specs.Named.{label_of};
-ghost use Rattle.expansion_parts.specs.Long.{BranchReaches};
-ghost use Rattle.expansion_parts.specs.Passes.{set_in_list, IsSmall, ArePlaces, AreItemLengths, TellsFar, IsPass, AreShortest};
+ghost use Rattle.expansion_parts.specs.Long.{IsInBranchReach};
+ghost use Rattle.expansion_parts.specs.Passes.{set_in_list, IsSmall, ArePlaces, AreItemLengths, IsFarMark, IsPass, AreShortest};
 
 use crate::lengths::size;
 use sloth_base::app::{App, Func, Op};
@@ -39,7 +39,7 @@ pub fn item_behind(body: &Func, label: u32) -> u32
 fn reaches(from: u32, to: u32) -> bool
     requires from_in { from < 0x4000_0000 }
     requires to_in { to < 0x4000_0000 }
-    ensures { IsTrue result ↔ BranchReaches from to }
+    ensures { IsTrue result ↔ IsInBranchReach from to }
 {
     to <= from + 4094 && from <= to + 4096
 }
@@ -50,7 +50,7 @@ fn is_far(app: &App, body: &Func, long: &[bool], places: &[u32], index: usize) -
     requires inside { index < length body.now.items }
     requires same { length long.now ≡ length body.now.items }
     requires at { ArePlaces app.now body.now long.now places.now }
-    ensures { TellsFar app.now body.now (set_in_list long.now) index result }
+    ensures { IsFarMark app.now body.now (set_in_list long.now) index result }
 {
     match body.items.items()[index].op {
         Op::Branch { label, .. } => {

@@ -6,7 +6,7 @@ use Rattle.sloth_base.specs.declared.app.App.{App}
 use Rattle.sloth_base.specs.declared.app.Func.{Func}
 use Rattle.sloth_base.specs.declared.app.Label.{Label}
 use Rattle.sloth_base.specs.Named.{no_function, function, no_label, label_of, item_of}
-use Rattle.code_rules.specs.Code.{is_followed, way, GoesOn, IsPath}
+use Rattle.code_rules.specs.Code.{is_followed, way, IsPathStep, IsPath}
 use Rattle.held_lists.specs.Filling.{bare_label, bare_func, bare_app, SameButLists}
 
 pub bare_label_of : (f : Func) (k : ℕ) → label_of (bare_func f) k ≡ bare_label (label_of f k)
@@ -37,7 +37,7 @@ module _ (f g : Func) (same : bare_func f ≡ bare_func g) where
   pub count_same : length f.labels ≡ length g.labels
   count_same = sym (length-map f.labels bare_label) ∙ ap (λ x. length x.labels) same ∙ length-map g.labels bare_label
 
-  pub goes_same : (i j : ℕ) → GoesOn f i j → GoesOn g i j
+  pub goes_same : (i j : ℕ) → IsPathStep f i j → IsPathStep g i j
   goes_same i j (inl a) = inl (ap (λ x. is_followed x.op) (sym (item_same i)) ∙ a.0, a.1)
   goes_same i j (inr a) = inr (a.0, ap (λ x. way x.op) (sym (item_same i)) ∙ a.1, a.2 ∙ place_same a.0)
 

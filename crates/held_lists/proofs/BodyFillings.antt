@@ -22,7 +22,7 @@ use Rattle.code_rules.specs.Code.{held_list_at}
 use Rattle.body_faults.proofs.Paths.{reached_of}
 use Rattle.held_lists.specs.Filling.{bare_label, bare_func, SameButLists, IsClear, AreClear, IsFilling}
 use Rattle.held_lists.specs.RightLists.{HasRightLists}
-use Rattle.label_lists.specs.Places.{Lists, list_or, list_at}
+use Rattle.label_lists.specs.Places.{PlaceLists, list_or, list_at}
 use Rattle.held_lists.specs.Spread.{AreLists, relisted_label, relisted_func}
 use Rattle.held_lists.specs.BodyFilling.{HaveTheirLabels, HasResourceLists, IsBodyFilling, AreBodyFillings}
 use Rattle.held_lists.proofs.Held.{held_of_label}
@@ -31,11 +31,11 @@ use Rattle.held_lists.proofs.Spreading.{mark_at, listed, all_none}
 use Rattle.held_lists.proofs.OtherLists.{ranks_there, range_there}
 use Rattle.held_lists.proofs.WellFormedLists.{rightly}
 
-bare_relisted : (lists : Lists) (ls : List Label) → map bare_label ls ≡ map bare_label (map (relisted_label lists) ls)
+bare_relisted : (lists : PlaceLists) (ls : List Label) → map bare_label ls ≡ map bare_label (map (relisted_label lists) ls)
 bare_relisted lists [] = refl
 bare_relisted lists (l ∷ ls) = ap (λ x. bare_label l ∷ x) (bare_relisted lists ls)
 
-module _ (f : Func) (lists : Lists) (are : AreLists f lists) where
+module _ (f : Func) (lists : PlaceLists) (are : AreLists f lists) where
   same : bare_func f ≡ bare_func (relisted_func lists f)
   same = ap (λ ls. record { name = f.name; line = f.line; task = f.task; frame_words = f.frame_words; items = f.items; labels = ls }) (bare_relisted lists f.labels)
 

@@ -7,7 +7,7 @@ use Rattle.std.proofs.lemmas.Slice.Eq.{bytes_eq-Decides}
 use Rattle.sloth_base.specs.declared.app.Func.{Func}
 use Rattle.sloth_base.specs.declared.app.Item.{Item}
 use Rattle.sloth_base.specs.Named.{label_of, item_of}
-use Rattle.code_rules.specs.Code.{is_followed, way, held_list_at, held_after, GoesOn, IsPath}
+use Rattle.code_rules.specs.Code.{is_followed, way, held_list_at, held_after, IsPathStep, IsPath}
 use Rattle.body_faults.proofs.Paths.{goes_from_inside}
 use Rattle.held_lists.specs.Filling.{bare_func}
 use Rattle.held_lists.specs.RightLists.{HasRightLists}
@@ -23,7 +23,7 @@ stable xs ys h = by (bytes_eq xs ys) refl
     by false e = absurd (h (λ same. true≢false (sym ((bytes_eq-Decides xs ys).1 same) ∙ e)))
 
 module _ (f g : Func) (same : bare_func f ≡ bare_func g) (one : HasRightLists f) (other : HasRightLists g) where
-  goes_alike : (i j : ℕ) → GoesOn f i j → held_list_at f i ≡ held_list_at g i → held_list_at f j ≡ held_list_at g j
+  goes_alike : (i j : ℕ) → IsPathStep f i j → held_list_at f i ≡ held_list_at g i → held_list_at f j ≡ held_list_at g j
   goes_alike i j (inl a) e =
       let next = a.1 in
       let up : j ≡ suc i = omega (arith, next) in

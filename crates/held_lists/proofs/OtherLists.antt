@@ -15,7 +15,7 @@ use Rattle.sloth_base.specs.ImageRange.{AreNames}
 use Rattle.sloth_base.specs.Named.{no_function, function, no_label, label_of, item_of, IsBodyOf}
 use Rattle.sloth_base.specs.Limits.{body_limit, item_limit, symbol_limit, data_limit, frame_limit}
 use Rattle.code_rules.specs.AppRange.{AppInRange, IsBody, IsOp}
-use Rattle.code_rules.specs.Code.{IsItem, Calls, IsCallChain, Reaches, TaskReaches, ReachesTaking, ReachesPause}
+use Rattle.code_rules.specs.Code.{IsItem, HasCall, IsCallChain, Reaches, TaskReaches, ReachesTaking, ReachesPause}
 use Rattle.call_graph.specs.declared.ranking.Ranks.{Ranks}
 use Rattle.call_graph.specs.Ranks.{RanksOf}
 use Rattle.held_lists.specs.Filling.{bare_label, bare_func, SameButLists}
@@ -36,7 +36,7 @@ module _ (app other : App) (e : SameButLists app other) where
     is = ap (λ (x : Func). (item_of x i).op) (sym (body_alike f)) ∙ h.is;
   }
 
-  pub calls_there : (f g : ℕ) → Calls app f g → Calls other f g
+  pub calls_there : (f g : ℕ) → HasCall app f g → HasCall other f g
   calls_there f g h = (h.0, item_there f h.0 (op.Invoke g) h.1)
 
   chain_there : (f g : ℕ) (between : List ℕ) → IsCallChain app f between g → IsCallChain other f between g

@@ -17,24 +17,24 @@ use Rattle.sloth_base.specs.declared.service.Service.{Service}
 use Rattle.sloth_base.specs.declared.service.Service.TheVariants as service
 use Rattle.sloth_base.specs.Named.{item_of}
 use Rattle.code_rules.specs.AppRange.{IsResource, IsOp, AreOperands}
-use Rattle.code_rules.specs.Code.{way, is_in, without_last, held_behind, held_after, held_list_at, GoesOn}
-use Rattle.body_faults.specs.Ways.{next_of, jump_of, Visited, unmarked_count}
+use Rattle.code_rules.specs.Code.{way, is_in, without_last, held_behind, held_after, held_list_at, IsPathStep}
+use Rattle.body_faults.specs.Ways.{next_of, jump_of, IsMarkVisit, unmarked_count}
 use Rattle.body_faults.proofs.Paths.{next_goes, jump_goes, goes_from_inside}
 use Rattle.body_faults.proofs.Searches.{taken, gone_on, begun, ended, next_inside, jump_inside}
 use Rattle.held_lists.specs.Filling.{bare_func}
 use Rattle.held_lists.specs.RightLists.{HasRightLists}
-use Rattle.label_lists.specs.Places.{Lists, list_or, list_at}
-use Rattle.held_lists.specs.Spread.{list_behind, list_after, marks, Placed, AreTrueLists, AreSpreading, AreLists}
+use Rattle.label_lists.specs.Places.{PlaceLists, list_or, list_at}
+use Rattle.held_lists.specs.Spread.{list_behind, list_after, marks, IsListVisit, AreTrueLists, AreSpreading, AreLists}
 use Rattle.held_lists.proofs.Held.{held_first, held_falls, held_turns}
 use Rattle.held_lists.proofs.Bare.{item_same, goes_same}
 
 -- ---- marks
 
-pub mark_at : (lists : Lists) (i : ℕ) → get_or (marks lists) i false ≡ is_some (get_or lists i None)
+pub mark_at : (lists : PlaceLists) (i : ℕ) → get_or (marks lists) i false ≡ is_some (get_or lists i None)
 mark_at lists i = get_or-map is_some lists i None
 
-pub visits : (old new : Lists) (pending kept : List ℕ) (at : ℕ) (held : List ℕ) → Placed old new pending kept at held
-    → Visited (marks old) (marks new) pending kept at
+pub visits : (old new : PlaceLists) (pending kept : List ℕ) (at : ℕ) (held : List ℕ) → IsListVisit old new pending kept at held
+    → IsMarkVisit (marks old) (marks new) pending kept at
 visits old new pending kept at held p =
     subst (λ b. MatchBool b ((marks new ≡ marks old) × (kept ≡ pending)) ((marks new ≡ set (marks old) at true) × (kept ≡ pending ++ at ∷ []))) (sym (mark_at old at))
     (by (is_some (get_or old at None)) p)
@@ -62,7 +62,7 @@ way_keeps (op.Jump l) k held e = refl
 way_keeps _ k held e = absurd cc
 
 -- what is held where an item of a body with right lists goes on
-pub held_on : (g : Func) → HasRightLists g → (i j : ℕ) → GoesOn g i j → list_after (item_of g i).op (held_list_at g i) ≡ held_list_at g j
+pub held_on : (g : Func) → HasRightLists g → (i j : ℕ) → IsPathStep g i j → list_after (item_of g i).op (held_list_at g i) ≡ held_list_at g j
 held_on g right i j (inl a) =
     let l = goes_from_inside g i j (inl a) in
     let next = a.1 in
@@ -75,17 +75,17 @@ held_on g right i j (inr a) =
 
 -- ---- lists
 
-pub placed_lists : (P : ℕ → List ℕ → Type 0) (old new : Lists) (pending kept : List ℕ) (at : ℕ) (held : List ℕ)
-    → Placed old new pending kept at held → (is_some (get_or old at None) ≡ false → P at held)
+pub placed_lists : (P : ℕ → List ℕ → Type 0) (old new : PlaceLists) (pending kept : List ℕ) (at : ℕ) (held : List ℕ)
+    → IsListVisit old new pending kept at held → (is_some (get_or old at None) ≡ false → P at held)
     → ((i : ℕ) (list : List ℕ) → get_or old i None ≡ Some list → P i list)
     → (i : ℕ) (list : List ℕ) → get_or new i None ≡ Some list → P i list
 placed_lists P old new pending kept at held p own before i list e = by (is_some (get_or old at None)) refl p
   where
     by : (b : Bool) → is_some (get_or old at None) ≡ b → MatchBool b ((new ≡ old) × (kept ≡ pending)) ((new ≡ set old at (Some held)) × (kept ≡ pending ++ at ∷ []))
         → P i list
-    by true t w = before i list (sym (ap (λ (x : Lists). get_or x i None) w.0) ∙ e)
+    by true t w = before i list (sym (ap (λ (x : PlaceLists). get_or x i None) w.0) ∙ e)
     by false t w =
-        let there : get_or (set old at (Some held)) i None ≡ Some list = sym (ap (λ (x : Lists). get_or x i None) w.0) ∙ e in
+        let there : get_or (set old at (Some held)) i None ≡ Some list = sym (ap (λ (x : PlaceLists). get_or x i None) w.0) ∙ e in
         ⊎_elim
         (λ same. ⊎_elim
         (λ inside.
@@ -103,7 +103,7 @@ placed_lists P old new pending kept at held p own before i list e = by (is_some 
         (cases_eq i at)
 
 -- an item of the body and its list, and the list behind it
-pub record Leaving (f : Func) (lists : Lists) (x : ℕ) (behind : List ℕ) : Type 0 where
+pub record Leaving (f : Func) (lists : PlaceLists) (x : ℕ) (behind : List ℕ) : Type 0 where
   pub inside : x < length f.items
   pub marked : is_some (get_or lists x None) ≡ true
   pub is : behind ≡ list_after (item_of f x).op (list_at lists x)
@@ -113,7 +113,7 @@ listed None e = absurd (false≢true e)
 listed (Some held) e = refl
 
 -- the list that is given to the place where it goes on is the one that is held there
-pub leaves_true : (f : Func) (lists : Lists) (x j : ℕ) (behind : List ℕ) → Leaving f lists x behind → AreTrueLists f lists → GoesOn f x j
+pub leaves_true : (f : Func) (lists : PlaceLists) (x j : ℕ) (behind : List ℕ) → Leaving f lists x behind → AreTrueLists f lists → IsPathStep f x j
     → (g : Func) → bare_func f ≡ bare_func g → HasRightLists g → behind ≡ held_list_at g j
 leaves_true f lists x j behind leaving all goes g same right =
     let here : list_at lists x ≡ held_list_at g x = all g same right x (list_at lists x) (listed (get_or lists x None) leaving.marked) in
@@ -122,9 +122,9 @@ leaves_true f lists x j behind leaving all goes g same right =
     ∙ held_on g right x j (goes_same f g same x j goes)
 
 -- a visit from there keeps the lists true
-pub visit_true : (f : Func) (lists old new : Lists) (pending kept : List ℕ) (x at : ℕ) (behind : List ℕ)
-    → Leaving f lists x behind → AreTrueLists f lists → GoesOn f x at ⊎ (x ≡ at) → ((i : ℕ) → is_some (get_or lists i None) ≡ true → is_some (get_or old i None) ≡ true)
-    → Placed old new pending kept at behind → AreTrueLists f old → AreTrueLists f new
+pub visit_true : (f : Func) (lists old new : PlaceLists) (pending kept : List ℕ) (x at : ℕ) (behind : List ℕ)
+    → Leaving f lists x behind → AreTrueLists f lists → IsPathStep f x at ⊎ (x ≡ at) → ((i : ℕ) → is_some (get_or lists i None) ≡ true → is_some (get_or old i None) ≡ true)
+    → IsListVisit old new pending kept at behind → AreTrueLists f old → AreTrueLists f new
 visit_true f lists old new pending kept x at behind leaving true_lists goes keeps placed before g same right =
     placed_lists (λ i list. list ≡ held_list_at g i) old new pending kept at behind placed own (before g same right)
   where
@@ -172,27 +172,27 @@ after_known config app f _ held is h = h
 
 -- ---- a turn of the loop
 
-pub placed_keeps : (old new : Lists) (pending kept : List ℕ) (at : ℕ) (held : List ℕ) → Placed old new pending kept at held
+pub placed_keeps : (old new : PlaceLists) (pending kept : List ℕ) (at : ℕ) (held : List ℕ) → IsListVisit old new pending kept at held
     → (i : ℕ) → is_some (get_or old i None) ≡ true → is_some (get_or new i None) ≡ true
 placed_keeps old new pending kept at held p i m = by (is_some (get_or old at None)) refl p
   where
     by : (b : Bool) → is_some (get_or old at None) ≡ b → MatchBool b ((new ≡ old) × (kept ≡ pending)) ((new ≡ set old at (Some held)) × (kept ≡ pending ++ at ∷ []))
         → is_some (get_or new i None) ≡ true
-    by true e w = ap (λ (x : Lists). is_some (get_or x i None)) w.0 ∙ m
-    by false e w = ap (λ (x : Lists). is_some (get_or x i None)) w.0 ∙ ⊎_elim
+    by true e w = ap (λ (x : PlaceLists). is_some (get_or x i None)) w.0 ∙ m
+    by false e w = ap (λ (x : PlaceLists). is_some (get_or x i None)) w.0 ∙ ⊎_elim
         (λ same. absurd (true≢false (sym m ∙ ap (λ (x : ℕ). is_some (get_or old x None)) same ∙ e)))
         (λ differ. ap is_some (get_or-set_other old at i (Some held) None differ) ∙ m)
         (cases_eq i at)
 
 -- what is known as item x is taken from the places that are kept
-pub record Turn (f : Func) (lists mid new : Lists) (pending rest more kept : List ℕ) (x : ℕ) (behind : List ℕ) : Type 0 where
+pub record Turn (f : Func) (lists mid new : PlaceLists) (pending rest more kept : List ℕ) (x : ℕ) (behind : List ℕ) : Type 0 where
   pub spreading : AreSpreading f lists pending
   pub taken_from : pending ≡ rest ++ x ∷ []
   pub behind_is : behind ≡ list_after (item_of f x).op (list_at lists x)
-  pub next : Placed lists mid rest more (next_of f x) behind
-  pub jump : Placed mid new more kept (jump_of f x) behind
+  pub next : IsListVisit lists mid rest more (next_of f x) behind
+  pub jump : IsListVisit mid new more kept (jump_of f x) behind
 
-pub turned : (f : Func) (lists mid new : Lists) (pending rest more kept : List ℕ) (x : ℕ) (behind : List ℕ)
+pub turned : (f : Func) (lists mid new : PlaceLists) (pending rest more kept : List ℕ) (x : ℕ) (behind : List ℕ)
     → Turn f lists mid new pending rest more kept x behind → AreSpreading f new kept
 turned f lists mid new pending rest more kept x behind t =
     let s = t.spreading in
@@ -213,13 +213,13 @@ turned f lists mid new pending rest more kept x behind t =
           (placed_lists (λ i list. All (IsResource config) list) lists mid rest more (next_of f x) behind t.next (λ _. known) (s.resources config app ops));
     }
 
-pub taken_inside : (f : Func) (lists : Lists) (pending rest : List ℕ) (x : ℕ) → pending ≡ rest ++ x ∷ []
+pub taken_inside : (f : Func) (lists : PlaceLists) (pending rest : List ℕ) (x : ℕ) → pending ≡ rest ++ x ∷ []
     → AreSpreading f lists pending → (x < length f.items) × (length lists ≡ length f.items)
 taken_inside f lists pending rest x e s =
     let o = taken f (marks lists) pending rest x e s.searching in (o.known, sym (length-map lists is_some) ∙ o.count)
 
-pub spread_begun : (f : Func) (lists new : Lists) (pending kept : List ℕ) → length lists ≡ length f.items → 0 < length f.items
-    → ((i : ℕ) → get_or lists i None ≡ None) → pending ≡ [] → Placed lists new pending kept 0 [] → AreSpreading f new kept
+pub spread_begun : (f : Func) (lists new : PlaceLists) (pending kept : List ℕ) → length lists ≡ length f.items → 0 < length f.items
+    → ((i : ℕ) → get_or lists i None ≡ None) → pending ≡ [] → IsListVisit lists new pending kept 0 [] → AreSpreading f new kept
 spread_begun f lists new pending kept count some clear none placed =
     let n = length-map lists is_some in
     let no_list : (i : ℕ) (list : List ℕ) → get_or lists i None ≡ Some list → ⊥ = λ i list e. let w : None ≡ Some list = sym (clear i) ∙ e in absurd cc in
@@ -233,7 +233,7 @@ spread_begun f lists new pending kept count some clear none placed =
     }
 
 -- where nothing is kept any more, all that is reached has its list
-pub spread_done : (f : Func) (lists : Lists) (pending : List ℕ) → length pending ≡ 0 → AreSpreading f lists pending → AreLists f lists
+pub spread_done : (f : Func) (lists : PlaceLists) (pending : List ℕ) → length pending ≡ 0 → AreSpreading f lists pending → AreLists f lists
 spread_done f lists pending none s = record {
   count = sym (length-map lists is_some) ∙ s.searching.count;
   reached = λ i l r. (ended f (marks lists) pending none s.searching i).1 r;
@@ -243,7 +243,7 @@ spread_done f lists pending none s = record {
 
 -- ---- the cost of a visit
 
-pub visit_costs : (old new : List Bool) (pending kept : List ℕ) (at : ℕ) → at < length old → Visited old new pending kept at
+pub visit_costs : (old new : List Bool) (pending kept : List ℕ) (at : ℕ) → at < length old → IsMarkVisit old new pending kept at
     → 2 * unmarked_count new + length kept ≤ 2 * unmarked_count old + length pending
 visit_costs old new pending kept at l v = by (get_or old at false) refl v
   where

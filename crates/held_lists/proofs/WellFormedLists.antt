@@ -12,7 +12,7 @@ use Rattle.sloth_base.specs.declared.refusal.Code.{Code}
 use Rattle.sloth_base.specs.declared.refusal.Code.TheVariants as code
 use Rattle.sloth_base.specs.Named.{no_function, function, label_of, item_of, no_item}
 use Rattle.code_rules.specs.Code.{is_in, held_list_at}
-use Rattle.code_rules.specs.WellFormed.{WellFormed, at_header, at_label, at_item, Differs, falling_in, Breaks, holds_other, takes_held, is_unreached, TakesHeld, fault_at_line}
+use Rattle.code_rules.specs.WellFormed.{WellFormed, at_header, at_label, at_item, HasOtherList, falling_in, IsBreach, is_other_list_jump, is_second_take, is_unreached, IsSecondTake, fault_at_line}
 use Rattle.body_faults.proofs.Tests.{leads}
 use Rattle.held_lists.specs.Filling.{AreClear, IsFilling}
 use Rattle.held_lists.specs.RightLists.{HasRightLists}
@@ -23,25 +23,25 @@ module _ (config : Config) (app : App) (whole : WellFormed config app) (clear : 
   abbrev f : Func
   f = function app b
 
-  keeps : (i : ℕ) (c : Code) → i < length f.items → ¬ (Breaks config app b i c)
+  keeps : (i : ℕ) (c : Code) → i < length f.items → ¬ (IsBreach config app b i c)
   keeps i c l breaks = whole.no_fault (fault_at_line (item_of f i).line c) (b, known, at_item i c l breaks)
 
-  agrees : (k : ℕ) → k < length f.labels → ¬ (Differs f k)
+  agrees : (k : ℕ) → k < length f.labels → ¬ (HasOtherList f k)
   agrees k l differs = whole.no_fault (fault_at_line (label_of f k).line code.V7) (b, known, at_label k l differs)
 
   some : (n : ℕ) → length f.items ≡ n → 0 < n
   some n e = ⊎_elim (λ l. l) (λ l. absurd (whole.no_fault (fault_at_line f.line code.V5) (b, known, at_header (omega (arith, e, l))))) (cases_lt 0 n)
 
-  takes : (held : List ℕ) (o : Op) (call : Call) → o ≡ op.Serve call → call.service ≡ service.GetResource → is_in call.object held ≡ true → TakesHeld app held o
-  takes held o call e s t = subst (TakesHeld app held) (sym e) (s, t)
+  takes : (held : List ℕ) (o : Op) (call : Call) → o ≡ op.Serve call → call.service ≡ service.GetResource → is_in call.object held ≡ true → IsSecondTake app held o
+  takes held o call e s t = subst (IsSecondTake app held) (sym e) (s, t)
 
   pub rightly : HasRightLists f
   rightly = record {
     some = some (length f.items) refl;
     labels = λ i l. leads config app f (item_of f i).op ((whole.in_range.bodies b no_function known).items i no_item l);
     falling = λ k l into. stable _ _ (λ differ. agrees k l (falling_in into differ));
-    turning = λ i k l w. stable _ _ (λ differ. keeps i code.V7 l (holds_other (k, w, differ)));
-    taking = λ i call l e s. false_from_ne_true _ (λ t. keeps i code.V9 l (takes_held (takes (held_list_at f i) (item_of f i).op call e s t)));
+    turning = λ i k l w. stable _ _ (λ differ. keeps i code.V7 l (is_other_list_jump (k, w, differ)));
+    taking = λ i call l e s. false_from_ne_true _ (λ t. keeps i code.V9 l (is_second_take (takes (held_list_at f i) (item_of f i).op call e s t)));
     reached = λ i l none. keeps i code.V6 l (is_unreached none);
     clear = clear b;
   }

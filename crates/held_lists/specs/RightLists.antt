@@ -7,12 +7,12 @@ use Rattle.sloth_base.specs.declared.app.Call.{Call}
 use Rattle.sloth_base.specs.Named.{item_of, label_of}
 use Rattle.code_rules.specs.Code.{way, is_in, held_list_at, is_entered, held_list_entering}
 use Rattle.code_rules.specs.WellFormed.{IsUnreached}
-use Rattle.body_faults.specs.Ways.{LeadsToLabels}
+use Rattle.body_faults.specs.Ways.{HasBodyLabel}
 use Rattle.held_lists.specs.Filling.{IsClear}
 
 -- each branch and jump leads to a label of the body
 abbrev pub HasItsLabels : Func → Type 0
-HasItsLabels f = (i : ℕ) → i < length f.items → LeadsToLabels f (item_of f i).op
+HasItsLabels f = (i : ℕ) → i < length f.items → HasBodyLabel f (item_of f i).op
 
 -- every item is reached, every way to a label has the label's list, and nothing is taken that is held
 pub record HasRightLists (f : Func) : Type 0 where

@@ -4,7 +4,7 @@ ghost use Rattle.std.specs.List.{list_any};
 ghost use Rattle.sloth_base.specs.Named.{item_of};
 ghost use Rattle.code_rules.specs.Code.{is_in};
 ghost use Rattle.held_lists.specs.RightLists.{HasItsLabels};
-ghost use Rattle.held_lists.specs.Spread.{list_behind, list_after, Placed, AreLists, AreSpreading};
+ghost use Rattle.held_lists.specs.Spread.{list_behind, list_after, IsListVisit, AreLists, AreSpreading};
 
 use body_faults::ways::{jump_of, next_of};
 use label_lists::list_at;
@@ -69,7 +69,7 @@ fn visit(
     held: &[ResId],
 ) -> Result<(), NoMemory>
     requires { at < length lists.old }
-    ensures { OnOk result (Placed lists.old lists.new pending.old.items pending.new.items at held.now) }
+    ensures { OnOk result (IsListVisit lists.old lists.new pending.old.items pending.new.items at held.now) }
 {
     if lists[at].is_some() {
         return Ok(());

@@ -30,13 +30,13 @@ use Rattle.asm_lines.specs.declared.operands.Operand.TheVariants.{Name}
 use Rattle.asm_lines.specs.declared.source_line.SourceLine.{SourceLine}
 use Rattle.asm_lines.specs.declared.source_line.SourceLine.TheVariants.{Statement}
 use Rattle.statement_forms.specs.declared.forms.Mnemonic.TheVariants as m
-use Rattle.asm_lines.specs.Faults.{is_a1, after_line, ends_inside, FaultAt, SourceFault, TextFault, source_lines}
+use Rattle.asm_lines.specs.Faults.{is_a1, after_line, is_end_inside, FaultAt, SourceFault, TextFault, source_lines}
 use Rattle.asm_scopes.specs.declared.scope.Scope.{Scope}
 use Rattle.asm_scopes.specs.declared.scope.Kind.TheVariants as kind
-use Rattle.asm_scopes.specs.Said.{is_label, name_of, written_name}
+use Rattle.asm_scopes.specs.Statements.{is_label, name_of, written_name}
 use Rattle.asm_scopes.specs.Bodies.{bodies_of}
 use Rattle.asm_scopes.specs.Scopes.{any_unknown, is_scheduler, is_lacking, kind_of, scope_of}
-use Rattle.asm_names.specs.NameFaults.{writes_long, NameFault}
+use Rattle.asm_names.specs.NameFaults.{has_long_name, NameFault}
 use Rattle.asm_items.specs.Apps.{app_of}
 use Rattle.asm_parse.specs.AppTexts.{AppText, SourceTextFault}
 use Rattle.asm_parse.proofs.Fit.{FitsName}
@@ -81,11 +81,11 @@ module _ (config : Config) (range : InRange config) where
   written_names (r ∷ held) h =
       (word_name (resource_name config r) (name_of_resource r (h 0 r (omega arith))).word, written_names held (λ k d l. h (suc k) d (omega (arith, l))))
 
-  short_names : (held : List ℕ) → All (IsResource config) held → list_any (λ x. writes_long (written_name x)) (map Name (resource_names config held)) ≡ false
+  short_names : (held : List ℕ) → All (IsResource config) held → list_any (λ x. has_long_name (written_name x)) (map Name (resource_names config held)) ≡ false
   short_names [] h = refl
   short_names (r ∷ held) h =
       let s = (name_of_resource r (h 0 r (omega arith))).short in
-      ap (λ b. b || list_any (λ x. writes_long (written_name x)) (map Name (resource_names config held))) (le-ltb name_limit (length (resource_name config r)) s)
+      ap (λ b. b || list_any (λ x. has_long_name (written_name x)) (map Name (resource_names config held))) (le-ltb name_limit (length (resource_name config r)) s)
       ∙ short_names held (λ k d l. h (suc k) d (omega (arith, l)))
 
   module _ (scope : Scope) (named : scope.resources ≡ config.resources) (schedules : scope.has_scheduler ≡ config.res_scheduler) where
@@ -131,10 +131,10 @@ module _ (config : Config) (range : InRange config) where
 
 -- ---- lines without a fault
 
-placed_from : (front ls : List SourceLine) → NoFault (SomeFrom FaultAt front ls) → AreInPlace (ends_inside front) ls
+placed_from : (front ls : List SourceLine) → NoFault (SomeFrom FaultAt front ls) → AreInPlace (is_end_inside front) ls
 placed_from front [] none = tt
 placed_from front (l ∷ ls) none = (
-  case_false Src (is_a1 (ends_inside front) l) (length front + 1) code.A1 (λ r f. none r (inl (inl f))),
+  case_false Src (is_a1 (is_end_inside front) l) (length front + 1) code.A1 (λ r f. none r (inl (inl f))),
   subst (λ (b : Bool). AreInPlace b ls) (fold-append after_line false front (l ∷ [])) (placed_from (front ++ l ∷ []) ls (λ r f. none r (inr f))),
 )
 

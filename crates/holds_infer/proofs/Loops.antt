@@ -8,7 +8,7 @@ use Rattle.sloth_base.specs.declared.config.Config.{Config}
 use Rattle.asm_lines.specs.declared.source_line.SourceLine.{SourceLine}
 use Rattle.asm_lines.specs.Lines.{line_of, without_returns}
 use Rattle.asm_lines.specs.SourceLines.{source_line}
-use Rattle.asm_scopes.specs.Said.{is_label}
+use Rattle.asm_scopes.specs.Statements.{is_label}
 use Rattle.holds_infer.specs.Relabel.{first_list, other_lists}
 use Rattle.holds_infer.specs.FilledText.{filled_part, lists_behind, filled_parts}
 

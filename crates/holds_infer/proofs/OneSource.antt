@@ -5,7 +5,7 @@ use Rattle.sloth_base.specs.declared.app.App.{App}
 use Rattle.sloth_base.specs.declared.refusal.Refusal.{Refusal}
 use Rattle.sloth_base.specs.declared.refusal.BuildError.{BuildError}
 use Rattle.sloth_base.specs.declared.refusal.BuildError.TheVariants as build
-use Rattle.sloth_source.specs.Ranked.{HasRanks, EarlyRefusal, EarlyErrorIs}
+use Rattle.sloth_source.specs.RankedTexts.{HasRanks, EarlyRefusal, EarlyErrorIs}
 use Rattle.sloth_source.proofs.RankedTexts.{never_both_ranked}
 use Rattle.sloth_source.proofs.Unique.{one_ranked}
 use Rattle.held_lists.specs.Filling.{IsFilling}

@@ -20,7 +20,7 @@ use Rattle.asm_lines.specs.declared.source_line.SourceLine.TheVariants.{Statemen
 use Rattle.statement_forms.specs.declared.forms.Mnemonic.TheVariants as m
 use Rattle.asm_lines.specs.Faults.{is_a1, after_line}
 use Rattle.asm_scopes.specs.declared.scope.Scope.{Scope}
-use Rattle.asm_scopes.specs.Said.{is_label, name_of}
+use Rattle.asm_scopes.specs.Statements.{is_label, name_of}
 use Rattle.asm_scopes.specs.Bodies.{bodies_of}
 use Rattle.asm_scopes.specs.Scopes.{scope_of, is_scheduler}
 use Rattle.asm_items.specs.Operations.{number_of, resource_number}

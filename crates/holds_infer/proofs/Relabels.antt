@@ -14,7 +14,7 @@ use Rattle.asm_lines.specs.declared.source_line.SourceLine.{SourceLine}
 use Rattle.asm_lines.specs.declared.source_line.SourceLine.TheVariants.{Empty, Shapeless, Unknown, Statement}
 use Rattle.statement_forms.specs.declared.forms.Mnemonic.TheVariants as m
 use Rattle.asm_scopes.specs.declared.scope.Scope.{Scope}
-use Rattle.asm_scopes.specs.Said.{is_data, is_label, opens_body, closes_body, first_name, name_of, number_of, label_names}
+use Rattle.asm_scopes.specs.Statements.{is_data, is_label, opens_body, closes_body, first_name, name_of, number_of, label_names}
 use Rattle.asm_scopes.specs.Bodies.{BodyText, bodies_from, bodies_of, body_name, is_called_body, function_names, called_names}
 use Rattle.asm_scopes.specs.Scopes.{scope_of}
 use Rattle.asm_items.specs.Operations.{op_of}

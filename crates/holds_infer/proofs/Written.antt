@@ -14,7 +14,7 @@ use Rattle.asm_lines.specs.Bytes.{is_shown, trim}
 use Rattle.asm_lines.specs.Table.{mnemonic_of, alu_of, imm_of, shift_of, load_of, store_of, branch_of, plain_of}
 use Rattle.asm_lines.specs.Operands.{before}
 use Rattle.asm_lines.specs.SourceLines.{source_line, statement_of, known_statement, read_operands, has_empty}
-use Rattle.asm_lines.specs.Grammar.{starts_bare, HasBareEnds, IsTrimmed, is_whole, IsOperands, is_last, is_more, is_something, IsShape}
+use Rattle.asm_lines.specs.Grammar.{has_bare_start, HasBareEnds, IsTrimmed, is_whole, IsOperands, is_last, is_more, is_something, IsShape}
 use Rattle.asm_lines.proofs.Cuts.{lacks, all_weaker}
 use Rattle.asm_lines.proofs.Shapes.{remains_made, shape_made}
 use Rattle.asm_lines.proofs.PlacesMade.{name_bare, end_on}
@@ -65,11 +65,11 @@ unfolding is_name
 some_name [] h = absurd (false≢true h)
 some_name (b ∷ n) h = omega arith
 
-ends : (a name : List ℕ) (ns : List (List ℕ)) → is_name name ≡ true → AreWritten ns → starts_bare (reverse (a ++ (name ++ more ns))) ≡ true
-ends a name [] h w = ap (λ x. starts_bare (reverse (a ++ x))) (append-nil name) ∙ end_on a name (some_name name h) (name_bare name h).end
+ends : (a name : List ℕ) (ns : List (List ℕ)) → is_name name ≡ true → AreWritten ns → has_bare_start (reverse (a ++ (name ++ more ns))) ≡ true
+ends a name [] h w = ap (λ x. has_bare_start (reverse (a ++ x))) (append-nil name) ∙ end_on a name (some_name name h) (name_bare name h).end
 ends a name (n ∷ ns) h w =
-    ap (λ x. starts_bare (reverse (a ++ x))) (sym (append_assoc name (codes ", ") (n ++ more ns)))
-    ∙ ap (λ x. starts_bare (reverse x)) (sym (append_assoc a (name ++ codes ", ") (n ++ more ns)))
+    ap (λ x. has_bare_start (reverse (a ++ x))) (sym (append_assoc name (codes ", ") (n ++ more ns)))
+    ∙ ap (λ x. has_bare_start (reverse x)) (sym (append_assoc a (name ++ codes ", ") (n ++ more ns)))
     ∙ ends (a ++ (name ++ codes ", ")) n ns w.0 w.1
 
 -- ---- the parts of a line

@@ -5,7 +5,7 @@ use Rattle.sloth_base.specs.declared.app.App.{App}
 use Rattle.sloth_base.specs.declared.refusal.BuildError.{BuildError}
 use Rattle.sloth_base.specs.declared.refusal.BuildError.TheVariants as build
 use Rattle.sloth_source.specs.Texts.{AreAccepted}
-use Rattle.sloth_source.specs.Ranked.{HasRanks, EarlyRefusal}
+use Rattle.sloth_source.specs.RankedTexts.{HasRanks, EarlyRefusal}
 use Rattle.held_lists.specs.Filling.{IsFilling}
 use Rattle.held_lists.specs.declared.inference.InferError.{InferError}
 use Rattle.held_lists.specs.declared.inference.InferError.TheVariants as infer

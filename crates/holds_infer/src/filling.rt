@@ -6,7 +6,7 @@ ghost use Rattle.least_fault.specs.Order.{NoFault};
 ghost use Rattle.asm_lines.specs.Lines.{without_returns};
 ghost use Rattle.asm_lines.specs.SourceLines.{source_line};
 ghost use Rattle.asm_lines.specs.Faults.{source_lines, TextFault};
-ghost use Rattle.asm_scopes.specs.Said.{is_label};
+ghost use Rattle.asm_scopes.specs.Statements.{is_label};
 ghost use Rattle.code_rules.specs.AppRange.{AppInRange};
 ghost use Rattle.code_rules.specs.WellFormed.{WellFormed};
 ghost use Rattle.sloth_source.specs.SourceText.{HasApp, SourceText};

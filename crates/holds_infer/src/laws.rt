@@ -8,7 +8,7 @@ ghost use Rattle.asm_items.specs.Apps.{app_of};
 ghost use Rattle.sloth_source.specs.SourceText.{HasApp, SourceText};
 ghost use Rattle.held_lists.specs.Filling.{SameButLists};
 ghost use Rattle.holds_infer.specs.Relabel.{relabeled_lines};
-ghost use Rattle.sloth_source.specs.Ranked.{EarlyRefusal};
+ghost use Rattle.sloth_source.specs.RankedTexts.{EarlyRefusal};
 ghost use Rattle.sloth_base.specs.declared.refusal.Refusal.{Refusal};
 ghost use Rattle.holds_infer.specs.FilledText.{filled_text};
 ghost use Rattle.holds_infer.specs.FilledSource.{IsFilledSource, HasNoLists};

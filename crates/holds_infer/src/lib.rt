@@ -3,7 +3,7 @@
 //! `fill_source` gives the source with the one choice of lists that keeps every rule, exact in bytes; or that no lists keep the rules; or the first
 //! refusal before them. What it gives is accepted and says that task code (`fill`, `lists_alone`, `filled_is_accepted`, `one_source`;
 //! `specs/Relabel`, `specs/FilledText`, `specs/FilledSource`). Lists that keep the rules: `held_lists` (`Filling`); the line of a label:
-//! `label_lists` (`LabelLines`); texts: `sloth_source` (`Ranked`, `Texts`).
+//! `label_lists` (`LabelLines`); texts: `sloth_source` (`RankedTexts`, `Texts`).
 #![tactic(auto)]
 
 mod filling;

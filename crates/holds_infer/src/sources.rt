@@ -2,7 +2,7 @@
 ghost use Rattle.std.specs.Prelude.{◌≡◌, ◌<◌, ℕ, List, IfOk, IfErr, length};
 ghost use Rattle.code_rules.specs.AppRange.{AppInRange};
 ghost use Rattle.call_graph.specs.Ranks.{RanksOf};
-ghost use Rattle.sloth_source.specs.Ranked.{HasRanks};
+ghost use Rattle.sloth_source.specs.RankedTexts.{HasRanks};
 ghost use Rattle.sloth_source.specs.SourceText.{HasApp};
 ghost use Rattle.holds_infer.specs.FilledSource.{IsFilledSource, FillErrorIs, fill_error, no_lists_error};
 ghost use Rattle.holds_infer.specs.declared.sources.FillError.TheVariants.{Memory as OutOfMemory};

@@ -5,8 +5,8 @@ use Rattle.std.specs.Option.{ok_or}
 use Rattle.std.specs.Bool.{then_some}
 use Rattle.image_file.specs.Limits.{header_size}
 use Rattle.image_file.specs.Parts.{Parts, PartsStand}
-use Rattle.image_file.specs.Faults.{Fails, HasMagic}
-use Rattle.image_file.specs.Reading.{HasSizes, NamesFail, NoNames, PartsFail}
+use Rattle.image_file.specs.Faults.{IsImageErrorOf, HasMagic}
+use Rattle.image_file.specs.Reading.{HasSizes, IsNamesError, NoNames, IsPartsError}
 use Rattle.image_file.specs.declared.sizes.Sizes.{Sizes}
 use Rattle.image_file.proofs.Parted.{body_of}
 use Rattle.image_file.specs.declared.fault.ImageFault.{ImageFault}
@@ -16,7 +16,7 @@ use Rattle.image_file.specs.declared.fault.FileError.TheVariants as failure
 
 -- names that are missing are a fault of the parts, where without them none stand there
 pub names_fail : (f : FileError ImageFault) (file : List ℕ) (at count place : ℕ) (s : Sizes)
-    → (NoNames file at count → (p : Parts) (rest : List ℕ) → ¬ (PartsStand file place s p rest)) → NamesFail f file at count → PartsFail f file place s
+    → (NoNames file at count → (p : Parts) (rest : List ℕ) → ¬ (PartsStand file place s p rest)) → IsNamesError f file at count → IsPartsError f file place s
 names_fail (failure.Fault fault.I1) file at count place s none h = absurd h
 names_fail (failure.Fault fault.I2) file at count place s none h = none h
 names_fail (failure.Fault fault.I3) file at count place s none h = absurd h
@@ -25,7 +25,7 @@ names_fail (failure.Fault fault.I5) file at count place s none h = absurd h
 names_fail failure.Memory file at count place s none h = h
 
 -- parts that are missing behind the header are a fault of the file
-pub parts_fail : (f : FileError ImageFault) (file : List ℕ) (s : Sizes) → HasMagic file → HasSizes file s → PartsFail f file (header_size s.counters) s → Fails f file
+pub parts_fail : (f : FileError ImageFault) (file : List ℕ) (s : Sizes) → HasMagic file → HasSizes file s → IsPartsError f file (header_size s.counters) s → IsImageErrorOf f file
 parts_fail (failure.Fault fault.I1) file s magic has h = absurd h
 parts_fail (failure.Fault fault.I2) file s magic has h = (magic, λ p rest parts. h p rest (body_of file s p rest has parts))
 parts_fail (failure.Fault fault.I3) file s magic has h = absurd h

@@ -28,13 +28,13 @@ abbrev pub NoNames : List ℕ → ℕ → ℕ → Type 0
 NoNames file at count = (names : List (List ℕ)) (rest : List ℕ) → length names ≡ count → drop at file ≢ flat_map name_bytes names ++ rest
 
 -- what an error says of so many names from this place on
-abbrev pub NamesFail : FileError ImageFault → List ℕ → ℕ → ℕ → Type 0
-NamesFail (failure.Fault fault.I1) file at count = ⊥
-NamesFail (failure.Fault fault.I2) file at count = NoNames file at count
-NamesFail (failure.Fault fault.I3) file at count = ⊥
-NamesFail (failure.Fault fault.I4) file at count = ⊥
-NamesFail (failure.Fault fault.I5) file at count = ⊥
-NamesFail failure.Memory file at count = ⊤
+abbrev pub IsNamesError : FileError ImageFault → List ℕ → ℕ → ℕ → Type 0
+IsNamesError (failure.Fault fault.I1) file at count = ⊥
+IsNamesError (failure.Fault fault.I2) file at count = NoNames file at count
+IsNamesError (failure.Fault fault.I3) file at count = ⊥
+IsNamesError (failure.Fault fault.I4) file at count = ⊥
+IsNamesError (failure.Fault fault.I5) file at count = ⊥
+IsNamesError failure.Memory file at count = ⊤
 
 -- the parts whose memory begins at `at`, with the marks behind it
 abbrev pub parts_at : List ℕ → List (List ℕ) → List (List ℕ) → List (List ℕ) → ℕ → ℕ → ℕ → Parts
@@ -54,13 +54,13 @@ pub record NamedPartsStand (file : List ℕ) (at : ℕ) (sizes : Sizes) (tasks f
   pub long : memory + sizes.memory + sizes.marks * 12 ≤ length file
 
 -- what an error says of parts of these numbers at a place: the fault, that none stand there
-abbrev pub PartsFail : FileError ImageFault → List ℕ → ℕ → Sizes → Type 0
-PartsFail (failure.Fault fault.I1) file at sizes = ⊥
-PartsFail (failure.Fault fault.I2) file at sizes = (parts : Parts) (rest : List ℕ) → ¬ (PartsStand file at sizes parts rest)
-PartsFail (failure.Fault fault.I3) file at sizes = ⊥
-PartsFail (failure.Fault fault.I4) file at sizes = ⊥
-PartsFail (failure.Fault fault.I5) file at sizes = ⊥
-PartsFail failure.Memory file at sizes = ⊤
+abbrev pub IsPartsError : FileError ImageFault → List ℕ → ℕ → Sizes → Type 0
+IsPartsError (failure.Fault fault.I1) file at sizes = ⊥
+IsPartsError (failure.Fault fault.I2) file at sizes = (parts : Parts) (rest : List ℕ) → ¬ (PartsStand file at sizes parts rest)
+IsPartsError (failure.Fault fault.I3) file at sizes = ⊥
+IsPartsError (failure.Fault fault.I4) file at sizes = ⊥
+IsPartsError (failure.Fault fault.I5) file at sizes = ⊥
+IsPartsError failure.Memory file at sizes = ⊤
 
 -- the file has all its parts: names of any bytes, memory from `at` on, and the marks behind it, as many as `count`
 pub record HasOutline (file : List ℕ) (tasks funcs counters : List (List ℕ)) (at size count : ℕ) : Type 0 where
@@ -93,13 +93,13 @@ NoMarks file at count services funcs size = (marks : List Mark) (rest : List ℕ
     → drop at file ≢ flat_map mark_bytes marks ++ rest
 
 -- what an error says of so many marks from this place on
-abbrev pub MarksFail : FileError ImageFault → List ℕ → ℕ → ℕ → ℕ → ℕ → ℕ → Type 0
-MarksFail (failure.Fault fault.I1) file at count services funcs size = ⊥
-MarksFail (failure.Fault fault.I2) file at count services funcs size = ⊥
-MarksFail (failure.Fault fault.I3) file at count services funcs size = NoMarks file at count services funcs size
-MarksFail (failure.Fault fault.I4) file at count services funcs size = ⊥
-MarksFail (failure.Fault fault.I5) file at count services funcs size = ⊥
-MarksFail failure.Memory file at count services funcs size = ⊤
+abbrev pub IsMarksError : FileError ImageFault → List ℕ → ℕ → ℕ → ℕ → ℕ → ℕ → Type 0
+IsMarksError (failure.Fault fault.I1) file at count services funcs size = ⊥
+IsMarksError (failure.Fault fault.I2) file at count services funcs size = ⊥
+IsMarksError (failure.Fault fault.I3) file at count services funcs size = NoMarks file at count services funcs size
+IsMarksError (failure.Fault fault.I4) file at count services funcs size = ⊥
+IsMarksError (failure.Fault fault.I5) file at count services funcs size = ⊥
+IsMarksError failure.Memory file at count services funcs size = ⊤
 
 -- the header does not hold the numbers of parts within the limits
 abbrev pub NoSizes : List ℕ → Type 0

@@ -1,7 +1,7 @@
 //! Marks in a file: twelve bytes each.
 ghost use Rattle.std.specs.Prelude.{◌≡◌, ◌≢◌, ◌≤◌, ◌+◌, ◌*◌, IfOk, IfErr, IfSome, IfNone, Decides, length};
 ghost use Rattle.image_file.specs.ImageText.{kind_number};
-ghost use Rattle.image_file.specs.Reading.{MarkStands, NoMark, MarksStand, MarksFail};
+ghost use Rattle.image_file.specs.Reading.{MarkStands, NoMark, MarksStand, IsMarksError};
 ghost use Rattle.sloth_base.specs.ImageRange.{AreFields, IsMark, AreAscending};
 ghost use Rattle.sloth_base.specs.declared.image.MarkKind.{MarkKind as KindOfMark};
 ghost use Rattle.sloth_base.specs.Limits.{body_limit, mark_limit};
@@ -30,7 +30,7 @@ pub fn read_marks(
     requires fits { size ≤ memory_bytes }
     ensures read { IfOk result (λ marks. MarksStand bytes.now at services funcs size marks.items) }
     ensures counted { IfOk result (λ marks. length marks.items ≡ count) }
-    ensures failed { IfErr result (λ failure. MarksFail failure bytes.now at count services funcs size) }
+    ensures failed { IfErr result (λ failure. IsMarksError failure bytes.now at count services funcs size) }
 {
     let mut marks = Vec::new(alloc);
     for i in 0..count {

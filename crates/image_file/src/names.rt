@@ -1,7 +1,7 @@
 //! Names in a file: a length byte each, and that many bytes.
 ghost use Rattle.std.specs.Prelude.{◌≡◌, ◌≢◌, ◌≤◌, ◌++◌, ◌↔◌, ℕ, List as Sequence, IfOk, IfErr, IfSome, IfNone, IsTrue, Decides, Contains, length, drop};
 ghost use Rattle.image_file.specs.ImageText.{name_bytes};
-ghost use Rattle.image_file.specs.Reading.{NamesStand, NamesFail, NameEnds};
+ghost use Rattle.image_file.specs.Reading.{NamesStand, IsNamesError, NameEnds};
 ghost use Rattle.sloth_base.specs.ImageRange.{AreNames, AreApart};
 ghost use Rattle.image_file.specs.Parts.{AreRightNames};
 
@@ -21,7 +21,7 @@ pub fn read_names(alloc: Global, bytes: &[u8], at: usize, count: usize) -> Resul
     requires { at ≤ length bytes.now }
     ensures read { IfOk result (λ read. NamesStand bytes.now at read.end read.names.items) }
     ensures counted { IfOk result (λ read. length read.names.items ≡ count) }
-    ensures failed { IfErr result (λ failure. NamesFail failure bytes.now at count) }
+    ensures failed { IfErr result (λ failure. IsNamesError failure bytes.now at count) }
 {
     let mut names = Vec::new(alloc);
     let mut end = at;

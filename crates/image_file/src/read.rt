@@ -1,9 +1,9 @@
 //! Reading an image.
 ghost use Rattle.std.specs.Prelude.{◌⊎◌, ◌≡◌, ◌≤◌, IfOk, IfErr, length};
 ghost use Rattle.image_file.specs.ImageText.{ImageText};
-ghost use Rattle.image_file.specs.Faults.{Fails, IsFirstImageFault, HasMagic};
+ghost use Rattle.image_file.specs.Faults.{IsImageErrorOf, IsFirstImageFault, HasMagic};
 ghost use Rattle.image_file.specs.Limits.{SizesFit};
-ghost use Rattle.image_file.specs.Reading.{AreLastMarks, HasOutline, HasSizes, NamedPartsStand, PartsFail};
+ghost use Rattle.image_file.specs.Reading.{AreLastMarks, HasOutline, HasSizes, NamedPartsStand, IsPartsError};
 ghost use Rattle.sloth_base.specs.declared.image.Image.{Image as ImageOf};
 ghost use Rattle.image_file.specs.declared.fault.ImageFault.{ImageFault as FaultOf};
 ghost use Rattle.image_file.specs.declared.fault.FileError.TheVariants as failed_by;
@@ -21,7 +21,7 @@ use std::alloc::Global;
 /// The image of a file, or the file's first fault.
 pub fn read_image(alloc: Global, bytes: &[u8]) -> Result<Image, ImageError>
     ensures read { IfOk result (λ image. ImageText bytes.now image) }
-    ensures failed { IfErr result (λ failure. Fails failure bytes.now) }
+    ensures failed { IfErr result (λ failure. IsImageErrorOf failure bytes.now) }
     ensures refuses_no_image { IfErr result (λ failure. (image : ImageOf) → ImageText bytes.now image → failure ≡ failed_by.Memory) }
     ensures tells_the_fault { IfErr result (λ failure. (fault : FaultOf) → IsFirstImageFault fault bytes.now →
         (failure ≡ failed_by.Fault fault) ⊎ (failure ≡ failed_by.Memory)) }
@@ -33,7 +33,7 @@ pub fn read_image(alloc: Global, bytes: &[u8]) -> Result<Image, ImageError>
 // The image, or what is wrong.
 fn read_whole(alloc: Global, bytes: &[u8]) -> Result<Image, ImageError>
     ensures read { IfOk result (λ image. ImageText bytes.now image) }
-    ensures failed { IfErr result (λ failure. Fails failure bytes.now) }
+    ensures failed { IfErr result (λ failure. IsImageErrorOf failure bytes.now) }
 {
     let outline = read_outline(alloc, bytes)?;
     read_contents(alloc, bytes, outline)
@@ -54,7 +54,7 @@ pub struct Outline {
 fn read_outline(alloc: Global, bytes: &[u8]) -> Result<Outline, ImageError>
     ensures read { IfOk result (λ outline.
         HasOutline bytes.now outline.tasks.items outline.funcs.items outline.counters.items outline.memory outline.size outline.count) }
-    ensures failed { IfErr result (λ failure. Fails failure bytes.now) }
+    ensures failed { IfErr result (λ failure. IsImageErrorOf failure bytes.now) }
 {
     if !has_magic(bytes) {
         return Err(ImageFault::I1.into());
@@ -69,7 +69,7 @@ fn read_body(alloc: Global, bytes: &[u8], sizes: &Sizes) -> Result<Outline, Imag
     requires sizes { HasSizes bytes.now sizes.now }
     ensures read { IfOk result (λ outline.
         HasOutline bytes.now outline.tasks.items outline.funcs.items outline.counters.items outline.memory outline.size outline.count) }
-    ensures failed { IfErr result (λ failure. Fails failure bytes.now) }
+    ensures failed { IfErr result (λ failure. IsImageErrorOf failure bytes.now) }
 {
     read_parts(alloc, bytes, sizes.header(), sizes)
 }
@@ -87,7 +87,7 @@ pub fn read_parts(
         NamedPartsStand bytes.now at sizes.now outline.tasks.items outline.funcs.items outline.counters.items outline.memory) }
     ensures size { IfOk result (λ outline. outline.size ≡ sizes.now.memory) }
     ensures count { IfOk result (λ outline. outline.count ≡ sizes.now.marks) }
-    ensures failed { IfErr result (λ failure. PartsFail failure bytes.now at sizes.now) }
+    ensures failed { IfErr result (λ failure. IsPartsError failure bytes.now at sizes.now) }
 {
     let tasks = read_names(alloc, bytes, at, sizes.tasks)?;
     let funcs = read_names(alloc, bytes, tasks.end, sizes.funcs)?;
@@ -113,7 +113,7 @@ fn last_marks(alloc: Global, bytes: &[u8], outline: &Outline) -> Result<Vec<Mark
     ensures read { IfOk result (λ marks.
         AreLastMarks bytes.now outline.now.tasks.items outline.now.funcs.items outline.now.counters.items
         outline.now.memory outline.now.size outline.now.count marks.items) }
-    ensures failed { IfErr result (λ failure. Fails failure bytes.now) }
+    ensures failed { IfErr result (λ failure. IsImageErrorOf failure bytes.now) }
 {
     if !are_right_names(&outline.tasks, &outline.funcs, &outline.counters) {
         return Err(ImageFault::I3.into());
@@ -141,7 +141,7 @@ fn last_marks(alloc: Global, bytes: &[u8], outline: &Outline) -> Result<Vec<Mark
 fn read_contents(alloc: Global, bytes: &[u8], outline: Outline) -> Result<Image, ImageError>
     requires { HasOutline bytes.now outline.tasks.items outline.funcs.items outline.counters.items outline.memory outline.size outline.count }
     ensures read { IfOk result (λ image. ImageText bytes.now image) }
-    ensures failed { IfErr result (λ failure. Fails failure bytes.now) }
+    ensures failed { IfErr result (λ failure. IsImageErrorOf failure bytes.now) }
 {
     let marks = last_marks(alloc, bytes, &outline)?;
     let place = outline.memory + outline.size;

@@ -30,13 +30,13 @@ use Rattle.rv32_expand.specs.InPlace.{IsItem, item_mark, mark_kind, mark_number}
 use Rattle.rv32_expand.specs.Sizes.{items_before}
 use Rattle.service_gen.specs.Block.{further_marks}
 use Rattle.block_parts.specs.Marks.{opening, back_mark}
-use Rattle.service_blocks.specs.Calls.{ServesCall}
+use Rattle.service_blocks.specs.Calls.{IsAnyServiceBlock}
 use Rattle.service_gen.specs.Schedule.{way_back}
 use Rattle.sloth_base.specs.Arithmetic.{sum32}
 use Rattle.sloth_base.specs.Blocks.{block_number, block_code, block_object}
 use Rattle.sloth_base.specs.MemoryMap.{vectors_base, boot_base, line_count}
-use Rattle.vector_gen.specs.Boot.{Boots}
-use Rattle.vector_gen.specs.Idle.{Idles, idle_mark}
+use Rattle.vector_gen.specs.Boot.{IsBootCode}
+use Rattle.vector_gen.specs.Idle.{IsIdleCode, idle_mark}
 use Rattle.vector_gen.specs.Vectors.{AreJumps}
 use Rattle.mem_map.proofs.Bounds.{before_all}
 use Rattle.mem_map.proofs.Wanting.{all_places}
@@ -166,8 +166,8 @@ pub record IsMade (address : ℕ) (marks : List Mark) (Effect : List InstrKind �
 -- services that are called, and the items.
 pub record AreMade (config : Config) (app : App) (levels : Levels) (map : Map) (vectors boot idle : Block) (starts counted served own : List Block) : Type 0 where
   pub vectors_made : IsMade vectors_base [] (AreJumps line_count map.handlers) vectors
-  pub boot_made : IsMade boot_base [] (Boots config.tasks (length config.counters) levels.task levels.top map.idle) boot
-  pub idle_made : IsMade map.idle (idle_mark map.idle ∷ []) Idles idle
+  pub boot_made : IsMade boot_base [] (IsBootCode config.tasks (length config.counters) levels.task levels.top map.idle) boot
+  pub idle_made : IsMade map.idle (idle_mark map.idle ∷ []) IsIdleCode idle
   pub count : length starts ≡ length config.tasks
   pub each : Each (IsPrologue config app levels map) starts
   pub counted_long : length counted ≡ length config.counters
@@ -204,7 +204,7 @@ module _ (config : Config) (app : App) (levels : Levels) (map : Map) (may : MayG
   has_service : (func item : ℕ) (call : Call) → IsItem app func item → operation app func item ≡ op.Serve call
       → HasBlockWith all (block_address map.places call.service call.object)
       (opening (block_address map.places call.service call.object) (code_of call.service) ∷ further_marks call.service (block_address map.places call.service call.object))
-      (ServesCall config call.service call.object levels)
+      (IsAnyServiceBlock config call.service call.object levels)
   has_service func item call is e =
       let c = calls config app may.well_formed func item call is e in
       let number : ℕ = block_number call.service call.object in
@@ -216,8 +216,8 @@ module _ (config : Config) (app : App) (levels : Levels) (map : Map) (may : MayG
       let object : block_object number ≡ call.object = omega (arith, small) in
       let its : h.service ≡ call.service = same_Some h.service call.service (sym h.is ∙ ap service_of code ∙ of_code call.service) in
       let place : r.0.at ≡ block_address map.places call.service call.object = h.at in
-      let P : Service → Type 0 = λ s. ServesCall config s (block_object number) levels r.0.code in
-      let Q : ℕ → Type 0 = λ n. ServesCall config call.service n levels r.0.code in
+      let P : Service → Type 0 = λ s. IsAnyServiceBlock config s (block_object number) levels r.0.code in
+      let Q : ℕ → Type 0 = λ n. IsAnyServiceBlock config call.service n levels r.0.code in
       record {
         block = r.0;
         among = in_served r.0 r.1;

@@ -13,7 +13,7 @@ use Rattle.rv32_instr.specs.declared.block.Block.{Block}
 use Rattle.service_gen.specs.Block.{further_marks}
 use Rattle.block_parts.specs.Marks.{opening}
 use Rattle.block_parts.specs.ServiceBlock.{IsServiceBlock}
-use Rattle.service_blocks.specs.Calls.{IsCalledWith, ServesCall}
+use Rattle.service_blocks.specs.Calls.{IsCalledWith, IsAnyServiceBlock}
 use Rattle.image_gen.specs.Services.{IsService}
 
 pub some_same : (a b : Service) → Some a ≡ Some b → a ≡ b
@@ -44,7 +44,7 @@ number_back number s e = let c = code_found (block_code number) s e in omega (ar
 pub served_at : (config : Config) (levels : Levels) (map : Map) (number object : ℕ) (s : Service) (r : Result Block NoMemory) → service_of (block_code number) ≡ Some s
     → object ≡ block_object number → IsCalledWith config s (block_object number)
     → IfOk r (IsServiceBlock s object map.places.blocks (further_marks s))
-    → IfOk r (λ block. ServesCall config s object levels block.code)
+    → IfOk r (λ block. IsAnyServiceBlock config s object levels block.code)
     → IfOk r (IsService config levels map number)
 served_at config levels map number object s (Ok block) e same has is_block serves = record {
   service = s;
@@ -53,6 +53,6 @@ served_at config levels map number object s (Ok block) e same has is_block serve
   marks = is_block.marks ∙ ap (λ code. opening block.at code ∷ further_marks s block.at) (code_found (block_code number) s e);
   long = is_block.long ∙ ap option_length (sym e);
   called_with = has;
-  serves = subst (λ (o : ℕ). ServesCall config s o levels block.code) same serves;
+  serves = subst (λ (o : ℕ). IsAnyServiceBlock config s o levels block.code) same serves;
 }
 served_at config levels map number object s (Err failed) e same has is_block serves = tt

@@ -21,7 +21,7 @@ use Rattle.sloth_base.specs.declared.service.Service.{Service}
 use Rattle.sloth_base.specs.declared.service.Service.TheVariants as service
 use Rattle.sloth_region.specs.declared.extent.Extent.{Extent}
 use Rattle.sloth_region.specs.declared.map.Map.{Map}
-use Rattle.prologue_gen.specs.Places.{EntersTask, start_level, first_item, frame_at}
+use Rattle.prologue_gen.specs.Places.{IsTaskPrologue, start_level, first_item, frame_at}
 use Rattle.prologue_gen.proofs.BothKinds.{length_is}
 use Rattle.rv32_instr.specs.declared.InstrKind.{InstrKind}
 use Rattle.rv32_instr.specs.declared.block.Block.{Block}
@@ -31,7 +31,7 @@ use Rattle.rv32_expand.specs.Sizes.{items_before}
 use Rattle.expansion_parts.proofs.Counts.{expanded_some}
 use Rattle.service_gen.specs.Block.{further_marks}
 use Rattle.block_parts.specs.Marks.{opening, back_mark}
-use Rattle.service_blocks.specs.Calls.{ServesCall}
+use Rattle.service_blocks.specs.Calls.{IsAnyServiceBlock}
 use Rattle.service_gen.specs.Schedule.{way_back}
 use Rattle.masked_code.specs.Kernel.{masking}
 use Rattle.sloth_base.specs.Arithmetic.{sum32}
@@ -120,7 +120,7 @@ with_back at bytes code room long =
 
 -- the marks of a service's block: the opening, and behind it Schedule's way back
 service_marks : (config : Config) (s : Service) (object : ℕ) (levels : Levels) (code : List InstrKind) (at number : ℕ) → at + 4 * length code < 4294967296
-    → ServesCall config s object levels code → HasServiceMarks at (4 * length code) (opening at number ∷ further_marks s at)
+    → IsAnyServiceBlock config s object levels code → HasServiceMarks at (4 * length code) (opening at number ∷ further_marks s at)
 service_marks config service.Schedule object levels code at number room h =
     let again = h.runs.masks_again in
     let long = ap length again.2 ∙ length-append again.0 (masking ∷ again.1) in
@@ -134,7 +134,7 @@ same_decl d e is = cc
 
 -- a prologue has the length that was told of it
 start_long : (config : Config) (app : App) (levels : Levels) (map : Map) (t : ℕ) (code : List InstrKind) (size : ℕ) → HasBodies config app
-    → EntersTask t config app levels map code → IsPrologueLength t config app size → length code ≡ size
+    → IsTaskPrologue t config app levels map code → IsPrologueLength t config app size → length code ≡ size
 start_long config app levels map t code size bodies e is =
     let long = length_is e.decl.extended t (start_level e.decl t levels) (first_item map.places e.body) (frame_at (slice_index map.tops t) e.func.frame_words) e.func.frame_words code e.enters in
     let decl : e.decl ≡ is.decl = same_decl e.decl is.decl (sym e.is_decl ∙ is.is_decl) in

@@ -7,7 +7,7 @@ use Rattle.sloth_base.specs.Limits.{task_limit, level_count, frame_limit}
 use Rattle.sloth_region.specs.declared.map.Map.{Map}
 use Rattle.rv32_instr.specs.declared.block.Block.{Block}
 use Rattle.code_lengths.specs.Bodies.{IsBodyPlace}
-use Rattle.prologue_gen.specs.Places.{EntersTask, IsStackTop}
+use Rattle.prologue_gen.specs.Places.{IsTaskPrologue, IsStackTop}
 
 -- what the prologue of each task needs
 pub record MayStartTasks (config : Config) (app : App) (levels : Levels) (map : Map) : Type 0 where
@@ -22,7 +22,7 @@ pub record MayStartTasks (config : Config) (app : App) (levels : Levels) (map : 
 pub record IsPrologue (config : Config) (app : App) (levels : Levels) (map : Map) (t : ℕ) (block : Block) : Type 0 where
   pub at : block.at ≡ slice_index map.handlers t
   pub marks : block.marks ≡ []
-  pub enters : EntersTask t config app levels map block.code
+  pub enters : IsTaskPrologue t config app levels map block.code
 
 -- each element has the property of its place
 abbrev pub Each : {X : Type 0} → (ℕ → X → Type 0) → List X → Type 0

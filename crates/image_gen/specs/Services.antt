@@ -11,7 +11,7 @@ use Rattle.sloth_region.specs.declared.map.Map.{Map}
 use Rattle.rv32_instr.specs.declared.block.Block.{Block}
 use Rattle.service_gen.specs.Block.{further_marks}
 use Rattle.block_parts.specs.Marks.{opening}
-use Rattle.service_blocks.specs.Calls.{IsCalledWith, ServesCall}
+use Rattle.service_blocks.specs.Calls.{IsCalledWith, IsAnyServiceBlock}
 
 -- the wanted ones, the first of which has this number; a number is a place in the table of blocks
 abbrev pub wanted_services_from : ℕ → List Bool → List ℕ
@@ -37,7 +37,7 @@ pub record IsService (config : Config) (levels : Levels) (map : Map) (number : �
   pub marks : block.marks ≡ opening block.at (block_code number) ∷ further_marks service block.at
   pub long : length block.code ≡ block_length number
   pub called_with : IsCalledWith config service (block_object number)
-  pub serves : ServesCall config service (block_object number) levels block.code
+  pub serves : IsAnyServiceBlock config service (block_object number) levels block.code
 
 -- the code of the wanted ones, in the order of their numbers
 abbrev pub AreServices : Config → Levels → Map → List Bool → List Block → Type 0

@@ -2,8 +2,8 @@
 use Rattle.std.specs.Prelude.{ℕ, List, [], get_or, Option, Some, None}
 
 -- the list of each place of a body, where it has one
-abbrev pub Lists : Type 0
-Lists = List (Option (List ℕ))
+abbrev pub PlaceLists : Type 0
+PlaceLists = List (Option (List ℕ))
 
 -- a list, or the empty one
 abbrev pub list_or : Option (List ℕ) → List ℕ
@@ -11,5 +11,5 @@ list_or None = []
 list_or (Some held) = held
 
 -- the list of a place, empty where it has none
-abbrev pub list_at : Lists → ℕ → List ℕ
+abbrev pub list_at : PlaceLists → ℕ → List ℕ
 list_at lists i = list_or (get_or lists i None)

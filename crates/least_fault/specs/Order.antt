@@ -48,8 +48,8 @@ number code.T3 = 36
 number code.T4 = 37
 
 -- r stands no later than s: on an earlier line, or on the same line with no greater number
-abbrev pub Precedes : Refusal → Refusal → Type 0
-Precedes r s = (r.line < s.line) ⊎ ((r.line ≡ s.line) × (number r.code ≤ number s.code))
+abbrev pub IsNoLater : Refusal → Refusal → Type 0
+IsNoLater r s = (r.line < s.line) ⊎ ((r.line ≡ s.line) × (number r.code ≤ number s.code))
 
 -- the same as a test
 abbrev pub is_before : Refusal → Refusal → Bool
@@ -58,7 +58,7 @@ is_before r s = nat_lt r.line s.line || ((r.line == s.line) && nat_le (number r.
 -- r is one of the faults, and none of them stands before it
 pub record IsLeast (Fault : Refusal → Type 0) (r : Refusal) : Type 0 where
   pub is_fault : Fault r
-  pub is_least : (s : Refusal) → Fault s → Precedes r s
+  pub is_least : (s : Refusal) → Fault s → IsNoLater r s
 
 -- there is none of these faults
 abbrev pub NoFault : (Refusal → Type 0) → Type 0

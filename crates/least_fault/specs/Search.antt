@@ -14,13 +14,13 @@ merge o None = o
 merge o (Some r) = Some (lesser o r)
 
 -- a refusal where a test says so
-abbrev pub when : Bool → Refusal → Option Refusal
-when b r = if b then Some r else None
+abbrev pub fault_if : Bool → Refusal → Option Refusal
+fault_if b r = if b then Some r else None
 
 -- A search for the faults F answers the least of them, or none where there is none.
-abbrev pub Finds : (Refusal → Type 0) → Option Refusal → Type 0
-Finds F None = NoFault F
-Finds F (Some r) = IsLeast F r
+abbrev pub IsSearchResult : (Refusal → Type 0) → Option Refusal → Type 0
+IsSearchResult F None = NoFault F
+IsSearchResult F (Some r) = IsLeast F r
 
 -- P holds of an element of xs, with the elements of front and of xs before it.
 abbrev pub SomeFrom : {X : Type 0} → (List X → X → Refusal → Type 0) → List X → List X → Refusal → Type 0

@@ -1,13 +1,13 @@
 //! Which refusal is answered where a text has several faults: the one of the least line, and on that line of the least number. A rule says its faults
 //! as a set of refusals, finds the least of them, and the findings of rules are merged.
 //!
-//! Searches that are merged find the least fault of all (`merge`, `lesser`, `when`). Defined here: the order of refusals (`specs/Order`), and what a
+//! Searches that are merged find the least fault of all (`merge`, `lesser`, `fault_if`). Defined here: the order of refusals (`specs/Order`), and what a
 //! search has found (`specs/Search`).
 #![tactic(auto)]
 
 ghost use Rattle.std.specs.Prelude.{◌≡◌};
 ghost use Rattle.least_fault.specs.Order.{is_before};
-ghost use Rattle.least_fault.specs.Search.{lesser, merge, when};
+ghost use Rattle.least_fault.specs.Search.{lesser, merge, fault_if};
 
 use sloth_base::refusal::{Code, Part, Refusal};
 
@@ -41,8 +41,8 @@ pub fn merge(first: Option<Refusal>, second: Option<Refusal>) -> Option<Refusal>
 }
 
 /// A refusal where a test says so.
-pub fn when(test: bool, part: Part, line: u32, code: Code) -> Option<Refusal>
-    ensures { result ≡ when test (record { part = part; line = line; code = code }) }
+pub fn fault_if(test: bool, part: Part, line: u32, code: Code) -> Option<Refusal>
+    ensures { result ≡ fault_if test (record { part = part; line = line; code = code }) }
 {
     test.then_some(Refusal { part, line, code })
 }

@@ -10,8 +10,8 @@
 pub mod laws;
 mod lines;
 pub mod piece_rows;
+mod piece_starts;
 mod rows;
-mod starts;
 mod text;
 
 pub use crate::piece_rows::{Kind, Row};

@@ -4,7 +4,7 @@ ghost use Rattle.map_text.specs.Rows.{has_basic, map_rows, own_rows, row_of, sha
 ghost use Rattle.map_text.specs.Listable.{IsListable};
 
 use crate::piece_rows::{Kind, Row, rows_between};
-use crate::starts::{DATA, STACKS, behind, extent_at, starts};
+use crate::piece_starts::{DATA, STACKS, behind, extent_at, starts};
 use sloth_base::config::{Config, TaskDecl};
 use sloth_region::extent::Extent;
 use sloth_region::map::Map;

@@ -9,8 +9,8 @@ use Rattle.sloth_region.specs.Layout.{cur, below_word, context_bytes, context_le
 use Rattle.rv32_instr.specs.declared.InstrKind.TheVariants.{Mret}
 use Rattle.rv32_instr.specs.Ram.{word_at, with_word}
 use Rattle.masked_code.proofs.Owes.{◌▸◌, writes, loads, stores, accesses, Owes}
-use Rattle.masked_code.specs.Kernel.{HoldBases, IsBelow, idle_loop_test, leaving_code}
-use Rattle.masked_code.proofs.Resumption.{HasLeft}
+use Rattle.masked_code.specs.Kernel.{HasBases, IsBelow, idle_loop_test, leaving_code}
+use Rattle.masked_code.proofs.Resumption.{IsResumedState}
 use Rattle.masked_code.specs.Pieces.{restoring_code}
 use Rattle.masked_code.proofs.RegisterCode.{restored_registers}
 use Rattle.masked_code.proofs.Words.{word_at-other}
@@ -60,9 +60,9 @@ module _ (from to : ℕ) (E : List ℕ → State → State → Type 0) (start : 
       word_at-other ram1 below_word v12 (place + k) (inr (omega arith)) ∙ word_at-other c.ram cur v8 (place + k) (inr (omega arith))
 
   -- behind `mret`, with these registers
-  gone : (registers : List ℕ) → length registers ≡ 32 → get_or registers 0 0 ≡ 0 → get_or registers 2 0 ≡ memory_base + (place + context_bytes) → HoldBases registers
+  gone : (registers : List ℕ) → length registers ≡ 32 → get_or registers 0 0 ≡ 0 → get_or registers 2 0 ≡ memory_base + (place + context_bytes) → HasBases registers
       → (v8 ≢ 0 → (i : ℕ) → 5 ≤ i → i < 32 → get_or registers i 0 ≡ word_at c.ram (place + 4 * i))
-      → HasLeft place c (record { pc = v0 - v0 % 4; core = record d { registers = registers; ilevel = v4 % 256; mie = c.mpie; mpie = true } })
+      → IsResumedState place c (record { pc = v0 - v0 % 4; core = record d { registers = registers; ilevel = v4 % 256; mie = c.mpie; mpie = true } })
   gone registers all first sp bases loaded =
       let returns = b.returns in
       let level = b.level in
@@ -88,7 +88,7 @@ module _ (from to : ℕ) (E : List ℕ → State → State → Type 0) (start : 
       }
 
   -- the registers are restored where a task runs below
-  asked_owe : (o : ℕ) → o ≤ 0x20_1000 → ((end : State) → HasLeft place c end → E [] start end)
+  asked_owe : (o : ℕ) → o ≤ 0x20_1000 → ((end : State) → IsResumedState place c end → E [] start end)
       → Owes from to o (idle_loop_test ++ (restoring_code 27 5 1 ++ Mret ∷ [])) 0 E start d
   asked_owe o small go =
       let al = b.aligned in
@@ -106,7 +106,7 @@ module _ (from to : ℕ) (E : List ℕ → State → State → Type 0) (start : 
       }
 
   -- what is owed of going back: of the state that it ends in, whatever runs below
-  pub leave_owes : (o : ℕ) → o ≤ memory_bytes → ((end : State) → HasLeft place c end → E [] start end)
+  pub leave_owes : (o : ℕ) → o ≤ memory_bytes → ((end : State) → IsResumedState place c end → E [] start end)
       → Owes from to o leaving_code 0 E start (record c { registers = 0 ∷ x1 ∷ x2 ∷ controller_base ∷ memory_base ∷ x5 ∷ tail })
   leave_owes o small go =
       let al = b.aligned in

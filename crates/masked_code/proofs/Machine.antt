@@ -12,7 +12,7 @@ use Rattle.rv32_instr.specs.Table.{Decode}
 use Rattle.rv32_instr.specs.Ram.{word_at, with_word}
 use Rattle.rv32_instr.specs.Memory.{in_ram, in_controller, memory_of, with_memory, refusal, loaded_number, stored_memory}
 use Rattle.rv32_instr.specs.Effect.{effect}
-use Rattle.rv32_instr.specs.Execute.{Going, step, execute, perform, touched, touched_line_by, goes_on, jumps}
+use Rattle.rv32_instr.specs.Execute.{Going, step, execute, perform, touched, touched_line_by, next_behind, next_at_target}
 use Rattle.masked_code.specs.Place.{offset_state}
 
 -- an instruction stands at an offset
@@ -46,13 +46,13 @@ touched_at o c kind h =
     rw (e, h)
 
 -- the instruction behind it is next
-pub next_at : (o : ℕ) (c : Core) → o + 4 ≤ memory_bytes → goes_on (memory_base + o) c ≡ Going (offset_state (o + 4) c)
+pub next_at : (o : ℕ) (c : Core) → o + 4 ≤ memory_bytes → next_behind (memory_base + o) c ≡ Going (offset_state (o + 4) c)
 next_at o c h =
     let e : (memory_base + o + 4) % 4294967296 ≡ memory_base + (o + 4) = omega arith in
     ap (λ p. Going (record { pc = p; core = c })) e
 
 -- the instruction at the target is next
-pub jump_at : (o : ℕ) (c : Core) → o % 4 ≡ 0 → jumps (memory_base + o) c ≡ Going (offset_state o c)
+pub jump_at : (o : ℕ) (c : Core) → o % 4 ≡ 0 → next_at_target (memory_base + o) c ≡ Going (offset_state o c)
 jump_at o c al =
     let g : (memory_base + o) % 4 ≡ 0 = omega arith in
     rw (eq-eqb ((memory_base + o) % 4) 0 g)

@@ -13,7 +13,7 @@ use Rattle.rv32_instr.specs.declared.effect.Change.TheVariants.{Keep, Replace, S
 use Rattle.rv32_instr.specs.declared.effect.Effect.TheVariants.{Load, Store}
 use Rattle.rv32_instr.specs.Ram.{word_at, with_word}
 use Rattle.rv32_instr.specs.Memory.{memory_of, with_memory, refusal, loaded_number, stored_memory}
-use Rattle.rv32_instr.specs.Execute.{perform, touched_line_by, pending_line, goes_on, unless_refused, with_register, with_csr, changed_core}
+use Rattle.rv32_instr.specs.Execute.{perform, touched_line_by, pending_line, next_behind, unless_refused, with_register, with_csr, changed_core}
 use Rattle.masked_code.proofs.Owes.{IsWordAt, Pending, Enabled, Level, IsAt}
 use Rattle.masked_code.proofs.Machine.{word_allowed, word_loaded, word_stored, byte_allowed, store_allowed, pending_loaded, enabled_loaded, level_loaded, pending_stored, enabled_stored, level_stored}
 
@@ -33,18 +33,18 @@ no_line a h = ap (λ b. cond b (Some (a - controller_base)) None) (and_right _ _
 -- ---- words of RAM
 
 -- loads and stores of words of RAM
-pub load_word : (c : Core) (rd address place word pc : ℕ) → IsWordAt address place → perform (Load width.Word rd address) word pc c ≡ goes_on pc (with_register c rd (word_at c.ram place))
+pub load_word : (c : Core) (rd address place word pc : ℕ) → IsWordAt address place → perform (Load width.Word rd address) word pc c ≡ next_behind pc (with_register c rd (word_at c.ram place))
 unfolding perform
 load_word c rd address place word pc w =
-    ap (λ x. unless_refused (refusal (memory_of c) x width.Word) x (goes_on pc (with_register c rd (loaded_number (memory_of c) x width.Word)))) w.is
+    ap (λ x. unless_refused (refusal (memory_of c) x width.Word) x (next_behind pc (with_register c rd (loaded_number (memory_of c) x width.Word)))) w.is
     ∙ rw (word_allowed c place w.aligned w.inside, word_loaded c place)
 
-pub store_word : (c : Core) (address place v word pc : ℕ) → IsWordAt address place → perform (Store width.Word address v) word pc c ≡ goes_on pc (record c { ram = with_word c.ram place v })
+pub store_word : (c : Core) (address place v word pc : ℕ) → IsWordAt address place → perform (Store width.Word address v) word pc c ≡ next_behind pc (record c { ram = with_word c.ram place v })
 unfolding perform
 store_word c address place v word pc w =
-    ap (λ x. unless_refused (refusal (memory_of c) x width.Word) x (goes_on pc (with_memory c (stored_memory (memory_of c) x width.Word v)))) w.is
+    ap (λ x. unless_refused (refusal (memory_of c) x width.Word) x (next_behind pc (with_memory c (stored_memory (memory_of c) x width.Word v)))) w.is
     ∙ (rw (word_allowed c place w.aligned w.inside))
-    ∙ ap (goes_on pc) (word_stored c place v)
+    ∙ ap (next_behind pc) (word_stored c place v)
 
 both_none : (b : Bool) → ◌≡◌ {A = Option ℕ} (cond b None None) None
 both_none true = refl
@@ -63,27 +63,27 @@ store_word_quiet address place v w =
 
 -- ---- bytes of the controller
 
-load_byte : (c : Core) (rd address k word pc : ℕ) → c.controller ≡ true → address ≡ controller_base + k → k < controller_bytes → perform (Load width.ByteU rd address) word pc c ≡ goes_on pc (with_register c rd (loaded_number (memory_of c) (controller_base + k) width.ByteU))
+load_byte : (c : Core) (rd address k word pc : ℕ) → c.controller ≡ true → address ≡ controller_base + k → k < controller_bytes → perform (Load width.ByteU rd address) word pc c ≡ next_behind pc (with_register c rd (loaded_number (memory_of c) (controller_base + k) width.ByteU))
 unfolding perform
 load_byte c rd address k word pc there e h =
-    ap (λ x. unless_refused (refusal (memory_of c) x width.ByteU) x (goes_on pc (with_register c rd (loaded_number (memory_of c) x width.ByteU)))) e
+    ap (λ x. unless_refused (refusal (memory_of c) x width.ByteU) x (next_behind pc (with_register c rd (loaded_number (memory_of c) x width.ByteU)))) e
     ∙ rw (byte_allowed c k there h)
 
 -- loads of a line's bytes
-pub load_pending : (c : Core) (rd address l word pc : ℕ) → c.controller ≡ true → IsAt address (Pending l) → perform (Load width.ByteU rd address) word pc c ≡ goes_on pc (with_register c rd (get_or c.pending l 0))
+pub load_pending : (c : Core) (rd address l word pc : ℕ) → c.controller ≡ true → IsAt address (Pending l) → perform (Load width.ByteU rd address) word pc c ≡ next_behind pc (with_register c rd (get_or c.pending l 0))
 load_pending c rd address l word pc there i =
     let below = i.1 in
-    load_byte c rd address l word pc there i.0 (omega arith) ∙ ap (λ v. goes_on pc (with_register c rd v)) (pending_loaded c l below)
+    load_byte c rd address l word pc there i.0 (omega arith) ∙ ap (λ v. next_behind pc (with_register c rd v)) (pending_loaded c l below)
 
-pub load_enabled : (c : Core) (rd address l word pc : ℕ) → c.controller ≡ true → IsAt address (Enabled l) → perform (Load width.ByteU rd address) word pc c ≡ goes_on pc (with_register c rd (get_or c.enabled l 0))
+pub load_enabled : (c : Core) (rd address l word pc : ℕ) → c.controller ≡ true → IsAt address (Enabled l) → perform (Load width.ByteU rd address) word pc c ≡ next_behind pc (with_register c rd (get_or c.enabled l 0))
 load_enabled c rd address l word pc there i =
     let below = i.1 in
-    load_byte c rd address (32 + l) word pc there i.0 (omega arith) ∙ ap (λ v. goes_on pc (with_register c rd v)) (enabled_loaded c l below)
+    load_byte c rd address (32 + l) word pc there i.0 (omega arith) ∙ ap (λ v. next_behind pc (with_register c rd v)) (enabled_loaded c l below)
 
-pub load_level : (c : Core) (rd address l word pc : ℕ) → c.controller ≡ true → IsAt address (Level l) → perform (Load width.ByteU rd address) word pc c ≡ goes_on pc (with_register c rd (get_or c.levels l 0))
+pub load_level : (c : Core) (rd address l word pc : ℕ) → c.controller ≡ true → IsAt address (Level l) → perform (Load width.ByteU rd address) word pc c ≡ next_behind pc (with_register c rd (get_or c.levels l 0))
 load_level c rd address l word pc there i =
     let below = i.1 in
-    load_byte c rd address (64 + l) word pc there i.0 (omega arith) ∙ ap (λ v. goes_on pc (with_register c rd v)) (level_loaded c l below)
+    load_byte c rd address (64 + l) word pc there i.0 (omega arith) ∙ ap (λ v. next_behind pc (with_register c rd v)) (level_loaded c l below)
 
 -- a load of a pending byte touches its line
 pub load_touches : (rd address l : ℕ) → IsAt address (Pending l) → touched_line_by (Load width.ByteU rd address) ≡ Some l
@@ -95,27 +95,27 @@ pub load_quiet : (rd address : ℕ) → controller_base + line_count ≤ address
 unfolding touched_line_by
 load_quiet rd address h = no_line address h
 
-store_byte : (c : Core) (address k v word pc : ℕ) → c.controller ≡ true → address ≡ controller_base + k → k < controller_bytes → perform (Store width.Byte address v) word pc c ≡ goes_on pc (with_memory c (stored_memory (memory_of c) (controller_base + k) width.Byte v))
+store_byte : (c : Core) (address k v word pc : ℕ) → c.controller ≡ true → address ≡ controller_base + k → k < controller_bytes → perform (Store width.Byte address v) word pc c ≡ next_behind pc (with_memory c (stored_memory (memory_of c) (controller_base + k) width.Byte v))
 unfolding perform
 store_byte c address k v word pc there e h =
-    ap (λ x. unless_refused (refusal (memory_of c) x width.Byte) x (goes_on pc (with_memory c (stored_memory (memory_of c) x width.Byte v)))) e
+    ap (λ x. unless_refused (refusal (memory_of c) x width.Byte) x (next_behind pc (with_memory c (stored_memory (memory_of c) x width.Byte v)))) e
     ∙ rw (store_allowed c k there h)
 
 -- stores to a line's bytes
-pub store_pending : (c : Core) (address l v word pc : ℕ) → c.controller ≡ true → IsAt address (Pending l) → perform (Store width.Byte address v) word pc c ≡ goes_on pc (record c { pending = set c.pending l (flag_of (v % 256)) })
+pub store_pending : (c : Core) (address l v word pc : ℕ) → c.controller ≡ true → IsAt address (Pending l) → perform (Store width.Byte address v) word pc c ≡ next_behind pc (record c { pending = set c.pending l (flag_of (v % 256)) })
 store_pending c address l v word pc there i =
     let below = i.1 in
-    store_byte c address l v word pc there i.0 (omega arith) ∙ ap (goes_on pc) (pending_stored c l v below)
+    store_byte c address l v word pc there i.0 (omega arith) ∙ ap (next_behind pc) (pending_stored c l v below)
 
-pub store_enabled : (c : Core) (address l v word pc : ℕ) → c.controller ≡ true → IsAt address (Enabled l) → perform (Store width.Byte address v) word pc c ≡ goes_on pc (record c { enabled = set c.enabled l (flag_of (v % 256)) })
+pub store_enabled : (c : Core) (address l v word pc : ℕ) → c.controller ≡ true → IsAt address (Enabled l) → perform (Store width.Byte address v) word pc c ≡ next_behind pc (record c { enabled = set c.enabled l (flag_of (v % 256)) })
 store_enabled c address l v word pc there i =
     let below = i.1 in
-    store_byte c address (32 + l) v word pc there i.0 (omega arith) ∙ ap (goes_on pc) (enabled_stored c l v below)
+    store_byte c address (32 + l) v word pc there i.0 (omega arith) ∙ ap (next_behind pc) (enabled_stored c l v below)
 
-pub store_level : (c : Core) (address l v word pc : ℕ) → c.controller ≡ true → IsAt address (Level l) → perform (Store width.Byte address v) word pc c ≡ goes_on pc (record c { levels = set c.levels l (v % 256) })
+pub store_level : (c : Core) (address l v word pc : ℕ) → c.controller ≡ true → IsAt address (Level l) → perform (Store width.Byte address v) word pc c ≡ next_behind pc (record c { levels = set c.levels l (v % 256) })
 store_level c address l v word pc there i =
     let below = i.1 in
-    store_byte c address (64 + l) v word pc there i.0 (omega arith) ∙ ap (goes_on pc) (level_stored c l v below)
+    store_byte c address (64 + l) v word pc there i.0 (omega arith) ∙ ap (next_behind pc) (level_stored c l v below)
 
 -- a store of 0 to a pending byte touches its line
 pub store_touches : (address l v : ℕ) → IsAt address (Pending l) → v % 256 ≡ 0 → touched_line_by (Store width.Byte address v) ≡ Some l

@@ -11,7 +11,7 @@ use Rattle.rv32_instr.specs.Table.{Decode}
 use Rattle.rv32_instr.proofs.Table.{decode_encode}
 use Rattle.sloth_base.specs.Arithmetic.{plus}
 use Rattle.sloth_base.specs.MemoryMap.{memory_base, memory_bytes, line_count}
-use Rattle.rv32_instr.specs.Execute.{Going, step, touched, touched_line_by, jumps, perform, mstatus_of, with_csr, goes_on}
+use Rattle.rv32_instr.specs.Execute.{Going, step, touched, touched_line_by, next_at_target, perform, mstatus_of, with_csr, next_behind}
 use Rattle.masked_code.specs.Trace.{Trace, touched_lines, early_arrivals, late_arrivals}
 use Rattle.masked_code.specs.Masked.{OnGoing, Masked, WithArrivals, FromOpening}
 use Rattle.masked_code.specs.Place.{offset_state, InPlace, AreWritten}
@@ -60,7 +60,7 @@ mask_bits false false c = refl
 -- `csrrci x0, mstatus, 8` makes MIE 0 and changes nothing else
 pub masks : (o : ℕ) (c : Core) (code : List InstrKind) → o + 4 ≤ memory_bytes → InPlace c.ram o (masking ∷ code) → step (offset_state o c) ≡ Going (offset_state (o + 4) (record c { mie = false }))
 unfolding perform
-masks o c code h p = step_at o c masking (p.0, h) ∙ ap (goes_on (memory_base + o)) (mask_bits c.mie c.mpie c) ∙ next_at o (record c { mie = false }) h
+masks o c code h p = step_at o c masking (p.0, h) ∙ ap (next_behind (memory_base + o)) (mask_bits c.mie c.mpie c) ∙ next_at o (record c { mie = false }) h
 
 -- what holds of the state as a service is called
 pub record IsOpened (o : ℕ) (code : List InstrKind) (c : Core) : Type 0 where
@@ -102,7 +102,7 @@ jumps_in v o n imm code c E start fit p there e le h =
     let al = e.aligned in
     masked_step n (offset_state v c) (WithArrivals E start) e.masked (λ a.
     let d = core_arrive a c in
-    let s : step (offset_state v d) ≡ Going (offset_state o d) = step_at v d (Jal 0 imm) (p.0, fit) ∙ ap (λ x. jumps x d) there ∙ jump_at o d al in
+    let s : step (offset_state v d) ≡ Going (offset_state o d) = step_at v d (Jal 0 imm) (p.0, fit) ∙ ap (λ x. next_at_target x d) there ∙ jump_at o d al in
     let t : touched (offset_state v d) ≡ None = touched_at v d (Jal 0 imm) p.0 in
     subst (λ x. OnGoing x (λ next. Masked n next (λ trace end. WithArrivals E start ((a, touched (offset_state v d)) ∷ trace) end))) (sym s)
     (subst (λ k. Masked n (offset_state o d) (λ trace end. WithArrivals E start ((a, k) ∷ trace) end)) (sym t)

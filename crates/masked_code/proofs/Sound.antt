@@ -14,7 +14,7 @@ use Rattle.rv32_instr.specs.Encode.{Encode}
 use Rattle.rv32_instr.specs.Table.{Decode}
 use Rattle.rv32_instr.specs.Ram.{with_word}
 use Rattle.rv32_instr.specs.Effect.{effect}
-use Rattle.rv32_instr.specs.Execute.{Next, Going, step, touched, perform, touched_line_by, goes_on, jumps, with_register, changed_core, csr_access}
+use Rattle.rv32_instr.specs.Execute.{Next, Going, step, touched, perform, touched_line_by, next_behind, next_at_target, with_register, changed_core, csr_access}
 use Rattle.masked_code.specs.Trace.{Trace, touched_lines}
 use Rattle.masked_code.specs.Masked.{OnGoing, Masked}
 use Rattle.masked_code.specs.Place.{offset_state, InPlace}
@@ -95,11 +95,11 @@ module _ (from to : ℕ) (ram : List ℕ) (inside : to ≤ memory_bytes) where
         subst (λ y. OnGoing y (λ next. Masked n next (λ trace end. Ended E start w ((a, t) ∷ trace) end))) (sym e)
         (subst (λ y. Masked n (offset_state u (core_arrive (w ++ a) d)) (λ trace end. Ended E start w ((a, y) ∷ trace) end)) (sym f) (rest skip u d (w ++ a) E start few eu i h))
 
-    quiet : longest code 0 ≤ n → (d : Core) (x : Next) (t : Option ℕ) → x ≡ goes_on (memory_base + o) (core_arrive (w ++ a) d) → t ≡ None → Inside d → Owes from to (o + 4) code 0 E start d → OnGoing x (λ next. Masked n next (λ trace end. Ended E start w ((a, t) ∷ trace) end))
+    quiet : longest code 0 ≤ n → (d : Core) (x : Next) (t : Option ℕ) → x ≡ next_behind (memory_base + o) (core_arrive (w ++ a) d) → t ≡ None → Inside d → Owes from to (o + 4) code 0 E start d → OnGoing x (λ next. Masked n next (λ trace end. Ended E start w ((a, t) ∷ trace) end))
     quiet few d x t e f i h = onward 0 (o + 4) d x t few (omega arith) (e ∙ next_at o (core_arrive (w ++ a) d) (omega arith)) f i h
 
     -- an instruction that touches a line
-    touch : longest code 0 ≤ n → (l : ℕ) (d : Core) (x : Next) (t : Option ℕ) → x ≡ goes_on (memory_base + o) (core_arrive (not_line l (w ++ a)) d) → t ≡ Some l → Inside d → Owes from to (o + 4) code 0 (λ touched. E (l ∷ touched)) (state_arrive (of_line l (w ++ a)) start) d → OnGoing x (λ next. Masked n next (λ trace end. Ended E start w ((a, t) ∷ trace) end))
+    touch : longest code 0 ≤ n → (l : ℕ) (d : Core) (x : Next) (t : Option ℕ) → x ≡ next_behind (memory_base + o) (core_arrive (not_line l (w ++ a)) d) → t ≡ Some l → Inside d → Owes from to (o + 4) code 0 (λ touched. E (l ∷ touched)) (state_arrive (of_line l (w ++ a)) start) d → OnGoing x (λ next. Masked n next (λ trace end. Ended E start w ((a, t) ∷ trace) end))
     touch few l d x t e f i h =
         subst (λ y. OnGoing y (λ next. Masked n next (λ trace end. Ended E start w ((a, t) ∷ trace) end))) (sym (e ∙ next_at o (core_arrive (not_line l (w ++ a)) d) (omega arith)))
         (subst (λ y. Masked n (offset_state (o + 4) (core_arrive (not_line l (w ++ a)) d)) (λ trace end. Ended E start w ((a, y) ∷ trace) end)) (sym f)
@@ -112,11 +112,11 @@ module _ (from to : ℕ) (ram : List ℕ) (inside : to ≤ memory_bytes) where
     one (Write rd value) word c few i (◌▸◌ {named} said h) =
         let pc = memory_base + o in
         let now = core_arrive (w ++ a) c in
-        quiet few (with_register c rd named) _ None (ap (λ v. goes_on pc (with_register now rd v)) said.is ∙ ap (goes_on pc) (with_register-arrive c rd named (w ++ a))) refl (with_register_inside c rd named i) h
+        quiet few (with_register c rd named) _ None (ap (λ v. next_behind pc (with_register now rd v)) said.is ∙ ap (next_behind pc) (with_register-arrive c rd named (w ++ a))) refl (with_register_inside c rd named i) h
     one (Branch true target) word c few i h =
         let u = o + 4 + 4 * h.passed in
         let now = core_arrive (w ++ a) c in
-        onward h.passed u c _ None (few.1 h.passed h.lands) refl (ap (λ y. jumps y now) h.lands ∙ jump_at u now (omega arith)) refl i (h.when_taken refl)
+        onward h.passed u c _ None (few.1 h.passed h.lands) refl (ap (λ y. next_at_target y now) h.lands ∙ jump_at u now (omega arith)) refl i (h.when_taken refl)
     one (Branch false target) word c few i h = quiet few.0 c _ None refl refl i (h.when_not (λ e. absurd (cc)))
     one (Jump rd target) word c few i (◌▸◌ {named} said h) =
         let u = o + 4 + 4 * h.passed in
@@ -124,13 +124,13 @@ module _ (from to : ℕ) (ram : List ℕ) (inside : to ≤ memory_bytes) where
         let next = with_register c rd named in
         onward h.passed u next _ None (few h.passed h.lands)
         refl
-        (ap (λ v. jumps target (with_register now rd v)) said.is ∙ ap (jumps target) (with_register-arrive c rd named (w ++ a))
-        ∙ ap (λ y. jumps y (core_arrive (w ++ a) next)) h.lands ∙ jump_at u (core_arrive (w ++ a) next) (omega arith))
+        (ap (λ v. next_at_target target (with_register now rd v)) said.is ∙ ap (next_at_target target) (with_register-arrive c rd named (w ++ a))
+        ∙ ap (λ y. next_at_target y (core_arrive (w ++ a) next)) h.lands ∙ jump_at u (core_arrive (w ++ a) next) (omega arith))
         refl (with_register_inside c rd named i) h.goes_on
     one (Load width.Word rd address) word c few i (◌▸◌ {named} said h) =
         let pc = memory_base + o in
         let now = core_arrive (w ++ a) c in
-        quiet few (with_register c rd named) _ _ (load_word now rd address said.place word pc said.there ∙ ap (λ v. goes_on pc (with_register now rd v)) said.is ∙ ap (goes_on pc) (with_register-arrive c rd named (w ++ a))) (load_word_quiet rd address said.place said.there) (with_register_inside c rd named i) h
+        quiet few (with_register c rd named) _ _ (load_word now rd address said.place word pc said.there ∙ ap (λ v. next_behind pc (with_register now rd v)) said.is ∙ ap (next_behind pc) (with_register-arrive c rd named (w ++ a))) (load_word_quiet rd address said.place said.there) (with_register_inside c rd named i) h
     one (Load width.ByteU rd address) word c few i (◌▸◌ {named = Pending l} said h) =
         let place = said.there in
         let pc = memory_base + o in
@@ -140,21 +140,21 @@ module _ (from to : ℕ) (ram : List ℕ) (inside : to ≤ memory_bytes) where
         let v = get_or own.pending l 0 in
         let below = place.1 in
         let long = i.lines in
-        touch few l (with_register own rd v) _ _ (load_pending now rd address l word pc i.there place ∙ ap (λ v. goes_on pc (with_register now rd v)) (found_of_line l m c.pending (omega arith)) ∙ ap (λ p. goes_on pc (with_register (record c { pending = p }) rd v)) (sym (parted l m c.pending)) ∙ ap (goes_on pc) (with_register-arrive own rd v (not_line l m))) (load_touches rd address l place) (with_register_inside own rd v (arrive_inside c (of_line l m) i)) (h (of_line l m) (are_of l m))
+        touch few l (with_register own rd v) _ _ (load_pending now rd address l word pc i.there place ∙ ap (λ v. next_behind pc (with_register now rd v)) (found_of_line l m c.pending (omega arith)) ∙ ap (λ p. next_behind pc (with_register (record c { pending = p }) rd v)) (sym (parted l m c.pending)) ∙ ap (next_behind pc) (with_register-arrive own rd v (not_line l m))) (load_touches rd address l place) (with_register_inside own rd v (arrive_inside c (of_line l m) i)) (h (of_line l m) (are_of l m))
     one (Load width.ByteU rd address) word c few i (◌▸◌ {named = Enabled l} said h) =
         let place = said.there in
         let pc = memory_base + o in
         let now = core_arrive (w ++ a) c in
         let v = get_or c.enabled l 0 in
         let e = place.0 in
-        quiet few (with_register c rd v) _ _ (load_enabled now rd address l word pc i.there place ∙ ap (goes_on pc) (with_register-arrive c rd v (w ++ a))) (load_quiet rd address (omega arith)) (with_register_inside c rd v i) h
+        quiet few (with_register c rd v) _ _ (load_enabled now rd address l word pc i.there place ∙ ap (next_behind pc) (with_register-arrive c rd v (w ++ a))) (load_quiet rd address (omega arith)) (with_register_inside c rd v i) h
     one (Load width.ByteU rd address) word c few i (◌▸◌ {named = Level l} said h) =
         let place = said.there in
         let pc = memory_base + o in
         let now = core_arrive (w ++ a) c in
         let v = get_or c.levels l 0 in
         let e = place.0 in
-        quiet few (with_register c rd v) _ _ (load_level now rd address l word pc i.there place ∙ ap (goes_on pc) (with_register-arrive c rd v (w ++ a))) (load_quiet rd address (omega arith)) (with_register_inside c rd v i) h
+        quiet few (with_register c rd v) _ _ (load_level now rd address l word pc i.there place ∙ ap (next_behind pc) (with_register-arrive c rd v (w ++ a))) (load_quiet rd address (omega arith)) (with_register_inside c rd v i) h
     one (Load width.Byte rd address) word c few i h = absurd h
     one (Load width.Half rd address) word c few i h = absurd h
     one (Load width.HalfU rd address) word c few i h = absurd h
@@ -168,7 +168,7 @@ module _ (from to : ℕ) (ram : List ℕ) (inside : to ≤ memory_bytes) where
         let pc = memory_base + o in
         let m = w ++ a in
         let now = core_arrive m c in
-        quiet few (record c { pending = set c.pending l 1 }) _ _ (store_pending now address l value word pc i.there place ∙ ap (λ v. goes_on pc (record now { pending = set now.pending l v })) (flag-other (value % 256) ne) ∙ ap (λ p. goes_on pc (record c { pending = p })) (sym (arrive-set m c.pending l))) (raise_quiet address value ne) (pending_inside c l 1 i) h
+        quiet few (record c { pending = set c.pending l 1 }) _ _ (store_pending now address l value word pc i.there place ∙ ap (λ v. next_behind pc (record now { pending = set now.pending l v })) (flag-other (value % 256) ne) ∙ ap (λ p. next_behind pc (record c { pending = p })) (sym (arrive-set m c.pending l))) (raise_quiet address value ne) (pending_inside c l 1 i) h
     one (Store width.Byte address value) word c few i (◌▸◌ {named = Cleared l} said h) =
         let place = said.there.0 in
         let z = said.there.1 in
@@ -176,7 +176,7 @@ module _ (from to : ℕ) (ram : List ℕ) (inside : to ≤ memory_bytes) where
         let m = w ++ a in
         let now = core_arrive m c in
         let own = core_arrive (of_line l m) c in
-        touch few l (record own { pending = set own.pending l 0 }) _ _ (store_pending now address l value word pc i.there place ∙ ap (λ v. goes_on pc (record now { pending = set now.pending l v })) (flag-zero (value % 256) z) ∙ ap (λ p. goes_on pc (record c { pending = p })) (stored_parted l 0 m c.pending)) (store_touches address l value place z) (pending_inside own l 0 (arrive_inside c (of_line l m) i)) (h (of_line l m) (are_of l m))
+        touch few l (record own { pending = set own.pending l 0 }) _ _ (store_pending now address l value word pc i.there place ∙ ap (λ v. next_behind pc (record now { pending = set now.pending l v })) (flag-zero (value % 256) z) ∙ ap (λ p. next_behind pc (record c { pending = p })) (stored_parted l 0 m c.pending)) (store_touches address l value place z) (pending_inside own l 0 (arrive_inside c (of_line l m) i)) (h (of_line l m) (are_of l m))
     one (Store width.Byte address value) word c few i (◌▸◌ {named = Switched l} said h) =
         let place = said.there in
         let pc = memory_base + o in
@@ -199,7 +199,7 @@ module _ (from to : ℕ) (ram : List ℕ) (inside : to ≤ memory_bytes) where
         let d = changed_core change csr old c in
         let ch = changed_changes m c change csr old in
         let inside_d : Inside d = record { masked = said.masked; there = ch.controller_is ∙ i.there; lines = ap length ch.pending_is ∙ i.lines; same = subst (λ r. Agree from to ram r) (sym ch.ram_is) i.same } in
-        quiet few (with_register d rd old) _ None (ap (λ y. csr_access y rd change csr word pc now) said.is ∙ ap (λ y. goes_on pc (with_register y rd old)) ch.arrives ∙ ap (goes_on pc) (with_register-arrive d rd old m)) refl (with_register_inside d rd old inside_d) h
+        quiet few (with_register d rd old) _ None (ap (λ y. csr_access y rd change csr word pc now) said.is ∙ ap (λ y. next_behind pc (with_register y rd old)) ch.arrives ∙ ap (next_behind pc) (with_register-arrive d rd old m)) refl (with_register_inside d rd old inside_d) h
     one Environment word c few i h = absurd h
     one Return word c few i h =
         let last : State = record { pc = c.mepc; core = record c { ilevel = c.plevel; mie = c.mpie; mpie = true } } in

@@ -3,7 +3,7 @@ use Rattle.std.proofs.Common.{◌≡◌, ℕ, zero, suc, ◌+◌, ◌≤◌, Lis
 use Rattle.std.proofs.lemmas.List.{drop_more, drop_all}
 use Rattle.sloth_base.specs.Machine.{Core}
 use Rattle.sloth_base.specs.MemoryMap.{memory_base, controller_base}
-use Rattle.masked_code.specs.Kernel.{HoldBases}
+use Rattle.masked_code.specs.Kernel.{HasBases}
 
 -- the elements from k on, n of them
 abbrev pub spread_from : ℕ → ℕ → List ℕ → List ℕ
@@ -32,7 +32,7 @@ abbrev pub based : Core → Core
 based c = record c { registers = 0 ∷ get_or c.registers 1 0 ∷ get_or c.registers 2 0 ∷ controller_base ∷ memory_base ∷ spread_from 27 5 c.registers }
 
 -- this changes nothing either
-pub based_is : (c : Core) → length c.registers ≡ 32 → get_or c.registers 0 0 ≡ 0 → HoldBases c.registers → based c ≡ c
+pub based_is : (c : Core) → length c.registers ≡ 32 → get_or c.registers 0 0 ≡ 0 → HasBases c.registers → based c ≡ c
 based_is c n z bases =
     let tail : List ℕ = spread_from 27 5 c.registers in
     ap (λ x. record c { registers = 0 ∷ get_or c.registers 1 0 ∷ get_or c.registers 2 0 ∷ x ∷ memory_base ∷ tail }) (sym bases.0)

@@ -11,8 +11,8 @@ use Rattle.masked_code.specs.Place.{InPlace}
 use Rattle.masked_code.specs.Pieces.{past, restoring_code}
 
 -- x3 and x4 hold the addresses of the controller and of memory: so they do wherever interrupts are open
-abbrev pub HoldBases : List ℕ → Type 0
-HoldBases registers = (slice_index registers 3 ≡ controller_base) × (slice_index registers 4 ≡ memory_base)
+abbrev pub HasBases : List ℕ → Type 0
+HasBases registers = (slice_index registers 3 ≡ controller_base) × (slice_index registers 4 ≡ memory_base)
 
 -- the code at an offset can run: it stands behind the service words, and the machine is whole
 pub record CanRun (offset : ℕ) (code : List InstrKind) (core : Core) : Type 0 where
@@ -55,10 +55,10 @@ leaving_code = taking_up_code ++ (idle_loop_test ++ (restoring_code 27 5 1 ++ Mr
 
 -- The machine is left as in this core, with interrupts open, and plevel is the level that runs; of the registers and mepc it says nothing but
 -- that x0 is zero and that x3 and x4 hold the bases.
-pub record LeftAs (core end : Core) : Type 0 where
+pub record IsOpenedCore (core end : Core) : Type 0 where
   pub zero : slice_index end.registers 0 ≡ 0
   pub registers : length end.registers ≡ 32
-  pub bases : HoldBases end.registers
+  pub bases : HasBases end.registers
   pub opened : end.mie ≡ true
   pub previous : end.mpie ≡ true
   pub running : end.ilevel ≡ core.ilevel

@@ -3,12 +3,12 @@ use Rattle.std.specs.Prelude.{ℕ, Bool, false, ◌||◌, if◌then◌else◌, L
 use Rattle.sloth_base.specs.Options.{is_number}
 
 -- the lines that arrive before an instruction, and the line whose pending byte it loads or sets to zero by a store
-abbrev pub Entry : Type 0
-Entry = List ℕ × Option ℕ
+abbrev pub TraceEntry : Type 0
+TraceEntry = List ℕ × Option ℕ
 
 -- one entry for each instruction, in order
 abbrev pub Trace : Type 0
-Trace = List Entry
+Trace = List TraceEntry
 
 -- the line that is touched, if one is, before others
 abbrev pub lines_of : Option ℕ → List ℕ → List ℕ

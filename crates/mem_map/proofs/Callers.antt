@@ -13,7 +13,7 @@ use Rattle.sloth_base.specs.declared.app.Op.TheVariants as op
 use Rattle.sloth_base.specs.Named.{function, no_function, item_of, no_item, operation}
 use Rattle.sloth_base.specs.Blocks.{block_count, block_number}
 use Rattle.rv32_expand.specs.InPlace.{IsItem}
-use Rattle.mem_map.specs.Wanted.{calls, is_called_by, is_wanted}
+use Rattle.mem_map.specs.Wanted.{is_call_of, is_called_by, is_wanted}
 
 -- an item that calls the service with its object of a number
 pub record Caller (app : App) (number : ℕ) : Type 0 where
@@ -25,7 +25,7 @@ pub record Caller (app : App) (number : ℕ) : Type 0 where
   pub numbered : block_number call.service call.object ≡ number
 
 -- an operation that calls it is a call of that number
-call_of : (number : ℕ) (o : Op) → calls number o ≡ true → (call : Call) × (o ≡ op.Serve call) × (block_number call.service call.object ≡ number)
+call_of : (number : ℕ) (o : Op) → is_call_of number o ≡ true → (call : Call) × (o ≡ op.Serve call) × (block_number call.service call.object ≡ number)
 call_of number (op.Serve call) is = (call, refl, eqb-true (block_number call.service call.object) number is)
 call_of number (op.Alu kind rd rs1 rs2) is = absurd cc
 call_of number (op.AluImm kind rd rs1 imm) is = absurd cc
@@ -44,10 +44,10 @@ call_of number op.Return is = absurd cc
 
 -- of a function that calls it, an item does
 in_function : (number : ℕ) (func : Func) → is_called_by number func ≡ true
-    → (item : ℕ) × (item < length func.items) × (calls number (item_of func item).op ≡ true)
+    → (item : ℕ) × (item < length func.items) × (is_call_of number (item_of func item).op ≡ true)
 in_function number func is =
-    let found = Any-from_list_any (λ (item : Item). calls number item.op) func.items is in
-    (found.0, found.2, ap (λ (item : Item). calls number item.op) (get_or_default func.items found.0 no_item found.1 found.2 ∙ found.3) ∙ found.4)
+    let found = Any-from_list_any (λ (item : Item). is_call_of number item.op) func.items is in
+    (found.0, found.2, ap (λ (item : Item). is_call_of number item.op) (get_or_default func.items found.0 no_item found.1 found.2 ∙ found.3) ∙ found.4)
 
 -- what is wanted has a caller
 pub caller : (number : ℕ) (app : App) → is_wanted number app ≡ true → Caller app number
@@ -71,7 +71,7 @@ pub called : (app : App) (func item : ℕ) (call : Call) → IsItem app func ite
 called app func item call is e =
     let number : ℕ = block_number call.service call.object in
     list_any_at (is_called_by number) app.funcs func no_function is.declared
-    (list_any_at (λ (item : Item). calls number item.op) (function app func).items item no_item is.inside (ap (calls number) e ∙ eq-eqb number number refl))
+    (list_any_at (λ (item : Item). is_call_of number item.op) (function app func).items item no_item is.inside (ap (is_call_of number) e ∙ eq-eqb number number refl))
 
 -- a number that is marked has a caller
 pub marked : (app : App) (wanted : List Bool) → length wanted ≡ block_count → ((number : ℕ) → number < block_count → get_or wanted number false ≡ is_wanted number app)

@@ -23,7 +23,7 @@ use Rattle.code_rules.specs.AppRange.{AppInRange, AreOperands, IsOp}
 use Rattle.code_rules.proofs.Objects.{object_number}
 use Rattle.expansion_parts.specs.Expansion.{item_address, block_address, is_long}
 use Rattle.rv32_expand.specs.InPlace.{IsItem}
-use Rattle.rv32_expand.specs.Sizes.{AreItemSizes, AgreeWithSizes, Covers, IsWordAddress, items_before}
+use Rattle.rv32_expand.specs.Sizes.{AreItemSizes, AgreeWithSizes, HasWordAddresses, IsWordAddress, items_before}
 use Rattle.expansion_parts.proofs.Counts.{size_few, size_is}
 use Rattle.rv32_expand.proofs.InRangeOf.{frame_of}
 use Rattle.mem_map.specs.Starts.{starts, end_of}
@@ -170,7 +170,7 @@ module _ (config : Config) (app : App) (sizes services : List ℕ) (places : Pla
       )
 
   -- each thing that an instruction names has an address that fits into it
-  pub covers : Covers app places
+  pub covers : HasWordAddresses app places
   covers = record {
     low = vectors_base;
     items = λ func index item.

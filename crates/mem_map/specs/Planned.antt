@@ -7,7 +7,7 @@ use Rattle.sloth_base.specs.declared.places.Bounds.{Bounds}
 use Rattle.sloth_base.specs.MemoryMap.{vectors_base, line_count}
 use Rattle.sloth_region.specs.declared.map.Map.{Map}
 use Rattle.sloth_region.specs.Region.{FollowWithin}
-use Rattle.rv32_expand.specs.Sizes.{AgreeWithSizes, Covers}
+use Rattle.rv32_expand.specs.Sizes.{AgreeWithSizes, HasWordAddresses}
 use Rattle.mem_map.specs.declared.all_lengths.CodeLengths.{CodeLengths}
 use Rattle.mem_map.specs.Lengths.{AreLengths}
 use Rattle.mem_map.specs.Plan.{HasAddresses, IsInVectorReach, code_end, code_extents, data_end, data_extents, symbol_bytes}
@@ -32,4 +32,4 @@ pub record IsPlanned (config : Config) (app : App) (bounds : Bounds) (map : Map)
   pub data_follows : FollowWithin (code_end lengths) (data_end app (code_end lengths)) (data_extents map app)
   pub data_close : AreClose (code_end lengths) (end_of (code_end lengths) (prelude.map symbol_bytes app.symbols)) (data_extents map app)
   pub agree : AgreeWithSizes app map.places
-  pub covers : Covers app map.places
+  pub covers : HasWordAddresses app map.places

@@ -17,26 +17,26 @@ pub record IsServicePlace (number : ℕ) : Type 0 where
   pub object : IsObjectNumber (object_kind service) (block_object number)
 
 -- an operation calls the service with its object that has this place in the table of blocks
-abbrev pub calls : ℕ → Op → Bool
-calls number (op.Serve call) = block_number call.service call.object == number
-calls number (op.Alu kind rd rs1 rs2) = false
-calls number (op.AluImm kind rd rs1 imm) = false
-calls number (op.Lui rd imm) = false
-calls number (op.Li rd value) = false
-calls number (op.FrameLoad rd word) = false
-calls number (op.FrameStore rs word) = false
-calls number (op.Load width rd symbol offset) = false
-calls number (op.Store width rs symbol offset) = false
-calls number (op.LoadAt width rd symbol index mask) = false
-calls number (op.StoreAt width rs symbol index mask) = false
-calls number (op.Branch kind rs1 rs2 label) = false
-calls number (op.Jump label) = false
-calls number (op.Invoke callee) = false
-calls number op.Return = false
+abbrev pub is_call_of : ℕ → Op → Bool
+is_call_of number (op.Serve call) = block_number call.service call.object == number
+is_call_of number (op.Alu kind rd rs1 rs2) = false
+is_call_of number (op.AluImm kind rd rs1 imm) = false
+is_call_of number (op.Lui rd imm) = false
+is_call_of number (op.Li rd value) = false
+is_call_of number (op.FrameLoad rd word) = false
+is_call_of number (op.FrameStore rs word) = false
+is_call_of number (op.Load width rd symbol offset) = false
+is_call_of number (op.Store width rs symbol offset) = false
+is_call_of number (op.LoadAt width rd symbol index mask) = false
+is_call_of number (op.StoreAt width rs symbol index mask) = false
+is_call_of number (op.Branch kind rs1 rs2 label) = false
+is_call_of number (op.Jump label) = false
+is_call_of number (op.Invoke callee) = false
+is_call_of number op.Return = false
 
 -- an item of the function does
 abbrev pub is_called_by : ℕ → Func → Bool
-is_called_by number func = list_any (λ (item : Item). calls number item.op) func.items
+is_called_by number func = list_any (λ (item : Item). is_call_of number item.op) func.items
 
 -- an item of the task code does
 abbrev pub is_wanted : ℕ → App → Bool

@@ -6,7 +6,7 @@ ghost use Rattle.sloth_base.specs.Blocks.{block_count};
 ghost use Rattle.sloth_base.specs.Limits.{counter_limit, alarm_limit};
 ghost use Rattle.mem_map.specs.Lengths.{AreLengths, wanted_length};
 
-use crate::wanted::wanted_blocks;
+use crate::called_blocks::wanted_blocks;
 use code_lengths::{block_length, boot_length, start_length, tick_length};
 use rv32_expand::sizes;
 use sloth_base::app::App;

@@ -15,6 +15,7 @@
 
 mod addresses;
 pub mod all_lengths;
+mod called_blocks;
 mod lengths;
 mod marking;
 mod pieces;
@@ -22,12 +23,11 @@ mod placing;
 mod planning;
 mod stack_parts;
 mod stacks;
-mod wanted;
 mod writing;
 mod zones;
 
+pub use called_blocks::wanted_blocks;
 pub use marking::{mark, marks};
 pub use planning::plan;
-pub use wanted::wanted_blocks;
 pub use writing::{write, write_blocks};
 pub use zones::data_zone;

@@ -5,7 +5,7 @@ use Rattle.sloth_base.specs.declared.event.Stamped.{Stamped}
 use Rattle.sloth_base.specs.declared.step.Step.{Step}
 use Rattle.observe.specs.Pieces.{begins, cut_off_steps}
 use Rattle.observe.specs.Observe.{View, observe}
-use Rattle.observe.specs.Touched.{HasPlace}
+use Rattle.observe.specs.Touches.{HasPlace}
 use Rattle.observe.specs.Progress.{Progress, left_over_events, advanced_progress, one_or_none, FedProgress, arrivals_from}
 use Rattle.observe.proofs.Cutting.{cut_off-append}
 use Rattle.observe.proofs.Growing.{observe-more}

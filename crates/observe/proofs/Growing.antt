@@ -6,12 +6,12 @@ use Rattle.std.proofs.lemmas.Grind.{flat_map-append}
 use Rattle.sloth_base.specs.declared.event.Arrival.{Arrival}
 use Rattle.sloth_base.specs.declared.event.Stamped.{Stamped}
 use Rattle.sloth_base.specs.declared.step.Step.{Step}
-use Rattle.observe.specs.Pieces.{Piece, Stretch, pieces, cut_off_steps}
+use Rattle.observe.specs.Pieces.{RunPiece, Stretch, pieces, cut_off_steps}
 use Rattle.observe.specs.Observe.{View, observe, piece_events, found_admits, stretch_events}
 use Rattle.observe.proofs.Cutting.{pieces-append, cut_off-append}
 
 -- the pieces that a step ends, and the steps that it leaves open
-abbrev pub ending : List Step → Step → List Piece
+abbrev pub ending : List Step → Step → List RunPiece
 ending opened step = pieces opened (step ∷ [])
 
 abbrev pub kept : List Step → Step → List Step

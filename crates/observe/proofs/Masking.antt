@@ -3,7 +3,7 @@ use Rattle.std.proofs.Common.{◌≡◌, ◌⊎◌, ℕ, Bool, true, false, List
 use Rattle.std.specs.Bool.{if◌then◌else◌}
 use Rattle.std.specs.Prelude.{not, ◌||◌, ◌&&◌, is_some}
 use Rattle.sloth_base.specs.declared.step.Step.{Step}
-use Rattle.observe.specs.Pieces.{Piece, Outside, Stretch, pieces, cut_off_steps, is_outside, GoesOn, StartsAtZero, FindsMasked, RestFindsMasked, FindsEnabled}
+use Rattle.observe.specs.Pieces.{RunPiece, Outside, Stretch, pieces, cut_off_steps, is_outside, IsContinuous, StartsAtZero, FindsMasked, RestFindsMasked, FindsEnabled}
 use Rattle.std.specs.List.{AllByRecursion}
 
 -- before a run goes on: outside the stretches MIE is 1, but before the step of count 0; inside one it is 0
@@ -42,7 +42,7 @@ finds-more : (opened run : List Step) (step : Step) → RestFindsMasked (opened 
 finds-more [] run step h off = (off, h)
 finds-more (first ∷ more) run step h off = (off, h)
 
-pub record Enabled (parts : List Piece) (rest : List Step) : Type 0 where
+pub record Enabled (parts : List RunPiece) (rest : List Step) : Type 0 where
   pub each : AllByRecursion FindsEnabled parts
   pub left : RestFindsMasked rest
 
@@ -59,12 +59,12 @@ enabled-step true d opened run enabled step out a f e none more =
 enabled-step false true opened run enabled step out a f e none more = let n = none a in record { each = (more-is opened run enabled step f e, n.each); left = n.left }
 enabled-step false false opened run enabled step out a f e none more = more (finds-more opened run step (more-is opened run enabled step f e) a)
 
-enabled-from : (opened run : List Step) (enabled : Bool) → Finds opened enabled run → GoesOn enabled run → Enabled (pieces opened run) (cut_off_steps opened run)
+enabled-from : (opened run : List Step) (enabled : Bool) → Finds opened enabled run → IsContinuous enabled run → Enabled (pieces opened run) (cut_off_steps opened run)
 enabled-from [] [] enabled f g = record { each = tt; left = tt }
 enabled-from (first ∷ more) [] enabled f g = record { each = tt; left = f.1 }
 enabled-from opened (step ∷ run) enabled f g =
     enabled-step (is_outside opened step) step.enabled_after opened run enabled step refl refl f g.0 (λ on. enabled-from [] run step.enabled_after (inl on) g.1) (λ h. enabled-from (opened ++ step ∷ []) run step.enabled_after h g.1)
 
 -- a run from count 0 on, in which each step finds MIE as the one before it left it
-pub enabled-outside : (run : List Step) (enabled : Bool) → StartsAtZero run → GoesOn enabled run → Enabled (pieces [] run) (cut_off_steps [] run)
+pub enabled-outside : (run : List Step) (enabled : Bool) → StartsAtZero run → IsContinuous enabled run → Enabled (pieces [] run) (cut_off_steps [] run)
 enabled-outside run enabled z g = enabled-from [] run enabled (inr z) g

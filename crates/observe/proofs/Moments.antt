@@ -4,14 +4,14 @@ use Rattle.std.specs.List.{prefix_len}
 use Rattle.std.proofs.lemmas.Bool.Decides.{leb_tells}
 use Rattle.std.proofs.lemmas.Bool.{le-ltb, lt-ltb, le-leb, lt-leb}
 use Rattle.sloth_base.specs.declared.event.Arrival.{Arrival}
-use Rattle.sloth_base.specs.Arrivals.{NeverFalls, moments}
+use Rattle.sloth_base.specs.Arrivals.{AreRisingMoments, moments}
 use Rattle.observe.specs.Progress.{arrivals_from, arrivals_due, arrivals_behind, arrivals_within}
 
 skips : (from to : ℕ) (arrival : Arrival) (arrivals : List Arrival) → nat_lt arrival.at to ≡ false → moments from to (arrival ∷ arrivals) ≡ moments from to arrivals
 skips from to arrival arrivals off = rw off (elim (nat_le from arrival.at) as (λ b. cond (b && false) (arrival ∷ moments from to arrivals) (moments from to arrivals) ≡ moments from to arrivals) [ true ↦ refl | false ↦ refl ])
 
 -- arrivals that begin later
-pub moments-later : (before from to : ℕ) (arrivals : List Arrival) → NeverFalls before arrivals → to ≤ before → moments from to arrivals ≡ []
+pub moments-later : (before from to : ℕ) (arrivals : List Arrival) → AreRisingMoments before arrivals → to ≤ before → moments from to arrivals ≡ []
 moments-later before from to [] up h = refl
 moments-later before from to (arrival ∷ arrivals) up h =
     skips from to arrival arrivals (le-ltb arrival.at to (omega arith)) ∙ moments-later arrival.at from to arrivals up.1 (omega arith)
@@ -24,7 +24,7 @@ moments-none k (arrival ∷ arrivals) = elim (leb_tells k arrival.at) [
   | inr early ↦ rw early.0 (moments-none k arrivals)
 ]
 
-pub from-later : (before k : ℕ) (arrivals : List Arrival) → NeverFalls before arrivals → k ≤ before → arrivals_from k arrivals ≡ arrivals
+pub from-later : (before k : ℕ) (arrivals : List Arrival) → AreRisingMoments before arrivals → k ≤ before → arrivals_from k arrivals ≡ arrivals
 from-later before k [] up h = refl
 from-later before k (arrival ∷ arrivals) up h =
     let on : nat_le k arrival.at ≡ true = le-leb k arrival.at (omega arith) in
@@ -36,7 +36,7 @@ take_one n arrival more = let e : 1 + n ≡ suc n = omega arith in rw e refl
 drop_one : (n : ℕ) (arrival : Arrival) (more : List Arrival) → drop (length (take (1 + n) (arrival ∷ more))) (arrival ∷ more) ≡ drop (length (take n more)) more
 drop_one n arrival more = let e : 1 + n ≡ suc n = omega arith in rw e refl
 
-pub here-from : (before c : ℕ) (arrivals : List Arrival) → NeverFalls before arrivals → arrivals_due c (arrivals_from c arrivals) ≡ moments c (c + 1) arrivals
+pub here-from : (before c : ℕ) (arrivals : List Arrival) → AreRisingMoments before arrivals → arrivals_due c (arrivals_from c arrivals) ≡ moments c (c + 1) arrivals
 here-from before c [] up = refl
 here-from before c (arrival ∷ arrivals) up = elim (leb_tells c arrival.at) [
   | inr early ↦ (rw early.0 (here-from arrival.at c arrivals up.1))
@@ -48,7 +48,7 @@ here-from before c (arrival ∷ arrivals) up = elim (leb_tells c arrival.at) [
   ]
 ]
 
-pub behind-from : (before c : ℕ) (arrivals : List Arrival) → NeverFalls before arrivals → arrivals_behind c (arrivals_from c arrivals) ≡ arrivals_from (c + 1) arrivals
+pub behind-from : (before c : ℕ) (arrivals : List Arrival) → AreRisingMoments before arrivals → arrivals_behind c (arrivals_from c arrivals) ≡ arrivals_from (c + 1) arrivals
 behind-from before c [] up = refl
 behind-from before c (arrival ∷ arrivals) up = elim (leb_tells c arrival.at) [
   | inr early ↦ (let off : nat_le (c + 1) arrival.at ≡ false = lt-leb (c + 1) arrival.at (omega arith) in
@@ -79,7 +79,7 @@ none_left n arrival more = let e : suc n - suc n ≡ 0 = omega arith in rw e ref
 one_more : (n k : ℕ) (arrival : Arrival) (more : List Arrival) → k ≤ n → take (suc n - k) (arrival ∷ more) ≡ arrival ∷ take (n - k) more
 one_more n k arrival more h = let e : suc n - k ≡ suc (n - k) = omega arith in rw e refl
 
-pub within-from : (before b e : ℕ) (arrivals : List Arrival) → NeverFalls before arrivals → b ≤ e → arrivals_within (arrivals_from b arrivals) (arrivals_from e arrivals) ≡ moments b e arrivals
+pub within-from : (before b e : ℕ) (arrivals : List Arrival) → AreRisingMoments before arrivals → b ≤ e → arrivals_within (arrivals_from b arrivals) (arrivals_from e arrivals) ≡ moments b e arrivals
 within-from before b e [] up h = refl
 within-from before b e (arrival ∷ arrivals) up h = elim (leb_tells b arrival.at) [
   | inr early ↦ (let off : nat_le e arrival.at ≡ false = lt-leb e arrival.at (omega arith) in

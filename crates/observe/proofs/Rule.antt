@@ -3,7 +3,7 @@ use Rattle.std.specs.Bool.{if◌then◌else◌}
 use Rattle.std.specs.List.{flat_map, AllByRecursion}
 use Rattle.std.proofs.lemmas.Bool.{not-false, not-true}
 use Rattle.sloth_base.specs.declared.step.Step.{Step}
-use Rattle.observe.specs.Pieces.{Piece, Outside, Stretch, pieces, cut_off_steps, is_outside, begins, steps_of, AllMasked, Begins, IsPiece, IsOpenPart, IsCut}
+use Rattle.observe.specs.Pieces.{RunPiece, Outside, Stretch, pieces, cut_off_steps, is_outside, begins, steps_of, AllMasked, IsStretchStart, IsPiece, IsOpenPart, IsCut}
 
 masked-push : (steps : List Step) (step : Step) → AllMasked steps → step.enabled_after ≡ false → AllMasked (steps ++ step ∷ [])
 masked-push [] step h e = (e, tt)
@@ -18,7 +18,7 @@ outside-is : (opened : List Step) (step : Step) → is_outside opened step ≡ t
 outside-is [] step h = (refl, not-true (begins step) h)
 outside-is (first ∷ more) step h = cc
 
-begins-is : (opened : List Step) (step : Step) → is_outside opened step ≡ false → IsOpenPart opened → Begins (opened ++ step ∷ [])
+begins-is : (opened : List Step) (step : Step) → is_outside opened step ≡ false → IsOpenPart opened → IsStretchStart (opened ++ step ∷ [])
 begins-is [] step h o = not-false (begins step) h
 begins-is (first ∷ more) step h o = o.0
 
@@ -27,17 +27,17 @@ open-more [] step h o e = (not-false (begins step) h, (e, tt))
 open-more (first ∷ more) step h o e = (o.0, (o.1.0, masked-push more step o.1.1 e))
 
 -- the cut of what follows the steps of an open stretch
-pub record CutFrom (opened run : List Step) (parts : List Piece) (rest : List Step) : Type 0 where
+pub record CutFrom (opened run : List Step) (parts : List RunPiece) (rest : List Step) : Type 0 where
   pub joined : flat_map steps_of parts ++ rest ≡ opened ++ run
   pub each : AllByRecursion IsPiece parts
   pub left : IsOpenPart rest
 
-cut-outside : (opened : List Step) (step : Step) (run : List Step) (parts : List Piece) (rest : List Step) → is_outside opened step ≡ true → CutFrom [] run parts rest → CutFrom opened (step ∷ run) (Outside step ∷ parts) rest
+cut-outside : (opened : List Step) (step : Step) (run : List Step) (parts : List RunPiece) (rest : List Step) → is_outside opened step ≡ true → CutFrom [] run parts rest → CutFrom opened (step ∷ run) (Outside step ∷ parts) rest
 cut-outside opened step run parts rest h c =
     let alone = outside-is opened step h in
     record { joined = rw alone.0 (ap (λ steps. step ∷ steps) c.joined); each = (alone.1, c.each); left = c.left }
 
-cut-whole : (opened : List Step) (step : Step) (run : List Step) (parts : List Piece) (rest : List Step) → is_outside opened step ≡ false → IsOpenPart opened → step.enabled_after ≡ true → CutFrom [] run parts rest
+cut-whole : (opened : List Step) (step : Step) (run : List Step) (parts : List RunPiece) (rest : List Step) → is_outside opened step ≡ false → IsOpenPart opened → step.enabled_after ≡ true → CutFrom [] run parts rest
     → CutFrom opened (step ∷ run) (Stretch (opened ++ step ∷ []) ∷ parts) rest
 cut-whole opened step run parts rest h o e c = record {
   joined = append_assoc (opened ++ step ∷ []) (flat_map steps_of parts) rest ∙ ap (λ steps. (opened ++ step ∷ []) ++ steps) c.joined ∙ append_assoc opened (step ∷ []) run;
@@ -45,7 +45,7 @@ cut-whole opened step run parts rest h o e c = record {
   left = c.left;
 }
 
-cut-more : (opened : List Step) (step : Step) (run : List Step) (parts : List Piece) (rest : List Step) → CutFrom (opened ++ step ∷ []) run parts rest → CutFrom opened (step ∷ run) parts rest
+cut-more : (opened : List Step) (step : Step) (run : List Step) (parts : List RunPiece) (rest : List Step) → CutFrom (opened ++ step ∷ []) run parts rest → CutFrom opened (step ∷ run) parts rest
 cut-more opened step run parts rest c = record { joined = c.joined ∙ append_assoc opened (step ∷ []) run; each = c.each; left = c.left }
 
 cut-step : (b d : Bool) (opened : List Step) (step : Step) (run : List Step) → is_outside opened step ≡ b → step.enabled_after ≡ d → IsOpenPart opened

@@ -8,10 +8,10 @@ use Rattle.sloth_base.specs.declared.image.Mark.{Mark}
 use Rattle.sloth_base.specs.declared.image.MarkKind.{MarkKind}
 use Rattle.sloth_base.specs.declared.image.MarkKind.TheVariants as kind
 use Rattle.sloth_base.specs.declared.step.Step.{Step}
-use Rattle.sloth_base.specs.Arrivals.{NeverFalls, moments}
+use Rattle.sloth_base.specs.Arrivals.{AreRisingMoments, moments}
 use Rattle.observe.specs.Pieces.{Outside, Stretch, begins}
 use Rattle.observe.specs.Observe.{View, piece_events, found_admits, placed_events, first_masked_moment, admission, last_of, outside_events, events_of_kind, mark_at, stamp, stretch_event}
-use Rattle.observe.specs.Touched.{was_touched, noted_touches, HasPlace, Tells}
+use Rattle.observe.specs.Touches.{was_touched, noted_touches, HasPlace, IsTouchTable}
 use Rattle.observe.specs.Progress.{Progress, left_over_events, advanced_progress_from, passed_progress, begun_progress, joined_progress, noted_progress, outside_progress, only_element, arrivals_due, arrivals_behind, arrivals_within, one_or_none, IsOpen, IsStretch, arrivals_from, progress_behind_stretch}
 use Rattle.observe.proofs.Growing.{kept, Brings}
 use Rattle.observe.proofs.Moments.{here-from, behind-from, within-from, moments-none}
@@ -26,7 +26,7 @@ pub record Turned (view : View) (arrivals : List Arrival) (p : Progress) (opened
 
 -- what a turn rests on
 pub record Ready (arrivals : List Arrival) (p : Progress) (step : Step) : Type 0 where
-  pub ordered : NeverFalls 0 arrivals
+  pub ordered : AreRisingMoments 0 arrivals
   pub joins : IfSome p.first (λ first. HasPlace step)
   pub opens : begins step ≡ true → HasPlace step
   pub coming : p.coming ≡ arrivals_from step.count arrivals
@@ -38,7 +38,7 @@ last-more first (next ∷ more) step = last-more next more step
 
 -- what the end of a stretch brings
 ending-is : (view : View) (arrivals : List Arrival) (first step : Step) (steps : List Step) (inside coming : List Arrival) (table : List ℕ) (count : ℕ)
-    → inside ≡ arrivals_from (first_masked_moment first) arrivals → coming ≡ arrivals_from (step.count + 1) arrivals → first_masked_moment first ≤ step.count + 1 → NeverFalls 0 arrivals → Tells table count steps
+    → inside ≡ arrivals_from (first_masked_moment first) arrivals → coming ≡ arrivals_from (step.count + 1) arrivals → first_masked_moment first ≤ step.count + 1 → AreRisingMoments 0 arrivals → IsTouchTable table count steps
     → map (admission view) (filter (was_touched table) (arrivals_within inside coming))
     ++ (stamp first.count step.count (stretch_event view first step) ∷ map (admission view) (filter (λ arrival. not (was_touched table arrival)) (arrivals_within inside coming)))
     ≡ placed_events view steps (moments (first_masked_moment first) (step.count + 1) arrivals) first step
@@ -165,7 +165,7 @@ turned-first view arrivals p step r opens false off = record {
       let m : Progress = noted_progress (begun_progress p step) step in
       let now : Bool → Progress = λ b. if b then progress_behind_stretch view m step step else record m { first = Some step } in
       let P : Bool → Type 0 = λ b. IsOpen arrivals (now b) (now b).first (if not (begins step) then [] else if b then [] else step ∷ []) in
-      let Q : ℕ → Type 0 = λ n. Tells (noted_touches step.touched step.count (replicate 256 0)) n (step ∷ []) in
+      let Q : ℕ → Type 0 = λ n. IsTouchTable (noted_touches step.touched step.count (replicate 256 0)) n (step ∷ []) in
       let K : Bool → Type 0 = λ b. IsOpen arrivals (now false) (Some step) (if not b then [] else step ∷ []) in
       let opened : IsOpen arrivals (now false) (Some step) (step ∷ []) = (
         refl,

@@ -1,4 +1,4 @@
 pub mod Pieces
 pub mod Observe
-pub mod Touched
+pub mod Touches
 pub mod Progress

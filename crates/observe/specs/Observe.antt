@@ -18,7 +18,7 @@ use Rattle.sloth_base.specs.Owners.{first_counter_line, line_kind, owners_named}
 use Rattle.sloth_base.specs.declared.lines.Owners.{Owners}
 use Rattle.sloth_base.specs.declared.lines.LineKind.{LineKind}
 use Rattle.sloth_base.specs.declared.lines.LineKind.TheVariants as line_of
-use Rattle.observe.specs.Pieces.{Piece, Outside, Stretch, pieces, cut_off_steps}
+use Rattle.observe.specs.Pieces.{RunPiece, Outside, Stretch, pieces, cut_off_steps}
 
 -- what a run is observed by: the marks of the image, and the owners of lines
 pub record View : Type 0 where
@@ -159,7 +159,7 @@ stretch_events view arrivals (first ∷ more) =
     placed_events view (first ∷ more) (moments (first_masked_moment first) ((last_of first more).count + 1) arrivals) first (last_of first more)
 
 -- the events of a piece of a run
-abbrev pub piece_events : View → List Arrival → Piece → List Stamped
+abbrev pub piece_events : View → List Arrival → RunPiece → List Stamped
 piece_events view arrivals (Outside step) =
     map (admission view) (moments step.count (step.count + 1) arrivals)
     ++ map (stamp step.count step.count) (outside_events (mark_at view step.pc) view step)

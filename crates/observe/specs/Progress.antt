@@ -3,11 +3,11 @@ use Rattle.std.specs.Prelude.{ℕ, ◌≡◌, ◌+◌, ◌-◌, ◌≤◌, nat_l
 use Rattle.sloth_base.specs.declared.event.Arrival.{Arrival}
 use Rattle.sloth_base.specs.declared.event.Stamped.{Stamped}
 use Rattle.sloth_base.specs.declared.step.Step.{Step}
-use Rattle.sloth_base.specs.Arrivals.{NeverFalls}
+use Rattle.sloth_base.specs.Arrivals.{AreRisingMoments}
 use Rattle.observe.specs.declared.observing.Observer.{Observer}
 use Rattle.observe.specs.Pieces.{begins, cut_off_steps}
 use Rattle.observe.specs.Observe.{View, mark_at, outside_events, stretch_event, stamp, admission, first_masked_moment, observe}
-use Rattle.observe.specs.Touched.{was_touched, noted_touches, Tells}
+use Rattle.observe.specs.Touches.{was_touched, noted_touches, IsTouchTable}
 
 -- an observer without its references, its view and its list of arrivals
 pub record Progress : Type 0 where
@@ -153,7 +153,7 @@ arrivals_from moment arrivals = filter (λ arrival. nat_le moment arrival.at) ar
 pub record IsStretch (arrivals : List Arrival) (p : Progress) (first : Step) (steps : List Step) : Type 0 where
   pub inside : p.inside ≡ arrivals_from (first_masked_moment first) arrivals
   pub begun : first_masked_moment first ≤ p.expected
-  pub tells : Tells p.touched p.expected steps
+  pub tells : IsTouchTable p.touched p.expected steps
 
 -- the open stretch is that of these steps
 abbrev pub IsOpen : List Arrival → Progress → Option Step → List Step → Type 0
@@ -164,7 +164,7 @@ IsOpen arrivals p (Some first) (step ∷ steps) = (first ≡ step) × IsStretch 
 
 -- what is kept after these steps, when these events have been told
 pub record FedProgress (view : View) (arrivals : List Arrival) (p : Progress) (steps : List Step) (events : List Stamped) : Type 0 where
-  pub ordered : NeverFalls 0 arrivals
+  pub ordered : AreRisingMoments 0 arrivals
   pub told : events ++ left_over_events view p ≡ observe view arrivals steps
   pub expected : p.expected ≡ length steps
   pub coming : p.coming ≡ arrivals_from p.expected arrivals

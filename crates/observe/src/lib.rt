@@ -2,12 +2,12 @@
 //!
 //! Fed the steps one after the other, an observer tells exactly their events, with arrivals placed by the rule (`Observer::feed`, `next`,
 //! `is_cut_by_the_rule`, `stretches_are_masked`). Pieces of a run: `specs/Pieces`; what is seen: `specs/Observe`; how far the observer is:
-//! `specs/Progress`, `specs/Touched`. Arrivals: `sloth_base` (`Arrivals`).
+//! `specs/Progress`, `specs/Touches`. Arrivals: `sloth_base` (`Arrivals`).
 #![tactic(auto)]
 
 pub mod image_view;
 pub mod laws;
 pub mod observing;
-mod touched;
+mod touches;
 
 pub use observing::{Observer, passing};

@@ -5,7 +5,7 @@ ghost use Rattle.observe.specs.Observe.{admission, observe, view_of_image};
 ghost use Rattle.sloth_base.specs.ImageRange.{AreAscending};
 
 use crate::image_view::ImageView;
-use crate::touched::{Touches, skip_early, skip_late};
+use crate::touches::{Touches, skip_early, skip_late};
 use sloth_base::event::{Arrival, Stamp, Stamped};
 use sloth_base::image::Image;
 use sloth_base::lines::Owners;
@@ -37,8 +37,8 @@ pub struct Observer<'a> {
 impl<'a> Observer<'a> {
     ghost use Rattle.sloth_base.specs.declared.step.Step.{Step as AnyStep};
     ghost use Rattle.sloth_base.specs.declared.event.Stamped.{Stamped as AnyStamped};
-    ghost use Rattle.sloth_base.specs.Arrivals.{NeverFalls};
-    ghost use Rattle.observe.specs.Touched.{HasPlace};
+    ghost use Rattle.sloth_base.specs.Arrivals.{AreRisingMoments};
+    ghost use Rattle.observe.specs.Touches.{HasPlace};
     ghost use Rattle.observe.specs.Progress.{Fed, progress_of, view_of, arrivals_of, expected_count, remaining, arrivals_due, passed_progress, joined_progress, progress_behind_stretch, advanced_progress, one_or_none, settled_progress, noted_progress};
 
     /// An observer of a run of the image with these arrivals, which has seen no step. It needs no memory of its own.
@@ -48,7 +48,7 @@ impl<'a> Observer<'a> {
         arrivals: &'a [Arrival],
     ) -> Result<Observer<'a>, NoMemory>
         requires ascending { AreAscending image.now.marks }
-        requires ordered { NeverFalls 0 arrivals.now }
+        requires ordered { AreRisingMoments 0 arrivals.now }
         ensures answers { IsOk result }
         ensures fed { IfOk result (λ o. Fed o [] []) }
         ensures view { IfOk result (λ o. view_of o ≡ view_of_image image.now) }

@@ -11,7 +11,7 @@ use Rattle.oil_parse.specs.declared.tree.OilObject.{OilObject}
 use Rattle.oil_table.specs.declared.table.Place.{Place}
 use Rattle.oil_table.specs.declared.table.Place.TheVariants as place
 use Rattle.oil_table.specs.declared.table.Attribute.{Attribute}
-use Rattle.oil_table.specs.Cases.{Case}
+use Rattle.oil_table.specs.Cases.{OilCase}
 use Rattle.oil_table.specs.Table.{attribute_of, is_word, block_place}
 use Rattle.oil_table.specs.Objects.{is_of_kind, is_use}
 use Rattle.oil_table.specs.Uses.{is_second}
@@ -70,9 +70,9 @@ is_unlisted objects place inner attr = sets_event place && (is_inner_use (codes 
 -- O9, O10 and O12 of an attribute with this row of the table, in a block that is this place, behind these of the block
 abbrev pub InnerFault : List OilObject → Limits → Place → List OilAttr → Option Attribute → List OilAttr → OilAttr → Refusal → Type 0
 InnerFault objects limits place inner row before attr r =
-    Case (is_second 1 row before attr) attr.line O9 r
-    ⊎ (Case (is_unlisted objects place inner attr) attr.line O10 r
-    ⊎ Case (is_beyond limits row attr) attr.line O12 r)
+    OilCase (is_second 1 row before attr) attr.line O9 r
+    ⊎ (OilCase (is_unlisted objects place inner attr) attr.line O10 r
+    ⊎ OilCase (is_beyond limits row attr) attr.line O12 r)
 
 -- the same by the name of the attribute
 abbrev pub InsideFault : List OilObject → Limits → Place → List OilAttr → List OilAttr → OilAttr → Refusal → Type 0
@@ -85,7 +85,7 @@ BlockFault objects limits front block r = Somewhere (InsideFault objects limits 
 -- O9 to O12 in the blocks of an alarm among these objects
 abbrev pub PartFault : List OilObject → OilObject → Refusal → Type 0
 PartFault objects object r =
-    Case (lacks_part object.attrs) object.line O11 r
+    OilCase (lacks_part object.attrs) object.line O11 r
     ⊎ Somewhere (BlockFault objects (limits_of objects object.attrs)) (blocks_of object.attrs) r
 
 -- the same of an object that is an alarm

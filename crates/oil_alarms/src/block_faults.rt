@@ -1,11 +1,11 @@
 //! The faults of the attributes in the blocks of an alarm.
 ghost use Rattle.std.specs.Prelude.{◌≡◌, [], IfOk};
-ghost use Rattle.least_fault.specs.Search.{Finds, Somewhere};
+ghost use Rattle.least_fault.specs.Search.{IsSearchResult, Somewhere};
 ghost use Rattle.oil_alarms.specs.AlarmFaults.{InsideFault, BlockFault};
 
 use crate::alarm_faults::is_unlisted;
 use crate::blocks::Block;
-use least_fault::{merge, when};
+use least_fault::{fault_if, merge};
 use oil_parse::tree::{OilAttr, OilObject};
 use oil_table::{EarlierUses, Limits, Place, attribute_of, block_place, is_beyond, is_second};
 use sloth_base::memory::NoMemory;
@@ -21,14 +21,14 @@ fn inner_fault(
     attr: &OilAttr,
 ) -> Option<Refusal>
     requires { before.now.depth ≡ 1 }
-    ensures { Finds (InsideFault objects.now limits place inner.now before.now.attrs attr.now) result }
+    ensures { IsSearchResult (InsideFault objects.now limits place inner.now before.now.attrs attr.now) result }
 {
     let line = attr.line;
     let row = attribute_of(place, attr.name.bytes());
-    let second = when(is_second(row, before, attr), Part::Oil, line, Code::O9);
+    let second = fault_if(is_second(row, before, attr), Part::Oil, line, Code::O9);
     let unlisted = is_unlisted(objects, place, inner, attr);
-    let unlisted = when(unlisted, Part::Oil, line, Code::O10);
-    let beyond = when(is_beyond(limits, row, attr), Part::Oil, line, Code::O12);
+    let unlisted = fault_if(unlisted, Part::Oil, line, Code::O10);
+    let beyond = fault_if(is_beyond(limits, row, attr), Part::Oil, line, Code::O12);
     merge(second, merge(unlisted, beyond))
 }
 
@@ -39,7 +39,7 @@ fn inner_faults(
     place: Place,
     inner: &[OilAttr],
 ) -> Result<Option<Refusal>, NoMemory>
-    ensures { IfOk result (Finds (Somewhere (InsideFault objects.now limits place inner.now) inner.now)) }
+    ensures { IfOk result (IsSearchResult (Somewhere (InsideFault objects.now limits place inner.now) inner.now)) }
 {
     let mut before = EarlierUses::new(alloc, 1);
     let mut least = None;
@@ -57,7 +57,7 @@ fn block_fault(
     limits: Limits,
     block: &Block,
 ) -> Result<Option<Refusal>, NoMemory>
-    ensures { IfOk result (Finds (BlockFault objects.now limits [] block.now)) }
+    ensures { IfOk result (IsSearchResult (BlockFault objects.now limits [] block.now)) }
 {
     let place = block_place(Place::Alarm, block.head());
     let found = inner_faults(alloc, objects, limits, place, block.inner())?;
@@ -71,7 +71,7 @@ pub fn block_faults(
     limits: Limits,
     blocks: &[Block],
 ) -> Result<Option<Refusal>, NoMemory>
-    ensures { IfOk result (Finds (Somewhere (BlockFault objects.now limits) blocks.now)) }
+    ensures { IfOk result (IsSearchResult (Somewhere (BlockFault objects.now limits) blocks.now)) }
 {
     let mut least = None;
     for block in blocks {

@@ -1,6 +1,6 @@
 //! The least fault in the blocks of alarms.
 ghost use Rattle.std.specs.Prelude.{[], IfOk};
-ghost use Rattle.least_fault.specs.Search.{Finds, Somewhere};
+ghost use Rattle.least_fault.specs.Search.{IsSearchResult, Somewhere};
 ghost use Rattle.oil_alarms.specs.Blocks.{blocks_of};
 ghost use Rattle.oil_alarms.specs.Limits.{limits_of};
 ghost use Rattle.oil_alarms.specs.AlarmFaults.{BlockFault, PartFault, AlarmFault};
@@ -9,7 +9,7 @@ use crate::alarm_faults::lacks_part;
 use crate::block_faults::block_faults;
 use crate::blocks::blocks_of;
 use crate::limits::limits_of;
-use least_fault::{merge, when};
+use least_fault::{fault_if, merge};
 use oil_parse::tree::OilObject;
 use oil_table::is_of_kind;
 use sloth_base::memory::NoMemory;
@@ -21,7 +21,7 @@ fn faults_in_blocks(
     objects: &[OilObject],
     alarm: &OilObject,
 ) -> Result<Option<Refusal>, NoMemory>
-    ensures { IfOk result (Finds (Somewhere (BlockFault objects.now (limits_of objects.now alarm.now.attrs)) (blocks_of alarm.now.attrs))) }
+    ensures { IfOk result (IsSearchResult (Somewhere (BlockFault objects.now (limits_of objects.now alarm.now.attrs)) (blocks_of alarm.now.attrs))) }
 {
     let attrs = alarm.attrs.items();
     let limits = limits_of(objects, attrs);
@@ -35,10 +35,10 @@ fn part_faults(
     objects: &[OilObject],
     alarm: &OilObject,
 ) -> Result<Option<Refusal>, NoMemory>
-    ensures { IfOk result (Finds (PartFault objects.now alarm.now)) }
+    ensures { IfOk result (IsSearchResult (PartFault objects.now alarm.now)) }
 {
     let lacking = lacks_part(alarm.attrs.items());
-    let lacking = when(lacking, Part::Oil, alarm.line, Code::O11);
+    let lacking = fault_if(lacking, Part::Oil, alarm.line, Code::O11);
     let found = faults_in_blocks(alloc, objects, alarm)?;
     Ok(merge(lacking, found))
 }
@@ -48,7 +48,7 @@ fn alarm_faults(
     objects: &[OilObject],
     object: &OilObject,
 ) -> Result<Option<Refusal>, NoMemory>
-    ensures { IfOk result (Finds (AlarmFault objects.now [] object.now)) }
+    ensures { IfOk result (IsSearchResult (AlarmFault objects.now [] object.now)) }
 {
     if !is_of_kind(object, b"ALARM") {
         return Ok(None);
@@ -59,7 +59,7 @@ fn alarm_faults(
 
 /// The least fault in the blocks of the alarms among these objects.
 pub fn judge(alloc: Global, objects: &[OilObject]) -> Result<Option<Refusal>, NoMemory>
-    ensures { IfOk result (Finds (Somewhere (AlarmFault objects.now) objects.now)) }
+    ensures { IfOk result (IsSearchResult (Somewhere (AlarmFault objects.now) objects.now)) }
 {
     let mut least = None;
     for object in objects {

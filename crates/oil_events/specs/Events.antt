@@ -5,7 +5,7 @@ use Rattle.sloth_base.specs.declared.config.EventDecl.{EventDecl}
 use Rattle.sloth_base.specs.declared.refusal.Code.TheVariants.{O15}
 use Rattle.sloth_base.specs.declared.refusal.Refusal.{Refusal}
 use Rattle.oil_parse.specs.declared.tree.OilObject.{OilObject}
-use Rattle.oil_table.specs.Cases.{Case}
+use Rattle.oil_table.specs.Cases.{OilCase}
 use Rattle.oil_table.specs.Objects.{is_of_kind, is_used, first_is, first_number}
 
 -- the bits of a mask, the lowest first
@@ -57,7 +57,7 @@ lacks_bit taken object = is_event object && (is_auto object && is_none (free_bit
 
 -- O15: an AUTO event finds no free bit
 abbrev pub BitFault : List OilObject → List OilObject → OilObject → Refusal → Type 0
-BitFault objects front object r = Case (lacks_bit (taken_bits_before objects front) object) object.line O15 r
+BitFault objects front object r = OilCase (lacks_bit (taken_bits_before objects front) object) object.line O15 r
 
 -- the declarations of the events among these objects, where these bits are taken
 abbrev pub event_decls : ℕ → List OilObject → List EventDecl

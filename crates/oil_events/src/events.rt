@@ -1,10 +1,10 @@
 //! Events and their masks. AUTO events, in the order of their objects, take the lowest bit that is in no number mask and was given
 //! to no earlier AUTO event (OIL 2.5, section 3.2.6).
 ghost use Rattle.std.specs.Prelude.{◌≡◌, ◌<◌, All, IfOk};
-ghost use Rattle.least_fault.specs.Search.{Finds, Somewhere};
+ghost use Rattle.least_fault.specs.Search.{IsSearchResult, Somewhere};
 ghost use Rattle.oil_events.specs.Events.{is_event, number_bits, number_masks, free_bit, is_auto, mask_by, taken_more, number_mask, lacks_bit, BitFault, events_of};
 
-use least_fault::{merge, when};
+use least_fault::{fault_if, merge};
 use oil_parse::tree::OilObject;
 use oil_table::{first_is, first_number, is_of_kind, is_used};
 use sloth_base::config::EventDecl;
@@ -129,12 +129,12 @@ fn lacks_bit(taken: u32, object: &OilObject) -> bool
 
 /// O15: an AUTO event finds no free bit.
 pub fn events_without_bit(objects: &[OilObject]) -> Option<Refusal>
-    ensures { Finds (Somewhere (BitFault objects.now) objects.now) result }
+    ensures { IsSearchResult (Somewhere (BitFault objects.now) objects.now) result }
 {
     let mut taken = number_masks(objects);
     let mut least = None;
     for object in objects {
-        let found = when(lacks_bit(taken, object), Part::Oil, object.line, Code::O15);
+        let found = fault_if(lacks_bit(taken, object), Part::Oil, object.line, Code::O15);
         least = merge(least, found);
         taken = taken_more(taken, object);
     }

@@ -9,13 +9,13 @@ use Rattle.std.proofs.Math.Seq.{take-append_seam, drop-append_seam}
 use Rattle.sloth_base.specs.declared.refusal.Code.TheVariants as code
 use Rattle.sloth_base.specs.declared.refusal.Part.TheVariants.{Oil}
 use Rattle.sloth_base.specs.declared.refusal.Refusal.{Refusal}
-use Rattle.least_fault.specs.Order.{Precedes, IsLeast, NoFault, ErrorIs}
+use Rattle.least_fault.specs.Order.{IsNoLater, IsLeast, NoFault, ErrorIs}
 use Rattle.sloth_base.specs.declared.refusal.BuildError.{BuildError}
 use Rattle.sloth_base.specs.declared.refusal.BuildError.TheVariants.{Refused, Memory}
 use Rattle.oil_lex.specs.declared.pieces.PieceKind.{PieceKind}
 use Rattle.oil_lex.specs.declared.pieces.PieceKind.TheVariants as kind
 use Rattle.oil_lex.specs.Bytes.{class_of}
-use Rattle.oil_lex.specs.Pieces.{IsPiece, is_one_blank, is_line_comment, is_block_comment, is_word, is_decimal, is_hexadecimal, is_text, is_sign, is_slash, is_stray, is_unclosed_comment, is_unclosed_text_lf, is_unclosed_text_end, Piece, IsCutInto, BeginsWith}
+use Rattle.oil_lex.specs.Pieces.{IsPiece, is_one_blank, is_line_comment, is_block_comment, is_word, is_decimal, is_hexadecimal, is_text, is_sign, is_slash, is_stray, is_unclosed_comment, is_unclosed_text_lf, is_unclosed_text_end, TextPiece, IsCutInto, BeginsWith}
 use Rattle.oil_lex.specs.declared.kinds.Token.{Token}
 use Rattle.oil_lex.specs.declared.lexer.Cutter.{Cutter}
 use Rattle.oil_lex.specs.Tokens.{Lexeme, lexeme, tokens_of, lexemes_by, slice_at, tokens_by, tokens_at, FaultOf, FaultBy, meaning, line_ends, TextFault, AreTokens, AreSlices, IsNoFault}
@@ -25,7 +25,7 @@ use Rattle.oil_lex.specs.declared.pieces.Meaning.TheVariants.{Nothing, IsToken, 
 use Rattle.oil_lex.specs.Front.{front_piece}
 use Rattle.oil_lex.proofs.Fronts.{front_is, front_stands}
 
-same_piece : (p q : Piece) → p.kind ≡ q.kind → p.bytes ≡ q.bytes → p ≡ q
+same_piece : (p q : TextPiece) → p.kind ≡ q.kind → p.bytes ≡ q.bytes → p ≡ q
 same_piece p q e f = ap (λ x. record p { kind = x }) e ∙ ap (λ x. record q { bytes = x }) f
 
 -- Of one text, two pieces at the front are one.
@@ -54,11 +54,11 @@ piece_some (is_unclosed_text_lf a) = omega arith
 piece_some (is_unclosed_text_end a) = omega arith
 
 -- The end of the text has no piece.
-cut_end : (ps : List Piece) → IsCutInto [] ps → ps ≡ []
+cut_end : (ps : List TextPiece) → IsCutInto [] ps → ps ≡ []
 cut_end [] c = refl
 cut_end (p ∷ ps) c = absurd (let s = piece_some c.2 in let e = ap length c.1 in omega (arith, s, e, length-append p.bytes c.0))
 
-pub cut_one : (ps qs : List Piece) (t : List ℕ) → IsCutInto t ps → IsCutInto t qs → ps ≡ qs
+pub cut_one : (ps qs : List TextPiece) (t : List ℕ) → IsCutInto t ps → IsCutInto t qs → ps ≡ qs
 cut_one [] qs t c d = sym (cut_end qs (subst (λ (x : List ℕ). IsCutInto x qs) c d))
 cut_one (p ∷ ps) [] t c d = cut_end (p ∷ ps) (subst (λ (x : List ℕ). IsCutInto x (p ∷ ps)) d c)
 cut_one (p ∷ ps) (q ∷ qs) t c d =
@@ -71,7 +71,7 @@ cut_one (p ∷ ps) (q ∷ qs) t c d =
 pub tokens_one : (t : List ℕ) (ts us : List Lexeme) → AreTokens t ts → AreTokens t us → ts ≡ us
 tokens_one t ts us a b = a.2 ∙ (ap (tokens_of 1) (cut_one a.0 b.0 t a.1 b.1) ∙ sym b.2)
 
-cut_by : (n : ℕ) (t : List ℕ) → length t ≤ n → (ps : List Piece) × IsCutInto t ps
+cut_by : (n : ℕ) (t : List ℕ) → length t ≤ n → (ps : List TextPiece) × IsCutInto t ps
 cut_by n [] h = ([], refl)
 cut_by zero (b ∷ t) h = absurd (omega arith)
 cut_by (suc n) (b ∷ t) h =
@@ -80,11 +80,11 @@ cut_by (suc n) (b ∷ t) h =
     let c = cut_by n (drop k.1 (b ∷ t)) (omega (arith, s.1, s.2, length-drop k.1 (b ∷ t))) in
     (record { kind = k.0; bytes = take k.1 (b ∷ t) } ∷ c.0, (drop k.1 (b ∷ t), sym (take-append-drop k.1 (b ∷ t)), s.0, c.1))
 
-pub cut_of : (t : List ℕ) → (ps : List Piece) × IsCutInto t ps
+pub cut_of : (t : List ℕ) → (ps : List TextPiece) × IsCutInto t ps
 cut_of t = cut_by (length t) t (omega arith)
 
 -- A fault stands on the line where its pieces begin, or below.
-fault_line : (ps : List Piece) (n : ℕ) (r : Refusal) → FaultOf n ps r → n ≤ r.line
+fault_line : (ps : List TextPiece) (n : ℕ) (r : Refusal) → FaultOf n ps r → n ≤ r.line
 fault_line [] n r f = absurd f
 fault_line (p ∷ ps) n r f = ⊎_elim (at_line (meaning p.kind p.bytes) n r) (λ g. let h = fault_line ps (n + line_ends p.bytes) r g in omega (arith, h)) f
   where
@@ -93,26 +93,26 @@ fault_line (p ∷ ps) n r f = ⊎_elim (at_line (meaning p.kind p.bytes) n r) (�
     at_line (IsToken k) n r f = absurd f
     at_line (IsFault c) n r f = let e = ap (λ (x : Refusal). x.line) f in omega (arith, e)
 
-o1_first : (n : ℕ) (s : Refusal) → n ≤ s.line → Precedes (record { part = Oil; line = n; code = code.O1 }) s
+o1_first : (n : ℕ) (s : Refusal) → n ≤ s.line → IsNoLater (record { part = Oil; line = n; code = code.O1 }) s
 o1_first n s h = elim (cases_lt n s.line) [ inl l ↦ inl l | inr g ↦ inr (omega arith, omega arith) ]
 
 -- Behind a line end the pieces begin on the next line.
-below_lf : (rest : List ℕ) (ps : List Piece) → IsCutInto (10 ∷ rest) ps → (n : ℕ) (s : Refusal) → FaultOf n ps s → n < s.line
+below_lf : (rest : List ℕ) (ps : List TextPiece) → IsCutInto (10 ∷ rest) ps → (n : ℕ) (s : Refusal) → FaultOf n ps s → n < s.line
 unfolding class_of
 below_lf rest [] c n s f = absurd f
 below_lf rest (p ∷ ps) c n s f =
     let blank : IsPiece kind.Blank (10 ∷ []) rest = is_one_blank refl in
     let e = piece_one blank c.2 c.1 in
-    let lf : Piece = record { kind = kind.Blank; bytes = 10 ∷ [] } in
-    let g = subst (λ (x : Piece). FaultOf n (x ∷ ps) s) (sym (same_piece lf p e.0 e.1)) f in
+    let lf : TextPiece = record { kind = kind.Blank; bytes = 10 ∷ [] } in
+    let g = subst (λ (x : TextPiece). FaultOf n (x ∷ ps) s) (sym (same_piece lf p e.0 e.1)) f in
     ⊎_elim (λ z. absurd z) (λ z. let h = fault_line ps (n + 1) s z in omega (arith, h)) g
 
-nothing_behind : (ps : List Piece) → IsCutInto [] ps → (n : ℕ) (s : Refusal) → FaultOf n ps s → ⊥
-nothing_behind ps c n s f = subst (λ (x : List Piece). FaultOf n x s) (cut_end ps c) f
+nothing_behind : (ps : List TextPiece) → IsCutInto [] ps → (n : ℕ) (s : Refusal) → FaultOf n ps s → ⊥
+nothing_behind ps c n s f = subst (λ (x : List TextPiece). FaultOf n x s) (cut_end ps c) f
 
 -- What stands behind a fault stands no earlier.
 after_fault : {k : PieceKind} {p b : List ℕ} → IsPiece k p b → (n : ℕ) (r : Refusal) → FaultBy (meaning k p) n r
-    → (ps : List Piece) → IsCutInto b ps → (s : Refusal) → FaultOf (n + line_ends p) ps s → Precedes r s
+    → (ps : List TextPiece) → IsCutInto b ps → (s : Refusal) → FaultOf (n + line_ends p) ps s → IsNoLater r s
 after_fault (is_one_blank c) n r f ps cut s g = absurd f
 after_fault (is_line_comment a e) n r f ps cut s g = absurd f
 after_fault (is_block_comment w z) n r f ps cut s g = absurd f
@@ -123,25 +123,25 @@ after_fault (is_text w a) n r f ps cut s g = absurd f
 after_fault (is_sign c) n r f ps cut s g = absurd f
 after_fault (is_slash h) n r f ps cut s g = absurd f
 after_fault (is_stray {b} c) n r f ps cut s g =
-    let l = fault_line ps (n + line_ends (b ∷ [])) s g in subst (λ (x : Refusal). Precedes x s) (sym f) (o1_first n s (omega (arith, l)))
+    let l = fault_line ps (n + line_ends (b ∷ [])) s g in subst (λ (x : Refusal). IsNoLater x s) (sym f) (o1_first n s (omega (arith, l)))
 after_fault (is_unclosed_comment {w} z) n r f ps cut s g = absurd (nothing_behind ps cut (n + line_ends (47 ∷ 42 ∷ w)) s g)
 after_fault (is_unclosed_text_lf {w} {rest} a) n r f ps cut s g =
-    let l = below_lf rest ps cut (n + line_ends (34 ∷ w)) s g in subst (λ (x : Refusal). Precedes x s) (sym f) (inl (omega (arith, l)))
+    let l = below_lf rest ps cut (n + line_ends (34 ∷ w)) s g in subst (λ (x : Refusal). IsNoLater x s) (sym f) (inl (omega (arith, l)))
 after_fault (is_unclosed_text_end {w} a) n r f ps cut s g = absurd (nothing_behind ps cut (n + line_ends (34 ∷ w)) s g)
 
 -- The loop's invariant: every cut of the rest, which begins at this place on line n, goes on from the tokens so far to a cut of the text, with
 -- the same faults.
-pub record Completed (text : Bor (List ℕ)) (ts : List Token) (n place : ℕ) (ps : List Piece) : Type 0 where
-  pub pieces : List Piece
+pub record Completed (text : Bor (List ℕ)) (ts : List Token) (n place : ℕ) (ps : List TextPiece) : Type 0 where
+  pub pieces : List TextPiece
   pub cut : IsCutInto text.now pieces
   pub tokens : tokens_at text 1 0 pieces ≡ ts ++ tokens_at text n place ps
   pub faults : (r : Refusal) → FaultOf 1 pieces r ↔ FaultOf n ps r
 
 abbrev pub GoesOn : Bor (List ℕ) → ℕ → ℕ → List Token → Type 0
-GoesOn text n place ts = (ps : List Piece) → IsCutInto (drop place text.now) ps → Completed text ts n place ps
+GoesOn text n place ts = (ps : List TextPiece) → IsCutInto (drop place text.now) ps → Completed text ts n place ps
 
 -- the tokens in memory are those that the grammar sees
-pub lexemes_at : (text : Bor (List ℕ)) (n place : ℕ) (ps : List Piece) → map lexeme (tokens_at text n place ps) ≡ tokens_of n ps
+pub lexemes_at : (text : Bor (List ℕ)) (n place : ℕ) (ps : List TextPiece) → map lexeme (tokens_at text n place ps) ≡ tokens_of n ps
 lexemes_at text n place [] = refl
 lexemes_at text n place (p ∷ ps) = by (meaning p.kind p.bytes) (lexemes_at text (n + line_ends p.bytes) (place + length p.bytes) ps)
   where
@@ -169,7 +169,7 @@ pub goes_further : (text : Bor (List ℕ)) (n place : ℕ) (ts : List Token) (k 
     (ts ++ tokens_by (front_meaning k (drop place text.now)) n (slice_at text place (take k.1 (drop place text.now))))
 goes_further text n place ts k on s z = λ ps c.
     let rest : List ℕ = drop place text.now in
-    let p : Piece = record { kind = k.0; bytes = take k.1 rest } in
+    let p : TextPiece = record { kind = k.0; bytes = take k.1 rest } in
     let first = tokens_by (front_meaning k rest) n (slice_at text place (take k.1 rest)) in
     let later = λ (m : ℕ). tokens_at text (n + line_ends (take k.1 rest)) (place + m) ps in
     let w = on (p ∷ ps) (drop k.1 rest, sym (take-append-drop k.1 rest), s.0, subst (λ (x : List ℕ). IsCutInto x ps) (sym (drop-drop k.1 place text.now)) c) in
@@ -187,7 +187,7 @@ pub least : (text : Bor (List ℕ)) (n place : ℕ) (ts : List Token) (k : Piece
     → (r : Refusal) → FaultBy (front_meaning k (drop place text.now)) n r → IsLeast (TextFault text.now) r
 least text n place ts k on s r f =
     let rest : List ℕ = drop place text.now in
-    let p : Piece = record { kind = k.0; bytes = take k.1 rest } in
+    let p : TextPiece = record { kind = k.0; bytes = take k.1 rest } in
     let c = cut_of (drop k.1 rest) in
     let w = on (p ∷ c.0) (drop k.1 rest, sym (take-append-drop k.1 rest), s.0, c.1) in
     record {
@@ -195,13 +195,13 @@ least text n place ts k on s r f =
       is_least = λ q g. ⊎_elim
           (λ h. same_place (front_meaning k rest) n r q f h)
           (λ h. after_fault s.0 n r f c.0 c.1 q h)
-          ((w.faults q).0 (subst (λ (x : List Piece). FaultOf 1 x q) (cut_one g.0 w.pieces text.now g.1 w.cut) g.2));
+          ((w.faults q).0 (subst (λ (x : List TextPiece). FaultOf 1 x q) (cut_one g.0 w.pieces text.now g.1 w.cut) g.2));
     }
   where
-    same_place : (m : Meaning) (n : ℕ) (r q : Refusal) → FaultBy m n r → FaultBy m n q → Precedes r q
+    same_place : (m : Meaning) (n : ℕ) (r q : Refusal) → FaultBy m n r → FaultBy m n q → IsNoLater r q
     same_place Nothing n r q f g = absurd f
     same_place (IsToken k) n r q f g = absurd f
-    same_place (IsFault c) n r q f g = let e : r ≡ q = cc in subst (λ (x : Refusal). Precedes r x) e (inr (refl, omega arith))
+    same_place (IsFault c) n r q f g = let e : r ≡ q = cc in subst (λ (x : Refusal). IsNoLater r x) e (inr (refl, omega arith))
 
 -- ---- the same, of the cutter
 
@@ -264,11 +264,11 @@ ends text c g l =
     let nothing : drop c.place text.now ≡ [] = drop_of_length-le text.now {i = c.place} (subst (λ (x : Bor (List ℕ)). length x.now ≤ c.place) g.0 l) in
     let w = g.1 [] nothing in (
       (w.pieces, w.cut, sym (append-nil c.tokens.items) ∙ sym w.tokens),
-      λ r f. (w.faults r).0 (subst (λ (x : List Piece). FaultOf 1 x r) (cut_one f.0 w.pieces text.now f.1 w.cut) f.2),
+      λ r f. (w.faults r).0 (subst (λ (x : List TextPiece). FaultOf 1 x r) (cut_one f.0 w.pieces text.now f.1 w.cut) f.2),
     )
 
 -- Pieces have a fault, or none.
-pieces_judged : (ps : List Piece) (n : ℕ) → ((r : Refusal) × FaultOf n ps r) ⊎ NoFault (FaultOf n ps)
+pieces_judged : (ps : List TextPiece) (n : ℕ) → ((r : Refusal) × FaultOf n ps r) ⊎ NoFault (FaultOf n ps)
 pieces_judged [] n = inr (λ r f. f)
 pieces_judged (p ∷ ps) n = by_meaning (meaning p.kind p.bytes) (pieces_judged ps (n + line_ends p.bytes))
   where
@@ -284,7 +284,7 @@ pub text_judged : (t : List ℕ) → ((r : Refusal) × TextFault t r) ⊎ NoFaul
 text_judged t =
     let c = cut_of t in
     ⊎_elim (λ f. inl (f.0, (c.0, c.1, f.1)))
-    (λ none. inr (λ r f. none r (subst (λ (ps : List Piece). FaultOf 1 ps r) (cut_one f.0 c.0 t f.1 c.1) f.2)))
+    (λ none. inr (λ r f. none r (subst (λ (ps : List TextPiece). FaultOf 1 ps r) (cut_one f.0 c.0 t f.1 c.1) f.2)))
     (pieces_judged c.0 1)
 
 pub tokens_some : (t : List ℕ) → (ts : List Lexeme) × AreTokens t ts

@@ -13,7 +13,7 @@ use Rattle.oil_lex.specs.declared.bytes.Class.TheVariants as class
 use Rattle.oil_lex.specs.declared.pieces.PieceKind.{PieceKind}
 use Rattle.oil_lex.specs.declared.pieces.PieceKind.TheVariants as kind
 use Rattle.oil_lex.specs.Bytes.{class_of, is_word_byte, is_digit, is_hex_digit, is_quoted, is_not_lf, is_blank, is_plain_sign}
-use Rattle.oil_lex.specs.Pieces.{IsPiece, is_one_blank, is_line_comment, is_block_comment, is_word, is_decimal, is_hexadecimal, is_text, is_sign, is_slash, is_stray, is_unclosed_comment, is_unclosed_text_lf, is_unclosed_text_end, begins_hex, EachPasses, Stops, NeverCloses, BeginsWith}
+use Rattle.oil_lex.specs.Pieces.{IsPiece, is_one_blank, is_line_comment, is_block_comment, is_word, is_decimal, is_hexadecimal, is_text, is_sign, is_slash, is_stray, is_unclosed_comment, is_unclosed_text_lf, is_unclosed_text_end, begins_hex, EachPasses, IsRunEnd, HasNoCommentEnd, BeginsWith}
 use Rattle.oil_lex.specs.Front.{front_piece, piece_by, number_piece, slash_piece, text_piece, comment_piece, comment_length}
 use Rattle.oil_lex.proofs.Lengths.{run_ends, run_front, never_closes, closes_behind, open_all, comment_length_le, open_front, no_byte, either}
 
@@ -47,14 +47,14 @@ class_slash b c =
 pair : (k : PieceKind) (m n : ℕ) → m ≡ n → ◌≡◌ {A = PieceKind × ℕ} (k, m) (k, n)
 pair k m n e = ap (λ x. (k, x)) e
 
-comment_closed : (w r : List ℕ) → NeverCloses (w ++ 42 ∷ []) → comment_piece (w ++ 42 ∷ 47 ∷ r) ≡ (kind.BlockComment, length w + 4)
+comment_closed : (w r : List ℕ) → HasNoCommentEnd (w ++ 42 ∷ []) → comment_piece (w ++ 42 ∷ 47 ∷ r) ≡ (kind.BlockComment, length w + 4)
 unfolding comment_piece
 comment_closed w r n =
     let o = closes_behind w r n in
     let l : comment_length (w ++ 42 ∷ 47 ∷ r) < length (w ++ 42 ∷ 47 ∷ r) = omega (arith, o, length-append w (42 ∷ 47 ∷ r)) in
     rw (lt-ltb _ _ l) (pair kind.BlockComment _ _ (omega (arith, o)))
 
-comment_open : (w : List ℕ) → NeverCloses w → comment_piece w ≡ (kind.UnclosedComment, length w + 2)
+comment_open : (w : List ℕ) → HasNoCommentEnd w → comment_piece w ≡ (kind.UnclosedComment, length w + 2)
 unfolding comment_piece
 comment_open w n =
     let o = never_closes w n in
@@ -62,7 +62,7 @@ comment_open w n =
     rw (le-ltb _ _ l) (pair kind.UnclosedComment _ _ (omega (arith, o)))
 
 -- behind a quote, with the quoted bytes w
-text_is : (w r : List ℕ) → EachPasses is_quoted w → Stops is_quoted r
+text_is : (w r : List ℕ) → EachPasses is_quoted w → IsRunEnd is_quoted r
     → text_piece (w ++ r) ≡ cond (get_or (w ++ r) (length w) 0 == 34) (kind.Text, length w + 2) (kind.UnclosedText, length w + 1)
 unfolding text_piece
 text_is w r a s = rw (run_ends is_quoted w r a s) refl
@@ -92,7 +92,7 @@ stands k p r n e h i =
     rw (e, take-append_seam p r, drop-append_seam p r) (i, omega arith, omega (arith, length-append p r))
 
 run_stands : (p : ℕ → Bool) (s : List ℕ) (P : List ℕ → ℕ → Type 0)
-    → ((w r : List ℕ) → EachPasses p w → Stops p r → P (w ++ r) (length w)) → P s (prefix_len p s)
+    → ((w r : List ℕ) → EachPasses p w → IsRunEnd p r → P (w ++ r) (length w)) → P s (prefix_len p s)
 run_stands p s P f =
     let r = run_front p s in
     subst (λ (x : List ℕ). P x (prefix_len p s)) (take-append-drop (prefix_len p s) s)
@@ -129,7 +129,7 @@ quote_or_lf : (b : ℕ) → is_quoted b ≡ false → (b ≡ 34) ⊎ (b ≡ 10)
 unfolding is_quoted
 quote_or_lf b h = ⊎_elim (λ e. inl (eqb-true b 34 e)) (λ e. inr (eqb-true b 10 e)) (either (b == 34) (b == 10) h)
 
-quoted_stands : (w r : List ℕ) → EachPasses is_quoted w → Stops is_quoted r
+quoted_stands : (w r : List ℕ) → EachPasses is_quoted w → IsRunEnd is_quoted r
     → BeginsWith (34 ∷ (w ++ r)) (cond (get_or (w ++ r) (length w) 0 == 34) (kind.Text, length w + 2) (kind.UnclosedText, length w + 1))
 quoted_stands w [] a s =
     rw (append-nil, get_or_past w (length w) 0 (omega arith))

@@ -6,7 +6,7 @@ use Rattle.std.proofs.Math.ListN.{drop_of_length-le}
 use Rattle.std.proofs.lemmas.List.{take_all}
 use Rattle.std.specs.List.{prefix_len}
 use Rattle.std.specs.Prelude.{◌==◌}
-use Rattle.oil_lex.specs.Pieces.{is_comment_end, EachPasses, Stops, NeverCloses}
+use Rattle.oil_lex.specs.Pieces.{is_comment_end, EachPasses, IsRunEnd, HasNoCommentEnd}
 use Rattle.oil_lex.specs.Front.{comment_length}
 
 pub either : (a b : Bool) → (not a && not b) ≡ false → (a ≡ true) ⊎ (b ≡ true)
@@ -31,40 +31,40 @@ pub whole : (xs : List ℕ) (i : ℕ) → take (length xs - i) (drop i xs) ≡ d
 whole xs i = take_all (length xs - i) (drop i xs) (omega (arith, length-drop i xs))
 
 -- a run of w ends where the rest stops it
-pub run_ends : (p : ℕ → Bool) (w r : List ℕ) → EachPasses p w → Stops p r → prefix_len p (w ++ r) ≡ length w
+pub run_ends : (p : ℕ → Bool) (w r : List ℕ) → EachPasses p w → IsRunEnd p r → prefix_len p (w ++ r) ≡ length w
 run_ends p [] [] a s = refl
 run_ends p [] (b ∷ r) a s = rw s refl
 run_ends p (b ∷ w) r a s = rw (a.0) (let ih = run_ends p w r a.1 s in omega (arith, ih))
 
-pub run_front : (p : ℕ → Bool) (s : List ℕ) → EachPasses p (take (prefix_len p s) s) × Stops p (drop (prefix_len p s) s)
+pub run_front : (p : ℕ → Bool) (s : List ℕ) → EachPasses p (take (prefix_len p s) s) × IsRunEnd p (drop (prefix_len p s) s)
 run_front p [] = (tt, tt)
 run_front p (b ∷ s) =
     let ih = run_front p s in
-    let P : Bool → Type 0 = λ v. p b ≡ v → EachPasses p (take (cond v (1 + prefix_len p s) 0) (b ∷ s)) × Stops p (drop (cond v (1 + prefix_len p s) 0) (b ∷ s)) in
+    let P : Bool → Type 0 = λ v. p b ≡ v → EachPasses p (take (cond v (1 + prefix_len p s) 0) (b ∷ s)) × IsRunEnd p (drop (cond v (1 + prefix_len p s) 0) (b ∷ s)) in
     let e : 1 + prefix_len p s ≡ suc (prefix_len p s) = omega arith in
     elim (p b) as P [
       | true ↦ λ h. rw e ((h, ih.0), ih.1)
       | false ↦ λ h. (tt, h)
     ] refl
 
-pub never_closes : (w : List ℕ) → NeverCloses w → comment_length w ≡ length w
+pub never_closes : (w : List ℕ) → HasNoCommentEnd w → comment_length w ≡ length w
 unfolding comment_length
 never_closes [] n = refl
 never_closes (b ∷ w) n = rw (n.0) (let ih = never_closes w n.1 in omega (arith, ih))
 
 -- a body whose first close stands at its end
-pub closes_behind : (w r : List ℕ) → NeverCloses (w ++ 42 ∷ []) → comment_length (w ++ 42 ∷ 47 ∷ r) ≡ length w
+pub closes_behind : (w r : List ℕ) → HasNoCommentEnd (w ++ 42 ∷ []) → comment_length (w ++ 42 ∷ 47 ∷ r) ≡ length w
 unfolding comment_length
 closes_behind [] r n = refl
 closes_behind (b ∷ []) r n = rw (n.0) refl
 closes_behind (b ∷ c ∷ w) r n = let ih = closes_behind (c ∷ w) r n.1 in let first : is_comment_end (b ∷ c ∷ (w ++ 42 ∷ 47 ∷ r)) ≡ false = n.0 in rw first (omega (arith, ih))
 
 -- where the length is that of the whole text, nothing closes it
-pub open_all : (s : List ℕ) → comment_length s ≡ length s → NeverCloses s
+pub open_all : (s : List ℕ) → comment_length s ≡ length s → HasNoCommentEnd s
 unfolding comment_length
 open_all [] e = tt
 open_all (b ∷ s) e =
-    let P : Bool → Type 0 = λ v. is_comment_end (b ∷ s) ≡ v → cond v 0 (1 + comment_length s) ≡ length (b ∷ s) → (is_comment_end (b ∷ s) ≡ false) × NeverCloses s in
+    let P : Bool → Type 0 = λ v. is_comment_end (b ∷ s) ≡ v → cond v 0 (1 + comment_length s) ≡ length (b ∷ s) → (is_comment_end (b ∷ s) ≡ false) × HasNoCommentEnd s in
     elim (is_comment_end (b ∷ s)) as P [
       | true ↦ λ h f. absurd (omega arith)
       | false ↦ λ h f. (h, open_all s (omega arith))
@@ -98,7 +98,7 @@ where_it_stands b (c ∷ w) r h = h
 
 -- the text up to its first close
 abbrev pub Opened : List ℕ → ℕ → Type 0
-Opened s n = (w r : List ℕ) × (s ≡ w ++ 42 ∷ 47 ∷ r) × (n ≡ length w) × NeverCloses (w ++ 42 ∷ [])
+Opened s n = (w r : List ℕ) × (s ≡ w ++ 42 ∷ 47 ∷ r) × (n ≡ length w) × HasNoCommentEnd (w ++ 42 ∷ [])
 
 more_opened : (b : ℕ) (s : List ℕ) (n : ℕ) → is_comment_end (b ∷ s) ≡ false → Opened s n → Opened (b ∷ s) (1 + n)
 more_opened b s n h o =

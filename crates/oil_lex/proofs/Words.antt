@@ -9,7 +9,7 @@ use Rattle.oil_lex.specs.declared.bytes.Class.TheVariants as class
 use Rattle.oil_lex.specs.declared.kinds.TokenKind.TheVariants as token
 use Rattle.oil_lex.specs.declared.pieces.PieceKind.{PieceKind}
 use Rattle.oil_lex.specs.Bytes.{class_of, is_word_byte, is_blank, is_plain_sign}
-use Rattle.oil_lex.specs.Pieces.{EachPasses, IsPiece, is_word, is_decimal, is_hexadecimal, is_text, is_sign, is_slash, Piece, IsCutInto}
+use Rattle.oil_lex.specs.Pieces.{EachPasses, IsPiece, is_word, is_decimal, is_hexadecimal, is_text, is_sign, is_slash, TextPiece, IsCutInto}
 use Rattle.oil_lex.specs.Tokens.{Lexeme, meaning, line_ends, lexemes_by, tokens_of, AreTokens}
 use Rattle.oil_lex.proofs.Fronts.{skip, took}
 
@@ -47,7 +47,7 @@ pub both_spelled : (ts us : List Lexeme) → AllByRecursion Spelled ts → AllBy
 both_spelled [] us a b = b
 both_spelled (t ∷ ts) us a b = (a.0, both_spelled ts us a.1 b)
 
-pieces_spelled : (ps : List Piece) (text : List ℕ) (n : ℕ) → IsCutInto text ps → AllByRecursion Spelled (tokens_of n ps)
+pieces_spelled : (ps : List TextPiece) (text : List ℕ) (n : ℕ) → IsCutInto text ps → AllByRecursion Spelled (tokens_of n ps)
 pieces_spelled [] text n c = tt
 pieces_spelled (p ∷ ps) text n c =
     both_spelled (lexemes_by (meaning p.kind p.bytes) n p.bytes) (tokens_of (n + line_ends p.bytes) ps) (piece_spelled c.2 n) (pieces_spelled ps c.0 (n + line_ends p.bytes) c.3)

@@ -11,18 +11,18 @@ EachPasses p [] = Unit {0}
 EachPasses p (b ∷ bs) = (p b ≡ true) × EachPasses p bs
 
 -- The first byte, if there is one, does not pass. So a run before it can't be longer.
-abbrev pub Stops : (ℕ → Bool) → List ℕ → Type 0
-Stops p [] = Unit {0}
-Stops p (b ∷ bs) = p b ≡ false
+abbrev pub IsRunEnd : (ℕ → Bool) → List ℕ → Type 0
+IsRunEnd p [] = Unit {0}
+IsRunEnd p (b ∷ bs) = p b ≡ false
 
 -- the text begins with `*/`
 abbrev pub is_comment_end : List ℕ → Bool
 is_comment_end t = (slice_index t 0 == 42) && (slice_index t 1 == 47)
 
 -- no `*/` stands in the text
-abbrev pub NeverCloses : List ℕ → Type 0
-NeverCloses [] = Unit {0}
-NeverCloses (b ∷ bs) = (is_comment_end (b ∷ bs) ≡ false) × NeverCloses bs
+abbrev pub HasNoCommentEnd : List ℕ → Type 0
+HasNoCommentEnd [] = Unit {0}
+HasNoCommentEnd (b ∷ bs) = (is_comment_end (b ∷ bs) ≡ false) × HasNoCommentEnd bs
 
 -- the text begins with `0x` or `0X` and a hexadecimal digit
 abbrev pub begins_hex : List ℕ → Bool
@@ -35,12 +35,12 @@ begins_comment t = (slice_index t 0 == 47) || (slice_index t 0 == 42)
 -- These bytes, with the rest of the text behind them, are a piece of this kind.
 pub data IsPiece : PieceKind → List ℕ → List ℕ → Type 0 where
   is_one_blank : {b : ℕ} {rest : List ℕ} → class_of b ≡ class.Blank → IsPiece kind.Blank (b ∷ []) rest
-  is_line_comment : {w rest : List ℕ} → EachPasses is_not_lf w → Stops is_not_lf rest → IsPiece kind.LineComment (47 ∷ 47 ∷ w) rest
-  is_block_comment : (w : List ℕ) {rest : List ℕ} → NeverCloses (w ++ 42 ∷ []) → IsPiece kind.BlockComment (47 ∷ 42 ∷ (w ++ 42 ∷ 47 ∷ [])) rest
-  is_word : {b : ℕ} {w rest : List ℕ} → class_of b ≡ class.Letter → EachPasses is_word_byte w → Stops is_word_byte rest → IsPiece kind.Word (b ∷ w) rest
-  is_decimal : {b : ℕ} {w rest : List ℕ} → class_of b ≡ class.Digit → EachPasses is_digit w → Stops is_digit rest
+  is_line_comment : {w rest : List ℕ} → EachPasses is_not_lf w → IsRunEnd is_not_lf rest → IsPiece kind.LineComment (47 ∷ 47 ∷ w) rest
+  is_block_comment : (w : List ℕ) {rest : List ℕ} → HasNoCommentEnd (w ++ 42 ∷ []) → IsPiece kind.BlockComment (47 ∷ 42 ∷ (w ++ 42 ∷ 47 ∷ [])) rest
+  is_word : {b : ℕ} {w rest : List ℕ} → class_of b ≡ class.Letter → EachPasses is_word_byte w → IsRunEnd is_word_byte rest → IsPiece kind.Word (b ∷ w) rest
+  is_decimal : {b : ℕ} {w rest : List ℕ} → class_of b ≡ class.Digit → EachPasses is_digit w → IsRunEnd is_digit rest
       → begins_hex (b ∷ (w ++ rest)) ≡ false → IsPiece kind.Decimal (b ∷ w) rest
-  is_hexadecimal : {x h : ℕ} {w rest : List ℕ} → ((x == 120) || (x == 88)) ≡ true → is_hex_digit h ≡ true → EachPasses is_hex_digit w → Stops is_hex_digit rest
+  is_hexadecimal : {x h : ℕ} {w rest : List ℕ} → ((x == 120) || (x == 88)) ≡ true → is_hex_digit h ≡ true → EachPasses is_hex_digit w → IsRunEnd is_hex_digit rest
       → IsPiece kind.Hexadecimal (48 ∷ x ∷ h ∷ w) rest
   is_text : (w : List ℕ) {rest : List ℕ} → EachPasses is_quoted w → IsPiece kind.Text (34 ∷ (w ++ 34 ∷ [])) rest
   is_sign : {b : ℕ} {rest : List ℕ} → class_of b ≡ class.Sign → IsPiece kind.Sign (b ∷ []) rest
@@ -48,18 +48,18 @@ pub data IsPiece : PieceKind → List ℕ → List ℕ → Type 0 where
   -- a byte that begins none of these
   is_stray : {b : ℕ} {rest : List ℕ} → class_of b ≡ class.Other → IsPiece kind.Stray (b ∷ []) rest
   -- a comment that the text does not close
-  is_unclosed_comment : {w : List ℕ} → NeverCloses w → IsPiece kind.UnclosedComment (47 ∷ 42 ∷ w) []
+  is_unclosed_comment : {w : List ℕ} → HasNoCommentEnd w → IsPiece kind.UnclosedComment (47 ∷ 42 ∷ w) []
   -- a string whose line ends before it is closed
   is_unclosed_text_lf : {w rest : List ℕ} → EachPasses is_quoted w → IsPiece kind.UnclosedText (34 ∷ w) (10 ∷ rest)
   is_unclosed_text_end : {w : List ℕ} → EachPasses is_quoted w → IsPiece kind.UnclosedText (34 ∷ w) []
 
 -- a piece: its kind and its bytes
-pub record Piece : Type 0 where
+pub record TextPiece : Type 0 where
   pub kind : PieceKind
   pub bytes : List ℕ
 
 -- The whole text is cut into these pieces.
-abbrev pub IsCutInto : List ℕ → List Piece → Type 0
+abbrev pub IsCutInto : List ℕ → List TextPiece → Type 0
 IsCutInto text [] = text ≡ []
 IsCutInto text (p ∷ ps) = (behind : List ℕ) × (text ≡ p.bytes ++ behind) × IsPiece p.kind p.bytes behind × IsCutInto behind ps
 

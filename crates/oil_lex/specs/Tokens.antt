@@ -14,7 +14,7 @@ use Rattle.oil_lex.specs.declared.pieces.Meaning.TheVariants.{Nothing, IsToken, 
 use Rattle.oil_lex.specs.declared.pieces.PieceKind.{PieceKind}
 use Rattle.oil_lex.specs.declared.pieces.PieceKind.TheVariants as kind
 use Rattle.text_pieces.specs.Digits.{value_from, capped_value}
-use Rattle.oil_lex.specs.Pieces.{Piece, IsCutInto}
+use Rattle.oil_lex.specs.Pieces.{TextPiece, IsCutInto}
 
 -- how many lines end in these bytes
 abbrev pub line_ends : List ℕ → ℕ
@@ -53,18 +53,18 @@ FaultBy (IsFault c) n r = r ≡ record { part = Oil; line = n; code = c }
 FaultBy _ n r = ⊥
 
 -- the tokens of pieces that begin on line n
-abbrev pub tokens_of : ℕ → List Piece → List Lexeme
+abbrev pub tokens_of : ℕ → List TextPiece → List Lexeme
 tokens_of n [] = []
 tokens_of n (p ∷ ps) = lexemes_by (meaning p.kind p.bytes) n p.bytes ++ tokens_of (n + line_ends p.bytes) ps
 
 -- r is the fault of one of these pieces
-abbrev pub FaultOf : ℕ → List Piece → Refusal → Type 0
+abbrev pub FaultOf : ℕ → List TextPiece → Refusal → Type 0
 FaultOf n [] r = ⊥
 FaultOf n (p ∷ ps) r = FaultBy (meaning p.kind p.bytes) n r ⊎ FaultOf (n + line_ends p.bytes) ps r
 
 -- these are the tokens of the text
 abbrev pub AreTokens : List ℕ → List Lexeme → Type 0
-AreTokens t ts = (ps : List Piece) × IsCutInto t ps × (ts ≡ tokens_of 1 ps)
+AreTokens t ts = (ps : List TextPiece) × IsCutInto t ps × (ts ≡ tokens_of 1 ps)
 
 -- the slice of a text in memory that begins at a place and has these bytes
 abbrev pub slice_at : Bor (List ℕ) → ℕ → List ℕ → Bor (List ℕ)
@@ -76,18 +76,18 @@ tokens_by (IsToken k) n span = record { kind = k; line = n; span = span } ∷ []
 tokens_by _ n span = []
 
 -- the tokens in memory of pieces of a text that begin on line n at a place
-abbrev pub tokens_at : Bor (List ℕ) → ℕ → ℕ → List Piece → List Token
+abbrev pub tokens_at : Bor (List ℕ) → ℕ → ℕ → List TextPiece → List Token
 tokens_at text n place [] = []
 tokens_at text n place (p ∷ ps) =
     tokens_by (meaning p.kind p.bytes) n (slice_at text place p.bytes) ++ tokens_at text (n + line_ends p.bytes) (place + length p.bytes) ps
 
 -- these are the tokens of the text, and the span of each is the slice of the text at its place
 abbrev pub AreSlices : Bor (List ℕ) → List Token → Type 0
-AreSlices text ts = (ps : List Piece) × IsCutInto text.now ps × (ts ≡ tokens_at text 1 0 ps)
+AreSlices text ts = (ps : List TextPiece) × IsCutInto text.now ps × (ts ≡ tokens_at text 1 0 ps)
 
 -- a fault of the text
 abbrev pub TextFault : List ℕ → Refusal → Type 0
-TextFault t r = (ps : List Piece) × IsCutInto t ps × FaultOf 1 ps r
+TextFault t r = (ps : List TextPiece) × IsCutInto t ps × FaultOf 1 ps r
 
 -- the piece is no fault
 abbrev pub IsNoFault : Meaning → Type 0

@@ -2,7 +2,7 @@
 
 ghost use Rattle.std.specs.Prelude.{List, ℕ, ◌≡◌, ◌<◌, ◌≤◌, ◌+◌, [], ◌++◌, length, map, nat_le, IfOk, IfErr, OnOk};
 ghost use Rattle.least_fault.specs.Order.{ErrorIs, NoFault};
-ghost use Rattle.oil_lex.specs.Pieces.{Piece, IsCutInto};
+ghost use Rattle.oil_lex.specs.Pieces.{TextPiece, IsCutInto};
 ghost use Rattle.oil_lex.specs.Tokens.{Lexeme, AreTokens, AreSlices, TextFault, lexeme, tokens_by, IsNoFault, RefusedBy};
 ghost use Rattle.oil_lex.specs.Cutting.{HasCut, IsStopped};
 
@@ -105,7 +105,7 @@ pub fn tokens<'a>(alloc: Global, text: &'a [u8]) -> Result<Vec<Token<'a>>, Build
 
 /// Each text has one cut into pieces, and so one list of tokens.
 pub fn one_cut()
-    ensures some { (text : List ℕ) → (pieces : List Piece) × IsCutInto text pieces }
-    ensures one { (text : List ℕ) (pieces others : List Piece) → IsCutInto text pieces → IsCutInto text others → pieces ≡ others }
+    ensures some { (text : List ℕ) → (pieces : List TextPiece) × IsCutInto text pieces }
+    ensures one { (text : List ℕ) (pieces others : List TextPiece) → IsCutInto text pieces → IsCutInto text others → pieces ≡ others }
     ensures tokens { (text : List ℕ) (tokens others : List Lexeme) → AreTokens text tokens → AreTokens text others → tokens ≡ others }
 {}

@@ -1,6 +1,6 @@
 //! The configuration of a tree, or its least fault.
 ghost use Rattle.std.specs.Prelude.{◌≡◌, ◌≤◌, ◌<◌, All, IfOk, OnOk, IfErr, length, codes};
-ghost use Rattle.least_fault.specs.Search.{Finds};
+ghost use Rattle.least_fault.specs.Search.{IsSearchResult};
 ghost use Rattle.least_fault.specs.Order.{NoFault, IsLeast, ErrorIs};
 ghost use Rattle.sloth_base.specs.ConfigRange.{InRange};
 ghost use Rattle.sloth_base.specs.declared.config.Config.{Config};
@@ -71,7 +71,7 @@ fn refusal_of(
     requires scheduler { scheduler ≡ has_scheduler tree.now.objects }
     requires event_numbers { event_names.now ≡ names_of (codes "EVENT") tree.now.objects }
     requires events { events.now ≡ events_of tree.now.objects }
-    ensures { IfOk result (Finds (ModelFault tree.now)) }
+    ensures { IfOk result (IsSearchResult (ModelFault tree.now)) }
 {
     let objects = tree.objects.items();
     let all = Front::of(alloc, objects)?;

@@ -12,7 +12,7 @@ use Rattle.oil_parse.specs.declared.tree.OilTree.{OilTree}
 use Rattle.oil_parse.specs.Shapes.{shape}
 use Rattle.oil_parse.specs.Steps.{next}
 use Rattle.oil_parse.specs.Machine.{too_big}
-use Rattle.oil_parse.specs.Text.{HasTree, BreaksGrammar}
+use Rattle.oil_parse.specs.Text.{HasTree, HasGrammarFault}
 use Rattle.oil_parse.proofs.Steps.{step, TooBig, MachineFault}
 use Rattle.oil_parse.proofs.Sound.{file_read}
 use Rattle.oil_parse.proofs.Faults.{FaultBy, same_faults}
@@ -40,10 +40,10 @@ machine_judged (t ∷ ts) e n =
     big_or_not e' false h (inl f) = inl (f.0, inr f.1)
     big_or_not e' false h (inr d) = inr ((λ r f. ⊎_elim (λ x. absurd (small_is e (shape t) t r h x)) (d.0 r) f), d.1)
 
-pub judged : (text : List ℕ) → ((r : Refusal) × TextFault text r) ⊎ (((r : Refusal) × BreaksGrammar text r) ⊎ ((tree : OilTree) × HasTree text tree))
+pub judged : (text : List ℕ) → ((r : Refusal) × TextFault text r) ⊎ (((r : Refusal) × HasGrammarFault text r) ⊎ ((tree : OilTree) × HasTree text tree))
 judged text = ⊎_elim inl (λ clean. inr (grammar_judged clean)) (text_judged text)
   where
-    grammar_judged : NoFault (TextFault text) → ((r : Refusal) × BreaksGrammar text r) ⊎ ((tree : OilTree) × HasTree text tree)
+    grammar_judged : NoFault (TextFault text) → ((r : Refusal) × HasGrammarFault text r) ⊎ ((tree : OilTree) × HasTree text tree)
     grammar_judged clean =
         let ts = tokens_some text in
         ⊎_elim

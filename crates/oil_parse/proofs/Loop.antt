@@ -31,7 +31,7 @@ use Rattle.oil_parse.specs.Faults.{GrammarFault}
 use Rattle.oil_parse.specs.Steps.{next, expectation_behind, behind}
 use Rattle.oil_parse.specs.Machine.{partial_tree_after, PartialTree, nothing_built, too_big, TakesFit}
 use Rattle.oil_parse.proofs.Steps.{step, build, TooBig, MachineFault}
-use Rattle.oil_parse.specs.Parser.{draft, Moved, StopsWith}
+use Rattle.oil_parse.specs.Parser.{draft, IsTokenStep, StopsWith}
 use Rattle.oil_parse.proofs.Sound.{file_read}
 use Rattle.oil_parse.proofs.Complete.{file_takes}
 use Rattle.oil_parse.proofs.Faults.{FaultBy, same_faults}
@@ -91,7 +91,7 @@ none_before : (b : Bool) (o : Option Refusal) (m : Refusal) → cond b (Some m) 
 none_before true o m h = cc
 none_before false o m h = h
 
-pub reads_next : (all : List Lexeme) (p q : Parser) (t : Lexeme) (rest : List Lexeme) → Reads all p (t ∷ rest) → Moved p q t → Reads all q rest
+pub reads_next : (all : List Lexeme) (p q : Parser) (t : Lexeme) (rest : List Lexeme) → Reads all p (t ∷ rest) → IsTokenStep p q t → Reads all q rest
 reads_next all p q t rest r m = record {
   kept = subst (λ (o : Option Refusal). KeepsLeast (MachineFault Start 1 all) (MachineFault q.expect q.last rest) o) (sym m.least)
       (kept_next all p.expect q.expect p.last q.last t rest p.least (too_big p.expect (shape t)) refl m.goes m.last r.kept);
@@ -202,7 +202,7 @@ stuck_at ts p i d h r e s =
     stuck (map lexeme ts) p (lexeme (get_or ts i d)) (map lexeme (drop (i + 1) ts)) (subst (λ (x : List Lexeme). Reads (map lexeme ts) p x) (tokens_at ts i d h) r) e s
 
 pub reads_at : (ts : List Token) (p q : Parser) (i : ℕ) (d : Token) → i < length ts → Reads (map lexeme ts) p (map lexeme (drop i ts))
-    → Moved p q (lexeme (get_or ts i d)) → Reads (map lexeme ts) q (map lexeme (drop (i + 1) ts))
+    → IsTokenStep p q (lexeme (get_or ts i d)) → Reads (map lexeme ts) q (map lexeme (drop (i + 1) ts))
 reads_at ts p q i d h r m =
     reads_next (map lexeme ts) p q (lexeme (get_or ts i d)) (map lexeme (drop (i + 1) ts)) (subst (λ (x : List Lexeme). Reads (map lexeme ts) p x) (tokens_at ts i d h) r) m
 

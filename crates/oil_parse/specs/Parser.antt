@@ -26,7 +26,7 @@ draft d = record {
 }
 
 -- The parser read a token.
-pub record Moved (p q : Parser) (t : Lexeme) : Type 0 where
+pub record IsTokenStep (p q : Parser) (t : Lexeme) : Type 0 where
   pub goes : next p.expect (shape t) ≡ Some q.expect
   pub last : q.last ≡ t.line
   pub least : q.least ≡ least_fault_after p.least p.expect (shape t) t.line

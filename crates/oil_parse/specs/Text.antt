@@ -16,7 +16,7 @@ pub record HasTree (text : List ℕ) (tree : OilTree) : Type 0 where
   pub no_grammar_fault : NoFault (GrammarFault tokens)
 
 -- The text breaks the grammar. This is judged only where the text has no fault of its own.
-pub record BreaksGrammar (text : List ℕ) (r : Refusal) : Type 0 where
+pub record HasGrammarFault (text : List ℕ) (r : Refusal) : Type 0 where
   pub tokens : List Lexeme
   pub are_tokens : AreTokens text tokens
   pub no_text_fault : NoFault (TextFault text)

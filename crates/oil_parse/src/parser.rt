@@ -7,11 +7,11 @@ ghost use Rattle.sloth_base.specs.declared.refusal.Refusal.{Refusal};
 ghost use Rattle.oil_parse.specs.declared.tree.OilTree.{OilTree};
 ghost use Rattle.oil_parse.specs.Grammar.{IsFile};
 ghost use Rattle.oil_parse.specs.Faults.{GrammarFault};
-ghost use Rattle.oil_parse.specs.Text.{HasTree, BreaksGrammar};
+ghost use Rattle.oil_parse.specs.Text.{HasTree, HasGrammarFault};
 ghost use Rattle.oil_parse.specs.Words.{IsObjectOfWords};
 ghost use Rattle.oil_parse.specs.Steps.{IsShallow};
 ghost use Rattle.oil_parse.specs.Machine.{too_big};
-ghost use Rattle.oil_parse.specs.Parser.{Moved, StopsWith};
+ghost use Rattle.oil_parse.specs.Parser.{IsTokenStep, StopsWith};
 
 use crate::draft::Draft;
 use crate::machine::{Expect, Shape, next, shape_of};
@@ -55,7 +55,7 @@ impl<'a> Parser<'a> {
     /// Reads a token, or refuses it.
     fn read(&mut self, alloc: Global, token: &Token<'a>) -> Result<(), BuildError>
         requires { IsShallow self.old.expect }
-        ensures moved { OnOk result (Moved self.old self.new (lexeme token.now)) }
+        ensures moved { OnOk result (IsTokenStep self.old self.new (lexeme token.now)) }
         ensures stopped { IfErr result (λ error. StopsWith self.old (lexeme token.now) error) }
     {
         let shape = shape_of(token);
@@ -113,10 +113,10 @@ pub fn one_tree()
     ensures file { (tokens : List Lexeme) (tree other : OilTree) → IsFile tokens tree → IsFile tokens other → tree ≡ other }
     ensures text { (text : List ℕ) (tree other : OilTree) → HasTree text tree → HasTree text other → tree ≡ other }
     ensures faults { (text : List ℕ) (tokens : List Lexeme) → AreTokens text tokens → NoFault (TextFault text) → (refusal : Refusal)
-        → BreaksGrammar text refusal ↔ GrammarFault tokens refusal }
+        → HasGrammarFault text refusal ↔ GrammarFault tokens refusal }
     ensures each { (text : List ℕ) → ((refusal : Refusal) × TextFault text refusal)
-        ⊎ (((refusal : Refusal) × BreaksGrammar text refusal) ⊎ ((tree : OilTree) × HasTree text tree)) }
-    ensures one { (text : List ℕ) (tree : OilTree) (refusal : Refusal) → HasTree text tree → BreaksGrammar text refusal → ⊥ }
+        ⊎ (((refusal : Refusal) × HasGrammarFault text refusal) ⊎ ((tree : OilTree) × HasTree text tree)) }
+    ensures one { (text : List ℕ) (tree : OilTree) (refusal : Refusal) → HasTree text tree → HasGrammarFault text refusal → ⊥ }
 {}
 
 /// The kinds, names and words of a text's tree are words.

@@ -11,7 +11,7 @@ use Rattle.oil_table.specs.declared.table.Place.{Place}
 use Rattle.oil_table.specs.declared.table.Place.TheVariants.{Nowhere}
 use Rattle.oil_table.specs.declared.table.Attribute.{Attribute}
 use Rattle.oil_table.specs.declared.table.Attribute.TheVariants as attribute
-use Rattle.oil_table.specs.Cases.{Case}
+use Rattle.oil_table.specs.Cases.{OilCase}
 use Rattle.oil_table.specs.Table.{attribute_of, is_allowed, block_place}
 use Rattle.oil_table.specs.Objects.{is_declared}
 use Rattle.oil_table.specs.Uses.{is_second}
@@ -60,10 +60,10 @@ is_refused (Some row) value = not (is_allowed row value)
 -- O8, O9, O10 and O12 of an attribute with this row of the table, behind these attributes of its object
 abbrev pub RowFault : List OilObject → Bool → Option Attribute → List OilAttr → OilAttr → Refusal → Type 0
 RowFault objects scheduler row before attr r =
-    Case (is_none row) attr.line O8 r
-    ⊎ (Case (is_second 0 row before attr) attr.line O9 r
-    ⊎ (Case (refers_to_none objects scheduler row attr.value) attr.line O10 r
-    ⊎ Case (is_refused row attr.value) attr.line O12 r))
+    OilCase (is_none row) attr.line O8 r
+    ⊎ (OilCase (is_second 0 row before attr) attr.line O9 r
+    ⊎ (OilCase (refers_to_none objects scheduler row attr.value) attr.line O10 r
+    ⊎ OilCase (is_refused row attr.value) attr.line O12 r))
 
 -- the same in an object that is this place
 abbrev pub AttributeFault : List OilObject → Bool → Place → List OilAttr → OilAttr → Refusal → Type 0

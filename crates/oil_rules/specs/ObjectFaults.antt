@@ -6,7 +6,7 @@ use Rattle.sloth_base.specs.declared.refusal.Code.TheVariants.{O7, O9, O11, O12,
 use Rattle.sloth_base.specs.declared.refusal.Refusal.{Refusal}
 use Rattle.sloth_base.specs.Limits.{task_limit, counter_limit, alarm_limit, resource_limit, event_limit, name_limit}
 use Rattle.oil_parse.specs.declared.tree.OilObject.{OilObject}
-use Rattle.oil_table.specs.Cases.{Case}
+use Rattle.oil_table.specs.Cases.{OilCase}
 use Rattle.oil_table.specs.Table.{is_nowhere, place_of}
 use Rattle.oil_table.specs.Objects.{is_of_kind, is_used, is_declaration, is_declared}
 
@@ -68,12 +68,12 @@ is_above front object =
 
 -- O7: an object of no kind. It is judged no further.
 abbrev pub KindFault : OilObject → Refusal → Type 0
-KindFault object r = Case (is_nowhere (place_of object.kind)) object.line O7 r
+KindFault object r = OilCase (is_nowhere (place_of object.kind)) object.line O7 r
 
 -- O9, O11, O12 and O14 of an object of a kind, with those before it
 abbrev pub KnownFault : Bool → List OilObject → OilObject → Refusal → Type 0
 KnownFault scheduler front object r =
-    Case (is_doubled scheduler front object) object.line O9 r
-    ⊎ (Case (lacks_attribute object) object.line O11 r
-    ⊎ (Case (is_strange_mode object) object.line O12 r
-    ⊎ Case (is_above front object) object.line O14 r))
+    OilCase (is_doubled scheduler front object) object.line O9 r
+    ⊎ (OilCase (lacks_attribute object) object.line O11 r
+    ⊎ (OilCase (is_strange_mode object) object.line O12 r
+    ⊎ OilCase (is_above front object) object.line O14 r))

@@ -10,7 +10,7 @@ use Rattle.oil_parse.specs.declared.tree.OilValue.{OilValue}
 use Rattle.oil_parse.specs.declared.tree.OilValue.TheVariants.{Word}
 use Rattle.oil_parse.specs.declared.tree.OilAttr.{OilAttr}
 use Rattle.oil_parse.specs.declared.tree.OilObject.{OilObject}
-use Rattle.oil_table.specs.Cases.{Case}
+use Rattle.oil_table.specs.Cases.{OilCase}
 use Rattle.oil_table.specs.Objects.{is_of_kind, is_use, is_used, number_of, first_number}
 use Rattle.oil_events.specs.Events.{mask_named}
 
@@ -46,4 +46,4 @@ shares_bit events before attr = is_use (codes "EVENT") attr && list_any (shares_
 
 -- O13 and O15 of an attribute of a task, behind these tasks and behind these attributes
 abbrev pub TaskFault : List EventDecl → List OilObject → List OilAttr → OilAttr → Refusal → Type 0
-TaskFault events front before attr r = Case (repeats_priority front before attr) attr.line O13 r ⊎ Case (shares_bit events before attr) attr.line O15 r
+TaskFault events front before attr r = OilCase (repeats_priority front before attr) attr.line O13 r ⊎ OilCase (shares_bit events before attr) attr.line O15 r

@@ -8,7 +8,7 @@ use Rattle.sloth_base.specs.declared.refusal.Refusal.{Refusal}
 use Rattle.least_fault.specs.Search.{Somewhere}
 use Rattle.oil_parse.specs.declared.tree.OilObject.{OilObject}
 use Rattle.oil_parse.specs.declared.tree.OilTree.{OilTree}
-use Rattle.oil_table.specs.Cases.{Case}
+use Rattle.oil_table.specs.Cases.{OilCase}
 use Rattle.oil_table.specs.Table.{place_of}
 use Rattle.oil_table.specs.Objects.{is_of_kind, has_scheduler}
 use Rattle.oil_events.specs.Events.{events_of, BitFault}
@@ -40,4 +40,4 @@ abbrev pub TreeFault : OilTree → Refusal → Type 0
 TreeFault tree r =
     Somewhere (ObjectFault tree.objects (has_scheduler tree.objects) (events_of tree.objects)) tree.objects r
     ⊎ (Somewhere (BitFault tree.objects) tree.objects r
-    ⊎ Case (lacks_os tree.objects) tree.cpu_line O11 r)
+    ⊎ OilCase (lacks_os tree.objects) tree.cpu_line O11 r)

@@ -1,11 +1,11 @@
 //! The faults of an attribute by the attribute table.
 ghost use Rattle.std.specs.Prelude.{◌≡◌, ◌&&◌, IfOk, bytes_eq, codes, is_none};
 ghost use Rattle.oil_table.specs.declared.table.Attribute.TheVariants.{Resource};
-ghost use Rattle.least_fault.specs.Search.{Finds, Somewhere};
+ghost use Rattle.least_fault.specs.Search.{IsSearchResult, Somewhere};
 ghost use Rattle.oil_rules.specs.AttributeFaults.{opened_place, place_by, is_missing, misses_value, refers_to_none, is_refused, RowFault, AttributeFault};
 
 use crate::front::Front;
-use least_fault::{merge, when};
+use least_fault::{fault_if, merge};
 use oil_parse::tree::{OilAttr, OilValue};
 use oil_table::table::allows;
 use oil_table::{Attribute, EarlierUses, Place, attribute_of, block_place, is_second};
@@ -105,14 +105,14 @@ fn row_fault(
     attr: &OilAttr,
 ) -> Option<Refusal>
     requires { before.now.depth ≡ 0 }
-    ensures { Finds (RowFault objects.now scheduler row before.now.attrs attr.now) result }
+    ensures { IsSearchResult (RowFault objects.now scheduler row before.now.attrs attr.now) result }
 {
     let line = attr.line;
-    let unknown = when(is_unlisted(row), Part::Oil, line, Code::O8);
-    let second = when(is_second(row, before, attr), Part::Oil, line, Code::O9);
+    let unknown = fault_if(is_unlisted(row), Part::Oil, line, Code::O8);
+    let second = fault_if(is_second(row, before, attr), Part::Oil, line, Code::O9);
     let missing = refers_to_none(objects, scheduler, row, &attr.value);
-    let missing = when(missing, Part::Oil, line, Code::O10);
-    let refused = when(is_refused(row, &attr.value), Part::Oil, line, Code::O12);
+    let missing = fault_if(missing, Part::Oil, line, Code::O10);
+    let refused = fault_if(is_refused(row, &attr.value), Part::Oil, line, Code::O12);
     merge(unknown, merge(second, merge(missing, refused)))
 }
 
@@ -124,7 +124,7 @@ pub fn attribute_faults(
     place: Place,
     attrs: &[OilAttr],
 ) -> Result<Option<Refusal>, NoMemory>
-    ensures { IfOk result (Finds (Somewhere (AttributeFault objects.now scheduler place) attrs.now)) }
+    ensures { IfOk result (IsSearchResult (Somewhere (AttributeFault objects.now scheduler place) attrs.now)) }
 {
     let mut before = EarlierUses::new(alloc, 0);
     let mut inner = Place::Nowhere;

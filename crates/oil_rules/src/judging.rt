@@ -1,6 +1,6 @@
 //! The least fault of a tree.
 ghost use Rattle.std.specs.Prelude.{◌≡◌, IfOk, true};
-ghost use Rattle.least_fault.specs.Search.{Finds, Somewhere};
+ghost use Rattle.least_fault.specs.Search.{IsSearchResult, Somewhere};
 ghost use Rattle.oil_table.specs.Objects.{has_scheduler};
 ghost use Rattle.oil_events.specs.Events.{events_of};
 ghost use Rattle.oil_rules.specs.ObjectFaults.{is_known};
@@ -10,7 +10,7 @@ use crate::attribute_faults::attribute_faults;
 use crate::front::Front;
 use crate::object_faults::{kind_fault, known_fault};
 use crate::task_faults::task_faults;
-use least_fault::{merge, when};
+use least_fault::{fault_if, merge};
 use oil_events::EventTable;
 use oil_events::events::events_without_bit;
 use oil_parse::tree::{OilObject, OilTree};
@@ -26,7 +26,7 @@ fn faults_of_task<'t>(
     front: &Front,
     object: &'t OilObject,
 ) -> Result<Option<Refusal>, NoMemory>
-    ensures { IfOk result (Finds (TaskFaults events.now front.now object.now)) }
+    ensures { IfOk result (IsSearchResult (TaskFaults events.now front.now object.now)) }
 {
     if !is_of_kind(object, b"TASK") {
         return Ok(None);
@@ -43,7 +43,7 @@ fn inner_fault(
     front: &Front,
     object: &OilObject,
 ) -> Result<Option<Refusal>, NoMemory>
-    ensures { IfOk result (Finds (InnerFault table.now scheduler events.now front.now object.now)) }
+    ensures { IfOk result (IsSearchResult (InnerFault table.now scheduler events.now front.now object.now)) }
 {
     let known = known_fault(scheduler, front, object);
     let place = place_of(object.kind.bytes());
@@ -60,7 +60,7 @@ fn fault_of_known(
     front: &Front,
     object: &OilObject,
 ) -> Result<Option<Refusal>, NoMemory>
-    ensures { IfOk result (Finds (λ r. (is_known object.now ≡ true) × InnerFault table.now scheduler events.now front.now object.now r)) }
+    ensures { IfOk result (IsSearchResult (λ r. (is_known object.now ≡ true) × InnerFault table.now scheduler events.now front.now object.now r)) }
 {
     if is_nowhere(place_of(object.kind.bytes())) {
         return Ok(None);
@@ -76,7 +76,7 @@ fn object_faults(
     scheduler: bool,
     events: &EventTable,
 ) -> Result<Option<Refusal>, NoMemory>
-    ensures { IfOk result (Finds (Somewhere (ObjectFault table.now scheduler events.now) objects.now)) }
+    ensures { IfOk result (IsSearchResult (Somewhere (ObjectFault table.now scheduler events.now) objects.now)) }
 {
     let mut front = Front::new(alloc);
     let mut least = None;
@@ -99,10 +99,10 @@ pub fn judge(
     requires objects { table.now ≡ tree.now.objects }
     requires scheduler { scheduler ≡ has_scheduler tree.now.objects }
     requires events { events.now ≡ events_of tree.now.objects }
-    ensures { IfOk result (Finds (TreeFault tree.now)) }
+    ensures { IfOk result (IsSearchResult (TreeFault tree.now)) }
 {
     let objects = tree.objects.items();
     let of_objects = object_faults(alloc, objects, table, scheduler, events)?;
-    let without_os = when(!table.has_os(), Part::Oil, tree.cpu_line, Code::O11);
+    let without_os = fault_if(!table.has_os(), Part::Oil, tree.cpu_line, Code::O11);
     Ok(merge(of_objects, merge(events_without_bit(objects), without_os)))
 }

@@ -1,12 +1,12 @@
 //! The faults of an object as a whole.
 ghost use Rattle.std.specs.Prelude.{◌≡◌, ◌&&◌, codes};
-ghost use Rattle.least_fault.specs.Search.{Finds};
+ghost use Rattle.least_fault.specs.Search.{IsSearchResult};
 ghost use Rattle.std.specs.List.{list_any};
 ghost use Rattle.oil_table.specs.Objects.{is_of_kind, is_declaration, is_declared};
 ghost use Rattle.oil_rules.specs.ObjectFaults.{is_double_of, shares_name, is_doubled, is_endless, is_idle, lacks_task_attribute, lacks_attribute, is_strange_mode, is_clock_above, is_above, KindFault, KnownFault};
 
 use crate::front::Front;
-use least_fault::{merge, when};
+use least_fault::{fault_if, merge};
 use oil_parse::tree::OilObject;
 use oil_table::object_limits::{comes_behind, is_clock_more};
 use oil_table::table::{is_nowhere, place_of};
@@ -107,9 +107,9 @@ fn is_above(front: &Front, object: &OilObject) -> bool
 
 /// O7: an object of no kind.
 pub fn kind_fault(object: &OilObject) -> Option<Refusal>
-    ensures { Finds (KindFault object.now) result }
+    ensures { IsSearchResult (KindFault object.now) result }
 {
-    when(
+    fault_if(
         is_nowhere(place_of(object.kind.bytes())),
         Part::Oil,
         object.line,
@@ -119,17 +119,17 @@ pub fn kind_fault(object: &OilObject) -> Option<Refusal>
 
 /// O9, O11, O12 and O14 of an object of a kind.
 pub fn known_fault(scheduler: bool, front: &Front, object: &OilObject) -> Option<Refusal>
-    ensures { Finds (KnownFault scheduler front.now object.now) result }
+    ensures { IsSearchResult (KnownFault scheduler front.now object.now) result }
 {
     let line = object.line;
-    let doubled = when(
+    let doubled = fault_if(
         is_doubled(scheduler, front, object),
         Part::Oil,
         line,
         Code::O9,
     );
-    let lacking = when(lacks_attribute(object), Part::Oil, line, Code::O11);
-    let strange = when(is_strange_mode(object), Part::Oil, line, Code::O12);
-    let above = when(is_above(front, object), Part::Oil, line, Code::O14);
+    let lacking = fault_if(lacks_attribute(object), Part::Oil, line, Code::O11);
+    let strange = fault_if(is_strange_mode(object), Part::Oil, line, Code::O12);
+    let above = fault_if(is_above(front, object), Part::Oil, line, Code::O14);
     merge(doubled, merge(lacking, merge(strange, above)))
 }

@@ -1,12 +1,12 @@
 //! The faults of an attribute of a task that rest on other tasks and on events.
 ghost use Rattle.std.specs.Prelude.{◌≡◌, ◌&&◌, ◌||◌, not, IfOk, codes};
-ghost use Rattle.least_fault.specs.Search.{Finds, Somewhere};
+ghost use Rattle.least_fault.specs.Search.{IsSearchResult, Somewhere};
 ghost use Rattle.oil_table.specs.Objects.{is_use, is_used, number_of};
 ghost use Rattle.oil_rules.specs.TaskFaults.{is_taken, TaskFault};
 
 use crate::front::Front;
 use crate::references::References;
-use least_fault::{merge, when};
+use least_fault::{fault_if, merge};
 use oil_events::EventTable;
 use oil_parse::tree::OilAttr;
 use oil_table::{is_use, number_of};
@@ -39,11 +39,11 @@ fn is_given_with(given: bool, attr: &OilAttr) -> bool
 
 fn task_fault(front: &Front, given: bool, before: &References, attr: &OilAttr) -> Option<Refusal>
     requires { given ≡ is_used before.now.attrs (codes "PRIORITY") }
-    ensures { Finds (TaskFault before.now.events front.now before.now.attrs attr.now) result }
+    ensures { IsSearchResult (TaskFault before.now.events front.now before.now.attrs attr.now) result }
 {
     let repeated = repeats_priority(front, given, attr);
-    let repeated = when(repeated, Part::Oil, attr.line, Code::O13);
-    let shared = when(before.shares_bit(attr), Part::Oil, attr.line, Code::O15);
+    let repeated = fault_if(repeated, Part::Oil, attr.line, Code::O13);
+    let shared = fault_if(before.shares_bit(attr), Part::Oil, attr.line, Code::O15);
     merge(repeated, shared)
 }
 
@@ -54,7 +54,7 @@ pub fn task_faults<'t>(
     front: &Front,
     attrs: &'t [OilAttr],
 ) -> Result<Option<Refusal>, NoMemory>
-    ensures { IfOk result (Finds (Somewhere (TaskFault events.now front.now) attrs.now)) }
+    ensures { IfOk result (IsSearchResult (Somewhere (TaskFault events.now front.now) attrs.now)) }
 {
     let mut before = References::new(alloc, events);
     let mut given = false;

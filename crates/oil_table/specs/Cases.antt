@@ -6,5 +6,5 @@ use Rattle.sloth_base.specs.declared.refusal.Refusal.{Refusal}
 use Rattle.least_fault.specs.Cases.{CaseOf}
 
 -- The test says that there is a fault of this code on this line, and it is r.
-abbrev pub Case : Bool → ℕ → Code → Refusal → Type 0
-Case test line code r = CaseOf Oil test line code r
+abbrev pub OilCase : Bool → ℕ → Code → Refusal → Type 0
+OilCase test line code r = CaseOf Oil test line code r

@@ -12,9 +12,9 @@ use Rattle.osek_scheduler.specs.declared.state.TaskState.TheVariants as mode
 use Rattle.osek_scheduler.specs.State.{Task, System, sleeping_task, task}
 use Rattle.code_rules.specs.Code.{is_in}
 use Rattle.osek_scheduler.specs.Priority.{IsTop}
-use Rattle.osek_scheduler.specs.Services.{activated_state, started_task, Outcome, GoesOn, Leaves}
+use Rattle.osek_scheduler.specs.Services.{activated_state, started_task, ServiceOutcome, GoesOn, Leaves}
 use Rattle.osek_scheduler.proofs.ServiceStates.{IsAfter}
-use Rattle.osek_scheduler.specs.Steps.{admitted_state, ServesCall, OsekStep}
+use Rattle.osek_scheduler.specs.Steps.{admitted_state, IsServiceStep, OsekStep}
 use Rattle.osek_valid.specs.Apart.{IsActive, TasksAreApart}
 use Rattle.osek_valid.proofs.Apart.{Same, Acts, admit_calm, enter_acts, run_acts, call_acts, left_acts, back_acts}
 use Rattle.osek_scheduler.proofs.Outcomes.{by_suspended}
@@ -119,7 +119,7 @@ module _ (config : Config) (t : ℕ) (s : System) where
 -- ---- the events of a task
 
 module _ (config : Config) (app : App) (s next : System) (o : Ordered config s) where
-  answer_stays : (t : ℕ) (served : Service) (answer : Outcome) → ServesCall config app t served s answer → IsAfter (Stays t s) answer
+  answer_stays : (t : ℕ) (served : Service) (answer : ServiceOutcome) → IsServiceStep config app t served s answer → IsAfter (Stays t s) answer
   answer_stays t served answer h = subst (IsAfter (Stays t s)) h.is (outcome_stays t config served h.call.object h.call.mask s)
 
   pub task_effect : (e : Event) → OsekStep config app e s next → is_some (named_task e) ≡ true → Effect config s next e

@@ -14,9 +14,9 @@ use Rattle.osek_scheduler.specs.declared.state.TaskState.TheVariants as mode
 use Rattle.osek_scheduler.specs.State.{Frame, System, task}
 use Rattle.osek_scheduler.specs.Priority.{IsTop}
 use Rattle.osek_scheduler.specs.Meaning.{ItemMeaning, meaning}
-use Rattle.osek_scheduler.specs.Services.{Outcome, GoesOn, Leaves}
+use Rattle.osek_scheduler.specs.Services.{ServiceOutcome, GoesOn, Leaves}
 use Rattle.osek_scheduler.specs.Outcomes.{outcome}
-use Rattle.osek_scheduler.specs.Steps.{IsAt, Executes, ServesCall, OsekStep}
+use Rattle.osek_scheduler.specs.Steps.{IsAt, IsItemStep, IsServiceStep, OsekStep}
 use Rattle.osek_blocking.specs.NextEvents.{IsNoAdmission}
 
 -- ---- the event of the task that is due
@@ -25,7 +25,7 @@ abbrev shown : Option ItemMeaning → ℕ
 shown None = 0
 shown (Some meant) = meant.result
 
-abbrev answered : ℕ → Service → Outcome → Event
+abbrev answered : ℕ → Service → ServiceOutcome → Event
 answered t s (GoesOn status after) = event.Call t s status
 answered t s (Leaves after) = event.Left t s
 
@@ -67,7 +67,7 @@ module _ (config : Config) (app : App) (s : System) (t : ℕ) where
   of_meaning (op.Serve call) frame outer m e = absurd cc
   of_meaning o frame outer m e = refl
 
-  running : (func item result : ℕ) (next : System) → Executes config app t func item result s next → event.Run t func item result ≡ only
+  running : (func item result : ℕ) (next : System) → IsItemStep config app t func item result s next → event.Run t func item result ≡ only
   running func item result next h =
       let o = h.operation in
       let frame = h.at.frame in
@@ -78,7 +78,7 @@ module _ (config : Config) (app : App) (s : System) (t : ℕ) where
       ∙ ap (event.Run t func item) (ap shown h.means ∙ h.shows)) in
       sym (at_operation o h.at ∙ (plain ∙ place))
 
-  serving : (served : Service) (answer : Outcome) → ServesCall config app t served s answer → answered t served answer ≡ only
+  serving : (served : Service) (answer : ServiceOutcome) → IsServiceStep config app t served s answer → answered t served answer ≡ only
   serving served answer h =
       sym (at_operation (op.Serve h.call) h.at
       ∙ (ap (λ x. answered t x (outcome config x h.call.object h.call.mask t s)) h.same ∙ ap (answered t served) h.is))

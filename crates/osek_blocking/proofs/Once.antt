@@ -15,7 +15,7 @@ use Rattle.osek_scheduler.specs.State.{System, task, opening}
 use Rattle.code_rules.specs.Code.{is_in}
 use Rattle.osek_scheduler.specs.Priority.{is_active, IsTop}
 use Rattle.osek_scheduler.specs.Steps.{OsekStep}
-use Rattle.osek_scheduler.specs.Runs.{Leads, OsekRun}
+use Rattle.osek_scheduler.specs.Runs.{AreStepsTo, OsekRun}
 use Rattle.osek_scheduler.proofs.Leading.{follows_leads, leads-parts, one_step, one_end}
 use Rattle.osek_scheduler.proofs.Tests.{Decides-is_active, Decides-leb}
 use Rattle.osek_valid.specs.Apart.{priority_of, static_priority, IsActive, IsOver}
@@ -295,7 +295,7 @@ module _ (config : Config) (app : App) (h : ℕ) (declared : h < length config.t
   -- the state that the event behind `front` finds, and what is said of the event
   record Found (s : System) (front : List Stamped) (e : Event) (u b : ℕ) : Type 0 where
     found : System
-    leads : Leads config app front s found
+    leads : AreStepsTo config app front s found
     of : u ≡ b
     raised : IsRaisedTo config found u h ⊎ FindsFresh e found h
 
@@ -304,7 +304,7 @@ module _ (config : Config) (app : App) (h : ℕ) (declared : h < length config.t
   further_on y front e s next u b step f = record { found = f.found; leads = (next, step, f.leads); of = f.of; raised = f.raised }
 
   late : (events front rest : List Stamped) (x : Stamped) (s end : System) (u b : ℕ) → Ordered config s → IsReady s h
-      → is_in h s.fresh ≡ false → BlocksAlone config h s b → Leads config app events s end → events_up_to_entry h events ≡ front ++ x ∷ rest
+      → is_in h s.fresh ≡ false → BlocksAlone config h s b → AreStepsTo config app events s end → events_up_to_entry h events ≡ front ++ x ∷ rest
       → IsOfLower config h x.event u → Found s front x.event u b
   late [] front rest x s end u b o ready out alone leads is lower = absurd (no_end front x rest is)
   late (e ∷ events) [] rest x s end u b o ready out alone leads is lower =
@@ -323,7 +323,7 @@ module _ (config : Config) (app : App) (h : ℕ) (declared : h < length config.t
       (stays_out s next ready e.event f out) (λ v k. alone v (old s next ready e.event f out v k)) leads.2 p.1 lower)
 
   early : (events front rest : List Stamped) (x : Stamped) (s end : System) (u b : ℕ) → Ordered config s → IsReady s h
-      → is_in h s.fresh ≡ true → BlocksAlone config h s b → Leads config app events s end → events_up_to_entry h events ≡ front ++ x ∷ rest
+      → is_in h s.fresh ≡ true → BlocksAlone config h s b → AreStepsTo config app events s end → events_up_to_entry h events ≡ front ++ x ∷ rest
       → IsOfLower config h x.event u → Found s front x.event u (behind_all config h events b)
   early [] front rest x s end u b o ready fresh alone leads is lower = absurd (no_end front x rest is)
   early (e ∷ events) [] rest x s end u b o ready fresh alone leads is lower =
@@ -358,7 +358,7 @@ module _ (config : Config) (app : App) (h : ℕ) (declared : h < length config.t
         subst (λ (x : System). IsRaisedTo config x u h ⊎ FindsFresh e.event x h) (one_end config app front s k.found found k.leads leads) k.raised;
   }
 
-  once : (events : List Stamped) (s end : System) → Ordered config s → IsReady s h → Leads config app events s end
+  once : (events : List Stamped) (s end : System) → Ordered config s → IsReady s h → AreStepsTo config app events s end
       → (b : ℕ) × IsBlockedBy config app h s (events_up_to_entry h events) b
   once events s end o ready leads = by (cases_Bool (is_in h s.fresh))
     where
@@ -382,10 +382,10 @@ pub block_once : (config : Config) (app : App) (events : List Stamped) → OsekR
 block_once config app events run before behind made h found s is leads makes =
     let whole = follows_leads config app [] (opening config app) events run.0 run.1 in
     let parts = leads-parts config app before (made ∷ behind) (opening config app) run.0
-    (subst (λ es. Leads config app es (opening config app) run.0) is whole) in
+    (subst (λ es. AreStepsTo config app es (opening config app) run.0) is whole) in
     let met = one_end config app before (opening config app) parts.0 found parts.1 leads in
     let step = subst (λ x. OsekStep config app made.event x parts.2.0) met parts.2.1 in
     let next = one_step config app made.event found parts.2.0 s step makes.step in
     let ordered = leads_ordered config app before (opening config app) found (opening_ordered config app) leads in
     once config app h makes.declared behind s run.0 (step_ordered config app found s ordered made.event makes.step) makes.behind
-    (subst (λ x. Leads config app behind x run.0) next parts.2.2)
+    (subst (λ x. AreStepsTo config app behind x run.0) next parts.2.2)

@@ -10,10 +10,10 @@ use Rattle.sloth_base.specs.declared.event.Stamped.{Stamped}
 use Rattle.osek_scheduler.specs.State.{System, opening}
 use Rattle.osek_scheduler.specs.Priority.{rank, IsDue, NoTicks, IsNextTick, IsTop}
 use Rattle.osek_scheduler.specs.Steps.{OsekStep}
-use Rattle.osek_scheduler.specs.Runs.{Leads}
+use Rattle.osek_scheduler.specs.Runs.{AreStepsTo}
 use Rattle.osek_scheduler.proofs.Leading.{one_step}
 use Rattle.osek_valid.specs.Valid.{IsValid}
-use Rattle.osek_valid.specs.Apart.{TasksAreApart, Excludes, static_priority}
+use Rattle.osek_valid.specs.Apart.{TasksAreApart, HasExclusion, static_priority}
 use Rattle.osek_valid.proofs.Apart.{rank_active, rank_ready, opening_apart}
 use Rattle.osek_valid.proofs.ApartSteps.{step_apart}
 use Rattle.osek_valid.proofs.Excluding.{excludes}
@@ -25,7 +25,7 @@ use Rattle.osek_blocking.proofs.OfTask.{only, acting, task_settles}
 
 -- ---- one task is due
 
-module _ (config : Config) (app : App) (s : System) (w : Facts config app) (v : IsValid config app s) (x : Excludes config s) where
+module _ (config : Config) (app : App) (s : System) (w : Facts config app) (v : IsValid config app s) (x : HasExclusion config s) where
   static_differ : (t u : ℕ) → t < length config.tasks → u < length config.tasks → t ≢ u → static_priority config t ≢ static_priority config u
   static_differ t u lt lu n e = by (cases_lt t u)
     where
@@ -126,7 +126,7 @@ module _ (config : Config) (app : App) (w : Facts config app) where
       one_step config app f s after other (subst (λ (x : Event). OsekStep config app x s after) same a) b
 
   one_from : (events others : List Stamped) (s r end other : System) → s ≡ r → IsValid config app s → TasksAreApart config s → s.fresh ≡ [] → length events ≡ length others
-      → AreOwn events → Leads config app events s end → AreOwn others → Leads config app others r other
+      → AreOwn events → AreStepsTo config app events s end → AreOwn others → AreStepsTo config app others r other
       → (map (λ e. e.event) events ≡ map (λ e. e.event) others) × (end ≡ other)
   one_from [] [] s r end other same v a none long p h q k = (refl, h ∙ (same ∙ sym k))
   one_from [] (f ∷ others) s r end other same v a none long p h q k = absurd (omega (arith, long))

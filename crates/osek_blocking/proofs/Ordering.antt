@@ -9,7 +9,7 @@ use Rattle.sloth_base.specs.declared.event.Stamped.{Stamped}
 use Rattle.osek_scheduler.specs.declared.state.TaskState.TheVariants as mode
 use Rattle.osek_scheduler.specs.State.{System, sleeping_task, opening}
 use Rattle.osek_scheduler.specs.Steps.{OsekStep}
-use Rattle.osek_scheduler.specs.Runs.{Leads}
+use Rattle.osek_scheduler.specs.Runs.{AreStepsTo}
 use Rattle.osek_valid.proofs.Apart.{boot_calm, tick_calm, opening_apart}
 use Rattle.osek_valid.proofs.ApartSteps.{step_apart}
 use Rattle.osek_valid.proofs.Steps.{length-autostarted, autostarted_at}
@@ -53,6 +53,6 @@ module _ (config : Config) (app : App) where
   pub opening_ordered : Ordered config (opening config app)
   opening_ordered = record { count = length-map config.tasks (λ _. sleeping_task); apart = opening_apart config app }
 
-  pub leads_ordered : (events : List Stamped) (s end : System) → Ordered config s → Leads config app events s end → Ordered config end
+  pub leads_ordered : (events : List Stamped) (s end : System) → Ordered config s → AreStepsTo config app events s end → Ordered config end
   leads_ordered [] s end o h = subst (Ordered config) (sym h) o
   leads_ordered (e ∷ events) s end o h = leads_ordered events h.0 end (step_ordered config app s h.0 o e.event h.1) h.2

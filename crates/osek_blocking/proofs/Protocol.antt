@@ -12,10 +12,10 @@ use Rattle.sloth_base.specs.declared.service.Service.TheVariants as service
 use Rattle.sloth_base.specs.Status.{E_OK}
 use Rattle.code_rules.specs.WellFormed.{WellFormed}
 use Rattle.osek_scheduler.specs.State.{System, opening}
-use Rattle.osek_scheduler.specs.Services.{Outcome, GoesOn, Leaves}
+use Rattle.osek_scheduler.specs.Services.{ServiceOutcome, GoesOn, Leaves}
 use Rattle.osek_scheduler.specs.Outcomes.{outcome}
-use Rattle.osek_scheduler.specs.Steps.{ServesCall, OsekStep}
-use Rattle.osek_scheduler.specs.Runs.{Leads, OsekRun}
+use Rattle.osek_scheduler.specs.Steps.{IsServiceStep, OsekStep}
+use Rattle.osek_scheduler.specs.Runs.{AreStepsTo, OsekRun}
 use Rattle.osek_scheduler.proofs.Leading.{follows_leads}
 use Rattle.osek_valid.proofs.Apart.{opening_apart}
 use Rattle.osek_valid.proofs.Facts.{facts}
@@ -41,7 +41,7 @@ module _ (config : Config) (app : App) (s next : System) where
   never_leaves t object mask after e = cc
 
   -- the outcome of a service that is GetResource
-  of_get : (t : ℕ) (served : Service) (answer : Outcome) → (h : ServesCall config app t served s answer) → served ≡ service.GetResource
+  of_get : (t : ℕ) (served : Service) (answer : ServiceOutcome) → (h : IsServiceStep config app t served s answer) → served ≡ service.GetResource
       → outcome config service.GetResource h.call.object h.call.mask t s ≡ answer
   of_get t served answer h is = subst (λ (v : Service). outcome config v h.call.object h.call.mask t s ≡ answer) is h.is
 
@@ -52,7 +52,7 @@ module _ (config : Config) (app : App) (s next : System) where
   gets event.Boot h = tt
   gets e h = tt
 
-each_gets : (config : Config) (app : App) (events : List Stamped) (s end : System) → Leads config app events s end
+each_gets : (config : Config) (app : App) (events : List Stamped) (s end : System) → AreStepsTo config app events s end
     → AllByRecursion (λ (e : Stamped). GetsResource e.event) events
 each_gets config app [] s end h = tt
 each_gets config app (e ∷ events) s end h = (gets config app s h.0 e.event h.1, each_gets config app events h.0 end h.2)

@@ -8,7 +8,7 @@ use Rattle.sloth_base.specs.Options.{is_number}
 use Rattle.sloth_base.specs.declared.config.Config.{Config}
 use Rattle.sloth_base.specs.declared.event.Stamped.{Stamped}
 use Rattle.osek_scheduler.specs.State.{opening}
-use Rattle.osek_scheduler.specs.InTime.{InTime, IsStamped, AdmitsAll, LeavesOut, admits_at}
+use Rattle.osek_scheduler.specs.InTime.{InTime, IsStamped, AreAllAdmitted, AreLeftOut, admits_at}
 use Rattle.sloth_base.specs.Events.{admitted_line}
 use Rattle.osek_scheduler.proofs.Leading.{follows_leads}
 use Rattle.osek_blocking.specs.NextEvents.{AreOwn, RunsWithoutArrivals}
@@ -47,7 +47,7 @@ module _ (n : ℕ) where
   without_arrivals : (config : Config) (events : List Stamped) → InTime config n [] events → AreOwn events
   without_arrivals config events h = own events h.stamped (by h.admitted)
     where
-      by : AdmitsAll n [] events ⊎ ((k : ℕ) × LeavesOut config n [] events k) → (k t : ℕ) → k < n → admits_at k t events ≡ 0
+      by : AreAllAdmitted n [] events ⊎ ((k : ℕ) × AreLeftOut config n [] events k) → (k t : ℕ) → k < n → admits_at k t events ≡ 0
       by (inl all) = all
       by (inr left) = absurd (omega (arith, left.1.first.1))
 

@@ -11,7 +11,7 @@ use Rattle.osek_scheduler.specs.declared.state.TaskState.TheVariants as mode
 use Rattle.osek_scheduler.specs.State.{System, task, opening}
 use Rattle.code_rules.specs.Code.{is_in}
 use Rattle.osek_scheduler.specs.Steps.{OsekStep}
-use Rattle.osek_scheduler.specs.Runs.{Leads}
+use Rattle.osek_scheduler.specs.Runs.{AreStepsTo}
 use Rattle.osek_valid.specs.Apart.{priority_of, static_priority}
 
 -- ---- events
@@ -52,11 +52,11 @@ FindsFresh e found h = (is_call e ≡ true) × (is_in h found.fresh ≡ true)
 pub record IsBlockedBy (config : Config) (app : App) (h : ℕ) (s : System) (events : List Stamped) (b : ℕ) : Type 0 where
   pub of_one : (front rest : List Stamped) (e : Stamped) (u : ℕ) → events ≡ front ++ e ∷ rest → IsOfLower config h e.event u → u ≡ b
   pub raised : (front rest : List Stamped) (e : Stamped) (u : ℕ) (found : System) → events ≡ front ++ e ∷ rest → IsOfLower config h e.event u
-      → Leads config app front s found → IsRaisedTo config found u h ⊎ FindsFresh e.event found h
+      → AreStepsTo config app front s found → IsRaisedTo config found u h ⊎ FindsFresh e.event found h
 
 -- From each event that makes a task Ready up to its `enter`, one task of lower priority at most blocks it.
 abbrev pub BlocksOnce : Config → App → List Stamped → Type 0
 BlocksOnce config app events =
     (before behind : List Stamped) (made : Stamped) (h : ℕ) (found s : System) → events ≡ before ++ made ∷ behind
-    → Leads config app before (opening config app) found → MakesReady config app h made.event found s
+    → AreStepsTo config app before (opening config app) found → MakesReady config app h made.event found s
     → (b : ℕ) × IsBlockedBy config app h s (events_up_to_entry h behind) b

@@ -8,15 +8,15 @@ use Rattle.sloth_base.specs.declared.event.Stamped.{Stamped}
 use Rattle.sloth_base.specs.declared.service.Service.TheVariants as service
 use Rattle.sloth_base.specs.Status.{E_OK}
 use Rattle.osek_scheduler.specs.State.{System, opening}
-use Rattle.osek_scheduler.specs.Runs.{Leads}
-use Rattle.osek_valid.specs.Apart.{Excludes}
+use Rattle.osek_scheduler.specs.Runs.{AreStepsTo}
+use Rattle.osek_valid.specs.Apart.{HasExclusion}
 use Rattle.osek_blocking.specs.Blocking.{BlocksOnce}
 
 -- In each state that the events lead through, the one before them and the one behind them included, no two tasks hold one resource, a task that
 -- is not Active holds none, and no two Active tasks have one current priority.
 abbrev pub AlwaysExcludes : Config → App → List Stamped → Type 0
 AlwaysExcludes config app events =
-    (front rest : List Stamped) (s : System) → events ≡ front ++ rest → Leads config app front (opening config app) s → Excludes config s
+    (front rest : List Stamped) (s : System) → events ≡ front ++ rest → AreStepsTo config app front (opening config app) s → HasExclusion config s
 
 -- if the event is of GetResource, it is a `call` with status E_OK
 abbrev pub GetsResource : Event → Type 0

@@ -23,7 +23,7 @@ use Rattle.osek_scheduler.specs.declared.state.TaskState.TheVariants as mode
 use Rattle.osek_scheduler.specs.State.{Frame, Task, System, sleeping_task, task, with_task}
 use Rattle.osek_scheduler.specs.Priority.{is_active}
 use Rattle.osek_scheduler.specs.Meaning.{ItemMeaning, execution, accessed_bytes, loaded_word, bytes_after_store, register, going_on_frame, write_meaning, is_own, registers_of, on_some, if_true}
-use Rattle.osek_scheduler.specs.Services.{if_suspended, is_there, woken_state, with_events, set_events, Outcome, started_task}
+use Rattle.osek_scheduler.specs.Services.{if_suspended, is_there, woken_state, with_events, set_events, ServiceOutcome, started_task}
 use Rattle.osek_scheduler.specs.Outcomes.{shown_outcome, Decision, Does, IfSuspended, If, plan_in, outcome_of, decision, outcome, plan}
 use Rattle.osek_scheduler.proofs.AllPlans.{OnPlans}
 use Rattle.osek_scheduler.specs.Outcomes as one_by_one
@@ -225,11 +225,11 @@ module _ (config : Config) (app : App) (t : ℕ) (s : System) where
 -- ---- services
 
 -- the outcome that a plan of task t has
-abbrev outcome_by : ℕ → System → Plan → Outcome
+abbrev outcome_by : ℕ → System → Plan → ServiceOutcome
 outcome_by t s p = shown_outcome p.answer (planned_system t p s)
 
 -- one of two plans, by the state of a task
-by_state : (t : ℕ) (s : System) (m : TaskState) (a b : Outcome) (p q : Plan) → (m ≡ mode.Suspended → a ≡ outcome_by t s p)
+by_state : (t : ℕ) (s : System) (m : TaskState) (a b : ServiceOutcome) (p q : Plan) → (m ≡ mode.Suspended → a ≡ outcome_by t s p)
     → ((m ≡ mode.Suspended → ⊥) → b ≡ outcome_by t s q) → if_suspended m a b ≡ outcome_by t s (if_suspended m p q)
 by_state t s mode.Suspended a b p q e f = e refl
 by_state t s mode.Ready a b p q e f = f (λ x. cc)
@@ -237,7 +237,7 @@ by_state t s mode.Active a b p q e f = f (λ x. cc)
 by_state t s (mode.Waiting mask) a b p q e f = f (λ x. cc)
 
 -- one of two plans, by a test
-by_test : (t : ℕ) (s : System) (c : Bool) (a b : Outcome) (p q : Plan) → (c ≡ true → a ≡ outcome_by t s p) → (c ≡ false → b ≡ outcome_by t s q)
+by_test : (t : ℕ) (s : System) (c : Bool) (a b : ServiceOutcome) (p q : Plan) → (c ≡ true → a ≡ outcome_by t s p) → (c ≡ false → b ≡ outcome_by t s q)
     → cond c a b ≡ outcome_by t s (cond c p q)
 by_test t s true a b p q e f = e refl
 by_test t s false a b p q e f = f refl
@@ -351,7 +351,7 @@ module _ (config : Config) (app : App) (t : ℕ) (s : System) (count : length s.
       (λ o. on_some (call_in o) (call_plan config srv t s)) (λ p. Some (outcome_by t s p)) (served-planned config t s count srv)
 
   -- what is made of the outcome, by a test of the plan
-  by_outcome : (go : Outcome → Option System) (test : Plan → Bool) → ((p : Plan) → go (outcome_by t s p) ≡ if_true (test p) (settling p))
+  by_outcome : (go : ServiceOutcome → Option System) (test : Plan → Bool) → ((p : Plan) → go (outcome_by t s p) ≡ if_true (test p) (settling p))
       → on_some (answer_to config app t srv s) go ≡ followed_state t s (on_some serving (λ p. if_true (test p) (Some p)))
   by_outcome go test same =
       ap (λ o. on_some o go) answer-planned

@@ -55,7 +55,7 @@ use Rattle.osek_scheduler.specs.declared.plan.Plan.{Plan}
 use Rattle.osek_plans.specs.Clocked.{NamesTask, IsClocked}
 use Rattle.osek_plans.specs.Frames.{CanMove, HasWord}
 use Rattle.osek_scheduler.specs.Changes.{outer_frames, changed_task, with_change}
-use Rattle.osek_plans.specs.Changes.{Allows}
+use Rattle.osek_plans.specs.Changes.{HasChangeRoom}
 use Rattle.osek_plans.specs.Plans.{with_other, planned_system, write_plan, service_plan, item_plan, item_behind, load_of, is_inside, HasOther, HasPlanRoom}
 use Rattle.osek_plans.specs.Running.{IsComputed, own_operation, run_plan, call_in, call_plan, serving_plan, running_plan, entry_change, entry_plan, back_plan}
 use Rattle.osek_plans.specs.Steps.{answer_plan, leave_plan, followed_state, IsRead}
@@ -298,7 +298,7 @@ module _ {config : Config} {app : App} {s : System} (sound : IsSound config app 
 
     -- there is room for a plan of task t
     abbrev Roomy : Plan → Type 0
-    Roomy p = Allows p.change k × HasOther p.other s
+    Roomy p = HasChangeRoom p.change k × HasOther p.other s
 
     from_some : (p q : Plan) → Some p ≡ Some q → Roomy p → Roomy q
     from_some p q e r = subst Roomy (same_Some p q e) r
@@ -380,7 +380,7 @@ module _ {config : Config} {app : App} {s : System} (sound : IsSound config app 
         nothing-there o h = absurd (false≢true h)
 
     -- there is room for each change that a service makes of its caller, where it holds few resources
-    own-allowed : (c : TaskChange) → is_own_change c ≡ true → length (changed_task c k).held ≤ ceiling_count → Allows c k
+    own-allowed : (c : TaskChange) → is_own_change c ≡ true → length (changed_task c k).held ≤ ceiling_count → HasChangeRoom c k
     own-allowed change.End e holds = tt
     own-allowed (change.Take r) e holds = let long = length-append k.held (r ∷ []) in (moves t, omega (arith, long, holds))
     own-allowed (change.Answer status) e holds = moves t
@@ -395,8 +395,8 @@ module _ {config : Config} {app : App} {s : System} (sound : IsSound config app 
         → length (changed_task (plan_of srv object mask).change k).held ≤ ceiling_count → Roomy (plan_of srv object mask)
     service-room srv object mask e holds =
         let d = decision config srv object mask t s in (
-          on_taken s (λ p. length (changed_task p.change k).held ≤ ceiling_count → Allows p.change k) d
-              (on_tested s (λ p. length (changed_task p.change k).held ≤ ceiling_count → Allows p.change k) (λ p. is_own_change p.change) (λ p. own-allowed p.change) d (own-changes config srv object mask t s))
+          on_taken s (λ p. length (changed_task p.change k).held ≤ ceiling_count → HasChangeRoom p.change k) d
+              (on_tested s (λ p. length (changed_task p.change k).held ≤ ceiling_count → HasChangeRoom p.change k) (λ p. is_own_change p.change) (λ p. own-allowed p.change) d (own-changes config srv object mask t s))
               holds,
           on_taken s (λ p. HasOther p.other s) d (besides-there srv object mask e),
         )
@@ -424,7 +424,7 @@ module _ {config : Config} {app : App} {s : System} (sound : IsSound config app 
       room-of t lt (make found.0) p found.2 (by (depth == 0) body non found.0 words t)
     where
       by : (b : Bool) (body : ℕ) (non : Bool) (f : Func) → f.frame_words ≤ frame_limit → (t : ℕ)
-          → Allows (cond b (change.Start body f.frame_words non) (change.Resume non)) (task s t) × Unit {0}
+          → HasChangeRoom (cond b (change.Start body f.frame_words non) (change.Resume non)) (task s t) × Unit {0}
       by true body non f h t = (h, tt)
       by false body non f h t = (tt, tt)
 

@@ -16,8 +16,8 @@ ghost use Rattle.osek_plans.specs.Steps.{followed_state};
 ghost use Rattle.osek_machine.specs.Steps.{IsSound, Machine};
 
 use crate::ticks;
-use osek_plans::above::lines_above;
 use osek_plans::events::{answer_plan, back_plan, entry_plan, leave_plan, running_plan};
+use osek_plans::lines_above::lines_above;
 use osek_plans::priority::{is_idle, is_next_tick, no_ticks};
 use osek_plans::store::Store;
 use osek_scheduler::plan::Plan;

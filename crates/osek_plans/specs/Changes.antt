@@ -8,23 +8,23 @@ use Rattle.osek_scheduler.specs.Changes.{outer_frames}
 use Rattle.osek_plans.specs.Frames.{CanMove, HasWord}
 
 -- the task has room for a change
-abbrev pub Allows : TaskChange → Task → Type 0
-Allows change.Activate k = Unit {0}
-Allows (change.AddEvents mask) k = Unit {0}
-Allows (change.Answer status) k = CanMove k.frames
-Allows (change.AnswerWith value) k = CanMove k.frames
-Allows change.End k = Unit {0}
-Allows (change.Wait mask) k = CanMove k.frames
-Allows change.Pause k = CanMove k.frames
-Allows (change.Take resource) k = CanMove k.frames × (length k.held < ceiling_count)
-Allows change.Release k = CanMove k.frames
-Allows (change.ClearEvents mask) k = CanMove k.frames
-Allows (change.Start func words non) k = words ≤ frame_limit
-Allows (change.Resume non) k = Unit {0}
-Allows (change.ComeBack non) k = Unit {0}
-Allows (change.Write rd value) k = CanMove k.frames
-Allows (change.GoTo item) k = Unit {0}
-Allows change.MoveOn k = CanMove k.frames
-Allows (change.StoreWord word value) k = CanMove k.frames × HasWord word k.frames
-Allows (change.Invoke func words) k = (length k.frames < body_limit) × (words ≤ frame_limit)
-Allows change.Return k = CanMove (outer_frames k.frames)
+abbrev pub HasChangeRoom : TaskChange → Task → Type 0
+HasChangeRoom change.Activate k = Unit {0}
+HasChangeRoom (change.AddEvents mask) k = Unit {0}
+HasChangeRoom (change.Answer status) k = CanMove k.frames
+HasChangeRoom (change.AnswerWith value) k = CanMove k.frames
+HasChangeRoom change.End k = Unit {0}
+HasChangeRoom (change.Wait mask) k = CanMove k.frames
+HasChangeRoom change.Pause k = CanMove k.frames
+HasChangeRoom (change.Take resource) k = CanMove k.frames × (length k.held < ceiling_count)
+HasChangeRoom change.Release k = CanMove k.frames
+HasChangeRoom (change.ClearEvents mask) k = CanMove k.frames
+HasChangeRoom (change.Start func words non) k = words ≤ frame_limit
+HasChangeRoom (change.Resume non) k = Unit {0}
+HasChangeRoom (change.ComeBack non) k = Unit {0}
+HasChangeRoom (change.Write rd value) k = CanMove k.frames
+HasChangeRoom (change.GoTo item) k = Unit {0}
+HasChangeRoom change.MoveOn k = CanMove k.frames
+HasChangeRoom (change.StoreWord word value) k = CanMove k.frames × HasWord word k.frames
+HasChangeRoom (change.Invoke func words) k = (length k.frames < body_limit) × (words ≤ frame_limit)
+HasChangeRoom change.Return k = CanMove (outer_frames k.frames)

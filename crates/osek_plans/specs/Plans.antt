@@ -18,7 +18,7 @@ use Rattle.osek_scheduler.specs.declared.plan.Other.{Other}
 use Rattle.osek_scheduler.specs.declared.plan.Other.TheVariants as other
 use Rattle.osek_scheduler.specs.declared.plan.Plan.{Plan}
 use Rattle.osek_scheduler.specs.Changes.{with_change}
-use Rattle.osek_plans.specs.Changes.{Allows}
+use Rattle.osek_plans.specs.Changes.{HasChangeRoom}
 
 -- the system after what an event does besides; events are set in one change
 abbrev pub with_other : Other → System → System
@@ -43,7 +43,7 @@ HasOther (other.SetAlarm a left cycle) s = a < length s.clock.alarms
 -- the system has room for a plan of task t
 pub record HasPlanRoom (t : ℕ) (p : Plan) (s : System) : Type 0 where
   pub declared : t < length s.tasks
-  pub allows : Allows p.change (task s t)
+  pub allows : HasChangeRoom p.change (task s t)
   pub besides : HasOther p.other s
 
 -- ---- services

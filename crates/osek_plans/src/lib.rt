@@ -7,7 +7,6 @@
 //! counters needs: `specs/Clocked`. States, changes and outcomes: `osek_scheduler` (`State`, `Changes`, `Outcomes`).
 #![tactic(auto)]
 
-pub mod above;
 pub mod alarms;
 pub mod arithmetic;
 pub mod clock;
@@ -15,8 +14,9 @@ pub mod data;
 pub mod events;
 pub mod frame;
 pub mod fresh;
-pub mod held;
+pub mod held_resources;
 pub mod items;
+pub mod lines_above;
 pub mod priority;
 pub mod room;
 pub mod services;

@@ -7,11 +7,11 @@ ghost use Rattle.osek_scheduler.specs.State.{sleeping_task};
 ghost use Rattle.osek_scheduler.specs.Meaning.{register, with_register};
 ghost use Rattle.osek_scheduler.specs.Services.{answered_task, answered_task_with, first_operand, second_operand};
 ghost use Rattle.osek_plans.specs.Frames.{CanMove};
-ghost use Rattle.osek_plans.specs.Changes.{Allows};
+ghost use Rattle.osek_plans.specs.Changes.{HasChangeRoom};
 ghost use Rattle.osek_scheduler.specs.Changes.{changed_task, woken_task_state};
 
 use crate::frame::FrameRoom;
-use crate::held::Held;
+use crate::held_resources::Held;
 use crate::stack::Stack;
 use osek_scheduler::change::TaskChange;
 use osek_scheduler::state::TaskState;
@@ -249,7 +249,7 @@ impl TaskRoom {
 
     /// Makes a change.
     pub fn apply(&mut self, change: &TaskChange)
-        requires { Allows change.now self.old }
+        requires { HasChangeRoom change.now self.old }
         ensures { self.new ≡ changed_task change.now self.old }
     {
         match *change {

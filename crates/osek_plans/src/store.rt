@@ -7,7 +7,7 @@ ghost use Rattle.osek_scheduler.specs.declared.state.TaskState.TheVariants as mo
 ghost use Rattle.osek_scheduler.specs.Steps.{admitted_state, autostarted_tasks, settled_state};
 ghost use Rattle.osek_scheduler.specs.Meaning.{bytes_after_store};
 ghost use Rattle.osek_scheduler.specs.Services.{if_suspended};
-ghost use Rattle.osek_plans.specs.Changes.{Allows};
+ghost use Rattle.osek_plans.specs.Changes.{HasChangeRoom};
 ghost use Rattle.osek_scheduler.specs.Changes.{changed_task};
 ghost use Rattle.osek_plans.specs.Plans.{HasOther, HasPlanRoom, planned_system, is_inside, load_of, with_other};
 ghost use Rattle.osek_scheduler.specs.Changes.{with_change};
@@ -81,7 +81,7 @@ fn declared_data(alloc: Global, app: &App) -> Result<Vec<Data>, NoMemory>
 // Changes a task.
 fn change_task(tasks: &mut [TaskRoom], t: usize, change: &TaskChange)
     requires declared { t < length tasks.old }
-    requires allows { Allows change.now (get_or tasks.old t sleeping_task) }
+    requires allows { HasChangeRoom change.now (get_or tasks.old t sleeping_task) }
     ensures { tasks.new ≡ set tasks.old t (changed_task change.now (get_or tasks.old t sleeping_task)) }
 {
     tasks[t].apply(change);
@@ -217,7 +217,7 @@ impl Store {
     /// Changes a task.
     pub fn change(&mut self, t: usize, change: &TaskChange)
         requires declared { t < length self.old.tasks }
-        requires allows { Allows change.now (task self.old t) }
+        requires allows { HasChangeRoom change.now (task self.old t) }
         ensures { self.new ≡ with_change t change.now self.old }
     {
         change_task(self.tasks.as_mut_slice(), t, change);

@@ -19,9 +19,9 @@ use Rattle.sloth_base.specs.Named.{function}
 use Rattle.sloth_base.proofs.Services.{same_code}
 use Rattle.osek_scheduler.specs.Priority.{IsDue, is_active}
 use Rattle.osek_scheduler.specs.Meaning.{meaning, on_some}
-use Rattle.osek_scheduler.specs.Services.{is_there, Outcome, GoesOn, Leaves}
+use Rattle.osek_scheduler.specs.Services.{is_there, ServiceOutcome, GoesOn, Leaves}
 use Rattle.osek_scheduler.specs.Outcomes.{outcome}
-use Rattle.osek_scheduler.specs.Steps.{settled_state, IsAt, Executes, ServesCall, OsekStep}
+use Rattle.osek_scheduler.specs.Steps.{settled_state, IsAt, IsItemStep, IsServiceStep, OsekStep}
 use Rattle.osek_scheduler.specs.Next.{is_ready, is_due, no_ticks, is_next_tick, is_top, all_below, operation_of, operation_at, meaning_of, is_position, served_outcome, going_on_system, left_state, executed_state, answer_to, next_state}
 use Rattle.osek_scheduler.proofs.Tests.{Decides-is_ready, Decides-is_active, Decides-is_due, Decides-no_ticks, Decides-is_next_tick, Decides-is_top, some_one, if_true_some, if_true_is, on_some_from, on_some_is}
 
@@ -63,14 +63,14 @@ at_is app s t operation at =
 -- ---- services
 
 -- the call that a served operation is
-record IsCall (config : Config) (s : Service) (caller : ℕ) (before : System) (operation : Op) (answer : Outcome) : Type 0 where
+record IsCall (config : Config) (s : Service) (caller : ℕ) (before : System) (operation : Op) (answer : ServiceOutcome) : Type 0 where
   call : Call
   serve : operation ≡ op.Serve call
   same : call.service ≡ s
   names : is_there config (task before caller).held s call.object ≡ true
   is : outcome config s call.object call.mask caller before ≡ answer
 
-call_of : (config : Config) (s : Service) (caller : ℕ) (before : System) (operation : Op) (answer : Outcome) → served_outcome config s caller before operation ≡ Some answer
+call_of : (config : Config) (s : Service) (caller : ℕ) (before : System) (operation : Op) (answer : ServiceOutcome) → served_outcome config s caller before operation ≡ Some answer
     → IsCall config s caller before operation answer
 call_of config s caller before (op.Serve call) answer e =
     let h = if_true_some ((code_of call.service == code_of s) && is_there config (task before caller).held s call.object) _ answer e in
@@ -91,14 +91,14 @@ call_of config s caller before (op.Jump a) answer e = absurd cc
 call_of config s caller before (op.Invoke a) answer e = absurd cc
 call_of config s caller before op.Return answer e = absurd cc
 
-served_is : (config : Config) (s : Service) (caller : ℕ) (before : System) (call : Call) (answer : Outcome) → call.service ≡ s
+served_is : (config : Config) (s : Service) (caller : ℕ) (before : System) (call : Call) (answer : ServiceOutcome) → call.service ≡ s
     → is_there config (task before caller).held s call.object ≡ true → outcome config s call.object call.mask caller before ≡ answer
     → served_outcome config s caller before (op.Serve call) ≡ Some answer
 served_is config s caller before call answer same names is = if_true_is _ _ answer (and_from _ _ (eq-eqb _ _ (ap code_of same)) names) (ap Some is)
 
 module _ (config : Config) (app : App) where
-  pub serves_of : (t : ℕ) (s : Service) (before : System) (answer : Outcome) → answer_to config app t s before ≡ Some answer
-      → (before.booted ≡ true) × ServesCall config app t s before answer
+  pub serves_of : (t : ℕ) (s : Service) (before : System) (answer : ServiceOutcome) → answer_to config app t s before ≡ Some answer
+      → (before.booted ≡ true) × IsServiceStep config app t s before answer
   serves_of t s before answer e =
       let top = if_true_some (before.booted && is_top config before before.fresh t) _ answer e in
       let both = and_parts _ _ top.0 in
@@ -116,7 +116,7 @@ module _ (config : Config) (app : App) where
         },
       )
 
-  pub serves_is : (t : ℕ) (s : Service) (before : System) (answer : Outcome) → before.booted ≡ true → ServesCall config app t s before answer
+  pub serves_is : (t : ℕ) (s : Service) (before : System) (answer : ServiceOutcome) → before.booted ≡ true → IsServiceStep config app t s before answer
       → answer_to config app t s before ≡ Some answer
   serves_is t s before answer booted h =
       if_true_is _ _ answer (and_from _ _ booted ((Decides-is_top config before before.fresh t).1 h.top))
@@ -147,7 +147,7 @@ module _ (config : Config) (app : App) (t func item result : ℕ) (s next : Syst
   abbrev ran : Option System
   ran = on_some (operation_at app (task s t)) (λ o. on_some (meaning_of app o (task s t) (task s t).frames s) (executed_state t result s))
 
-  pub executes_of : is_top config s [] t ≡ true → is_position func item (task s t).frames ≡ true → ran ≡ Some next → Executes config app t func item result s next
+  pub executes_of : is_top config s [] t ≡ true → is_position func item (task s t).frames ≡ true → ran ≡ Some next → IsItemStep config app t func item result s next
   executes_of top here e =
       let found = on_some_from (operation_at app (task s t)) (λ o. on_some (meaning_of app o (task s t) (task s t).frames s) (executed_state t result s)) next e in
       let at = at_of app s t found.0 found.1 in
@@ -166,7 +166,7 @@ module _ (config : Config) (app : App) (t func item result : ℕ) (s next : Syst
         is = sym (some_one _ _ shown.1);
       }
 
-  pub executes_is : Executes config app t func item result s next
+  pub executes_is : IsItemStep config app t func item result s next
       → (is_top config s [] t ≡ true) × (is_position func item (task s t).frames ≡ true) × (ran ≡ Some next)
   executes_is h = (
     (Decides-is_top config s [] t).1 h.top,
@@ -180,13 +180,13 @@ module _ (config : Config) (app : App) (t func item result : ℕ) (s next : Syst
 -- ---- all events
 
 module _ (config : Config) (app : App) (s next : System) where
-  goes_on_from : (status : ℕ) (answer : Outcome) → going_on_system status answer ≡ Some next → (after : System) × (answer ≡ GoesOn status after) × (next ≡ settled_state after)
+  goes_on_from : (status : ℕ) (answer : ServiceOutcome) → going_on_system status answer ≡ Some next → (after : System) × (answer ≡ GoesOn status after) × (next ≡ settled_state after)
   goes_on_from status (GoesOn given after) e =
       let h = if_true_some (given == status) _ next e in
       (after, ap (λ v. GoesOn v after) (eqb-true _ _ h.0), sym (some_one _ _ h.1))
   goes_on_from status (Leaves after) e = absurd cc
 
-  leaves_from : (answer : Outcome) → left_state answer ≡ Some next → (after : System) × (answer ≡ Leaves after) × (next ≡ settled_state after)
+  leaves_from : (answer : ServiceOutcome) → left_state answer ≡ Some next → (after : System) × (answer ≡ Leaves after) × (next ≡ settled_state after)
   leaves_from (GoesOn given after) e = absurd cc
   leaves_from (Leaves after) e = (after, refl, sym (some_one _ _ e))
 

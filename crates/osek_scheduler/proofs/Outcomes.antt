@@ -8,7 +8,7 @@ use Rattle.osek_scheduler.specs.declared.state.Alarm.{Alarm}
 use Rattle.osek_scheduler.specs.declared.state.TaskState.{TaskState}
 use Rattle.osek_scheduler.specs.declared.state.TaskState.TheVariants as mode
 use Rattle.osek_scheduler.specs.State.{Task, System, task, with_task, with_alarm}
-use Rattle.osek_scheduler.specs.Services.{if_suspended, activated_state, woken_state, with_events, set_events, Outcome}
+use Rattle.osek_scheduler.specs.Services.{if_suspended, activated_state, woken_state, with_events, set_events, ServiceOutcome}
 use Rattle.osek_scheduler.proofs.ServiceStates.{IsAfter}
 use Rattle.osek_scheduler.specs.Changes.{changed_task, with_change}
 use Rattle.osek_scheduler.specs.Outcomes.{with_other, planned_system, shown_outcome, Decision, Does, IfSuspended, If, plan_in, outcome_of}
@@ -49,7 +49,7 @@ module _ (s : System) (P : Plan → Type 0) where
       cond_both test (plan_in s first) (plan_in s second) P (λ e. on_taken first (h.0 e)) (λ n. on_taken second (h.1 n))
 
 -- a fact on the outcome of each plan that may be taken is one on the outcome
-pub on_outcome : (R : Outcome → Type 0) (c : ℕ) (s : System) (d : Decision) → OnPlans s (λ p. R (shown_outcome p.answer (planned_system c p s))) d → R (outcome_of c s d)
+pub on_outcome : (R : ServiceOutcome → Type 0) (c : ℕ) (s : System) (d : Decision) → OnPlans s (λ p. R (shown_outcome p.answer (planned_system c p s))) d → R (outcome_of c s d)
 on_outcome R c s (Does p) h = h
 on_outcome R c s (IfSuspended t first second) h =
     by_suspended (task s t).state (outcome_of c s first) (outcome_of c s second) R (λ e. on_outcome R c s first (h.0 e)) (λ n. on_outcome R c s second (h.1 n))

@@ -2,7 +2,7 @@
 use Rattle.std.specs.Prelude.{ℕ, [], false}
 use Rattle.osek_scheduler.specs.declared.state.TaskState.TheVariants as mode
 use Rattle.osek_scheduler.specs.State.{System, task, with_task, zero_registers}
-use Rattle.osek_scheduler.specs.Services.{answered_task, answered_task_with, Outcome, GoesOn, Leaves}
+use Rattle.osek_scheduler.specs.Services.{answered_task, answered_task_with, ServiceOutcome, GoesOn, Leaves}
 
 -- the system after its caller went on with a status
 abbrev pub answered_state : ℕ → ℕ → System → System
@@ -17,6 +17,6 @@ abbrev pub ended_state : ℕ → System → System
 ended_state t s = with_task s t (record (task s t) { state = mode.Suspended; registers = zero_registers; frames = []; events = 0; raised = false })
 
 -- a fact on the system behind an outcome
-abbrev pub IsAfter : (System → Type 0) → Outcome → Type 0
+abbrev pub IsAfter : (System → Type 0) → ServiceOutcome → Type 0
 IsAfter P (GoesOn status after) = P after
 IsAfter P (Leaves after) = P after

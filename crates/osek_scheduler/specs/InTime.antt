@@ -33,24 +33,24 @@ abbrev pub IsAlone : Stamped → Type 0
 IsAlone e = e.stamp.from ≡ e.stamp.at
 
 -- how many counts an event spans: one, or any number
-abbrev pub Spans : (single : Bool) → Stamped → Type 0
-Spans true e = IsAlone e
-Spans false e = Unit {0}
+abbrev pub HasSpan : (single : Bool) → Stamped → Type 0
+HasSpan true e = IsAlone e
+HasSpan false e = Unit {0}
 
-abbrev pub SpansFor : Event → Stamped → Type 0
-SpansFor kind e = Spans (is_single kind) e
+abbrev pub HasSpanFor : Event → Stamped → Type 0
+HasSpanFor kind e = HasSpan (is_single kind) e
 
 -- the stamp of an event of the first `n` instructions
 pub record IsStamped (n : ℕ) (e : Stamped) : Type 0 where
   pub ordered : e.stamp.from ≤ e.stamp.at
-  pub spans : SpansFor e.event e
+  pub spans : HasSpanFor e.event e
   pub below : e.stamp.at < n
 
 -- ---- the arrivals that the end of the run leaves out
 
 -- none: each arrival of a moment below n is admitted
-abbrev pub AdmitsAll : ℕ → List Arrival → List Stamped → Type 0
-AdmitsAll n arrivals events = (k t : ℕ) → k < n → admits_at k t events ≡ arrivals_at k t arrivals
+abbrev pub AreAllAdmitted : ℕ → List Arrival → List Stamped → Type 0
+AreAllAdmitted n arrivals events = (k t : ℕ) → k < n → admits_at k t events ≡ arrivals_at k t arrivals
 
 -- the longest stretch that the end may cut off: boot before there is a `boot`
 abbrev pub longest_cut_off_stretch : Config → List Stamped → ℕ
@@ -58,8 +58,8 @@ longest_cut_off_stretch config [] = stretch_limit config Boots
 longest_cut_off_stretch config (e ∷ events) = cond (is_boot e.event) (longest_stretch config) (longest_cut_off_stretch config events)
 
 -- those from moment k on, which fall into the stretch that the end cuts off
-pub record LeavesOut (config : Config) (n : ℕ) (arrivals : List Arrival) (events : List Stamped) (k : ℕ) : Type 0 where
-  pub admits : AdmitsAll k arrivals events
+pub record AreLeftOut (config : Config) (n : ℕ) (arrivals : List Arrival) (events : List Stamped) (k : ℕ) : Type 0 where
+  pub admits : AreAllAdmitted k arrivals events
   pub leaves : (moment t : ℕ) → k ≤ moment → admits_at moment t events ≡ 0
   pub first : (t : ℕ) × (0 < arrivals_at k t arrivals)
   pub inside : k < n
@@ -96,4 +96,4 @@ pub record InTime (config : Config) (n : ℕ) (arrivals : List Arrival) (events 
   pub stamped : All (IsStamped n) events
   pub placed : AllPairs IsOrdered events
   pub in_order : KeepsOrder arrivals events
-  pub admitted : AdmitsAll n arrivals events ⊎ ((k : ℕ) × LeavesOut config n arrivals events k)
+  pub admitted : AreAllAdmitted n arrivals events ⊎ ((k : ℕ) × AreLeftOut config n arrivals events k)

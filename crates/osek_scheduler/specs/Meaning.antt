@@ -91,8 +91,8 @@ write_meaning rd value registers frame outer symbols =
     Some (record { registers = with_register registers rd value; frames = going_on_frame frame ∷ outer; symbols = symbols; result = shown_value rd value })
 
 -- the next item is this one of the same function
-abbrev pub goes_to : ℕ → List ℕ → Frame → List Frame → List (List ℕ) → Option ItemMeaning
-goes_to item registers frame outer symbols =
+abbrev pub jump_meaning : ℕ → List ℕ → Frame → List Frame → List (List ℕ) → Option ItemMeaning
+jump_meaning item registers frame outer symbols =
     Some (record { registers = registers; frames = record frame { item = item } ∷ outer; symbols = symbols; result = 0 })
 
 -- a load from a symbol into rd
@@ -134,8 +134,8 @@ execution app (op.LoadAt w rd y index mask) x frame outer symbols = load_meaning
 execution app (op.StoreAt w rs y index mask) x frame outer symbols = store_meaning w rs y (bit_and (register x index) mask) x frame outer symbols
 execution app (op.Branch kind rs1 rs2 label) x frame outer symbols =
     on_some (target app frame label) (λ item.
-    goes_to (cond (branch_holds kind (register x rs1) (register x rs2)) item (frame.item + 1)) x frame outer symbols)
-execution app (op.Jump label) x frame outer symbols = on_some (target app frame label) (λ item. goes_to item x frame outer symbols)
+    jump_meaning (cond (branch_holds kind (register x rs1) (register x rs2)) item (frame.item + 1)) x frame outer symbols)
+execution app (op.Jump label) x frame outer symbols = on_some (target app frame label) (λ item. jump_meaning item x frame outer symbols)
 execution app (op.Invoke f) x frame outer symbols =
     if_true (ltb f (length app.funcs))
     (Some (record { registers = x; frames = entry_frame app f ∷ frame ∷ outer; symbols = symbols; result = 0 }))

@@ -15,7 +15,7 @@ use Rattle.sloth_base.specs.Named.{declaration, body_of, function, operation}
 use Rattle.osek_scheduler.specs.Priority.{rank, is_active}
 use Rattle.code_rules.specs.Code.{is_in}
 use Rattle.osek_scheduler.specs.Meaning.{ItemMeaning, meaning, on_some, if_true}
-use Rattle.osek_scheduler.specs.Services.{is_there, Outcome, GoesOn, Leaves, entered_state, ticked_state}
+use Rattle.osek_scheduler.specs.Services.{is_there, ServiceOutcome, GoesOn, Leaves, entered_state, ticked_state}
 use Rattle.osek_scheduler.specs.Outcomes.{outcome}
 use Rattle.osek_scheduler.specs.Steps.{settled_state, autostarted_tasks, admitted_state, due_state}
 
@@ -75,7 +75,7 @@ is_position func item [] = false
 is_position func item (frame ∷ outer) = (frame.func == func) && (frame.item == item)
 
 -- the outcome of the service that an operation is, where it is this one, and what it names is there
-abbrev pub served_outcome : Config → Service → ℕ → System → Op → Option Outcome
+abbrev pub served_outcome : Config → Service → ℕ → System → Op → Option ServiceOutcome
 served_outcome config s caller before (op.Serve call) =
     if_true ((code_of call.service == code_of s) && is_there config (task before caller).held s call.object)
     (Some (outcome config s call.object call.mask caller before))
@@ -95,12 +95,12 @@ served_outcome config s caller before (op.Invoke a) = None
 served_outcome config s caller before op.Return = None
 
 -- the state after an outcome that goes on with this status
-abbrev pub going_on_system : ℕ → Outcome → Option System
+abbrev pub going_on_system : ℕ → ServiceOutcome → Option System
 going_on_system status (GoesOn given after) = if_true (given == status) (Some (settled_state after))
 going_on_system status (Leaves after) = None
 
 -- the state after an outcome with which the caller leaves
-abbrev pub left_state : Outcome → Option System
+abbrev pub left_state : ServiceOutcome → Option System
 left_state (GoesOn given after) = None
 left_state (Leaves after) = Some (settled_state after)
 
@@ -110,7 +110,7 @@ executed_state t result s meant = if_true (meant.result == result)
     (Some (settled_state (record (with_task s t (record (task s t) { registers = meant.registers; frames = meant.frames })) { symbols = meant.symbols })))
 
 -- the outcome of a call of this service by this task, where that is its next item
-abbrev pub answer_to : Config → App → ℕ → Service → System → Option Outcome
+abbrev pub answer_to : Config → App → ℕ → Service → System → Option ServiceOutcome
 answer_to config app t s before =
     if_true (before.booted && is_top config before before.fresh t) (on_some (operation_at app (task before t)) (served_outcome config s t before))
 

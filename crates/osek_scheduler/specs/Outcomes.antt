@@ -13,7 +13,7 @@ use Rattle.sloth_base.specs.Named.{alarm_declaration, counter_of}
 use Rattle.sloth_base.specs.Ticks.{ticks_to}
 use Rattle.osek_scheduler.specs.State.{System, task, counter, alarm, with_alarm}
 use Rattle.osek_scheduler.specs.Meaning.{bytes_after_store}
-use Rattle.osek_scheduler.specs.Services.{if_suspended, activated_state, set_events, state_number, first_operand, second_operand, is_in_use, allows_relative, allows_absolute, Outcome, GoesOn, Leaves}
+use Rattle.osek_scheduler.specs.Services.{if_suspended, activated_state, set_events, state_number, first_operand, second_operand, is_in_use, allows_relative, allows_absolute, ServiceOutcome, GoesOn, Leaves}
 use Rattle.osek_scheduler.specs.Changes.{with_change}
 
 -- a plan
@@ -33,7 +33,7 @@ abbrev pub planned_system : ℕ → Plan → System → System
 planned_system t p s = with_other p.other (with_change t p.change s)
 
 -- the outcome that shows this status, or that the caller leaves
-abbrev pub shown_outcome : Option ℕ → System → Outcome
+abbrev pub shown_outcome : Option ℕ → System → ServiceOutcome
 shown_outcome (Some status) s = GoesOn status s
 shown_outcome None s = Leaves s
 
@@ -52,7 +52,7 @@ plan_in s (IfSuspended t first second) = if_suspended (task s t).state (plan_in 
 plan_in s (If test first second) = cond test (plan_in s first) (plan_in s second)
 
 -- the outcome of a decision of task t
-abbrev pub outcome_of : ℕ → System → Decision → Outcome
+abbrev pub outcome_of : ℕ → System → Decision → ServiceOutcome
 outcome_of t s (Does p) = shown_outcome p.answer (planned_system t p s)
 outcome_of t s (IfSuspended u first second) = if_suspended (task s u).state (outcome_of t s first) (outcome_of t s second)
 outcome_of t s (If test first second) = cond test (outcome_of t s first) (outcome_of t s second)
@@ -72,12 +72,12 @@ abbrev pub other_decision : Other → Decision
 other_decision o = Does (plan (Some E_OK) (change.Answer E_OK) o)
 
 -- the caller goes on with E_OK behind this change
-abbrev pub goes_on : TaskChange → Decision
-goes_on c = Does (plan (Some E_OK) c other.Nothing)
+abbrev pub change_decision : TaskChange → Decision
+change_decision c = Does (plan (Some E_OK) c other.Nothing)
 
 -- the caller leaves
-abbrev pub leaves : TaskChange → Other → Decision
-leaves c o = Does (plan None c o)
+abbrev pub leave_decision : TaskChange → Other → Decision
+leave_decision c o = Does (plan None c o)
 
 -- the caller sets an alarm, where it is not in use and the values are allowed
 abbrev pub alarm_setting_decision : (a : ℕ) → (allowed : Bool) → (left cycle : ℕ) → System → Decision
@@ -91,20 +91,20 @@ alarm_use_decision a does s = If (is_in_use s a) does (status_decision E_OS_NOFU
 -- what a service does; `object` is its task, resource or alarm, `mask` that of its events
 abbrev pub decision : Config → Service → (object mask caller : ℕ) → System → Decision
 decision config service.ActivateTask t mask caller s = IfSuspended t (other_decision (other.Activate t)) (status_decision E_OS_LIMIT)
-decision config service.TerminateTask object mask caller s = leaves change.End other.Nothing
+decision config service.TerminateTask object mask caller s = leave_decision change.End other.Nothing
 decision config service.ChainTask t mask caller s =
-    If (t == caller) (leaves change.End (other.Activate caller))
-    (IfSuspended t (leaves change.End (other.Activate t)) (status_decision E_OS_LIMIT))
-decision config service.Schedule object mask caller s = goes_on change.Pause
+    If (t == caller) (leave_decision change.End (other.Activate caller))
+    (IfSuspended t (leave_decision change.End (other.Activate t)) (status_decision E_OS_LIMIT))
+decision config service.Schedule object mask caller s = change_decision change.Pause
 decision config service.GetTaskID object mask caller s = value_decision caller
 decision config service.GetTaskState t mask caller s = value_decision (state_number caller t (task s t).state)
-decision config service.GetResource r mask caller s = goes_on (change.Take r)
-decision config service.ReleaseResource r mask caller s = goes_on change.Release
+decision config service.GetResource r mask caller s = change_decision (change.Take r)
+decision config service.ReleaseResource r mask caller s = change_decision change.Release
 decision config service.SetEvent t mask caller s = IfSuspended t (status_decision E_OS_STATE) (other_decision (other.AddEvents t mask))
-decision config service.ClearEvent object mask caller s = goes_on (change.ClearEvents mask)
+decision config service.ClearEvent object mask caller s = change_decision (change.ClearEvents mask)
 decision config service.GetEvent t mask caller s = IfSuspended t (status_decision E_OS_STATE) (value_decision (task s t).events)
 decision config service.WaitEvent object mask caller s =
-    If (bit_and (task s caller).events mask == 0) (leaves (change.Wait mask) other.Nothing) (status_decision E_OK)
+    If (bit_and (task s caller).events mask == 0) (leave_decision (change.Wait mask) other.Nothing) (status_decision E_OK)
 decision config service.SetRelAlarm a mask caller s =
     let ticks = first_operand (task s caller) in
     let cycle = second_operand (task s caller) in
@@ -118,5 +118,5 @@ decision config service.CancelAlarm a mask caller s = alarm_use_decision a (othe
 decision config service.GetAlarm a mask caller s = alarm_use_decision a (value_decision (alarm s a).left) s
 
 -- the outcome of a call of a service by a task
-abbrev pub outcome : Config → Service → (object mask caller : ℕ) → System → Outcome
+abbrev pub outcome : Config → Service → (object mask caller : ℕ) → System → ServiceOutcome
 outcome config s object mask caller before = outcome_of caller before (decision config s object mask caller before)

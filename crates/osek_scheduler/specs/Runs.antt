@@ -12,9 +12,9 @@ use Rattle.osek_scheduler.specs.Priority.{rank}
 use Rattle.osek_scheduler.specs.Steps.{OsekStep, admitted_state}
 
 -- these events, one after the other, lead from s to `end`
-abbrev pub Leads : Config → App → List Stamped → System → System → Type 0
-Leads config app [] s end = end ≡ s
-Leads config app (e ∷ events) s end = (next : System) × OsekStep config app e.event s next × Leads config app events next end
+abbrev pub AreStepsTo : Config → App → List Stamped → System → System → Type 0
+AreStepsTo config app [] s end = end ≡ s
+AreStepsTo config app (e ∷ events) s end = (next : System) × OsekStep config app e.event s next × AreStepsTo config app events next end
 
 -- An admit of a moment behind k made the Suspended task u Ready, and u has been Ready since.
 pub record ReadySince (config : Config) (app : App) (past : List Stamped) (u k : ℕ) : Type 0 where
@@ -25,9 +25,9 @@ pub record ReadySince (config : Config) (app : App) (past : List Stamped) (u k :
   pub admits : admit.event ≡ event.Admit u
   pub later : k < admit.stamp.at
   pub found : System
-  pub leads : Leads config app before (opening config app) found
+  pub leads : AreStepsTo config app before (opening config app) found
   pub suspended : (task found u).state ≡ mode.Suspended
-  pub since : (front rest : List Stamped) (s : System) → behind ≡ front ++ rest → Leads config app front (admitted_state u found) s → (task s u).state ≡ mode.Ready
+  pub since : (front rest : List Stamped) (s : System) → behind ≡ front ++ rest → AreStepsTo config app front (admitted_state u found) s → (task s u).state ≡ mode.Ready
 
 -- each Ready task above t was made so by an arrival while the stretch from count k on was running
 abbrev pub PassesOver : Config → App → List Stamped → System → ℕ → ℕ → Type 0
@@ -39,12 +39,12 @@ abbrev pub PassesOverArrivals : Config → App → List Stamped → System → �
 PassesOverArrivals config app past s k e = IfSome (served_task e) (λ t. PassesOver config app past s t k)
 
 -- behind the events `past`, which led to s, these events lead on to `end`
-abbrev pub Follows : Config → App → List Stamped → System → List Stamped → System → Type 0
-Follows config app past s [] end = end ≡ s
-Follows config app past s (e ∷ events) end =
+abbrev pub AreStepsBehind : Config → App → List Stamped → System → List Stamped → System → Type 0
+AreStepsBehind config app past s [] end = end ≡ s
+AreStepsBehind config app past s (e ∷ events) end =
     (next : System) × OsekStep config app e.event s next × PassesOverArrivals config app past s e.stamp.from e.event
-    × Follows config app (past ++ e ∷ []) next events end
+    × AreStepsBehind config app (past ++ e ∷ []) next events end
 
 -- the events are a run of the abstract scheduler
 abbrev pub OsekRun : Config → App → List Stamped → Type 0
-OsekRun config app events = (end : System) × Follows config app [] (opening config app) events end
+OsekRun config app events = (end : System) × AreStepsBehind config app [] (opening config app) events end

@@ -133,9 +133,9 @@ state_number caller t mode.Active = cond (t == caller) 0 2
 state_number caller t (mode.Waiting mask) = 1
 
 -- the caller goes on with a status, or it leaves: it ended, or it waits
-pub data Outcome : Type 0 where
-  GoesOn : (status : ℕ) → System → Outcome
-  Leaves : System → Outcome
+pub data ServiceOutcome : Type 0 where
+  GoesOn : (status : ℕ) → System → ServiceOutcome
+  Leaves : System → ServiceOutcome
 
 -- ---- entries
 

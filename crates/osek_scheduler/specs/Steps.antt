@@ -16,7 +16,7 @@ use Rattle.sloth_base.specs.Named.{function}
 use Rattle.sloth_base.specs.Named as named
 use Rattle.osek_scheduler.specs.Priority.{IsTop, IsDue, NoTicks, IsNextTick}
 use Rattle.osek_scheduler.specs.Meaning.{ItemMeaning, meaning}
-use Rattle.osek_scheduler.specs.Services.{if_suspended, activated_state, is_there, Outcome, GoesOn, Leaves, entered_state, ticked_state}
+use Rattle.osek_scheduler.specs.Services.{if_suspended, activated_state, is_there, ServiceOutcome, GoesOn, Leaves, entered_state, ticked_state}
 use Rattle.osek_scheduler.specs.Outcomes.{outcome}
 
 -- every event but an admission empties `fresh`
@@ -48,7 +48,7 @@ pub record IsAt (app : App) (s : System) (t : ℕ) (operation : Op) : Type 0 whe
   pub next : named.operation app frame.func frame.item ≡ operation
 
 -- the running task executes an item that is no service
-pub record Executes (config : Config) (app : App) (t func item result : ℕ) (s next : System) : Type 0 where
+pub record IsItemStep (config : Config) (app : App) (t func item result : ℕ) (s next : System) : Type 0 where
   pub top : IsTop config s [] t
   pub operation : Op
   pub at : IsAt app s t operation
@@ -60,7 +60,7 @@ pub record Executes (config : Config) (app : App) (t func item result : ℕ) (s 
   pub is : next ≡ settled_state (record (with_task s t (record (task s t) { registers = meant.registers; frames = meant.frames })) { symbols = meant.symbols })
 
 -- the running task calls a service, with this outcome; arrivals admitted since the last event did not preempt it yet
-pub record ServesCall (config : Config) (app : App) (t : ℕ) (served : Service) (s : System) (answer : Outcome) : Type 0 where
+pub record IsServiceStep (config : Config) (app : App) (t : ℕ) (served : Service) (s : System) (answer : ServiceOutcome) : Type 0 where
   pub top : IsTop config s s.fresh t
   pub call : Call
   pub at : IsAt app s t (op.Serve call)
@@ -75,11 +75,11 @@ OsekStep config app event.Boot s next =
 OsekStep config app (event.Admit t) s next = (s.booted ≡ true) × (t < length config.tasks) × (next ≡ admitted_state t s)
 OsekStep config app (event.Enter t) s next =
     (s.booted ≡ true) × IsTop config s [] t × ((task s t).state ≡ mode.Ready) × HasBody app t × (next ≡ settled_state (entered_state config app t s))
-OsekStep config app (event.Run t func item result) s next = (s.booted ≡ true) × Executes config app t func item result s next
+OsekStep config app (event.Run t func item result) s next = (s.booted ≡ true) × IsItemStep config app t func item result s next
 OsekStep config app (event.Call t served status) s next =
-    (s.booted ≡ true) × ((after : System) × ServesCall config app t served s (GoesOn status after) × (next ≡ settled_state after))
+    (s.booted ≡ true) × ((after : System) × IsServiceStep config app t served s (GoesOn status after) × (next ≡ settled_state after))
 OsekStep config app (event.Left t served) s next =
-    (s.booted ≡ true) × ((after : System) × ServesCall config app t served s (Leaves after) × (next ≡ settled_state after))
+    (s.booted ≡ true) × ((after : System) × IsServiceStep config app t served s (Leaves after) × (next ≡ settled_state after))
 OsekStep config app (event.Back t) s next =
     (s.booted ≡ true) × IsTop config s [] t × ((task s t).state ≡ mode.Active) × ((task s t).owed ≡ true)
     × (next ≡ settled_state (with_task s t (record (task s t) { owed = false; raised = (declaration config t).non })))

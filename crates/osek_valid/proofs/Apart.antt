@@ -15,12 +15,12 @@ use Rattle.sloth_base.specs.Named.{declaration}
 use Rattle.sloth_base.specs.Events.{named_task}
 use Rattle.code_rules.specs.Code.{is_in}
 use Rattle.osek_scheduler.specs.Priority.{is_active, rank, IsTop}
-use Rattle.osek_scheduler.specs.Services.{activated_state, with_events, Outcome, GoesOn, Leaves, started_task, ticked_state}
+use Rattle.osek_scheduler.specs.Services.{activated_state, with_events, ServiceOutcome, GoesOn, Leaves, started_task, ticked_state}
 use Rattle.osek_scheduler.proofs.ServiceStates.{IsAfter}
 use Rattle.osek_scheduler.specs.Outcomes.{decision, outcome}
 use Rattle.osek_scheduler.proofs.Outcomes.{by_suspended, KeptByOthers, outcome_keeps_all}
 use Rattle.osek_scheduler.proofs.Ticking.{parts_kept, ticked_keeps}
-use Rattle.osek_scheduler.specs.Steps.{autostarted_tasks, admitted_state, OsekStep, Executes, ServesCall}
+use Rattle.osek_scheduler.specs.Steps.{autostarted_tasks, admitted_state, OsekStep, IsItemStep, IsServiceStep}
 use Rattle.osek_valid.specs.Apart.{priority_of, static_priority, AreTwo, TasksAreApart}
 use Rattle.osek_valid.proofs.Going.{at_set}
 use Rattle.osek_valid.proofs.Steps.{autostarted_at, asleep_at}
@@ -168,11 +168,11 @@ module _ (config : Config) where
 
   -- ---- what an event leaves
 
-  run_calm : (app : App) (t func item result : ℕ) (s next : System) → Executes config app t func item result s next → Calm t s next
+  run_calm : (app : App) (t func item result : ℕ) (s next : System) → IsItemStep config app t func item result s next → Calm t s next
   run_calm app t func item result s next h =
       subst (Calm t s) (sym h.is) (own t s (record (task s t) { registers = h.meant.registers; frames = h.meant.frames }))
 
-  answer_calm : (app : App) (t : ℕ) (served : Service) (s : System) (answer : Outcome) → ServesCall config app t served s answer → IsAfter (Calm t s) answer
+  answer_calm : (app : App) (t : ℕ) (served : Service) (s : System) (answer : ServiceOutcome) → IsServiceStep config app t served s answer → IsAfter (Calm t s) answer
   answer_calm app t served s answer h = subst (IsAfter (Calm t s)) h.is (outcome_calm served h.call.object h.call.mask t s)
 
   pub boot_calm : (s : System) (u : ℕ) → Same u (task s u) (get_or (autostarted_tasks config.tasks s.tasks) u sleeping_task)

@@ -4,14 +4,14 @@ use Rattle.std.proofs.lemmas.Bool.{false≢true, false_from_ne_true, or_cases, e
 use Rattle.sloth_base.specs.declared.config.Config.{Config}
 use Rattle.sloth_base.specs.declared.app.App.{App}
 use Rattle.osek_scheduler.specs.State.{Frame}
-use Rattle.code_rules.specs.Code.{IsCallChain, Calls, Reaches, is_in}
+use Rattle.code_rules.specs.Code.{IsCallChain, HasCall, Reaches, is_in}
 use Rattle.osek_valid.proofs.Facts.{Facts}
 use Rattle.osek_valid.specs.Valid.{IsCalledFrom, AreCalls, AreDistinct}
 use Rattle.osek_valid.proofs.Stacks.{calls_reach}
 
 module _ (config : Config) (app : App) (w : Facts config app) (t : ℕ) where
-  chained : (f g h : ℕ) → Calls app f g → Reaches app g h → (between : List ℕ) × IsCallChain app f between h
-  chained f g h calls (inl e) = ([], subst (Calls app f) e calls)
+  chained : (f g h : ℕ) → HasCall app f g → Reaches app g h → (between : List ℕ) × IsCallChain app f between h
+  chained f g h calls (inl e) = ([], subst (HasCall app f) e calls)
   chained f g h calls (inr chain) = (g ∷ chain.0, (calls, chain.1))
 
   -- no outer function is one that the innermost reaches

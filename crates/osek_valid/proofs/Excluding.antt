@@ -13,7 +13,7 @@ use Rattle.sloth_base.specs.ConfigRange.{scheduler_number}
 use Rattle.code_rules.specs.Code.{is_in}
 use Rattle.osek_scheduler.specs.Priority.{greatest, highest_priority, ceiling}
 use Rattle.osek_valid.specs.Valid.{MayHold, InState, IsValidTask, IsValid}
-use Rattle.osek_valid.specs.Apart.{priority_of, static_priority, TasksAreApart, Excludes}
+use Rattle.osek_valid.specs.Apart.{priority_of, static_priority, TasksAreApart, HasExclusion}
 use Rattle.osek_valid.proofs.Apart.{at_least_static}
 
 le_max_left : (a b c : ℕ) → c ≤ a → c ≤ max a b
@@ -83,7 +83,7 @@ module _ (config : Config) (app : App) where
       by mode.Active e i = e
       by (mode.Waiting mask) e i = absurd (none i.0.holds)
 
-  pub excludes : (s : System) → IsValid config app s → TasksAreApart config s → Excludes config s
+  pub excludes : (s : System) → IsValid config app s → TasksAreApart config s → HasExclusion config s
   excludes s v a = record {
     one_holder = λ t u r two ht hu.
         let kt = v.each t two.first in

@@ -17,9 +17,9 @@ use Rattle.sloth_base.specs.Arithmetic.{size_of}
 use Rattle.sloth_base.specs.Named.{function, no_function, declaration, operation, label_of, no_label, no_item, symbol_size}
 use Rattle.code_rules.specs.AppRange.{AppInRange, IsBody, IsOp, IsMask, mask_of}
 use Rattle.sloth_base.specs.ConfigRange.{no_event, scheduler_number}
-use Rattle.code_rules.specs.Code.{IsItem, service_op, IsCallChain, Reaches, TaskReaches, Pauses, Ends, way, GoesOn, is_in, is_last, mark_at_labels, held_list_at_labels, held_list_fallen_into, is_fallen_into}
+use Rattle.code_rules.specs.Code.{IsItem, service_op, IsCallChain, Reaches, TaskReaches, IsPausing, IsEnding, way, IsPathStep, is_in, is_last, mark_at_labels, held_list_at_labels, held_list_fallen_into, is_fallen_into}
 use Rattle.code_rules.specs.WellFormed
-use Rattle.code_rules.specs.WellFormed.{HasEvents, held_list_before, Breaks, at_header, at_label, at_item, falling_in, on_cycle}
+use Rattle.code_rules.specs.WellFormed.{HasEvents, held_list_before, IsBreach, at_header, at_label, at_item, falling_in, on_cycle}
 use Rattle.osek_valid.specs.Valid.{MayHold}
 
 -- ---- the facts
@@ -48,7 +48,7 @@ pub record Facts (config : Config) (app : App) : Type 0 where
   pub masked_loads : (f i rd y index mask : ℕ) (w : Width) → IsItem app f i (op.LoadAt w rd y index mask) → mask + size_of w ≤ symbol_size app y
   pub masked_stores : (f i rs y index mask : ℕ) (w : Width) → IsItem app f i (op.StoreAt w rs y index mask) → mask + size_of w ≤ symbol_size app y
   pub has_items : (f : ℕ) → f < length app.funcs → 0 < length (function app f).items
-  pub stays_inside : (f i j : ℕ) → f < length app.funcs → i < length (function app f).items → GoesOn (function app f) i j → j < length (function app f).items
+  pub stays_inside : (f i j : ℕ) → f < length app.funcs → i < length (function app f).items → IsPathStep (function app f) i j → j < length (function app f).items
   pub jumps_agree : (f i k : ℕ) → GoesTo app f i k → (label_of (function app f) k).holds ≡ held_list_before app f i
   pub labels_agree : (f i : ℕ) → f < length app.funcs
       → LabelsAgree i (is_fallen_into (function app f) i) (held_list_fallen_into (function app f) i) (function app f).labels
@@ -56,11 +56,11 @@ pub record Facts (config : Config) (app : App) : Type 0 where
   pub takes_new : (f i r m : ℕ) → IsItem app f i (service_op service.GetResource r m) → is_in r (held_list_before app f i) ≡ false
   pub calls_take_new : (f i g h j r m : ℕ) → IsItem app f i (op.Invoke g) → Reaches app g h → IsItem app h j (service_op service.GetResource r m)
       → is_in r (held_list_before app f i) ≡ false
-  pub serves_free : (f i o m : ℕ) (s : Service) → IsItem app f i (service_op s o m) → Ends s ⊎ Pauses s → held_list_before app f i ≡ []
+  pub serves_free : (f i o m : ℕ) (s : Service) → IsItem app f i (service_op s o m) → IsEnding s ⊎ IsPausing s → held_list_before app f i ≡ []
   pub returns_free : (f i : ℕ) → IsItem app f i op.Return → held_list_before app f i ≡ []
   pub calls_free : (f i g h j o m : ℕ) (s : Service) → IsItem app f i (op.Invoke g) → Reaches app g h → IsItem app h j (service_op s o m)
-      → Pauses s → held_list_before app f i ≡ []
-  pub ends_in_task : (f i o m : ℕ) (s : Service) → IsItem app f i (service_op s o m) → Ends s → (t : ℕ) × ((function app f).task ≡ Some t)
+      → IsPausing s → held_list_before app f i ≡ []
+  pub ends_in_task : (f i o m : ℕ) (s : Service) → IsItem app f i (service_op s o m) → IsEnding s → (t : ℕ) × ((function app f).task ≡ Some t)
   pub returns_in_func : (f i : ℕ) → IsItem app f i op.Return → (function app f).task ≡ None
   pub takes_listed : (t f i r m : ℕ) → TaskReaches app t f → IsItem app f i (service_op service.GetResource r m) → MayHold config t r
   pub waits_own : (t f i o m : ℕ) → TaskReaches app t f → IsItem app f i (service_op service.WaitEvent o m) → HasEvents (declaration config t) m
@@ -138,7 +138,7 @@ way_of app f i k (inr is) = ap way is.3.is
 -- ---- from no fault to the facts
 
 module _ (config : Config) (app : App) (w : WellFormed.WellFormed config app) where
-  at : (f i : ℕ) (o : Op) (c : Code) (P : Op → Type 0) → IsItem app f i o → (P (operation app f i) → Breaks config app f i c) → ¬ (P o)
+  at : (f i : ℕ) (o : Op) (c : Code) (P : Op → Type 0) → IsItem app f i o → (P (operation app f i) → IsBreach config app f i c) → ¬ (P o)
   at f i o c P is breaks p = w.no_fault _ (f, is.known, at_item i c is.inside (breaks (subst P (sym is.is) p)))
 
   stable_hold : (t r : ℕ) → ¬ (¬ (MayHold config t r)) → MayHold config t r
@@ -165,23 +165,23 @@ module _ (config : Config) (app : App) (w : WellFormed.WellFormed config app) wh
       subst (λ x. 0 < x) (sym m.is) (omega (arith, first, le))
 
   -- no fault of one kind
-  accesses : (f i : ℕ) (o : Op) → IsItem app f i o → ¬ (WellFormed.AccessesPast app (function app f) o)
-  accesses f i o is = at f i o code.V2 (WellFormed.AccessesPast app (function app f)) is WellFormed.accesses_past
+  accesses : (f i : ℕ) (o : Op) → IsItem app f i o → ¬ (WellFormed.IsAccessPast app (function app f) o)
+  accesses f i o is = at f i o code.V2 (WellFormed.IsAccessPast app (function app f)) is WellFormed.is_access_past
 
-  masks : (f i : ℕ) (o : Op) → IsItem app f i o → ¬ (WellFormed.MasksPast app o)
-  masks f i o is = at f i o code.V4 (WellFormed.MasksPast app) is WellFormed.masks_past
+  masks : (f i : ℕ) (o : Op) → IsItem app f i o → ¬ (WellFormed.IsMaskPast app o)
+  masks f i o is = at f i o code.V4 (WellFormed.IsMaskPast app) is WellFormed.is_mask_past
 
-  takes : (f i : ℕ) (o : Op) → IsItem app f i o → ¬ (WellFormed.TakesHeld app (held_list_before app f i) o)
-  takes f i o is = at f i o code.V9 (WellFormed.TakesHeld app (held_list_before app f i)) is WellFormed.takes_held
+  takes : (f i : ℕ) (o : Op) → IsItem app f i o → ¬ (WellFormed.IsSecondTake app (held_list_before app f i) o)
+  takes f i o is = at f i o code.V9 (WellFormed.IsSecondTake app (held_list_before app f i)) is WellFormed.is_second_take
 
-  leaves : (f i : ℕ) (o : Op) → IsItem app f i o → ¬ (WellFormed.LeavesHolding app (held_list_before app f i) o)
-  leaves f i o is = at f i o code.V10 (WellFormed.LeavesHolding app (held_list_before app f i)) is WellFormed.leaves_holding
+  leaves : (f i : ℕ) (o : Op) → IsItem app f i o → ¬ (WellFormed.IsLeaveWithResource app (held_list_before app f i) o)
+  leaves f i o is = at f i o code.V10 (WellFormed.IsLeaveWithResource app (held_list_before app f i)) is WellFormed.is_leave_with_resource
 
-  wrongly : (f i : ℕ) (o : Op) → IsItem app f i o → ¬ (WellFormed.LeavesWrongly (function app f) o)
-  wrongly f i o is = at f i o code.V11 (WellFormed.LeavesWrongly (function app f)) is WellFormed.leaves_wrongly
+  wrongly : (f i : ℕ) (o : Op) → IsItem app f i o → ¬ (WellFormed.IsWrongLeave (function app f) o)
+  wrongly f i o is = at f i o code.V11 (WellFormed.IsWrongLeave (function app f)) is WellFormed.is_wrong_leave
 
-  uses : (f i : ℕ) (o : Op) → IsItem app f i o → ¬ (WellFormed.UsesUndeclared config app f o)
-  uses f i o is = at f i o code.V12 (WellFormed.UsesUndeclared config app f) is WellFormed.uses_undeclared
+  uses : (f i : ℕ) (o : Op) → IsItem app f i o → ¬ (WellFormed.IsUndeclaredUse config app f o)
+  uses f i o is = at f i o code.V12 (WellFormed.IsUndeclaredUse config app f) is WellFormed.is_undeclared_use
 
   place : (f i k : ℕ) → GoesTo app f i k → (f < length app.funcs) × (i < length (function app f).items)
   place f i k (inl j) = (j.known, j.inside)
@@ -218,15 +218,15 @@ module _ (config : Config) (app : App) (w : WellFormed.WellFormed config app) wh
     masked_stores = λ f i rs y index mask width is. at_most _ _ (λ lt. masks f i (op.StoreAt width rs y index mask) is (inr lt));
     has_items = some_items;
     stays_inside = λ f i j known inside goes.
-        stable_below j _ (λ le. w.no_fault _ (f, known, at_item i code.V5 inside (WellFormed.runs_out (j, goes, le))));
+        stable_below j _ (λ le. w.no_fault _ (f, known, at_item i code.V5 inside (WellFormed.is_run_out (j, goes, le))));
     jumps_agree = λ f i k goes.
         let p = place f i k goes in
-        stable_list _ _ (λ n. w.no_fault _ (f, p.0, at_item i code.V7 p.1 (WellFormed.holds_other (k, way_of app f i k goes, n))));
+        stable_list _ _ (λ n. w.no_fault _ (f, p.0, at_item i code.V7 p.1 (WellFormed.is_other_list_jump (k, way_of app f i k goes, n))));
     labels_agree = λ f i known. labels_agree_of i _ _ _ (λ k lt is into. agrees f i k known lt is into);
     releases_last = λ f i r m is.
         let o = service_op service.ReleaseResource r m in
         let held = held_list_before app f i in
-        front_of r _ (true_from_ne_false _ (λ e. at f i o code.V8 (WellFormed.ReleasesOther held) is WellFormed.releases_other (refl, e)));
+        front_of r _ (true_from_ne_false _ (λ e. at f i o code.V8 (WellFormed.IsWrongRelease held) is WellFormed.is_wrong_release (refl, e)));
     takes_new = λ f i r m is. false_from_ne_true _ (λ e. takes f i (service_op service.GetResource r m) is (refl, e));
     calls_take_new = λ f i g h j r m is reach there. false_from_ne_true _ (λ e. takes f i (op.Invoke g) is (r, (h, j, m, reach, there), e));
     serves_free = λ f i o m s is kind. stable_list _ [] (λ n. leaves f i (service_op s o m) is (kind, n));

@@ -11,9 +11,9 @@ use Rattle.sloth_base.specs.declared.app.Width.{Width}
 use Rattle.osek_scheduler.specs.State.{Frame, Task, System, task, entry_frame}
 use Rattle.sloth_base.specs.Named.{function, label_of, no_label}
 use Rattle.std.proofs.lemmas.Option.{get_or_from_slice_get, same_Some}
-use Rattle.osek_scheduler.specs.Meaning.{ItemMeaning, meaning, execution, write_meaning, load_meaning, store_meaning, goes_to, accessed_bytes, bytes_after_store, bytes_of, with_register, register, going_on_frame, target, on_some, returned_frames, loaded_word}
+use Rattle.osek_scheduler.specs.Meaning.{ItemMeaning, meaning, execution, write_meaning, load_meaning, store_meaning, jump_meaning, accessed_bytes, bytes_after_store, bytes_of, with_register, register, going_on_frame, target, on_some, returned_frames, loaded_word}
 use Rattle.osek_scheduler.specs.Services.{moved_frames}
-use Rattle.osek_scheduler.specs.Steps.{Executes}
+use Rattle.osek_scheduler.specs.Steps.{IsItemStep}
 use Rattle.osek_scheduler.proofs.Tests.{if_true_some, on_some_from}
 use Rattle.code_rules.specs.Code.{is_followed, held_after}
 use Rattle.osek_valid.proofs.Facts.{Facts, GoesTo}
@@ -107,7 +107,7 @@ module _ (config : Config) (app : App) (w : Facts config app) (t : ℕ) (k : Tas
         )
 
     place_fine : (item : ℕ) (meant : ItemMeaning) → item < length (function app frame.func).items
-        → held_list_before app frame.func item ≡ held_list_before app frame.func frame.item → goes_to item k.registers frame outer symbols ≡ Some meant → Fine meant
+        → held_list_before app frame.func item ≡ held_list_before app frame.func frame.item → jump_meaning item k.registers frame outer symbols ≡ Some meant → Fine meant
     place_fine item meant inside holds e =
         fine _ meant e (
           going.goes_to config app w t k frame outer o r (record k { frames = record frame { item = item } ∷ outer }) (record frame { item = item })
@@ -122,16 +122,16 @@ module _ (config : Config) (app : App) (w : Facts config app) (t : ℕ) (k : Tas
       ap (λ found. found.item) (get_or_from_slice_get (function app frame.func).labels l found.0 no_label found.1) ∙ same_Some _ item found.2
 
   label_fine : (o : Op) (l item : ℕ) (meant : ItemMeaning) → Running config app t k frame outer o → GoesTo app frame.func frame.item l
-      → target app frame l ≡ Some item → goes_to item k.registers frame outer symbols ≡ Some meant → Fine meant
+      → target app frame l ≡ Some item → jump_meaning item k.registers frame outer symbols ≡ Some meant → Fine meant
   label_fine o l item meant r goes is =
-      subst (λ x. goes_to x k.registers frame outer symbols ≡ Some meant → Fine meant) (target_is l item is)
+      subst (λ x. jump_meaning x k.registers frame outer symbols ≡ Some meant → Fine meant) (target_is l item is)
       (place_fine o r (label_of (function app frame.func) l).item meant
       (jumps_inside config app w frame.func frame.item l r.is_frame.known r.is_frame.inside goes)
       (jumps_holds config app w frame.func frame.item l r.is_frame.known goes))
 
   -- a branch goes to its label or falls on
   branch_fine : (kind : _) (a b l item : ℕ) (meant : ItemMeaning) → Running config app t k frame outer (op.Branch kind a b l) → target app frame l ≡ Some item
-      → (taken : Bool) → goes_to (cond taken item (frame.item + 1)) k.registers frame outer symbols ≡ Some meant → Fine meant
+      → (taken : Bool) → jump_meaning (cond taken item (frame.item + 1)) k.registers frame outer symbols ≡ Some meant → Fine meant
   branch_fine kind a b l item meant r is true e = label_fine (op.Branch kind a b l) l item meant r (inr (kind, a, b, r.item)) is e
   branch_fine kind a b l item meant r is false e =
       place_fine (op.Branch kind a b l) r (frame.item + 1) meant
@@ -222,7 +222,7 @@ module _ (config : Config) (app : App) (w : Facts config app) (t : ℕ) (k : Tas
   item_fine o meant r e = executed o meant r (if_true_some _ _ meant e).1
 
 pub executes_valid : (config : Config) (app : App) → Facts config app → (t func item result : ℕ) (s next : System) → IsValid config app s → s.booted ≡ true
-    → Executes config app t func item result s next → IsValid config app next
+    → IsItemStep config app t func item result s next → IsValid config app next
 executes_valid config app w t func item result s next v booted h =
     let r = running config app s t h.operation v h.top.declared h.at in
     let f = item_fine config app w t (task s t) h.at.frame h.at.outer s.symbols h.operation h.meant r h.means in

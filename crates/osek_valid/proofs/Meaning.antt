@@ -29,7 +29,7 @@ use Rattle.sloth_base.proofs.Services.{same_service}
 use Rattle.std.specs.List.{list_all}
 use Rattle.std.proofs.lemmas.List.{append_assoc}
 use Rattle.std.proofs.lemmas.Option.{slice_get-get_or}
-use Rattle.osek_scheduler.specs.Services.{is_there, is_resource, Outcome, GoesOn, Leaves, is_object}
+use Rattle.osek_scheduler.specs.Services.{is_there, is_resource, ServiceOutcome, GoesOn, Leaves, is_object}
 use Rattle.osek_scheduler.specs.Outcomes.{outcome}
 use Rattle.osek_scheduler.specs.Steps.{settled_state, IsAt, OsekStep}
 use Rattle.osek_scheduler.proofs.Tests.{on_some_is, if_true_is}
@@ -253,7 +253,7 @@ module _ (config : Config) (app : App) where
           there config app w t (task s t) at.frame at.outer s.symbols v.sizes call.service call.object call.mask
           (running config app s t (op.Serve call) v top.declared at)
 
-      answered_by : (call : Call) → (at : IsAt app s t (op.Serve call)) → (answer : Outcome) → outcome config call.service call.object call.mask t s ≡ answer
+      answered_by : (call : Call) → (at : IsAt app s t (op.Serve call)) → (answer : ServiceOutcome) → outcome config call.service call.object call.mask t s ≡ answer
           → (e : Event) × (admitted_line e ≡ None) × (next : System) × OsekStep config app e s next
       answered_by call at (GoesOn status after) e = (
         event.Call t call.service status,

@@ -4,10 +4,10 @@ use Rattle.sloth_base.specs.declared.config.Config.{Config}
 use Rattle.sloth_base.specs.declared.app.App.{App}
 use Rattle.sloth_base.specs.declared.event.Stamped.{Stamped}
 use Rattle.osek_scheduler.specs.State.{System, task}
-use Rattle.osek_scheduler.specs.Runs.{Leads}
+use Rattle.osek_scheduler.specs.Runs.{AreStepsTo}
 use Rattle.osek_valid.proofs.Facts.{Facts, facts}
 use Rattle.osek_valid.specs.Valid.{IsValid}
-use Rattle.osek_valid.specs.Apart.{TasksAreApart, Excludes}
+use Rattle.osek_valid.specs.Apart.{TasksAreApart, HasExclusion}
 use Rattle.osek_valid.specs.WellFormedRuns.{ItemsMean}
 use Rattle.osek_valid.proofs.Going.{running}
 use Rattle.osek_valid.proofs.Meaning.{position, means}
@@ -16,10 +16,10 @@ use Rattle.osek_valid.proofs.ApartSteps.{step_apart}
 use Rattle.osek_valid.proofs.Excluding.{excludes}
 
 module _ (config : Config) (app : App) (w : Facts config app) where
-  pub run_valid : (events : List Stamped) (s end : System) → Leads config app events s end → IsValid config app s → TasksAreApart config s
-      → IsValid config app end × TasksAreApart config end × Excludes config end
+  pub run_valid : (events : List Stamped) (s end : System) → AreStepsTo config app events s end → IsValid config app s → TasksAreApart config s
+      → IsValid config app end × TasksAreApart config end × HasExclusion config end
   run_valid [] s end is v a =
-      let P : System → Type 0 = λ x. IsValid config app x × TasksAreApart config x × Excludes config x in
+      let P : System → Type 0 = λ x. IsValid config app x × TasksAreApart config x × HasExclusion config x in
       subst P (sym is) (v, a, excludes config app s v a)
   run_valid (e ∷ events) s end h v a =
       run_valid events h.0 end h.2 (step_valid config app e.event s h.0 w h.1 v) (step_apart config app e.event s h.0 h.1 v.count a)

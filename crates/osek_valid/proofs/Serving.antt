@@ -16,13 +16,13 @@ use Rattle.osek_scheduler.specs.declared.state.TaskState.TheVariants as mode
 use Rattle.osek_scheduler.specs.State.{Frame, Task, System, sleeping_task, task, with_task, alarm, zero_registers}
 use Rattle.sloth_base.specs.Named.{declaration, undeclared_task}
 use Rattle.sloth_base.specs.Status.{E_OK, E_OS_LIMIT, E_OS_NOFUNC, E_OS_STATE, E_OS_VALUE}
-use Rattle.osek_scheduler.specs.Services.{activated_state, answered_task, answered_task_with, waiting_task, woken_state, with_events, set_events, moved_frames, Outcome, state_number}
+use Rattle.osek_scheduler.specs.Services.{activated_state, answered_task, answered_task_with, waiting_task, woken_state, with_events, set_events, moved_frames, ServiceOutcome, state_number}
 use Rattle.osek_scheduler.proofs.ServiceStates.{answered_state, answered_state_with, ended_state, IsAfter}
 use Rattle.osek_scheduler.specs.Outcomes.{planned_system, shown_outcome, alarm_setting_decision, decision, outcome}
 use Rattle.osek_scheduler.proofs.AllPlans.{OnPlans}
 use Rattle.osek_scheduler.proofs.Outcomes.{on_outcome}
-use Rattle.osek_scheduler.specs.Steps.{ServesCall}
-use Rattle.code_rules.specs.Code.{service_op, is_followed, held_after, Pauses, Ends, is_in, without_last}
+use Rattle.osek_scheduler.specs.Steps.{IsServiceStep}
+use Rattle.code_rules.specs.Code.{service_op, is_followed, held_after, IsPausing, IsEnding, is_in, without_last}
 use Rattle.osek_valid.proofs.Facts.{Facts}
 use Rattle.code_rules.specs.WellFormed.{held_list_before, HasEvents}
 use Rattle.osek_valid.specs.Valid.{MayHold, held_by, InState, IsValidTask, IsValid}
@@ -168,14 +168,14 @@ module _ (config : Config) (app : App) (w : Facts config app) (s : System) (v : 
 
   -- ---- nothing is held
 
-  waits_free : (sv : Service) (o m : ℕ) → Running config app c k frame outer (service_op sv o m) → Pauses sv
+  waits_free : (sv : Service) (o m : ℕ) → Running config app c k frame outer (service_op sv o m) → IsPausing sv
       → k.held ≡ []
   waits_free sv o m r pauses =
       r.held ∙ ap (λ l. l ++ held_list_before app frame.func frame.item)
       (outer_free config app w c frame.func frame.func frame.item o m sv outer r.called (inl refl) r.item pauses)
       ∙ w.serves_free frame.func frame.item o m sv r.item (inr pauses)
 
-  ends_free : (sv : Service) (o m : ℕ) → Running config app c k frame outer (service_op sv o m) → Ends sv
+  ends_free : (sv : Service) (o m : ℕ) → Running config app c k frame outer (service_op sv o m) → IsEnding sv
       → k.held ≡ []
   ends_free sv o m r ends =
       let own = w.ends_in_task frame.func frame.item o m sv r.item ends in
@@ -184,7 +184,7 @@ module _ (config : Config) (app : App) (w : Facts config app) (s : System) (v : 
 
   -- ---- the end of a task
 
-  ended_is : (sv : Service) (o m : ℕ) → Running config app c k frame outer (service_op sv o m) → Ends sv
+  ended_is : (sv : Service) (o m : ℕ) → Running config app c k frame outer (service_op sv o m) → IsEnding sv
       → IsValid config app (ended_state c s)
   ended_is sv o m r ends =
       let none = ends_free sv o m r ends in
@@ -353,8 +353,8 @@ module _ (config : Config) (app : App) (w : Facts config app) (s : System) (v : 
   pub outcome_valid : (sv : Service) (o m : ℕ) → Running config app c k frame outer (service_op sv o m) → IsAfter (IsValid config app) (outcome config sv o m c s)
   outcome_valid sv o m r = on_outcome (IsAfter (IsValid config app)) c s (decision config sv o m c s) (plans_valid sv o m r)
 
-pub serves_valid : (config : Config) (app : App) → Facts config app → (t : ℕ) (served : Service) (s : System) (answer : Outcome) → IsValid config app s
-    → s.booted ≡ true → ServesCall config app t served s answer → IsAfter (IsValid config app) answer
+pub serves_valid : (config : Config) (app : App) → Facts config app → (t : ℕ) (served : Service) (s : System) (answer : ServiceOutcome) → IsValid config app s
+    → s.booted ≡ true → IsServiceStep config app t served s answer → IsAfter (IsValid config app) answer
 serves_valid config app w t served s answer v booted h =
     let at = running config app s t (op.Serve h.call) v h.top.declared h.at in
     let R : Service → Type 0 = λ x. Running config app t (task s t) h.at.frame h.at.outer (service_op x h.call.object h.call.mask) in

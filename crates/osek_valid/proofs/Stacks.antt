@@ -10,7 +10,7 @@ use Rattle.sloth_base.specs.declared.service.Service.TheVariants as service
 use Rattle.sloth_base.specs.Options.{is_number}
 use Rattle.sloth_base.specs.Named.{function, body_of, no_function, IsBodyOf}
 use Rattle.osek_scheduler.specs.State.{Frame}
-use Rattle.code_rules.specs.Code.{IsItem, service_op, Calls, Reaches, TaskReaches, Pauses, is_in, without_last}
+use Rattle.code_rules.specs.Code.{IsItem, service_op, HasCall, Reaches, TaskReaches, IsPausing, is_in, without_last}
 use Rattle.osek_valid.proofs.Facts.{Facts}
 use Rattle.code_rules.specs.WellFormed.{held_list_before}
 use Rattle.osek_valid.specs.Valid.{IsCalledFrom, held_by, AreDistinct}
@@ -64,8 +64,8 @@ without_last-push (x ∷ y ∷ ys) r = ap (λ l. x ∷ l) (without_last-push (y 
 
 -- ---- chains
 
-pub calls_reach : (app : App) (f g h : ℕ) → Calls app f g → Reaches app g h → Reaches app f h
-calls_reach app f g h calls (inl e) = inr ([], subst (Calls app f) e calls)
+pub calls_reach : (app : App) (f g h : ℕ) → HasCall app f g → Reaches app g h → Reaches app f h
+calls_reach app f g h calls (inl e) = inr ([], subst (HasCall app f) e calls)
 calls_reach app f g h calls (inr chain) = inr (g ∷ chain.0, (calls, chain.1))
 
 -- the body of a task is found
@@ -110,7 +110,7 @@ module _ (config : Config) (app : App) (w : Facts config app) (t : ℕ) where
 
   -- where the innermost function waits, the outer ones hold nothing
   pub outer_free : (f h j o m : ℕ) (s : Service) (outer : List Frame) → IsCalledFrom app t f outer → Reaches app f h → IsItem app h j (service_op s o m)
-      → Pauses s → held_by app outer ≡ []
+      → IsPausing s → held_by app outer ≡ []
   outer_free f h j o m s [] called r at leaves = refl
   outer_free f h j o m s (caller ∷ outer) called r at leaves =
       ap (λ l. l ++ held_list_before app caller.func caller.item)

@@ -13,7 +13,7 @@ use Rattle.sloth_base.specs.Events.{named_task}
 use Rattle.osek_scheduler.specs.Services.{activated_state, started_task, entered_state, GoesOn, Leaves}
 use Rattle.osek_scheduler.specs.Steps.{admitted_state, OsekStep}
 use Rattle.osek_valid.proofs.Facts.{Facts}
-use Rattle.osek_valid.specs.Valid.{AreCalls, held_by, Rests, InState, IsValidTask, IsValid}
+use Rattle.osek_valid.specs.Valid.{AreCalls, held_by, IsAtRest, InState, IsValidTask, IsValid}
 use Rattle.osek_valid.proofs.Held.{held_at_begin}
 use Rattle.osek_valid.proofs.Stacks.{has_body}
 use Rattle.osek_valid.proofs.Going.{keeps, settles, runs_on}
@@ -36,7 +36,7 @@ enter_valid config app w s t v booted declared ready =
     k : IsValidTask config app t (task s t)
     k = v.each t declared
 
-    rests : Rests (task s t)
+    rests : IsAtRest (task s t)
     rests = (subst (InState config t (task s t)) ready k.in_state).0
 
     by : (fs : List Frame) → (task s t).frames ≡ fs

@@ -18,7 +18,7 @@ use Rattle.code_rules.specs.Code.{is_in}
 use Rattle.osek_scheduler.specs.Priority.{is_active}
 use Rattle.code_rules.specs.WellFormed.{HasEvents}
 use Rattle.osek_valid.proofs.Facts.{Facts}
-use Rattle.osek_valid.specs.Valid.{MayHold, Rests, InState, IsValidTask, IsValid}
+use Rattle.osek_valid.specs.Valid.{MayHold, IsAtRest, InState, IsValidTask, IsValid}
 use Rattle.osek_valid.specs.Tidy.{IsTidy}
 use Rattle.osek_valid.proofs.Depth.{frames_differ}
 
@@ -78,7 +78,7 @@ module _ (config : Config) (app : App) (w : Facts config app) where
       k : IsValidTask config app t (task s t)
       k = v.each t lt
 
-      rest : (m : TaskState) → InState config t (task s t) m → is_active m ≡ false → Rests (task s t)
+      rest : (m : TaskState) → InState config t (task s t) m → is_active m ≡ false → IsAtRest (task s t)
       rest mode.Suspended i e = i.0
       rest mode.Ready i e = i.0
       rest mode.Active i e = absurd (true≢false e)

@@ -35,7 +35,7 @@ pub record TasksAreApart (config : Config) (s : System) : Type 0 where
   pub apart : (t u : ℕ) → AreTwo config t u → IsActive s t → IsActive s u → IsOver config s u t ⊎ IsOver config s t u
 
 -- No two tasks hold one resource, a task that is not Active holds none, and no two Active tasks have one current priority.
-pub record Excludes (config : Config) (s : System) : Type 0 where
+pub record HasExclusion (config : Config) (s : System) : Type 0 where
   pub one_holder : (t u r : ℕ) → AreTwo config t u → is_in r (task s t).held ≡ true → is_in r (task s u).held ≡ true → ⊥
   pub idle_holds_none : (t : ℕ) → t < length config.tasks → (task s t).state ≢ mode.Active → (task s t).held ≡ []
   pub priorities_differ : (t u : ℕ) → AreTwo config t u → IsActive s t → IsActive s u

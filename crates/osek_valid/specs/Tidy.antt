@@ -8,12 +8,12 @@ use Rattle.code_rules.specs.Code.{is_in}
 use Rattle.osek_scheduler.specs.declared.state.TaskState.TheVariants as mode
 use Rattle.osek_scheduler.specs.State.{Task}
 use Rattle.osek_scheduler.specs.Priority.{is_active}
-use Rattle.osek_valid.specs.Valid.{AreCalls, held_by, AreDistinct, Rests}
+use Rattle.osek_valid.specs.Valid.{AreCalls, held_by, AreDistinct, IsAtRest}
 
 -- what is true of task t in each state of a run
 pub record IsTidy (config : Config) (app : App) (t : ℕ) (own : Task) : Type 0 where
   pub registers : length own.registers ≡ 25
-  pub at_rest : is_active own.state ≡ false → Rests own
+  pub at_rest : is_active own.state ≡ false → IsAtRest own
   pub asleep : own.state ≡ mode.Suspended → (own.frames ≡ []) × (own.events ≡ 0)
   -- a task whose scheduling is NON that holds a resource has its internal resource too
   pub raised_by : (r : ℕ) → is_in r own.held ≡ true → own.raised ≡ (declaration config t).non

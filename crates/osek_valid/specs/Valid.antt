@@ -6,7 +6,7 @@ use Rattle.sloth_base.specs.declared.app.Op.TheVariants as op
 use Rattle.sloth_base.specs.Named.{function, declaration, counter_declaration, body_of}
 use Rattle.sloth_base.specs.ConfigRange.{scheduler_number}
 use Rattle.code_rules.specs.Code.{IsItem, is_in}
-use Rattle.code_rules.specs.WellFormed.{held_list_before, Lists, HasEvents}
+use Rattle.code_rules.specs.WellFormed.{held_list_before, HasResource, HasEvents}
 use Rattle.osek_scheduler.specs.declared.state.TaskState.{TaskState}
 use Rattle.osek_scheduler.specs.declared.state.TaskState.TheVariants as mode
 use Rattle.osek_scheduler.specs.State.{Frame, Task, Clock, System, task, no_counter}
@@ -38,7 +38,7 @@ held_by app (frame ∷ outer) = held_by app outer ++ held_list_before app frame.
 
 -- a task may hold RES_SCHEDULER and the resources that it lists
 abbrev pub MayHold : Config → (t r : ℕ) → Type 0
-MayHold config t r = (r ≡ scheduler_number) ⊎ Lists (declaration config t) r
+MayHold config t r = (r ≡ scheduler_number) ⊎ HasResource (declaration config t) r
 
 -- no number occurs twice
 abbrev pub AreDistinct : List ℕ → Type 0
@@ -46,19 +46,19 @@ AreDistinct [] = Unit {0}
 AreDistinct (r ∷ rs) = (is_in r rs ≡ false) × AreDistinct rs
 
 -- a task that is not Active holds no resource, and owes no `back`
-pub record Rests (own : Task) : Type 0 where
+pub record IsAtRest (own : Task) : Type 0 where
   pub holds : own.held ≡ []
   pub not_owed : own.owed ≡ false
   pub not_raised : own.raised ≡ false
 
 -- what its state says of task t
 abbrev pub InState : Config → (t : ℕ) → Task → TaskState → Type 0
-InState config t own mode.Suspended = Rests own × (own.frames ≡ []) × (own.events ≡ 0)
-InState config t own mode.Ready = Rests own × ((own.frames ≡ []) ⊎ ((declaration config t).extended ≡ true))
+InState config t own mode.Suspended = IsAtRest own × (own.frames ≡ []) × (own.events ≡ 0)
+InState config t own mode.Ready = IsAtRest own × ((own.frames ≡ []) ⊎ ((declaration config t).extended ≡ true))
 InState config t own mode.Active =
     (own.frames ≢ []) × (own.raised ≡ ((declaration config t).non && not own.owed)) × (own.owed ≡ true → own.held ≡ [])
 InState config t own (mode.Waiting mask) =
-    Rests own × (own.frames ≢ []) × ((declaration config t).extended ≡ true) × HasEvents (declaration config t) mask
+    IsAtRest own × (own.frames ≢ []) × ((declaration config t).extended ≡ true) × HasEvents (declaration config t) mask
 
 -- what every step keeps true of task t
 pub record IsValidTask (config : Config) (app : App) (t : ℕ) (own : Task) : Type 0 where

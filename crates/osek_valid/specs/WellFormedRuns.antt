@@ -13,9 +13,9 @@ use Rattle.osek_scheduler.specs.Priority.{IsTop}
 use Rattle.sloth_base.specs.Events.{admitted_line}
 use Rattle.osek_scheduler.specs.Meaning.{ItemMeaning, meaning}
 use Rattle.osek_scheduler.specs.Steps.{IsAt, OsekStep}
-use Rattle.osek_scheduler.specs.Runs.{Leads}
+use Rattle.osek_scheduler.specs.Runs.{AreStepsTo}
 use Rattle.osek_valid.specs.Valid.{IsValid}
-use Rattle.osek_valid.specs.Apart.{TasksAreApart, Excludes, IsActive}
+use Rattle.osek_valid.specs.Apart.{TasksAreApart, HasExclusion, IsActive}
 use Rattle.osek_valid.specs.Tidy.{IsTidy}
 
 -- before the system has started it is valid
@@ -35,7 +35,7 @@ StepsKeepApart = (config : Config) (app : App) (event : Event) (s next : System)
 -- each state that events lead to is valid, and in it no two tasks hold one resource
 abbrev pub RunsAreValid : Type 0
 RunsAreValid = (config : Config) (app : App) (events : List Stamped) (end : System)
-    → WellFormed config app → Leads config app events (opening config app) end → IsValid config app end × TasksAreApart config end × Excludes config end
+    → WellFormed config app → AreStepsTo config app events (opening config app) end → IsValid config app end × TasksAreApart config end × HasExclusion config end
 
 -- an item that has a meaning for task t, or is a service
 abbrev pub MeansOrServes : (app : App) (s : System) (t : ℕ) (o : Op) → IsAt app s t o → Type 0

@@ -8,9 +8,9 @@ use Rattle.masked_code.specs.Masked.{Masked, WithArrivals}
 use Rattle.masked_code.specs.Place.{offset_state}
 use Rattle.masked_code.proofs.Masked.{masked_more}
 use Rattle.code_lengths.specs.CodeLengths.{prologue_length}
-use Rattle.prologue_gen.specs.Fresh.{vector, Entered}
-use Rattle.prologue_gen.specs.Resumed.{MayStart}
-use Rattle.prologue_gen.specs.Places.{DoesEnter}
+use Rattle.prologue_gen.specs.Fresh.{vector, EntryEffect}
+use Rattle.prologue_gen.specs.Resuming.{MayStart}
+use Rattle.prologue_gen.specs.Places.{IsPrologueCode}
 use Rattle.prologue_gen.specs.Pieces.{context_saving_code, active_marking_code, context_taking_code, fresh_start_code}
 use Rattle.prologue_gen.proofs.Starting.{enters}
 use Rattle.prologue_gen.proofs.Resuming.{enters_or_resumes}
@@ -21,35 +21,35 @@ code extended task level frame words first = context_saving_code level ++ (activ
 
 -- it enters the task, whose frame is given by its offset
 by_offset : (extended : Bool) (task level first frame words : ℕ) → task < task_limit → level < level_count → first < 2 ^ 32 → words ≤ frame_limit
-    → DoesEnter extended task level first frame words (code extended task level (memory_base + frame) words first)
+    → IsPrologueCode extended task level first frame words (code extended task level (memory_base + frame) words first)
 by_offset false = enters
 by_offset true = enters_or_resumes
 
 -- whose frame is given by its address
 pub does_enter : (extended : Bool) (task level first frame words : ℕ) → task < task_limit → level < level_count → first < 2 ^ 32 → words ≤ frame_limit → memory_base ≤ frame
-    → DoesEnter extended task level first (frame - memory_base) words (code extended task level frame words first)
+    → IsPrologueCode extended task level first (frame - memory_base) words (code extended task level frame words first)
 does_enter extended task level first frame words is_task low_level fits few in_ram =
     let same : memory_base + (frame - memory_base) ≡ frame = omega arith in
-    subst (λ x. DoesEnter extended task level first (frame - memory_base) words (code extended task level x words first)) same
+    subst (λ x. IsPrologueCode extended task level first (frame - memory_base) words (code extended task level x words first)) same
     (by_offset extended task level first (frame - memory_base) words is_task low_level fits few)
 
 -- how many instructions it has
-pub length_is : (extended : Bool) (task level first frame words : ℕ) (code : List InstrKind) → DoesEnter extended task level first frame words code
+pub length_is : (extended : Bool) (task level first frame words : ℕ) (code : List InstrKind) → IsPrologueCode extended task level first frame words code
     → length code ≡ prologue_length extended words
 length_is true task level first frame words code h = h.size
 length_is false task level first frame words code h = h.size
 
 -- how long the code of a prologue is
-pub size : (extended : Bool) (task level first frame words : ℕ) (code : List InstrKind) → DoesEnter extended task level first frame words code
+pub size : (extended : Bool) (task level first frame words : ℕ) (code : List InstrKind) → IsPrologueCode extended task level first frame words code
     → (0 < length code) × (length code ≤ 108 + words)
 size true task level first frame words code h = let n = h.size in (omega arith, omega arith)
 size false task level first frame words code h = let n = h.size in (omega arith, omega arith)
 
 -- where no context is kept, both start the task
-pub starts : (extended : Bool) (task level first frame words : ℕ) (code : List InstrKind) → DoesEnter extended task level first frame words code
+pub starts : (extended : Bool) (task level first frame words : ℕ) (code : List InstrKind) → IsPrologueCode extended task level first frame words code
     → (offset place : ℕ) (core : Core) → first % 4 ≡ 0 → MayStart offset task place frame words code core
-    → Masked (109 + words) (offset_state (vector task) core) (WithArrivals (Entered task level first place frame words) (offset_state (vector task) core))
+    → Masked (109 + words) (offset_state (vector task) core) (WithArrivals (EntryEffect task level first place frame words) (offset_state (vector task) core))
 starts true task level first frame words code h = h.starts
 starts false task level first frame words code h = λ offset place core aligned may.
-    masked_more (74 + words) (109 + words) (offset_state (vector task) core) (WithArrivals (Entered task level first place frame words) (offset_state (vector task) core)) (omega arith)
+    masked_more (74 + words) (109 + words) (offset_state (vector task) core) (WithArrivals (EntryEffect task level first place frame words) (offset_state (vector task) core)) (omega arith)
     (h.runs offset place core aligned may.enters)

@@ -17,7 +17,7 @@ use Rattle.masked_code.proofs.Leave.{behind}
 use Rattle.block_parts.specs.Prologues.{preempted_test}
 use Rattle.prologue_gen.specs.Pieces.{csr_saving_code, words_saving_code, active_marking_code}
 use Rattle.prologue_gen.specs.Fresh.{saved_registers}
-use Rattle.prologue_gen.specs.Resumed.{with_entry}
+use Rattle.prologue_gen.specs.Resuming.{with_entry}
 use Rattle.prologue_gen.proofs.SavedRegisters.{none_saved, all_saved}
 
 -- what stands before this code in each prologue

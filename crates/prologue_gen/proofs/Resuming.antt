@@ -12,7 +12,7 @@ use Rattle.sloth_region.specs.Layout.{cur, active, resume, below_word, idle_cont
 use Rattle.rv32_instr.specs.declared.InstrKind.{InstrKind}
 use Rattle.rv32_instr.specs.Ram.{word_at, with_word, with_words}
 use Rattle.masked_code.specs.Place.{offset_state, InPlace}
-use Rattle.masked_code.specs.Kernel.{CanRun, HoldBases}
+use Rattle.masked_code.specs.Kernel.{CanRun, HasBases}
 use Rattle.rv32_instr.specs.declared.InstrKind.TheVariants.{Jal}
 use Rattle.masked_code.specs.Masked.{Masked, WithArrivals}
 use Rattle.masked_code.proofs.Owes.{◌▸◌, writes, loads, stores, accesses, Owes}
@@ -25,8 +25,8 @@ use Rattle.masked_code.proofs.Leave.{behind}
 use Rattle.masked_code.proofs.Routines.{jumps_in}
 use Rattle.block_parts.specs.Prologues.{own_taking_code}
 use Rattle.prologue_gen.specs.Pieces.{wait_answer_code, kept_context_test}
-use Rattle.prologue_gen.specs.Fresh.{vector, Entered, saved_registers}
-use Rattle.prologue_gen.specs.Resumed.{MayStart, MayResume, Resumed, EntersOrResumes, with_entry}
+use Rattle.prologue_gen.specs.Fresh.{vector, EntryEffect, saved_registers}
+use Rattle.prologue_gen.specs.Resuming.{MayStart, MayResume, ResumeEffect, IsExtendedEntryCode, with_entry}
 use Rattle.prologue_gen.proofs.SavedRegisters.{few_saved}
 use Rattle.prologue_gen.proofs.Entering.{enters_first, entered, enters_owe}
 use Rattle.prologue_gen.proofs.Starting.{starts, starts_owe, length-starts}
@@ -76,7 +76,7 @@ kept_word c task place is_task past = entry_keeps c task place (resume task) (in
 -- no context is kept: the task starts anew
 module _ (from to task level first place frame words : ℕ) (c : Core) (is_task : task < task_limit) (past : idle_context ≤ place) (none : word_at c.ram (resume task) ≡ 0) where
   abbrev E : List ℕ → State → State → Type 0
-  E = Entered task level first place frame words
+  E = EntryEffect task level first place frame words
 
   abbrev start : State
   start = offset_state (vector task) (based c)
@@ -113,7 +113,7 @@ pub record IsKept (from task level place own : ℕ) (c : Core) : Type 0 where
 -- a context is kept, at `own`
 module _ (from to task level place own : ℕ) (c : Core) (rest : List InstrKind) (is_kept : IsKept from task level place own c) where
   abbrev R : List ℕ → State → State → Type 0
-  R = Resumed task level place own
+  R = ResumeEffect task level place own
 
   abbrev begun : State
   begun = offset_state (vector task) (based c)
@@ -242,7 +242,7 @@ module _ (task level first frame words : ℕ) (is_task : task < task_limit) (low
   rest = either task (memory_base + frame) words first
 
   -- from the vector word on
-  whole_runs : (E : List ℕ → State → State → Type 0) (jump : ℤ) → CanRun offset whole c → HoldBases c.registers → c.mie ≡ false → InPlace c.ram (vector task) (Jal 0 jump ∷ [])
+  whole_runs : (E : List ℕ → State → State → Type 0) (jump : ℤ) → CanRun offset whole c → HasBases c.registers → c.mie ≡ false → InPlace c.ram (vector task) (Jal 0 jump ∷ [])
       → plus (memory_base + vector task) jump ≡ memory_base + offset
       → Owes offset (offset + 4 * length whole) offset whole 0 E (offset_state (vector task) (based c)) (based c)
       → Masked (109 + words) (offset_state (vector task) c) (WithArrivals E (offset_state (vector task) c))
@@ -264,23 +264,23 @@ module _ (task level first frame words : ℕ) (is_task : task < task_limit) (low
       omega arith
 
   starts_it : first % 4 ≡ 0 → MayStart offset task place frame words whole c
-      → Masked (109 + words) (offset_state (vector task) c) (WithArrivals (Entered task level first place frame words) (offset_state (vector task) c))
+      → Masked (109 + words) (offset_state (vector task) c) (WithArrivals (EntryEffect task level first place frame words) (offset_state (vector task) c))
   starts_it first_aligned may =
       let h = may.enters in
       let can = h.taken.can_run in
       let to = offset + 4 * length whole in
-      let E = Entered task level first place frame words in
+      let E = EntryEffect task level first place frame words in
       let small = small_offset can in
       whole_runs E h.taken.jump can h.taken.bases h.taken.masked h.taken.vector_word h.taken.to_code
       (enters_owe offset to task level place c E (offset_state (vector task) (based c)) rest is_task h.taken.masked h.taken.x2 h.taken.aligned h.taken.behind h.taken.inside h.taken.apart can.behind offset (omega (arith, small))
       (λ o e. fresh_owe offset to task level first place frame words c is_task h.taken.behind may.kept_none o (memory_base + place) (omega (arith, small, e))
       (λ o'. starts_owe offset to task level first place frame words c low_level first_fits first_aligned h.taken.masked h.taken.previous h.frame_aligned h.frame_inside h.frame_apart o' 0 1)))
 
-  resumes_it : (own : ℕ) → MayResume offset task place own whole c → Masked (109 + words) (offset_state (vector task) c) (WithArrivals (Resumed task level place own) (offset_state (vector task) c))
+  resumes_it : (own : ℕ) → MayResume offset task place own whole c → Masked (109 + words) (offset_state (vector task) c) (WithArrivals (ResumeEffect task level place own) (offset_state (vector task) c))
   resumes_it own h =
       let can = h.taken.can_run in
       let to = offset + 4 * length whole in
-      let E = Resumed task level place own in
+      let E = ResumeEffect task level place own in
       let small = small_offset can in
       let kept : IsKept offset task level place own c = record {
         is_task = is_task;
@@ -303,7 +303,7 @@ module _ (task level first frame words : ℕ) (is_task : task < task_limit) (low
 
 -- so the whole code does one of the two
 pub enters_or_resumes : (task level first frame words : ℕ) → task < task_limit → level < level_count → first < 2 ^ 32 → words ≤ frame_limit
-    → EntersOrResumes task level first frame words (code task level (memory_base + frame) words first)
+    → IsExtendedEntryCode task level first frame words (code task level (memory_base + frame) words first)
 enters_or_resumes task level first frame words a b d f =
     let long = length-code task level (memory_base + frame) words first in
     record {

@@ -20,8 +20,8 @@ use Rattle.masked_code.proofs.Runs.{clears_owes, clears_words_owes, length-clear
 use Rattle.masked_code.proofs.Leave.{behind}
 use Rattle.masked_code.proofs.Routines.{jumps_in}
 use Rattle.prologue_gen.specs.Pieces.{beginning_code}
-use Rattle.prologue_gen.specs.Fresh.{vector, MayEnter, Entered, Enters}
-use Rattle.prologue_gen.specs.Resumed.{with_entry}
+use Rattle.prologue_gen.specs.Fresh.{vector, MayEnter, EntryEffect, IsEntryCode}
+use Rattle.prologue_gen.specs.Resuming.{with_entry}
 use Rattle.prologue_gen.proofs.Entering.{enters_first, entered, enters_owe}
 
 -- the frame is cleared and the registers too, and `mret` starts the body
@@ -74,7 +74,7 @@ module _ (from to task level first place frame words : ℕ) (c : Core) (low_leve
       get_or-set_other (0 ∷ first ∷ sp ∷ controller_base ∷ memory_base ∷ spread_from 27 5 c.registers) 5 i c.plevel 0 not_five
       ∙ others first sp controller_base memory_base (get_or c.registers 1 0) (get_or c.registers 2 0) controller_base memory_base (spread_from 27 5 c.registers) i (omega arith)
 
-  done : Entered task level first place frame words [] start (record { pc = first - first % 4; core = record stored { registers = cleared_registers 25 5 regs; ram = with_words ram8 (frame + 4 * 0) (replicate words 0); ilevel = level % 256; mie = c.mpie; mpie = true } })
+  done : EntryEffect task level first place frame words [] start (record { pc = first - first % 4; core = record stored { registers = cleared_registers 25 5 regs; ram = with_words ram8 (frame + 4 * 0) (replicate words 0); ilevel = level % 256; mie = c.mpie; mpie = true } })
   done = record {
     touches = refl;
     pc = first_is;
@@ -99,9 +99,9 @@ module _ (from to task level first place frame words : ℕ) (c : Core) (low_leve
   }
 
   cleared_owe : (o : ℕ)
-      → Owes from to o (clearing_code 25 5 ++ Mret ∷ []) 0 (Entered task level first place frame words) start
+      → Owes from to o (clearing_code 25 5 ++ Mret ∷ []) 0 (EntryEffect task level first place frame words) start
       (record stored { ram = with_words ram8 (frame + 4 * 0) (replicate words 0) })
-  cleared_owe o = clears_owes from to (Entered task level first place frame words) start (Mret ∷ []) 25 5 o (o + 100) (record stored { ram = with_words ram8 (frame + 4 * 0) (replicate words 0) }) refl (lit≤ tt) refl done
+  cleared_owe o = clears_owes from to (EntryEffect task level first place frame words) start (Mret ∷ []) 25 5 o (o + 100) (record stored { ram = with_words ram8 (frame + 4 * 0) (replicate words 0) }) refl (lit≤ tt) refl done
 
   frame_fits : frame + 4 * (0 + words) ≤ memory_bytes
   frame_fits = omega arith
@@ -109,14 +109,14 @@ module _ (from to task level first place frame words : ℕ) (c : Core) (low_leve
   frame_clear : (frame + 4 * (0 + words) ≤ from) ⊎ (to ≤ frame)
   frame_clear = grind (arith, frame_apart)
 
-  zeroed_owe : (o : ℕ) → Owes from to o (last words) 0 (Entered task level first place frame words) start stored
-  zeroed_owe o = clears_words_owes from to (Entered task level first place frame words) start (clearing_code 25 5 ++ Mret ∷ []) frame frame_aligned words 0 2 o (o + 4 * words) stored refl refl refl frame_fits frame_clear (cleared_owe (o + 4 * words))
+  zeroed_owe : (o : ℕ) → Owes from to o (last words) 0 (EntryEffect task level first place frame words) start stored
+  zeroed_owe o = clears_words_owes from to (EntryEffect task level first place frame words) start (clearing_code 25 5 ++ Mret ∷ []) frame frame_aligned words 0 2 o (o + 4 * words) stored refl refl refl frame_fits frame_clear (cleared_owe (o + 4 * words))
 
   sp_fits : sp < 2 ^ 32
   sp_fits = omega arith
 
   -- the start of the task, in the state behind the entry
-  pub starts_owe : (o x1 x2 : ℕ) → Owes from to o (starts sp words first) 0 (Entered task level first place frame words) start (entered task level place c x1 x2)
+  pub starts_owe : (o x1 x2 : ℕ) → Owes from to o (starts sp words first) 0 (EntryEffect task level first place frame words) start (entered task level place c x1 x2)
   starts_owe o x1 x2 =
       writes (hi sp * 4096) refl
       ▸ writes sp (hi_lo sp sp_fits)
@@ -141,14 +141,14 @@ module _ (task level first frame words : ℕ) (is_task : task < task_limit) (low
   whole = code task level (memory_base + frame) words first
 
   -- from the vector word to the first instruction of the task
-  pub runs_it : Masked (74 + words) (offset_state (vector task) c) (WithArrivals (Entered task level first place frame words) (offset_state (vector task) c))
+  pub runs_it : Masked (74 + words) (offset_state (vector task) c) (WithArrivals (EntryEffect task level first place frame words) (offset_state (vector task) c))
   runs_it =
       let can = h.taken.can_run in
       let long = length-code task level (memory_base + frame) words first in
       let n = words + 73 in
       let e : suc n ≡ 74 + words = omega arith in
       let to = offset + 4 * length whole in
-      let E = Entered task level first place frame words in
+      let E = EntryEffect task level first place frame words in
       let own = memory_base + place in
       let fits = can.inside in
       let all = enters_owe offset to task level place c E (offset_state (vector task) (based c)) (starts (memory_base + frame) words first) is_task h.taken.masked h.taken.x2 h.taken.aligned h.taken.behind h.taken.inside h.taken.apart can.behind offset (omega (arith, fits))
@@ -160,7 +160,7 @@ module _ (task level first frame words : ℕ) (is_task : task < task_limit) (low
       (subst (λ x. Owes offset to offset whole 0 E (offset_state (vector task) x) x) (based_is c can.registers can.zero h.taken.bases) all))
 
 -- for each task, level, first instruction and frame
-pub enters : (task level first frame words : ℕ) → task < task_limit → level < level_count → first < 2 ^ 32 → words ≤ frame_limit → Enters task level first frame words (code task level (memory_base + frame) words first)
+pub enters : (task level first frame words : ℕ) → task < task_limit → level < level_count → first < 2 ^ 32 → words ≤ frame_limit → IsEntryCode task level first frame words (code task level (memory_base + frame) words first)
 enters task level first frame words a b d f =
     let long = length-code task level (memory_base + frame) words first in
     record { size = omega arith; runs = λ offset place core e h. runs_it task level first frame words a b d e f offset place core h }

@@ -11,7 +11,7 @@ use Rattle.sloth_base.specs.MemoryMap.{memory_base, memory_bytes}
 use Rattle.masked_code.specs.Masked.{Masked, WithArrivals}
 use Rattle.masked_code.specs.Place.{offset_state, InPlace}
 use Rattle.masked_code.specs.Pieces.{registers_from}
-use Rattle.masked_code.specs.Kernel.{CanRun, HoldBases, LeftAs}
+use Rattle.masked_code.specs.Kernel.{CanRun, HasBases, IsOpenedCore}
 
 -- the offset of a line's vector word
 abbrev pub vector : ℕ → ℕ
@@ -27,7 +27,7 @@ pub record IsTaken (offset task place : ℕ) (code : List InstrKind) (core : Cor
   pub can_run : CanRun offset code core
   pub masked : core.mie ≡ false
   pub previous : core.mpie ≡ true
-  pub bases : HoldBases core.registers
+  pub bases : HasBases core.registers
   pub jump : ℤ
   pub vector_word : InPlace core.ram (vector task) (Jal 0 jump ∷ [])
   pub to_code : plus (memory_base + vector task) jump ≡ memory_base + offset
@@ -60,17 +60,17 @@ with_active ram task place frame words =
     with_words (with_word (with_word (with_word ram below_word (memory_base + place)) cur (task + 1)) (active task) 1) frame (replicate words 0)
 
 -- The task runs at its level, Active, with x5 to x29 and the words of its frame zero, at its first item.
-pub record Entered (task level first place frame words : ℕ) (touched : List ℕ) (start end : State) : Type 0 where
+pub record EntryEffect (task level first place frame words : ℕ) (touched : List ℕ) (start end : State) : Type 0 where
   pub touches : touched ≡ []
-  pub left : LeftAs (record start.core { ilevel = level; ram = with_active (with_context start.core place) task place frame words }) end.core
+  pub left : IsOpenedCore (record start.core { ilevel = level; ram = with_active (with_context start.core place) task place frame words }) end.core
   pub pc : end.pc ≡ first
   pub x2 : slice_index end.core.registers 2 ≡ memory_base + frame
   pub zeros : (i : ℕ) → 5 ≤ i → i < 30 → slice_index end.core.registers i ≡ 0
   pub kept : (i : ℕ) → 30 ≤ i → slice_index end.core.registers i ≡ slice_index start.core.registers i
 
 -- Code of a prologue: with the jump of the vector word, at most 74 + words instructions lead to its effect, whatever lines arrive.
-pub record Enters (task level first frame words : ℕ) (code : List InstrKind) : Type 0 where
+pub record IsEntryCode (task level first frame words : ℕ) (code : List InstrKind) : Type 0 where
   pub size : length code ≡ prologue_length false words
   pub runs :
       (offset place : ℕ) (core : Core) → first % 4 ≡ 0 → MayEnter offset task place frame words code core
-      → Masked (74 + words) (offset_state (vector task) core) (WithArrivals (Entered task level first place frame words) (offset_state (vector task) core))
+      → Masked (74 + words) (offset_state (vector task) core) (WithArrivals (EntryEffect task level first place frame words) (offset_state (vector task) core))

@@ -1,4 +1,4 @@
 pub mod Fresh
-pub mod Resumed
+pub mod Resuming
 pub mod Places
 pub mod Pieces

@@ -11,8 +11,8 @@ use Rattle.sloth_base.specs.MemoryMap.{memory_base, memory_end}
 use Rattle.sloth_region.specs.declared.map.Map.{Map}
 use Rattle.sloth_region.specs.Layout.{context_bytes}
 use Rattle.rv32_instr.specs.declared.InstrKind.{InstrKind}
-use Rattle.prologue_gen.specs.Fresh.{Enters}
-use Rattle.prologue_gen.specs.Resumed.{EntersOrResumes}
+use Rattle.prologue_gen.specs.Fresh.{IsEntryCode}
+use Rattle.prologue_gen.specs.Resuming.{IsExtendedEntryCode}
 
 -- the level at which a task starts to run: one that is not preempted starts at the highest
 abbrev pub start_level : TaskDecl → ℕ → Levels → ℕ
@@ -31,18 +31,18 @@ abbrev pub IsStackTop : ℕ → Type 0
 IsStackTop top = (memory_base + context_bytes ≤ top) × (top ≤ memory_end)
 
 -- what the code of a prologue does, of an extended task or of a basic one
-abbrev pub DoesEnter : Bool → ℕ → ℕ → ℕ → ℕ → ℕ → List InstrKind → Type 0
-DoesEnter false = Enters
-DoesEnter true = EntersOrResumes
+abbrev pub IsPrologueCode : Bool → ℕ → ℕ → ℕ → ℕ → ℕ → List InstrKind → Type 0
+IsPrologueCode false = IsEntryCode
+IsPrologueCode true = IsExtendedEntryCode
 
 -- The code enters the task: it begins at the first item of its body, with its frame at the end of its part of its stack, at its level. That
 -- of an extended task goes on behind its wait where a context is kept for it.
-pub record EntersTask (task : ℕ) (config : Config) (app : App) (levels : Levels) (map : Map) (code : List InstrKind) : Type 0 where
+pub record IsTaskPrologue (task : ℕ) (config : Config) (app : App) (levels : Levels) (map : Map) (code : List InstrKind) : Type 0 where
   pub decl : TaskDecl
   pub is_decl : slice_get config.tasks task ≡ Some decl
   pub body : ℕ
   pub func : Func
   pub is_func : slice_get app.funcs body ≡ Some func
   pub is_body : func.task ≡ Some task
-  pub enters : DoesEnter decl.extended task (start_level decl task levels) (first_item map.places body) (frame_at (slice_index map.tops task) func.frame_words)
+  pub enters : IsPrologueCode decl.extended task (start_level decl task levels) (first_item map.places body) (frame_at (slice_index map.tops task) func.frame_words)
       func.frame_words code

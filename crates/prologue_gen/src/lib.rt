@@ -6,6 +6,6 @@
 
 mod fresh;
 mod prologue_block;
-mod resumed;
+mod resuming;
 
 pub use prologue_block::prologue;

@@ -4,10 +4,10 @@ ghost use Rattle.sloth_base.specs.MemoryMap.{memory_base};
 ghost use Rattle.sloth_base.specs.Limits.{task_limit, level_count, frame_limit};
 ghost use Rattle.code_lengths.specs.Bodies.{IsBodyPlace};
 ghost use Rattle.code_lengths.specs.CodeLengths.{prologue_length, IsPrologueLength};
-ghost use Rattle.prologue_gen.specs.Places.{IsStackTop, EntersTask, DoesEnter, frame_at};
+ghost use Rattle.prologue_gen.specs.Places.{IsStackTop, IsTaskPrologue, IsPrologueCode, frame_at};
 
 use crate::fresh::{mark_active, save_context, start_anew};
-use crate::resumed::take_up;
+use crate::resuming::take_up;
 use block_parts::prologues::start_level;
 use code_lengths::body_of;
 use rv32_instr::{Block, Instr};
@@ -39,7 +39,7 @@ pub fn prologue(
     ensures at { IfOk result (λ block. block.at ≡ slice_index map.now.handlers task) }
     ensures marks { IfOk result (λ block. block.marks ≡ []) }
     ensures size { IfOk result (λ block. IsPrologueLength task config.now app.now (length block.code)) }
-    ensures effect { IfOk result (λ block. EntersTask task config.now app.now levels.now map.now block.code) }
+    ensures effect { IfOk result (λ block. IsTaskPrologue task config.now app.now levels.now map.now block.code) }
 {
     let code = entry(alloc, task, config, app, levels, map)?;
     Ok(Block {
@@ -65,7 +65,7 @@ fn entry(
     requires tops { (length map.now.tops ≡ length config.now.tasks) × All IsStackTop map.now.tops }
     requires items { (length app.now.funcs ≤ length map.now.places.first) × All (λ i. i < length map.now.places.items) map.now.places.first }
     ensures size { IfOk result (λ code. IsPrologueLength task config.now app.now (length code.items)) }
-    ensures enters { IfOk result (λ code. EntersTask task config.now app.now levels.now map.now code.items) }
+    ensures enters { IfOk result (λ code. IsTaskPrologue task config.now app.now levels.now map.now code.items) }
 {
     let body = body_of(app.funcs.items(), task);
     let words = app.funcs.items()[body].frame_words;
@@ -105,7 +105,7 @@ fn code_of(
     requires small { (task < task_limit) × (level < level_count) × (words ≤ frame_limit) }
     requires in_ram { memory_base ≤ frame }
     ensures size { IfOk result (λ code. length code.items ≡ prologue_length extended words) }
-    ensures enters { IfOk result (λ code. DoesEnter extended task level first (frame - memory_base) words code.items) }
+    ensures enters { IfOk result (λ code. IsPrologueCode extended task level first (frame - memory_base) words code.items) }
 {
     let mut code = Vec::new(alloc);
     save_context(&mut code, level)?;

@@ -12,10 +12,10 @@ use Rattle.sloth_base.specs.declared.app.BranchKind.TheVariants as branch
 use Rattle.sloth_base.specs.declared.service.Service.{Service}
 use Rattle.sloth_base.specs.declared.service.Service.TheVariants as service
 use Rattle.sloth_base.specs.Named.{function, operation}
-use Rattle.code_rules.specs.Code.{IsItem, GoesOn, is_followed, way}
+use Rattle.code_rules.specs.Code.{IsItem, IsPathStep, is_followed, way}
 use Rattle.osek_scheduler.proofs.Examples.{full, system, body, code, serve}
 use Rattle.osek_valid.specs.Apart.{static_priority}
-use Rattle.raised_sections.specs.Walks.{Position, place, first_position, chains_itself, GoesOnInside, LeadsTo, WalksOn, WalksOnTo, AreConsecutive, IsWalk}
+use Rattle.raised_sections.specs.Walks.{Position, place, first_position, chains_itself, GoesOnInside, LeadsTo, IsPositionStep, IsPositionStepTo, AreConsecutive, IsWalk}
 use Rattle.raised_sections.specs.Sections.{priority_at, operation_at, is_counted, OnlyLastSchedules, IsSection, size_of_section, IsLower, IsSectionFor, NoneIsLarger, IsBound, lowest, above, HasNoBound}
 use Rattle.raised_sections.proofs.Reached.{IsReached, reached_next}
 
@@ -28,7 +28,7 @@ IsRaisedAt config app h t at = static_priority config h ≤ priority_at config a
 module _ (config : Config) (app : App) (h t : ℕ) (value : Position → ℕ) where
   record IsPotential : Type 0 where
     alone : (at : Position) → IsReached app t at → IsRaisedAt config app h t at → cond (is_counted (operation_at app at)) 1 0 ≤ value at
-    steps : (at next : Position) → IsReached app t at → IsRaisedAt config app h t at → IsRaisedAt config app h t next → WalksOn app at next
+    steps : (at next : Position) → IsReached app t at → IsRaisedAt config app h t at → IsRaisedAt config app h t next → IsPositionStep app at next
         → cond (is_counted (operation_at app at)) 1 0 + value next ≤ value at
 
   within : IsPotential → (at : Position) (further : List Position) → IsReached app t at → AreConsecutive app (at ∷ further)
@@ -69,7 +69,7 @@ module _ (config : Config) (app : App) (h t : ℕ) (value : Position → ℕ) wh
       omega (arith, le, top)
 
 -- what holds of the first position and of each next one holds of each that a walk leads to
-module _ (app : App) (t : ℕ) (P : Position → Type 0) (first : P (first_position app t)) (next : (at to : Position) → P at → WalksOn app at to → P to) where
+module _ (app : App) (t : ℕ) (P : Position → Type 0) (first : P (first_position app t)) (next : (at to : Position) → P at → IsPositionStep app at to → P to) where
   along : (at : Position) (before : List Position) (last : Position) → P at → AreConsecutive app (at ∷ (before ++ last ∷ [])) → P last
   along at [] last p c = next at last p c.0
   along at (x ∷ before) last p c = along x before last (next at x p c.0) c.1
@@ -102,7 +102,7 @@ straight i to free g = by g.1
     differ : (p : Option ℕ) (k : ℕ) → p ≡ None → p ≡ Some k → ⊥
     differ p k e d = cc
 
-    by : GoesOn (function three_app 0) i g.0 → (is_followed (operation three_app 0 i) ≡ true) × (to ≡ place 0 (i + 1) ∷ [])
+    by : IsPathStep (function three_app 0) i g.0 → (is_followed (operation three_app 0 i) ≡ true) × (to ≡ place 0 (i + 1) ∷ [])
     by (inl x) = (x.0, g.3 ∙ ap (λ j. place 0 j ∷ []) x.1)
     by (inr x) = absurd (differ (way (operation three_app 0 i)) x.0 free x.1)
 
@@ -110,10 +110,10 @@ straight i to free g = by g.1
 abbrev AtLow : Position → Type 0
 AtLow at = (i : ℕ) × (i < 6) × (at ≡ place 0 i ∷ [])
 
-led : (i : ℕ) (to : Position) → WalksOn three_app (place 0 i ∷ []) to → LeadsTo three_app (operation three_app 0 i) 0 i [] to
+led : (i : ℕ) (to : Position) → IsPositionStep three_app (place 0 i ∷ []) to → LeadsTo three_app (operation three_app 0 i) 0 i [] to
 led i to w = subst (λ o. LeadsTo three_app o 0 i [] to) (sym w.1.is) w.2
 
-low_next : (i : ℕ) (to : Position) → i < 6 → WalksOn three_app (place 0 i ∷ []) to → (i < 5) × (to ≡ place 0 (i + 1) ∷ [])
+low_next : (i : ℕ) (to : Position) → i < 6 → IsPositionStep three_app (place 0 i ∷ []) to → (i < 5) × (to ≡ place 0 (i + 1) ∷ [])
 low_next zero to lt w = let s = straight 0 to refl (led 0 to w) in (omega arith, s.1)
 low_next (suc zero) to lt w = let s = straight 1 to refl (led 1 to w) in (omega arith, s.1)
 low_next (suc (suc zero)) to lt w = let s = straight 2 to refl (led 2 to w) in (omega arith, s.1)
@@ -125,9 +125,9 @@ low_next (suc (suc (suc (suc (suc (suc i)))))) to lt w = absurd (omega (arith, l
 at_low : (at : Position) → IsReached three_app 0 at → AtLow at
 at_low = always three_app 0 AtLow (0, omega arith, refl) (λ at to p w. on p.0 at to p.1 p.2 w)
   where
-    on : (i : ℕ) (at to : Position) → i < 6 → at ≡ place 0 i ∷ [] → WalksOn three_app at to → AtLow to
+    on : (i : ℕ) (at to : Position) → i < 6 → at ≡ place 0 i ∷ [] → IsPositionStep three_app at to → AtLow to
     on i at to lt e w =
-        let n = low_next i to lt (subst (λ p. WalksOn three_app p to) e w) in
+        let n = low_next i to lt (subst (λ p. IsPositionStep three_app p to) e w) in
         let less = n.0 in
         (i + 1, omega (arith, less), n.1)
 
@@ -175,10 +175,10 @@ module _ (h : ℕ) (above_low : 2 ≤ static_priority three h) where
           let P : Position → Type 0 = λ q. IsRaisedAt three three_app h 0 q → cond (is_counted (operation_at three_app q)) 1 0 ≤ value q in
           subst P (sym p.2) (low_alone p.0 p.1)
 
-      steps : (at next : Position) → AtLow at → IsRaisedAt three three_app h 0 at → IsRaisedAt three three_app h 0 next → WalksOn three_app at next
+      steps : (at next : Position) → AtLow at → IsRaisedAt three three_app h 0 at → IsRaisedAt three three_app h 0 next → IsPositionStep three_app at next
           → cond (is_counted (operation_at three_app at)) 1 0 + value next ≤ value at
       steps at next p raised raised_next w =
-          let n = low_next p.0 next p.1 (subst (λ q. WalksOn three_app q next) p.2 w) in
+          let n = low_next p.0 next p.1 (subst (λ q. IsPositionStep three_app q next) p.2 w) in
           let P : Position → Type 0 = λ q. cond (is_counted (operation_at three_app q)) 1 0 + value next ≤ value q in
           let Q : Position → Type 0 = λ q. cond (is_counted (operation_at three_app (place 0 p.0 ∷ []))) 1 0 + value q ≤ left p.0 in
           subst P (sym p.2) (subst Q (sym n.1)
@@ -209,7 +209,7 @@ none_above_three positions s =
     (subst (λ t. IsSection three three_app 1 t positions) (low_is_lower s.task s.lower) s.is_section)
 
 serves_on : (i object : ℕ) (s : Service) → IsItem three_app 0 i (serve s object 0) → is_followed (operation three_app 0 i) ≡ true
-    → chains_itself (function three_app 0) (operation three_app 0 i) ≡ false → WalksOn three_app (place 0 i ∷ []) (place 0 (i + 1) ∷ [])
+    → chains_itself (function three_app 0) (operation three_app 0 i) ≡ false → IsPositionStep three_app (place 0 i ∷ []) (place 0 (i + 1) ∷ [])
 serves_on i object s item goes free = (serve s object 0, item, (i + 1, inl (goes, refl), free, refl))
 
 here_is : (i object : ℕ) (s : Service) → i < 6 → operation three_app 0 i ≡ serve s object 0 → IsItem three_app 0 i (serve s object 0)
@@ -265,14 +265,14 @@ abbrev again : ℕ → List Position
 again zero = (place 0 3 ∷ []) ∷ []
 again (suc n) = (place 0 3 ∷ []) ∷ again n
 
-loops_back : WalksOn looping_app (place 0 3 ∷ []) (place 0 3 ∷ [])
+loops_back : IsPositionStep looping_app (place 0 3 ∷ []) (place 0 3 ∷ [])
 loops_back = (op.Branch branch.Bne 5 0 0, record { known = omega arith; inside = omega arith; is = refl }, (3, inr (0, refl, refl), refl, refl))
 
 again_walks : (n : ℕ) → AreConsecutive looping_app (again n)
 again_walks zero = (tt, tt)
 again_walks (suc n) = (to_first n, again_walks n)
   where
-    to_first : (n : ℕ) → WalksOnTo looping_app (place 0 3 ∷ []) (again n)
+    to_first : (n : ℕ) → IsPositionStepTo looping_app (place 0 3 ∷ []) (again n)
     to_first zero = loops_back
     to_first (suc n) = loops_back
 
@@ -289,7 +289,7 @@ again_large zero = omega arith
 again_large (suc n) = let lt = again_large n in omega (arith, lt)
 
 goes_at : (i object : ℕ) (s : Service) → i < 7 → operation looping_app 0 i ≡ serve s object 0 → is_followed (operation looping_app 0 i) ≡ true
-    → chains_itself (function looping_app 0) (operation looping_app 0 i) ≡ false → WalksOn looping_app (place 0 i ∷ []) (place 0 (i + 1) ∷ [])
+    → chains_itself (function looping_app 0) (operation looping_app 0 i) ≡ false → IsPositionStep looping_app (place 0 i ∷ []) (place 0 (i + 1) ∷ [])
 goes_at i object s lt is goes free = (serve s object 0, record { known = omega arith; inside = lt; is = is }, (i + 1, inl (goes, refl), free, refl))
 
 -- High, 2, has no bound
@@ -302,7 +302,7 @@ no_bound_of_high n = (again n, record { task = 0; lower = (omega arith, omega ar
       (goes_at 0 0 service.GetResource (omega arith) refl refl refl, (goes_at 1 2 service.ActivateTask (omega arith) refl refl refl, (to_loop n, again_walks n))),
     )
       where
-        to_loop : (n : ℕ) → WalksOnTo looping_app (place 0 2 ∷ []) (again n)
+        to_loop : (n : ℕ) → IsPositionStepTo looping_app (place 0 2 ∷ []) (again n)
         to_loop zero = goes_at 2 1 service.ActivateTask (omega arith) refl refl refl
         to_loop (suc n) = goes_at 2 1 service.ActivateTask (omega arith) refl refl refl
 

@@ -7,7 +7,7 @@ use Rattle.sloth_base.specs.declared.event.Event.TheVariants as event
 use Rattle.sloth_base.specs.declared.event.Stamped.{Stamped}
 use Rattle.osek_scheduler.specs.State.{System, task}
 use Rattle.osek_scheduler.specs.Steps.{OsekStep}
-use Rattle.osek_scheduler.specs.Runs.{Leads}
+use Rattle.osek_scheduler.specs.Runs.{AreStepsTo}
 use Rattle.osek_valid.specs.Valid.{IsValid}
 use Rattle.osek_valid.proofs.Facts.{Facts}
 use Rattle.osek_valid.proofs.Steps.{autostarted_at, step_valid}
@@ -26,7 +26,7 @@ module _ (config : Config) (app : App) (w : Facts config app) (s next : System) 
   frame_effect e h = task_frames config app w s next v e h refl
 
 module _ (config : Config) (app : App) where
-  pub leads_placed : Facts config app → (events : List Stamped) (s end : System) → Leads config app events s end → IsValid config app s → Placed app s
+  pub leads_placed : Facts config app → (events : List Stamped) (s end : System) → AreStepsTo config app events s end → IsValid config app s → Placed app s
       → Placed app end
   leads_placed w [] s end is v p = subst (Placed app) (sym is) p
   leads_placed w (e ∷ events) s end h v p =

@@ -14,7 +14,7 @@ use Rattle.osek_scheduler.specs.declared.change.TaskChange.TheVariants as change
 use Rattle.osek_scheduler.specs.declared.plan.Plan.{Plan}
 use Rattle.osek_scheduler.specs.declared.state.TaskState.TheVariants as mode
 use Rattle.osek_scheduler.specs.State.{Task, System, sleeping_task, task, with_task}
-use Rattle.osek_scheduler.specs.Services.{activated_state, with_events, moved_frames, Outcome, GoesOn, Leaves, ticked_state}
+use Rattle.osek_scheduler.specs.Services.{activated_state, with_events, moved_frames, ServiceOutcome, GoesOn, Leaves, ticked_state}
 use Rattle.osek_scheduler.specs.Changes.{changed_task, with_change}
 use Rattle.osek_scheduler.specs.Outcomes.{planned_system, shown_outcome, decision, outcome}
 use Rattle.osek_scheduler.specs.Steps.{admitted_state}
@@ -165,7 +165,7 @@ module _ (c : ℕ) (s : System) where
     pub frames : c < length s.tasks → HasLeft served (task after c)
     pub held : c < length s.tasks → (task after c).held ≡ (task s c).held
 
-  abbrev pub Served : Service → Outcome → Type 0
+  abbrev pub Served : Service → ServiceOutcome → Type 0
   Served served (GoesOn status after) = GoesBehind served after
   Served served (Leaves after) = LeavesFrames served after
 

@@ -10,7 +10,7 @@ use Rattle.sloth_base.specs.declared.event.Stamped.{Stamped}
 use Rattle.code_rules.specs.WellFormed.{WellFormed}
 use Rattle.osek_scheduler.specs.State.{System, opening}
 use Rattle.osek_scheduler.specs.Steps.{OsekStep}
-use Rattle.osek_scheduler.specs.Runs.{Leads, OsekRun}
+use Rattle.osek_scheduler.specs.Runs.{AreStepsTo, OsekRun}
 use Rattle.osek_scheduler.proofs.Leading.{follows_leads, leads-parts, one_step, one_end}
 use Rattle.osek_valid.specs.Valid.{IsValid}
 use Rattle.osek_valid.specs.Apart.{static_priority}
@@ -33,7 +33,7 @@ use Rattle.raised_sections.proofs.Sectioned.{at_most}
 
 module _ (config : Config) (app : App) (h b : ℕ) (no : ¬ (IsLower config h b)) where
   abbrev NoneIn : List Stamped → Type 0
-  NoneIn events = (s end : System) → Leads config app events s end → IsBlockedBy config app h s (events_up_to_entry h events) b
+  NoneIn events = (s end : System) → AreStepsTo config app events s end → IsBlockedBy config app h s (events_up_to_entry h events) b
       → lower_events config h (events_up_to_entry h events) ≡ 0
 
   acts_declared : (e : Event) (s next : System) (u : ℕ) → OsekStep config app e s next → working_task e ≡ Some u → u < length config.tasks
@@ -92,7 +92,7 @@ decide_lower config h b = by (cases_lt b (length config.tasks)) (cases_lt (stati
 module _ (config : Config) (app : App) (w : Facts config app) (h : ℕ) where
   -- from the state behind the event that makes h Ready
   from_there : (s end : System) (behind : List Stamped) → h < length config.tasks → IsValid config app s → Ordered config s → Placed app s → IsReady s h
-      → Leads config app behind s end → (b : ℕ) → IsBound config app h b → (l : ℕ) → IsBlockedBy config app h s (events_up_to_entry h behind) l
+      → AreStepsTo config app behind s end → (b : ℕ) → IsBound config app h b → (l : ℕ) → IsBlockedBy config app h s (events_up_to_entry h behind) l
       → IsLower config h l ⊎ (IsLower config h l → ⊥) → lower_events config h (events_up_to_entry h behind) ≤ b
   from_there s end behind declared v o p ready leads b bound l k (inr not_lower) = let e = none config app h l not_lower behind s end leads k in omega (arith, e)
   from_there s end behind declared v o p ready leads b (lowest nobody) l k (inl lower) = absurd (nobody l lower)
@@ -106,7 +106,7 @@ keeps_bounds config app events wf run before behind made h b found s is leads ma
     let blocked = block_once config app events run before behind made h found s is leads makes in
     let whole = follows_leads config app [] (opening config app) events run.0 run.1 in
     let parts = leads-parts config app before (made ∷ behind) (opening config app) run.0
-    (subst (λ es. Leads config app es (opening config app) run.0) is whole) in
+    (subst (λ es. AreStepsTo config app es (opening config app) run.0) is whole) in
     let met = one_end config app before (opening config app) parts.0 found parts.1 leads in
     let step = subst (λ x. OsekStep config app made.event x parts.2.0) met parts.2.1 in
     let next = one_step config app made.event found parts.2.0 s step makes.step in
@@ -117,4 +117,4 @@ keeps_bounds config app events wf run before behind made h b found s is leads ma
     (step_valid config app made.event found s w makes.step valid)
     (step_ordered config app found s ordered made.event makes.step)
     (step_placed config app found s made.event (frame_effect config app w found s valid made.event makes.step) placed)
-    makes.behind (subst (λ x. Leads config app behind x run.0) next parts.2.2) b bound blocked.0 blocked.1 (decide_lower config h blocked.0)
+    makes.behind (subst (λ x. AreStepsTo config app behind x run.0) next parts.2.2) b bound blocked.0 blocked.1 (decide_lower config h blocked.0)

@@ -22,15 +22,15 @@ use Rattle.osek_scheduler.specs.declared.change.TaskChange.TheVariants as change
 use Rattle.osek_scheduler.specs.declared.plan.Other.TheVariants as other
 use Rattle.osek_scheduler.specs.declared.state.TaskState.TheVariants as mode
 use Rattle.osek_scheduler.specs.State.{Frame, Task, System, sleeping_task, task, with_task, opening}
-use Rattle.osek_scheduler.specs.Services.{started_task, moved_frames, Outcome, GoesOn, Leaves}
-use Rattle.osek_scheduler.specs.Outcomes.{plan, planned_system, IfSuspended, outcome_of, status_decision, leaves, outcome}
-use Rattle.osek_scheduler.specs.Steps.{OsekStep, ServesCall, Executes}
+use Rattle.osek_scheduler.specs.Services.{started_task, moved_frames, ServiceOutcome, GoesOn, Leaves}
+use Rattle.osek_scheduler.specs.Outcomes.{plan, planned_system, IfSuspended, outcome_of, status_decision, leave_decision, outcome}
+use Rattle.osek_scheduler.specs.Steps.{OsekStep, IsServiceStep, IsItemStep}
 use Rattle.osek_valid.specs.Valid.{IsCalledFrom, IsValid}
 use Rattle.osek_valid.proofs.Facts.{Facts}
 use Rattle.osek_valid.proofs.Going.{running}
 use Rattle.osek_valid.proofs.Stacks.{has_body, in_body_alone}
 use Rattle.osek_valid.proofs.Steps.{asleep_at}
-use Rattle.raised_sections.specs.Walks.{first_position, chains_itself, WalksOn}
+use Rattle.raised_sections.specs.Walks.{first_position, chains_itself, IsPositionStep}
 use Rattle.raised_sections.proofs.Reached.{IsReached, reached_next, reached_first}
 use Rattle.raised_sections.proofs.Frames.{KeepsOthers, KeepsFrames, own, admitted_keeps, Served, served_frames}
 use Rattle.raised_sections.proofs.Stepping.{position_of, StepsOn, runs, serves}
@@ -54,7 +54,7 @@ pub record Advances (app : App) (t : ℕ) (s next : System) : Type 0 where
 pub record Departs (app : App) (t : ℕ) (s next : System) : Type 0 where
   pub others : KeepsOthers t s next
   pub gone : (task next t).state ≢ mode.Active
-  pub frames : ((task next t).frames ≡ []) ⊎ WalksOn app (position_of (task s t).frames) (position_of (task next t).frames)
+  pub frames : ((task next t).frames ≡ []) ⊎ IsPositionStep app (position_of (task s t).frames) (position_of (task next t).frames)
   pub held : (task next t).held ≡ (task s t).held
 
 -- the task is entered
@@ -98,7 +98,7 @@ module _ (config : Config) (app : App) (w : Facts config app) (s next : System) 
       by [] = inl refl
       by (frame ∷ outer) = inr refl
 
-  executes : (t func item result : ℕ) → Executes config app t func item result s next → Advances app t s next
+  executes : (t func item result : ℕ) → IsItemStep config app t func item result s next → Advances app t s next
   executes t func item result h =
       subst (Advances app t s) (sym h.is)
       (record {
@@ -117,7 +117,7 @@ module _ (config : Config) (app : App) (w : Facts config app) (s next : System) 
           record { walks = k.walks; counts = k.counts; schedules = λ e. absurd (k.schedules e) }
 
   module _ (t : ℕ) (served : Service) (after : System) where
-    calls : (status : ℕ) → ServesCall config app t served s (GoesOn status after) → Advances app t s after
+    calls : (status : ℕ) → IsServiceStep config app t served s (GoesOn status after) → Advances app t s after
     calls status h =
         let r = running config app s t _ v h.top.declared h.at in
         let g = subst (Served t s served) h.is (served_frames t s config served h.call.object h.call.mask) in
@@ -132,7 +132,7 @@ module _ (config : Config) (app : App) (w : Facts config app) (s next : System) 
         }
       where
         -- a ChainTask of its caller leaves
-        left_first : (b : Bool) (x : System) (y : Outcome) → b ≡ true → cond b (Leaves x) y ≡ GoesOn status after → ⊥
+        left_first : (b : Bool) (x : System) (y : ServiceOutcome) → b ≡ true → cond b (Leaves x) y ≡ GoesOn status after → ⊥
         left_first true x y e is = cc
         left_first false x y e is = false≢true e
 
@@ -140,7 +140,7 @@ module _ (config : Config) (app : App) (w : Facts config app) (s next : System) 
         not_itself chains object =
             let chained = subst (λ x. outcome config x h.call.object h.call.mask t s ≡ GoesOn status after) (sym h.same ∙ chains) h.is in
             left_first (t == t) (planned_system t (plan None change.End (other.Activate t)) s)
-            (outcome_of t s (IfSuspended t (leaves change.End (other.Activate t)) (status_decision E_OS_LIMIT))) (eq-eqb t t refl)
+            (outcome_of t s (IfSuspended t (leave_decision change.End (other.Activate t)) (status_decision E_OS_LIMIT))) (eq-eqb t t refl)
             (subst (λ n. outcome config service.ChainTask n h.call.mask t s ≡ GoesOn status after) object chained)
 
         other_chained : (b : Bool) → chains_itself (function app h.at.frame.func) (op.Serve h.call) ≡ b → b ≡ false
@@ -156,22 +156,22 @@ module _ (config : Config) (app : App) (w : Facts config app) (s next : System) 
             absurd (not_itself (same_service h.call.service service.ChainTask both.0)
             (same_Some h.call.object t (sym of_task ∙ ap (λ x. (function app x).task) own ∙ body.1)))
 
-    quits : ServesCall config app t served s (Leaves after) → Departs app t s after
+    quits : IsServiceStep config app t served s (Leaves after) → Departs app t s after
     quits h =
         let g = subst (Served t s served) h.is (served_frames t s config served h.call.object h.call.mask) in
         let there = at_least t h.top.declared in
         record { others = g.others; gone = g.gone there; frames = by (g.frames there); held = g.held there }
       where
         by : ((task after t).frames ≡ []) ⊎ (((task after t).frames ≡ moved_frames (task s t).frames) × (served ≡ service.WaitEvent))
-            → ((task after t).frames ≡ []) ⊎ WalksOn app (position_of (task s t).frames) (position_of (task after t).frames)
+            → ((task after t).frames ≡ []) ⊎ IsPositionStep app (position_of (task s t).frames) (position_of (task after t).frames)
         by (inl e) = inl e
         by (inr e) =
             let r = running config app s t _ v h.top.declared h.at in
             let not_ended : h.call.service ≢ service.TerminateTask = λ k. differ (sym e.1 ∙ sym h.same ∙ k) in
             let step = serves app (task s t).registers h.at.frame h.at.outer s.symbols h.call (Unit {0}) r.item not_ended
             (ap (λ x. is_service x service.ChainTask && is_number h.call.object (function app h.at.frame.func).task) (h.same ∙ e.1)) (λ _. tt) in
-            inr (subst (λ new. WalksOn app (position_of (task s t).frames) (position_of new)) (sym (e.0 ∙ ap moved_frames h.at.frames))
-            (subst (λ old. WalksOn app (position_of old) (position_of (moved_frames (h.at.frame ∷ h.at.outer)))) (sym h.at.frames) step.walks))
+            inr (subst (λ new. IsPositionStep app (position_of (task s t).frames) (position_of new)) (sym (e.0 ∙ ap moved_frames h.at.frames))
+            (subst (λ old. IsPositionStep app (position_of old) (position_of (moved_frames (h.at.frame ∷ h.at.outer)))) (sym h.at.frames) step.walks))
           where
             differ : service.WaitEvent ≡ service.TerminateTask → ⊥
             differ k = cc
@@ -209,11 +209,11 @@ module _ (config : Config) (app : App) where
       by (inl e) = subst (λ x. IsPlaced app x (task next x).frames) (sym e) own
       by (inr n) = subst (IsPlaced app u) (sym (q u n).frames) (p u)
 
-  stepped : (t : ℕ) (old new : List Frame) → IsPlaced app t old → WalksOn app (position_of old) (position_of new) → IsPlaced app t new
-  stepped t old new (inl e) step = absurd (subst (λ fs. WalksOn app (position_of fs) (position_of new)) e step)
+  stepped : (t : ℕ) (old new : List Frame) → IsPlaced app t old → IsPositionStep app (position_of old) (position_of new) → IsPlaced app t new
+  stepped t old new (inl e) step = absurd (subst (λ fs. IsPositionStep app (position_of fs) (position_of new)) e step)
   stepped t old new (inr r) step = inr (reached_next app t (position_of old) (position_of new) r step)
 
-  departed : (t : ℕ) (old new : List Frame) → IsPlaced app t old → (new ≡ []) ⊎ WalksOn app (position_of old) (position_of new) → IsPlaced app t new
+  departed : (t : ℕ) (old new : List Frame) → IsPlaced app t old → (new ≡ []) ⊎ IsPositionStep app (position_of old) (position_of new) → IsPlaced app t new
   departed t old new p (inl e) = inl e
   departed t old new p (inr step) = stepped t old new p step
 

@@ -2,7 +2,7 @@
 use Rattle.std.proofs.Common.{ℕ, List, [], ◌∷◌, ◌++◌, refl, sym, subst}
 use Rattle.std.proofs.lemmas.List.{append_assoc}
 use Rattle.sloth_base.specs.declared.app.App.{App}
-use Rattle.raised_sections.specs.Walks.{Position, first_position, WalksOn, AreConsecutive, IsWalk}
+use Rattle.raised_sections.specs.Walks.{Position, first_position, IsPositionStep, AreConsecutive, IsWalk}
 
 -- a walk of task t leads to this position
 pub record IsReached (app : App) (t : ℕ) (at : Position) : Type 0 where
@@ -22,7 +22,7 @@ module _ (app : App) where
   walk_on t [] further at h k = (h.0, k)
   walk_on t (x ∷ before) further at h k = (h.0, consecutive (x ∷ before) further at h.1 k)
 
-  pub reached_next : (t : ℕ) (at next : Position) → IsReached app t at → WalksOn app at next → IsReached app t next
+  pub reached_next : (t : ℕ) (at next : Position) → IsReached app t at → IsPositionStep app at next → IsReached app t next
   reached_next t at next r step = record {
     before = r.before ++ at ∷ [];
     walk = subst (IsWalk app t) (sym (append_assoc r.before (at ∷ []) (next ∷ [])))

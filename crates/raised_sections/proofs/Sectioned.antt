@@ -11,7 +11,7 @@ use Rattle.sloth_base.specs.declared.event.Stamped.{Stamped}
 use Rattle.osek_scheduler.specs.State.{System, task}
 use Rattle.code_rules.specs.Code.{is_in}
 use Rattle.osek_scheduler.specs.Priority.{is_active}
-use Rattle.osek_scheduler.specs.Runs.{Leads}
+use Rattle.osek_scheduler.specs.Runs.{AreStepsTo}
 use Rattle.osek_scheduler.proofs.Tests.{Decides-is_active}
 use Rattle.osek_valid.specs.Apart.{static_priority, IsActive}
 use Rattle.sloth_base.specs.Events.{working_task}
@@ -19,7 +19,7 @@ use Rattle.osek_blocking.specs.Blocking.{is_entry_of, events_up_to_entry, IsRais
 use Rattle.osek_blocking.proofs.Effects.{Effect}
 use Rattle.osek_blocking.proofs.Ordering.{effect}
 use Rattle.osek_blocking.proofs.Once.{stays_out}
-use Rattle.raised_sections.specs.Walks.{Position, WalksOn, WalksOnTo, AreConsecutive, IsWalk}
+use Rattle.raised_sections.specs.Walks.{Position, IsPositionStep, IsPositionStepTo, AreConsecutive, IsWalk}
 use Rattle.raised_sections.specs.Sections.{priority_at, operation_at, is_schedule, OnlyLastSchedules, IsSection, size_of_section, NoneIsLarger}
 use Rattle.raised_sections.specs.Kept.{is_lower, lower_events}
 use Rattle.raised_sections.proofs.Frames.{SameFrames}
@@ -60,7 +60,7 @@ module _ {config : Config} {app : App} {h l : ℕ} (pair : LowerPair config app 
   }
 
   abbrev pub FoundBehind : List Stamped → Type 0
-  FoundBehind events = (s end : System) → Waits pair s → is_in h s.fresh ≡ false → Blocked pair s events → Leads config app events s end → Found s (count pair events)
+  FoundBehind events = (s end : System) → Waits pair s → is_in h s.fresh ≡ false → Blocked pair s events → AreStepsTo config app events s end → Found s (count pair events)
 
   -- it rests, or it is free to go on
   rests_or_free : (s : System) → Rests pair s ⊎ (IsActive s l × ((task s l).owed ≡ false))
@@ -88,9 +88,9 @@ module _ {config : Config} {app : App} {h l : ℕ} (pair : LowerPair config app 
       here : Position
       here = position_of (task s l).frames
 
-      leads : (positions : List Position) → StartsAt (position_of (task next l).frames) positions → WalksOnTo app here positions
+      leads : (positions : List Position) → StartsAt (position_of (task next l).frames) positions → IsPositionStepTo app here positions
       leads [] e = tt
-      leads (first ∷ further) e = subst (WalksOn app here) (sym e) step.steps.walks
+      leads (first ∷ further) e = subst (IsPositionStep app here) (sym e) step.steps.walks
 
       not_schedule : f.positions ≢ [] → (is_schedule (operation_at app here) ≡ true) ⊎ (is_schedule (operation_at app here) ≡ false)
           → is_schedule (operation_at app here) ≡ false
@@ -98,7 +98,7 @@ module _ {config : Config} {app : App} {h l : ℕ} (pair : LowerPair config app 
       not_schedule more (inr other) = other
 
       reached : ((task s l).frames ≡ []) ⊎ IsReached app l here → IsReached app l here
-      reached (inl none) = absurd (subst (λ fs. WalksOn app (position_of fs) (position_of (task next l).frames)) none step.steps.walks)
+      reached (inl none) = absurd (subst (λ fs. IsPositionStep app (position_of fs) (position_of (task next l).frames)) none step.steps.walks)
       reached (inr r) = r
 
   -- the same from a state in which l stands in the same way
@@ -175,7 +175,7 @@ module _ {config : Config} {app : App} {h l : ℕ} (pair : LowerPair config app 
             empty k = cc
 
     abbrev pub AtMost : List Stamped → Type 0
-    AtMost events = (s end : System) → Waits pair s → Blocked pair s events → Leads config app events s end → count pair events ≤ suc n
+    AtMost events = (s end : System) → Waits pair s → Blocked pair s events → AreStepsTo config app events s end → count pair events ≤ suc n
 
     one_at_most : (k : Bool) → cond k 1 0 ≤ 1
     one_at_most true = omega arith

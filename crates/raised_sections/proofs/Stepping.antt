@@ -15,9 +15,9 @@ use Rattle.sloth_base.specs.Named.{function, operation, no_label}
 use Rattle.sloth_base.proofs.Services.{same_service}
 use Rattle.code_rules.specs.Code.{IsItem, is_followed, way, ends_for_good}
 use Rattle.osek_scheduler.specs.State.{Frame}
-use Rattle.osek_scheduler.specs.Meaning.{ItemMeaning, meaning, execution, write_meaning, load_meaning, store_meaning, goes_to, accessed_bytes, bytes_after_store, register, going_on_frame, target, on_some, returned_frames, loaded_word}
+use Rattle.osek_scheduler.specs.Meaning.{ItemMeaning, meaning, execution, write_meaning, load_meaning, store_meaning, jump_meaning, accessed_bytes, bytes_after_store, register, going_on_frame, target, on_some, returned_frames, loaded_word}
 use Rattle.osek_scheduler.proofs.Tests.{some_one, if_true_some, on_some_from}
-use Rattle.raised_sections.specs.Walks.{Position, place, chains_itself, GoesBack, GoesOnInside, LeadsTo, WalksOn}
+use Rattle.raised_sections.specs.Walks.{Position, place, chains_itself, GoesBack, GoesOnInside, LeadsTo, IsPositionStep}
 use Rattle.raised_sections.specs.Sections.{operation_at, is_schedule, is_counted}
 
 -- where the functions in progress of a task stand
@@ -27,7 +27,7 @@ position_of (frame ∷ outer) = place frame.func frame.item ∷ position_of oute
 
 -- one step on, from a position that counts; it is a Schedule only if this holds
 pub record StepsOn (app : App) (old new : List Frame) (Schedules : Type 0) : Type 0 where
-  pub walks : WalksOn app (position_of old) (position_of new)
+  pub walks : IsPositionStep app (position_of old) (position_of new)
   pub counts : is_counted (operation_at app (position_of old)) ≡ true
   pub schedules : is_schedule (operation_at app (position_of old)) ≡ true → Schedules
 
@@ -68,11 +68,11 @@ module _ (app : App) (x : List ℕ) (frame : Frame) (outer : List Frame) (symbol
       })) m e in
       subst (λ (m : ItemMeaning). Inside m.frames) (some_one _ m found.2) h
 
-  from_place : (item : ℕ) (m : ItemMeaning) → Inside (record frame { item = item } ∷ outer) → goes_to item x frame outer symbols ≡ Some m → Inside m.frames
+  from_place : (item : ℕ) (m : ItemMeaning) → Inside (record frame { item = item } ∷ outer) → jump_meaning item x frame outer symbols ≡ Some m → Inside m.frames
   from_place item m h e = subst (λ (m : ItemMeaning). Inside m.frames) (some_one _ m e) h
 
   from_branch : (taken : Bool) (item : ℕ) (m : ItemMeaning) → Inside (record frame { item = item } ∷ outer) → Inside (going_on_frame frame ∷ outer)
-      → goes_to (cond taken item (frame.item + 1)) x frame outer symbols ≡ Some m → Inside m.frames
+      → jump_meaning (cond taken item (frame.item + 1)) x frame outer symbols ≡ Some m → Inside m.frames
   from_branch true item m to on e = from_place item m to e
   from_branch false item m to on e = from_place (frame.item + 1) m on e
 

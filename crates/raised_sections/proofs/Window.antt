@@ -11,7 +11,7 @@ use Rattle.osek_scheduler.specs.declared.state.TaskState.TheVariants as mode
 use Rattle.osek_scheduler.specs.State.{System, task}
 use Rattle.osek_scheduler.specs.Priority.{IsTop}
 use Rattle.osek_scheduler.specs.Steps.{OsekStep}
-use Rattle.osek_scheduler.specs.Runs.{Leads}
+use Rattle.osek_scheduler.specs.Runs.{AreStepsTo}
 use Rattle.osek_valid.specs.Valid.{IsValid}
 use Rattle.osek_valid.specs.Apart.{static_priority, IsActive}
 use Rattle.osek_valid.proofs.Apart.{rank_active, rank_ready}
@@ -183,7 +183,7 @@ module _ {config : Config} {app : App} {h l : ℕ} (pair : LowerPair config app 
   -- ---- a task that rests
 
   abbrev RestsOn : List Stamped → Type 0
-  RestsOn events = (s end : System) → Waits s → Rests s → Blocked s events → Leads config app events s end → count events ≡ 0
+  RestsOn events = (s end : System) → Waits s → Rests s → Blocked s events → AreStepsTo config app events s end → count events ≡ 0
 
   rests_on : (e : Stamped) (events : List Stamped) → RestsOn events → RestsOn (e ∷ events)
   rests_on e events again s end x r b leads = by (cases_Bool (is_entry_of h e.event))

@@ -4,7 +4,7 @@ use Rattle.sloth_base.specs.declared.config.Config.{Config}
 use Rattle.sloth_base.specs.declared.app.App.{App}
 use Rattle.sloth_base.specs.declared.event.Stamped.{Stamped}
 use Rattle.osek_scheduler.specs.State.{System, opening}
-use Rattle.osek_scheduler.specs.Runs.{Leads}
+use Rattle.osek_scheduler.specs.Runs.{AreStepsTo}
 use Rattle.osek_valid.specs.Apart.{static_priority}
 use Rattle.sloth_base.specs.Events.{working_task}
 use Rattle.osek_blocking.specs.Blocking.{events_up_to_entry, MakesReady}
@@ -24,5 +24,5 @@ lower_events config h (e ∷ events) = cond (is_lower config h (working_task e.e
 abbrev pub KeepsBounds : Config → App → List Stamped → Type 0
 KeepsBounds config app events =
     (before behind : List Stamped) (made : Stamped) (h b : ℕ) (found s : System) → events ≡ before ++ made ∷ behind
-    → Leads config app before (opening config app) found → MakesReady config app h made.event found s
+    → AreStepsTo config app before (opening config app) found → MakesReady config app h made.event found s
     → IsBound config app h b → lower_events config h (events_up_to_entry h behind) ≤ b

@@ -5,7 +5,7 @@ use Rattle.sloth_base.specs.declared.app.App.{App}
 use Rattle.sloth_base.specs.declared.event.Stamped.{Stamped}
 use Rattle.osek_scheduler.specs.State.{System, opening}
 use Rattle.osek_scheduler.specs.InTime.{is_admit}
-use Rattle.osek_scheduler.specs.Runs.{Leads}
+use Rattle.osek_scheduler.specs.Runs.{AreStepsTo}
 use Rattle.sloth_base.specs.Events.{working_task}
 use Rattle.sloth_base.specs.Limits.{item_counts}
 use Rattle.osek_blocking.specs.Blocking.{events_up_to_entry, MakesReady}
@@ -24,5 +24,5 @@ spent_counts config h at (e ∷ events) =
 abbrev pub KeepsCounts : Config → App → List Stamped → Type 0
 KeepsCounts config app events =
     (before behind : List Stamped) (made : Stamped) (h b : ℕ) (found s : System) → events ≡ before ++ made ∷ behind
-    → Leads config app before (opening config app) found → MakesReady config app h made.event found s
+    → AreStepsTo config app before (opening config app) found → MakesReady config app h made.event found s
     → IsBound config app h b → spent_counts config h (last_count 0 (before ++ made ∷ [])) (events_up_to_entry h behind) ≤ item_counts * b

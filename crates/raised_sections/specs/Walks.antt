@@ -8,7 +8,7 @@ use Rattle.sloth_base.specs.declared.service.Service.TheVariants as service
 use Rattle.sloth_base.specs.Named.{function, operation, body_of}
 use Rattle.sloth_base.specs.Options.{is_number}
 use Rattle.sloth_base.specs.ServiceCodes.{is_service}
-use Rattle.code_rules.specs.Code.{IsItem, GoesOn}
+use Rattle.code_rules.specs.Code.{IsItem, IsPathStep}
 
 -- where a function in progress stands: its number, and the number of an item of it
 pub record Place : Type 0 where
@@ -39,7 +39,7 @@ chains_itself f _ = false
 -- to where a path of function f goes on from its item i
 abbrev pub GoesOnInside : App → (f i : ℕ) → (outer next : Position) → Type 0
 GoesOnInside app f i outer next =
-    (j : ℕ) × GoesOn (function app f) i j × (chains_itself (function app f) (operation app f i) ≡ false) × (next ≡ place f j ∷ outer)
+    (j : ℕ) × IsPathStep (function app f) i j × (chains_itself (function app f) (operation app f i) ≡ false) × (next ≡ place f j ∷ outer)
 
 -- where the operation of item i of function f leads: into a call, back by `ret`, else to where a path of the function goes on
 abbrev pub LeadsTo : App → Op → (f i : ℕ) → (outer next : Position) → Type 0
@@ -48,19 +48,19 @@ LeadsTo app op.Return f i outer next = GoesBack outer next
 LeadsTo app _ f i outer next = GoesOnInside app f i outer next
 
 -- a walk goes on from one position to the next
-abbrev pub WalksOn : App → (from next : Position) → Type 0
-WalksOn app [] next = ⊥
-WalksOn app (here ∷ outer) next = (o : Op) × IsItem app here.func here.item o × LeadsTo app o here.func here.item outer next
+abbrev pub IsPositionStep : App → (from next : Position) → Type 0
+IsPositionStep app [] next = ⊥
+IsPositionStep app (here ∷ outer) next = (o : Op) × IsItem app here.func here.item o × LeadsTo app o here.func here.item outer next
 
 -- it goes on to the first of these, where there is one
-abbrev pub WalksOnTo : App → (from : Position) → List Position → Type 0
-WalksOnTo app from [] = Unit {0}
-WalksOnTo app from (next ∷ further) = WalksOn app from next
+abbrev pub IsPositionStepTo : App → (from : Position) → List Position → Type 0
+IsPositionStepTo app from [] = Unit {0}
+IsPositionStepTo app from (next ∷ further) = IsPositionStep app from next
 
 -- each of these positions leads to the next
 abbrev pub AreConsecutive : App → List Position → Type 0
 AreConsecutive app [] = Unit {0}
-AreConsecutive app (from ∷ further) = WalksOnTo app from further × AreConsecutive app further
+AreConsecutive app (from ∷ further) = IsPositionStepTo app from further × AreConsecutive app further
 
 -- a walk of task t, from the first item of its body on
 abbrev pub IsWalk : App → (t : ℕ) → List Position → Type 0

@@ -17,7 +17,7 @@ use Rattle.code_rules.specs.WellFormed.{WellFormed}
 use Rattle.osek_scheduler.specs.State.{System, opening}
 use Rattle.osek_scheduler.specs.InTime.{IsOrdered, StandsBefore, is_admit}
 use Rattle.osek_scheduler.specs.Steps.{OsekStep}
-use Rattle.osek_scheduler.specs.Runs.{Leads, OsekRun}
+use Rattle.osek_scheduler.specs.Runs.{AreStepsTo, OsekRun}
 use Rattle.osek_scheduler.proofs.Leading.{follows_leads, leads-parts, one_step, one_end}
 use Rattle.osek_valid.proofs.Apart.{opening_apart}
 use Rattle.osek_valid.proofs.Facts.{Facts, facts}
@@ -189,7 +189,7 @@ each_front P [] b h = tt
 each_front P (e ∷ a) b h = (h.0, each_front P a b h.1)
 
 -- a run begins with boot
-begins : (config : Config) (app : App) (e : Stamped) (events : List Stamped) (end : System) → Leads config app (e ∷ events) (opening config app) end
+begins : (config : Config) (app : App) (e : Stamped) (events : List Stamped) (end : System) → AreStepsTo config app (e ∷ events) (opening config app) end
     → BeginsWithBoot (e ∷ events)
 begins config app e events end leads = by e.event leads.1
   where
@@ -199,7 +199,7 @@ begins config app e events end leads = by e.event leads.1
     by e step = absurd (false≢true step.0)
 
 some_boot : (config : Config) (app : App) (before behind : List Stamped) (made : Stamped) (end : System)
-    → Leads config app (before ++ made ∷ behind) (opening config app) end → BeginsWithBoot (before ++ made ∷ behind)
+    → AreStepsTo config app (before ++ made ∷ behind) (opening config app) end → BeginsWithBoot (before ++ made ∷ behind)
 some_boot config app [] behind made end leads = begins config app made behind end leads
 some_boot config app (e ∷ before) behind made end leads = begins config app e (before ++ made ∷ behind) end leads
 
@@ -244,16 +244,16 @@ module _ (config : Config) (app : App) (n : ℕ) (events : List Stamped) (code :
       limit : ℕ
       limit = made.stamp.at + running_limit config made.stamp.at before
 
-      whole : Leads config app (before ++ made ∷ behind) (opening config app) run.0
-      whole = subst (λ es. Leads config app es (opening config app) run.0) is (follows_leads config app [] (opening config app) events run.0 run.1)
+      whole : AreStepsTo config app (before ++ made ∷ behind) (opening config app) run.0
+      whole = subst (λ es. AreStepsTo config app es (opening config app) run.0) is (follows_leads config app [] (opening config app) events run.0 run.1)
 
-      behind_leads : Leads config app behind s run.0
+      behind_leads : AreStepsTo config app behind s run.0
       behind_leads =
           let parts = leads-parts config app before (made ∷ behind) (opening config app) run.0 whole in
           let met = one_end config app before (opening config app) parts.0 found parts.1 leads in
           let step = subst (λ x. OsekStep config app made.event x parts.2.0) met parts.2.1 in
           let next = one_step config app made.event found parts.2.0 s step makes.step in
-          subst (λ x. Leads config app behind x run.0) next parts.2.2
+          subst (λ x. AreStepsTo config app behind x run.0) next parts.2.2
 
       stands : Awaits config app w h makes.declared highest s
       stands =

@@ -12,7 +12,7 @@ use Rattle.sloth_base.specs.Machine.{State}
 use Rattle.sloth_base.specs.Arrivals.{moments}
 use Rattle.sloth_base.specs.Stretches.{longest_stretch}
 use Rattle.code_rules.specs.WellFormed.{WellFormed}
-use Rattle.rv32_machine.specs.Advance.{Outcome, Goes, Halts}
+use Rattle.rv32_machine.specs.Advance.{StepOutcome, Goes, Halts}
 use Rattle.rv32_machine.specs.Coherent.{AreCoherent}
 use Rattle.rv32_machine.specs.Run.{moment, moment_of, on_goes, run_from, run, steps_of, stop_from, stopping, state_with_arrivals}
 use Rattle.rv32_machine.specs.Start.{start}
@@ -42,7 +42,7 @@ whole_steps zero arrivals count state h = refl
 whole_steps (suc n) arrivals count state h =
     by (moment arrivals count state) (λ after more. whole_steps n arrivals (count + 1) after more) h
   where
-    by : (o : Outcome) → ((after : State) → stop_from n arrivals (count + 1) after ≡ None → length (steps_of (run_from n arrivals (count + 1) after)) ≡ n)
+    by : (o : StepOutcome) → ((after : State) → stop_from n arrivals (count + 1) after ≡ None → length (steps_of (run_from n arrivals (count + 1) after)) ≡ n)
         → on_goes o (stopping (state_with_arrivals arrivals count state) o) (λ step after. stop_from n arrivals (count + 1) after) ≡ None
         → length (steps_of (on_goes o [] (λ step after. moment_of arrivals count state step after ∷ run_from n arrivals (count + 1) after))) ≡ suc n
     by (Goes step after) more h = ap suc (more after h)

@@ -11,7 +11,7 @@ use Rattle.sloth_base.specs.Events.{is_boot}
 use Rattle.osek_scheduler.specs.State.{System, task}
 use Rattle.code_rules.specs.Code.{is_in}
 use Rattle.osek_scheduler.specs.Steps.{OsekStep}
-use Rattle.osek_scheduler.specs.Runs.{Leads}
+use Rattle.osek_scheduler.specs.Runs.{AreStepsTo}
 use Rattle.osek_valid.specs.Apart.{static_priority, priority_of, IsActive}
 use Rattle.osek_valid.proofs.Facts.{Facts}
 use Rattle.sloth_base.specs.Events.{working_task}
@@ -71,7 +71,7 @@ module _ (config : Config) (app : App) (w : Facts config app) (h : ℕ) (declare
   -- ---- where nobody blocks
 
   abbrev NobodyWaits : List Stamped → Type 0
-  NobodyWaits events = (s end : System) → Stands s → is_in h s.fresh ≡ false → ((u : ℕ) → ¬ (Blocks config h s u)) → Leads config app events s end
+  NobodyWaits events = (s end : System) → Stands s → is_in h s.fresh ≡ false → ((u : ℕ) → ¬ (Blocks config h s u)) → AreStepsTo config app events s end
       → waiting (up_to events) ≡ 0
 
   nobody_cons : (e : Stamped) (events : List Stamped) → NobodyWaits events → NobodyWaits (e ∷ events)
@@ -95,7 +95,7 @@ module _ (config : Config) (app : App) (w : Facts config app) (h : ℕ) (declare
   -- ---- where task u alone may block
 
   abbrev FewWait : List Stamped → Type 0
-  FewWait events = (s end : System) (u : ℕ) → Stands s → is_in h s.fresh ≡ false → BlocksAlone config h s u → Leads config app events s end
+  FewWait events = (s end : System) (u : ℕ) → Stands s → is_in h s.fresh ≡ false → BlocksAlone config h s u → AreStepsTo config app events s end
       → waiting (up_to events) ≤ lower_events config h (up_to events) + cond (declaration config u).non 1 0
 
   few_cons : (e : Stamped) (events : List Stamped) → FewWait events → FewWait (e ∷ events)
@@ -143,7 +143,7 @@ module _ (config : Config) (app : App) (w : Facts config app) (h : ℕ) (declare
 
   module _ (m : ℕ) (most : NoneIsLarger config app h m) where
     abbrev MostWait : List Stamped → Type 0
-    MostWait events = (s end : System) (l : ℕ) → Stands s → IsBlockedBy config app h s (up_to events) l → Leads config app events s end
+    MostWait events = (s end : System) (l : ℕ) → Stands s → IsBlockedBy config app h s (up_to events) l → AreStepsTo config app events s end
         → waiting (up_to events) ≤ suc m
 
     one_at_most : (b : Bool) → cond b 1 0 ≤ 1
@@ -151,7 +151,7 @@ module _ (config : Config) (app : App) (w : Facts config app) (h : ℕ) (declare
     one_at_most false = omega arith
 
     module _ (e : Stamped) (events : List Stamped) (s end next : System) (l : ℕ) (x : Stands s) (step : OsekStep config app e.event s next)
-        (blocked : IsBlockedBy config app h s (e ∷ up_to events) l) (leads : Leads config app events next end) (away : is_entry_of h e.event ≡ false) where
+        (blocked : IsBlockedBy config app h s (e ∷ up_to events) l) (leads : AreStepsTo config app events next end) (away : is_entry_of h e.event ≡ false) where
       next_is : Stands next
       next_is = next_awaits config app w h declared highest s next x e.event step away
 
@@ -256,7 +256,7 @@ module _ (config : Config) (app : App) (w : Facts config app) (h : ℕ) (declare
   -- ---- where no task is lower
 
   abbrev NoneWaits : List Stamped → Type 0
-  NoneWaits events = (s end : System) → Stands s → Leads config app events s end → waiting (up_to events) ≡ 0
+  NoneWaits events = (s end : System) → Stands s → AreStepsTo config app events s end → waiting (up_to events) ≡ 0
 
   module _ (nobody : (t : ℕ) → ¬ (IsLower config h t)) where
     none_cons : (e : Stamped) (events : List Stamped) → NoneWaits events → NoneWaits (e ∷ events)
@@ -277,13 +277,13 @@ module _ (config : Config) (app : App) (w : Facts config app) (h : ℕ) (declare
     none_waits (e ∷ events) s end x leads = none_cons e events (none_waits events) s end x leads
 
   pub waits_at_most : (events : List Stamped) (s end : System) (l b : ℕ) → Stands s → IsBlockedBy config app h s (up_to events) l
-      → Leads config app events s end → IsBound config app h b → waiting (up_to events) ≤ b
+      → AreStepsTo config app events s end → IsBound config app h b → waiting (up_to events) ≤ b
   waits_at_most events s end l b x blocked leads (lowest nobody) = let none = none_waits nobody events s end x leads in omega (arith, none)
   waits_at_most events s end l b x blocked leads (above m most) = most_wait m most.none_larger events s end l x blocked leads
 
   -- and none of them is boot, or the entry of another task
   abbrev OnTheWay : List Stamped → Type 0
-  OnTheWay events = (s end : System) → Stands s → Leads config app events s end → AllByRecursion IsOnTheWay (up_to events)
+  OnTheWay events = (s end : System) → Stands s → AreStepsTo config app events s end → AllByRecursion IsOnTheWay (up_to events)
 
   on_the_way_cons : (e : Stamped) (events : List Stamped) → OnTheWay events → OnTheWay (e ∷ events)
   on_the_way_cons e events again s end x leads =

@@ -10,7 +10,7 @@ use Rattle.sloth_base.specs.Stretches.{Boots, stretch_limit, longest_stretch}
 use Rattle.sloth_base.specs.Limits.{item_counts}
 use Rattle.osek_scheduler.specs.State.{System, opening}
 use Rattle.osek_scheduler.specs.InTime.{is_admit}
-use Rattle.osek_scheduler.specs.Runs.{Leads}
+use Rattle.osek_scheduler.specs.Runs.{AreStepsTo}
 use Rattle.osek_valid.specs.Apart.{static_priority}
 use Rattle.osek_blocking.specs.Blocking.{is_entry_of, events_up_to_entry, MakesReady}
 use Rattle.raised_sections.specs.Sections.{IsBound}
@@ -63,6 +63,6 @@ pub record EntersBefore (h limit : ℕ) (events : List Stamped) : Type 0 where
 abbrev pub EntersInTime : Config → App → (n : ℕ) → List Stamped → Type 0
 EntersInTime config app n events =
     (before behind : List Stamped) (made : Stamped) (h b : ℕ) (found s : System) → events ≡ before ++ made ∷ behind
-    → Leads config app before (opening config app) found → MakesReady config app h made.event found s → is_admit made ≡ true
+    → AreStepsTo config app before (opening config app) found → MakesReady config app h made.event found s → is_admit made ≡ true
     → IsHighest config h → IsBound config app h b → made.stamp.at + latency_with_ticks config h b made.stamp.at before behind ≤ n
     → EntersBefore h (made.stamp.at + latency_with_ticks config h b made.stamp.at before behind) behind

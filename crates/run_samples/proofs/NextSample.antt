@@ -12,15 +12,15 @@ use Rattle.rv32_machine.specs.Start.{start}
 use Rattle.rv32_machine.specs.Advance.{Goes, Halts}
 use Rattle.rv32_machine.proofs.Runs.{stop_halts}
 use Rattle.observe.specs.Progress.{arrivals_of}
-use Rattle.sloth_runner.specs.Runner.{HasRun, HasArrived, HasExecuted, HaltsAt, image_of, given_arrivals, count_of, end_of}
+use Rattle.sloth_runner.specs.Runner.{HasRun, HasArrived, HasExecuted, HasHalt, image_of, given_arrivals, count_of, end_of}
 use Rattle.sloth_runner.specs.Moments.{sloth_state}
-use Rattle.sloth_runner.specs.Sight.{IsLast, sight_at, interrupts_in}
+use Rattle.sloth_runner.specs.TaskStates.{IsLast, image_states, interrupts_in}
 use Rattle.sloth_runner.specs.declared.runner.Halt.{Halt}
 use Rattle.sloth_runner.specs.declared.runner.Runner.{Runner}
 use Rattle.sloth_runner.specs.declared.runner.RunEnd.TheVariants as ends
-use Rattle.sloth_runner.specs.declared.sight.Interrupts.{Interrupts}
-use Rattle.sloth_runner.specs.declared.looks.Seen.{Seen}
-use Rattle.sloth_runner.proofs.Sighted.{last-behind}
+use Rattle.sloth_runner.specs.declared.task_states.Interrupts.{Interrupts}
+use Rattle.sloth_runner.specs.declared.machine_states.Seen.{Seen}
+use Rattle.sloth_runner.proofs.RunStates.{last-behind}
 use Rattle.sloth_runner.proofs.Turning.{machine-more, moment-is}
 use Rattle.run_samples.specs.declared.sampling.Sampler.{Sampler}
 use Rattle.run_samples.specs.Samples.{IsSample, IsSampling, StopsAt}
@@ -32,7 +32,7 @@ pub record IsLookedAt (s : Sampler) (a c : Runner) (seen last : Option Seen) (in
   pub image_is : image_of a ≡ image_of s.runner
   pub observer : a.observer ≡ s.runner.observer
   pub same : c ≡ a
-  pub seen_is : seen ≡ sight_at (image_of a) (count_of a) (sloth_state a.machine)
+  pub seen_is : seen ≡ image_states (image_of a) (count_of a) (sloth_state a.machine)
   pub last_is : last ≡ option_or seen s.last
   pub interrupts_is : interrupts ≡ interrupts_in (image_of a) (sloth_state a.machine)
 
@@ -56,7 +56,7 @@ module _ (s : Sampler) (a c : Runner) (seen last : Option Seen) (interrupts : In
   last-seen : IsLast image A (k + 1) last
   last-seen =
       let P : Option Seen → Type 0 = IsLast image A (k + 1) in
-      let seen_here = h.seen_is ∙ ap (λ n. sight_at (image_of a) n (sloth_state a.machine)) h.arrives.count in
+      let seen_here = h.seen_is ∙ ap (λ n. image_states (image_of a) n (sloth_state a.machine)) h.arrives.count in
       subst P (sym h.last_is)
       (last-behind image A k m (sloth_state a.machine) (image_of a) seen s.last h.sampling.ran.after h.sampling.last h.image_is h.arrives.state seen_here)
 
@@ -95,7 +95,7 @@ module _ (s : Sampler) (a c : Runner) (seen last : Option Seen) (interrupts : In
       }
 
   -- where the machine stops at the instruction
-  pub stops-there : (halt : Halt) → HaltsAt c halt → StopsAt image A k halt
+  pub stops-there : (halt : Halt) → HasHalt c halt → StopsAt image A k halt
   stops-there halt halts n below =
       let stopped = moment-is s.runner c (Halts halt.stop) looked halts.halts in
       let pc = halts.pc ∙ ap (λ (x : State). (execution_state x).pc) looked.state in

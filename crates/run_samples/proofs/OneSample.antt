@@ -6,8 +6,8 @@ use Rattle.sloth_base.specs.Machine.{State}
 use Rattle.rv32_machine.specs.Advance.{Goes}
 use Rattle.rv32_machine.specs.Run.{state_with_arrivals, moment}
 use Rattle.sloth_base.specs.declared.step.Step.{Step}
-use Rattle.sloth_runner.specs.Sight.{interrupts_in}
-use Rattle.sloth_runner.proofs.Sighted.{one-last}
+use Rattle.sloth_runner.specs.TaskStates.{interrupts_in}
+use Rattle.sloth_runner.proofs.RunStates.{one-last}
 use Rattle.run_samples.specs.declared.sampling.Sample.{Sample}
 use Rattle.run_samples.specs.Samples.{IsSample, AreSamples}
 

@@ -9,7 +9,7 @@ use Rattle.rv32_machine.specs.Run.{state_with_arrivals, moment, state_after}
 use Rattle.sloth_base.specs.declared.step.Step.{Step}
 use Rattle.sloth_base.specs.Limits.{task_limit}
 use Rattle.sloth_runner.specs.Runner.{HasRun, image_of, given_arrivals, count_of, run_end}
-use Rattle.sloth_runner.specs.Sight.{IsLast, interrupts_in, task_levels}
+use Rattle.sloth_runner.specs.TaskStates.{IsLast, interrupts_in, task_levels}
 use Rattle.sloth_runner.specs.declared.runner.Halt.{Halt}
 use Rattle.sloth_runner.specs.declared.runner.RunEnd.TheVariants as ends
 use Rattle.run_samples.specs.declared.sampling.Sample.{Sample}

@@ -12,7 +12,7 @@ use sloth_base::limits::TASK_LIMIT;
 use sloth_base::memory::NoMemory;
 use sloth_base::numbers::Line;
 use sloth_runner::runner::{Halt, Runner};
-use sloth_runner::sight::{Interrupts, Seen};
+use sloth_runner::task_states::{Interrupts, Seen};
 use std::alloc::Global;
 
 /// What a run shows at a count.

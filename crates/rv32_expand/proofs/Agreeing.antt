@@ -12,7 +12,7 @@ use Rattle.sloth_base.specs.Named.{item_of}
 use Rattle.expansion_parts.specs.Expansion.{item_address, is_long, expansion}
 use Rattle.sloth_base.specs.Named.{operation}
 use Rattle.rv32_expand.specs.InPlace.{IsItem}
-use Rattle.expansion_parts.specs.Long.{Set, size, size_at, place, target_of, IsBranchTo, BranchReaches, AreLongBranches}
+use Rattle.expansion_parts.specs.Long.{BranchSet, size, size_at, place, target_of, IsBranchTo, IsInBranchReach, AreLongBranches}
 use Rattle.rv32_expand.specs.Sizes.{AgreeWithSizes}
 use Rattle.expansion_parts.proofs.Counts.{size_is}
 use Rattle.expansion_parts.proofs.Growth.{place_first, place_next, size_alike}
@@ -42,7 +42,7 @@ branch_size app body op.Return target e long = absurd cc
 branch_size app body (op.Serve call) target e long = absurd cc
 
 -- sets that agree on the branches
-module _ (app : App) (body : Func) (a b : Set) (same : (index target : ℕ) → IsBranchTo body index target → a index ≡ b index) where
+module _ (app : App) (body : Func) (a b : BranchSet) (same : (index target : ℕ) → IsBranchTo body index target → a index ≡ b index) where
   -- then each item has one length
   pub size_same : (i : ℕ) → i < length body.items → size_at app body a i ≡ size_at app body b i
   size_same i h = by (target_of body (item_of body i).op) refl
@@ -74,7 +74,7 @@ module _ (app : App) (places : Places) (agree : AgreeWithSizes app places) (func
   body = function app func
 
   -- the set that the addresses tell
-  abbrev pub long : Set
+  abbrev pub long : BranchSet
   long = agree.are_sizes.long func
 
   item : (i : ℕ) → i < length body.items → IsItem app func i
@@ -111,7 +111,7 @@ module _ (app : App) (places : Places) (agree : AgreeWithSizes app places) (func
 
   -- with the addresses a short branch reaches
   pub reaches : (i target : ℕ) → IsBranchTo body i target → target < length body.items → long i ≡ false
-      → BranchReaches (item_address places func i) (item_address places func target)
+      → IsInBranchReach (item_address places func i) (item_address places func target)
   reaches i target g h e =
       let near = (agree.are_sizes.least func declared).suffices i target g e in
       let a = stands i g.inside in

@@ -4,7 +4,7 @@ use Rattle.std.proofs.lemmas.List.{append-nil, drop_all, get_or_append_left, get
 use Rattle.sloth_base.specs.Named.{no_function}
 use Rattle.sloth_base.specs.declared.app.App.{App}
 use Rattle.sloth_base.specs.declared.app.Func.{Func}
-use Rattle.expansion_parts.specs.Long.{Set, size_at, AreLongBranches}
+use Rattle.expansion_parts.specs.Long.{BranchSet, size_at, AreLongBranches}
 use Rattle.expansion_parts.specs.Passes.{AreShortest}
 use Rattle.rv32_expand.specs.Sizes.{items_before, AreItemSizes}
 
@@ -38,13 +38,13 @@ counts app (body ∷ rest) sizes p =
     let r = counts app rest p.1 p.4 in
     omega (arith, l, a, o, r)
 
-long_of : (app : App) (bodies : List Func) (sizes : List ℕ) → AreSizesOf app bodies sizes → ℕ → Set
+long_of : (app : App) (bodies : List Func) (sizes : List ℕ) → AreSizesOf app bodies sizes → ℕ → BranchSet
 long_of app [] sizes p func = λ index. false
 long_of app (body ∷ rest) sizes p zero = p.3.long
 long_of app (body ∷ rest) sizes p (suc func) = long_of app rest p.1 p.4 func
 
 -- the lengths of one body stand at their place
-record AreOwn (app : App) (bodies : List Func) (sizes : List ℕ) (func : ℕ) (body : Func) (long : Set) : Type 0 where
+record AreOwn (app : App) (bodies : List Func) (sizes : List ℕ) (func : ℕ) (body : Func) (long : BranchSet) : Type 0 where
   is_least : AreLongBranches app body long
   each : (i : ℕ) → i < length body.items → get_or sizes (items_before bodies func + i) 0 ≡ size_at app body long i
 

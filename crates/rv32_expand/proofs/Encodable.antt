@@ -26,7 +26,7 @@ use Rattle.rv32_instr.specs.declared.InstrKind.{InstrKind}
 use Rattle.rv32_instr.specs.declared.InstrKind.TheVariants.{Auipc, Jal, Jalr, Sw}
 use Rattle.data_far.specs.Wide.{wide}
 use Rattle.expansion_parts.specs.Expansion.{amount, register_operation, number_operation, test, opposite, number_in, index_code, block_address, zeros, mask_of, symbol_address, item_address, label_address, distance, operation_code}
-use Rattle.rv32_expand.specs.Fits.{Fits}
+use Rattle.rv32_expand.specs.NumberRange.{HasNumbersInRange}
 
 -- ---- numbers
 
@@ -126,7 +126,7 @@ twelve : IsEven 13 (pos 12)
 twelve = ((omega (arith, ints), omega (arith, ints)), refl)
 
 -- the registers and numbers of each are in range
-pub are_in_range : (app : App) (places : Places) (func address : ℕ) (long : Bool) (o : Op) → Fits app places func address long o → AreInRange (operation_code app places func address long o)
+pub are_in_range : (app : App) (places : Places) (func address : ℕ) (long : Bool) (o : Op) → HasNumbersInRange app places func address long o → AreInRange (operation_code app places func address long o)
 are_in_range app places func address long (op.Alu kind rd rs1 rs2) h = (register_fits kind rd rs1 rs2 h.0 h.1 h.2, tt)
 are_in_range app places func address long (op.AluImm kind rd rs1 number) h = (number_fits kind rd rs1 number h.0 h.1 h.2, tt)
 are_in_range app places func address long (op.Lui rd number) h = (h, tt)

@@ -16,16 +16,16 @@ use Rattle.sloth_base.specs.declared.refusal.Code.TheVariants as code
 use Rattle.code_rules.specs.AppRange.{IsRegister, IsOp}
 use Rattle.code_rules.specs.Code.{is_followed, way}
 use Rattle.sloth_base.specs.Named.{item_of, label_of, no_item}
-use Rattle.code_rules.specs.WellFormed.{AccessesPast, MasksPast, WellFormed, Breaks, BodyFault, fault_at_line}
+use Rattle.code_rules.specs.WellFormed.{IsAccessPast, IsMaskPast, WellFormed, IsBreach, BodyFault, fault_at_line}
 use Rattle.rv32_instr.specs.Range.{IsEven}
 use Rattle.expansion_parts.specs.Expansion.{item_address, symbol_address, block_address, label_address, distance, mask_of, is_long, operation_code, expansion}
 use Rattle.sloth_base.specs.Named.{operation}
 use Rattle.sloth_base.specs.Limits.{mask_limit, frame_limit}
-use Rattle.rv32_expand.specs.Fits.{HasBranchRoom, Fits}
+use Rattle.rv32_expand.specs.NumberRange.{HasBranchRoom, HasNumbersInRange}
 use Rattle.rv32_expand.specs.InPlace.{IsItem}
-use Rattle.expansion_parts.specs.Long.{target_of, IsBranchTo, AreLongBranches, BranchReaches}
+use Rattle.expansion_parts.specs.Long.{target_of, IsBranchTo, AreLongBranches, IsInBranchReach}
 use Rattle.rv32_expand.specs.ItemLengths.{ShortBranchesReach}
-use Rattle.rv32_expand.specs.Sizes.{AgreeWithSizes, Covers, IsVerified, IsWordAddress}
+use Rattle.rv32_expand.specs.Sizes.{AgreeWithSizes, HasWordAddresses, IsVerified, IsWordAddress}
 use Rattle.rv32_expand.proofs.Agreeing.{told, reaches, least_same}
 use Rattle.expansion_parts.proofs.Counts.{calls_length, served_length, expanded_some}
 use Rattle.rv32_expand.proofs.InRangeOf.{frame_of, small}
@@ -73,7 +73,7 @@ even_distance a b h k =
 jump_fits : (low a b : ℕ) → a % 4 ≡ 0 → b % 4 ≡ 0 → low ≤ a → a < low + 0x10_0000 → low ≤ b → b < low + 0x10_0000 → IsEven 21 (distance a b)
 jump_fits low a b h k la ua lb ub = ((omega (arith, ints), omega (arith, ints)), even_distance a b h k)
 
-test_reaches : (a b : ℕ) → a % 4 ≡ 0 → b % 4 ≡ 0 → BranchReaches a b → IsEven 13 (distance a b)
+test_reaches : (a b : ℕ) → a % 4 ≡ 0 → b % 4 ≡ 0 → IsInBranchReach a b → IsEven 13 (distance a b)
 test_reaches a b h k r = let x = r.0 in let y = r.1 in ((omega (arith, ints), omega (arith, ints)), even_distance a b h k)
 
 -- ---- what the rules say
@@ -85,7 +85,7 @@ module _ (config : Config) (app : App) (well : WellFormed config app) (func inde
   abbrev body : Func
   body = function app func
 
-  unbroken : (c : Code) → Breaks config app func index c → ⊥
+  unbroken : (c : Code) → IsBreach config app func index c → ⊥
   unbroken c b = well.no_fault (fault_at_line (item_of body index).line c) (func, item.declared, BodyFault.at_item index c item.inside b)
 
   is_op : IsOp config app body (operation app func index)
@@ -97,7 +97,7 @@ module _ (config : Config) (app : App) (well : WellFormed config app) (func inde
     declared = item.declared;
     inside =
         ⊎_elim (λ h. h) (λ (h : length body.items ≤ (label_of body k).item).
-        absurd (unbroken code.V5 (Breaks.runs_out ((label_of body k).item, inr (k, e, refl), h))))
+        absurd (unbroken code.V5 (IsBreach.is_run_out ((label_of body k).item, inr (k, e, refl), h))))
         (cases_lt (label_of body k).item (length body.items));
   }
 
@@ -106,7 +106,7 @@ module _ (config : Config) (app : App) (well : WellFormed config app) (func inde
   falls_inside e = record {
     declared = item.declared;
     inside =
-        ⊎_elim (λ h. h) (λ (h : length body.items ≤ index + 1). absurd (unbroken code.V5 (Breaks.runs_out (index + 1, inl (e, refl), h))))
+        ⊎_elim (λ h. h) (λ (h : length body.items ≤ index + 1). absurd (unbroken code.V5 (IsBreach.is_run_out (index + 1, inl (e, refl), h))))
         (cases_lt (index + 1) (length body.items));
   }
 
@@ -129,7 +129,7 @@ has_first config app well func h = record {
       (cases_lt 0 (length (function app func).items));
 }
 
-module _ (config : Config) (app : App) (well : WellFormed config app) (places : Places) (covers : Covers app places) (agree : AgreeWithSizes app places)
+module _ (config : Config) (app : App) (well : WellFormed config app) (places : Places) (covers : HasWordAddresses app places) (agree : AgreeWithSizes app places)
     (func index : ℕ) (item : IsItem app func index) where
   abbrev address : ℕ
   address = item_address places func index
@@ -181,8 +181,8 @@ module _ (config : Config) (app : App) (well : WellFormed config app) (places : 
   in_ram symbol offset h k = let v = covers.symbols symbol h in omega (arith, v.1)
 
   -- one operation; `is` says that it is this item's
-  fits : (o : Op) → operation app func index ≡ o → IsOp config app (function app func) o → (AccessesPast app (function app func) o → ⊥) → (MasksPast app o → ⊥)
-      → Fits app places func address (is_long places func index) o
+  fits : (o : Op) → operation app func index ≡ o → IsOp config app (function app func) o → (IsAccessPast app (function app func) o → ⊥) → (IsMaskPast app o → ⊥)
+      → HasNumbersInRange app places func address (is_long places func index) o
   fits (op.Alu kind rd rs1 rs2) is h a m = (own rd h.0, own rs1 h.1, own rs2 h.2)
   fits (op.AluImm kind rd rs1 number) is h a m = (own rd h.0, own rs1 h.1, h.2)
   fits (op.Lui rd number) is h a m = let n = h.1 in (own rd h.0, omega arith)
@@ -216,20 +216,20 @@ module _ (config : Config) (app : App) (well : WellFormed config app) (places : 
       (low_enough, to_block n call is (omega (arith, l)))
 
 -- each item's numbers have room where it stands
-pub items_fit : (app : App) → IsVerified app → (places : Places) → Covers app places → AgreeWithSizes app places → (func index : ℕ) → IsItem app func index
-    → Fits app places func (item_address places func index) (is_long places func index) (operation app func index)
+pub items_fit : (app : App) → IsVerified app → (places : Places) → HasWordAddresses app places → AgreeWithSizes app places → (func index : ℕ) → IsItem app func index
+    → HasNumbersInRange app places func (item_address places func index) (is_long places func index) (operation app func index)
 items_fit app (config, well) places covers agree func index item =
     fits config app well places covers agree func index item (operation app func index) refl (is_op config app well func index item)
-    (λ h. unbroken config app well func index item code.V2 (Breaks.accesses_past h)) (λ h. unbroken config app well func index item code.V4 (Breaks.masks_past h))
+    (λ h. unbroken config app well func index item code.V2 (IsBreach.is_access_past h)) (λ h. unbroken config app well func index item code.V4 (IsBreach.is_mask_past h))
 
 -- the same of what code computes
-pub fit_here : (app : App) → IsVerified app → (places : Places) → Covers app places → AgreeWithSizes app places → (func index : ℕ) → IsItem app func index
+pub fit_here : (app : App) → IsVerified app → (places : Places) → HasWordAddresses app places → AgreeWithSizes app places → (func index : ℕ) → IsItem app func index
     → (at : ℕ) → at ≡ item_address places func index → (long : Bool) → long ≡ is_long places func index → (o : Op) → o ≡ operation app func index
-    → Fits app places func at long o
+    → HasNumbersInRange app places func at long o
 fit_here app verified places covers agree func index item at a long l o e =
-    subst (λ (x : ℕ). Fits app places func x long o) (sym a)
-    (subst (λ (x : Bool). Fits app places func (item_address places func index) x o) (sym l)
-    (subst (λ (x : Op). Fits app places func (item_address places func index) (is_long places func index) x) (sym e) (items_fit app verified places covers agree func index item)))
+    subst (λ (x : ℕ). HasNumbersInRange app places func x long o) (sym a)
+    (subst (λ (x : Bool). HasNumbersInRange app places func (item_address places func index) x o) (sym l)
+    (subst (λ (x : Op). HasNumbersInRange app places func (item_address places func index) (is_long places func index) x) (sym e) (items_fit app verified places covers agree func index item)))
 
 -- the addresses make the least set of branches long
 pub least_told : (app : App) → IsVerified app → (places : Places) → AgreeWithSizes app places → (func : ℕ) → func < length app.funcs → AreLongBranches app (function app func) (is_long places func)

@@ -12,8 +12,8 @@ use Rattle.rv32_instr.specs.declared.InstrKind.{InstrKind}
 use Rattle.rv32_instr.specs.declared.InstrKind.TheVariants.{Lui, Auipc, Jal, Jalr, Beq, Bne, Blt, Bge, Bltu, Bgeu, Lb, Lh, Lw, Lbu, Lhu, Sb, Sh, Sw, Addi, Slti, Sltiu, Xori, Ori, Andi, Slli, Srli, Srai, Add, Sub, Sll, Slt, Sltu, Xor, Srl, Sra, Or, And, Fence, Csrrw, Csrrs, Csrrc, Csrrwi, Csrrsi, Csrrci, Ecall, Ebreak, Mret}
 use Rattle.expansion_parts.specs.Expansion.{item_address, is_long, operation_code, expansion}
 use Rattle.rv32_expand.specs.InPlace.{IsItem, result_register}
-use Rattle.expansion_parts.specs.Long.{Set, size, IsBranchTo, BranchReaches, AreLongBranches}
-use Rattle.rv32_expand.specs.Sizes.{AreItemSizes, AgreeWithSizes, Covers, IsVerified}
+use Rattle.expansion_parts.specs.Long.{BranchSet, size, IsBranchTo, IsInBranchReach, AreLongBranches}
+use Rattle.rv32_expand.specs.Sizes.{AreItemSizes, AgreeWithSizes, HasWordAddresses, IsVerified}
 
 -- ---- lengths
 
@@ -28,7 +28,7 @@ ExpansionsAreFew = (app : App) → IsTaskCode app → (places : Places) (func ad
 
 -- two least sets agree on every branch
 abbrev pub LeastIsOne : Type 0
-LeastIsOne = (app : App) (body : Func) (a b : Set) → AreLongBranches app body a → AreLongBranches app body b → (index target : ℕ)
+LeastIsOne = (app : App) (body : Func) (a b : BranchSet) → AreLongBranches app body a → AreLongBranches app body b → (index target : ℕ)
     → IsBranchTo body index target → a index ≡ b index
 
 -- there is one list of lengths
@@ -52,13 +52,13 @@ ItemsAreAdjacent = (app : App) → IsVerified app → (places : Places) → Agre
 abbrev pub ShortBranchesReach : Type 0
 ShortBranchesReach = (app : App) → IsVerified app → (places : Places) → AgreeWithSizes app places
     → (func index target : ℕ) → func < length app.funcs → IsBranchTo (function app func) index target → is_long places func index ≡ false
-    → BranchReaches (item_address places func index) (item_address places func target)
+    → IsInBranchReach (item_address places func index) (item_address places func target)
 
 -- ---- instructions
 
 -- each has a word
 abbrev pub InstructionsAreInRange : Type 0
-InstructionsAreInRange = (app : App) → IsVerified app → (places : Places) → Covers app places → AgreeWithSizes app places
+InstructionsAreInRange = (app : App) → IsVerified app → (places : Places) → HasWordAddresses app places → AgreeWithSizes app places
     → (func index : ℕ) → IsItem app func index → AreInRange (expansion app places func index)
 
 -- the register that an instruction writes or stores; of a branch and of one without registers x0

@@ -1,5 +1,5 @@
 pub mod InPlace
 pub mod Sizes
-pub mod Fits
+pub mod NumberRange
 pub mod Code
 pub mod ItemLengths

@@ -12,7 +12,7 @@ use Rattle.expansion_parts.specs.Expansion.{item_address, symbol_address, block_
 use Rattle.sloth_base.specs.Named.{operation}
 use Rattle.sloth_base.specs.MemoryMap.{memory_base, memory_end}
 use Rattle.rv32_expand.specs.InPlace.{IsItem}
-use Rattle.expansion_parts.specs.Long.{Set, size_at, AreLongBranches}
+use Rattle.expansion_parts.specs.Long.{BranchSet, size_at, AreLongBranches}
 
 -- how many items stand before those of a function
 abbrev pub items_before : List Func → ℕ → ℕ
@@ -22,7 +22,7 @@ items_before (body ∷ bodies) (suc func) = length body.items + items_before bod
 
 -- the length of each item over all bodies in order, where the long branches of each body are the least set of them
 pub record AreItemSizes (app : App) (sizes : List ℕ) : Type 0 where
-  pub long : ℕ → Set
+  pub long : ℕ → BranchSet
   pub least : (func : ℕ) → func < length app.funcs → AreLongBranches app (function app func) (long func)
   pub count : length sizes ≡ items_before app.funcs (length app.funcs)
   pub each : (func index : ℕ) → IsItem app func index
@@ -45,7 +45,7 @@ IsWordAddress address = (memory_base ≤ address) × (address < memory_end) × (
 
 -- The addresses of items, symbols and blocks of services are those of words in RAM, and the code that jumps between them
 -- stands in less than 1 MiB from `low` on.
-pub record Covers (app : App) (places : Places) : Type 0 where
+pub record HasWordAddresses (app : App) (places : Places) : Type 0 where
   pub low : ℕ
   pub items : (func index : ℕ) → IsItem app func index → IsWordAddress (item_address places func index)
   pub symbols : (symbol : ℕ) → symbol < length app.symbols → IsWordAddress (symbol_address places symbol)

@@ -6,7 +6,7 @@ ghost use Rattle.sloth_base.specs.Limits.{item_limit};
 ghost use Rattle.rv32_expand.specs.Code.{IsCode};
 ghost use Rattle.expansion_parts.specs.Expansion.{item_address, is_long, expansion};
 ghost use Rattle.rv32_expand.specs.InPlace.{IsItem};
-ghost use Rattle.rv32_expand.specs.Sizes.{AgreeWithSizes, Covers, IsVerified};
+ghost use Rattle.rv32_expand.specs.Sizes.{AgreeWithSizes, HasWordAddresses, IsVerified};
 
 use crate::addresses::item_address;
 use crate::draft::{Expansion, in_places};
@@ -28,7 +28,7 @@ pub fn expand(item: &Item, func: u32, index: u32, app: &App, places: &Places) ->
     requires verified { IsVerified app.now }
     requires is_item { IsItem app.now func index }
     requires is { item.now ≡ item_of (function app.now func) index }
-    requires covers { Covers app.now places.now }
+    requires covers { HasWordAddresses app.now places.now }
     requires agree { AgreeWithSizes app.now places.now }
     ensures { IsCode (expansion app.now places.now func index) result }
 {

@@ -2,7 +2,7 @@
 //! image, each with its mark on its last instruction (`specs/InPlace`).
 //!
 //! The instructions of each item, the length of each with the least set of long branches, their number, range and place, and the last one (`expand`,
-//! `length`, `sizes`, `laws`; `specs/ItemLengths`, `specs/Sizes`, `specs/Code`, `specs/Fits`). What an item expands to: `expansion_parts`
+//! `length`, `sizes`, `laws`; `specs/ItemLengths`, `specs/Sizes`, `specs/Code`, `specs/NumberRange`). What an item expands to: `expansion_parts`
 //! (`Expansion`, `Long`); well-formed: `code_rules` (`WellFormed`).
 #![tactic(auto)]
 

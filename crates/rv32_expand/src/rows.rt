@@ -5,8 +5,8 @@ ghost use Rattle.sloth_base.specs.Limits.{frame_limit};
 ghost use Rattle.data_far.specs.Wide.{wide, IsWide};
 ghost use Rattle.rv32_instr.specs.Range.{IsSigned};
 ghost use Rattle.rv32_instr.specs.declared.InstrKind.TheVariants.{Lui, Addi, Lw, Jalr};
-ghost use Rattle.expansion_parts.specs.Expansion.{distance, block_address, index_code, branches, mask_of, service_jump, operation_code};
-ghost use Rattle.rv32_expand.specs.Fits.{HasBranchRoom, Fits};
+ghost use Rattle.expansion_parts.specs.Expansion.{distance, block_address, index_code, branch_code, mask_of, service_jump, operation_code};
+ghost use Rattle.rv32_expand.specs.NumberRange.{HasBranchRoom, HasNumbersInRange};
 
 use crate::addresses::{block_address, item_address, label_address, symbol_address};
 use crate::operations::{number_operation, opposite, register_operation, test};
@@ -57,7 +57,7 @@ fn far_indexed(item: &Item, address: u32) -> Draft
 /// A branch at `at`, which is long or not.
 fn branch(long: bool, kind: BranchKind, a: Reg, b: Reg, at: u32, target: u32) -> Draft
     requires { HasBranchRoom long at target }
-    ensures { result ≡ branches long kind a b at target }
+    ensures { result ≡ branch_code long kind a b at target }
 {
     if !long {
         return one(test(kind, a, b, distance(at, target)));
@@ -111,7 +111,7 @@ fn serve(call: Call, at: u32, places: &Places) -> Draft
 
 /// The instructions of an item of a function, at its address, where a branch is long or not.
 pub fn draft(item: &Item, func: u32, at: u32, long: bool, app: &App, places: &Places) -> Draft
-    requires { Fits app.now places.now func at long item.now.op }
+    requires { HasNumbersInRange app.now places.now func at long item.now.op }
     ensures { result ≡ operation_code app.now places.now func at long item.now.op }
 {
     match item.op {

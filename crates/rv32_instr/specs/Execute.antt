@@ -61,12 +61,12 @@ changed_core (Set bits) csr old core = with_csr core csr (bit_or old bits)
 changed_core (Clear bits) csr old core = with_csr core csr (bit_and old (2 ^ 32 - 1 - bits))
 
 -- the next instruction is the one behind
-abbrev pub goes_on : ℕ → Core → Next
-goes_on pc core = Going (record { pc = sum32 pc 4; core = core })
+abbrev pub next_behind : ℕ → Core → Next
+next_behind pc core = Going (record { pc = sum32 pc 4; core = core })
 
 -- the next instruction is at the target, a multiple of 4
-abbrev pub jumps : ℕ → Core → Next
-jumps target core =
+abbrev pub next_at_target : ℕ → Core → Next
+next_at_target target core =
     if target % 4 == 0 then Going (record { pc = target; core = core }) else Stopped (stop.Misaligned target)
 
 -- an access, unless it is refused
@@ -78,20 +78,20 @@ unless_refused (Some bad.Access) address next = Stopped (stop.Access address)
 -- the old value goes to the register, whatever the change
 abbrev pub csr_access : Option ℕ → ℕ → Change → ℕ → ℕ → ℕ → Core → Next
 csr_access None rd change csr word pc core = Stopped (stop.Illegal word)
-csr_access (Some old) rd change csr word pc core = goes_on pc (with_register (changed_core change csr old core) rd old)
+csr_access (Some old) rd change csr word pc core = next_behind pc (with_register (changed_core change csr old core) rd old)
 
 -- an effect, of the instruction with this word at this address
 unfoldable pub perform : Effect → ℕ → ℕ → Core → Next
-perform Nothing word pc core = goes_on pc core
-perform (Write rd value) word pc core = goes_on pc (with_register core rd value)
-perform (Branch taken target) word pc core = if taken then jumps target core else goes_on pc core
-perform (Jump rd target) word pc core = jumps target (with_register core rd (sum32 pc 4))
+perform Nothing word pc core = next_behind pc core
+perform (Write rd value) word pc core = next_behind pc (with_register core rd value)
+perform (Branch taken target) word pc core = if taken then next_at_target target core else next_behind pc core
+perform (Jump rd target) word pc core = next_at_target target (with_register core rd (sum32 pc 4))
 perform (Load width rd address) word pc core =
     unless_refused (refusal (memory_of core) address width) address
-    (goes_on pc (with_register core rd (loaded_number (memory_of core) address width)))
+    (next_behind pc (with_register core rd (loaded_number (memory_of core) address width)))
 perform (Store width address value) word pc core =
     unless_refused (refusal (memory_of core) address width) address
-    (goes_on pc (with_memory core (stored_memory (memory_of core) address width value)))
+    (next_behind pc (with_memory core (stored_memory (memory_of core) address width value)))
 perform (Csr rd csr change) word pc core = csr_access (csr_value core csr) rd change csr word pc core
 perform Environment word pc core = Stopped stop.Environment
 perform Return word pc core =

@@ -5,24 +5,24 @@ use Rattle.sloth_base.specs.declared.step.Step.{Step}
 use Rattle.sloth_base.specs.Machine.{State}
 use Rattle.rv32_instr.specs.Execute.{Next, Going, Stopped, step}
 use Rattle.sloth_base.specs.Take.{execution_state}
-use Rattle.rv32_machine.specs.Advance.{Outcome, Goes, Halts, advance, outcome, seen_step}
+use Rattle.rv32_machine.specs.Advance.{StepOutcome, Goes, Halts, advance, outcome, observed_step}
 use Rattle.rv32_machine.specs.Run.{Moment, state_with_arrivals, moment, on_goes, moment_of, run_from, steps_of}
 use Rattle.rv32_machine.specs.Coherent.{AreCoherent}
 
 -- what is seen of a step that goes on
 seen-of
     : (count : ℕ) (before : State) (next : Next) (s : Step) (after : State) → outcome count before next ≡ Goes s after
-    → s ≡ seen_step count before after
-seen-of count before (Going m) s after h = let e : m ≡ after = cc in let f : seen_step count before m ≡ s = cc in sym f ∙ ap (seen_step count before) e
+    → s ≡ observed_step count before after
+seen-of count before (Going m) s after h = let e : m ≡ after = cc in let f : observed_step count before m ≡ s = cc in sym f ∙ ap (observed_step count before) e
 seen-of count before (Stopped e) s after h = cc
 
 pub step_seen
-    : (count : ℕ) (before : State) (s : Step) (after : State) → advance count before ≡ Goes s after → s ≡ seen_step count before after
+    : (count : ℕ) (before : State) (s : Step) (after : State) → advance count before ≡ Goes s after → s ≡ observed_step count before after
 unfolding advance
 step_seen count before s after h = seen-of count before (step (execution_state before)) s after h
 
 coherent-go
-    : (arrivals : List Arrival) (count : ℕ) (state : State) (o : Outcome) (rest : State → List Moment)
+    : (arrivals : List Arrival) (count : ℕ) (state : State) (o : StepOutcome) (rest : State → List Moment)
     → moment arrivals count state ≡ o
     → ((t : State) → AreCoherent (count + 1) t.core.mie (steps_of (rest t)))
     → AreCoherent count state.core.mie (steps_of (on_goes o [] (λ s t. moment_of arrivals count state s t ∷ rest t)))

@@ -4,9 +4,9 @@ use Rattle.rv32_instr.specs.declared.InstrKind.{InstrKind}
 use Rattle.rv32_instr.specs.declared.InstrKind.TheVariants.{Lui, Auipc, Jal, Jalr, Beq, Bne, Blt, Bge, Bltu, Bgeu, Lb, Lh, Lw, Lbu, Lhu, Sb, Sh, Sw, Addi, Slti, Sltiu, Xori, Ori, Andi, Slli, Srli, Srai, Add, Sub, Sll, Slt, Sltu, Xor, Srl, Sra, Or, And, Fence, Csrrw, Csrrs, Csrrc, Csrrwi, Csrrsi, Csrrci, Ecall, Ebreak, Mret}
 use Rattle.rv32_instr.specs.Range.{InRange}
 use Rattle.rv32_instr.specs.Effect.{effect}
-use Rattle.rv32_machine.specs.Fits.{Fits}
+use Rattle.rv32_machine.specs.RegisterRange.{HasRegisterInRange}
 
-pub effect_fits : (kind : InstrKind) (pc : ℕ) (x : List ℕ) → InRange kind → Fits (effect kind pc x)
+pub effect_fits : (kind : InstrKind) (pc : ℕ) (x : List ℕ) → InRange kind → HasRegisterInRange (effect kind pc x)
 effect_fits (Lui rd imm) pc x h = h.0
 effect_fits (Auipc rd imm) pc x h = h.0
 effect_fits (Jal rd imm) pc x h = h.0

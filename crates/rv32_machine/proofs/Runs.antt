@@ -4,7 +4,7 @@ use Rattle.sloth_base.specs.declared.event.Arrival.{Arrival}
 use Rattle.sloth_base.specs.declared.step.Step.{Step}
 use Rattle.sloth_base.specs.Machine.{State}
 use Rattle.rv32_instr.specs.declared.stop.Stop.{Stop}
-use Rattle.rv32_machine.specs.Advance.{Outcome, Goes, Halts}
+use Rattle.rv32_machine.specs.Advance.{StepOutcome, Goes, Halts}
 use Rattle.rv32_machine.specs.Run.{Moment, Stopping, state_with_arrivals, moment, on_goes, moment_of, run_from, state_after_from, stop_from, stopping}
 
 shifted : (k count : ℕ) → suc k + count ≡ k + (count + 1)
@@ -12,7 +12,7 @@ shifted k count = omega arith
 
 -- the state after one more instruction
 after-go
-    : (o : Outcome) (f h : Step → State → Option State) (m n : State) → on_goes o None f ≡ Some m
+    : (o : StepOutcome) (f h : Step → State → Option State) (m n : State) → on_goes o None f ≡ Some m
     → ((s : Step) (t : State) → f s t ≡ Some m → h s t ≡ Some n) → on_goes o None h ≡ Some n
 after-go (Halts e) f h m n q k = cc
 after-go (Goes s t) f h m n q k = k s t q
@@ -45,7 +45,7 @@ after_more k arrivals start m n s h g =
 
 -- the moments of a run that goes on by one
 run-go
-    : (o : Outcome) (f : Step → State → Option State) (x : Step → State → Moment) (g h : State → List Moment) (m : State) (es : List Moment)
+    : (o : StepOutcome) (f : Step → State → Option State) (x : Step → State → Moment) (g h : State → List Moment) (m : State) (es : List Moment)
     → on_goes o None f ≡ Some m → ((s : Step) (t : State) → f s t ≡ Some m → g t ≡ h t ++ es)
     → on_goes o [] (λ s t. x s t ∷ g t) ≡ on_goes o [] (λ s t. x s t ∷ h t) ++ es
 run-go (Halts e) f x g h m es q k = cc
@@ -121,7 +121,7 @@ run_halts n k arrivals start m e lt h g =
 
 -- where a run stops
 stop-go
-    : (o : Outcome) (f : Step → State → Option State) (x : Option Stopping) (h : State → Option Stopping) (m : State) (r : Option Stopping)
+    : (o : StepOutcome) (f : Step → State → Option State) (x : Option Stopping) (h : State → Option Stopping) (m : State) (r : Option Stopping)
     → on_goes o None f ≡ Some m → ((s : Step) (t : State) → f s t ≡ Some m → h t ≡ r) → on_goes o x (λ s t. h t) ≡ r
 stop-go (Halts e) f x h m r q k = cc
 stop-go (Goes s t) f x h m r q k = k s t q
@@ -176,7 +176,7 @@ stop_none (suc k) arrivals count start m h =
 
 -- the front of a longer run
 front-go
-    : (o : Outcome) (x : Step → State → Moment) (g h : State → List Moment) → ((t : State) → (rest : List Moment) × (g t ≡ h t ++ rest))
+    : (o : StepOutcome) (x : Step → State → Moment) (g h : State → List Moment) → ((t : State) → (rest : List Moment) × (g t ≡ h t ++ rest))
     → (rest : List Moment) × (on_goes o [] (λ s t. x s t ∷ g t) ≡ on_goes o [] (λ s t. x s t ∷ h t) ++ rest)
 front-go (Halts e) x g h k = ([], refl)
 front-go (Goes s t) x g h k = let q = k t in (q.0, ap (λ ms. x s t ∷ ms) q.1)

@@ -5,7 +5,7 @@ use Rattle.sloth_base.specs.Take.{entry_state, execution_state, line_to_take}
 use Rattle.rv32_instr.specs.declared.stop.Stop.{Stop}
 use Rattle.rv32_instr.specs.Ram.{word_at}
 use Rattle.rv32_instr.specs.Execute.{Going, Stopped, step, touched}
-use Rattle.rv32_machine.specs.Advance.{Goes, Halts, seen_step, outcome, advance}
+use Rattle.rv32_machine.specs.Advance.{Goes, Halts, observed_step, outcome, advance}
 
 pub advanced
     : (count : ℕ) (old start ent done after : State) (line touch : Option ℕ) (pc before_word after_word : ℕ)
@@ -33,11 +33,11 @@ advanced count old start ent done after line touch pc before_word after_word s e
     let touch-is : touch ≡ touched (execution_state old) = t ∙ ap touched ent-is in
     let word-is : after_word ≡ word_at after.core.ram 0 = w ∙ ap (λ x. word_at x.core.ram 0) (sym a) in
     ap (outcome count old) going
-    ∙ ap (λ n. Goes (record (seen_step count old after) { pc = n }) after) (ap (λ x. x.pc) (sym ent-is) ∙ sym p)
-    ∙ ap (λ o. Goes (record (seen_step count old after) { pc = pc; entered = o }) after) (sym line-is)
-    ∙ ap (λ v. Goes (record (seen_step count old after) { pc = pc; entered = line; cur_before = v }) after) (sym b)
-    ∙ ap (λ v. Goes (record (seen_step count old after) { pc = pc; entered = line; cur_before = before_word; cur_after = v }) after) (sym word-is)
-    ∙ ap (λ o. Goes (record (seen_step count old after) { pc = pc; entered = line; cur_before = before_word; cur_after = after_word; touched = o }) after) (sym touch-is)
+    ∙ ap (λ n. Goes (record (observed_step count old after) { pc = n }) after) (ap (λ x. x.pc) (sym ent-is) ∙ sym p)
+    ∙ ap (λ o. Goes (record (observed_step count old after) { pc = pc; entered = o }) after) (sym line-is)
+    ∙ ap (λ v. Goes (record (observed_step count old after) { pc = pc; entered = line; cur_before = v }) after) (sym b)
+    ∙ ap (λ v. Goes (record (observed_step count old after) { pc = pc; entered = line; cur_before = before_word; cur_after = v }) after) (sym word-is)
+    ∙ ap (λ o. Goes (record (observed_step count old after) { pc = pc; entered = line; cur_before = before_word; cur_after = after_word; touched = o }) after) (sym touch-is)
 
 pub halted
     : (count : ℕ) (old start : State) (line : Option ℕ) (stop : Stop) → start ≡ old → line ≡ line_to_take start

@@ -8,9 +8,9 @@ use Rattle.rv32_instr.specs.Ram.{word_at}
 use Rattle.rv32_instr.specs.Execute.{Next, Going, Stopped, step, touched}
 
 -- a step with the state behind it, or why there is none
-pub data Outcome : Type 0 where
-  Goes : Step → State → Outcome
-  Halts : Stop → Outcome
+pub data StepOutcome : Type 0 where
+  Goes : Step → State → StepOutcome
+  Halts : Stop → StepOutcome
 
 -- a record that no step was written into
 abbrev pub blank_step : Step
@@ -27,8 +27,8 @@ blank_step = record {
 }
 
 -- what is seen of the step of a count that leads from a state to another; the word at 0x80000000 tells the running task
-abbrev pub seen_step : ℕ → State → State → Step
-seen_step count before after = record {
+abbrev pub observed_step : ℕ → State → State → Step
+observed_step count before after = record {
   count = count;
   pc = (execution_state before).pc;
   entered = line_to_take before;
@@ -41,10 +41,10 @@ seen_step count before after = record {
 }
 
 -- that of what an instruction leaves
-abbrev pub outcome : ℕ → State → Next → Outcome
-outcome count before (Going after) = Goes (seen_step count before after) after
+abbrev pub outcome : ℕ → State → Next → StepOutcome
+outcome count before (Going after) = Goes (observed_step count before after) after
 outcome count before (Stopped stop) = Halts stop
 
 -- the step of a count
-unfoldable pub advance : ℕ → State → Outcome
+unfoldable pub advance : ℕ → State → StepOutcome
 advance count state = outcome count state (step (execution_state state))

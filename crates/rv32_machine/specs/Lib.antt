@@ -1,6 +1,6 @@
 pub mod Start
 pub mod Flat
-pub mod Fits
+pub mod RegisterRange
 pub mod State
 pub mod Advance
 pub mod Run

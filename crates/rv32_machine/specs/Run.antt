@@ -8,18 +8,18 @@ use Rattle.sloth_base.specs.Arrivals.{moments}
 use Rattle.sloth_base.specs.Arrive.{state_arrive}
 use Rattle.sloth_base.specs.Take.{execution_state}
 use Rattle.rv32_instr.specs.declared.stop.Stop.{Stop}
-use Rattle.rv32_machine.specs.Advance.{Outcome, Goes, Halts, advance}
+use Rattle.rv32_machine.specs.Advance.{StepOutcome, Goes, Halts, advance}
 
 -- the state with the arrivals of a moment
 abbrev pub state_with_arrivals : List Arrival → ℕ → State → State
 state_with_arrivals arrivals count state = state_arrive (map (λ a. a.line) (moments count (count + 1) arrivals)) state
 
 -- what the instruction of a count does
-abbrev pub moment : List Arrival → ℕ → State → Outcome
+abbrev pub moment : List Arrival → ℕ → State → StepOutcome
 moment arrivals count state = advance count (state_with_arrivals arrivals count state)
 
 -- what follows an instruction, or what stands where it stops
-abbrev pub on_goes : {X : Type 0} → Outcome → X → (Step → State → X) → X
+abbrev pub on_goes : {X : Type 0} → StepOutcome → X → (Step → State → X) → X
 on_goes (Goes step after) halted next = next step after
 on_goes (Halts stop) halted next = halted
 
@@ -70,7 +70,7 @@ pub record Stopping : Type 0 where
   pub stop : Stop
 
 -- where and why the machine stops, if it does
-abbrev pub stopping : State → Outcome → Option Stopping
+abbrev pub stopping : State → StepOutcome → Option Stopping
 stopping state (Goes step after) = None
 stopping state (Halts stop) = Some (record { pc = (execution_state state).pc; stop = stop })
 

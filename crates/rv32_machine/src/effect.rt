@@ -5,7 +5,7 @@ ghost use Rattle.rv32_instr.specs.Effect.{effect};
 ghost use Rattle.sloth_base.specs.Arithmetic.{plus};
 ghost use Rattle.rv32_instr.specs.declared.effect.Effect.TheVariants as asks;
 ghost use Rattle.rv32_instr.specs.declared.effect.Change.TheVariants as change;
-ghost use Rattle.rv32_machine.specs.Fits.{Fits};
+ghost use Rattle.rv32_machine.specs.RegisterRange.{HasRegisterInRange};
 
 use rv32_instr::{Change, Effect, InstrKind};
 use sloth_base::app::Width;
@@ -15,7 +15,7 @@ use sloth_base::numbers::Reg;
 pub fn effect(kind: InstrKind, pc: u32, x: &[u32; 32]) -> Effect
     requires { InRange kind }
     ensures is { result ≡ effect kind pc x.now }
-    ensures fits { Fits result }
+    ensures fits { HasRegisterInRange result }
 {
     asked(kind, pc, x)
 }

@@ -3,7 +3,7 @@ use Rattle.std.proofs.Common.{◌≡◌, ◌≤◌, ◌<◌, ◌+◌, ◌∙◌,
 use Rattle.sloth_base.specs.declared.event.Arrival.{Arrival}
 use Rattle.sloth_base.specs.declared.image.Image.{Image}
 use Rattle.sloth_base.specs.Machine.{State}
-use Rattle.sloth_runner.specs.Sight.{task_levels}
+use Rattle.sloth_runner.specs.TaskStates.{task_levels}
 use Rattle.run_samples.specs.declared.sampling.Sample.{Sample}
 use Rattle.run_samples.specs.Samples.{AreSampledLevels}
 use Rattle.run_samples.proofs.OneSample.{one-samples}
@@ -14,7 +14,7 @@ use Rattle.std.specs.Prelude.{codes}
 use Rattle.std.specs.List.{flat_map}
 use Rattle.lane_drawing.specs.Drawing.{head_line, style_lines, axis_lines, lane_line, bar_line, lane_text, row_middle, shown_arrivals, legend_lines}
 use Rattle.lane_drawing.proofs.Growing.{one_bars}
-use Rattle.schedule_picture.specs.Looks.{look_at}
+use Rattle.schedule_picture.specs.LaneLooks.{look_at}
 use Rattle.schedule_picture.specs.Picture.{Drawing, IsPictureOf, scale_of, tasks_above, task_lane, task_lanes, picture_text}
 
 -- the levels of a count

@@ -24,7 +24,7 @@ use Rattle.lane_drawing.specs.Bars.{AreBars, IsInside}
 use Rattle.lane_drawing.specs.Strips.{Lane, IsStrip, IsFresh, ShowsMore, empty_lane, last_bar}
 use Rattle.lane_drawing.proofs.Growing.{same_strip}
 use Rattle.schedule_picture.specs.Lanes.{HaveChanged}
-use Rattle.schedule_picture.specs.Looks.{lane_look, look_at, no_sample}
+use Rattle.schedule_picture.specs.LaneLooks.{lane_look, look_at, no_sample}
 use Rattle.schedule_picture.specs.Picture.{IsPictureOf, picture_text, scale_of}
 use Rattle.schedule_picture.specs.Samples.{HasGiven, HasGivenFirst, HasBars, StopsBefore}
 use Rattle.schedule_picture.proofs.Shown.{HasShown}

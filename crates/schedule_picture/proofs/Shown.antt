@@ -5,7 +5,7 @@ use Rattle.sloth_base.specs.declared.image.Image.{Image}
 use Rattle.run_samples.specs.declared.sampling.Sample.{Sample}
 use Rattle.run_samples.specs.declared.sampling.Sampler.{Sampler}
 use Rattle.lane_drawing.specs.Strips.{Lane, IsStrip, empty_lane}
-use Rattle.schedule_picture.specs.Looks.{look_at}
+use Rattle.schedule_picture.specs.LaneLooks.{look_at}
 use Rattle.schedule_picture.specs.Samples.{HasGiven}
 
 -- and strips stand behind what they show from a count on

@@ -1,5 +1,5 @@
 pub mod Drawn
 pub mod Lanes
-pub mod Looks
+pub mod LaneLooks
 pub mod Picture
 pub mod Samples

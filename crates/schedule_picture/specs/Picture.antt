@@ -11,7 +11,7 @@ use Rattle.lane_drawing.specs.declared.bars.Bar.{Bar}
 use Rattle.schedule_picture.specs.declared.picture.Picture.{Picture}
 use Rattle.schedule_picture.specs.declared.picture.Picture.TheVariants as picture
 use Rattle.lane_drawing.specs.Bars.{AreBars}
-use Rattle.schedule_picture.specs.Looks.{look_at}
+use Rattle.schedule_picture.specs.LaneLooks.{look_at}
 use Rattle.lane_drawing.specs.declared.scale.Scale.{Scale}
 use Rattle.lane_drawing.specs.Drawing.{left_margin, head_line, style_lines, axis_lines, lane_text, lane_line, bar_line, row_middle, is_above, shown_arrivals, legend_lines}
 

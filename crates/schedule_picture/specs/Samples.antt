@@ -10,7 +10,7 @@ use Rattle.run_samples.specs.declared.sampling.Sampler.{Sampler}
 use Rattle.run_samples.specs.Samples.{AreSamples, IsSampling, sampled_image, sampled_arrivals, sampled_count}
 use Rattle.lane_drawing.specs.Bars.{AreBars}
 use Rattle.lane_drawing.specs.Strips.{Lane, empty_lane}
-use Rattle.schedule_picture.specs.Looks.{look_at}
+use Rattle.schedule_picture.specs.LaneLooks.{look_at}
 
 -- it has given these, the first of a run of an image with arrivals
 pub record HasGiven (image : Image) (arrivals : List Arrival) (samples : List Sample) (sampler : Sampler) : Type 0 where

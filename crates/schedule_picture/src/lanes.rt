@@ -3,9 +3,9 @@ ghost use Rattle.std.specs.Prelude.{ℕ, ◌≡◌, ◌≤◌, ◌<◌, ◌+◌,
 ghost use Rattle.sloth_base.specs.Limits.{task_limit};
 ghost use Rattle.lane_drawing.specs.Strips.{empty_lane, last_bar, ShowsMore, IsFresh};
 ghost use Rattle.schedule_picture.specs.Lanes.{HaveChanged};
-ghost use Rattle.schedule_picture.specs.Looks.{lane_look};
+ghost use Rattle.schedule_picture.specs.LaneLooks.{lane_look};
 
-use crate::looks::lane_look;
+use crate::lane_looks::lane_look;
 use lane_drawing::Strip;
 use run_samples::Sample;
 use sloth_base::memory::NoMemory;

@@ -1,12 +1,12 @@
 //! Pictures of the schedule: a part of a run as SVG 1.1, a lane for each task.
 //!
 //! `draw` gives the drawing whose bars are those of what each task and the generated code show at each count, with the arrivals of tasks at their
-//! moments and the highest level on top; or where the run stops (`specs/Looks`, `specs/Picture`, `specs/Samples`, `specs/Drawn`, `specs/Lanes`).
+//! moments and the highest level on top; or where the run stops (`specs/LaneLooks`, `specs/Picture`, `specs/Samples`, `specs/Drawn`, `specs/Lanes`).
 //! Samples: `run_samples` (`Samples`); bars and lines: `lane_drawing` (`Bars`, `Drawing`).
 #![tactic(auto)]
 
+mod lane_looks;
 mod lanes;
-mod looks;
 mod picture;
 mod text;
 

@@ -8,15 +8,15 @@ use Rattle.sloth_base.specs.declared.app.App.{App}
 use Rattle.sloth_base.specs.declared.app.Op.{Op}
 use Rattle.sloth_base.specs.declared.app.Op.TheVariants as op
 use Rattle.sloth_base.specs.Named.{function, operation, item_of}
-use Rattle.code_rules.specs.Code.{Calls, is_in}
+use Rattle.code_rules.specs.Code.{HasCall, is_in}
 use Rattle.code_rules.specs.WellFormed.{WellFormed}
 use Rattle.osek_valid.proofs.Facts.{Facts, facts}
-use Rattle.body_faults.specs.Ways.{LeadsToLabels}
+use Rattle.body_faults.specs.Ways.{HasBodyLabel}
 use Rattle.body_faults.specs.Labels.{ArePlaced}
 use Rattle.body_faults.proofs.Tests.{leads}
 use Rattle.section_sizes.specs.Graph.{HasMark, ways_of, AreInside}
 use Rattle.section_sizes.specs.CallOrder.{IsCallOrder}
-use Rattle.section_sizes.specs.Parts.{ReachesItem, Returns}
+use Rattle.section_sizes.specs.Parts.{ReachesItem, CanReturn}
 use Rattle.section_sizes.specs.Computed.{returns_of, is_return, item_ways}
 use Rattle.section_sizes.specs.Known.{KnowsReturns}
 use Rattle.section_sizes.proofs.Ordering.{member, one_more}
@@ -32,7 +32,7 @@ module _ (config : Config) (app : App) (w : WellFormed config app) where
   pub facts_of : Facts config app
   facts_of = facts config app w
 
-  pub labels_lead : (f i : ℕ) → f < length app.funcs → i < length (function app f).items → LeadsToLabels (function app f) (item_of (function app f) i).op
+  pub labels_lead : (f i : ℕ) → f < length app.funcs → i < length (function app f).items → HasBodyLabel (function app f) (item_of (function app f) i).op
   labels_lead f i known inside =
       leads config app (function app f) (operation app f i) (facts_of.items f i (operation app f i) (record { known = known; inside = inside; is = refl }))
 
@@ -48,19 +48,19 @@ module _ (config : Config) (app : App) (w : WellFormed config app) where
 
   -- a reached `ret` is found
   pub returns_is : (f : ℕ) → f < length app.funcs → (marks : List Bool) → ((i : ℕ) → HasMark marks i ↔ ReachesItem app f i)
-      → Decides (returns_of (function app f) marks) (Returns app f)
+      → Decides (returns_of (function app f) marks) (CanReturn app f)
   returns_is f known marks m = (sound, complete)
     where
       test : ℕ → Bool
       test i = get_or marks i false && is_return (item_of (function app f) i).op
 
-      sound : returns_of (function app f) marks ≡ true → Returns app f
+      sound : returns_of (function app f) marks ≡ true → CanReturn app f
       sound e =
           let s = any_is (length (function app f).items) (λ i. get_or marks i false && is_return (item_of (function app f) i).op) e in
           let both = and_parts (get_or marks s.0 false) (is_return (item_of (function app f) s.0).op) s.2 in
           (s.0, (m s.0).0 both.0, record { known = known; inside = s.1; is = is_ret (operation app f s.0) both.1 })
 
-      complete : Returns app f → returns_of (function app f) marks ≡ true
+      complete : CanReturn app f → returns_of (function app f) marks ≡ true
       complete r = by (returns_of (function app f) marks) refl
         where
           yes_and : (a b : Bool) → a ≡ true → b ≡ true → (a && b) ≡ true
@@ -74,7 +74,7 @@ module _ (config : Config) (app : App) (w : WellFormed config app) where
               absurd (false≢true (sym none ∙ yes_and (get_or marks r.0 false) (is_return (item_of (function app f) r.0).op) ((m r.0).1 r.1) (ap is_return r.2.is)))
 
 module _ (app : App) (order : List ℕ) (o : IsCallOrder app order) (k : ℕ) (lt : k < length order) (returns : List Bool) (count : length returns ≡ length app.funcs)
-    (each : (g : ℕ) → is_in g (take k order) ≡ true → Decides (get_or returns g false) (Returns app g)) where
+    (each : (g : ℕ) → is_in g (take k order) ≡ true → Decides (get_or returns g false) (CanReturn app g)) where
   pub number_known : get_or order k 0 < length app.funcs
   number_known = o.inside (get_or order k 0) (member order k lt)
 
@@ -85,21 +85,21 @@ module _ (app : App) (order : List ℕ) (o : IsCallOrder app order) (k : ℕ) (l
   knows_called g calls = each g (o.behind k g lt calls)
 
   -- one more function
-  pub knows_more : (b : Bool) → Decides b (Returns app (get_or order k 0)) → (g : ℕ) → is_in g (take (k + 1) order) ≡ true
-      → Decides (get_or (set returns (get_or order k 0) b) g false) (Returns app g)
+  pub knows_more : (b : Bool) → Decides b (CanReturn app (get_or order k 0)) → (g : ℕ) → is_in g (take (k + 1) order) ≡ true
+      → Decides (get_or (set returns (get_or order k 0) b) g false) (CanReturn app g)
   knows_more b d g h = by (cases_eq g (get_or order k 0))
     where
-      by : (g ≡ get_or order k 0) ⊎ (g ≡ get_or order k 0 → ⊥) → Decides (get_or (set returns (get_or order k 0) b) g false) (Returns app g)
+      by : (g ≡ get_or order k 0) ⊎ (g ≡ get_or order k 0 → ⊥) → Decides (get_or (set returns (get_or order k 0) b) g false) (CanReturn app g)
       by (inl e) =
-          subst (λ v. Decides (get_or (set returns (get_or order k 0) b) v false) (Returns app v)) (sym e)
-          (subst (λ v. Decides v (Returns app (get_or order k 0))) (sym (get_or-set_same returns (get_or order k 0) b false number_inside)) d)
+          subst (λ v. Decides (get_or (set returns (get_or order k 0) b) v false) (CanReturn app v)) (sym e)
+          (subst (λ v. Decides v (CanReturn app (get_or order k 0))) (sym (get_or-set_same returns (get_or order k 0) b false number_inside)) d)
       by (inr n) =
-          subst (λ v. Decides v (Returns app g)) (sym (get_or-set_other returns (get_or order k 0) g b false n))
+          subst (λ v. Decides v (CanReturn app g)) (sym (get_or-set_other returns (get_or order k 0) g b false n))
           (each g (⊎_elim (λ x. x) (λ e. absurd (n (sym e))) (one_more order k g lt h)))
 
 -- where all are known, so are those that a function calls
-pub knows_all : (app : App) (order : List ℕ) → IsCallOrder app order → ((f g : ℕ) → Calls app f g → g < length app.funcs) → (returns : List Bool)
-    → ((g : ℕ) → g < length app.funcs → Decides (get_or returns g false) (Returns app g)) → (f : ℕ) → KnowsReturns app f returns
+pub knows_all : (app : App) (order : List ℕ) → IsCallOrder app order → ((f g : ℕ) → HasCall app f g → g < length app.funcs) → (returns : List Bool)
+    → ((g : ℕ) → g < length app.funcs → Decides (get_or returns g false) (CanReturn app g)) → (f : ℕ) → KnowsReturns app f returns
 knows_all app order o known returns each f g calls = each g (known f g calls)
 
 -- ---- the items that walks reach
@@ -117,8 +117,8 @@ pub links_inside : (func : Func) (returns onward all : List Bool) (ways : List W
 links_inside func returns onward all ways l = inside func returns onward all ways l.ways_count l.ways_are l.all_count
 
 module _ (config : Config) (app : App) (well : WellFormed config app) (f : ℕ) (there : f < length app.funcs) (func : Func) (is_func : func ≡ function app f) where
-  pub labels_of : (i : ℕ) → i < length func.items → LeadsToLabels func (item_of func i).op
-  labels_of = subst (λ g. (i : ℕ) → i < length g.items → LeadsToLabels g (item_of g i).op) (sym is_func) (λ i lt. labels_lead config app well f i there lt)
+  pub labels_of : (i : ℕ) → i < length func.items → HasBodyLabel func (item_of func i).op
+  labels_of = subst (λ g. (i : ℕ) → i < length g.items → HasBodyLabel g (item_of g i).op) (sym is_func) (λ i lt. labels_lead config app well f i there lt)
 
   pub placed_of : ArePlaced func
   placed_of = subst ArePlaced (sym is_func) (are_placed config app well f there)

@@ -9,9 +9,9 @@ use Rattle.sloth_base.specs.declared.app.Op.TheVariants as op
 use Rattle.sloth_base.specs.Named.{function, operation, body_of}
 use Rattle.code_rules.specs.Code.{IsItem}
 use Rattle.osek_valid.specs.Apart.{static_priority}
-use Rattle.raised_sections.specs.Walks.{Position, place, GoesOnInside, LeadsTo, WalksOn, AreConsecutive, chains_itself}
+use Rattle.raised_sections.specs.Walks.{Position, place, GoesOnInside, LeadsTo, IsPositionStep, AreConsecutive, chains_itself}
 use Rattle.raised_sections.specs.Sections.{priority_at, operation_at, is_schedule, is_counted, OnlyLastSchedules, IsSection, size_of_section}
-use Rattle.section_sizes.specs.Parts.{is_raised, called_level, is_plain, count_of, StepsInside, ReachesItem, reaches_first, reaches_inside, reaches_behind, Passes, EntersRaised, CountsBack, CountsOn, back_returns, back_inside, back_passes, on_ends, on_inside, on_enters, on_passes, ReachesCall, level_behind, CountsOut, CountsWithin, out_here, out_behind, within_here, within_called, within_behind}
+use Rattle.section_sizes.specs.Parts.{is_raised, called_level, is_plain, count_of, IsInnerStep, ReachesItem, reaches_first, reaches_inside, reaches_behind, IsRaisedStep, IsRaisedCall, CountsBack, CountsOn, back_returns, back_inside, back_passes, on_ends, on_inside, on_enters, on_passes, ReachesCall, level_behind, CountsOut, CountsWithin, out_here, out_behind, within_here, within_called, within_behind}
 use Rattle.raised_sections.proofs.Reached.{IsReached, walk_on, reached_next, reached_first}
 use Rattle.section_sizes.proofs.Decomposed.{L, level_raised, level_called}
 
@@ -34,7 +34,7 @@ plain_leads app (op.Jump k) f i outer next p l = l
 plain_leads app (op.Serve call) f i outer next p l = l
 
 -- one step inside a function
-step_inside : (app : App) (f i j : ℕ) (outer : Position) → StepsInside app f i j → WalksOn app (place f i ∷ outer) (place f j ∷ outer)
+step_inside : (app : App) (f i j : ℕ) (outer : Position) → IsInnerStep app f i j → IsPositionStep app (place f i ∷ outer) (place f j ∷ outer)
 step_inside app f i j outer s =
     (s.operation, s.item, plain_leads app s.operation f i outer (place f j ∷ outer) s.plain (j, s.goes_on, ap (chains_itself (function app f)) s.item.is ∙ s.stays, refl))
 
@@ -51,10 +51,10 @@ module _ (config : Config) (app : App) (h t : ℕ) where
   -- raised positions from one to another, both among them, each leading to the next, none but the last a Schedule
   data Part : Position → ℕ → Position → Type 0 where
     ends : (at : Position) → IsRaisedAt at → Part at (counts at) at
-    goes : (at next to : Position) (n : ℕ) → IsRaisedAt at → is_schedule (operation_at app at) ≡ false → WalksOn app at next
+    goes : (at next to : Position) (n : ℕ) → IsRaisedAt at → is_schedule (operation_at app at) ≡ false → IsPositionStep app at next
         → Part next n to → Part at (counts at + n) to
 
-  joined : (at mid next to : Position) (n k : ℕ) → is_schedule (operation_at app mid) ≡ false → WalksOn app mid next → Part at n mid → Part next k to
+  joined : (at mid next to : Position) (n k : ℕ) → is_schedule (operation_at app mid) ≡ false → IsPositionStep app mid next → Part at n mid → Part next k to
       → Part at (n + k) to
   joined at mid next to n k calm step (ends a raised) q = goes a next to k raised calm step q
   joined at mid next to n k calm step (goes a then m size raised free first p) q =
@@ -119,14 +119,14 @@ module _ (config : Config) (app : App) (h t : ℕ) where
   one f i o item is = ap (λ p. cond (is_counted p) 1 0) item.is ∙ ap (λ b. cond b 1 0) is
 
   -- a plain item in front of a part
-  inside_front : (l : Option ℕ) (f i j n : ℕ) (outer to : Position) → Level outer ≡ l → Passes config app l f i j → Part (place f j ∷ outer) n to
+  inside_front : (l : Option ℕ) (f i j n : ℕ) (outer to : Position) → Level outer ≡ l → IsRaisedStep config app l f i j → Part (place f j ∷ outer) n to
       → Part (place f i ∷ outer) (count_of app f i + n) to
   inside_front l f i j n outer to is p part =
       goes (place f i ∷ outer) (place f j ∷ outer) to n (up_raised l f i outer is p.raised) (not_schedule f i p.step.operation p.step.item p.no_schedule)
       (step_inside app f i j outer p.step) part
 
   -- a call in front of one
-  call_front : (l : Option ℕ) (f i g n : ℕ) (outer to : Position) → Level outer ≡ l → EntersRaised config app l f i g → Part (place g 0 ∷ place f i ∷ outer) n to
+  call_front : (l : Option ℕ) (f i g n : ℕ) (outer to : Position) → Level outer ≡ l → IsRaisedCall config app l f i g → Part (place g 0 ∷ place f i ∷ outer) n to
       → Part (place f i ∷ outer) (1 + n) to
   call_front l f i g n outer to is e part =
       subst (λ v. Part (place f i ∷ outer) (v + n) to) (one f i (op.Invoke g) e.item refl)

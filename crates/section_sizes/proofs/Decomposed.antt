@@ -9,16 +9,16 @@ use Rattle.sloth_base.specs.declared.app.App.{App}
 use Rattle.sloth_base.specs.declared.app.Op.{Op}
 use Rattle.sloth_base.specs.declared.app.Op.TheVariants as op
 use Rattle.sloth_base.specs.Named.{function, operation, body_of, declaration}
-use Rattle.code_rules.specs.Code.{IsItem, GoesOn}
+use Rattle.code_rules.specs.Code.{IsItem, IsPathStep}
 use Rattle.code_rules.specs.WellFormed.{held_list_before}
 use Rattle.osek_scheduler.specs.Priority.{greatest, ceiling, highest_priority}
 use Rattle.osek_valid.specs.Apart.{static_priority}
 use Rattle.osek_valid.proofs.Facts.{Facts}
 use Rattle.osek_valid.proofs.Stacks.{has_body}
 use Rattle.section_sizes.proofs.Reaching.{called_known, reached_inside}
-use Rattle.raised_sections.specs.Walks.{Place, Position, place, GoesBack, GoesOnInside, LeadsTo, WalksOn, AreConsecutive, IsWalk, chains_itself}
+use Rattle.raised_sections.specs.Walks.{Place, Position, place, GoesBack, GoesOnInside, LeadsTo, IsPositionStep, AreConsecutive, IsWalk, chains_itself}
 use Rattle.raised_sections.specs.Sections.{held_list_along, priority_at, operation_at, is_schedule, is_counted, OnlyLastSchedules, IsSection, size_of_section}
-use Rattle.section_sizes.specs.Parts.{ceiling_before, is_raised, called_level, is_plain, count_of, StepsInside, ReachesItem, reaches_first, reaches_inside, reaches_behind, Passes, EntersRaised, CountsBack, CountsOn, back_returns, back_inside, back_passes, on_ends, on_inside, on_enters, on_passes, ReachesCall, level_behind, CountsOut, CountsWithin, out_here, out_behind, within_here, within_called, within_behind}
+use Rattle.section_sizes.specs.Parts.{ceiling_before, is_raised, called_level, is_plain, count_of, IsInnerStep, ReachesItem, reaches_first, reaches_inside, reaches_behind, IsRaisedStep, IsRaisedCall, CountsBack, CountsOn, back_returns, back_inside, back_passes, on_ends, on_inside, on_enters, on_passes, ReachesCall, level_behind, CountsOut, CountsWithin, out_here, out_behind, within_here, within_called, within_behind}
 use Rattle.bound_rules.specs.Items.{reaches_level}
 
 -- ---- priorities
@@ -136,11 +136,11 @@ module _ (config : Config) (app : App) (h t : ℕ) where
   stays f i n [] on = on
   stays f i n (caller ∷ outer) on = inl on
 
-  abbrev step_of : (o : Op) (f i j : ℕ) → IsItem app f i o → is_plain o ≡ true → GoesOn (function app f) i j → chains_itself (function app f) (operation app f i) ≡ false → StepsInside app f i j
+  abbrev step_of : (o : Op) (f i j : ℕ) → IsItem app f i o → is_plain o ≡ true → IsPathStep (function app f) i j → chains_itself (function app f) (operation app f i) ≡ false → IsInnerStep app f i j
   step_of o f i j item plain goes free = record { operation = o; item = item; plain = plain; goes_on = goes; stays = sym (ap (chains_itself (function app f)) item.is) ∙ free }
 
   -- a plain item in front
-  inside_front : (f i j n : ℕ) (outer : Position) → Passes config app (L outer) f i j → Spreads f j outer n → Spreads f i outer (count_of app f i + n)
+  inside_front : (f i j n : ℕ) (outer : Position) → IsRaisedStep config app (L outer) f i j → Spreads f j outer n → Spreads f i outer (count_of app f i + n)
   inside_front f i j n [] p s = on_inside (L []) f i j n p s
   inside_front f i j n (caller ∷ outer) p (inl on) = inl (on_inside (L (caller ∷ outer)) f i j n p on)
   inside_front f i j n (caller ∷ outer) p (inr s) =
@@ -148,7 +148,7 @@ module _ (config : Config) (app : App) (h t : ℕ) where
       inr (count_of app f i + s.0, s.1, back_inside (L (caller ∷ outer)) f i j s.0 p s.2, s.3, omega (arith, e))
 
   -- a call in front
-  call_front : (f i g n : ℕ) (outer : Position) → EntersRaised config app (L outer) f i g → L (place f i ∷ outer) ≡ None → Spreads g 0 (place f i ∷ outer) n → Spreads f i outer (1 + n)
+  call_front : (f i g n : ℕ) (outer : Position) → IsRaisedCall config app (L outer) f i g → L (place f i ∷ outer) ≡ None → Spreads g 0 (place f i ∷ outer) n → Spreads f i outer (1 + n)
   call_front f i g n outer e none (inl on) = stays f i (1 + n) outer (on_enters (L outer) f i g n e (subst (λ l. CountsOn config app l g 0 n) none on))
   call_front f i g n outer e none (inr s) =
       by outer e s.3
@@ -156,14 +156,14 @@ module _ (config : Config) (app : App) (h t : ℕ) where
       back : CountsBack config app None g 0 s.0
       back = subst (λ l. CountsBack config app l g 0 s.0) none s.2
 
-      by : (outer : Position) → EntersRaised config app (L outer) f i g → Spreads f (i + 1) outer s.1 → Spreads f i outer (1 + n)
+      by : (outer : Position) → IsRaisedCall config app (L outer) f i g → Spreads f (i + 1) outer s.1 → Spreads f i outer (1 + n)
       by [] e rest = subst (CountsOn config app (L []) f i) (let is = s.4 in omega (arith, is)) (on_passes (L []) f i g s.0 s.1 e back rest)
       by (caller ∷ outer) e (inl on) = inl (subst (CountsOn config app (L (caller ∷ outer)) f i) (let is = s.4 in omega (arith, is)) (on_passes (L (caller ∷ outer)) f i g s.0 s.1 e back on))
       by (caller ∷ outer) e (inr q) =
           inr (1 + (s.0 + q.0), q.1, back_passes (L (caller ∷ outer)) f i g s.0 q.0 e back q.2, q.3, (let is = s.4 in let more = q.4 in omega (arith, is, more)))
 
   -- one position in front
-  front : (at next : Position) (n : ℕ) → IsRaisedAt at → is_schedule (operation_at app at) ≡ false → WalksOn app at next → SpreadsAt next n
+  front : (at next : Position) (n : ℕ) → IsRaisedAt at → is_schedule (operation_at app at) ≡ false → IsPositionStep app at next → SpreadsAt next n
       → SpreadsAt at (cond (is_counted (operation_at app at)) 1 0 + n)
   front [] next n r free w s = absurd w
   front (here ∷ outer) next n r free w s =
@@ -207,7 +207,7 @@ module _ (config : Config) (app : App) (h t : ℕ) where
   Stands (here ∷ outer) = (here.func < length app.funcs) × ReachesItem app here.func here.item × AreCallers here.func outer
 
   module _ (w : Facts config app) where
-    pub stands_on : (at next : Position) → Stands at → WalksOn app at next → Stands next
+    pub stands_on : (at next : Position) → Stands at → IsPositionStep app at next → Stands next
     stands_on [] next s step = absurd s
     stands_on (here ∷ outer) next s step =
         leads_cases app step.0 here.func here.item outer next (λ o. IsItem app here.func here.item o → Stands next)

@@ -8,7 +8,7 @@ use Rattle.std.proofs.lemmas.List.Folds.{list_any-append}
 use Rattle.std.proofs.lemmas.List.Sums.{sum_by-set}
 use Rattle.code_rules.specs.Code.{is_in}
 use Rattle.section_sizes.specs.declared.graph.Ways.{Ways}
-use Rattle.section_sizes.specs.Graph.{ways_of, Goes, AreInside, IsLoop, IsOrder, unseen_way, first_of, unseen_of, is_open, leads_to_open, LeadsOn, IsChain, HasMark, IsSearching, KeepsSeen}
+use Rattle.section_sizes.specs.Graph.{ways_of, HasWay, AreInside, IsLoop, IsOrder, unseen_way, first_of, unseen_of, is_open, leads_to_open, HasWayOn, IsChain, HasMark, IsSearching, AreStillSeen}
 use Rattle.section_sizes.proofs.Unseen.{unseen_count}
 
 -- ---- members
@@ -47,7 +47,7 @@ has_more marks at i m = ⊎_elim
     inside (inl l) e = subst (λ (x : ℕ). x < length marks) e l
     inside (inr l) e = absurd (true≢false (sym m ∙ get_or_past marks i false l))
 
-pub keeps_more : (marks : List Bool) (at : ℕ) → KeepsSeen marks (set marks at true)
+pub keeps_more : (marks : List Bool) (at : ℕ) → AreStillSeen marks (set marks at true)
 keeps_more marks at i m = has_more marks at i m
 
 pub has_now : (marks : List Bool) (at : ℕ) → at < length marks → HasMark (set marks at true) at
@@ -71,21 +71,21 @@ module _ (ways : List Ways) where
   front_chain (y ∷ []) x c = (tt, tt)
   front_chain (y ∷ z ∷ xs) x c = (c.0, front_chain (z ∷ xs) x c.1)
 
-  longer_chain : (xs : List ℕ) (x y : ℕ) → Goes ways x y → IsChain ways (xs ++ x ∷ []) → IsChain ways ((xs ++ x ∷ []) ++ y ∷ [])
+  longer_chain : (xs : List ℕ) (x y : ℕ) → HasWay ways x y → IsChain ways (xs ++ x ∷ []) → IsChain ways ((xs ++ x ∷ []) ++ y ∷ [])
   longer_chain [] x y g c = (g, (tt, tt))
   longer_chain (z ∷ []) x y g c = (c.0, (g, (tt, tt)))
   longer_chain (z ∷ v ∷ xs) x y g c = (c.0, longer_chain (v ∷ xs) x y g c.1)
 
   -- each node of a chain but the last leads to one of it
   abbrev LeadsInto : (xs : List ℕ) (x i : ℕ) → Type 0
-  LeadsInto xs x i = (x ≡ i) ⊎ ((j : ℕ) × Goes ways i j × (is_in j (xs ++ x ∷ []) ≡ true))
+  LeadsInto xs x i = (x ≡ i) ⊎ ((j : ℕ) × HasWay ways i j × (is_in j (xs ++ x ∷ []) ≡ true))
 
   goes_step : (y : ℕ) (xs : List ℕ) (x i : ℕ) → IsChain ways (y ∷ (xs ++ x ∷ [])) → is_in i (y ∷ (xs ++ x ∷ [])) ≡ true
       → (is_in i (xs ++ x ∷ []) ≡ true → LeadsInto xs x i) → LeadsInto (y ∷ xs) x i
   goes_step y xs x i c h again = by (or_cases (y == i) (is_in i (xs ++ x ∷ [])) h)
     where
       -- the node behind y
-      after : (xs : List ℕ) → LeadsOn ways y (xs ++ x ∷ []) → (j : ℕ) × Goes ways y j × (is_in j (xs ++ x ∷ []) ≡ true)
+      after : (xs : List ℕ) → HasWayOn ways y (xs ++ x ∷ []) → (j : ℕ) × HasWay ways y j × (is_in j (xs ++ x ∷ []) ≡ true)
       after [] g = (x, g, at_end x [])
       after (z ∷ more) g = (z, g, yes_or (z == z) (is_in z (more ++ x ∷ [])) (eq-eqb z z refl))
 
@@ -96,7 +96,7 @@ module _ (ways : List Ways) where
       by : ((y == i) ≡ true) ⊎ (is_in i (xs ++ x ∷ []) ≡ true) → LeadsInto (y ∷ xs) x i
       by (inl e) =
           let a = after xs c.0 in
-          inr (a.0, subst (λ v. Goes ways v a.0) (eqb-true y i e) a.1, or_yes (y == a.0) (is_in a.0 (xs ++ x ∷ [])) a.2)
+          inr (a.0, subst (λ v. HasWay ways v a.0) (eqb-true y i e) a.1, or_yes (y == a.0) (is_in a.0 (xs ++ x ∷ [])) a.2)
       by (inr e) = further (again e)
 
   goes_in : (xs : List ℕ) (x i : ℕ) → IsChain ways (xs ++ x ∷ []) → is_in i (xs ++ x ∷ []) ≡ true → LeadsInto xs x i
@@ -124,18 +124,18 @@ module _ (ways : List Ways) where
       by true e h = e
       by false e h = absurd cc
 
-  pub unseen_is : (seen : List Bool) (i j : ℕ) → unseen_of ways seen i ≡ Some j → Goes ways i j × (get_or seen j false ≡ false)
+  pub unseen_is : (seen : List Bool) (i j : ℕ) → unseen_of ways seen i ≡ Some j → HasWay ways i j × (get_or seen j false ≡ false)
   unseen_is seen i j e = by (unseen_way seen (ways_of ways i).next) refl e
     where
       by : (o : Option ℕ) → unseen_way seen (ways_of ways i).next ≡ o → first_of o (unseen_way seen (ways_of ways i).jump) ≡ Some j
-          → Goes ways i j × (get_or seen j false ≡ false)
+          → HasWay ways i j × (get_or seen j false ≡ false)
       by None is h = let f = of_way seen (ways_of ways i).jump j h in (inr f.0, f.1)
       by (Some k) is h = let f = of_way seen (ways_of ways i).next j (is ∙ h) in (inl f.0, f.1)
 
-  pub all_seen : (seen : List Bool) (i j : ℕ) → unseen_of ways seen i ≡ None → Goes ways i j → HasMark seen j
+  pub all_seen : (seen : List Bool) (i j : ℕ) → unseen_of ways seen i ≡ None → HasWay ways i j → HasMark seen j
   all_seen seen i j e g = by (unseen_way seen (ways_of ways i).next) refl e g
     where
-      by : (o : Option ℕ) → unseen_way seen (ways_of ways i).next ≡ o → first_of o (unseen_way seen (ways_of ways i).jump) ≡ None → Goes ways i j → HasMark seen j
+      by : (o : Option ℕ) → unseen_way seen (ways_of ways i).next ≡ o → first_of o (unseen_way seen (ways_of ways i).jump) ≡ None → HasWay ways i j → HasMark seen j
       by None is h (inl f) = all_of_way seen (ways_of ways i).next j is f
       by None is h (inr f) = all_of_way seen (ways_of ways i).jump j h f
       by (Some k) is h f = absurd cc
@@ -156,10 +156,10 @@ module _ (ways : List Ways) where
       by true e = refl
       by false e = absurd (true≢false e)
 
-  open_is : (done : List Bool) (i : ℕ) → leads_to_open ways done i ≡ true → (j : ℕ) × Goes ways i j × (get_or done j false ≡ false)
+  open_is : (done : List Bool) (i : ℕ) → leads_to_open ways done i ≡ true → (j : ℕ) × HasWay ways i j × (get_or done j false ≡ false)
   open_is done i e = by (or_cases (is_open done (ways_of ways i).next) (is_open done (ways_of ways i).jump) e)
     where
-      by : (is_open done (ways_of ways i).next ≡ true) ⊎ (is_open done (ways_of ways i).jump ≡ true) → (j : ℕ) × Goes ways i j × (get_or done j false ≡ false)
+      by : (is_open done (ways_of ways i).next ≡ true) ⊎ (is_open done (ways_of ways i).jump ≡ true) → (j : ℕ) × HasWay ways i j × (get_or done j false ≡ false)
       by (inl h) = let f = open_of done (ways_of ways i).next h in (f.0, inl f.1, f.2)
       by (inr h) = let f = open_of done (ways_of ways i).jump h in (f.0, inr f.1, f.2)
 
@@ -167,7 +167,7 @@ module _ (ways : List Ways) where
   both_false true b e = absurd (true≢false e)
   both_false false b e = (refl, e)
 
-  all_done : (done : List Bool) (i j : ℕ) → leads_to_open ways done i ≡ false → Goes ways i j → HasMark done j
+  all_done : (done : List Bool) (i j : ℕ) → leads_to_open ways done i ≡ false → HasWay ways i j → HasMark done j
   all_done done i j e g =
       let f = both_false (is_open done (ways_of ways i).next) (is_open done (ways_of ways i).jump) e in
       ⊎_elim (λ h. closed_of done (ways_of ways i).next j f.0 h) (λ h. closed_of done (ways_of ways i).jump j f.1 h) g
@@ -208,10 +208,10 @@ module _ (ways : List Ways) where
     looped none opens = record {
       some = (from, at_end from rest);
       inside = λ i h. (t.stacked i h).0;
-      goes = λ i h. ⊎_elim (λ e. subst (λ (v : ℕ). (j : ℕ) × Goes ways v j × (is_in j (rest ++ from ∷ []) ≡ true)) e back) (λ g. g) (goes_in rest from i t.chain h);
+      goes = λ i h. ⊎_elim (λ e. subst (λ (v : ℕ). (j : ℕ) × HasWay ways v j × (is_in j (rest ++ from ∷ []) ≡ true)) e back) (λ g. g) (goes_in rest from i t.chain h);
     }
       where
-        back : (j : ℕ) × Goes ways from j × (is_in j (rest ++ from ∷ []) ≡ true)
+        back : (j : ℕ) × HasWay ways from j × (is_in j (rest ++ from ∷ []) ≡ true)
         back =
             let f = open_is done from opens in
             (f.0, f.1, ⊎_elim (λ g. g) (λ g. absurd (true≢false (sym g ∙ f.2))) (t.held f.0 (all_seen seen from f.0 none f.1)))
@@ -236,16 +236,16 @@ module _ (ways : List Ways) where
         here : HasMark (set done from true) from
         here = has_now done from (subst (λ n. from < n) (sym t.done_count) known)
 
-        at : (k j : ℕ) → (k < length order) ⊎ (length order ≤ k) → k < length order + 1 → Goes ways (get_or (order ++ from ∷ []) k 0) j
+        at : (k j : ℕ) → (k < length order) ⊎ (length order ≤ k) → k < length order + 1 → HasWay ways (get_or (order ++ from ∷ []) k 0) j
             → is_in j (take k (order ++ from ∷ [])) ≡ true
         at k j (inl lt) less g =
             ap (is_in j) (take-append-le k order (from ∷ []) (omega (arith, lt)))
-            ∙ t.behind k j lt (subst (λ v. Goes ways v j) (get_or_append_left order (from ∷ []) 0 k lt) g)
+            ∙ t.behind k j lt (subst (λ v. HasWay ways v j) (get_or_append_left order (from ∷ []) 0 k lt) g)
         at k j (inr ge) less g =
             let e : k ≡ length order = omega (arith, ge, less) in
-            let P : ℕ → Type 0 = λ v. Goes ways (get_or (order ++ from ∷ []) v 0) j → is_in j (take v (order ++ from ∷ [])) ≡ true in
+            let P : ℕ → Type 0 = λ v. HasWay ways (get_or (order ++ from ∷ []) v 0) j → is_in j (take v (order ++ from ∷ [])) ≡ true in
             subst P (sym e) (λ g. ap (is_in j) (take-append_seam order (from ∷ []))
-            ∙ t.listed j (all_done done from j closed (subst (λ v. Goes ways v j) (get_or-append_seam order from [] 0) g))) g
+            ∙ t.listed j (all_done done from j closed (subst (λ v. HasWay ways v j) (get_or-append_seam order from [] 0) g))) g
 
     -- the same as the code has it
     pub pushed_as : AreInside ways → (node : ℕ) → unseen_of ways seen from ≡ Some node → (new : List Bool) (mid longer : List ℕ)

@@ -8,7 +8,7 @@ use Rattle.sloth_base.specs.declared.app.Op.TheVariants as op
 use Rattle.sloth_base.specs.Named.{item_of, label_of}
 use Rattle.code_rules.specs.Code.{is_followed, way}
 use Rattle.section_sizes.specs.declared.graph.Ways.{Ways}
-use Rattle.section_sizes.specs.Graph.{ways_of, Goes, AreInside, no_ways}
+use Rattle.section_sizes.specs.Graph.{ways_of, HasWay, AreInside, no_ways}
 use Rattle.section_sizes.specs.Parts.{is_plain}
 use Rattle.section_sizes.specs.Computed.{open_way, goes_past, next_way, label_way, item_ways}
 
@@ -70,7 +70,7 @@ module _ (f : Func) (passed going open_items : List Bool) (ways : List Ways) (co
     pub is_open : get_or open_items j false ≡ true
     pub on : LeadsOn i j
 
-  pub led : (i j : ℕ) → Goes ways i j → Led i j
+  pub led : (i j : ℕ) → HasWay ways i j → Led i j
   led i j g = by (cases_lt i (length f.items))
     where
       next : (b : Bool) → get_or going i false ≡ b → i < length f.items → (cond b (record { next = next_way f passed open_items i; jump = label_way f open_items (way (item_of f i).op) }) no_ways).next ≡ Some j → Led i j
@@ -102,13 +102,13 @@ module _ (f : Func) (passed going open_items : List Bool) (ways : List Ways) (co
           no_way : (j : ℕ) → None ≡ Some j → ⊥
           no_way j e = cc
 
-  pub leads : (i j : ℕ) → Led i j → Goes ways i j
+  pub leads : (i j : ℕ) → Led i j → HasWay ways i j
   leads i j l = by l.on
     where
       is : ways_of ways i ≡ record { next = next_way f passed open_items i; jump = label_way f open_items (way (item_of f i).op) }
       is = exact i l.inside ∙ ap (λ b. cond b (record { next = next_way f passed open_items i; jump = label_way f open_items (way (item_of f i).op) }) no_ways) l.goes
 
-      by : LeadsOn i j → Goes ways i j
+      by : LeadsOn i j → HasWay ways i j
       by (inl h) =
           inl (ap (λ w. w.next) is ∙ ap (λ b. cond b (open_way open_items (i + 1)) None) h.0 ∙ ap (open_way open_items) (sym h.1) ∙ to_open open_items j l.is_open)
       by (inr h) = inr (ap (λ w. w.jump) is ∙ ap (label_way f open_items) h.1 ∙ ap (open_way open_items) (sym h.2) ∙ to_open open_items j l.is_open)

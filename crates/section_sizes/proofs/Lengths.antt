@@ -4,7 +4,7 @@ use Rattle.std.specs.Prelude.{◌==◌}
 use Rattle.std.proofs.lemmas.Bool.{cases_eq, cases_lt, ne_eqb}
 use Rattle.sloth_base.specs.Limits.{size_limit}
 use Rattle.section_sizes.specs.declared.graph.Ways.{Ways}
-use Rattle.section_sizes.specs.Graph.{ways_of, Goes}
+use Rattle.section_sizes.specs.Graph.{ways_of, HasWay}
 use Rattle.section_sizes.specs.Trails.{last_of, size_of_trail, IsEnded, AreSizes, IsLongest, along, longest_from}
 
 module _ (ways : List Ways) (steps ends : List ℕ) (sizes : AreSizes ways steps ends) where
@@ -32,7 +32,7 @@ module _ (ways : List Ways) (steps ends : List ℕ) (sizes : AreSizes ways steps
             nothing v e lt = let P : ℕ → Type 0 = λ x. 0 < cond (x == 0) 0 (min size_limit (step + x)) in let z = subst P e lt in absurd (omega (arith, z))
         by (inr n) = let p : 0 < get_or table j 0 = omega (arith, n) in (j, refl, p, along_some step j p)
 
-    module _ (i : ℕ) (known : (j : ℕ) → Goes ways i j → IsLongest ways steps ends j (get_or table j 0)) where
+    module _ (i : ℕ) (known : (j : ℕ) → HasWay ways i j → IsLongest ways steps ends j (get_or table j 0)) where
       abbrev step : ℕ
       step = get_or steps i 0
 
@@ -49,7 +49,7 @@ module _ (ways : List Ways) (steps ends : List ℕ) (sizes : AreSizes ways steps
       value = max end (max by_next by_jump)
 
       -- a trail along a way is no longer than what is computed of it
-      along_covers : (way : Option ℕ) (j : ℕ) (further : List ℕ) → way ≡ Some j → Goes ways i j → IsEnded ways ends j further
+      along_covers : (way : Option ℕ) (j : ℕ) (further : List ℕ) → way ≡ Some j → HasWay ways i j → IsEnded ways ends j further
           → min size_limit (step + size_of_trail steps ends j further) ≤ along table step way
       along_covers way j further is goes e =
           let le = (known j goes).none_longer further e in
@@ -65,7 +65,7 @@ module _ (ways : List Ways) (steps ends : List ℕ) (sizes : AreSizes ways steps
           rest : IsEnded ways ends j further
           rest = record { trail = e.trail.1; adds = e.adds }
 
-          by : Goes ways i j → min size_limit (step + size_of_trail steps ends j further) ≤ value
+          by : HasWay ways i j → min size_limit (step + size_of_trail steps ends j further) ≤ value
           by (inl is) = let le = along_covers (ways_of ways i).next j further is (inl is) rest in omega (arith, le)
           by (inr is) = let le = along_covers (ways_of ways i).jump j further is (inr is) rest in omega (arith, le)
 
@@ -73,7 +73,7 @@ module _ (ways : List Ways) (steps ends : List ℕ) (sizes : AreSizes ways steps
       abbrev Attains : ℕ → Type 0
       Attains size = (further : List ℕ) × IsEnded ways ends i further × (min size_limit (size_of_trail steps ends i further) ≡ size)
 
-      along_attains : (way : Option ℕ) → ((j : ℕ) → way ≡ Some j → Goes ways i j) → 0 < along table step way → Attains (along table step way)
+      along_attains : (way : Option ℕ) → ((j : ℕ) → way ≡ Some j → HasWay ways i j) → 0 < along table step way → Attains (along table step way)
       along_attains way goes lt =
           let f = along_is step way lt in
           let g = goes f.0 f.1 in

@@ -6,8 +6,8 @@ use Rattle.sloth_base.specs.declared.app.App.{App}
 use Rattle.sloth_base.specs.declared.app.Op.TheVariants as op
 use Rattle.sloth_base.specs.Named.{operation}
 use Rattle.raised_sections.specs.Sections.{is_counted}
-use Rattle.section_sizes.specs.Graph.{Goes}
-use Rattle.section_sizes.specs.Parts.{level_behind, ReachesItem, reaches_first, reaches_inside, ReachesCall, EntersRaised, CountsBack, CountsOn, CountsOut, CountsWithin, on_ends, on_inside, on_enters, on_passes, out_here, out_behind, within_here, within_called, within_behind}
+use Rattle.section_sizes.specs.Graph.{HasWay}
+use Rattle.section_sizes.specs.Parts.{level_behind, ReachesItem, reaches_first, reaches_inside, ReachesCall, IsRaisedCall, CountsBack, CountsOn, CountsOut, CountsWithin, on_ends, on_inside, on_enters, on_passes, out_here, out_behind, within_here, within_called, within_behind}
 use Rattle.section_sizes.specs.Known.{HasLimit}
 use Rattle.section_sizes.proofs.Unlimited.{place, times, value, way_exceeds_none}
 use Rattle.section_sizes.proofs.Measured.{Measures, Sizes, living, itself, on_begins, goes_inside, goes_behind, passed_some, reached_behind, reached_after, back_on, there}
@@ -31,8 +31,8 @@ at_most_one false = omega arith
 
 -- a limit of the parts of all functions that are called, at their levels
 pub record CalledLimit (config : Config) (app : App) (level : Option ℕ) (f limit : ℕ) : Type 0 where
-  pub on : (i g n : ℕ) → ReachesItem app f i → EntersRaised config app level f i g → CountsOn config app None g 0 n → n ≤ limit
-  pub back : (i g n : ℕ) → ReachesItem app f i → EntersRaised config app level f i g → CountsBack config app None g 0 n → n ≤ limit
+  pub on : (i g n : ℕ) → ReachesItem app f i → IsRaisedCall config app level f i g → CountsOn config app None g 0 n → n ≤ limit
+  pub back : (i g n : ℕ) → ReachesItem app f i → IsRaisedCall config app level f i g → CountsBack config app None g 0 n → n ≤ limit
   pub most : (i g n : ℕ) → ReachesCall app f i g → CountsWithin config app (level_behind config app level f i) g n → n ≤ limit
   pub out : (i g n : ℕ) → ReachesCall app f i g → CountsOut config app (level_behind config app level f i) g n → n ≤ limit
 
@@ -42,7 +42,7 @@ module _ (config : Config) (app : App) where
   high level f m z limit i = value m.ways z.order z.is_order (limit + 2) i
 
   inside_high : (level : Option ℕ) (f : ℕ) (m : Measures config app level f) (z : Sizes config app level f m) (limit i j : ℕ)
-      → i < length m.ways → Goes m.ways i j → limit + 2 + high level f m z limit j ≤ high level f m z limit i
+      → i < length m.ways → HasWay m.ways i j → limit + 2 + high level f m z limit j ≤ high level f m z limit i
   inside_high level f m z limit i j lt g = way_exceeds_none m.ways z.order z.is_order (limit + 2) i j lt g
 
   on_high : (level : Option ℕ) (f i n : ℕ) (m : Measures config app level f) (z : Sizes config app level f m) (limit : ℕ) → CalledLimit config app level f limit

@@ -8,16 +8,16 @@ use Rattle.sloth_base.specs.declared.app.Op.{Op}
 use Rattle.sloth_base.specs.declared.app.Op.TheVariants as op
 use Rattle.sloth_base.specs.Named.{function, operation}
 use Rattle.sloth_base.specs.Limits.{size_limit}
-use Rattle.code_rules.specs.Code.{IsItem, GoesOn, is_followed, way, is_in}
+use Rattle.code_rules.specs.Code.{IsItem, IsPathStep, is_followed, way, is_in}
 use Rattle.osek_valid.proofs.Facts.{Facts}
 use Rattle.raised_sections.specs.Walks.{chains_itself}
 use Rattle.raised_sections.specs.Sections.{is_schedule, is_counted}
 use Rattle.section_sizes.specs.declared.graph.Ways.{Ways}
 use Rattle.bound_rules.specs.declared.bodies.Body.{Body}
 use Rattle.bound_rules.specs.declared.sizes.Summary.{Summary}
-use Rattle.section_sizes.specs.Graph.{ways_of, Goes, AreInside, IsLoop, IsOrder}
+use Rattle.section_sizes.specs.Graph.{ways_of, HasWay, AreInside, IsLoop, IsOrder}
 use Rattle.section_sizes.specs.Trails.{size_of_trail, IsEnded, IsLongest}
-use Rattle.section_sizes.specs.Parts.{is_raised, is_plain, count_of, ReachesItem, Returns, reaches_first, reaches_inside, reaches_behind, Passes, EntersRaised, CountsBack, CountsOn, CountsWithin, back_returns, back_inside, back_passes, on_ends, on_inside, on_enters, on_passes, within_here, ReachesCall, level_behind, CountsOut, out_here, out_behind}
+use Rattle.section_sizes.specs.Parts.{is_raised, is_plain, count_of, ReachesItem, CanReturn, reaches_first, reaches_inside, reaches_behind, IsRaisedStep, IsRaisedCall, CountsBack, CountsOn, CountsWithin, back_returns, back_inside, back_passes, on_ends, on_inside, on_enters, on_passes, within_here, ReachesCall, level_behind, CountsOut, out_here, out_behind}
 use Rattle.bound_rules.specs.Items.{reaches_level, is_going}
 use Rattle.section_sizes.specs.Computed.{goes_past, item_ways, is_passed, joined, count, going_size, ending_size, leaving_size, is_alive}
 use Rattle.bound_rules.specs.Summaries.{summary_of}
@@ -54,7 +54,7 @@ module _ (config : Config) (app : App) where
   back_some level f i n (back_passes l a k g m q e inner further) = omega arith
 
   -- where it leads a walk returns
-  pub back_returned : (level : Option ℕ) (f i n : ℕ) → CountsBack config app level f i n → ReachesItem app f i → Returns app f
+  pub back_returned : (level : Option ℕ) (f i n : ℕ) → CountsBack config app level f i n → ReachesItem app f i → CanReturn app f
   back_returned level f i n (back_returns l g k item raised) r = (k, r, item)
   back_returned level f i n (back_inside l g k j m p further) r = back_returned l g j m further (reaches_inside g k j r p.step)
   back_returned level f i n (back_passes l a k g m q e inner further) r =
@@ -69,7 +69,7 @@ module _ (config : Config) (app : App) where
   back_on level f i n (back_passes l a k g m q e inner further) = on_passes l a k g m q e inner (back_on l a (k + 1) q further)
 
   -- where a part that ends with a `ret` began, the function was entered, and it returns
-  returned : (level : Option ℕ) (f n : ℕ) → CountsOut config app level f n → Returns app f
+  returned : (level : Option ℕ) (f n : ℕ) → CountsOut config app level f n → CanReturn app f
   returned level f n (out_here l g i m r b) = back_returned l g i m b r
   returned level f n (out_behind l a i g m q c inner b) =
       let ret = returned (level_behind config app l a i) g m inner in
@@ -110,7 +110,7 @@ returns_is (op.Invoke g) lt = absurd (omega (arith, lt))
 returns_is _ lt = absurd (omega (arith, lt))
 
 -- a trail is extended by a node
-going : (ways : List Ways) (steps ends : List ℕ) (i j u v : ℕ) → Goes ways i j → IsLongest ways steps ends i u → IsLongest ways steps ends j v → 0 < v
+going : (ways : List Ways) (steps ends : List ℕ) (i j u v : ℕ) → HasWay ways i j → IsLongest ways steps ends i u → IsLongest ways steps ends j v → 0 < v
     → min size_limit (get_or steps i 0 + v) ≤ u
 going ways steps ends i j u v g a b pos =
     let t = b.attained pos in
@@ -138,8 +138,8 @@ pub record Measures (config : Config) (app : App) (level : Option ℕ) (f : ℕ)
   pub ways_count : length ways ≡ length (function app f).items
   pub ways_are : (i : ℕ) → i < length (function app f).items → ways_of ways i ≡ item_ways (function app f) passed going alive i
   -- the functions that are called where the task is raised
-  pub called_on : (i g : ℕ) → ReachesItem app f i → EntersRaised config app level f i g → IsGreatestPart (CountsOn config app None g 0) (summary_of whole g).on
-  pub called_back : (i g : ℕ) → ReachesItem app f i → EntersRaised config app level f i g → IsGreatestPart (CountsBack config app None g 0) (summary_of whole g).back
+  pub called_on : (i g : ℕ) → ReachesItem app f i → IsRaisedCall config app level f i g → IsGreatestPart (CountsOn config app None g 0) (summary_of whole g).on
+  pub called_back : (i g : ℕ) → ReachesItem app f i → IsRaisedCall config app level f i g → IsGreatestPart (CountsBack config app None g 0) (summary_of whole g).back
 
 -- the sizes of parts
 pub record Sizes (config : Config) (app : App) (level : Option ℕ) (f : ℕ) (m : Measures config app level f) : Type 0 where
@@ -197,13 +197,13 @@ module _ (config : Config) (app : App) (level : Option ℕ) (f : ℕ) (m : Measu
 
   -- a part goes on from item i to item j
   pub data Link (i j : ℕ) : Type 0 where
-    link_inside : Passes config app level f i j → Lives i → Lives j → Link i j
-    link_behind : (g : ℕ) → EntersRaised config app level f i g → 0 < (summary_of m.whole g).back → Lives i → j ≡ i + 1 → Lives j → Link i j
+    link_inside : IsRaisedStep config app level f i j → Lives i → Lives j → Link i j
+    link_behind : (g : ℕ) → IsRaisedCall config app level f i g → 0 < (summary_of m.whole g).back → Lives i → j ≡ i + 1 → Lives j → Link i j
 
   abbrev Lead : ℕ → ℕ → Type 0
   Lead i j = Led (function app f) m.passed m.going m.alive m.ways m.ways_count m.ways_are i j
 
-  pub link : (i j : ℕ) → Goes m.ways i j → Link i j
+  pub link : (i j : ℕ) → HasWay m.ways i j → Link i j
   link i j g = by l.on
     where
       l : Lead i j
@@ -221,7 +221,7 @@ module _ (config : Config) (app : App) (level : Option ℕ) (f : ℕ) (m : Measu
       next : Lives j
       next = lives j l.is_open
 
-      inside_step : is_plain (operation app f i) ≡ true → GoesOn (function app f) i j → Link i j
+      inside_step : is_plain (operation app f i) ≡ true → IsPathStep (function app f) i j → Link i j
       inside_step plain goes =
           link_inside (record {
             step = step_of app f i j m.known l.inside (not_true (chains_itself (function app f) (operation app f i)) calm.1) plain goes;
@@ -243,7 +243,7 @@ module _ (config : Config) (app : App) (level : Option ℕ) (f : ℕ) (m : Measu
       ∙ and_join (get_or m.alive i false) (not (is_schedule (operation app f i)) && not (chains_itself (function app f) (operation app f i))) (alive_at i l)
       (and_join (not (is_schedule (operation app f i))) (not (chains_itself (function app f) (operation app f i))) (ap not calm) (ap not stays))
 
-  pub goes_inside : (i j : ℕ) → Passes config app level f i j → Lives i → Lives j → Goes m.ways i j
+  pub goes_inside : (i j : ℕ) → IsRaisedStep config app level f i j → Lives i → Lives j → HasWay m.ways i j
   goes_inside i j p a b =
       leads (function app f) m.passed m.going m.alive m.ways m.ways_count m.ways_are i j (record {
         inside = a.item.inside;
@@ -252,7 +252,7 @@ module _ (config : Config) (app : App) (level : Option ℕ) (f : ℕ) (m : Measu
         on = ⊎_elim (λ h. inl (plain_past m.passed (operation app f i) (ap is_plain p.step.item.is ∙ p.step.plain) h.0, h.1)) (λ h. inr (h.0, h.1, h.2)) p.step.goes_on;
       })
 
-  pub goes_behind : (i g : ℕ) → EntersRaised config app level f i g → 0 < (summary_of m.whole g).back → Lives i → Lives (i + 1) → Goes m.ways i (i + 1)
+  pub goes_behind : (i g : ℕ) → IsRaisedCall config app level f i g → 0 < (summary_of m.whole g).back → Lives i → Lives (i + 1) → HasWay m.ways i (i + 1)
   goes_behind i g e pos a b =
       leads (function app f) m.passed m.going m.alive m.ways m.ways_count m.ways_are i (i + 1) (record {
         inside = a.item.inside;
@@ -271,7 +271,7 @@ module _ (config : Config) (app : App) (level : Option ℕ) (f : ℕ) (m : Measu
 
   -- ---- a loop
 
-  counts : (i j : ℕ) (o : Op) → IsItem app f i o → GoesOn (function app f) i j → count_of app f i ≡ 1
+  counts : (i j : ℕ) (o : Op) → IsItem app f i o → IsPathStep (function app f) i j → count_of app f i ≡ 1
   counts i j o item (inl g) = ap (λ b. cond b 1 0) (goes_counts (operation app f i) (inl g.0))
   counts i j o item (inr g) = ap (λ b. cond b 1 0) (goes_counts (operation app f i) (inr (g.0, g.1)))
 
@@ -360,7 +360,7 @@ module _ (config : Config) (app : App) (level : Option ℕ) (f : ℕ) (m : Measu
             let e = end_is i a ∙ n.1 in
             omega (arith, le, e)
 
-    pub enters : (i g n : ℕ) → Lives i → EntersRaised config app level f i g → CountsOn config app None g 0 n → min size_limit (1 + n) ≤ on_at i
+    pub enters : (i g n : ℕ) → Lives i → IsRaisedCall config app level f i g → CountsOn config app None g 0 n → min size_limit (1 + n) ≤ on_at i
     enters i g n a e inner =
         let le = ends_enough i a in
         let is = end_is i a ∙ ap (ending_size m.whole) e.item.is in
@@ -369,7 +369,7 @@ module _ (config : Config) (app : App) (level : Option ℕ) (f : ℕ) (m : Measu
 
     -- ---- one step more
 
-    pub step_on : (i j q : ℕ) → Passes config app level f i j → Lives i → Lives j → min size_limit q ≤ on_at j → min size_limit (count_of app f i + q) ≤ on_at i
+    pub step_on : (i j q : ℕ) → IsRaisedStep config app level f i j → Lives i → Lives j → min size_limit q ≤ on_at j → min size_limit (count_of app f i + q) ≤ on_at i
     step_on i j q p here next le = by (cases_eq (on_at j) 0)
       where
         by : (on_at j ≡ 0) ⊎ (on_at j ≡ 0 → ⊥) → min size_limit (count_of app f i + q) ≤ on_at i
@@ -379,19 +379,19 @@ module _ (config : Config) (app : App) (level : Option ℕ) (f : ℕ) (m : Measu
             let step = step_is i here ∙ plain_adds m.whole (operation app f i) (ap is_plain p.step.item.is ∙ p.step.plain) in
             omega (arith, le, more, step)
 
-    pub step_back : (i j q : ℕ) → Passes config app level f i j → Lives i → Lives j → 0 < q → min size_limit q ≤ back_at j → min size_limit (count_of app f i + q) ≤ back_at i
+    pub step_back : (i j q : ℕ) → IsRaisedStep config app level f i j → Lives i → Lives j → 0 < q → min size_limit q ≤ back_at j → min size_limit (count_of app f i + q) ≤ back_at i
     step_back i j q p here next some le =
         let more = going m.ways z.steps z.leaves i j (back_at i) (back_at j) (goes_inside i j p here next) (z.back_is i (there i here)) (z.back_is j (there j next)) (omega (arith, le, some)) in
         let step = step_is i here ∙ plain_adds m.whole (operation app f i) (ap is_plain p.step.item.is ∙ p.step.plain) in
         omega (arith, le, more, step)
 
-    pub passed_some : (i g q : ℕ) → EntersRaised config app level f i g → Lives i → CountsBack config app None g 0 q → 0 < (summary_of m.whole g).back
+    pub passed_some : (i g q : ℕ) → IsRaisedCall config app level f i g → Lives i → CountsBack config app None g 0 q → 0 < (summary_of m.whole g).back
     passed_some i g q e here inner =
         let small = (m.called_back i g here.reached e).none_larger q inner in
         let some = back_some config app None g 0 q inner in
         omega (arith, small, some)
 
-    pub pass_on : (i g q s : ℕ) → EntersRaised config app level f i g → Lives i → Lives (i + 1) → CountsBack config app None g 0 q → min size_limit s ≤ on_at (i + 1)
+    pub pass_on : (i g q s : ℕ) → IsRaisedCall config app level f i g → Lives i → Lives (i + 1) → CountsBack config app None g 0 q → min size_limit s ≤ on_at (i + 1)
         → min size_limit (1 + (q + s)) ≤ on_at i
     pass_on i g q s e here next inner le = by (cases_eq (on_at (i + 1)) 0)
       where
@@ -404,7 +404,7 @@ module _ (config : Config) (app : App) (level : Option ℕ) (f : ℕ) (m : Measu
             let step = step_is i here ∙ ap (going_size m.whole) e.item.is in
             omega (arith, le, more, step, small)
 
-    pub pass_back : (i g q s : ℕ) → EntersRaised config app level f i g → Lives i → Lives (i + 1) → CountsBack config app None g 0 q → 0 < s → min size_limit s ≤ back_at (i + 1)
+    pub pass_back : (i g q s : ℕ) → IsRaisedCall config app level f i g → Lives i → Lives (i + 1) → CountsBack config app None g 0 q → 0 < s → min size_limit s ≤ back_at (i + 1)
         → min size_limit (1 + (q + s)) ≤ back_at i
     pass_back i g q s e here next inner some le =
         let small = (m.called_back i g here.reached e).none_larger q inner in
@@ -437,7 +437,7 @@ module _ (config : Config) (app : App) (level : Option ℕ) (f : ℕ) (m : Measu
             (count_of app f i, on_ends level f i a.item a.raised, omega (arith, e))
         by (inl g) = at (cases_eq (summary_of m.whole g.0).on 0)
           where
-            enter : EntersRaised config app level f i g.0
+            enter : IsRaisedCall config app level f i g.0
             enter = record { item = record { known = m.known; inside = a.item.inside; is = g.1 }; raised = a.raised }
 
             is : get_or z.ends i 0 ≡ joined 1 (summary_of m.whole g.0).on

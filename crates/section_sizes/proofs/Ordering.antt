@@ -7,7 +7,7 @@ use Rattle.std.proofs.Math.Seq.{take-suc}
 use Rattle.sloth_base.specs.Limits.{size_limit}
 use Rattle.code_rules.specs.Code.{is_in}
 use Rattle.section_sizes.specs.declared.graph.Ways.{Ways}
-use Rattle.section_sizes.specs.Graph.{ways_of, Goes, IsOrder}
+use Rattle.section_sizes.specs.Graph.{ways_of, HasWay, IsOrder}
 use Rattle.section_sizes.specs.Trails.{AreSizes, IsSmall, IsLongest, along, longest_from}
 use Rattle.section_sizes.proofs.Diving.{front_or_end}
 use Rattle.section_sizes.proofs.Lengths.{is_longest}
@@ -51,7 +51,7 @@ module _ (ways : List Ways) (steps ends order : List ℕ) (o : IsOrder ways orde
     pub small : IsSmall table
     pub known : Known table k
 
-  pub way_known : (table : List ℕ) (k j : ℕ) → length table ≡ length ways → k < length order → Goes ways (get_or order k 0) j → j < length table
+  pub way_known : (table : List ℕ) (k j : ℕ) → length table ≡ length ways → k < length order → HasWay ways (get_or order k 0) j → j < length table
   way_known table k j count lt g =
       let inside = o.inside j (from_front order k j (o.behind k j lt g)) in
       omega (arith, count, inside)

@@ -5,7 +5,7 @@ use Rattle.std.proofs.lemmas.Bool.Decides.{leb_tells}
 use Rattle.std.proofs.lemmas.List.{length-set, length-append, get_or_append_left, take-append-le, get_or_past}
 use Rattle.std.proofs.Math.Seq.{get_or-append_seam, take-append_seam}
 use Rattle.sloth_base.specs.declared.app.App.{App}
-use Rattle.code_rules.specs.Code.{is_in, Calls}
+use Rattle.code_rules.specs.Code.{is_in, HasCall}
 use Rattle.call_graph.specs.declared.ranking.Ranks.{Ranks}
 use Rattle.call_graph.specs.Ranks.{RanksOf}
 use Rattle.section_sizes.specs.Graph.{HasMark}
@@ -55,7 +55,7 @@ module _ (ranks : List ℕ) (done : List Bool) (n : ℕ) where
       by true e best l = let P : Bool → Type 0 = λ b. IsLeastRank ranks done (n + 1) (cond b best (lesser_of ranks best n)) in subst P (sym e) (marked best e l)
       by false e best l = let P : Bool → Type 0 = λ b. IsLeastRank ranks done (n + 1) (cond b best (lesser_of ranks best n)) in subst P (sym e) (undone_best best e l)
 
-module _ (app : App) (ranks : Ranks) (belong : RanksOf app ranks) (known : (f g : ℕ) → Calls app f g → g < length app.funcs) (done : List Bool) (order : List ℕ)
+module _ (app : App) (ranks : Ranks) (belong : RanksOf app ranks) (known : (f g : ℕ) → HasCall app f g → g < length app.funcs) (done : List Bool) (order : List ℕ)
     (o : IsOrdering app done order) where
   -- the function of least rank is put behind the others
   pub one_more : (f : ℕ) → IsLeastRank ranks.rank done (length ranks.rank) (Some f) → IsOrdering app (set done f true) (order ++ f ∷ [])
@@ -78,7 +78,7 @@ module _ (app : App) (ranks : Ranks) (belong : RanksOf app ranks) (known : (f g 
       here : HasMark (set done f true) f
       here = has_now done f (let t = there in let c = o.count in omega (arith, t, c))
 
-      called : (g : ℕ) → Calls app f g → is_in g order ≡ true
+      called : (g : ℕ) → HasCall app f g → is_in g order ≡ true
       called g calls = by (get_or done g false) refl
         where
           by : (b : Bool) → get_or done g false ≡ b → is_in g order ≡ true
@@ -90,16 +90,16 @@ module _ (app : App) (ranks : Ranks) (belong : RanksOf app ranks) (known : (f g 
               let le = l.2 g (omega (arith, k, c)) e in
               absurd (omega (arith, less, le))
 
-      at : (k g : ℕ) → (k < length order) ⊎ (length order ≤ k) → k < length order + 1 → Calls app (get_or (order ++ f ∷ []) k 0) g
+      at : (k g : ℕ) → (k < length order) ⊎ (length order ≤ k) → k < length order + 1 → HasCall app (get_or (order ++ f ∷ []) k 0) g
           → is_in g (take k (order ++ f ∷ [])) ≡ true
       at k g (inl lt) less calls =
           ap (is_in g) (take-append-le k order (f ∷ []) (omega (arith, lt)))
-          ∙ o.behind k g lt (subst (λ v. Calls app v g) (get_or_append_left order (f ∷ []) 0 k lt) calls)
+          ∙ o.behind k g lt (subst (λ v. HasCall app v g) (get_or_append_left order (f ∷ []) 0 k lt) calls)
       at k g (inr ge) less calls =
           let e : k ≡ length order = omega (arith, ge, less) in
-          let P : ℕ → Type 0 = λ v. Calls app (get_or (order ++ f ∷ []) v 0) g → is_in g (take v (order ++ f ∷ [])) ≡ true in
+          let P : ℕ → Type 0 = λ v. HasCall app (get_or (order ++ f ∷ []) v 0) g → is_in g (take v (order ++ f ∷ [])) ≡ true in
           subst P (sym e) (λ calls. ap (is_in g) (take-append_seam order (f ∷ []))
-          ∙ called g (subst (λ v. Calls app v g) (get_or-append_seam order f [] 0) calls)) calls
+          ∙ called g (subst (λ v. HasCall app v g) (get_or-append_seam order f [] 0) calls)) calls
 
   -- all are done
   pub all_done : IsLeastRank ranks.rank done (length ranks.rank) None → IsCallOrder app order

@@ -5,24 +5,24 @@ use Rattle.sloth_base.specs.declared.config.Config.{Config}
 use Rattle.sloth_base.specs.declared.app.App.{App}
 use Rattle.sloth_base.specs.declared.app.Op.TheVariants as op
 use Rattle.sloth_base.specs.Named.{function, operation}
-use Rattle.code_rules.specs.Code.{IsItem, GoesOn, Calls, is_followed}
+use Rattle.code_rules.specs.Code.{IsItem, IsPathStep, HasCall, is_followed}
 use Rattle.osek_valid.proofs.Facts.{Facts}
 use Rattle.osek_valid.proofs.Held.{falls_inside}
 use Rattle.raised_sections.specs.Walks.{chains_itself}
 use Rattle.section_sizes.specs.declared.graph.Ways.{Ways}
 use Rattle.section_sizes.specs.Graph.{ways_of, HasMark}
 use Rattle.section_sizes.specs.Search.{IsReachable, reachable_first, reachable_on}
-use Rattle.section_sizes.specs.Parts.{is_plain, StepsInside, ReachesItem, reaches_first, reaches_inside, reaches_behind, Returns}
+use Rattle.section_sizes.specs.Parts.{is_plain, IsInnerStep, ReachesItem, reaches_first, reaches_inside, reaches_behind, CanReturn}
 use Rattle.section_sizes.specs.Computed.{goes_past, item_ways}
 use Rattle.section_sizes.specs.Known.{KnowsReturns}
 use Rattle.section_sizes.proofs.Leading.{past_cases, plain_past, way_plain, LeadsOn, Led, led, leads}
 
 module _ (config : Config) (app : App) (w : Facts config app) where
-  pub called_known : (f g : ℕ) → Calls app f g → g < length app.funcs
+  pub called_known : (f g : ℕ) → HasCall app f g → g < length app.funcs
   called_known f g calls = (w.items f calls.0 (op.Invoke g) calls.1).0
 
   -- where a walk goes on to is there
-  pub steps_inside : (f i j : ℕ) → StepsInside app f i j → j < length (function app f).items
+  pub steps_inside : (f i j : ℕ) → IsInnerStep app f i j → j < length (function app f).items
   steps_inside f i j s = w.stays_inside f i j s.item.known s.item.inside s.goes_on
 
   pub behind_inside : (f i g : ℕ) → IsItem app f i (op.Invoke g) → i + 1 < length (function app f).items
@@ -35,7 +35,7 @@ module _ (config : Config) (app : App) (w : Facts config app) where
 
 -- a step inside a function, from what a way tells
 abbrev pub step_of : (app : App) (f i j : ℕ) → f < length app.funcs → i < length (function app f).items → chains_itself (function app f) (operation app f i) ≡ false
-    → is_plain (operation app f i) ≡ true → GoesOn (function app f) i j → StepsInside app f i j
+    → is_plain (operation app f i) ≡ true → IsPathStep (function app f) i j → IsInnerStep app f i j
 step_of app f i j known inside stays plain goes =
     record { operation = operation app f i; item = record { known = known; inside = inside; is = refl }; plain = plain; goes_on = goes; stays = stays }
 
@@ -71,7 +71,7 @@ module _ (config : Config) (app : App) (w : Facts config app) (f : ℕ) (known :
   to_walk i reachable_first = reaches_first f
   to_walk i (reachable_on k j r g) = step k j (to_walk k r) (led (function app f) passed going open_items ways count exact k j g)
 
-  back_step : (i j : ℕ) → StepsInside app f i j → Led (function app f) passed going open_items ways count exact i j
+  back_step : (i j : ℕ) → IsInnerStep app f i j → Led (function app f) passed going open_items ways count exact i j
   back_step i j s = record {
     inside = s.item.inside;
     goes = going_is i s.item.inside ∙ ap not (ap (chains_itself (function app f)) s.item.is ∙ s.stays);
@@ -79,7 +79,7 @@ module _ (config : Config) (app : App) (w : Facts config app) (f : ℕ) (known :
     on = ⊎_elim (λ h. inl (plain_past passed (operation app f i) (ap is_plain s.item.is ∙ s.plain) h.0, h.1)) (λ h. inr (h.0, h.1, h.2)) s.goes_on;
   }
 
-  back_call : (i g : ℕ) → IsItem app f i (op.Invoke g) → Returns app g → Led (function app f) passed going open_items ways count exact i (i + 1)
+  back_call : (i g : ℕ) → IsItem app f i (op.Invoke g) → CanReturn app g → Led (function app f) passed going open_items ways count exact i (i + 1)
   back_call i g item ret = record {
     inside = item.inside;
     goes = going_is i item.inside ∙ ap (λ o. not (chains_itself (function app f) o)) item.is;
@@ -91,7 +91,7 @@ module _ (config : Config) (app : App) (w : Facts config app) (f : ℕ) (known :
   from_walk h i e (reaches_first g) = reachable_first
   from_walk h i e (reaches_inside g k j before s) =
       reachable_on k j (from_walk g k e before)
-      (leads (function app f) passed going open_items ways count exact k j (back_step k j (subst (λ x. StepsInside app x k j) e s)))
+      (leads (function app f) passed going open_items ways count exact k j (back_step k j (subst (λ x. IsInnerStep app x k j) e s)))
   from_walk h i e (reaches_behind a k g q before call inner ret) =
       reachable_on k (k + 1) (from_walk a k e before)
       (leads (function app f) passed going open_items ways count exact k (k + 1) (back_call k g (subst (λ x. IsItem app x k (op.Invoke g)) e call) (q, inner, ret)))

@@ -4,7 +4,7 @@ use Rattle.std.proofs.lemmas.Bool.{cases_eq, cases_lt, false≢true}
 use Rattle.std.proofs.lemmas.List.{get_or_past, length-set, length-append}
 use Rattle.code_rules.specs.Code.{is_in}
 use Rattle.section_sizes.specs.declared.graph.Ways.{Ways}
-use Rattle.section_sizes.specs.Graph.{Goes, AreInside, HasMark, unseen_of}
+use Rattle.section_sizes.specs.Graph.{HasWay, AreInside, HasMark, unseen_of}
 use Rattle.section_sizes.proofs.Unseen.{unseen_count}
 use Rattle.section_sizes.specs.Search.{IsReachable, reachable_first, reachable_on, IsSpreading}
 use Rattle.section_sizes.proofs.Diving.{at_end, in_front, front_or_end, has_more, has_now, has_before, fewer, unseen_is, all_seen}
@@ -72,7 +72,7 @@ module _ (ways : List Ways) (marks : List Bool) (stack rest : List ℕ) (from : 
     sound = t.sound;
     kept = λ i h. t.kept i (in_front i from rest h);
     closed = λ i h. ⊎_elim
-        (λ g. ⊎_elim inl (λ same. inr (λ j goes. all_seen ways marks from j none (subst (λ v. Goes ways v j) (sym same) goes))) (front_or_end i from rest g))
+        (λ g. ⊎_elim inl (λ same. inr (λ j goes. all_seen ways marks from j none (subst (λ v. HasWay ways v j) (sym same) goes))) (front_or_end i from rest g))
         inr (t.closed i h);
   }
 

@@ -4,7 +4,7 @@ use Rattle.std.proofs.lemmas.Bool.{cases_eq, false≢true}
 use Rattle.std.proofs.lemmas.List.{get_or-set_same, get_or-set_other, length-set, take_all}
 use Rattle.sloth_base.specs.declared.config.Config.{Config}
 use Rattle.sloth_base.specs.declared.app.App.{App}
-use Rattle.code_rules.specs.Code.{Calls, is_in}
+use Rattle.code_rules.specs.Code.{HasCall, is_in}
 use Rattle.bound_rules.specs.declared.sizes.Summary.{Summary}
 use Rattle.section_sizes.specs.CallOrder.{IsCallOrder}
 use Rattle.bound_rules.specs.Summaries.{summary_of, unknown, IsCountedUp}
@@ -33,7 +33,7 @@ module _ (config : Config) (app : App) (level : Option ℕ) where
     next_inside = let n = next_known in let c = s.count in omega (arith, n, c)
 
     -- the functions that it calls are summarised
-    pub called_summed : (g : ℕ) → Calls app (get_or order k 0) g → IsSummary config app level g (summary_of table g)
+    pub called_summed : (g : ℕ) → HasCall app (get_or order k 0) g → IsSummary config app level g (summary_of table g)
     called_summed g calls = s.each g (o.behind k g lt calls)
 
     pub one_summed : (summary : Summary) → IsSummary config app level (get_or order k 0) summary → IsCountedUp summary

@@ -8,12 +8,12 @@ use Rattle.sloth_base.specs.declared.app.Op.{Op}
 use Rattle.sloth_base.specs.declared.app.Op.TheVariants as op
 use Rattle.sloth_base.specs.Named.{function, operation}
 use Rattle.sloth_base.specs.Limits.{size_limit}
-use Rattle.code_rules.specs.Code.{IsItem, Calls}
+use Rattle.code_rules.specs.Code.{IsItem, HasCall}
 use Rattle.call_graph.specs.Tables.{max_below}
 use Rattle.stack_bounds.proofs.Below.{max_below-at, max_below-some, last_or_before}
 use Rattle.bound_rules.specs.declared.bodies.Body.{Body}
 use Rattle.bound_rules.specs.declared.sizes.Summary.{Summary}
-use Rattle.section_sizes.specs.Parts.{is_raised, called_level, level_behind, ReachesItem, reaches_first, ReachesCall, EntersRaised, CountsBack, CountsOn, CountsOut, CountsWithin, out_here, out_behind, within_here, within_called, within_behind}
+use Rattle.section_sizes.specs.Parts.{is_raised, called_level, level_behind, ReachesItem, reaches_first, ReachesCall, IsRaisedCall, CountsBack, CountsOn, CountsOut, CountsWithin, out_here, out_behind, within_here, within_called, within_behind}
 use Rattle.bound_rules.specs.Items.{reaches_level}
 use Rattle.section_sizes.specs.Computed.{joined, KnownBody, known_body_of, callee, endless_call, calls_endless, called_most, most_at, most_of, joined_both, called_out, out_at, out_of}
 use Rattle.section_sizes.proofs.KnownRaised.{known_raised}
@@ -49,8 +49,8 @@ greatest_holds P N own called by_own by_called pos = by (max_below-some N (λ i.
 
 -- the functions that a body calls
 pub record Called (config : Config) (app : App) (level : Option ℕ) (f : ℕ) (whole own : List Summary) : Type 0 where
-  pub whole_is : (g : ℕ) → Calls app f g → IsSummary config app None g (summary_of whole g)
-  pub own_is : (g : ℕ) → Calls app f g → IsSummary config app level g (summary_of own g)
+  pub whole_is : (g : ℕ) → HasCall app f g → IsSummary config app None g (summary_of whole g)
+  pub own_is : (g : ℕ) → HasCall app f g → IsSummary config app level g (summary_of own g)
 
 module _ (config : Config) (app : App) (level : Option ℕ) (f : ℕ) (there : f < length app.funcs) (body : Body) (is_body : IsKnownBody config app f body)
     (whole own : List Summary) (calls : Called config app level f whole own) where
@@ -110,17 +110,17 @@ module _ (config : Config) (app : App) (level : Option ℕ) (f : ℕ) (there : f
         second false b e f = absurd (false≢true e)
 
     -- where the task is raised it is that of the functions that are called so
-    entered : (i g : ℕ) → ReachesItem app f i → EntersRaised config app level f i g → IsExact config app None g (summary_of whole g)
+    entered : (i g : ℕ) → ReachesItem app f i → IsRaisedCall config app level f i g → IsExact config app None g (summary_of whole g)
     entered i g r e =
         let x = exact i g (record { reached = r; item = e.item }) in
         let P : Bool → Type 0 = λ b. IsExact config app (called_level b level) g (callee K i g) in
         let Q : Bool → Type 0 = λ b. IsExact config app None g (cond b (summary_of whole g) (summary_of own g)) in
         subst Q (same_raised i e.item.inside ∙ e.raised) (subst P e.raised x)
 
-    pub called_on : (i g : ℕ) → ReachesItem app f i → EntersRaised config app level f i g → IsGreatestPart (CountsOn config app None g 0) (summary_of whole g).on
+    pub called_on : (i g : ℕ) → ReachesItem app f i → IsRaisedCall config app level f i g → IsGreatestPart (CountsOn config app None g 0) (summary_of whole g).on
     called_on i g r e = (entered i g r e).on
 
-    pub called_back : (i g : ℕ) → ReachesItem app f i → EntersRaised config app level f i g → IsGreatestPart (CountsBack config app None g 0) (summary_of whole g).back
+    pub called_back : (i g : ℕ) → ReachesItem app f i → IsRaisedCall config app level f i g → IsGreatestPart (CountsBack config app None g 0) (summary_of whole g).back
     called_back i g r e = (entered i g r e).back
 
     -- ---- a limit of what is called
@@ -176,7 +176,7 @@ module _ (config : Config) (app : App) (level : Option ℕ) (f : ℕ) (there : f
     pub all_calls : Below (length (function app f).items)
     all_calls = below (length (function app f).items) (omega arith)
 
-    entered_limit : (i g : ℕ) → ReachesItem app f i → EntersRaised config app level f i g → (x : HasLimit config app None g) × (x.limit ≤ all_calls.limit)
+    entered_limit : (i g : ℕ) → ReachesItem app f i → IsRaisedCall config app level f i g → (x : HasLimit config app None g) × (x.limit ≤ all_calls.limit)
     entered_limit i g r e =
         let P : Bool → Type 0 = λ b. (x : HasLimit config app (called_level b level) g) × (x.limit ≤ all_calls.limit) in
         subst P e.raised (all_calls.each i g e.item.inside (record { reached = r; item = e.item }))

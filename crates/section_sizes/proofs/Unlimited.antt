@@ -4,7 +4,7 @@ use Rattle.std.specs.Prelude.{◌==◌}
 use Rattle.std.proofs.lemmas.Bool.{cases_lt, eqb-true, false≢true}
 use Rattle.code_rules.specs.Code.{is_in}
 use Rattle.section_sizes.specs.declared.graph.Ways.{Ways}
-use Rattle.section_sizes.specs.Graph.{Goes, IsOrder}
+use Rattle.section_sizes.specs.Graph.{HasWay, IsOrder}
 
 -- the place of a number in a list
 abbrev pub place : ℕ → List ℕ → ℕ
@@ -58,9 +58,9 @@ module _ (ways : List Ways) (order : List ℕ) (o : IsOrder ways order) (k : ℕ
   value i = times k (place i order) + k
 
   -- each way leads to a value that is less by k
-  pub way_exceeds_none : (i j : ℕ) → i < length ways → Goes ways i j → k + value j ≤ value i
+  pub way_exceeds_none : (i j : ℕ) → i < length ways → HasWay ways i j → k + value j ≤ value i
   way_exceeds_none i j lt g =
       let f = at_place i order (o.all i lt) in
-      let p = front_place j order (place i order) (o.behind (place i order) j f.0 (subst (λ v. Goes ways v j) (sym f.1) g)) in
+      let p = front_place j order (place i order) (o.behind (place i order) j f.0 (subst (λ v. HasWay ways v j) (sym f.1) g)) in
       let le = times_more k (place j order) (place i order) p in
       omega (arith, le)

@@ -1,14 +1,14 @@
 -- An order of the functions in which each stands behind those that it calls.
 use Rattle.std.specs.Prelude.{ℕ, leb, cond, ◌<◌, ◌≤◌, ◌≡◌, true, false, Bool, List, length, get_or, take, Option, Some, None}
 use Rattle.sloth_base.specs.declared.app.App.{App}
-use Rattle.code_rules.specs.Code.{is_in, Calls}
+use Rattle.code_rules.specs.Code.{is_in, HasCall}
 use Rattle.section_sizes.specs.Graph.{HasMark}
 
 -- each function is there, behind those that it calls
 pub record IsCallOrder (app : App) (order : List ℕ) : Type 0 where
   pub all : (f : ℕ) → f < length app.funcs → is_in f order ≡ true
   pub inside : (f : ℕ) → is_in f order ≡ true → f < length app.funcs
-  pub behind : (k g : ℕ) → k < length order → Calls app (get_or order k 0) g → is_in g (take k order) ≡ true
+  pub behind : (k g : ℕ) → k < length order → HasCall app (get_or order k 0) g → is_in g (take k order) ≡ true
 
 -- of the first n functions one of least rank among those that are not done, if there is one
 abbrev pub IsLeastRank : (ranks : List ℕ) (done : List Bool) (n : ℕ) → Option ℕ → Type 0

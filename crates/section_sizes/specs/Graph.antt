@@ -16,24 +16,24 @@ abbrev pub ways_of : List Ways → ℕ → Ways
 ways_of ways i = get_or ways i no_ways
 
 -- node i leads to node j
-abbrev pub Goes : List Ways → (i j : ℕ) → Type 0
-Goes ways i j = ((ways_of ways i).next ≡ Some j) ⊎ ((ways_of ways i).jump ≡ Some j)
+abbrev pub HasWay : List Ways → (i j : ℕ) → Type 0
+HasWay ways i j = ((ways_of ways i).next ≡ Some j) ⊎ ((ways_of ways i).jump ≡ Some j)
 
 -- all ways lead to nodes that are there
 abbrev pub AreInside : List Ways → Type 0
-AreInside ways = (i j : ℕ) → Goes ways i j → j < length ways
+AreInside ways = (i j : ℕ) → HasWay ways i j → j < length ways
 
 -- an order of all nodes in which each stands behind those that it leads to
 pub record IsOrder (ways : List Ways) (order : List ℕ) : Type 0 where
   pub all : (i : ℕ) → i < length ways → is_in i order ≡ true
   pub inside : (i : ℕ) → is_in i order ≡ true → i < length ways
-  pub behind : (k j : ℕ) → k < length order → Goes ways (get_or order k 0) j → is_in j (take k order) ≡ true
+  pub behind : (k j : ℕ) → k < length order → HasWay ways (get_or order k 0) j → is_in j (take k order) ≡ true
 
 -- some nodes, each of which leads to one of them
 pub record IsLoop (ways : List Ways) (nodes : List ℕ) : Type 0 where
   pub some : (i : ℕ) × (is_in i nodes ≡ true)
   pub inside : (i : ℕ) → is_in i nodes ≡ true → i < length ways
-  pub goes : (i : ℕ) → is_in i nodes ≡ true → (j : ℕ) × Goes ways i j × (is_in j nodes ≡ true)
+  pub goes : (i : ℕ) → is_in i nodes ≡ true → (j : ℕ) × HasWay ways i j × (is_in j nodes ≡ true)
 
 -- what is found of the nodes
 abbrev pub IsFound : List Ways → Found → Type 0
@@ -66,14 +66,14 @@ abbrev pub leads_to_open : List Ways → List Bool → ℕ → Bool
 leads_to_open ways done i = is_open done (ways_of ways i).next || is_open done (ways_of ways i).jump
 
 -- node i leads to the first of these, if there is one
-abbrev pub LeadsOn : List Ways → ℕ → List ℕ → Type 0
-LeadsOn ways i [] = Unit {0}
-LeadsOn ways i (j ∷ further) = Goes ways i j
+abbrev pub HasWayOn : List Ways → ℕ → List ℕ → Type 0
+HasWayOn ways i [] = Unit {0}
+HasWayOn ways i (j ∷ further) = HasWay ways i j
 
 -- each of these nodes leads to the next
 abbrev pub IsChain : List Ways → List ℕ → Type 0
 IsChain ways [] = Unit {0}
-IsChain ways (i ∷ further) = LeadsOn ways i further × IsChain ways further
+IsChain ways (i ∷ further) = HasWayOn ways i further × IsChain ways further
 
 -- what is marked of a list of marks
 abbrev pub HasMark : List Bool → ℕ → Type 0
@@ -88,16 +88,16 @@ pub record IsSearching (ways : List Ways) (seen done : List Bool) (stack order :
   pub listed : (i : ℕ) → HasMark done i → is_in i order ≡ true
   pub inside : (i : ℕ) → is_in i order ≡ true → i < length ways
   pub chain : IsChain ways stack
-  pub behind : (k j : ℕ) → k < length order → Goes ways (get_or order k 0) j → is_in j (take k order) ≡ true
+  pub behind : (k j : ℕ) → k < length order → HasWay ways (get_or order k 0) j → is_in j (take k order) ≡ true
 
 -- all that was seen is seen still
-abbrev pub KeepsSeen : (old new : List Bool) → Type 0
-KeepsSeen old new = (i : ℕ) → HasMark old i → HasMark new i
+abbrev pub AreStillSeen : (old new : List Bool) → Type 0
+AreStillSeen old new = (i : ℕ) → HasMark old i → HasMark new i
 
 -- a search ended with a loop, or with an empty stack
-abbrev pub Ended : List Ways → (old seen done : List Bool) → (stack order : List ℕ) → Bool → Type 0
-Ended ways old seen done stack order true = (nodes : List ℕ) × IsLoop ways nodes
-Ended ways old seen done stack order false = (stack ≡ []) × IsSearching ways seen done [] order × KeepsSeen old seen
+abbrev pub IsSearchEnd : List Ways → (old seen done : List Bool) → (stack order : List ℕ) → Bool → Type 0
+IsSearchEnd ways old seen done stack order true = (nodes : List ℕ) × IsLoop ways nodes
+IsSearchEnd ways old seen done stack order false = (stack ≡ []) × IsSearching ways seen done [] order × AreStillSeen old seen
 
 -- all nodes were searched: there is a loop, or each is listed behind those that it leads to
 abbrev pub IsSearched : List Ways → (order : List ℕ) → Bool → Type 0

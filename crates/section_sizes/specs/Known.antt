@@ -4,11 +4,11 @@ use Rattle.sloth_base.specs.declared.config.Config.{Config}
 use Rattle.sloth_base.specs.declared.app.App.{App}
 use Rattle.sloth_base.specs.Named.{function}
 use Rattle.sloth_base.specs.Limits.{size_limit}
-use Rattle.code_rules.specs.Code.{Calls}
+use Rattle.code_rules.specs.Code.{HasCall}
 use Rattle.bound_rules.specs.declared.bodies.Body.{Body}
 use Rattle.bound_rules.specs.declared.sizes.Summary.{Summary}
 use Rattle.section_sizes.specs.Graph.{HasMark}
-use Rattle.section_sizes.specs.Parts.{ceiling_before, ReachesItem, Returns, CountsBack, CountsOn, CountsOut, CountsWithin}
+use Rattle.section_sizes.specs.Parts.{ceiling_before, ReachesItem, CanReturn, CountsBack, CountsOn, CountsOut, CountsWithin}
 use Rattle.bound_rules.specs.Summaries.{summary_of, AreCountedUp}
 
 -- ---- bodies
@@ -31,7 +31,7 @@ pub record AreKnownBodies (config : Config) (app : App) (bodies : List Body) : T
 
 -- of each function that function f calls it is marked whether it may return
 abbrev pub KnowsReturns : App → ℕ → List Bool → Type 0
-KnowsReturns app f returns = (g : ℕ) → Calls app f g → Decides (get_or returns g false) (Returns app g)
+KnowsReturns app f returns = (g : ℕ) → HasCall app f g → Decides (get_or returns g false) (CanReturn app g)
 
 -- ---- summaries
 

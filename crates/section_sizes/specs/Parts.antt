@@ -5,7 +5,7 @@ use Rattle.sloth_base.specs.declared.app.App.{App}
 use Rattle.sloth_base.specs.declared.app.Op.{Op}
 use Rattle.sloth_base.specs.declared.app.Op.TheVariants as op
 use Rattle.sloth_base.specs.Named.{function, operation}
-use Rattle.code_rules.specs.Code.{IsItem, GoesOn}
+use Rattle.code_rules.specs.Code.{IsItem, IsPathStep}
 use Rattle.code_rules.specs.WellFormed.{held_list_before}
 use Rattle.osek_scheduler.specs.Priority.{greatest, ceiling}
 use Rattle.raised_sections.specs.Walks.{chains_itself}
@@ -39,50 +39,50 @@ abbrev pub count_of : App → (f i : ℕ) → ℕ
 count_of app f i = cond (is_counted (operation app f i)) 1 0
 
 -- from item i of function f, neither a call nor a `ret`, a walk goes on to item j
-pub record StepsInside (app : App) (f i j : ℕ) : Type 0 where
+pub record IsInnerStep (app : App) (f i j : ℕ) : Type 0 where
   pub operation : Op
   pub item : IsItem app f i operation
   pub plain : is_plain operation ≡ true
-  pub goes_on : GoesOn (function app f) i j
+  pub goes_on : IsPathStep (function app f) i j
   pub stays : chains_itself (function app f) operation ≡ false
 
 -- a walk that enters function f reaches item i of it, the functions that it calls on the way having returned
 pub data ReachesItem (app : App) : (f i : ℕ) → Type 0 where
   reaches_first : (f : ℕ) → ReachesItem app f 0
-  reaches_inside : (f i j : ℕ) → ReachesItem app f i → StepsInside app f i j → ReachesItem app f j
+  reaches_inside : (f i j : ℕ) → ReachesItem app f i → IsInnerStep app f i j → ReachesItem app f j
   reaches_behind : (f i g r : ℕ) → ReachesItem app f i → IsItem app f i (op.Invoke g) → ReachesItem app g r → IsItem app g r op.Return
       → ReachesItem app f (i + 1)
 
 -- a walk that enters function g may return from it
-abbrev pub Returns : App → (g : ℕ) → Type 0
-Returns app g = (r : ℕ) × ReachesItem app g r × IsItem app g r op.Return
+abbrev pub CanReturn : App → (g : ℕ) → Type 0
+CanReturn app g = (r : ℕ) × ReachesItem app g r × IsItem app g r op.Return
 
 -- at item i of function f, which is no Schedule, the task is raised, and a walk goes on to item j
-pub record Passes (config : Config) (app : App) (level : Option ℕ) (f i j : ℕ) : Type 0 where
-  pub step : StepsInside app f i j
+pub record IsRaisedStep (config : Config) (app : App) (level : Option ℕ) (f i j : ℕ) : Type 0 where
+  pub step : IsInnerStep app f i j
   pub no_schedule : is_schedule step.operation ≡ false
   pub raised : is_raised config app level f i ≡ true
 
 -- at item i of function f, a call of function g, the task is raised
-pub record EntersRaised (config : Config) (app : App) (level : Option ℕ) (f i g : ℕ) : Type 0 where
+pub record IsRaisedCall (config : Config) (app : App) (level : Option ℕ) (f i g : ℕ) : Type 0 where
   pub item : IsItem app f i (op.Invoke g)
   pub raised : is_raised config app level f i ≡ true
 
 -- a part from item i of function f up to its `ret` counts n
 pub data CountsBack (config : Config) (app : App) : (level : Option ℕ) → (f i n : ℕ) → Type 0 where
   back_returns : (level : Option ℕ) (f i : ℕ) → IsItem app f i op.Return → is_raised config app level f i ≡ true → CountsBack config app level f i 1
-  back_inside : (level : Option ℕ) (f i j n : ℕ) → Passes config app level f i j → CountsBack config app level f j n
+  back_inside : (level : Option ℕ) (f i j n : ℕ) → IsRaisedStep config app level f i j → CountsBack config app level f j n
       → CountsBack config app level f i (count_of app f i + n)
-  back_passes : (level : Option ℕ) (f i g n k : ℕ) → EntersRaised config app level f i g → CountsBack config app None g 0 n
+  back_passes : (level : Option ℕ) (f i g n k : ℕ) → IsRaisedCall config app level f i g → CountsBack config app None g 0 n
       → CountsBack config app level f (i + 1) k → CountsBack config app level f i (1 + (n + k))
 
 -- a part from item i of function f that stays inside its activation counts n
 pub data CountsOn (config : Config) (app : App) : (level : Option ℕ) → (f i n : ℕ) → Type 0 where
   on_ends : (level : Option ℕ) (f i : ℕ) → IsItem app f i (operation app f i) → is_raised config app level f i ≡ true
       → CountsOn config app level f i (count_of app f i)
-  on_inside : (level : Option ℕ) (f i j n : ℕ) → Passes config app level f i j → CountsOn config app level f j n → CountsOn config app level f i (count_of app f i + n)
-  on_enters : (level : Option ℕ) (f i g n : ℕ) → EntersRaised config app level f i g → CountsOn config app None g 0 n → CountsOn config app level f i (1 + n)
-  on_passes : (level : Option ℕ) (f i g n k : ℕ) → EntersRaised config app level f i g → CountsBack config app None g 0 n
+  on_inside : (level : Option ℕ) (f i j n : ℕ) → IsRaisedStep config app level f i j → CountsOn config app level f j n → CountsOn config app level f i (count_of app f i + n)
+  on_enters : (level : Option ℕ) (f i g n : ℕ) → IsRaisedCall config app level f i g → CountsOn config app None g 0 n → CountsOn config app level f i (1 + n)
+  on_passes : (level : Option ℕ) (f i g n k : ℕ) → IsRaisedCall config app level f i g → CountsBack config app None g 0 n
       → CountsOn config app level f (i + 1) k → CountsOn config app level f i (1 + (n + k))
 
 -- a walk that enters function f reaches its item i, a call of function g

@@ -2,12 +2,12 @@
 use Rattle.std.specs.Prelude.{ℕ, ◌<◌, ◌≡◌, ◌⊎◌, true, Bool, List, length}
 use Rattle.code_rules.specs.Code.{is_in}
 use Rattle.section_sizes.specs.declared.graph.Ways.{Ways}
-use Rattle.section_sizes.specs.Graph.{Goes, HasMark}
+use Rattle.section_sizes.specs.Graph.{HasWay, HasMark}
 
 -- the first node, and what a node leads to that is reached
 pub data IsReachable (ways : List Ways) : ℕ → Type 0 where
   reachable_first : IsReachable ways 0
-  reachable_on : (i j : ℕ) → IsReachable ways i → Goes ways i j → IsReachable ways j
+  reachable_on : (i j : ℕ) → IsReachable ways i → HasWay ways i j → IsReachable ways j
 
 -- what is marked is reached; of each marked node that is not in the stack all ways lead to marked ones
 pub record IsSpreading (ways : List Ways) (marks : List Bool) (stack : List ℕ) : Type 0 where
@@ -15,4 +15,4 @@ pub record IsSpreading (ways : List Ways) (marks : List Bool) (stack : List ℕ)
   pub start : HasMark marks 0
   pub sound : (i : ℕ) → HasMark marks i → IsReachable ways i
   pub kept : (i : ℕ) → is_in i stack ≡ true → (i < length ways) × HasMark marks i
-  pub closed : (i : ℕ) → HasMark marks i → (is_in i stack ≡ true) ⊎ ((j : ℕ) → Goes ways i j → HasMark marks j)
+  pub closed : (i : ℕ) → HasMark marks i → (is_in i stack ≡ true) ⊎ ((j : ℕ) → HasWay ways i j → HasMark marks j)

@@ -2,12 +2,12 @@
 use Rattle.std.specs.Prelude.{ℕ, ◌+◌, ◌<◌, ◌≤◌, ◌≡◌, ◌==◌, cond, min, max, List, [], ◌∷◌, length, Option, Some, None, get_or}
 use Rattle.sloth_base.specs.Limits.{size_limit}
 use Rattle.section_sizes.specs.declared.graph.Ways.{Ways}
-use Rattle.section_sizes.specs.Graph.{ways_of, Goes}
+use Rattle.section_sizes.specs.Graph.{ways_of, HasWay}
 
 -- a trail: node i leads to the first of these, and each of them to the next
 abbrev pub IsTrail : List Ways → ℕ → List ℕ → Type 0
 IsTrail ways i [] = Unit {0}
-IsTrail ways i (j ∷ further) = Goes ways i j × IsTrail ways j further
+IsTrail ways i (j ∷ further) = HasWay ways i j × IsTrail ways j further
 
 -- the last node of a trail
 abbrev pub last_of : ℕ → List ℕ → ℕ

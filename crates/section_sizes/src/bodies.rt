@@ -4,7 +4,7 @@ ghost use Rattle.sloth_base.specs.Named.{item_of, function};
 ghost use Rattle.code_rules.specs.WellFormed.{WellFormed};
 ghost use Rattle.raised_sections.specs.Walks.{chains_itself};
 ghost use Rattle.section_sizes.specs.Graph.{HasMark};
-ghost use Rattle.section_sizes.specs.Parts.{ReachesItem, Returns};
+ghost use Rattle.section_sizes.specs.Parts.{ReachesItem, CanReturn};
 ghost use Rattle.section_sizes.specs.CallOrder.{IsCallOrder};
 ghost use Rattle.section_sizes.specs.Computed.{returns_of, is_return};
 ghost use Rattle.section_sizes.specs.Ceilings.{AreCeilings};
@@ -113,7 +113,7 @@ fn returning(
 ) -> Result<Vec<bool>, NoMemory>
     requires well_formed { WellFormed config.now app.now }
     requires order { IsCallOrder app.now order.now }
-    ensures { IfOk result (λ returns. (g : ℕ) → g < length app.now.funcs → Decides (get_or returns.items g false) (Returns app.now g)) }
+    ensures { IfOk result (λ returns. (g : ℕ) → g < length app.now.funcs → Decides (get_or returns.items g false) (CanReturn app.now g)) }
 {
     let mut returns = crate::graph::no_marks(alloc, app.funcs.items().len())?;
     for number in order {

@@ -5,7 +5,7 @@ ghost use Rattle.osek_scheduler.specs.Priority.{greatest, ceiling};
 ghost use Rattle.body_faults.specs.Labels.{last_label_below, ArePlaced};
 ghost use Rattle.section_sizes.specs.Ceilings.{AreCeilings};
 
-use body_faults::held::{held_after, held_at_label};
+use body_faults::held_resources::{held_after, held_at_label};
 use body_faults::labels::last_labels;
 use osek_scheduler::ceilings::ceiling;
 use sloth_base::app::Func;

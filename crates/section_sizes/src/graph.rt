@@ -1,6 +1,6 @@
 //! Nodes with two ways on at most: an order in which every node stands behind those that it leads to, or a loop.
 ghost use Rattle.std.specs.Prelude.{◌≡◌, ℕ, ◌<◌, [], ◌∷◌, ◌++◌, length, get_or, set, true, false, IfOk, OnOk};
-ghost use Rattle.section_sizes.specs.Graph.{unseen_way, unseen_of, is_open, leads_to_open, AreInside, IsSearching, Ended, IsSearched, IsFound};
+ghost use Rattle.section_sizes.specs.Graph.{unseen_way, unseen_of, is_open, leads_to_open, AreInside, IsSearching, IsSearchEnd, IsSearched, IsFound};
 
 use sloth_base::list::List;
 use sloth_base::memory::NoMemory;
@@ -88,7 +88,7 @@ fn dive(
 ) -> Result<bool, NoMemory>
     requires inside { AreInside ways.now }
     requires searching { IsSearching ways.now seen.old done.old stack.old.items order.old.items }
-    ensures { IfOk result (Ended ways.now seen.old seen.new done.new stack.new.items order.new.items) }
+    ensures { IfOk result (IsSearchEnd ways.now seen.old seen.new done.new stack.new.items order.new.items) }
 {
     loop {
         match stack.pop() {

@@ -1,7 +1,7 @@
 //! The ways between the items of a body.
 ghost use Rattle.std.specs.Prelude.{◌≡◌, ℕ, ◌<◌, length, IfOk};
 ghost use Rattle.sloth_base.specs.Named.{item_of};
-ghost use Rattle.body_faults.specs.Ways.{LeadsToLabels};
+ghost use Rattle.body_faults.specs.Ways.{HasBodyLabel};
 ghost use Rattle.section_sizes.specs.Graph.{ways_of};
 ghost use Rattle.section_sizes.specs.Computed.{open_way, goes_past, next_way, label_way, item_ways};
 
@@ -61,7 +61,7 @@ fn label_way(func: &Func, open_items: &[bool], way: Option<u32>) -> Option<usize
 /// The ways of an item, if it is one from which ways go.
 fn item_ways(func: &Func, passed: &[bool], going: &[bool], open_items: &[bool], from: usize) -> Ways
     requires inside { from < length func.now.items }
-    requires labels { LeadsToLabels func.now (item_of func.now from).op }
+    requires labels { HasBodyLabel func.now (item_of func.now from).op }
     ensures { result ≡ item_ways func.now passed.now going.now open_items.now from }
 {
     if is_marked(going, from) {
@@ -85,7 +85,7 @@ pub fn body_ways(
     going: &[bool],
     open_items: &[bool],
 ) -> Result<Vec<Ways>, NoMemory>
-    requires labels { (i : ℕ) → i < length func.now.items → LeadsToLabels func.now (item_of func.now i).op }
+    requires labels { (i : ℕ) → i < length func.now.items → HasBodyLabel func.now (item_of func.now i).op }
     ensures count { IfOk result (λ ways. length ways.items ≡ length func.now.items) }
     ensures exact { IfOk result (λ ways. (i : ℕ) → i < length func.now.items
         → ways_of ways.items i ≡ item_ways func.now passed.now going.now open_items.now i) }

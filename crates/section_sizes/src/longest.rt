@@ -1,7 +1,7 @@
 //! The longest trails through nodes that stand in an order.
 ghost use Rattle.std.specs.Prelude.{◌≡◌, ℕ, ◌+◌, ◌<◌, ◌≤◌, length, get_or, min, max, Some, IfOk};
 ghost use Rattle.sloth_base.specs.Limits.{size_limit};
-ghost use Rattle.section_sizes.specs.Graph.{Goes, IsOrder};
+ghost use Rattle.section_sizes.specs.Graph.{HasWay, IsOrder};
 ghost use Rattle.section_sizes.specs.Trails.{along, longest_from, AreSizes, IsSmall, IsLongest};
 
 use crate::graph::Ways;
@@ -46,7 +46,7 @@ fn along(table: &[u32], step: u32, way: Option<usize>) -> u32
 }
 
 fn longest_from(ways: &[Ways], table: &[u32], steps: &[u32], ends: &[u32], node: usize) -> u32
-    requires inside { (j : ℕ) → Goes ways.now node j → j < length table.now }
+    requires inside { (j : ℕ) → HasWay ways.now node j → j < length table.now }
     requires small { IsSmall table.now }
     requires sizes { AreSizes ways.now steps.now ends.now }
     requires known { node < length ways.now }

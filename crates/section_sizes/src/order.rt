@@ -1,6 +1,6 @@
 //! The functions in an order in which each stands behind those that it calls.
 ghost use Rattle.std.specs.Prelude.{◌≡◌, ◌<◌, ℕ, length, IfOk};
-ghost use Rattle.code_rules.specs.Code.{Calls};
+ghost use Rattle.code_rules.specs.Code.{HasCall};
 ghost use Rattle.call_graph.specs.Ranks.{RanksOf};
 ghost use Rattle.section_sizes.specs.CallOrder.{IsCallOrder, IsLeastRank, lesser_of, lesser};
 
@@ -52,7 +52,7 @@ fn least(ranks: &[u32], done: &[bool]) -> Option<usize>
 /// All functions, each behind those that it calls.
 pub fn callees_first(alloc: Global, app: &App, ranks: &Ranks) -> Result<Vec<usize>, NoMemory>
     requires belong { RanksOf app.now ranks.now }
-    requires known { (f g : ℕ) → Calls app.now f g → g < length app.now.funcs }
+    requires known { (f g : ℕ) → HasCall app.now f g → g < length app.now.funcs }
     ensures { IfOk result (λ order. IsCallOrder app.now order.items) }
 {
     let mut done = no_marks(alloc, ranks.rank.items().len())?;

@@ -2,7 +2,7 @@
 ghost use Rattle.std.specs.Prelude.{◌≡◌, ◌<◌, ℕ, length, get_or, IfOk};
 ghost use Rattle.sloth_base.specs.Named.{item_of};
 ghost use Rattle.section_sizes.specs.Graph.{IsOrder};
-ghost use Rattle.body_faults.specs.Ways.{LeadsToLabels};
+ghost use Rattle.body_faults.specs.Ways.{HasBodyLabel};
 ghost use Rattle.section_sizes.specs.Trails.{IsSmall};
 ghost use Rattle.section_sizes.specs.Computed.{going_size};
 ghost use Rattle.bound_rules.specs.Summaries.{AreCountedUp};
@@ -43,7 +43,7 @@ pub fn paths_of(
     level: Option<u32>,
     whole: &[Summary],
 ) -> Result<Paths, NoMemory>
-    requires { (i : ℕ) → i < length func.now.items → LeadsToLabels func.now (item_of func.now i).op }
+    requires { (i : ℕ) → i < length func.now.items → HasBodyLabel func.now (item_of func.now i).op }
     ensures { IfOk result (ArePaths func.now body.now level whole.now) }
 {
     let alive = alive_items(alloc, func, body, level)?;

@@ -3,7 +3,7 @@ ghost use Rattle.std.specs.Prelude.{◌≡◌, ◌≤◌, ◌<◌, ℕ, length, 
 ghost use Rattle.sloth_base.specs.Named.{item_of, function};
 ghost use Rattle.sloth_base.specs.Limits.{size_limit};
 ghost use Rattle.code_rules.specs.WellFormed.{WellFormed};
-ghost use Rattle.code_rules.specs.Code.{Calls};
+ghost use Rattle.code_rules.specs.Code.{HasCall};
 ghost use Rattle.section_sizes.specs.Trails.{IsSmall};
 ghost use Rattle.section_sizes.specs.Computed.{known_body_of, endless_call, calls_endless, called_most, most_of, joined_both, called_out, out_of, summary_by};
 ghost use Rattle.bound_rules.specs.Summaries.{summary_of, IsCountedUp, AreCountedUp};
@@ -221,8 +221,8 @@ pub fn summary(
     requires known { number < length app.now.funcs }
     requires func { func.now ≡ function app.now number }
     requires body { IsKnownBody config.now app.now number body.now }
-    requires whole { (g : ℕ) → Calls app.now number g → IsSummary config.now app.now None g (summary_of whole.now g) }
-    requires own { (g : ℕ) → Calls app.now number g → IsSummary config.now app.now level g (summary_of own.now g) }
+    requires whole { (g : ℕ) → HasCall app.now number g → IsSummary config.now app.now None g (summary_of whole.now g) }
+    requires own { (g : ℕ) → HasCall app.now number g → IsSummary config.now app.now level g (summary_of own.now g) }
     requires whole_small { AreCountedUp whole.now }
     requires own_small { AreCountedUp own.now }
     ensures is { IfOk result (λ summary. IsSummary config.now app.now level number summary) }

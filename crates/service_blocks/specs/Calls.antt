@@ -25,13 +25,13 @@ abbrev pub IsCalledWith : Config → Service → ℕ → Type 0
 IsCalledWith config service object = IsOfKind config (object_kind service) object
 
 -- the code of a service with its object has the service's effect
-abbrev pub ServesCall : Config → Service → ℕ → Levels → List InstrKind → Type 0
-ServesCall config SetEvent object levels code = events.ServesEvent SetEvent object code
-ServesCall config ClearEvent object levels code = events.ServesEvent ClearEvent object code
-ServesCall config GetEvent object levels code = events.ServesEvent GetEvent object code
-ServesCall config WaitEvent object levels code = events.ServesEvent WaitEvent object code
-ServesCall config SetRelAlarm object levels code = alarms.ServesAlarm config SetRelAlarm object code
-ServesCall config SetAbsAlarm object levels code = alarms.ServesAlarm config SetAbsAlarm object code
-ServesCall config CancelAlarm object levels code = alarms.ServesAlarm config CancelAlarm object code
-ServesCall config GetAlarm object levels code = alarms.ServesAlarm config GetAlarm object code
-ServesCall config service object levels code = others.Serves service object levels code
+abbrev pub IsAnyServiceBlock : Config → Service → ℕ → Levels → List InstrKind → Type 0
+IsAnyServiceBlock config SetEvent object levels code = events.IsEventServiceBlock SetEvent object code
+IsAnyServiceBlock config ClearEvent object levels code = events.IsEventServiceBlock ClearEvent object code
+IsAnyServiceBlock config GetEvent object levels code = events.IsEventServiceBlock GetEvent object code
+IsAnyServiceBlock config WaitEvent object levels code = events.IsEventServiceBlock WaitEvent object code
+IsAnyServiceBlock config SetRelAlarm object levels code = alarms.IsAlarmServiceBlock config SetRelAlarm object code
+IsAnyServiceBlock config SetAbsAlarm object levels code = alarms.IsAlarmServiceBlock config SetAbsAlarm object code
+IsAnyServiceBlock config CancelAlarm object levels code = alarms.IsAlarmServiceBlock config CancelAlarm object code
+IsAnyServiceBlock config GetAlarm object levels code = alarms.IsAlarmServiceBlock config GetAlarm object code
+IsAnyServiceBlock config service object levels code = others.IsTaskServiceBlock service object levels code

@@ -8,7 +8,7 @@ ghost use Rattle.std.specs.Prelude.{IfOk};
 ghost use Rattle.sloth_base.specs.ConfigRange.{InRange};
 ghost use Rattle.block_parts.specs.ServiceBlock.{IsServiceBlock};
 ghost use Rattle.service_gen.specs.Block.{further_marks};
-ghost use Rattle.service_blocks.specs.Calls.{IsCalledWith, ServesCall};
+ghost use Rattle.service_blocks.specs.Calls.{IsCalledWith, IsAnyServiceBlock};
 
 use rv32_instr::Block;
 use sloth_base::config::Config;
@@ -30,7 +30,7 @@ pub fn block(
     requires called { IsCalledWith config.now service object }
     requires range { InRange config.now }
     ensures block { IfOk result (IsServiceBlock service object map.now.places.blocks (further_marks service)) }
-    ensures serves { IfOk result (λ block. ServesCall config.now service object levels.now block.code) }
+    ensures serves { IfOk result (λ block. IsAnyServiceBlock config.now service object levels.now block.code) }
 {
     match service {
         Service::SetEvent | Service::ClearEvent | Service::GetEvent | Service::WaitEvent =>

@@ -25,9 +25,9 @@ use Rattle.service_gen.proofs.Ending.{ends_owe, ended_below, has_ended}
 use Rattle.block_parts.proofs.Serving.{opens_within}
 use Rattle.block_parts.specs.Services.{own_task_code, refusing_code}
 use Rattle.block_parts.specs.Pieces.{ending_code, looking_code, raising_code, back_code}
-use Rattle.block_parts.specs.Looks.{LooksSuspended}
-use Rattle.service_gen.specs.TerminateTask.{ended_ram, Terminated}
-use Rattle.service_gen.specs.ChainTask.{MayChain, Chained, Chains}
+use Rattle.block_parts.specs.SuspensionTest.{IsFoundSuspended}
+use Rattle.service_gen.specs.TerminateTask.{ended_ram, TerminateTaskEffect}
+use Rattle.service_gen.specs.ChainTask.{MayChain, ChainTaskEffect, IsChainTaskCode}
 
 -- the code behind the masking instruction
 abbrev pub body : ℕ → List InstrKind
@@ -61,7 +61,7 @@ module _ (offset task own place : ℕ) (c : Core) (h : MayChain offset task own 
   word = word_at c.ram (active task)
 
   -- the caller's end, the raised line, and the way down
-  go_owe : (o : ℕ) → o + 52 ≤ memory_bytes → (p : List ℕ) (x1 x10 : ℕ) (E : List ℕ → State → State → Type 0) → ((lines : List ℕ) (middle end : State) → AreOfLine own lines → Terminated own place (own ∷ []) (st (arrive lines p)) middle → end ≡ state_arrive (task ∷ []) middle → E (own ∷ []) (st (arrive lines p)) end) → Owes offset (offset + 4 + 248) o (ending_code ++ (raising_code task ++ leaving_code)) 0 E (st p) (record (masked (based c)) { registers = 0 ∷ x1 ∷ x2 ∷ controller_base ∷ memory_base ∷ x5 ∷ tail x10; pending = p })
+  go_owe : (o : ℕ) → o + 52 ≤ memory_bytes → (p : List ℕ) (x1 x10 : ℕ) (E : List ℕ → State → State → Type 0) → ((lines : List ℕ) (middle end : State) → AreOfLine own lines → TerminateTaskEffect own place (own ∷ []) (st (arrive lines p)) middle → end ≡ state_arrive (task ∷ []) middle → E (own ∷ []) (st (arrive lines p)) end) → Owes offset (offset + 4 + 248) o (ending_code ++ (raising_code task ++ leaving_code)) 0 E (st p) (record (masked (based c)) { registers = 0 ∷ x1 ∷ x2 ∷ controller_base ∷ memory_base ∷ x5 ∷ tail x10; pending = p })
   go_owe o small p x1 x10 E k =
       ends_owe offset (offset + 4 + 248) own E (st p) (raising_code task ++ leaving_code) (record (masked (based c)) { pending = p }) x1 x2 x5 (tail x10) h.is_own h.runs low o
       (λ lines only.
@@ -75,24 +75,24 @@ module _ (offset task own place : ℕ) (c : Core) (h : MayChain offset task own 
       (ap (λ x. record end { core = record end.core { pending = x } }) left.left.pending)))
 
   -- the task was not Suspended
-  stays_owe : (o : ℕ) (p : List ℕ) (v : ℕ) → task ≢ own → (LooksSuspended task (record c { pending = p }) → ⊥)
-      → Owes offset (offset + 4 + 248) o (Addi 10 0 (pos E_OS_LIMIT) ∷ (back_code ++ (ending_code ++ (raising_code task ++ leaving_code)))) 0 (λ u. Chained task own place (task ∷ u)) (st p)
+  stays_owe : (o : ℕ) (p : List ℕ) (v : ℕ) → task ≢ own → (IsFoundSuspended task (record c { pending = p }) → ⊥)
+      → Owes offset (offset + 4 + 248) o (Addi 10 0 (pos E_OS_LIMIT) ∷ (back_code ++ (ending_code ++ (raising_code task ++ leaving_code)))) 0 (λ u. ChainTaskEffect task own place (task ∷ u)) (st p)
       (record (masked (based c)) { registers = 0 ∷ v ∷ x2 ∷ controller_base ∷ memory_base ∷ x5 ∷ tail word; pending = p })
   stays_owe o p v ne other =
       writes E_OS_LIMIT refl
-      ▸ goes_back offset (masking ∷ body task) c h.goes_back (λ u. Chained task own place (task ∷ u)) v E_OS_LIMIT p p c.ram
+      ▸ goes_back offset (masking ∷ body task) c h.goes_back (λ u. ChainTaskEffect task own place (task ∷ u)) v E_OS_LIMIT p p c.ram
       (λ last is went. inr (record { other = ne; not_suspended = other; touches = refl; status = is; back = went }))
 
   -- behind the look at the task
   looked_owe : (o : ℕ) (p : List ℕ) (v : ℕ) → o + 68 ≤ memory_bytes → task ≢ own → Finds task (record c { pending = p }) v
-      → Owes offset (offset + 4 + 248) o (refusing_code ++ (back_code ++ (ending_code ++ (raising_code task ++ leaving_code)))) 0 (λ u. Chained task own place (task ∷ u)) (st p)
+      → Owes offset (offset + 4 + 248) o (refusing_code ++ (back_code ++ (ending_code ++ (raising_code task ++ leaving_code)))) 0 (λ u. ChainTaskEffect task own place (task ∷ u)) (st p)
       (record (masked (based c)) { registers = 0 ∷ v ∷ x2 ∷ controller_base ∷ memory_base ∷ x5 ∷ tail word; pending = p })
   looked_owe o p v small ne found =
       record {
         passed = 3;
         lands = lands o 16 3 (omega arith) (omega arith) refl;
         when_taken = λ t. ⊎_elim
-            (λ s. go_owe (behind 4 o) (omega arith) p v word (λ u. Chained task own place (task ∷ u)) (λ lines2 middle end only ended raised. inl (record { may = inr (ne, (s.0.0, other_bytes own lines2 p task only ne ∙ s.0.1, s.0.2), refl); middle = middle; ended = ended; raised = raised })))
+            (λ s. go_owe (behind 4 o) (omega arith) p v word (λ u. ChainTaskEffect task own place (task ∷ u)) (λ lines2 middle end only ended raised. inl (record { may = inr (ne, (s.0.0, other_bytes own lines2 p task only ne ∙ s.0.1, s.0.2), refl); middle = middle; ended = ended; raised = raised })))
             (λ s. let f : not (eqb v 0) ≡ false = ap (λ x. not (eqb x 0)) s.1 in absurd (cc))
             found;
         when_not = λ n. ⊎_elim
@@ -101,7 +101,7 @@ module _ (offset task own place : ℕ) (c : Core) (h : MayChain offset task own 
             found;
       }
 
-  body_owes : Owes offset (offset + 4 + 248) (offset + 4) (body task) 0 (Chained task own place) (offset_state offset (based c)) (masked (based c))
+  body_owes : Owes offset (offset + 4 + 248) (offset + 4) (body task) 0 (ChainTaskEffect task own place) (offset_state offset (based c)) (masked (based c))
   body_owes =
       let fits = inside in
       let small = h.is_task in
@@ -111,19 +111,19 @@ module _ (offset task own place : ℕ) (c : Core) (h : MayChain offset task own 
         passed = 9;
         lands = lands (behind 2 (offset + 4)) 40 9 (omega arith) (omega arith) refl;
         when_taken = λ t. ⊎_elim
-            (λ same. go_owe (behind 12 (offset + 4)) (omega arith) c.pending (own + 1) (task + 1) (Chained task own place) (λ lines middle end only ended raised. inl (record { may = inl (omega arith, refl); middle = middle; ended = ended; raised = raised })))
+            (λ same. go_owe (behind 12 (offset + 4)) (omega arith) c.pending (own + 1) (task + 1) (ChainTaskEffect task own place) (λ lines middle end only ended raised. inl (record { may = inl (omega arith, refl); middle = middle; ended = ended; raised = raised })))
             (λ ne. let f = ne_eqb (own + 1) (task + 1) ne in absurd (cc))
             (cases_eq (own + 1) (task + 1));
         when_not = λ n.
             let ne : task ≢ own = λ x. n (eq-eqb (own + 1) (task + 1) (ap (λ y. y + 1) (sym x))) in
-            looks_owe offset (offset + 4 + 248) task (Chained task own place) (refusing_code ++ (back_code ++ (ending_code ++ (raising_code task ++ leaving_code)))) c h.is_task
+            looks_owe offset (offset + 4 + 248) task (ChainTaskEffect task own place) (refusing_code ++ (back_code ++ (ending_code ++ (raising_code task ++ leaving_code)))) c h.is_task
             h.goes_back.can_run.lines h.active_bit h.pending_bit h.enabled_bit (behind 3 (offset + 4)) (own + 1) (task + 1)
             (λ lines v only found. looked_owe (behind 8 (offset + 4)) (arrive lines c.pending) v (omega arith) ne found);
       }
 
-  runs_it : FromOpening 59 (offset_state offset c) (Chained task own place)
-  runs_it = opens_within offset 59 (body task) c (Chained task own place) h.goes_back.can_run h.goes_back.bases (omega arith) body_owes
+  runs_it : FromOpening 59 (offset_state offset c) (ChainTaskEffect task own place)
+  runs_it = opens_within offset 59 (body task) c (ChainTaskEffect task own place) h.goes_back.can_run h.goes_back.bases (omega arith) body_owes
 
 -- for each task that follows
-pub chains : (task : ℕ) → Chains task (masking ∷ body task)
+pub chains : (task : ℕ) → IsChainTaskCode task (masking ∷ body task)
 chains task = record { size = refl; masks = (body task, refl); runs = λ offset own place core h. runs_it offset task own place core h }

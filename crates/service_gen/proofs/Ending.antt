@@ -10,11 +10,11 @@ use Rattle.rv32_instr.specs.declared.InstrKind.{InstrKind}
 use Rattle.rv32_instr.specs.Ram.{word_at, with_word}
 use Rattle.masked_code.proofs.Owes.{◌▸◌, writes, loads, stores, clears, AreOfLine, Owes}
 use Rattle.masked_code.specs.Kernel.{IsBelow}
-use Rattle.masked_code.proofs.Resumption.{HasLeft}
+use Rattle.masked_code.proofs.Resumption.{IsResumedState}
 use Rattle.masked_code.proofs.Words.{word_at-other}
 use Rattle.masked_code.proofs.Leave.{behind}
 use Rattle.block_parts.specs.Pieces.{ending_code}
-use Rattle.service_gen.specs.TerminateTask.{ended_ram, Terminated}
+use Rattle.service_gen.specs.TerminateTask.{ended_ram, TerminateTaskEffect}
 
 -- the end of a task changes no word behind those of the tasks
 pub ended_kept : (ram : List ℕ) (own p : ℕ) → own < task_limit → below_word ≤ p → word_at (ended_ram ram own) p ≡ word_at ram p
@@ -44,7 +44,7 @@ ended_below c d own place small e b =
     record { is = kept below_word (omega arith) ∙ b.is; aligned = b.aligned; behind = past; inside = b.inside; returns = ap (λ w. w % 4) (kept place (omega arith)) ∙ b.returns; level = subst (λ w. w < 256) (sym (kept (place + context_level) (omega arith))) b.level }
 
 -- from the state that the way down leaves, but for the pending bytes
-pub has_ended : (c d : Core) (own place : ℕ) (start end : State) → own < task_limit → idle_context ≤ place → d.ram ≡ ended_ram c.ram own → start.core.ram ≡ c.ram → start.core.enabled ≡ d.enabled → start.core.levels ≡ d.levels → start.core.mscratch ≡ d.mscratch → start.core.controller ≡ d.controller → HasLeft place d end → Terminated own place (own ∷ []) start (record end { core = record end.core { pending = set start.core.pending own 0 } })
+pub has_ended : (c d : Core) (own place : ℕ) (start end : State) → own < task_limit → idle_context ≤ place → d.ram ≡ ended_ram c.ram own → start.core.ram ≡ c.ram → start.core.enabled ≡ d.enabled → start.core.levels ≡ d.levels → start.core.mscratch ≡ d.mscratch → start.core.controller ≡ d.controller → IsResumedState place d end → TerminateTaskEffect own place (own ∷ []) start (record end { core = record end.core { pending = set start.core.pending own 0 } })
 has_ended c d own place start end small past e same en le sc co has_left =
     let left = has_left.left in
     let kept : (p : ℕ) → below_word ≤ p → word_at d.ram p ≡ word_at start.core.ram p = λ p far. ap (λ r. word_at r p) e ∙ ended_kept c.ram own p small far ∙ ap (λ r. word_at r p) (sym same) in

@@ -14,26 +14,26 @@ use Rattle.masked_code.proofs.Routines.{masked}
 use Rattle.block_parts.proofs.Returning.{goes_back_at}
 use Rattle.block_parts.proofs.Serving.{opens}
 use Rattle.block_parts.specs.Services as piece
-use Rattle.service_gen.specs.ReleaseResource.{MayRelease, Released, Releases}
+use Rattle.service_gen.specs.ReleaseResource.{MayRelease, ReleaseResourceEffect, IsReleaseResourceCode}
 
 -- the code behind the masking instruction
 abbrev pub body : ℕ → List InstrKind
 body resource = piece.releasing_code resource
 
 module _ (offset resource : ℕ) (c : Core) (h : MayRelease offset resource (masking ∷ body resource) c) where
-  body_owes : Owes offset (offset + 4 + 20) (offset + 4) (body resource) 0 (Released resource) (offset_state offset (based c)) (masked (based c))
+  body_owes : Owes offset (offset + 4 + 20) (offset + 4) (body resource) 0 (ReleaseResourceEffect resource) (offset_state offset (based c)) (masked (based c))
   body_owes =
       let small = h.is_resource in
       let fits = h.level in
       let level = word_at c.ram (saved_level resource) in
       loads (saved_level resource) (record { is = omega arith; aligned = omega arith; inside = omega arith }) level refl
       ▸ writes E_OK refl
-      ▸ goes_back_at offset (masking ∷ body resource) c h.goes_back (Released resource) level level E_OK c.pending c.pending
+      ▸ goes_back_at offset (masking ∷ body resource) c h.goes_back (ReleaseResourceEffect resource) level level E_OK c.pending c.pending
       c.ram (omega arith) (λ last is went. record { touches = refl; status = is; back = went })
 
-  runs_it : FromOpening 5 (offset_state offset c) (Released resource)
-  runs_it = opens offset 5 (body resource) c (Released resource) h.goes_back.can_run h.goes_back.bases (omega arith) body_owes
+  runs_it : FromOpening 5 (offset_state offset c) (ReleaseResourceEffect resource)
+  runs_it = opens offset 5 (body resource) c (ReleaseResourceEffect resource) h.goes_back.can_run h.goes_back.bases (omega arith) body_owes
 
 -- for each resource
-pub releases : (resource : ℕ) → Releases resource (masking ∷ body resource)
+pub releases : (resource : ℕ) → IsReleaseResourceCode resource (masking ∷ body resource)
 releases resource = record { size = refl; masks = (body resource, refl); runs = λ offset core h. runs_it offset resource core h }

@@ -25,7 +25,7 @@ use Rattle.block_parts.proofs.Serving.{opens_within}
 use Rattle.block_parts.specs.Services.{resting_telling_code}
 use Rattle.service_gen.specs.Pieces.{active_task_test, active_telling_code, waiting_task_test}
 use Rattle.block_parts.specs.Pieces.{back_code}
-use Rattle.service_gen.specs.GetTaskState.{MayTellState, IsStateNumber, StateTold, TellsState}
+use Rattle.service_gen.specs.GetTaskState.{MayTellState, IsStateNumber, GetTaskStateEffect, IsGetTaskStateCode}
 use Rattle.service_gen.specs.GetTaskState.IsStateNumber.{running, preempted, waiting, ready, suspended}
 
 -- the code behind the masking instruction
@@ -71,10 +71,10 @@ module _ (offset task own : ℕ) (c : Core) (h : MayTellState offset task own (m
 
   -- the way back, with the number in a1, where these lines were touched before
   back_owe : (p before : List ℕ) (x number : ℕ) → IsStateNumber task own (record (based c) { pending = p }) (before ++ []) number
-      → Owes 0 0 0 back_code 0 (λ u. StateTold task own (before ++ u)) (st p)
+      → Owes 0 0 0 back_code 0 (λ u. GetTaskStateEffect task own (before ++ u)) (st p)
       (record (masked (based c)) { registers = 0 ∷ x ∷ x2 ∷ controller_base ∷ memory_base ∷ set (set tail 6 number) 5 E_OK; pending = p })
   back_owe p before x number is =
-      goes_back_with offset (masking ∷ body task) c h.goes_back (λ u. StateTold task own (before ++ u)) x E_OK number p p c.ram
+      goes_back_with offset (masking ∷ body task) c h.goes_back (λ u. GetTaskStateEffect task own (before ++ u)) x E_OK number p p c.ram
       (λ last status answer went. record {
         status = status;
         number = subst (IsStateNumber task own (record (based c) { pending = p }) (before ++ [])) (sym answer) is;
@@ -90,7 +90,7 @@ module _ (offset task own : ℕ) (c : Core) (h : MayTellState offset task own (m
       (cases_eq q 0)
 
   -- the task is not Active
-  resting_owe : (o : ℕ) → o + 12 ≤ memory_bytes → word ≡ 0 → Owes offset (offset + 4 + 64) o (waiting_task_test task ++ (resting_telling_code task ++ back_code)) 0 (StateTold task own) (st c.pending) (record (masked (based c)) { registers = 0 ∷ word ∷ x2 ∷ controller_base ∷ memory_base ∷ set tail 5 E_OK; pending = c.pending })
+  resting_owe : (o : ℕ) → o + 12 ≤ memory_bytes → word ≡ 0 → Owes offset (offset + 4 + 64) o (waiting_task_test task ++ (resting_telling_code task ++ back_code)) 0 (GetTaskStateEffect task own) (st c.pending) (record (masked (based c)) { registers = 0 ∷ word ∷ x2 ∷ controller_base ∷ memory_base ∷ set tail 5 E_OK; pending = c.pending })
   resting_owe o low a =
       let long = h.goes_back.can_run.lines in
       let below = line in
@@ -116,7 +116,7 @@ module _ (offset task own : ℕ) (c : Core) (h : MayTellState offset task own (m
       }
 
   -- the task is Active
-  active_owe : (o : ℕ) → word ≡ 1 → Owes offset (offset + 4 + 64) o (active_telling_code task ++ (back_code ++ (waiting_task_test task ++ (resting_telling_code task ++ back_code)))) 0 (StateTold task own) (st c.pending) (record (masked (based c)) { registers = 0 ∷ word ∷ x2 ∷ controller_base ∷ memory_base ∷ set tail 5 E_OK; pending = c.pending })
+  active_owe : (o : ℕ) → word ≡ 1 → Owes offset (offset + 4 + 64) o (active_telling_code task ++ (back_code ++ (waiting_task_test task ++ (resting_telling_code task ++ back_code)))) 0 (GetTaskStateEffect task own) (st c.pending) (record (masked (based c)) { registers = 0 ∷ word ∷ x2 ∷ controller_base ∷ memory_base ∷ set tail 5 E_OK; pending = c.pending })
   active_owe o a =
       let v = apart own task in
       let number : IsStateNumber task own (based c) [] (told v) =
@@ -131,7 +131,7 @@ module _ (offset task own : ℕ) (c : Core) (h : MayTellState offset task own (m
       ▸ writes (told v) refl
       ▸ back_owe c.pending [] v (told v) number
 
-  body_owes : Owes offset (offset + 4 + 64) (offset + 4) (body task) 0 (StateTold task own) (offset_state offset (based c)) (masked (based c))
+  body_owes : Owes offset (offset + 4 + 64) (offset + 4) (body task) 0 (GetTaskStateEffect task own) (offset_state offset (based c)) (masked (based c))
   body_owes =
       let fits = h.goes_back.can_run.inside in
       let small = h.is_task in
@@ -149,9 +149,9 @@ module _ (offset task own : ℕ) (c : Core) (h : MayTellState offset task own (m
             (⊎_elim (λ (z : word < 1). absurd (n (eq-eqb word 0 (omega arith)))) (λ (m : 1 ≤ word). omega arith) (cases_lt word 1));
       }
 
-  runs_it : FromOpening 10 (offset_state offset c) (StateTold task own)
-  runs_it = opens_within offset 10 (body task) c (StateTold task own) h.goes_back.can_run h.goes_back.bases (omega arith) body_owes
+  runs_it : FromOpening 10 (offset_state offset c) (GetTaskStateEffect task own)
+  runs_it = opens_within offset 10 (body task) c (GetTaskStateEffect task own) h.goes_back.can_run h.goes_back.bases (omega arith) body_owes
 
 -- for each task that is asked for
-pub tells_state : (task : ℕ) → TellsState task (masking ∷ body task)
+pub tells_state : (task : ℕ) → IsGetTaskStateCode task (masking ∷ body task)
 tells_state task = record { size = refl; masks = (body task, refl); runs = λ offset own core h. runs_it offset task own core h }

@@ -14,13 +14,13 @@ use Rattle.masked_code.specs.Kernel.{masking}
 use Rattle.masked_code.proofs.Owes.{◌▸◌, writes, stores, accesses, Owes}
 use Rattle.masked_code.proofs.Spread.{based, spread_from}
 use Rattle.masked_code.proofs.Routines.{masked}
-use Rattle.block_parts.specs.Back.{WentBack, a0}
+use Rattle.block_parts.specs.Back.{BackEffect, a0}
 use Rattle.block_parts.proofs.Returning.{goes_back_to}
 use Rattle.block_parts.proofs.Landing.{lands}
 use Rattle.block_parts.proofs.Serving.{opens}
 use Rattle.block_parts.specs.Services.{taking_code}
 use Rattle.service_gen.specs.Pieces.{ok_back_code}
-use Rattle.service_gen.specs.GetResource.{MayTakeResource, Taken, Takes}
+use Rattle.service_gen.specs.GetResource.{MayTakeResource, GetResourceEffect, IsGetResourceCode}
 
 -- the code behind the masking instruction
 abbrev pub body : ℕ → ℕ → List InstrKind
@@ -34,22 +34,22 @@ module _ (offset resource ceiling : ℕ) (small : ceiling < 256) (c : Core) (h :
   ram = with_word c.ram (saved_level resource) c.plevel
 
   -- the level in plevel is to run
-  rest_owe : (o v : ℕ) → v ≡ max c.ilevel ceiling → Owes offset (offset + 4 + 32) o ok_back_code 0 (Taken resource ceiling) (offset_state offset (based c))
+  rest_owe : (o v : ℕ) → v ≡ max c.ilevel ceiling → Owes offset (offset + 4 + 32) o ok_back_code 0 (GetResourceEffect resource ceiling) (offset_state offset (based c))
       (record (masked (based c)) { registers = 0 ∷ ceiling ∷ x2 ∷ controller_base ∷ memory_base ∷ set (spread_from 27 5 c.registers) 5 c.plevel; plevel = v; ram = ram })
   rest_owe o v e =
       writes E_OK refl
-      ▸ goes_back_to offset (masking ∷ body resource ceiling) c h.goes_back (Taken resource ceiling) ceiling v (max c.ilevel ceiling) E_OK
+      ▸ goes_back_to offset (masking ∷ body resource ceiling) c h.goes_back (GetResourceEffect resource ceiling) ceiling v (max c.ilevel ceiling) E_OK
       c.pending c.pending ram e
       (λ last is went. record {
         touches = refl;
         status = is;
         back =
             subst
-            (λ l. WentBack a0 (record (based c) { ilevel = max c.ilevel ceiling; ram = with_word c.ram (saved_level resource) l }) (offset_state offset (based c)) last)
+            (λ l. BackEffect a0 (record (based c) { ilevel = max c.ilevel ceiling; ram = with_word c.ram (saved_level resource) l }) (offset_state offset (based c)) last)
             h.goes_back.same_level went;
       })
 
-  body_owes : Owes offset (offset + 4 + 32) (offset + 4) (body resource ceiling) 0 (Taken resource ceiling) (offset_state offset (based c)) (masked (based c))
+  body_owes : Owes offset (offset + 4 + 32) (offset + 4) (body resource ceiling) 0 (GetResourceEffect resource ceiling) (offset_state offset (based c)) (masked (based c))
   body_owes =
       let few = h.is_resource in
       let level = h.level in
@@ -74,9 +74,9 @@ module _ (offset resource ceiling : ℕ) (small : ceiling < 256) (c : Core) (h :
             (cases_lt ceiling c.plevel);
       }
 
-  runs_it : FromOpening 8 (offset_state offset c) (Taken resource ceiling)
-  runs_it = opens offset 8 (body resource ceiling) c (Taken resource ceiling) h.goes_back.can_run h.goes_back.bases (omega arith) body_owes
+  runs_it : FromOpening 8 (offset_state offset c) (GetResourceEffect resource ceiling)
+  runs_it = opens offset 8 (body resource ceiling) c (GetResourceEffect resource ceiling) h.goes_back.can_run h.goes_back.bases (omega arith) body_owes
 
 -- for each resource and ceiling
-pub taken : (resource ceiling : ℕ) → ceiling < 256 → Takes resource ceiling (masking ∷ body resource ceiling)
+pub taken : (resource ceiling : ℕ) → ceiling < 256 → IsGetResourceCode resource ceiling (masking ∷ body resource ceiling)
 taken resource ceiling small = record { size = refl; masks = (body resource ceiling, refl); runs = λ offset core h. runs_it offset resource ceiling small core h }

@@ -20,7 +20,7 @@ use Rattle.block_parts.proofs.Serving.{opens_within}
 use Rattle.block_parts.specs.Services.{level_code}
 use Rattle.service_gen.specs.Pieces.{way_back_address_code, way_back_code, way_back_stop_code}
 use Rattle.block_parts.specs.Back.{a0}
-use Rattle.service_gen.specs.Schedule.{start_register, way_back, MayYield, Yielded, MayComeBack, CameBack, Yields}
+use Rattle.service_gen.specs.Schedule.{start_register, way_back, MayYield, ScheduleEffect, MayComeBack, WayBackEffect, IsScheduleCode}
 
 -- up to the way back
 abbrev pub lowering : List InstrKind
@@ -70,7 +70,7 @@ module _ (offset task : ℕ) (c : Core) (h : MayYield offset task (masking ∷ b
       get_or-set_other (set low 30 c.plevel) 10 i E_OK 0 not_status ∙ get_or-set_other low 30 i c.plevel 0 not_level
       ∙ others there x2 controller_base memory_base (get_or c.registers 1 0) x2 controller_base memory_base tail i past
 
-  has_yielded : Yielded offset task [] (offset_state offset (based c)) end
+  has_yielded : ScheduleEffect offset task [] (offset_state offset (based c)) end
   has_yielded =
       let fits = h.line in
       let aligned = h.can_run.aligned in
@@ -84,7 +84,7 @@ module _ (offset task : ℕ) (c : Core) (h : MayYield offset task (masking ∷ b
         kept = kept;
       }
 
-  lowering_owes : Owes offset (offset + 4 + 48) (offset + 4) body 0 (Yielded offset task) (offset_state offset (based c)) (masked (based c))
+  lowering_owes : Owes offset (offset + 4 + 48) (offset + 4) body 0 (ScheduleEffect offset task) (offset_state offset (based c)) (masked (based c))
   lowering_owes =
       let small = h.is_task in
       let inside = h.can_run.inside in
@@ -99,8 +99,8 @@ module _ (offset task : ℕ) (c : Core) (h : MayYield offset task (masking ∷ b
         goes_on = accesses c.mepc refl refl ▸ writes E_OK refl ▸ has_yielded;
       }
 
-  lowers_it : FromOpening 8 (offset_state offset c) (Yielded offset task)
-  lowers_it = opens_within offset 8 body c (Yielded offset task) h.can_run h.bases (omega arith) lowering_owes
+  lowers_it : FromOpening 8 (offset_state offset c) (ScheduleEffect offset task)
+  lowers_it = opens_within offset 8 body c (ScheduleEffect offset task) h.can_run h.bases (omega arith) lowering_owes
 
 -- ---- the way back
 
@@ -109,7 +109,7 @@ abbrev returning : List InstrKind
 returning = Csrrw 0 30 PLEVEL ∷ Csrrw 0 31 MEPC ∷ Mret ∷ way_back_stop_code
 
 module _ (offset : ℕ) (c : Core) (h : MayComeBack offset (masking ∷ body) c) where
-  returning_owes : Owes (offset + way_back) (offset + way_back + 4 + 24) (offset + way_back + 4) returning 0 CameBack (offset_state (offset + way_back) (based c)) (masked (based c))
+  returning_owes : Owes (offset + way_back) (offset + way_back + 4 + 24) (offset + way_back + 4) returning 0 WayBackEffect (offset_state (offset + way_back) (based c)) (masked (based c))
   returning_owes =
       let fits = h.level in
       let aligned = h.goes_back.back in
@@ -139,11 +139,11 @@ module _ (offset : ℕ) (c : Core) (h : MayComeBack offset (masking ∷ body) c)
         placed = in_place-rest c.ram (masking ∷ lowering) (way_back_code ++ way_back_stop_code) offset can.placed;
       }
 
-  returns_it : FromOpening 3 (offset_state (offset + way_back) c) CameBack
-  returns_it = opens_within (offset + way_back) 3 returning c CameBack can_return h.goes_back.bases (omega arith) returning_owes
+  returns_it : FromOpening 3 (offset_state (offset + way_back) c) WayBackEffect
+  returns_it = opens_within (offset + way_back) 3 returning c WayBackEffect can_return h.goes_back.bases (omega arith) returning_owes
 
 -- the level goes down to the task's own, and is as before on the way back
-pub yields : Yields (masking ∷ body)
+pub yields : IsScheduleCode (masking ∷ body)
 yields =
     record {
       size = refl;

@@ -4,14 +4,14 @@ use Rattle.sloth_base.specs.declared.service.Service.TheVariants as service
 use Rattle.sloth_base.specs.Machine.{Core, State}
 use Rattle.sloth_base.specs.Status.{E_OK, E_OS_LIMIT}
 use Rattle.sloth_base.specs.Limits.{task_limit}
-use Rattle.block_parts.specs.Looks.{LooksSuspended}
+use Rattle.block_parts.specs.SuspensionTest.{IsFoundSuspended}
 use Rattle.sloth_region.specs.Layout.{active}
 use Rattle.rv32_instr.specs.declared.InstrKind.{InstrKind}
 use Rattle.rv32_instr.specs.Ram.{word_at}
 use Rattle.masked_code.specs.Masked.{FromOpening}
 use Rattle.masked_code.specs.Place.{offset_state}
 use Rattle.block_parts.specs.ServiceCode.{IsServiceCode}
-use Rattle.block_parts.specs.Back.{CanGoBack, WentBack, a0}
+use Rattle.block_parts.specs.Back.{CanGoBack, BackEffect, a0}
 
 -- the code can run, and what tells of the task are bits
 pub record MayActivate (offset task : ℕ) (code : List InstrKind) (core : Core) : Type 0 where
@@ -22,14 +22,14 @@ pub record MayActivate (offset task : ℕ) (code : List InstrKind) (core : Core)
   pub enabled_bit : slice_index core.enabled task < 2
 
 -- The task's line is pending. The status is E_OK where it was Suspended, else E_OS_LIMIT.
-pub record Activated (task : ℕ) (touched : List ℕ) (start end : State) : Type 0 where
+pub record ActivateTaskEffect (task : ℕ) (touched : List ℕ) (start end : State) : Type 0 where
   pub touches : touched ≡ task ∷ []
   pub status :
-      (LooksSuspended task start.core × (slice_index end.core.registers a0 ≡ E_OK))
-      ⊎ ((LooksSuspended task start.core → ⊥) × (slice_index end.core.registers a0 ≡ E_OS_LIMIT))
-  pub back : WentBack a0 (record start.core { pending = slice_set start.core.pending task 1 }) start end
+      (IsFoundSuspended task start.core × (slice_index end.core.registers a0 ≡ E_OK))
+      ⊎ ((IsFoundSuspended task start.core → ⊥) × (slice_index end.core.registers a0 ≡ E_OS_LIMIT))
+  pub back : BackEffect a0 (record start.core { pending = slice_set start.core.pending task 1 }) start end
 
 -- Code of ActivateTask: behind its first instruction at most 11 more lead to its effect, whatever lines arrive.
-abbrev pub Activates : ℕ → List InstrKind → Type 0
-Activates task code =
-    IsServiceCode service.ActivateTask code ((offset : ℕ) (core : Core) → MayActivate offset task code core → FromOpening 11 (offset_state offset core) (Activated task))
+abbrev pub IsActivateTaskCode : ℕ → List InstrKind → Type 0
+IsActivateTaskCode task code =
+    IsServiceCode service.ActivateTask code ((offset : ℕ) (core : Core) → MayActivate offset task code core → FromOpening 11 (offset_state offset core) (ActivateTaskEffect task))

@@ -7,14 +7,14 @@ use Rattle.sloth_base.specs.ServiceCodes.{object_kind}
 use Rattle.sloth_base.specs.declared.places.Levels.{Levels}
 use Rattle.rv32_instr.specs.declared.InstrKind.{InstrKind}
 use Rattle.block_parts.specs.Objects.{is_on_events, HasBlockUnless}
-use Rattle.service_gen.specs.ActivateTask.{Activates}
-use Rattle.service_gen.specs.TerminateTask.{Terminates}
-use Rattle.service_gen.specs.ChainTask.{Chains}
-use Rattle.service_gen.specs.GetResource.{Takes}
-use Rattle.service_gen.specs.GetTaskID.{TellsTask}
-use Rattle.service_gen.specs.GetTaskState.{TellsState}
-use Rattle.service_gen.specs.ReleaseResource.{Releases}
-use Rattle.service_gen.specs.Schedule.{way_back, Yields}
+use Rattle.service_gen.specs.ActivateTask.{IsActivateTaskCode}
+use Rattle.service_gen.specs.TerminateTask.{IsTerminateTaskCode}
+use Rattle.service_gen.specs.ChainTask.{IsChainTaskCode}
+use Rattle.service_gen.specs.GetResource.{IsGetResourceCode}
+use Rattle.service_gen.specs.GetTaskID.{IsGetTaskIDCode}
+use Rattle.service_gen.specs.GetTaskState.{IsGetTaskStateCode}
+use Rattle.service_gen.specs.ReleaseResource.{IsReleaseResourceCode}
+use Rattle.service_gen.specs.Schedule.{way_back, IsScheduleCode}
 use Rattle.sloth_base.specs.Arithmetic.{sum32}
 use Rattle.block_parts.specs.Marks.{back_mark}
 
@@ -28,13 +28,13 @@ abbrev pub HasBlock : Service → ℕ → Type 0
 HasBlock service object = HasBlockUnless (is_on_events service) (object_kind service) object
 
 -- the code of a service with its object has the service's effect
-abbrev pub Serves : Service → ℕ → Levels → List InstrKind → Type 0
-Serves ActivateTask object levels code = Activates object code
-Serves TerminateTask object levels code = Terminates code
-Serves ChainTask object levels code = Chains object code
-Serves Schedule object levels code = Yields code
-Serves GetTaskID object levels code = TellsTask code
-Serves GetTaskState object levels code = TellsState object code
-Serves GetResource object levels code = Takes object (slice_index levels.ceiling object) code
-Serves ReleaseResource object levels code = Releases object code
-Serves service object levels code = ⊥
+abbrev pub IsTaskServiceBlock : Service → ℕ → Levels → List InstrKind → Type 0
+IsTaskServiceBlock ActivateTask object levels code = IsActivateTaskCode object code
+IsTaskServiceBlock TerminateTask object levels code = IsTerminateTaskCode code
+IsTaskServiceBlock ChainTask object levels code = IsChainTaskCode object code
+IsTaskServiceBlock Schedule object levels code = IsScheduleCode code
+IsTaskServiceBlock GetTaskID object levels code = IsGetTaskIDCode code
+IsTaskServiceBlock GetTaskState object levels code = IsGetTaskStateCode object code
+IsTaskServiceBlock GetResource object levels code = IsGetResourceCode object (slice_index levels.ceiling object) code
+IsTaskServiceBlock ReleaseResource object levels code = IsReleaseResourceCode object code
+IsTaskServiceBlock service object levels code = ⊥

@@ -12,9 +12,9 @@ use Rattle.masked_code.specs.Masked.{FromOpening}
 use Rattle.masked_code.specs.Place.{offset_state}
 use Rattle.masked_code.specs.Kernel.{IsBelow}
 use Rattle.block_parts.specs.ServiceCode.{IsServiceCode}
-use Rattle.block_parts.specs.Back.{CanGoBack, WentBack, a0}
-use Rattle.block_parts.specs.Looks.{LooksSuspended}
-use Rattle.service_gen.specs.TerminateTask.{Terminated}
+use Rattle.block_parts.specs.Back.{CanGoBack, BackEffect, a0}
+use Rattle.block_parts.specs.SuspensionTest.{IsFoundSuspended}
+use Rattle.service_gen.specs.TerminateTask.{TerminateTaskEffect}
 
 -- the code can run, the task `own` runs, what runs below it has its context at `place`, and what tells of the chained task are bits
 pub record MayChain (offset task own place : ℕ) (code : List InstrKind) (core : Core) : Type 0 where
@@ -29,25 +29,25 @@ pub record MayChain (offset task own place : ℕ) (code : List InstrKind) (core 
 
 -- The caller ends, and then the chained task's line is raised.
 pub record HasChained (task own place : ℕ) (touched : List ℕ) (start end : State) : Type 0 where
-  pub may : (task ≡ own) × (touched ≡ own ∷ []) ⊎ (task ≢ own) × LooksSuspended task start.core × (touched ≡ task ∷ own ∷ [])
+  pub may : (task ≡ own) × (touched ≡ own ∷ []) ⊎ (task ≢ own) × IsFoundSuspended task start.core × (touched ≡ task ∷ own ∷ [])
   pub middle : State
-  pub ended : Terminated own place (own ∷ []) start middle
+  pub ended : TerminateTaskEffect own place (own ∷ []) start middle
   pub raised : end ≡ state_arrive (task ∷ []) middle
 
 -- Nothing happens; the status is E_OS_LIMIT.
 pub record HasNotChained (task own : ℕ) (touched : List ℕ) (start end : State) : Type 0 where
   pub other : task ≢ own
-  pub not_suspended : LooksSuspended task start.core → ⊥
+  pub not_suspended : IsFoundSuspended task start.core → ⊥
   pub touches : touched ≡ task ∷ []
   pub status : slice_index end.core.registers a0 ≡ E_OS_LIMIT
-  pub back : WentBack a0 start.core start end
+  pub back : BackEffect a0 start.core start end
 
 -- what ChainTask does
-abbrev pub Chained : ℕ → ℕ → ℕ → List ℕ → State → State → Type 0
-Chained task own place touched start end = HasChained task own place touched start end ⊎ HasNotChained task own touched start end
+abbrev pub ChainTaskEffect : ℕ → ℕ → ℕ → List ℕ → State → State → Type 0
+ChainTaskEffect task own place touched start end = HasChained task own place touched start end ⊎ HasNotChained task own touched start end
 
 -- Code of ChainTask: behind its first instruction at most 59 more lead to its effect, whatever lines arrive.
-abbrev pub Chains : ℕ → List InstrKind → Type 0
-Chains task code =
+abbrev pub IsChainTaskCode : ℕ → List InstrKind → Type 0
+IsChainTaskCode task code =
     IsServiceCode service.ChainTask code ((offset own place : ℕ) (core : Core) → MayChain offset task own place code core
-    → FromOpening 59 (offset_state offset core) (Chained task own place))
+    → FromOpening 59 (offset_state offset core) (ChainTaskEffect task own place))

@@ -10,7 +10,7 @@ use Rattle.rv32_instr.specs.Ram.{word_at}
 use Rattle.masked_code.specs.Masked.{FromOpening}
 use Rattle.masked_code.specs.Place.{offset_state}
 use Rattle.block_parts.specs.ServiceCode.{IsServiceCode}
-use Rattle.block_parts.specs.Back.{CanGoBack, WentBack, a0, a1}
+use Rattle.block_parts.specs.Back.{CanGoBack, BackEffect, a0, a1}
 
 -- the code can run, and this task runs
 pub record MayTell (offset task : ℕ) (code : List InstrKind) (core : Core) : Type 0 where
@@ -19,13 +19,13 @@ pub record MayTell (offset task : ℕ) (code : List InstrKind) (core : Core) : T
   pub is_task : task < task_limit
 
 -- a1 is the running task's number, the status E_OK.
-pub record Told (task : ℕ) (touched : List ℕ) (start end : State) : Type 0 where
+pub record GetTaskIDEffect (task : ℕ) (touched : List ℕ) (start end : State) : Type 0 where
   pub touches : touched ≡ []
   pub status : slice_index end.core.registers a0 ≡ E_OK
   pub number : slice_index end.core.registers a1 ≡ task
-  pub back : WentBack a1 start.core start end
+  pub back : BackEffect a1 start.core start end
 
 -- Code of GetTaskID: behind its first instruction at most 5 more lead to its effect, whatever lines arrive.
-abbrev pub TellsTask : List InstrKind → Type 0
-TellsTask code =
-    IsServiceCode service.GetTaskID code ((offset task : ℕ) (core : Core) → MayTell offset task code core → FromOpening 5 (offset_state offset core) (Told task))
+abbrev pub IsGetTaskIDCode : List InstrKind → Type 0
+IsGetTaskIDCode code =
+    IsServiceCode service.GetTaskID code ((offset task : ℕ) (core : Core) → MayTell offset task code core → FromOpening 5 (offset_state offset core) (GetTaskIDEffect task))

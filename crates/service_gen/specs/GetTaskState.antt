@@ -10,8 +10,8 @@ use Rattle.rv32_instr.specs.Ram.{word_at}
 use Rattle.masked_code.specs.Masked.{FromOpening}
 use Rattle.masked_code.specs.Place.{offset_state}
 use Rattle.block_parts.specs.ServiceCode.{IsServiceCode}
-use Rattle.block_parts.specs.Back.{CanGoBack, WentBack, a0, a1}
-use Rattle.block_parts.specs.Looks.{LooksSuspended}
+use Rattle.block_parts.specs.Back.{CanGoBack, BackEffect, a0, a1}
+use Rattle.block_parts.specs.SuspensionTest.{IsFoundSuspended}
 
 -- the code can run, the task `own` runs, and what tells of the other task are bits
 pub record MayTellState (offset task own : ℕ) (code : List InstrKind) (core : Core) : Type 0 where
@@ -31,15 +31,15 @@ pub data IsStateNumber (task own : ℕ) (core : Core) (touched : List ℕ) (numb
       → IsStateNumber task own core touched number
   ready : word_at core.ram (active task) ≡ 0 → slice_index core.enabled task ≡ 1 → slice_index core.pending task ≡ 1 → touched ≡ task ∷ []
       → number ≡ 2 → IsStateNumber task own core touched number
-  suspended : LooksSuspended task core → touched ≡ task ∷ [] → number ≡ 3 → IsStateNumber task own core touched number
+  suspended : IsFoundSuspended task core → touched ≡ task ∷ [] → number ≡ 3 → IsStateNumber task own core touched number
 
 -- a1 is the number of the task's state, the status E_OK.
-pub record StateTold (task own : ℕ) (touched : List ℕ) (start end : State) : Type 0 where
+pub record GetTaskStateEffect (task own : ℕ) (touched : List ℕ) (start end : State) : Type 0 where
   pub status : slice_index end.core.registers a0 ≡ E_OK
   pub number : IsStateNumber task own start.core touched (slice_index end.core.registers a1)
-  pub back : WentBack a1 start.core start end
+  pub back : BackEffect a1 start.core start end
 
 -- Code of GetTaskState: behind its first instruction at most 10 more lead to its effect, whatever lines arrive.
-abbrev pub TellsState : ℕ → List InstrKind → Type 0
-TellsState task code =
-    IsServiceCode service.GetTaskState code ((offset own : ℕ) (core : Core) → MayTellState offset task own code core → FromOpening 10 (offset_state offset core) (StateTold task own))
+abbrev pub IsGetTaskStateCode : ℕ → List InstrKind → Type 0
+IsGetTaskStateCode task code =
+    IsServiceCode service.GetTaskState code ((offset own : ℕ) (core : Core) → MayTellState offset task own code core → FromOpening 10 (offset_state offset core) (GetTaskStateEffect task own))

@@ -9,14 +9,14 @@ use Rattle.rv32_instr.specs.declared.InstrKind.{InstrKind}
 use Rattle.rv32_instr.specs.Ram.{word_at, with_word}
 use Rattle.masked_code.specs.Masked.{FromOpening}
 use Rattle.masked_code.specs.Place.{offset_state}
-use Rattle.masked_code.specs.Kernel.{CanRun, HoldBases, IsBelow, LeftAs}
+use Rattle.masked_code.specs.Kernel.{CanRun, HasBases, IsBelow, IsOpenedCore}
 use Rattle.block_parts.specs.ServiceCode.{IsServiceCode}
 
 -- the code stands at an offset, this task runs, and the context of what runs below it stands at `place`
 pub record MayTerminate (offset task place : ℕ) (code : List InstrKind) (core : Core) : Type 0 where
   pub can_run : CanRun offset code core
   pub previous : core.mpie ≡ true
-  pub bases : HoldBases core.registers
+  pub bases : HasBases core.registers
   pub runs : word_at core.ram cur ≡ task + 1
   pub is_task : task < task_limit
   pub below : IsBelow place core
@@ -35,9 +35,9 @@ ended_core task place core =
     }
 
 -- The task has ended: it is neither pending nor Active and has no events, and what runs below goes on as its context says.
-pub record Terminated (task place : ℕ) (touched : List ℕ) (start end : State) : Type 0 where
+pub record TerminateTaskEffect (task place : ℕ) (touched : List ℕ) (start end : State) : Type 0 where
   pub touches : touched ≡ task ∷ []
-  pub left : LeftAs (ended_core task place start.core) end.core
+  pub left : IsOpenedCore (ended_core task place start.core) end.core
   pub pc : end.pc ≡ word_at start.core.ram place
   pub x2 : slice_index end.core.registers 2 ≡ memory_base + (place + context_bytes)
   -- nothing is said of the registers where the idle loop runs below
@@ -45,7 +45,7 @@ pub record Terminated (task place : ℕ) (touched : List ℕ) (start end : State
       → slice_index end.core.registers i ≡ word_at start.core.ram (place + 4 * i)
 
 -- Code of TerminateTask: behind its first instruction at most 48 more lead to the end of the task, whatever lines arrive.
-abbrev pub Terminates : List InstrKind → Type 0
-Terminates code =
+abbrev pub IsTerminateTaskCode : List InstrKind → Type 0
+IsTerminateTaskCode code =
     IsServiceCode service.TerminateTask code ((offset task place : ℕ) (core : Core) → MayTerminate offset task place code core
-    → FromOpening 48 (offset_state offset core) (Terminated task place))
+    → FromOpening 48 (offset_state offset core) (TerminateTaskEffect task place))

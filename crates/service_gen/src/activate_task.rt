@@ -2,7 +2,7 @@
 ghost use Rattle.std.specs.Prelude.{◌≡◌, ◌<◌, ◌++◌, IfOk, OnOk};
 ghost use Rattle.sloth_base.specs.Limits.{task_limit};
 ghost use Rattle.service_gen.specs.Pieces.{status_code};
-ghost use Rattle.service_gen.specs.ActivateTask.{Activates};
+ghost use Rattle.service_gen.specs.ActivateTask.{IsActivateTaskCode};
 
 use block_parts::pieces::{go_back, look_at, open, raise};
 use masked_code::emit::emit;
@@ -13,7 +13,7 @@ use std::alloc::{AllocError, Global};
 /// The look at the task, the raised line, and the way back.
 pub fn code(alloc: Global, task: u8) -> Result<Vec<Instr>, AllocError>
     requires { task < task_limit }
-    ensures { IfOk result (λ code. Activates task code.items) }
+    ensures { IfOk result (λ code. IsActivateTaskCode task code.items) }
 {
     let mut code = Vec::new(alloc);
     open(&mut code)?;

@@ -3,7 +3,7 @@
 ghost use Rattle.std.specs.Prelude.{◌≡◌, ◌<◌, ◌++◌, IfOk, OnOk};
 ghost use Rattle.sloth_base.specs.Limits.{task_limit};
 ghost use Rattle.block_parts.specs.Services.{refusing_code};
-ghost use Rattle.service_gen.specs.ChainTask.{Chains};
+ghost use Rattle.service_gen.specs.ChainTask.{IsChainTaskCode};
 
 use block_parts::leaving::leave;
 use block_parts::pieces::{BACK, end, go_back, look_at, open, raise};
@@ -17,7 +17,7 @@ use std::alloc::{AllocError, Global};
 /// The look at the task with the refusal, and then the caller's end, the raised line and the way to what runs below.
 pub fn code(alloc: Global, task: u8) -> Result<Vec<Instr>, AllocError>
     requires { task < task_limit }
-    ensures { IfOk result (λ code. Chains task code.items) }
+    ensures { IfOk result (λ code. IsChainTaskCode task code.items) }
 {
     let mut code = Vec::new(alloc);
     open(&mut code)?;

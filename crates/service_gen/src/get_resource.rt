@@ -2,7 +2,7 @@
 ghost use Rattle.std.specs.Prelude.{◌≡◌, ◌≤◌, ◌++◌, IfOk, OnOk};
 ghost use Rattle.sloth_base.specs.ConfigRange.{scheduler_number};
 ghost use Rattle.service_gen.specs.Pieces.{ok_back_code};
-ghost use Rattle.service_gen.specs.GetResource.{Takes};
+ghost use Rattle.service_gen.specs.GetResource.{IsGetResourceCode};
 
 use block_parts::pieces::{go_back, open};
 use block_parts::services::take;
@@ -15,7 +15,7 @@ use std::alloc::{AllocError, Global};
 /// The saved level, the greater level, and the way back.
 pub fn code(alloc: Global, resource: u8, ceiling: u8) -> Result<Vec<Instr>, AllocError>
     requires { resource ≤ scheduler_number }
-    ensures { IfOk result (λ code. Takes resource ceiling code.items) }
+    ensures { IfOk result (λ code. IsGetResourceCode resource ceiling code.items) }
 {
     let mut code = Vec::new(alloc);
     open(&mut code)?;

@@ -1,7 +1,7 @@
 //! GetTaskID: the number of the running task.
 ghost use Rattle.std.specs.Prelude.{◌≡◌, ◌++◌, IfOk, OnOk};
 ghost use Rattle.service_gen.specs.Pieces.{own_telling_code};
-ghost use Rattle.service_gen.specs.GetTaskID.{TellsTask};
+ghost use Rattle.service_gen.specs.GetTaskID.{IsGetTaskIDCode};
 
 use block_parts::pieces::{go_back, open};
 use masked_code::emit::emit;
@@ -13,7 +13,7 @@ use std::alloc::{AllocError, Global};
 
 /// The running task's number, and the way back.
 pub fn code(alloc: Global) -> Result<Vec<Instr>, AllocError>
-    ensures { IfOk result (λ code. TellsTask code.items) }
+    ensures { IfOk result (λ code. IsGetTaskIDCode code.items) }
 {
     let mut code = Vec::new(alloc);
     open(&mut code)?;

@@ -2,7 +2,7 @@
 ghost use Rattle.std.specs.Prelude.{◌≡◌, ◌<◌, ◌++◌, IfOk, OnOk};
 ghost use Rattle.sloth_base.specs.Limits.{task_limit};
 ghost use Rattle.service_gen.specs.Pieces.{active_task_test, active_telling_code, waiting_task_test};
-ghost use Rattle.service_gen.specs.GetTaskState.{TellsState};
+ghost use Rattle.service_gen.specs.GetTaskState.{IsGetTaskStateCode};
 
 use block_parts::pieces::{BACK, go_back, open};
 use block_parts::services::tell_resting;
@@ -25,7 +25,7 @@ const TELL_RESTING: u32 = 2;
 /// The number where the task is Active with the way back, and then the number where it is not, with the way back.
 pub fn code(alloc: Global, task: u8) -> Result<Vec<Instr>, AllocError>
     requires { task < task_limit }
-    ensures { IfOk result (λ code. TellsState task code.items) }
+    ensures { IfOk result (λ code. IsGetTaskStateCode task code.items) }
 {
     let mut code = Vec::new(alloc);
     open(&mut code)?;

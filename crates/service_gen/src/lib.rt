@@ -10,7 +10,7 @@ ghost use Rattle.sloth_base.specs.ServiceCodes.{code_of};
 ghost use Rattle.code_lengths.specs.CodeLengths.{service_length};
 ghost use Rattle.block_parts.specs.Marks.{opening};
 ghost use Rattle.block_parts.specs.ServiceBlock.{IsServiceBlock};
-ghost use Rattle.service_gen.specs.Block.{further_marks, HasBlock, Serves};
+ghost use Rattle.service_gen.specs.Block.{further_marks, HasBlock, IsTaskServiceBlock};
 
 mod activate_task;
 mod chain_task;
@@ -46,7 +46,7 @@ pub fn block(
 ) -> Result<Block, NoMemory>
     requires { HasBlock service object }
     ensures block { IfOk result (IsServiceBlock service object map.now.places.blocks (further_marks service)) }
-    ensures effect { IfOk result (λ block. Serves service object levels.now block.code) }
+    ensures effect { IfOk result (λ block. IsTaskServiceBlock service object levels.now block.code) }
 {
     let at = map.places.blocks[block_number(service, object)];
     let code = code(alloc, service, object as u8, levels)?;
@@ -79,7 +79,7 @@ fn code(
 ) -> Result<Vec<Instr>, AllocError>
     requires { HasBlock service object }
     ensures long { IfOk result (λ code. length code.items ≡ service_length service) }
-    ensures serves { IfOk result (λ code. Serves service object levels.now code.items) }
+    ensures serves { IfOk result (λ code. IsTaskServiceBlock service object levels.now code.items) }
 {
     match service {
         Service::ActivateTask => activate_task::code(alloc, object),

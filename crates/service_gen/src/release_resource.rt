@@ -1,7 +1,7 @@
 //! ReleaseResource: back to the level at which the resource was taken.
 ghost use Rattle.std.specs.Prelude.{◌≤◌, IfOk};
 ghost use Rattle.sloth_base.specs.ConfigRange.{scheduler_number};
-ghost use Rattle.service_gen.specs.ReleaseResource.{Releases};
+ghost use Rattle.service_gen.specs.ReleaseResource.{IsReleaseResourceCode};
 
 use block_parts::pieces::open;
 use block_parts::services::release;
@@ -11,7 +11,7 @@ use std::alloc::{AllocError, Global};
 /// The saved level, and the way back.
 pub fn code(alloc: Global, resource: u8) -> Result<Vec<Instr>, AllocError>
     requires { resource ≤ scheduler_number }
-    ensures { IfOk result (λ code. Releases resource code.items) }
+    ensures { IfOk result (λ code. IsReleaseResourceCode resource code.items) }
 {
     let mut code = Vec::new(alloc);
     open(&mut code)?;

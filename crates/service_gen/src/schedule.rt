@@ -1,7 +1,7 @@
 //! Schedule: the running task gives way to those above its own level, and then comes back.
 ghost use Rattle.std.specs.Prelude.{◌≡◌, ◌++◌, IfOk, OnOk};
 ghost use Rattle.service_gen.specs.Pieces.{way_back_address_code, way_back_code, way_back_stop_code};
-ghost use Rattle.service_gen.specs.Schedule.{Yields};
+ghost use Rattle.service_gen.specs.Schedule.{IsScheduleCode};
 
 use block_parts::pieces::open;
 use block_parts::services::lower;
@@ -20,7 +20,7 @@ const COME_BACK: u32 = 4;
 
 /// The lower level, and within it the way back.
 pub fn code(alloc: Global) -> Result<Vec<Instr>, AllocError>
-    ensures { IfOk result (λ code. Yields code.items) }
+    ensures { IfOk result (λ code. IsScheduleCode code.items) }
 {
     let mut code = Vec::new(alloc);
     open(&mut code)?;

@@ -1,6 +1,6 @@
 //! TerminateTask: the running task ends, and what runs below it goes on.
 ghost use Rattle.std.specs.Prelude.{IfOk};
-ghost use Rattle.service_gen.specs.TerminateTask.{Terminates};
+ghost use Rattle.service_gen.specs.TerminateTask.{IsTerminateTaskCode};
 
 use block_parts::leaving::leave;
 use block_parts::pieces::{end, open};
@@ -9,7 +9,7 @@ use std::alloc::{AllocError, Global};
 
 /// The masking instruction, the end of the running task, and the way to what runs below.
 pub fn code(alloc: Global) -> Result<Vec<Instr>, AllocError>
-    ensures { IfOk result (λ code. Terminates code.items) }
+    ensures { IfOk result (λ code. IsTerminateTaskCode code.items) }
 {
     let mut code = Vec::new(alloc);
     open(&mut code)?;

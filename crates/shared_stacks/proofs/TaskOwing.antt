@@ -15,7 +15,7 @@ use Rattle.code_rules.specs.Code.{IsItem, service_op}
 use Rattle.stack_bounds.specs.Bounds.{ReachesSchedule}
 use Rattle.osek_scheduler.specs.declared.state.TaskState.TheVariants as mode
 use Rattle.osek_scheduler.specs.State.{Frame, Task, System, task, with_task}
-use Rattle.osek_scheduler.specs.Services.{activated_state, with_events, Outcome, GoesOn, Leaves, started_task}
+use Rattle.osek_scheduler.specs.Services.{activated_state, with_events, ServiceOutcome, GoesOn, Leaves, started_task}
 use Rattle.osek_scheduler.specs.Changes.{changed_task, with_change}
 use Rattle.osek_scheduler.specs.Outcomes.{decision, outcome}
 use Rattle.osek_scheduler.proofs.ServiceStates.{IsAfter}
@@ -24,7 +24,7 @@ use Rattle.osek_scheduler.specs.declared.change.TaskChange.{TaskChange}
 use Rattle.osek_scheduler.specs.declared.change.TaskChange.TheVariants as change
 use Rattle.osek_scheduler.specs.declared.plan.Plan.{Plan}
 use Rattle.osek_scheduler.proofs.Outcomes.{by_suspended, on_all, on_tested, KeptByOthers, outcome_keeps}
-use Rattle.osek_scheduler.specs.Steps.{OsekStep, ServesCall, admitted_state}
+use Rattle.osek_scheduler.specs.Steps.{OsekStep, IsServiceStep, admitted_state}
 use Rattle.osek_valid.specs.Valid.{IsValid}
 use Rattle.shared_stacks.specs.Together.{OwesBySchedule}
 use Rattle.osek_valid.proofs.Apart.{at_task}
@@ -90,7 +90,7 @@ module _ (app : App) where
   starts_owes t (frame ∷ outer) old = refl
 
   module _ (config : Config) (w : Facts config app) where
-    serves_owes : (t : ℕ) (served : Service) (s : System) (answer : Outcome) → ServesCall config app t served s answer → IsValid config app s → Owes s → IsAfter Owes answer
+    serves_owes : (t : ℕ) (served : Service) (s : System) (answer : ServiceOutcome) → IsServiceStep config app t served s answer → IsValid config app s → Owes s → IsAfter Owes answer
     serves_owes t served s answer h v each = subst (IsAfter Owes) h.is (outcome_owes config s t each served h.call.object h.call.mask reaches)
       where
         reaches : served ≡ service.Schedule → ReachesSchedule app t

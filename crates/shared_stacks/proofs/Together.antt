@@ -10,7 +10,7 @@ use Rattle.stack_bounds.specs.Bounds.{IsBasic, MayBePreempted, AreStacked, AreBo
 use Rattle.stack_bounds.proofs.Stacked as stacked
 use Rattle.osek_scheduler.specs.State.{System, task, opening}
 use Rattle.osek_scheduler.specs.Priority.{highest_priority, greatest, ceiling}
-use Rattle.osek_scheduler.specs.Runs.{Leads}
+use Rattle.osek_scheduler.specs.Runs.{AreStepsTo}
 use Rattle.osek_valid.specs.Valid.{IsValid, InState}
 use Rattle.osek_valid.specs.Apart.{IsActive, IsOver, TasksAreApart, static_priority}
 use Rattle.shared_stacks.specs.Together.{OwesBySchedule, chosen_bytes}
@@ -99,7 +99,7 @@ module _ (config : Config) (app : App) (s : System) (v : IsValid config app s) (
 
 module _ (config : Config) (app : App) (w : Facts config app) where
   -- what every state of a run has
-  along : (events : List Stamped) (s end : System) → Leads config app events s end → IsValid config app s → TasksAreApart config s → OwesBySchedule app s
+  along : (events : List Stamped) (s end : System) → AreStepsTo config app events s end → IsValid config app s → TasksAreApart config s → OwesBySchedule app s
       → IsValid config app end × TasksAreApart config end × OwesBySchedule app end
   along [] s end is v a o =
       let P : System → Type 0 = λ x. IsValid config app x × TasksAreApart config x × OwesBySchedule app x in
@@ -107,6 +107,6 @@ module _ (config : Config) (app : App) (w : Facts config app) where
   along (e ∷ events) s end h v a o =
       along events h.0 end h.2 (step_valid config app e.event s h.0 w h.1 v) (step_apart config app e.event s h.0 h.1 v.count a) (step_owes app config w e.event s h.0 h.1 v o)
 
-  pub reached : (events : List Stamped) (end : System) → Leads config app events (opening config app) end
+  pub reached : (events : List Stamped) (end : System) → AreStepsTo config app events (opening config app) end
       → IsValid config app end × TasksAreApart config end × OwesBySchedule app end
   reached events end leads = along events (opening config app) end leads (opening_valid config app) (opening_apart config app) (opening_owes app config w)

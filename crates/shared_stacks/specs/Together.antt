@@ -10,7 +10,7 @@ use Rattle.stack_bounds.specs.Bounds.{IsBasic, ReachesSchedule, MayBePreempted, 
 use Rattle.call_graph.specs.Tables.{sum_below}
 use Rattle.osek_scheduler.specs.State.{System, opening, task}
 use Rattle.osek_scheduler.specs.Steps.{OsekStep}
-use Rattle.osek_scheduler.specs.Runs.{Leads}
+use Rattle.osek_scheduler.specs.Runs.{AreStepsTo}
 use Rattle.osek_valid.specs.Valid.{IsValid}
 use Rattle.osek_valid.specs.Apart.{IsActive, IsOver}
 
@@ -37,6 +37,6 @@ chosen_bytes config bounds chosen = sum_below (length config.tasks) (λ t. cond 
 -- In each state that events lead to: whichever basic tasks are chosen that are Active, together they need no more than the shared stack.
 abbrev pub SharedStackHolds : Type 0
 SharedStackHolds = (config : Config) (app : App) (bounds : Bounds) (events : List Stamped) (end : System)
-    → WellFormed config app → AreBounds config app bounds → Leads config app events (opening config app) end
+    → WellFormed config app → AreBounds config app bounds → AreStepsTo config app events (opening config app) end
     → (chosen : ℕ → Bool) → ((t : ℕ) → chosen t ≡ true → IsBasic config t × IsActive end t)
     → chosen_bytes config bounds chosen ≤ bounds.shared

@@ -16,8 +16,8 @@ use Rattle.sloth_base.specs.Named.{declaration}
 use Rattle.sloth_base.specs.MemoryMap.{memory_bytes}
 use Rattle.osek_scheduler.specs.State.{opening, opening_clock}
 use Rattle.osek_scheduler.specs.Steps.{OsekStep}
-use Rattle.vector_gen.specs.Boot.{Booted}
-use Rattle.sim_relation.specs.Build.{Build, Fits}
+use Rattle.vector_gen.specs.Boot.{BootEffect}
+use Rattle.sim_relation.specs.Build.{Build, HasFittingPlaces}
 use Rattle.sim_relation.specs.Stands.{Stands, IsFixed}
 use Rattle.sim_relation.specs.Start.{Starts, started_system}
 use Rattle.sim_relation.proofs.ClockKept.{clock_kept}
@@ -59,8 +59,8 @@ unused_beside owners line few unused =
     (cases_lt line (counter_line owners.counters)))
     (cases_lt line first_counter_line)
 
-module _ (b : Build) (image : Image) (levels : List ℕ) (end : State) (fits : Fits b) (is : IsImage b image) (ranks : AreLevelsOf b levels)
-    (effect : Booted b.config.tasks (length b.config.counters) levels (length b.config.tasks) b.idle [] (start image) end) where
+module _ (b : Build) (image : Image) (levels : List ℕ) (end : State) (fits : HasFittingPlaces b) (is : IsImage b image) (ranks : AreLevelsOf b levels)
+    (effect : BootEffect b.config.tasks (length b.config.counters) levels (length b.config.tasks) b.idle [] (start image) end) where
   ram_is : (i : ℕ) → slice_index end.core.ram i ≡ slice_index b.memory i
   ram_is i = ap (λ r. slice_index r i) effect.left.ram ∙ ram_at image.memory i ∙ ap (λ m. slice_index m i) is.memory
 

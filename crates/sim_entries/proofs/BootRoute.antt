@@ -10,14 +10,14 @@ use Rattle.sloth_base.specs.MemoryMap.{line_count}
 use Rattle.rv32_machine.specs.Start.{start}
 use Rattle.masked_code.specs.Trace.{Trace, touched_lines, early_arrivals, late_arrivals}
 use Rattle.observe.specs.Observe.{View}
-use Rattle.vector_gen.specs.Boot.{Booted}
+use Rattle.vector_gen.specs.Boot.{BootEffect}
 use Rattle.sim_induction.specs.Admits.{IsSetting, lines_at, with_admits}
 use Rattle.sim_induction.specs.PieceLaws.{BootLaw}
 use Rattle.sim_induction.proofs.Boot.{nothing_before}
 use Rattle.sim_induction.proofs.Routes.{Booting, booting}
 use Rattle.sim_induction.proofs.Schedule.{owned_at}
 use Rattle.sim_induction.proofs.Traces.{lines_before, lines_trace}
-use Rattle.sim_relation.specs.Build.{Build, Fits}
+use Rattle.sim_relation.specs.Build.{Build, HasFittingPlaces}
 use Rattle.sim_relation.specs.Placed.{setting_of}
 use Rattle.sim_relation.specs.Stands.{Stands}
 use Rattle.sim_relation.specs.Start.{started_system}
@@ -31,7 +31,7 @@ use Rattle.sim_entries.proofs.Boot.{boots_law, ram_at}
 pub none_early : (trace : Trace) → touched_lines trace ≡ [] → early_arrivals trace ≡ []
 none_early trace h = sym (lines_before 0 trace) ∙ ap (map (λ (a : Arrival). a.line)) (nothing_before 0 trace h)
 
-module _ (b : Build) (view : View) (arrivals : List Arrival) (setting : IsSetting (setting_of b view arrivals)) (image : Image) (fits : Fits b) (is : IsImage b image)
+module _ (b : Build) (view : View) (arrivals : List Arrival) (setting : IsSetting (setting_of b view arrivals)) (image : Image) (fits : HasFittingPlaces b) (is : IsImage b image)
     (boot : BootStands b) where
   abbrev first : State
   first = start image
@@ -39,9 +39,9 @@ module _ (b : Build) (view : View) (arrivals : List Arrival) (setting : IsSettin
   in_ram : (i : ℕ) → slice_index first.core.ram i ≡ slice_index b.memory i
   in_ram i = ram_at image.memory i ∙ ap (λ m. slice_index m i) is.memory
 
-  route : Booting arrivals 136 first (Booted b.config.tasks (length b.config.counters) boot.levels (length b.config.tasks) b.idle)
+  route : Booting arrivals 136 first (BootEffect b.config.tasks (length b.config.counters) boot.levels (length b.config.tasks) b.idle)
   route =
-      booting arrivals 136 first (Booted b.config.tasks (length b.config.counters) boot.levels (length b.config.tasks) b.idle) (λ touched from last e. e.left.opened) refl
+      booting arrivals 136 first (BootEffect b.config.tasks (length b.config.counters) boot.levels (length b.config.tasks) b.idle) (λ touched from last e. e.left.opened) refl
       (boot.boots.runs 0x480 first.core fits.idle_address
       (record {
         masked = refl;
@@ -63,9 +63,9 @@ module _ (b : Build) (view : View) (arrivals : List Arrival) (setting : IsSettin
   pub boot_stretch : BootLaw (setting_of b view arrivals) (Stands b) (start image)
   boot_stretch =
       let untouched : touched_lines route.trace ≡ [] = route.effect.touches in
-      let effect : Booted b.config.tasks (length b.config.counters) boot.levels (length b.config.tasks) b.idle [] first route.last =
-      subst (λ x. Booted b.config.tasks (length b.config.counters) boot.levels (length b.config.tasks) b.idle x first route.last) untouched
-      (subst (λ x. Booted b.config.tasks (length b.config.counters) boot.levels (length b.config.tasks) b.idle (touched_lines route.trace) (state_arrive x first) route.last) (none_early route.trace untouched) route.effect) in
+      let effect : BootEffect b.config.tasks (length b.config.counters) boot.levels (length b.config.tasks) b.idle [] first route.last =
+      subst (λ x. BootEffect b.config.tasks (length b.config.counters) boot.levels (length b.config.tasks) b.idle x first route.last) untouched
+      (subst (λ x. BootEffect b.config.tasks (length b.config.counters) boot.levels (length b.config.tasks) b.idle (touched_lines route.trace) (state_arrive x first) route.last) (none_early route.trace untouched) route.effect) in
       let law = boots_law b image boot.levels route.last fits is boot.ranks effect in
       let in_range = lines_trace (IsOwned (owners_in b.config)) (suc route.more) 0 (lines_at arrivals) first route.trace route.end (owned_at (setting_of b view arrivals) setting) route.steps in
       let few : length b.config.tasks ≤ line_count = let f = fits.few_tasks in omega arith in

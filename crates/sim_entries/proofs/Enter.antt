@@ -17,7 +17,7 @@ use Rattle.sloth_base.specs.MemoryMap.{memory_base, line_count}
 use Rattle.osek_scheduler.specs.Priority.{is_active}
 use Rattle.osek_scheduler.specs.Services.{started_task, entered_state}
 use Rattle.osek_scheduler.specs.Steps.{OsekStep, settled_state}
-use Rattle.sim_relation.specs.Build.{Build, Fits}
+use Rattle.sim_relation.specs.Build.{Build, HasFittingPlaces}
 use Rattle.sim_relation.specs.Position.{AreWords, thread_of}
 use Rattle.sim_relation.specs.Context.{IsContext}
 use Rattle.sim_relation.specs.Stands.{Stands}
@@ -29,7 +29,7 @@ use Rattle.sim_relation.proofs.Entering.{entry_stands}
 use Rattle.sim_relation.proofs.Choice.{taken_ready, taken_top}
 use Rattle.sim_relation.proofs.Room.{first_room}
 use Rattle.sim_entries.specs.Range.{IsSane}
-use Rattle.sim_entries.specs.Entries.{EntersAnew, StandsAlone, first_words}
+use Rattle.sim_entries.specs.Entries.{IsNewEntry, StandsAlone, body_frame_words}
 use Rattle.sim_entries.proofs.EntryRam.{IsStored}
 use Rattle.sim_entries.proofs.Saving.{preempted, cleared, cleared_long, saved, is_saved, entry_ram, entry_machine}
 use Rattle.sim_entries.proofs.Spot.{zero_at, stored_apart}
@@ -43,9 +43,9 @@ there app f h =
     (λ (l : length app.funcs ≤ f). let e = ap (λ (g : Func). length g.items) (get_or_past app.funcs f no_function l) in absurd (omega arith))
     (cases_lt f (length app.funcs))
 
-module _ (b : Build) (state end : State) (s : System) (t place : ℕ) (fits : Fits b) (k : Stands b state s) (sane : IsSane state)
+module _ (b : Build) (state end : State) (s : System) (t place : ℕ) (fits : HasFittingPlaces b) (k : Stands b state s) (sane : IsSane state)
     (declared : t < length b.config.tasks) (e : choose state.core ≡ Some t) (fresh : (task s t).frames ≡ []) (has_item : 0 < length (function b.app (body_of b.app.funcs t)).items) (alone : StandsAlone b s t)
-    (x2 : slice_index state.core.registers 2 ≡ memory_base + (place + 128)) (effect : EntersAnew b t place state end) where
+    (x2 : slice_index state.core.registers 2 ≡ memory_base + (place + 128)) (effect : IsNewEntry b t place state end) where
   few : length b.config.tasks ≤ line_count
   few = let f = fits.few_tasks in omega arith
 
@@ -53,7 +53,7 @@ module _ (b : Build) (state end : State) (s : System) (t place : ℕ) (fits : Fi
   ready = taken_ready b state s k few t declared e
 
   abbrev words : ℕ
-  words = first_words b t
+  words = body_frame_words b t
 
   abbrev frame : ℕ
   frame = b.top t - 4 * words

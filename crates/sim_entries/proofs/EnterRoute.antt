@@ -27,9 +27,9 @@ use Rattle.sloth_base.specs.MemoryMap.{memory_base, vectors_base, memory_bytes, 
 use Rattle.osek_scheduler.specs.Priority.{is_active}
 use Rattle.osek_scheduler.specs.Services as services
 use Rattle.osek_scheduler.specs.Steps.{OsekStep, settled_state}
-use Rattle.prologue_gen.specs.Fresh.{vector, IsTaken, MayEnter, Entered}
-use Rattle.prologue_gen.specs.Resumed.{MayResume, Resumed}
-use Rattle.prologue_gen.specs.Places.{DoesEnter}
+use Rattle.prologue_gen.specs.Fresh.{vector, IsTaken, MayEnter, EntryEffect}
+use Rattle.prologue_gen.specs.Resuming.{MayResume, ResumeEffect}
+use Rattle.prologue_gen.specs.Places.{IsPrologueCode}
 use Rattle.prologue_gen.proofs.BothKinds as kinds
 use Rattle.sim_induction.specs.Admits.{IsSetting, lines_at, with_admits}
 use Rattle.sim_induction.specs.Advances.{Advances}
@@ -39,7 +39,7 @@ use Rattle.sim_induction.proofs.Follow.{booted_admits}
 use Rattle.sim_induction.proofs.Routes.{Opens, Entering, entering, touches_parted, begins_entered, entered_event}
 use Rattle.sim_induction.proofs.StretchPiece.{stretch_advances}
 use Rattle.sim_induction.proofs.Traces.{lines_trace}
-use Rattle.sim_relation.specs.Build.{Build, Fits, start_level}
+use Rattle.sim_relation.specs.Build.{Build, HasFittingPlaces, start_level}
 use Rattle.sim_relation.specs.Placed.{setting_of}
 use Rattle.sim_relation.specs.Stands.{Stands}
 use Rattle.sim_relation.proofs.Arrive.{stands_arrived}
@@ -50,7 +50,7 @@ use Rattle.sim_relation.proofs.Codes.{code_apart, code_beside}
 use Rattle.sim_relation.proofs.Spot.{Spot, spot}
 use Rattle.sim_relation.proofs.Room.{first_room}
 use Rattle.sim_entries.specs.Range.{IsSane}
-use Rattle.sim_entries.specs.Entries.{StandsAlone, first_words}
+use Rattle.sim_entries.specs.Entries.{StandsAlone, body_frame_words}
 use Rattle.sim_entries.specs.Codes.{PrologueStands}
 use Rattle.sim_entries.proofs.BootRoute.{none_early}
 use Rattle.sim_induction.proofs.Schedule.{owned_at}
@@ -63,7 +63,7 @@ none_touched : (o : Option ℕ) (rest : List ℕ) → lines_of o rest ≡ [] →
 none_touched None rest h = h
 none_touched (Some line) rest h = cc
 
-module _ (b : Build) (view : View) (arrivals : List Arrival) (setting : IsSetting (setting_of b view arrivals)) (fits : Fits b) (count : ℕ) (late_count : 0 < count)
+module _ (b : Build) (view : View) (arrivals : List Arrival) (setting : IsSetting (setting_of b view arrivals)) (fits : HasFittingPlaces b) (count : ℕ) (late_count : 0 < count)
     (state : State) (s : System) (stands : Stands b state s) where
   few : length b.config.tasks ≤ line_count
   few = let f = fits.few_tasks in omega arith
@@ -166,7 +166,7 @@ module _ (b : Build) (view : View) (arrivals : List Arrival) (setting : IsSettin
     sp = spot b now found k.stack place fits k.apart k.active.falling spot_is.1 k.running
 
     abbrev words : ℕ
-    words = first_words b t
+    words = body_frame_words b t
 
     abbrev frame : ℕ
     frame = b.top t - 4 * words
@@ -229,8 +229,8 @@ module _ (b : Build) (view : View) (arrivals : List Arrival) (setting : IsSettin
 
       enters_anew : (task found t).frames ≡ [] → StandsAlone b found t → Stretches
       enters_anew fresh alone =
-          stretches (108 + words) short (Entered t (start_level b t) first place frame words) (λ lines from last e. e.left.opened) (λ lines from last e. e.touches)
-          (subst (λ n. Masked n (offset_state (vector t) core) (WithArrivals (Entered t (start_level b t) first place frame words) (offset_state (vector t) core))) (omega arith)
+          stretches (108 + words) short (EntryEffect t (start_level b t) first place frame words) (λ lines from last e. e.left.opened) (λ lines from last e. e.touches)
+          (subst (λ n. Masked n (offset_state (vector t) core) (WithArrivals (EntryEffect t (start_level b t) first place frame words) (offset_state (vector t) core))) (omega arith)
           (kinds.starts (declaration b.config t).extended t (start_level b t) first frame words prologue.code prologue.enters prologue.offset place core
           (fits.items (body_of b.app.funcs t) 0)
           (record {
@@ -267,9 +267,9 @@ module _ (b : Build) (view : View) (arrivals : List Arrival) (setting : IsSettin
 
         enters_again : (declaration b.config t).extended ≡ true → Stretches
         enters_again extended =
-            stretches (108 + words) short (Resumed t (start_level b t) place has.place) (λ lines from last e. e.left.opened) (λ lines from last e. e.touches)
-            (subst (λ n. Masked n (offset_state (vector t) core) (WithArrivals (Resumed t (start_level b t) place has.place) (offset_state (vector t) core))) (omega arith)
-            ((subst (λ (x : Bool). DoesEnter x t (start_level b t) first frame words prologue.code) extended prologue.enters).resumes prologue.offset place has.place core may_resume))
+            stretches (108 + words) short (ResumeEffect t (start_level b t) place has.place) (λ lines from last e. e.left.opened) (λ lines from last e. e.touches)
+            (subst (λ n. Masked n (offset_state (vector t) core) (WithArrivals (ResumeEffect t (start_level b t) place has.place) (offset_state (vector t) core))) (omega arith)
+            ((subst (λ (x : Bool). IsPrologueCode x t (start_level b t) first frame words prologue.code) extended prologue.enters).resumes prologue.offset place has.place core may_resume))
             (λ last e. again.resume_law b now last found t place has.place fits k sane declared chosen some (anew.there b.app (body_of b.app.funcs t) prologue.has_item) spot_is.1 has.rested.link e)
 
     -- Where the task is to start anew, the stretch is the event Enter, and the states at its end are related.

@@ -14,13 +14,13 @@ use Rattle.expansion_parts.specs.Expansion.{item_address}
 use Rattle.sloth_base.specs.Named.{declaration, undeclared_task, body_of}
 use Rattle.sloth_base.specs.Named.{function, no_function}
 use Rattle.osek_scheduler.specs.Priority.{greatest, highest_priority}
-use Rattle.prologue_gen.specs.Places.{EntersTask, DoesEnter, frame_at, first_item}
+use Rattle.prologue_gen.specs.Places.{IsTaskPrologue, IsPrologueCode, frame_at, first_item}
 use Rattle.prologue_gen.specs.Places as generator
 use Rattle.sloth_base.specs.PriorityLevels.{level_of}
-use Rattle.sim_relation.specs.Build.{Build, Fits, start_level}
+use Rattle.sim_relation.specs.Build.{Build, HasFittingPlaces, start_level}
 use Rattle.sim_relation.proofs.Levels.{levels_in}
 use Rattle.sim_relation.proofs.Room.{first_room}
-use Rattle.sim_entries.specs.Entries.{EntersBuilt, first_words}
+use Rattle.sim_entries.specs.Entries.{IsEntryBuilt, body_frame_words}
 use Rattle.sim_entries.specs.Generated.{IsBuiltFrom, HasOneBody}
 
 -- the level of a priority that is no less than all is the number of tasks
@@ -36,15 +36,15 @@ all_counted (d ∷ ds) p h =
 pub highest_level : (config : Config) → level_of config (highest_priority config) ≡ length config.tasks
 highest_level config = all_counted config.tasks (highest_priority config) (omega arith)
 
-module _ (b : Build) (levels : Levels) (map_of : Map) (t : ℕ) (code : List InstrKind) (fits : Fits b) (built : IsBuiltFrom b levels map_of) (declared : t < length b.config.tasks)
-    (one : HasOneBody b t) (enters : EntersTask t b.config b.app levels map_of code) where
+module _ (b : Build) (levels : Levels) (map_of : Map) (t : ℕ) (code : List InstrKind) (fits : HasFittingPlaces b) (built : IsBuiltFrom b levels map_of) (declared : t < length b.config.tasks)
+    (one : HasOneBody b t) (enters : IsTaskPrologue t b.config b.app levels map_of code) where
   body : enters.body ≡ body_of b.app.funcs t
   body = one enters.body enters.func enters.is_func enters.is_body
 
   func : function b.app (body_of b.app.funcs t) ≡ enters.func
   func = ap (λ f. get_or b.app.funcs f no_function) (sym body) ∙ get_or_from_slice_get b.app.funcs enters.body enters.func no_function enters.is_func
 
-  words : enters.func.frame_words ≡ first_words b t
+  words : enters.func.frame_words ≡ body_frame_words b t
   words = sym (ap (λ (f : Func). f.frame_words) func)
 
   decl : declaration b.config t ≡ enters.decl
@@ -65,7 +65,7 @@ module _ (b : Build) (levels : Levels) (map_of : Map) (t : ℕ) (code : List Ins
       let e : slice_index map_of.places.first enters.body ≡ slice_index map_of.places.first enters.body + 0 = omega arith in
       ap (λ i. slice_index map_of.places.items i) e ∙ ap (λ p. item_address p enters.body 0) (sym built.places) ∙ ap (λ f. item_address b.places f 0) body
 
-  frame : frame_at (slice_index map_of.tops t) enters.func.frame_words ≡ b.top t - 4 * first_words b t
+  frame : frame_at (slice_index map_of.tops t) enters.func.frame_words ≡ b.top t - 4 * body_frame_words b t
   frame =
       let w = words in
       let e = built.tops t declared in
@@ -73,13 +73,13 @@ module _ (b : Build) (levels : Levels) (map_of : Map) (t : ℕ) (code : List Ins
       omega arith
 
   -- the code of a generated prologue enters its task
-  pub enters_built : EntersBuilt b t code
+  pub enters_built : IsEntryBuilt b t code
   enters_built =
       let kind : Bool = (declaration b.config t).extended in
       let at : ℕ = frame_at (slice_index map_of.tops t) enters.func.frame_words in
-      subst (λ x. DoesEnter kind t (start_level b t) (item_address b.places (body_of b.app.funcs t) 0) (b.top t - 4 * first_words b t) x code) words
-      (subst (λ x. DoesEnter kind t (start_level b t) (item_address b.places (body_of b.app.funcs t) 0) x enters.func.frame_words code) frame
-      (subst (λ x. DoesEnter kind t (start_level b t) x at enters.func.frame_words code) first
-      (subst (λ x. DoesEnter kind t x (first_item map_of.places enters.body) at enters.func.frame_words code) level
-      (subst (λ (d : TaskDecl). DoesEnter d.extended t (generator.start_level enters.decl t levels) (first_item map_of.places enters.body) at enters.func.frame_words code)
+      subst (λ x. IsPrologueCode kind t (start_level b t) (item_address b.places (body_of b.app.funcs t) 0) (b.top t - 4 * body_frame_words b t) x code) words
+      (subst (λ x. IsPrologueCode kind t (start_level b t) (item_address b.places (body_of b.app.funcs t) 0) x enters.func.frame_words code) frame
+      (subst (λ x. IsPrologueCode kind t (start_level b t) x at enters.func.frame_words code) first
+      (subst (λ x. IsPrologueCode kind t x (first_item map_of.places enters.body) at enters.func.frame_words code) level
+      (subst (λ (d : TaskDecl). IsPrologueCode d.extended t (generator.start_level enters.decl t levels) (first_item map_of.places enters.body) at enters.func.frame_words code)
       (sym decl) enters.enters))))

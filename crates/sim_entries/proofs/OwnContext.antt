@@ -8,8 +8,8 @@ use Rattle.sloth_base.specs.MemoryMap.{memory_base, line_count}
 use Rattle.osek_scheduler.specs.declared.state.TaskState.TheVariants as mode
 use Rattle.osek_scheduler.specs.State.{Frame, Task, System, task}
 use Rattle.osek_scheduler.specs.Priority.{is_active}
-use Rattle.sim_relation.specs.Build.{Build, Fits}
-use Rattle.sim_relation.specs.Context.{IsRested, Resumes}
+use Rattle.sim_relation.specs.Build.{Build, HasFittingPlaces}
+use Rattle.sim_relation.specs.Context.{IsRested, HasOwnContext}
 use Rattle.sim_relation.specs.Stands.{Stands}
 use Rattle.sim_relation.proofs.Tops.{falling_active}
 use Rattle.sim_relation.proofs.Spot.{is_first, is_first_in, spot}
@@ -23,12 +23,12 @@ pub record HasOwn (b : Build) (ram : List ℕ) (t : ℕ) (own : Task) : Type 0 w
   pub place : ℕ
   pub rested : IsRested b ram t own frame outer place
 
-own_by : (b : Build) (ram : List ℕ) (t : ℕ) (own : Task) (a : Bool) (frames : List Frame) → a ≡ false → own.frames ≡ frames → frames ≢ [] → Resumes b ram t own a frames → HasOwn b ram t own
+own_by : (b : Build) (ram : List ℕ) (t : ℕ) (own : Task) (a : Bool) (frames : List Frame) → a ≡ false → own.frames ≡ frames → frames ≢ [] → HasOwnContext b ram t own a frames → HasOwn b ram t own
 own_by b ram t own true frames a e n h = cc
 own_by b ram t own false [] a e n h = absurd (n refl)
 own_by b ram t own false (frame ∷ outer) a e n h = record { frame = frame; outer = outer; frames = e; place = h.0; rested = h.1 }
 
-module _ (b : Build) (state : State) (s : System) (t : ℕ) (fits : Fits b) (k : Stands b state s) (declared : t < length b.config.tasks) (e : choose state.core ≡ Some t) (some : (task s t).frames ≢ []) where
+module _ (b : Build) (state : State) (s : System) (t : ℕ) (fits : HasFittingPlaces b) (k : Stands b state s) (declared : t < length b.config.tasks) (e : choose state.core ≡ Some t) (some : (task s t).frames ≢ []) where
   few : length b.config.tasks ≤ line_count
   few = let f = fits.few_tasks in omega arith
 

@@ -19,8 +19,8 @@ use Rattle.sloth_base.specs.MemoryMap.{memory_base, line_count}
 use Rattle.osek_scheduler.specs.Priority.{is_active}
 use Rattle.osek_scheduler.specs.Services.{started_task, entered_state}
 use Rattle.osek_scheduler.specs.Steps.{OsekStep, settled_state}
-use Rattle.sim_relation.specs.Build.{Build, Fits}
-use Rattle.sim_relation.specs.Framing.{Agree}
+use Rattle.sim_relation.specs.Build.{Build, HasFittingPlaces}
+use Rattle.sim_relation.specs.Framing.{AreSameBytes}
 use Rattle.sim_relation.specs.Position.{thread_of}
 use Rattle.sim_relation.specs.Context.{IsContext, IsRested}
 use Rattle.sim_relation.specs.Stands.{Stands, IsAlive}
@@ -32,15 +32,15 @@ use Rattle.sim_relation.proofs.Entering.{entry_stands}
 use Rattle.sim_relation.proofs.Choice.{taken_ready, taken_top}
 use Rattle.sim_relation.proofs.Room.{first_room}
 use Rattle.sim_entries.specs.Range.{IsSane}
-use Rattle.sim_entries.specs.Entries.{EntersBehindWait}
+use Rattle.sim_entries.specs.Entries.{IsEntryBehindWait}
 use Rattle.sim_entries.proofs.EntryRam.{IsStored}
 use Rattle.sim_entries.proofs.OwnContext.{HasOwn, own_context, own_apart}
 use Rattle.sim_entries.proofs.Saving.{preempted, cleared, saved, is_saved, entry_ram, entry_machine}
 
-module _ (b : Build) (state end : State) (s : System) (t place own : ℕ) (fits : Fits b) (k : Stands b state s) (sane : IsSane state)
+module _ (b : Build) (state end : State) (s : System) (t place own : ℕ) (fits : HasFittingPlaces b) (k : Stands b state s) (sane : IsSane state)
     (declared : t < length b.config.tasks) (e : choose state.core ≡ Some t) (some : (task s t).frames ≢ []) (has_body : HasBody b.app t)
     (x2 : slice_index state.core.registers 2 ≡ memory_base + (place + 128)) (link : word_at state.core.ram (resume t) ≡ memory_base + own)
-    (effect : EntersBehindWait b t place own state end) where
+    (effect : IsEntryBehindWait b t place own state end) where
   few : length b.config.tasks ≤ line_count
   few = let f = fits.few_tasks in omega arith
 
@@ -103,7 +103,7 @@ module _ (b : Build) (state end : State) (s : System) (t place own : ℕ) (fits 
       (let l = is_stored.long in let d = few30 in word_at-same before (resume t) 0 (omega arith) (omega arith))
 
   -- its own stack stays
-  own_stack : Agree state.core.ram end.core.ram (own + 128) (b.top t)
+  own_stack : AreSameBytes state.core.ram end.core.ram (own + 128) (b.top t)
   own_stack i l h =
       let f = fits.from t declared in
       let r = rested.room in

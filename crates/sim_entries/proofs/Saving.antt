@@ -9,13 +9,13 @@ use Rattle.sloth_base.specs.Limits.{task_limit}
 use Rattle.sloth_base.specs.MemoryMap.{memory_base, line_count}
 use Rattle.sloth_region.specs.Layout.{cur, below_word, active, resume, idle_context}
 use Rattle.rv32_instr.specs.Ram.{word_at}
-use Rattle.masked_code.specs.Kernel.{LeftAs}
+use Rattle.masked_code.specs.Kernel.{IsOpenedCore}
 use Rattle.masked_code.specs.Pieces.{registers_from}
 use Rattle.masked_code.proofs.Words.{word_below}
 use Rattle.prologue_gen.specs.Fresh.{saved_registers}
 use Rattle.prologue_gen.proofs.SavedRegisters.{none_saved, all_saved, few_saved}
 use Rattle.osek_scheduler.specs.State.{System}
-use Rattle.sim_relation.specs.Build.{Build, Fits, start_level}
+use Rattle.sim_relation.specs.Build.{Build, HasFittingPlaces, start_level}
 use Rattle.sim_relation.specs.Stands.{Stands}
 use Rattle.sim_relation.specs.Entry.{EntryRam, EntryMachine}
 use Rattle.sim_relation.proofs.SavedRegisters.{registers_at, registers_small}
@@ -48,7 +48,7 @@ saved_small core small j =
 abbrev pub saved : State → (t place frame words : ℕ) → List ℕ
 saved state t place frame words = stored state.core.ram (preempted state) (saved_registers state.core) (cleared words) place t frame
 
-module _ (b : Build) (state : State) (s : System) (t place : ℕ) (fits : Fits b) (k : Stands b state s) (sane : IsSane state)
+module _ (b : Build) (state : State) (s : System) (t place : ℕ) (fits : HasFittingPlaces b) (k : Stands b state s) (sane : IsSane state)
     (declared : t < length b.config.tasks) (x2 : slice_index state.core.registers 2 ≡ memory_base + (place + 128)) where
   few : length b.config.tasks ≤ line_count
   few = let f = fits.few_tasks in omega arith
@@ -134,7 +134,7 @@ module _ (b : Build) (state : State) (s : System) (t place : ℕ) (fits : Fits b
           }
 
   -- what it leaves of the machine beside RAM
-  pub entry_machine : (end : State) (ram : List ℕ) → LeftAs (record (take t state).core { ilevel = start_level b t; ram = ram }) end.core → EntryMachine b state end t
+  pub entry_machine : (end : State) (ram : List ℕ) → IsOpenedCore (record (take t state).core { ilevel = start_level b t; ram = ram }) end.core → EntryMachine b state end t
   entry_machine end ram left = record {
     registers = left.registers ∙ sym k.fixed.registers;
     zero = left.zero ∙ sym k.fixed.zero;

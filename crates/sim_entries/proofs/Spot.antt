@@ -6,7 +6,7 @@ use Rattle.sloth_base.specs.MemoryMap.{memory_base}
 use Rattle.osek_scheduler.specs.State.{System, task}
 use Rattle.code_rules.specs.Code.{is_in}
 use Rattle.sloth_region.specs.Layout.{idle_context}
-use Rattle.sim_relation.specs.Build.{Build, Fits}
+use Rattle.sim_relation.specs.Build.{Build, HasFittingPlaces}
 use Rattle.sim_relation.specs.Position.{thread_of}
 use Rattle.sim_relation.specs.Context.{RunsFirst}
 use Rattle.sim_relation.specs.Stands.{AreApart}
@@ -42,7 +42,7 @@ words_small x y z w p q r s (suc (suc (suc (suc j)))) = omega arith
 -- ---- where a context is stored
 
 -- apart from the part of a task that is apart from those of the Active tasks
-pub stored_apart : (b : Build) (state : State) (s : System) (stack : List ℕ) (place u : ℕ) → Fits b
+pub stored_apart : (b : Build) (state : State) (s : System) (stack : List ℕ) (place u : ℕ) → HasFittingPlaces b
     → slice_index state.core.registers 2 ≡ memory_base + (place + 128) → RunsFirst b state s stack → 1024 ≤ b.low u
     → ((v : ℕ) → is_in v stack ≡ true → AreApart b u v) → (b.top u ≤ place) ⊎ (place + 128 ≤ b.low u)
 stored_apart b state s [] place u fits x k low apart = let y = k.x2 in inr (omega arith)

@@ -7,10 +7,10 @@ use Rattle.sloth_base.specs.MemoryMap.{memory_base}
 use Rattle.sloth_region.specs.declared.map.Map.{Map}
 use Rattle.rv32_instr.specs.declared.InstrKind.{InstrKind}
 use Rattle.sloth_base.specs.Named.{body_of}
-use Rattle.prologue_gen.specs.Places.{EntersTask}
-use Rattle.sim_relation.specs.Build.{Build, Fits}
+use Rattle.prologue_gen.specs.Places.{IsTaskPrologue}
+use Rattle.sim_relation.specs.Build.{Build, HasFittingPlaces}
 use Rattle.sim_entries.specs.Boot.{AreLevelsOf}
-use Rattle.sim_entries.specs.Entries.{EntersBuilt}
+use Rattle.sim_entries.specs.Entries.{IsEntryBuilt}
 
 -- a build as the levels and the map say
 pub record IsBuiltFrom (b : Build) (levels : Levels) (map : Map) : Type 0 where
@@ -27,5 +27,5 @@ HasOneBody b t = (f : ℕ) (func : Func) → slice_get b.app.funcs f ≡ Some fu
 
 -- Code that enters a task by the levels and the map does so in what is built.
 abbrev pub GeneratedEnters : Type 0
-GeneratedEnters = (b : Build) (levels : Levels) (map : Map) (t : ℕ) (code : List InstrKind) → Fits b → IsBuiltFrom b levels map → t < length b.config.tasks
-    → HasOneBody b t → EntersTask t b.config b.app levels map code → EntersBuilt b t code
+GeneratedEnters = (b : Build) (levels : Levels) (map : Map) (t : ℕ) (code : List InstrKind) → HasFittingPlaces b → IsBuiltFrom b levels map → t < length b.config.tasks
+    → HasOneBody b t → IsTaskPrologue t b.config b.app levels map code → IsEntryBuilt b t code

@@ -11,7 +11,7 @@ use Rattle.sloth_region.proofs.Placed.{apart_within}
 use Rattle.rv32_instr.specs.declared.block.Block.{Block}
 use Rattle.rv32_instr.specs.Range.{InRange}
 use Rattle.masked_code.proofs.Routines.{in_place}
-use Rattle.sim_relation.specs.Build.{Build, Fits, IsElsewhere}
+use Rattle.sim_relation.specs.Build.{Build, HasFittingPlaces, IsElsewhere}
 use Rattle.sim_relation.specs.Placed.{IsPlaced}
 use Rattle.sim_relation.specs.Stands.{AreApart}
 use Rattle.sloth_link.specs.Linked.{BlockStands}
@@ -87,7 +87,7 @@ module _ (config : Config) (app : App) (map : Map) (bounds : Bounds) (back : ℕ
   elsewhere i (inl h) = let p = inside (code_zone map) i h in let f = code_from in let t = code_to in (omega (arith, p.0, f), omega (arith, p.1, t))
   elsewhere i (inr h) = let p = inside (data_zone map) i h in let f = code_from in let t = code_to in (omega (arith, p.0, f, t), p.1)
 
-  pub fits : HasFewAlarms config → HasStacks config app bounds map → RoomForCalls bounds config app → HasSymbols map app → back % 4 ≡ 0 → Fits b
+  pub fits : HasFewAlarms config → HasStacks config app bounds map → RoomForCalls bounds config app → HasSymbols map app → back % 4 ≡ 0 → HasFittingPlaces b
   fits few parts calls has back_aligned = record {
     few_tasks = z.few_tasks;
     few_counters = few.0;

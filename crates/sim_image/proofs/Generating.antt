@@ -33,15 +33,15 @@ use Rattle.observe.specs.Observe.{mark_at, view_of_image}
 use Rattle.vector_gen.specs.Idle.{idle_mark}
 use Rattle.service_gen.specs.Block.{further_marks}
 use Rattle.block_parts.specs.Marks.{opening, back_mark}
-use Rattle.service_blocks.specs.Calls.{ServesCall}
+use Rattle.service_blocks.specs.Calls.{IsAnyServiceBlock}
 use Rattle.sloth_base.specs.Arithmetic.{sum32}
-use Rattle.service_gen.specs.Schedule.{way_back, Yields}
+use Rattle.service_gen.specs.Schedule.{way_back, IsScheduleCode}
 use Rattle.sim_services.specs.Stretch.{HasWayBack}
 use Rattle.sim_relation.specs.Build.{Build}
 use Rattle.sim_relation.specs.Placed.{IsPlaced}
 use Rattle.sim_entries.specs.Generated.{HasOneBody}
 use Rattle.sim_items.specs.Outside.{HasIdle}
-use Rattle.sim_laws.specs.Kernel.{CallsService, IsKnown}
+use Rattle.sim_laws.specs.Kernel.{IsServiceItem, IsKnown}
 use Rattle.sim_laws.specs.Kernel.IsKnown.{serves as known_serves}
 use Rattle.sim_laws.specs.Generated.{HasPrologue, HasTick, IsGenerated}
 use Rattle.sim_laws.specs.Items.{HasItems}
@@ -205,7 +205,7 @@ module _ (config : Config) (app : App) (levels : Levels) (map : Map) (bounds : B
   -- the block of a service that is called, apart from the call
   module _ (func item : ℕ) (is : IsItem app func item) (call : Call) (e : operation app func item ≡ op.Serve call) where
     h : HasBlockWith blocks (block_address map.places call.service call.object) (opening (block_address map.places call.service call.object) (code_of call.service)
-        ∷ further_marks call.service (block_address map.places call.service call.object)) (ServesCall config call.service call.object levels)
+        ∷ further_marks call.service (block_address map.places call.service call.object)) (IsAnyServiceBlock config call.service call.object levels)
     h = g.has_code.services func item call is e
 
     abbrev address : ℕ
@@ -252,7 +252,7 @@ module _ (config : Config) (app : App) (levels : Levels) (map : Map) (bounds : B
     there : IsPlaced b offset h.block.code
     there = placed h.block offset h.among (h.at ∙ address_is)
 
-    item_serves : CallsService b (view_of_image image) func item
+    item_serves : IsServiceItem b (view_of_image image) func item
     item_serves =
         let c = h.among in
         let inside_ram = there.inside in
@@ -290,8 +290,8 @@ module _ (config : Config) (app : App) (levels : Levels) (map : Map) (bounds : B
       own_back : Contains h.block.marks back_at
       own_back = subst (λ (l : List Mark). Contains l back_at) (sym marks_are) (1, omega arith, refl)
 
-      yields : Yields h.block.code
-      yields = subst (λ v. ServesCall config v call.object levels h.block.code) s h.does
+      yields : IsScheduleCode h.block.code
+      yields = subst (λ v. IsAnyServiceBlock config v call.object levels h.block.code) s h.does
 
       back_is : back ≡ memory_base + (offset + way_back)
       back_is = let i = g.back_is func item call is e s in let a = address_is in omega (arith, i, a)

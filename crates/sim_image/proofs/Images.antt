@@ -23,7 +23,7 @@ use Rattle.sim_relation.specs.DataStands.{ByteStands}
 use Rattle.sim_relation.proofs.Starting.{zero_word}
 use Rattle.sloth_link.specs.declared.datum.Datum.{Datum}
 use Rattle.mem_map.specs.Sections.{block_section}
-use Rattle.sloth_link.specs.Linked.{datum_section, sections_of, Holds, Misses}
+use Rattle.sloth_link.specs.Linked.{datum_section, sections_of, HasSectionBytes, IsOutsideSection}
 use Rattle.sloth_link.specs.Image.{all_data}
 use Rattle.sloth_link.proofs.Joined.{front}
 use Rattle.sloth_link.proofs.Stand.{symbols_stand, word_of}
@@ -65,7 +65,7 @@ module _ (map : Map) (config : Config) (app : App) (bounds : Bounds) (back : ℕ
   data_from : vectors_base ≤ (data_zone map).base
   data_from = let f = code_from config app map bounds back memory z in let t = code_to config app map bounds back memory z in omega (arith, f, t)
 
-  byte : (d : Datum) (k : ℕ) → IsInData map d → Holds memory (datum_section d) → k < length d.bytes → ByteStands b memory (d.at + k) (slice_index d.bytes k)
+  byte : (d : Datum) (k : ℕ) → IsInData map d → HasSectionBytes memory (datum_section d) → k < length d.bytes → ByteStands b memory (d.at + k) (slice_index d.bytes k)
   byte d k i h l =
       let f = data_from in
       let from = i.from in
@@ -77,7 +77,7 @@ module _ (map : Map) (config : Config) (app : App) (bounds : Bounds) (back : ℕ
         holds = ap (slice_index memory) e ∙ h k l;
       }
 
-  bytes_stand : (addresses : List ℕ) (symbols : List Symbol) → length addresses ≡ length symbols → All (IsInData map) (data_of addresses symbols) → All (λ d. Holds memory (datum_section d)) (data_of addresses symbols)
+  bytes_stand : (addresses : List ℕ) (symbols : List Symbol) → length addresses ≡ length symbols → All (IsInData map) (data_of addresses symbols) → All (λ d. HasSectionBytes memory (datum_section d)) (data_of addresses symbols)
       → (y k : ℕ) → k < length (get_or (prelude.map bytes_of symbols) y []) → ByteStands b memory (get_or addresses y 0 + k) (slice_index (get_or (prelude.map bytes_of symbols) y []) k)
   bytes_stand [] [] n i h y k l = nothing_at y k _ l
   bytes_stand [] (s ∷ symbols) n i h y k l = absurd (omega (arith, n))
@@ -87,27 +87,27 @@ module _ (map : Map) (config : Config) (app : App) (bounds : Bounds) (back : ℕ
   bytes_stand (a ∷ addresses) (s ∷ symbols) n i h (suc y) k l =
       bytes_stand addresses symbols (omega (arith, n)) (λ j d m. i (suc j) d (omega arith)) (λ j d m. h (suc j) d (omega arith)) y k l
 
-  miss_blocks : (blocks : List Block) (i : ℕ) → i < 1024 → All (IsInCode map) blocks → All (λ p. Misses i p) (prelude.map block_section blocks)
-  miss_blocks blocks i l c = All-map (Misses i) block_section blocks (λ k d m. let from = (c k d m).from in let f = code_from config app map bounds back memory z in inl (omega (arith, l, from, f)))
+  miss_blocks : (blocks : List Block) (i : ℕ) → i < 1024 → All (IsInCode map) blocks → All (λ p. IsOutsideSection i p) (prelude.map block_section blocks)
+  miss_blocks blocks i l c = All-map (IsOutsideSection i) block_section blocks (λ k d m. let from = (c k d m).from in let f = code_from config app map bounds back memory z in inl (omega (arith, l, from, f)))
 
-  miss_symbols : (symbols : List Datum) (i : ℕ) → i < 1024 → All (IsInData map) symbols → All (λ d. Misses i (datum_section d)) symbols
+  miss_symbols : (symbols : List Datum) (i : ℕ) → i < 1024 → All (IsInData map) symbols → All (λ d. IsOutsideSection i (datum_section d)) symbols
   miss_symbols symbols i l c = λ k d m. let from = (c k d m).from in let f = data_from in inl (omega (arith, l, from, f))
 
-  miss_alarms : (first : ℕ) (alarms : List AlarmDecl) (i : ℕ) → first + length alarms ≤ alarm_limit → IsOther i → All (λ d. Misses i (datum_section d)) (alarm_data first alarms)
-  miss_alarms first [] i few o = All-nil (λ (d : Datum). Misses i (datum_section d))
+  miss_alarms : (first : ℕ) (alarms : List AlarmDecl) (i : ℕ) → first + length alarms ≤ alarm_limit → IsOther i → All (λ d. IsOutsideSection i (datum_section d)) (alarm_data first alarms)
+  miss_alarms first [] i few o = All-nil (λ (d : Datum). IsOutsideSection i (datum_section d))
   miss_alarms first (alarm ∷ later) i few o =
       let size : length (alarm_bytes alarm) ≡ 8 = refl in
-      All-cons (λ (d : Datum). Misses i (datum_section d)) _ (alarm_data (first + 1) later)
+      All-cons (λ (d : Datum). IsOutsideSection i (datum_section d)) _ (alarm_data (first + 1) later)
       (⊎_elim (λ (x : i < alarm_left 0). inl (omega (arith, x))) (λ (x : below_word ≤ i). inr (omega (arith, x, few, size))) o)
       (miss_alarms (first + 1) later i (omega (arith, few)) o)
 
   -- no section has such a byte
   missed : (blocks : List Block) (i : ℕ) → i < 1024 → IsOther i → length config.alarms ≤ alarm_limit → All (IsInCode map) blocks
-      → All (IsInData map) (data_of map.places.symbols app.symbols) → All (Misses i) (sections_of blocks (all_data config app map))
+      → All (IsInData map) (data_of map.places.symbols app.symbols) → All (IsOutsideSection i) (sections_of blocks (all_data config app map))
   missed blocks i l o few code in_data =
-      All-append (Misses i) (prelude.map block_section blocks) (prelude.map datum_section (all_data config app map)) (miss_blocks blocks i l code)
-      (All-map (Misses i) datum_section (all_data config app map)
-      (All-append (λ (d : Datum). Misses i (datum_section d)) (alarm_data 0 config.alarms) (data_of map.places.symbols app.symbols)
+      All-append (IsOutsideSection i) (prelude.map block_section blocks) (prelude.map datum_section (all_data config app map)) (miss_blocks blocks i l code)
+      (All-map (IsOutsideSection i) datum_section (all_data config app map)
+      (All-append (λ (d : Datum). IsOutsideSection i (datum_section d)) (alarm_data 0 config.alarms) (data_of map.places.symbols app.symbols)
       (miss_alarms 0 config.alarms i (omega (arith, few)) o) (miss_symbols (data_of map.places.symbols app.symbols) i l in_data)))
 
 -- ---- the words of alarms
@@ -121,7 +121,7 @@ abbrev HasWords : List ℕ → ℕ → AlarmDecl → Type 0
 HasWords memory a alarm = (word_at memory (alarm_left a) ≡ alarm.time) × (word_at memory (alarm_cycle a) ≡ alarm.cycle)
 
 alarm_words : (memory : List ℕ) (a : ℕ) (alarm : AlarmDecl) → AreWords alarm
-    → Holds memory (datum_section (record { at = memory_base + alarm_left a; bytes = alarm_bytes alarm })) → HasWords memory a alarm
+    → HasSectionBytes memory (datum_section (record { at = memory_base + alarm_left a; bytes = alarm_bytes alarm })) → HasWords memory a alarm
 alarm_words memory a alarm small h =
     let size : length (alarm_bytes alarm) ≡ 8 = refl in
     let at : (k : ℕ) → slice_index memory (alarm_left a + k) ≡ slice_index memory (memory_base + alarm_left a - memory_base + k) =
@@ -136,16 +136,16 @@ alarm_words memory a alarm small h =
     )
 
 each_alarm : (memory : List ℕ) (first : ℕ) (alarms : List AlarmDecl) → ((a : ℕ) → a < length alarms → AreWords (get_or alarms a undeclared_alarm))
-    → All (λ d. Holds memory (datum_section d)) (alarm_data first alarms) → (a : ℕ) → a < length alarms → HasWords memory (first + a) (get_or alarms a undeclared_alarm)
+    → All (λ d. HasSectionBytes memory (datum_section d)) (alarm_data first alarms) → (a : ℕ) → a < length alarms → HasWords memory (first + a) (get_or alarms a undeclared_alarm)
 each_alarm memory first [] small h a l = absurd (omega (arith, l))
 each_alarm memory first (alarm ∷ later) small h zero l =
     let e : first ≡ first + 0 = omega arith in
     subst (λ n. HasWords memory n alarm) e
-    (alarm_words memory first alarm (small zero (omega arith)) (All-head (λ (d : Datum). Holds memory (datum_section d)) _ (alarm_data (first + 1) later) h))
+    (alarm_words memory first alarm (small zero (omega arith)) (All-head (λ (d : Datum). HasSectionBytes memory (datum_section d)) _ (alarm_data (first + 1) later) h))
 each_alarm memory first (alarm ∷ later) small h (suc a) l =
     let e : first + 1 + a ≡ first + suc a = omega arith in
     subst (λ n. HasWords memory n (get_or later a undeclared_alarm)) e
-    (each_alarm memory (first + 1) later (λ b m. small (suc b) (omega (arith, m))) (All-tail (λ (d : Datum). Holds memory (datum_section d)) _ (alarm_data (first + 1) later) h) a (omega (arith, l)))
+    (each_alarm memory (first + 1) later (λ b m. small (suc b) (omega (arith, m))) (All-tail (λ (d : Datum). HasSectionBytes memory (datum_section d)) _ (alarm_data (first + 1) later) h) a (omega (arith, l)))
 
 -- each alarm's numbers are words
 words_in_range : (config : Config) → InRange config → (a : ℕ) → a < length config.alarms → AreWords (get_or config.alarms a undeclared_alarm)
@@ -166,16 +166,16 @@ linked_is_image map config app bounds size blocks symbols image back range h =
     let counters = range.few_counters in
     let long = h.linked.size_is in
     let most = h.small in
-    let stand : All (λ (d : Datum). Holds memory (datum_section d)) (all_data config app map) =
-    subst (All (λ (d : Datum). Holds memory (datum_section d))) h.data_are (symbols_stand size blocks symbols memory h.linked)
+    let stand : All (λ (d : Datum). HasSectionBytes memory (datum_section d)) (all_data config app map) =
+    subst (All (λ (d : Datum). HasSectionBytes memory (datum_section d))) h.data_are (symbols_stand size blocks symbols memory h.linked)
     in
     let zero : (i : ℕ) → i < 1024 → IsOther i → slice_index memory i ≡ 0 = λ i l o.
-    h.linked.zeros i (subst (λ ds. All (Misses i) (sections_of blocks ds)) (sym h.data_are) (missed map config app bounds back memory z blocks i l o few h.in_code in_data))
+    h.linked.zeros i (subst (λ ds. All (IsOutsideSection i) (sections_of blocks ds)) (sym h.data_are) (missed map config app bounds back memory z blocks i l o few h.in_code in_data))
     in
     let words : (a : ℕ) → a < length config.alarms → HasWords memory a (get_or config.alarms a undeclared_alarm) = λ a l.
     let none : 0 + a ≡ a = omega arith in
     subst (λ n. HasWords memory n (get_or config.alarms a undeclared_alarm)) none
-    (each_alarm memory 0 config.alarms (words_in_range config range) (front (λ (d : Datum). Holds memory (datum_section d)) (alarm_data 0 config.alarms) _ stand) a l)
+    (each_alarm memory 0 config.alarms (words_in_range config range) (front (λ (d : Datum). HasSectionBytes memory (datum_section d)) (alarm_data 0 config.alarms) _ stand) a l)
     in
     record {
       memory = refl;
@@ -191,5 +191,5 @@ linked_is_image map config app bounds size blocks symbols image back range h =
         cycles = λ a l. (words a l).1 ∙ ap (λ (x : Alarm). x.cycle) (sym (get_or-map opening_alarm config.alarms a undeclared_alarm));
       };
       data_stands = bytes_stand map config app bounds back memory z map.places.symbols app.symbols h.has_symbols.count in_data
-          (behind (λ (d : Datum). Holds memory (datum_section d)) (alarm_data 0 config.alarms) (data_of map.places.symbols app.symbols) stand);
+          (behind (λ (d : Datum). HasSectionBytes memory (datum_section d)) (alarm_data 0 config.alarms) (data_of map.places.symbols app.symbols) stand);
     }

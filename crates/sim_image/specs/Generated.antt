@@ -24,14 +24,14 @@ use Rattle.expansion_parts.specs.Expansion.{block_address}
 use Rattle.rv32_expand.specs.InPlace.{IsItem, ItemsInPlace}
 use Rattle.rv32_expand.specs.Sizes.{AgreeWithSizes}
 use Rattle.prio_levels.specs.Levels.{AreLevels}
-use Rattle.vector_gen.specs.Boot.{Boots}
-use Rattle.vector_gen.specs.Idle.{Idles, idle_mark}
+use Rattle.vector_gen.specs.Boot.{IsBootCode}
+use Rattle.vector_gen.specs.Idle.{IsIdleCode, idle_mark}
 use Rattle.vector_gen.specs.Vectors.{AreJumps}
-use Rattle.prologue_gen.specs.Places.{EntersTask}
+use Rattle.prologue_gen.specs.Places.{IsTaskPrologue}
 use Rattle.service_gen.specs.Block.{further_marks}
 use Rattle.block_parts.specs.Marks.{opening}
 use Rattle.service_gen.specs.Schedule.{way_back}
-use Rattle.service_blocks.specs.Calls.{ServesCall}
+use Rattle.service_blocks.specs.Calls.{IsAnyServiceBlock}
 use Rattle.sim_relation.specs.Bounds.{AreBelow}
 use Rattle.sim_ticks.specs.TickSteps.{IsTick}
 use Rattle.sim_laws.specs.Generated.{IsGenerated}
@@ -54,15 +54,15 @@ pub record HasBlockWith (blocks : List Block) (address : ℕ) (marks : List Mark
 -- the code that every kernel has is among the blocks, by the contracts of the generators
 pub record HasCode (config : Config) (app : App) (levels : Levels) (map : Map) (blocks : List Block) : Type 0 where
   pub vectors : HasBlockWith blocks vectors_base [] (AreJumps line_count map.handlers)
-  pub boot : HasBlockWith blocks boot_base [] (Boots config.tasks (length config.counters) levels.task levels.top map.idle)
-  pub idle : HasBlockWith blocks map.idle (idle_mark map.idle ∷ []) Idles
-  pub prologues : (t : ℕ) → t < length config.tasks → HasBlockWith blocks (slice_index map.handlers t) [] (EntersTask t config app levels map)
+  pub boot : HasBlockWith blocks boot_base [] (IsBootCode config.tasks (length config.counters) levels.task levels.top map.idle)
+  pub idle : HasBlockWith blocks map.idle (idle_mark map.idle ∷ []) IsIdleCode
+  pub prologues : (t : ℕ) → t < length config.tasks → HasBlockWith blocks (slice_index map.handlers t) [] (IsTaskPrologue t config app levels map)
   pub ticks : (c : ℕ) → c < length config.counters → HasBlockWith blocks (slice_index map.handlers (counter_line c)) [] (IsTick config c)
   -- the code of each service that an item calls
   pub services : (func item : ℕ) (call : Call) → IsItem app func item → operation app func item ≡ op.Serve call
       → HasBlockWith blocks (block_address map.places call.service call.object)
       (opening (block_address map.places call.service call.object) (code_of call.service)
-      ∷ further_marks call.service (block_address map.places call.service call.object)) (ServesCall config call.service call.object levels)
+      ∷ further_marks call.service (block_address map.places call.service call.object)) (IsAnyServiceBlock config call.service call.object levels)
 
 -- each item of the task code is a block of its own, at addresses that agree with the lengths, and no other block has its mark
 pub record HasItemBlocks (config : Config) (app : App) (places : Places) (blocks : List Block) : Type 0 where

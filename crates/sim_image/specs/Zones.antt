@@ -14,7 +14,7 @@ use Rattle.code_rules.specs.Code.{IsCalledBy}
 use Rattle.sloth_base.specs.declared.places.Bounds.{Bounds}
 use Rattle.sloth_base.specs.Limits.{counter_limit, alarm_limit}
 use Rattle.stack_bounds.specs.Bounds.{MayMeet, bytes_of}
-use Rattle.sim_relation.specs.Build.{Build, Fits, frame_bytes}
+use Rattle.sim_relation.specs.Build.{Build, HasFittingPlaces, frame_bytes}
 use Rattle.sim_relation.specs.Placed.{IsPlaced}
 use Rattle.sim_relation.specs.Stands.{AreApart}
 use Rattle.mem_map.specs.Zones.{HasZones, code_zone, data_zone}
@@ -64,7 +64,7 @@ HasFewAlarms config = (length config.counters ≤ counter_limit) × (length conf
 -- what is built fits where the image has zones
 abbrev pub ZonesFit : Type 0
 ZonesFit = (config : Config) (app : App) (map : Map) (bounds : Bounds) (back : ℕ) (memory : List ℕ) → HasZones map config → HasFewAlarms config
-    → HasStacks config app bounds map → RoomForCalls bounds config app → HasSymbols map app → back % 4 ≡ 0 → Fits (build_of config app map bounds back memory)
+    → HasStacks config app bounds map → RoomForCalls bounds config app → HasSymbols map app → back % 4 ≡ 0 → HasFittingPlaces (build_of config app map bounds back memory)
 
 -- the parts of two tasks that may have something there at once are apart
 abbrev pub StacksAreApart : Type 0

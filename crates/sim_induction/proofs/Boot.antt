@@ -24,7 +24,7 @@ use Rattle.observe.specs.Observe.{observe, piece_events, found_admits, admission
 use Rattle.observe.proofs.Cutting.{pieces-append, cut_off-append}
 use Rattle.observe.proofs.Moments.{moments-none, moments-later}
 use Rattle.osek_scheduler.specs.State.{System, opening}
-use Rattle.osek_scheduler.specs.Runs.{Leads, Follows}
+use Rattle.osek_scheduler.specs.Runs.{AreStepsTo, AreStepsBehind}
 use Rattle.osek_scheduler.specs.InTime.{is_admit, admits_at, arrivals_at, IsOrdered, KeepsOrder, longest_cut_off_stretch}
 use Rattle.sim_induction.specs.Short.{AreShort, IsShortPiece, TouchesOnly, HasShortGaps}
 use Rattle.sim_induction.specs.Sound.{stands_before}
@@ -169,12 +169,12 @@ module _ (given : Setting) (setting : IsSetting given) (R : State → System →
   after_booted : law.after.booted ≡ true
   after_booted = sym (booted_admits (late_arrivals law.trace) law.after) ∙ simulation.booted law.end z law.related
 
-  follow0 : Follows given.config given.app [] s E0 z
+  follow0 : AreStepsBehind given.config given.app [] s E0 z
   follow0 = (
     law.after,
     law.step_is,
     tt,
-    subst (λ a. Follows given.config given.app (boot ∷ []) law.after (map admit_event (arrivals_behind_event 0 law.trace)) (with_admits a law.after)) (lines_behind 0 law.trace)
+    subst (λ a. AreStepsBehind given.config given.app (boot ∷ []) law.after (map admit_event (arrivals_behind_event 0 law.trace)) (with_admits a law.after)) (lines_behind 0 law.trace)
         (follows_admits given.config given.app (boot ∷ []) (arrivals_behind_event 0 law.trace) law.after setting.few_tasks after_booted owned_behind),
   )
 
@@ -257,7 +257,7 @@ module _ (given : Setting) (setting : IsSetting given) (R : State → System →
         end = through.0;
         whole = through.1;
         last = s;
-        follows = subst (λ E. Follows given.config given.app [] s E s) (sym obs) refl;
+        follows = subst (λ E. AreStepsBehind given.config given.app [] s E s) (sym obs) refl;
         within = subst (AllByRecursion (IsInCounts 0 (suc n))) (sym obs) tt;
         placed = subst (EachPair IsOrdered) (sym obs) tt;
         to = 0;
@@ -296,7 +296,7 @@ module _ (given : Setting) (setting : IsSetting given) (R : State → System →
         end = g.end;
         whole = after_steps J n 0 A m (f ∷ r.steps) law.end runs ∙ ap (λ k. state_after_from n A k law.end) (omega arith) ∙ g.whole;
         last = g.last;
-        follows = subst (λ u. Follows given.config given.app [] s u g.last) (sym obs) (follows-append given.config given.app [] s z g.last E0 E follow0 g.follows);
+        follows = subst (λ u. AreStepsBehind given.config given.app [] s u g.last) (sym obs) (follows-append given.config given.app [] s z g.last E0 E follow0 g.follows);
         within = subst (AllByRecursion (IsInCounts 0 (J + n))) (sym obs)
             (each-append (IsInCounts 0 (J + n)) E0 E (within_wider 0 J 0 (J + n) E0 (omega arith) (omega arith) within0) (within_wider J (J + n) 0 (J + n) E (omega arith) (omega arith) g.within));
         placed = subst (EachPair IsOrdered) (sym obs) (pairs_apart 0 J (J + n) E0 E within0 g.within placed0 g.placed);
@@ -323,7 +323,7 @@ module _ (given : Setting) (setting : IsSetting given) (R : State → System →
             let w = subst (λ k. ReachedAt given R E z k x) e1 (g.mirrors i' (omega arith) x after o) in
             let fl : filter (stands_before i) (events_from given (J + n) 0 m) ≡ E0 ++ filter (stands_before i) E =
             ap (filter (stands_before i)) obs ∙ filter-append (stands_before i) E0 E ∙ ap (λ u. u ++ filter (stands_before i) E) (filter_all (stands_before i) E0 (all_before i l)) in
-            (w.0, subst (λ u. Leads given.config given.app u s w.0) (sym fl) (leads-append given.config given.app E0 (filter (stands_before i) E) s z w.0 (follows_leads given.config given.app [] s E0 z follow0) w.1), w.2))
+            (w.0, subst (λ u. AreStepsTo given.config given.app u s w.0) (sym fl) (leads-append given.config given.app E0 (filter (stands_before i) E) s z w.0 (follows_leads given.config given.app [] s E0 z follow0) w.1), w.2))
             (cases_lt i J);
       }
 

@@ -7,7 +7,7 @@ use Rattle.std.proofs.lemmas.List.Elements.{filter-append}
 use Rattle.std.proofs.lemmas.List.Folds.{list_any-append}
 use Rattle.sloth_base.specs.declared.event.Arrival.{Arrival}
 use Rattle.sloth_base.specs.declared.step.Step.{Step}
-use Rattle.sloth_base.specs.Arrivals.{moments, NeverFalls}
+use Rattle.sloth_base.specs.Arrivals.{moments, AreRisingMoments}
 use Rattle.observe.specs.Observe.{is_early}
 use Rattle.observe.specs.Observe as observer
 use Rattle.observe.proofs.Moments.{moments-none}
@@ -69,7 +69,7 @@ are_before : (k : ℕ) (done : List Step) (s : Step) → AreBefore k done → s.
 are_before k [] s h e = (omega arith, tt)
 are_before k (d ∷ done) s h e = (let l = h.0 in omega arith, are_before k done s h.1 e)
 
-pub early_is : (arrivals : List Arrival) → NeverFalls 0 arrivals → (k : ℕ) (done steps : List Step) → AreBefore k done → AreFrom k steps
+pub early_is : (arrivals : List Arrival) → AreRisingMoments 0 arrivals → (k : ℕ) (done steps : List Step) → AreBefore k done → AreFrom k steps
     → filter (is_early (done ++ steps)) (moments k (k + length steps) arrivals) ≡ arrivals_before_event k (trace_of arrivals steps)
 early_is arrivals up k done [] b f =
     let e : k + 0 ≡ k = omega arith in
@@ -86,7 +86,7 @@ early_is arrivals up k done (s ∷ steps) b f =
     ∙ ap (λ u. arrivals_at_moment k (touched_lines_of (trace_of arrivals (s ∷ steps)) (lines_at arrivals k)) ++ u) (early_is arrivals up (k + 1) (done ++ s ∷ []) steps (are_before k done s b f.0) f.1)
     ∙ ap (λ m. arrivals_at_moment k (touched_lines_of (trace_of arrivals (s ∷ steps)) (lines_at arrivals m)) ++ arrivals_before_event (k + 1) (trace_of arrivals steps)) (sym f.0)
 
-pub late_is : (arrivals : List Arrival) → NeverFalls 0 arrivals → (k : ℕ) (done steps : List Step) → AreBefore k done → AreFrom k steps
+pub late_is : (arrivals : List Arrival) → AreRisingMoments 0 arrivals → (k : ℕ) (done steps : List Step) → AreBefore k done → AreFrom k steps
     → filter (λ a. not (is_early (done ++ steps) a)) (moments k (k + length steps) arrivals) ≡ arrivals_behind_event k (trace_of arrivals steps)
 late_is arrivals up k done [] b f =
     let e : k + 0 ≡ k = omega arith in

@@ -16,7 +16,7 @@ use Rattle.observe.specs.Observe.{observe, piece_events, found_admits, admission
 use Rattle.observe.proofs.Cutting.{pieces-append, cut_off-append}
 use Rattle.observe.proofs.Moments.{moments-none}
 use Rattle.osek_scheduler.specs.State.{System, opening}
-use Rattle.osek_scheduler.specs.Runs.{Leads, Follows}
+use Rattle.osek_scheduler.specs.Runs.{AreStepsTo, AreStepsBehind}
 use Rattle.osek_scheduler.specs.InTime.{is_admit, admits_at, arrivals_at, IsOrdered, StandsBefore, KeepsOrder}
 use Rattle.sim_induction.specs.Short.{AreShort, IsShortPiece, HasShortGaps, passed_length}
 use Rattle.sim_induction.specs.Sound.{stands_before}
@@ -64,7 +64,7 @@ module _ (given : Setting) (setting : IsSetting given) (R : State → System →
   owned_here : (k : ℕ) → AreOwned (owners_in given.config) (lines_at A k)
   owned_here = owned_at given setting
 
-  follow_mine : (past : List Stamped) (k : ℕ) (m : State) (s : System) → R m s → Follows given.config given.app past s (mine k) (with_admits (lines_at A k) s)
+  follow_mine : (past : List Stamped) (k : ℕ) (m : State) (s : System) → R m s → AreStepsBehind given.config given.app past s (mine k) (with_admits (lines_at A k) s)
   follow_mine past k m s r = follows_admits given.config given.app past (here k) s setting.few_tasks (simulation.booted m s r) (owned_here k)
 
   mine_within : (k hi : ℕ) → k < hi → AllByRecursion (IsInCounts k hi) (mine k)
@@ -113,7 +113,7 @@ module _ (given : Setting) (setting : IsSetting given) (R : State → System →
       let mx : m ≡ x = cc in
       subst (λ i. ReachedAt given R E s i x) (sym k0) (
         with_admits (lines_at A k) s,
-        subst (λ u. Leads given.config given.app u s (with_admits (lines_at A k) s)) (sym f) (follows_leads given.config given.app [] s (mine k) (with_admits (lines_at A k) s) (follow_mine [] k m s r)),
+        subst (λ u. AreStepsTo given.config given.app u s (with_admits (lines_at A k) s)) (sym f) (follows_leads given.config given.app [] s (mine k) (with_admits (lines_at A k) s) (follow_mine [] k m s r)),
         subst (λ y. R (state_with_arrivals A k y) (with_admits (lines_at A k) s)) mx (simulation.arrives k m s r),
       )
 
@@ -145,7 +145,7 @@ module _ (given : Setting) (setting : IsSetting given) (R : State → System →
           end = through.0;
           whole = through.1;
           last = with_admits (lines_at A k) s;
-          follows = subst (λ E. Follows given.config given.app past s E (with_admits (lines_at A k) s)) (sym cut_observed) (follow_mine past k m s r);
+          follows = subst (λ E. AreStepsBehind given.config given.app past s E (with_admits (lines_at A k) s)) (sym cut_observed) (follow_mine past k m s r);
           within = subst (AllByRecursion (IsInCounts k (k + suc n))) (sym cut_observed) (mine_within k (k + suc n) (omega arith));
           placed = subst (EachPair IsOrdered) (sym cut_observed) (admit_pairs (here k));
           to = k + 1;
@@ -164,7 +164,7 @@ module _ (given : Setting) (setting : IsSetting given) (R : State → System →
         cut_mirror (suc i) h x g o = let f = a.closed (suc i) (omega arith) (omega arith) x g in cc
 
   -- a piece, and the run behind it
-  module _ (n k : ℕ) (m : State) (s : System) (past : List Stamped) (reached : Leads given.config given.app past (opening given.config given.app) s) (r : R m s) (a : Advances given R progress k m s)
+  module _ (n k : ℕ) (m : State) (s : System) (past : List Stamped) (reached : AreStepsTo given.config given.app past (opening given.config given.app) s) (r : R m s) (a : Advances given R progress k m s)
       (g : SoundFrom given R progress n (k + suc (length a.rest)) a.next a.after (past ++ (mine k ++ a.others))) where
     abbrev j : ℕ
     j = suc (length a.rest)
@@ -209,13 +209,13 @@ module _ (given : Setting) (setting : IsSetting given) (R : State → System →
         each_map (IsInCounts (k + j) (k + j + n)) (λ e. stands_before k e ≡ false)
         (λ e t. behind (is_admit e) e.stamp.at k (let u = t.begins in let v = t.ordered in omega arith) (λ z. let u = t.begins in let v = t.ordered in omega arith)) E g.within
 
-    mine_leads : Leads given.config given.app (past ++ mine k) (opening given.config given.app) (with_admits (lines_at A k) s)
+    mine_leads : AreStepsTo given.config given.app (past ++ mine k) (opening given.config given.app) (with_admits (lines_at A k) s)
     mine_leads = leads-append given.config given.app past (mine k) (opening given.config given.app) s (with_admits (lines_at A k) s) reached (follows_leads given.config given.app past s (mine k) (with_admits (lines_at A k) s) (follow_mine past k m s r))
 
-    piece_follows : Follows given.config given.app past s (mine k ++ a.others) a.after
+    piece_follows : AreStepsBehind given.config given.app past s (mine k ++ a.others) a.after
     piece_follows = follows-append given.config given.app past s (with_admits (lines_at A k) s) a.after (mine k) a.others (follow_mine past k m s r) (a.follows (past ++ mine k) mine_leads)
 
-    piece_leads : Leads given.config given.app (mine k ++ a.others) s a.after
+    piece_leads : AreStepsTo given.config given.app (mine k ++ a.others) s a.after
     piece_leads = follows_leads given.config given.app past s (mine k ++ a.others) a.after piece_follows
 
     piece_within : AllByRecursion (IsInCounts k (k + j)) (mine k ++ a.others)
@@ -238,7 +238,7 @@ module _ (given : Setting) (setting : IsSetting given) (R : State → System →
           end = g.end;
           whole = after_steps j n k A m (a.first ∷ a.rest) a.next a.runs ∙ g.whole;
           last = g.last;
-          follows = subst (λ u. Follows given.config given.app past s u g.last) (sym observed) (follows-append given.config given.app past s a.after g.last (mine k ++ a.others) E piece_follows g.follows);
+          follows = subst (λ u. AreStepsBehind given.config given.app past s u g.last) (sym observed) (follows-append given.config given.app past s a.after g.last (mine k ++ a.others) E piece_follows g.follows);
           within = subst (AllByRecursion (IsInCounts k (k + (j + n)))) (sym observed)
               (each-append (IsInCounts k (k + (j + n))) (mine k ++ a.others) E
               (within_wider k (k + j) k (k + (j + n)) (mine k ++ a.others) (omega arith) (omega arith) piece_within)
@@ -283,10 +283,10 @@ module _ (given : Setting) (setting : IsSetting given) (R : State → System →
             ∙ ap (λ u. u ++ filter (stands_before (k + i)) E)
             (filter_all (stands_before (k + i)) (mine k ++ a.others)
             (each-append (λ e. stands_before (k + i) e ≡ true) (mine k) a.others (mine_before (k + i) k (omega arith)) (others_before (k + i) (omega arith)))) in
-            (v.0, subst (λ u. Leads given.config given.app u s v.0) (sym fl) (leads-append given.config given.app (mine k ++ a.others) (filter (stands_before (k + i)) E) s a.after v.0 piece_leads v.1), v.2)
+            (v.0, subst (λ u. AreStepsTo given.config given.app u s v.0) (sym fl) (leads-append given.config given.app (mine k ++ a.others) (filter (stands_before (k + i)) E) s a.after v.0 piece_leads v.1), v.2)
 
   -- Every run from a count at which R holds is sound.
-  pub sound_from : (fuel n k : ℕ) (m : State) (s : System) (past : List Stamped) → n ≤ fuel → 0 < k → R m s → Leads given.config given.app past (opening given.config given.app) s → SoundFrom given R progress n k m s past
+  pub sound_from : (fuel n k : ℕ) (m : State) (s : System) (past : List Stamped) → n ≤ fuel → 0 < k → R m s → AreStepsTo given.config given.app past (opening given.config given.app) s → SoundFrom given R progress n k m s past
   sound_from fuel zero k m s past h z r l = none k m s past
   sound_from zero (suc n) k m s past h z r l = absurd (omega arith)
   sound_from (suc fuel) (suc n) k m s past h z r l =

@@ -16,7 +16,7 @@ use Rattle.rv32_machine.specs.Advance.{Goes}
 use Rattle.rv32_machine.specs.Run.{moment, state_with_arrivals}
 use Rattle.osek_scheduler.specs.State.{System, opening}
 use Rattle.osek_scheduler.specs.Steps.{OsekStep}
-use Rattle.osek_scheduler.specs.Runs.{Leads}
+use Rattle.osek_scheduler.specs.Runs.{AreStepsTo}
 use Rattle.sim_induction.specs.Mirror.{Mirror}
 use Rattle.sim_induction.specs.Admits.{Setting, IsSetting, lines_at, with_admits, admit_event, arrivals_behind_event}
 use Rattle.sim_induction.specs.Advances.{RunTo, Advances}
@@ -38,7 +38,7 @@ pub along_run : (arrivals : List Arrival) (I : State → Type 0) → IsKeptByRun
 along_run arrivals I keep zero k m x ss h i = subst I (sym h.1) i
 along_run arrivals I keep (suc j) k m x ss h i = along_run arrivals I keep j (k + 1) h.1 x h.3.0 h.3.2 (keep k m h.1 h.0 h.2 i)
 
-pub along_events : (c : Config) (app : App) (J : System → Type 0) → IsKeptByEvents c app J → (es : List Stamped) (s z : System) → Leads c app es s z → J s → J z
+pub along_events : (c : Config) (app : App) (J : System → Type 0) → IsKeptByEvents c app J → (es : List Stamped) (s z : System) → AreStepsTo c app es s z → J s → J z
 along_events c app J keep [] s z h j = subst J (sym h) j
 along_events c app J keep (e ∷ es) s z h j = along_events c app J keep es h.0 z h.2 (keep e.event s h.0 h.1 j)
 

@@ -4,9 +4,9 @@ use Rattle.std.specs.Prelude.{◌⊎◌, ◌&&◌, ◌==◌, not}
 use Rattle.std.proofs.lemmas.Bool.{cases_lt, eq-eqb}
 use Rattle.sloth_base.specs.declared.event.Arrival.{Arrival}
 use Rattle.sloth_base.specs.declared.event.Stamped.{Stamped}
-use Rattle.sloth_base.specs.Arrivals.{moments, NeverFalls}
+use Rattle.sloth_base.specs.Arrivals.{moments, AreRisingMoments}
 use Rattle.sloth_base.specs.declared.config.Config.{Config}
-use Rattle.osek_scheduler.specs.InTime.{is_admit, admits_at, arrivals_at, AdmitsAll, LeavesOut, others, longest_cut_off_stretch}
+use Rattle.osek_scheduler.specs.InTime.{is_admit, admits_at, arrivals_at, AreAllAdmitted, AreLeftOut, others, longest_cut_off_stretch}
 use Rattle.std.specs.List.{AllByRecursion}
 use Rattle.sim_induction.proofs.Events.{each_map}
 use Rattle.std.proofs.lemmas.List.Elements.{All-from_recursion}
@@ -22,7 +22,7 @@ record FirstIn (from to : ℕ) (arrivals : List Arrival) : Type 0 where
   none : NoneIn from at arrivals
   first : (t : ℕ) × (0 < arrivals_at at t arrivals)
 
-none_yet : (from to before : ℕ) (arrivals : List Arrival) → NeverFalls before arrivals → to ≤ before → NoneIn from to arrivals
+none_yet : (from to before : ℕ) (arrivals : List Arrival) → AreRisingMoments before arrivals → to ≤ before → NoneIn from to arrivals
 none_yet from to before [] up l i t a b = refl
 none_yet from to before (x ∷ arrivals) up l i t a b = not_here i t x arrivals (λ e. let u = up.0 in omega arith) ∙ none_yet from to x.at arrivals up.1 (let u = up.0 in omega arith) i t a b
 
@@ -33,7 +33,7 @@ here_one x arrivals =
     let e : arrivals_at x.at x.line (x ∷ arrivals) ≡ 1 + arrivals_at x.at x.line arrivals = c ∙ ap (λ n. n + arrivals_at x.at x.line arrivals) d in
     omega arith
 
-first_in : (from to before : ℕ) (arrivals : List Arrival) → NeverFalls before arrivals → NoneIn from to arrivals ⊎ FirstIn from to arrivals
+first_in : (from to before : ℕ) (arrivals : List Arrival) → AreRisingMoments before arrivals → NoneIn from to arrivals ⊎ FirstIn from to arrivals
 first_in from to before [] up = inl (λ i t a b. refl)
 first_in from to before (x ∷ arrivals) up =
     ⊎_elim
@@ -62,7 +62,7 @@ each_other : (P : Stamped → Type 0) (es : List Stamped) → AllByRecursion (λ
 each_other P [] h = tt
 each_other P (e ∷ es) h = kept_other P (is_admit e) e (others es) h.0 (each_other P es h.1)
 
-admitted_below : (to m : ℕ) (arrivals : List Arrival) (events : List Stamped) → ((i t : ℕ) → admits_at i t events ≡ arrivals_at i t (moments 0 to arrivals)) → NoneIn to m arrivals → AdmitsAll m arrivals events
+admitted_below : (to m : ℕ) (arrivals : List Arrival) (events : List Stamped) → ((i t : ℕ) → admits_at i t events ≡ arrivals_at i t (moments 0 to arrivals)) → NoneIn to m arrivals → AreAllAdmitted m arrivals events
 admitted_below to m arrivals events counted none k t l =
     ⊎_elim
     (λ (u : k < to). counted k t ∙ arrivals_here k t to arrivals u)
@@ -70,8 +70,8 @@ admitted_below to m arrivals events counted none k t l =
     (cases_lt k to)
 
 -- the arrivals below the moment `to` are admitted, and no later ones
-pub left_out : (config : Config) (n to : ℕ) (arrivals : List Arrival) (events : List Stamped) → NeverFalls 0 arrivals → to ≤ n → ((i t : ℕ) → admits_at i t events ≡ arrivals_at i t (moments 0 to arrivals))
-    → AllByRecursion (λ e. is_admit e ≡ false → e.stamp.at < to) events → n < to + longest_cut_off_stretch config events → AdmitsAll n arrivals events ⊎ ((k : ℕ) × LeavesOut config n arrivals events k)
+pub left_out : (config : Config) (n to : ℕ) (arrivals : List Arrival) (events : List Stamped) → AreRisingMoments 0 arrivals → to ≤ n → ((i t : ℕ) → admits_at i t events ≡ arrivals_at i t (moments 0 to arrivals))
+    → AllByRecursion (λ e. is_admit e ≡ false → e.stamp.at < to) events → n < to + longest_cut_off_stretch config events → AreAllAdmitted n arrivals events ⊎ ((k : ℕ) × AreLeftOut config n arrivals events k)
 left_out config n to arrivals events up le counted ends short =
     ⊎_elim
     (λ (none : NoneIn to n arrivals). inl (admitted_below to n arrivals events counted none))

@@ -15,7 +15,7 @@ use Rattle.observe.specs.Observe.{arrival_event}
 use Rattle.osek_scheduler.specs.State.{System}
 use Rattle.osek_scheduler.specs.Steps.{admitted_state, due_state, OsekStep}
 use Rattle.sloth_base.specs.Events.{admitted_line}
-use Rattle.osek_scheduler.specs.InTime.{is_admit, SpansFor, IsOrdered, StandsBefore}
+use Rattle.osek_scheduler.specs.InTime.{is_admit, HasSpanFor, IsOrdered, StandsBefore}
 use Rattle.osek_scheduler.specs.Runs.{PassesOverArrivals}
 use Rattle.sim_induction.specs.Admits.{line_event, with_arrival, admit_event}
 
@@ -49,8 +49,8 @@ line_back line =
 pub is_admitted : (a : Arrival) → is_admit (admit_event a) ≡ true
 is_admitted a = ap is_some (line_back a.line)
 
-pub spans_admit : (a : Arrival) → SpansFor (admit_event a).event (admit_event a)
-spans_admit a = by_event (λ e. SpansFor e (admit_event a)) a.line (λ l. refl) (λ l. refl)
+pub spans_admit : (a : Arrival) → HasSpanFor (admit_event a).event (admit_event a)
+spans_admit a = by_event (λ e. HasSpanFor e (admit_event a)) a.line (λ l. refl) (λ l. refl)
 
 -- it stands before another event, or behind it, as an admission does
 pub admit_before : (a : Arrival) (z : Stamped) → StandsBefore true (is_admit z) (admit_event a).stamp z.stamp → IsOrdered (admit_event a) z

@@ -8,7 +8,7 @@ use Rattle.sloth_base.specs.Choose.{choose}
 use Rattle.sloth_base.specs.Take.{entry_state, execution_state}
 use Rattle.rv32_instr.specs.Ram.{word_at}
 use Rattle.rv32_instr.specs.Execute.{Going, step, touched}
-use Rattle.rv32_machine.specs.Advance.{Goes, outcome, seen_step, advance}
+use Rattle.rv32_machine.specs.Advance.{Goes, outcome, observed_step, advance}
 use Rattle.rv32_machine.specs.Run.{moment, state_with_arrivals, state_after_from, on_goes}
 use Rattle.masked_code.specs.Masked.{Steps}
 use Rattle.masked_code.specs.Trace.{Trace}
@@ -17,7 +17,7 @@ use Rattle.sim_induction.specs.Admits.{lines_at}
 use Rattle.sim_induction.specs.Advances.{RunTo}
 use Rattle.sim_induction.specs.Observed.{trace_of, AreFrom}
 
-pub going_moment : (arrivals : List Arrival) (k : ℕ) (m x : State) → step (execution_state (state_with_arrivals arrivals k m)) ≡ Going x → moment arrivals k m ≡ Goes (seen_step k (state_with_arrivals arrivals k m) x) x
+pub going_moment : (arrivals : List Arrival) (k : ℕ) (m x : State) → step (execution_state (state_with_arrivals arrivals k m)) ≡ Going x → moment arrivals k m ≡ Goes (observed_step k (state_with_arrivals arrivals k m) x) x
 unfolding advance
 going_moment arrivals k m x h = ap (outcome k (state_with_arrivals arrivals k m)) h
 
@@ -25,7 +25,7 @@ going_moment arrivals k m x h = ap (outcome k (state_with_arrivals arrivals k m)
 pub none_taken : (m : State) → m.core.mie ≡ false → execution_state m ≡ m
 none_taken m e = ap (λ o. entry_state o m) (ap (λ b. cond b (choose m.core) None) e)
 
-pub masked_moment : (arrivals : List Arrival) (k : ℕ) (m x : State) → m.core.mie ≡ false → step (state_arrive (lines_at arrivals k) m) ≡ Going x → moment arrivals k m ≡ Goes (seen_step k (state_with_arrivals arrivals k m) x) x
+pub masked_moment : (arrivals : List Arrival) (k : ℕ) (m x : State) → m.core.mie ≡ false → step (state_arrive (lines_at arrivals k) m) ≡ Going x → moment arrivals k m ≡ Goes (observed_step k (state_with_arrivals arrivals k m) x) x
 masked_moment arrivals k m x e g = going_moment arrivals k m x (ap step (none_taken (state_with_arrivals arrivals k m) e) ∙ g)
 
 -- each step but the last leaves MIE 0
@@ -69,7 +69,7 @@ masked_steps arrivals (suc j) k m t x h o =
     let m1 = h.1 in
     let r = masked_steps arrivals j (suc k) m1 h.3.0 x h.3.2 o in
     let n = state_with_arrivals arrivals k m in
-    let s : Step = seen_step k n m1 in
+    let s : Step = observed_step k n m1 in
     let one : suc k ≡ k + 1 = omega arith in
     record {
       steps = s ∷ r.steps;

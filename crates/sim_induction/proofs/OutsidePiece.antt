@@ -11,13 +11,13 @@ use Rattle.sloth_base.specs.Arrivals.{moments}
 use Rattle.observe.specs.Pieces.{Outside, Stretch, is_outside, begins}
 use Rattle.observe.specs.Observe.{stamp, mark_at, outside_events}
 use Rattle.osek_scheduler.specs.State.{System}
-use Rattle.osek_scheduler.specs.Runs.{Leads, Follows, PassesOverArrivals}
-use Rattle.osek_scheduler.specs.InTime.{is_admit, admits_at, SpansFor, IsOrdered, KeepsOrder}
+use Rattle.osek_scheduler.specs.Runs.{AreStepsTo, AreStepsBehind, PassesOverArrivals}
+use Rattle.osek_scheduler.specs.InTime.{is_admit, admits_at, HasSpanFor, IsOrdered, KeepsOrder}
 use Rattle.sim_induction.specs.Short.{passed_count}
 use Rattle.sim_induction.specs.Admits.{Setting, IsSetting, lines_at, with_admits}
 use Rattle.sim_induction.specs.Advances.{EachPair, IsInCounts, found_events, Advances}
 use Rattle.std.specs.List.{AllByRecursion}
-use Rattle.sim_induction.specs.PieceLaws.{OutsideLaw, Shows, seen_step_at}
+use Rattle.sim_induction.specs.PieceLaws.{OutsideLaw, IsOutsideStep, seen_step_at}
 use Rattle.sim_induction.proofs.Schedule.{owned_at, admits_are}
 use Rattle.sim_induction.proofs.Counts.{admits-append, admits_of, others_count}
 use Rattle.sim_induction.proofs.Order.{orders-append, admits_order, others_order}
@@ -29,7 +29,7 @@ single_other (event.Run t func item result) k h = refl
 single_other event.Idle k h = refl
 single_other what k h = absurd h
 
-single_spans : (what : Event) (k : ℕ) → IsSingle what → SpansFor what (stamp k k what)
+single_spans : (what : Event) (k : ℕ) → IsSingle what → HasSpanFor what (stamp k k what)
 single_spans (event.Run t func item result) k h = refl
 single_spans event.Idle k h = refl
 single_spans what k h = absurd h
@@ -45,11 +45,11 @@ record Alone (given : Setting) (k : ℕ) (whats : List Event) (s after : System)
   others : AllByRecursion (λ e. is_admit e ≡ false) (map (stamp k k) whats)
   later : AllByRecursion (λ e. is_admit e ≡ true → k < e.stamp.at) (map (stamp k k) whats)
   placed : EachPair IsOrdered (map (stamp k k) whats)
-  leads : Leads given.config given.app (map (stamp k k) whats) s after
-  follows : (past : List Stamped) → Follows given.config given.app past s (map (stamp k k) whats) after
+  leads : AreStepsTo given.config given.app (map (stamp k k) whats) s after
+  follows : (past : List Stamped) → AreStepsBehind given.config given.app past s (map (stamp k k) whats) after
   passing : (before from to : ℕ) → before ≤ from → (whats ≡ [] → from < to) → passed_count whats before ≤ to
 
-alone : (given : Setting) (k : ℕ) (whats : List Event) (s after : System) → AreSingle whats → Shows given whats s after → Alone given k whats s after
+alone : (given : Setting) (k : ℕ) (whats : List Event) (s after : System) → AreSingle whats → IsOutsideStep given whats s after → Alone given k whats s after
 alone given k [] s after h w = record {
   stamps = tt;
   others = tt;

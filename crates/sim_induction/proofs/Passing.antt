@@ -17,7 +17,7 @@ use Rattle.osek_scheduler.specs.Priority.{IsTop, IsDue, rank, is_active, current
 use Rattle.code_rules.specs.Code.{is_in}
 use Rattle.osek_scheduler.specs.Services.{if_suspended, activated_state}
 use Rattle.osek_scheduler.specs.Steps.{OsekStep, admitted_state}
-use Rattle.osek_scheduler.specs.Runs.{Leads, ReadySince, PassesOver}
+use Rattle.osek_scheduler.specs.Runs.{AreStepsTo, ReadySince, PassesOver}
 use Rattle.masked_code.specs.Trace.{Trace, early_arrivals}
 use Rattle.sim_induction.specs.Admits.{line_event, with_arrival, with_admits, admit_event, arrivals_before_event}
 use Rattle.sim_induction.proofs.Follow.{leads-append, booted_arrival}
@@ -121,7 +121,7 @@ active_fresh (t ∷ lines) u s a f =
 -- ---- a task that arrivals made Ready
 
 -- any admits leave a Ready task Ready
-leads_ready : (c : Config) (app : App) (a : List Arrival) (front rest : List Stamped) (u : ℕ) (s x : System) → map admit_event a ≡ front ++ rest → Leads c app front s x → (task s u).state ≡ mode.Ready → (task x u).state ≡ mode.Ready
+leads_ready : (c : Config) (app : App) (a : List Arrival) (front rest : List Stamped) (u : ℕ) (s x : System) → map admit_event a ≡ front ++ rest → AreStepsTo c app front s x → (task s u).state ≡ mode.Ready → (task x u).state ≡ mode.Ready
 leads_ready c app a [] rest u s x e h r = subst (λ v. (task v u).state ≡ mode.Ready) (sym h) r
 leads_ready c app [] (f ∷ front) rest u s x e h r = cc
 leads_ready c app (y ∷ a) (f ∷ front) rest u s x e h r =
@@ -145,7 +145,7 @@ made t u s n =
 made_arrival : (line u : ℕ) (s : System) → ((task s u).state ≡ mode.Ready → ⊥) → (task (with_arrival line s) u).state ≡ mode.Ready → (u ≡ line) × ((task s u).state ≡ mode.Suspended)
 made_arrival line u s n = arrival_cases (λ z. (task z u).state ≡ mode.Ready → (u ≡ line) × ((task s u).state ≡ mode.Suspended)) line s (made line u s n) (λ c r. absurd (n r))
 
-pub made_ready : (c : Config) (app : App) (past : List Stamped) (k to u : ℕ) (a : List Arrival) (s : System) → length c.tasks ≤ first_counter_line → Leads c app past (opening c app) s → s.booted ≡ true → AreTasks (owners_in c) (map (λ x. x.line) a) → AllByRecursion (IsFrom (k + 1) to) a
+pub made_ready : (c : Config) (app : App) (past : List Stamped) (k to u : ℕ) (a : List Arrival) (s : System) → length c.tasks ≤ first_counter_line → AreStepsTo c app past (opening c app) s → s.booted ≡ true → AreTasks (owners_in c) (map (λ x. x.line) a) → AllByRecursion (IsFrom (k + 1) to) a
     → ((task s u).state ≡ mode.Ready → ⊥) → (task (with_admits (map (λ x. x.line) a) s) u).state ≡ mode.Ready → ReadySince c app (past ++ map admit_event a) u k
 made_ready c app past k to u [] s few h b l m n r = absurd (n r)
 made_ready c app past k to u (x ∷ a) s few h b l m n r =
@@ -200,7 +200,7 @@ still_top c s t lines few tasks top active fresh =
       no_ticks = λ n declared. ap (λ (clock : Clock). (get_or clock.counters n no_counter).due) (same_clock c lines s few tasks) ∙ top.no_ticks n declared;
     }
 
-pub passes_over : (c : Config) (app : App) (past : List Stamped) (k to t : ℕ) (a : List Arrival) (s : System) → length c.tasks ≤ first_counter_line → Leads c app past (opening c app) s → s.booted ≡ true
+pub passes_over : (c : Config) (app : App) (past : List Stamped) (k to t : ℕ) (a : List Arrival) (s : System) → length c.tasks ≤ first_counter_line → AreStepsTo c app past (opening c app) s → s.booted ≡ true
     → AreTasks (owners_in c) (map (λ x. x.line) a) → AllByRecursion (IsFrom (k + 1) to) a → IsTop c s [] t → (task s t).state ≡ mode.Active
     → PassesOver c app (past ++ map admit_event a) (with_admits (map (λ x. x.line) a) s) t k
 passes_over c app past k to t a s few h b l m top active u declared ready above =
@@ -213,7 +213,7 @@ passes_over c app past k to t a s few h b l m top active u declared ready above 
     omega arith)
     ready
 
-pub passes_inner : (c : Config) (app : App) (past : List Stamped) (k t : ℕ) (s : System) (trace : Trace) → length c.tasks ≤ first_counter_line → Leads c app past (opening c app) s → s.booted ≡ true
+pub passes_inner : (c : Config) (app : App) (past : List Stamped) (k t : ℕ) (s : System) (trace : Trace) → length c.tasks ≤ first_counter_line → AreStepsTo c app past (opening c app) s → s.booted ≡ true
     → AreTasks (owners_in c) (early_arrivals trace) → IsTop c s [] t → (task s t).state ≡ mode.Active
     → PassesOver c app (past ++ map admit_event (arrivals_before_event (k + 1) trace)) (with_admits (early_arrivals trace) s) t k
 passes_inner c app past k t s trace few h b l top active =

@@ -11,7 +11,7 @@ use Rattle.sloth_base.specs.Arrive.{state_arrive}
 use Rattle.sloth_base.specs.Take.{line_to_take, entry_state, execution_state}
 use Rattle.sloth_base.proofs.Owners.{kind_of_task}
 use Rattle.rv32_instr.specs.Execute.{Next, Going, Stopped, step, touched}
-use Rattle.rv32_machine.specs.Advance.{seen_step}
+use Rattle.rv32_machine.specs.Advance.{observed_step}
 use Rattle.rv32_machine.specs.Run.{state_with_arrivals}
 use Rattle.masked_code.specs.Masked.{OnGoing, Masked, WithArrivals, FromOpening, Steps}
 use Rattle.masked_code.specs.Trace.{Trace, lines_of, touched_lines, early_arrivals, late_arrivals}
@@ -140,14 +140,14 @@ touches_parted lines (Some l) rest h = (h.0, h.1)
 
 -- ---- where a stretch begins, and which event it is
 
-pub begins_entered : (k : ℕ) (n x : State) (line : ℕ) → line_to_take n ≡ Some line → begins (seen_step k n x) ≡ true
+pub begins_entered : (k : ℕ) (n x : State) (line : ℕ) → line_to_take n ≡ Some line → begins (observed_step k n x) ≡ true
 begins_entered k n x line h = ap (λ o. ((k == 0) || is_some o) || (n.core.mie && not x.core.mie)) h ∙ or_true (k == 0) (n.core.mie && not x.core.mie)
   where
     or_true : (a b : Bool) → (a || true) || b ≡ true
     or_true true b = refl
     or_true false b = refl
 
-pub begins_masked : (k : ℕ) (n x : State) → n.core.mie ≡ true → x.core.mie ≡ false → begins (seen_step k n x) ≡ true
+pub begins_masked : (k : ℕ) (n x : State) → n.core.mie ≡ true → x.core.mie ≡ false → begins (observed_step k n x) ≡ true
 begins_masked k n x h e =
     ap (λ b. ((k == 0) || is_some (line_to_take n)) || (b && not x.core.mie)) h
     ∙ ap (λ b. ((k == 0) || is_some (line_to_take n)) || not b) e ∙ or_true ((k == 0) || is_some (line_to_take n))
@@ -156,7 +156,7 @@ begins_masked k n x h e =
     or_true true = refl
     or_true false = refl
 
-pub begins_none : (k : ℕ) (n x : State) → 0 < k → line_to_take n ≡ None → x.core.mie ≡ true → begins (seen_step k n x) ≡ false
+pub begins_none : (k : ℕ) (n x : State) → 0 < k → line_to_take n ≡ None → x.core.mie ≡ true → begins (observed_step k n x) ≡ false
 begins_none k n x l h e =
     ap (λ b. (b || is_some (line_to_take n)) || (n.core.mie && not x.core.mie)) (ne_eqb k 0 (λ z. omega arith))
     ∙ ap (λ o. is_some o || (n.core.mie && not x.core.mie)) h ∙ ap (λ b. n.core.mie && not b) e ∙ and_false n.core.mie
@@ -165,15 +165,15 @@ begins_none k n x l h e =
     and_false true = refl
     and_false false = refl
 
-pub entered_event : (view : View) (k : ℕ) (n x : State) (last : Step) (line : ℕ) → 0 < k → line_to_take n ≡ Some line → line < view.owners.tasks → stretch_event view (seen_step k n x) last ≡ event.Enter line
+pub entered_event : (view : View) (k : ℕ) (n x : State) (last : Step) (line : ℕ) → 0 < k → line_to_take n ≡ Some line → line < view.owners.tasks → stretch_event view (observed_step k n x) last ≡ event.Enter line
 entered_event view k n x last line l h t =
-    ap (λ b. cond b event.Boot (later_event (line_to_take n) view (seen_step k n x) last)) (ne_eqb k 0 (λ z. omega arith))
-    ∙ ap (λ o. later_event o view (seen_step k n x) last) h
+    ap (λ b. cond b event.Boot (later_event (line_to_take n) view (observed_step k n x) last)) (ne_eqb k 0 (λ z. omega arith))
+    ∙ ap (λ o. later_event o view (observed_step k n x) last) h
     ∙ ap (entry_event line) (kind_of_task view.owners line t)
 
 pub opened_event : (view : View) (k : ℕ) (n x : State) (last : Step) (mark : Mark) → 0 < k → line_to_take n ≡ None → mark_at view (execution_state n).pc ≡ Some mark
-    → stretch_event view (seen_step k n x) last ≡ marked_event mark.kind view mark (seen_step k n x) last
+    → stretch_event view (observed_step k n x) last ≡ marked_event mark.kind view mark (observed_step k n x) last
 opened_event view k n x last mark l h m =
-    ap (λ b. cond b event.Boot (later_event (line_to_take n) view (seen_step k n x) last)) (ne_eqb k 0 (λ z. omega arith))
-    ∙ ap (λ o. later_event o view (seen_step k n x) last) h
-    ∙ ap (λ o. unentered_event o view (seen_step k n x) last) m
+    ap (λ b. cond b event.Boot (later_event (line_to_take n) view (observed_step k n x) last)) (ne_eqb k 0 (λ z. omega arith))
+    ∙ ap (λ o. later_event o view (observed_step k n x) last) h
+    ∙ ap (λ o. unentered_event o view (observed_step k n x) last) m

@@ -9,7 +9,7 @@ use Rattle.observe.specs.Pieces.{pieces, cut_off_steps}
 use Rattle.std.specs.List.{AllByRecursion}
 use Rattle.observe.specs.Observe.{observe}
 use Rattle.osek_scheduler.specs.State.{System}
-use Rattle.osek_scheduler.specs.Runs.{Leads, Follows}
+use Rattle.osek_scheduler.specs.Runs.{AreStepsTo, AreStepsBehind}
 use Rattle.osek_scheduler.specs.InTime.{is_admit, admits_at, arrivals_at, IsOrdered, KeepsOrder}
 use Rattle.sim_induction.specs.Short.{AreShort, IsShortPiece, HasShortGaps}
 use Rattle.sim_induction.specs.Sound.{stands_before}
@@ -23,13 +23,13 @@ events_from given n k m = observe given.view given.arrivals (steps_from n given.
 
 -- these events lead to a system that is related with this state of the count, with the arrivals of the count
 abbrev pub ReachedAt : Setting → (State → System → Type 0) → List Stamped → System → ℕ → State → Type 0
-ReachedAt given R events s count x = (z : System) × Leads given.config given.app (filter (stands_before count) events) s z × R (state_with_arrivals given.arrivals count x) z
+ReachedAt given R events s count x = (z : System) × AreStepsTo given.config given.app (filter (stands_before count) events) s z × R (state_with_arrivals given.arrivals count x) z
 
 pub record SoundFrom (given : Setting) (R : State → System → Type 0) (progress : State → System → ℕ) (n k : ℕ) (m : State) (s : System) (past : List Stamped) : Type 0 where
   pub end : State
   pub whole : state_after_from n given.arrivals k m ≡ Some end
   pub last : System
-  pub follows : Follows given.config given.app past s (events_from given n k m) last
+  pub follows : AreStepsBehind given.config given.app past s (events_from given n k m) last
   pub within : AllByRecursion (IsInCounts k (k + n)) (events_from given n k m)
   pub placed : EachPair IsOrdered (events_from given n k m)
   pub to : ℕ

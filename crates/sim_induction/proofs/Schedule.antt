@@ -6,14 +6,14 @@ use Rattle.std.proofs.lemmas.Bool.{le-leb, lt-leb, lt-ltb, le-ltb, cases_lt}
 use Rattle.sloth_base.specs.declared.event.Arrival.{Arrival}
 use Rattle.sloth_base.specs.declared.image.Mark.{Mark}
 use Rattle.sloth_base.specs.declared.lines.Owners.{Owners}
-use Rattle.sloth_base.specs.Arrivals.{moments, NeverFalls}
+use Rattle.sloth_base.specs.Arrivals.{moments, AreRisingMoments}
 use Rattle.sloth_base.specs.Owners.{first_counter_line, owners_in, IsOwned, AreOwned}
 use Rattle.observe.specs.Observe.{view_from, admission}
 use Rattle.observe.proofs.Moments.{moments-later}
 use Rattle.sim_induction.specs.Admits.{Setting, IsSetting, lines_at, admit_event, arrivals_at_moment}
 use Rattle.sim_induction.proofs.Lines.{arrival_shown}
 
-pub from_zero : (xs : List Arrival) → NeverFalls 1 xs → NeverFalls 0 xs
+pub from_zero : (xs : List Arrival) → AreRisingMoments 1 xs → AreRisingMoments 0 xs
 from_zero [] h = tt
 from_zero (x ∷ xs) h = (omega arith, h.1)
 
@@ -28,7 +28,7 @@ late_one : (b : Bool) (from to : ℕ) (x : Arrival) (xs : List Arrival) → nat_
 late_one true from to x xs e a = rw (e, le-ltb x.at to a) refl
 late_one false from to x xs e a = rw e refl
 
-pub moments-split : (before from mid to : ℕ) (xs : List Arrival) → NeverFalls before xs → from ≤ mid → mid ≤ to → moments from to xs ≡ moments from mid xs ++ moments mid to xs
+pub moments-split : (before from mid to : ℕ) (xs : List Arrival) → AreRisingMoments before xs → from ≤ mid → mid ≤ to → moments from to xs ≡ moments from mid xs ++ moments mid to xs
 moments-split before from mid to [] up a b = refl
 moments-split before from mid to (x ∷ xs) up a b =
     let ih = moments-split x.at from mid to xs up.1 a b in

@@ -15,11 +15,11 @@ use Rattle.sloth_base.specs.ServiceCodes.{service_of}
 use Rattle.sloth_base.specs.Owners.{first_counter_line, line_kind}
 use Rattle.sloth_base.specs.declared.lines.LineKind.{LineKind}
 use Rattle.sloth_base.specs.declared.lines.LineKind.TheVariants as line_of
-use Rattle.osek_scheduler.specs.InTime.{is_admit, SpansFor}
+use Rattle.osek_scheduler.specs.InTime.{is_admit, HasSpanFor}
 
 -- an event that is no admit, and may have more than one instruction
 abbrev pub IsLong : Event → Type 0
-IsLong what = (is_admit (stamp 0 0 what) ≡ false) × ((e : Stamped) → SpansFor what e)
+IsLong what = (is_admit (stamp 0 0 what) ≡ false) × ((e : Stamped) → HasSpanFor what e)
 
 pick : (P : Event → Type 0) (b : Bool) (x y : Event) → P x → P y → P (cond b x y)
 pick P true x y h k = h

@@ -16,8 +16,8 @@ use Rattle.masked_code.specs.Trace.{Trace, touched_lines, early_arrivals, late_a
 use Rattle.observe.specs.Pieces.{Stretch, is_outside, begins}
 use Rattle.observe.specs.Observe.{admission, stamp, is_early, last_of, stretch_event, piece_events}
 use Rattle.osek_scheduler.specs.State.{System, opening}
-use Rattle.osek_scheduler.specs.Runs.{Leads, Follows}
-use Rattle.osek_scheduler.specs.InTime.{is_admit, admits_at, arrivals_at, IsOrdered, StandsBefore, SpansFor, KeepsOrder}
+use Rattle.osek_scheduler.specs.Runs.{AreStepsTo, AreStepsBehind}
+use Rattle.osek_scheduler.specs.InTime.{is_admit, admits_at, arrivals_at, IsOrdered, StandsBefore, HasSpanFor, KeepsOrder}
 use Rattle.sim_induction.specs.Short.{AreShort, IsShortAt, TouchesOnly}
 use Rattle.sim_induction.specs.Admits.{Setting, IsSetting, lines_at, with_admits, admit_event, arrivals_before_event, arrivals_behind_event}
 use Rattle.sim_induction.proofs.Lines.{spans_admit, admit_before, admit_behind, admits_ordered}
@@ -132,7 +132,7 @@ module _ (given : Setting) (setting : IsSetting given) (R : State → System →
   within : IsInCounts k (k + suc law.more) event
   within =
       let w = law.what_is (last_of first r.steps) last_is.0.0 last_is.0.1 in
-      record { begins = omega arith; ordered = omega arith; ends = omega arith; spans = subst (λ v. SpansFor v event) w ((stretch_long given.view first (last_of first r.steps)).1 event) }
+      record { begins = omega arith; ordered = omega arith; ends = omega arith; spans = subst (λ v. HasSpanFor v event) w ((stretch_long given.view first (last_of first r.steps)).1 event) }
 
   abbrev others : List Stamped
   others = masked_events (k + 1) t event
@@ -188,23 +188,23 @@ module _ (given : Setting) (setting : IsSetting given) (R : State → System →
   s1_booted : s1.booted ≡ true
   s1_booted = booted_admits (lines_at A k) s ∙ s_booted
 
-  lead_others : Leads given.config given.app others s1 (with_admits (late_arrivals t) law.after)
+  lead_others : AreStepsTo given.config given.app others s1 (with_admits (late_arrivals t) law.after)
   lead_others =
       leads-append given.config given.app (map admit_event (arrivals_before_event (k + 1) t)) (event ∷ map admit_event (arrivals_behind_event (k + 1) t)) s1 (with_admits (early_arrivals t) s1) (with_admits (late_arrivals t) law.after)
-      (subst (λ a. Leads given.config given.app (map admit_event (arrivals_before_event (k + 1) t)) s1 (with_admits a s1)) (lines_before (k + 1) t) (leads_admits given.config given.app (arrivals_before_event (k + 1) t) s1 setting.few_tasks s1_booted owned_before)) (
+      (subst (λ a. AreStepsTo given.config given.app (map admit_event (arrivals_before_event (k + 1) t)) s1 (with_admits a s1)) (lines_before (k + 1) t) (leads_admits given.config given.app (arrivals_before_event (k + 1) t) s1 setting.few_tasks s1_booted owned_before)) (
         law.after,
         law.step_is,
-        subst (λ a. Leads given.config given.app (map admit_event (arrivals_behind_event (k + 1) t)) law.after (with_admits a law.after)) (lines_behind (k + 1) t) (leads_admits given.config given.app (arrivals_behind_event (k + 1) t) law.after setting.few_tasks after_booted owned_behind),
+        subst (λ a. AreStepsTo given.config given.app (map admit_event (arrivals_behind_event (k + 1) t)) law.after (with_admits a law.after)) (lines_behind (k + 1) t) (leads_admits given.config given.app (arrivals_behind_event (k + 1) t) law.after setting.few_tasks after_booted owned_behind),
       )
 
-  follow_others : (past : List Stamped) → Leads given.config given.app past (opening given.config given.app) s1 → Follows given.config given.app past s1 others (with_admits (late_arrivals t) law.after)
+  follow_others : (past : List Stamped) → AreStepsTo given.config given.app past (opening given.config given.app) s1 → AreStepsBehind given.config given.app past s1 others (with_admits (late_arrivals t) law.after)
   follow_others past h =
       follows-append given.config given.app past s1 (with_admits (early_arrivals t) s1) (with_admits (late_arrivals t) law.after) (map admit_event (arrivals_before_event (k + 1) t)) (event ∷ map admit_event (arrivals_behind_event (k + 1) t))
-      (subst (λ a. Follows given.config given.app past s1 (map admit_event (arrivals_before_event (k + 1) t)) (with_admits a s1)) (lines_before (k + 1) t) (follows_admits given.config given.app past (arrivals_before_event (k + 1) t) s1 setting.few_tasks s1_booted owned_before)) (
+      (subst (λ a. AreStepsBehind given.config given.app past s1 (map admit_event (arrivals_before_event (k + 1) t)) (with_admits a s1)) (lines_before (k + 1) t) (follows_admits given.config given.app past (arrivals_before_event (k + 1) t) s1 setting.few_tasks s1_booted owned_before)) (
         law.after,
         law.step_is,
         law.passes past h,
-        subst (λ a. Follows given.config given.app ((past ++ map admit_event (arrivals_before_event (k + 1) t)) ++ event ∷ []) law.after (map admit_event (arrivals_behind_event (k + 1) t)) (with_admits a law.after)) (lines_behind (k + 1) t)
+        subst (λ a. AreStepsBehind given.config given.app ((past ++ map admit_event (arrivals_before_event (k + 1) t)) ++ event ∷ []) law.after (map admit_event (arrivals_behind_event (k + 1) t)) (with_admits a law.after)) (lines_behind (k + 1) t)
             (follows_admits given.config given.app ((past ++ map admit_event (arrivals_before_event (k + 1) t)) ++ event ∷ []) (arrivals_behind_event (k + 1) t) law.after setting.few_tasks after_booted owned_behind),
       )
 

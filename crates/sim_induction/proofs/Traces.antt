@@ -4,14 +4,14 @@ use Rattle.std.specs.Prelude.{map, IfSome, take, Contains, ◌||◌, ◌==◌}
 use Rattle.std.proofs.lemmas.List.{map-append}
 use Rattle.sloth_base.specs.declared.event.Arrival.{Arrival}
 use Rattle.sloth_base.specs.declared.step.Step.{Step}
-use Rattle.sloth_base.specs.Arrivals.{NeverFalls}
+use Rattle.sloth_base.specs.Arrivals.{AreRisingMoments}
 use Rattle.sloth_base.specs.Machine.{State}
 use Rattle.sloth_base.specs.Arrive.{state_arrive}
 use Rattle.sloth_base.specs.Options.{is_number}
 use Rattle.std.proofs.lemmas.Bool.{eqb-true}
 use Rattle.rv32_instr.specs.Execute.{touched}
 use Rattle.masked_code.specs.Masked.{Steps}
-use Rattle.masked_code.specs.Trace.{Entry, Trace, is_touched_line, touched_lines_of, untouched_lines_of, touched_lines, lines_of, early_arrivals, late_arrivals}
+use Rattle.masked_code.specs.Trace.{TraceEntry, Trace, is_touched_line, touched_lines_of, untouched_lines_of, touched_lines, lines_of, early_arrivals, late_arrivals}
 use Rattle.sim_induction.specs.Short.{TouchesOnly}
 use Rattle.sim_induction.specs.Admits.{arrivals_at_moment, arrivals_before_event, arrivals_behind_event}
 use Rattle.sim_induction.specs.Observed.{trace_of, AreFrom, AreBefore, IsTraced}
@@ -31,7 +31,7 @@ lines_behind k (e ∷ t) =
     map-append (λ (a : Arrival). a.line) (arrivals_at_moment k (untouched_lines_of (e ∷ t) e.0)) (arrivals_behind_event (k + 1) t)
     ∙ ap (λ u. u ++ map (λ a. a.line) (arrivals_behind_event (k + 1) t)) (lines_back k (untouched_lines_of (e ∷ t) e.0)) ∙ ap (λ u. untouched_lines_of (e ∷ t) e.0 ++ u) (lines_behind (k + 1) t)
 
-pub is_traced : (arrivals : List Arrival) → NeverFalls 0 arrivals → (k : ℕ) (done steps : List Step) → AreBefore k done → AreFrom k steps → IsTraced arrivals k done steps
+pub is_traced : (arrivals : List Arrival) → AreRisingMoments 0 arrivals → (k : ℕ) (done steps : List Step) → AreBefore k done → AreFrom k steps → IsTraced arrivals k done steps
 is_traced arrivals up k done steps b f = record {
   before = early_is arrivals up k done steps b f;
   behind = late_is arrivals up k done steps b f;
@@ -58,7 +58,7 @@ module _ (P : ℕ → Type 0) where
   lines_trace zero k A m t x b h = subst (λ u. AllByRecursion P (early_arrivals u) × AllByRecursion P (late_arrivals u)) (sym h.0) (tt, tt)
   lines_trace (suc j) k A m t x b h =
       let r = lines_trace j (suc k) A h.1 h.3.0 x b h.3.2 in
-      let e : Entry = (A k, touched (state_arrive (A k) m)) in
+      let e : TraceEntry = (A k, touched (state_arrive (A k) m)) in
       let w = lines_parted (e ∷ h.3.0) (A k) (b k) in
       subst (λ u. AllByRecursion P (early_arrivals u) × AllByRecursion P (late_arrivals u)) (sym h.3.1)
       (lines-append (touched_lines_of (e ∷ h.3.0) (A k)) (early_arrivals h.3.0) w.0 r.0, lines-append (untouched_lines_of (e ∷ h.3.0) (A k)) (late_arrivals h.3.0) w.1 r.1)

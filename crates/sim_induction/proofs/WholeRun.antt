@@ -11,11 +11,11 @@ use Rattle.sloth_base.specs.Arrivals.{moments}
 use Rattle.rv32_machine.specs.Run.{state_after_from}
 use Rattle.rv32_machine.specs.Start.{start}
 use Rattle.rv32_machine.proofs.Runs.{stop_none}
-use Rattle.observe.specs.Pieces.{Piece, pieces, cut_off_steps}
+use Rattle.observe.specs.Pieces.{RunPiece, pieces, cut_off_steps}
 use Rattle.std.specs.List.{AllByRecursion}
 use Rattle.observe.specs.Observe.{view_of_image}
 use Rattle.osek_scheduler.specs.State.{System, opening}
-use Rattle.osek_scheduler.specs.Runs.{Follows}
+use Rattle.osek_scheduler.specs.Runs.{AreStepsBehind}
 use Rattle.osek_scheduler.specs.InTime.{InTime, IsStamped, is_admit, admits_at, arrivals_at, IsOrdered, KeepsOrder, longest_cut_off_stretch}
 use Rattle.sim_induction.specs.Short.{Short, AreShort, IsShortPiece, HasShortGaps}
 use Rattle.sim_induction.specs.Sound.{IsSoundRun}
@@ -34,7 +34,7 @@ pub record WholeRun (given : Setting) (R : State → System → Type 0) (n : ℕ
   pub end : State
   pub whole : state_after_from n given.arrivals 0 m ≡ Some end
   pub last : System
-  pub follows : Follows given.config given.app [] (opening given.config given.app) (events_from given n 0 m) last
+  pub follows : AreStepsBehind given.config given.app [] (opening given.config given.app) (events_from given n 0 m) last
   pub within : AllByRecursion (IsInCounts 0 n) (events_from given n 0 m)
   pub placed : EachPair IsOrdered (events_from given n 0 m)
   pub to : ℕ
@@ -47,7 +47,7 @@ pub record WholeRun (given : Setting) (R : State → System → Type 0) (n : ℕ
   pub gaps : HasShortGaps given.view 0 (pieces [] (steps_from n given.arrivals 0 m))
   pub mirrors : (i : ℕ) → i < n → (x : State) → state_after_from i given.arrivals 0 m ≡ Some x → x.core.mie ≡ true → ReachedAt given R (events_from given n 0 m) (opening given.config given.app) i x
 
-all_pieces : (P : Piece → Type 0) (a : List Piece) → AllByRecursion P a → All P a
+all_pieces : (P : RunPiece → Type 0) (a : List RunPiece) → AllByRecursion P a → All P a
 all_pieces P [] h k d lt = absurd (omega arith)
 all_pieces P (x ∷ a) h zero d lt = h.0
 all_pieces P (x ∷ a) h (suc k) d lt = all_pieces P a h.1 k d (omega arith)

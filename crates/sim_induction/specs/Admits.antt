@@ -6,7 +6,7 @@ use Rattle.sloth_base.specs.declared.event.Arrival.{Arrival}
 use Rattle.sloth_base.specs.declared.event.Event.{Event}
 use Rattle.sloth_base.specs.declared.event.Event.TheVariants as event
 use Rattle.sloth_base.specs.declared.event.Stamped.{Stamped}
-use Rattle.sloth_base.specs.Arrivals.{moments, NeverFalls}
+use Rattle.sloth_base.specs.Arrivals.{moments, AreRisingMoments}
 use Rattle.sloth_base.specs.Owners.{first_counter_line, owners_in, IsOwned}
 use Rattle.observe.specs.Observe.{View, stamp}
 use Rattle.osek_scheduler.specs.State.{System}
@@ -24,7 +24,7 @@ pub record Setting : Type 0 where
 pub record IsSetting (given : Setting) : Type 0 where
   pub owners : given.view.owners ≡ owners_in given.config
   pub few_tasks : length given.config.tasks ≤ first_counter_line
-  pub ordered : NeverFalls 1 given.arrivals
+  pub ordered : AreRisingMoments 1 given.arrivals
   pub lines : All (λ a. IsOwned (owners_in given.config) a.line) given.arrivals
 
 -- the lines that arrive before the instruction of a count

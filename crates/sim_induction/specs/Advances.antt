@@ -9,11 +9,11 @@ use Rattle.sloth_base.specs.Arrivals.{moments}
 use Rattle.sloth_base.specs.Stretches.{longest_stretch}
 use Rattle.rv32_machine.specs.Advance.{Goes}
 use Rattle.rv32_machine.specs.Run.{moment, state_after_from}
-use Rattle.observe.specs.Pieces.{Piece, pieces, cut_off_steps}
+use Rattle.observe.specs.Pieces.{RunPiece, pieces, cut_off_steps}
 use Rattle.observe.specs.Observe.{piece_events}
 use Rattle.osek_scheduler.specs.State.{System, opening}
-use Rattle.osek_scheduler.specs.Runs.{Leads, Follows}
-use Rattle.osek_scheduler.specs.InTime.{is_admit, admits_at, arrivals_at, SpansFor, IsOrdered, KeepsOrder}
+use Rattle.osek_scheduler.specs.Runs.{AreStepsTo, AreStepsBehind}
+use Rattle.osek_scheduler.specs.InTime.{is_admit, admits_at, arrivals_at, HasSpanFor, IsOrdered, KeepsOrder}
 use Rattle.sim_induction.specs.Short.{AreShort, IsShortPiece, passed_length}
 use Rattle.sim_induction.specs.Admits.{Setting, lines_at, with_admits, admit_event}
 
@@ -34,7 +34,7 @@ pub record IsInCounts (from to : ℕ) (e : Stamped) : Type 0 where
   pub begins : from ≤ e.stamp.from
   pub ordered : e.stamp.from ≤ e.stamp.at
   pub ends : e.stamp.at < to
-  pub spans : SpansFor e.event e
+  pub spans : HasSpanFor e.event e
 
 -- the arrivals of the first count
 abbrev pub found_events : Setting → ℕ → List Stamped
@@ -47,7 +47,7 @@ pub record Advances (given : Setting) (R : State → System → Type 0) (progres
   pub rest : List Step
   pub next : State
   pub runs : RunTo given.arrivals (suc (length rest)) count state (first ∷ rest) next
-  pub piece : Piece
+  pub piece : RunPiece
   pub pieces_are : pieces [] (first ∷ rest) ≡ piece ∷ []
   pub cut_is : cut_off_steps [] (first ∷ rest) ≡ []
   pub unfinished : (n : ℕ) → n < length rest → (pieces [] (first ∷ take n rest) ≡ []) × (cut_off_steps [] (first ∷ take n rest) ≡ first ∷ take n rest)
@@ -64,8 +64,8 @@ pub record Advances (given : Setting) (R : State → System → Type 0) (progres
   pub short : IsShortPiece given.config piece
   pub short_front : (n : ℕ) → n < length rest → AreShort given.config (first ∷ take n rest)
   pub after : System
-  pub leads : Leads given.config given.app others (with_admits (lines_at given.arrivals count) s) after
-  pub follows : (past : List Stamped) → Leads given.config given.app past (opening given.config given.app) (with_admits (lines_at given.arrivals count) s)
-      → Follows given.config given.app past (with_admits (lines_at given.arrivals count) s) others after
+  pub leads : AreStepsTo given.config given.app others (with_admits (lines_at given.arrivals count) s) after
+  pub follows : (past : List Stamped) → AreStepsTo given.config given.app past (opening given.config given.app) (with_admits (lines_at given.arrivals count) s)
+      → AreStepsBehind given.config given.app past (with_admits (lines_at given.arrivals count) s) others after
   pub progresses : (before : ℕ) → before ≤ progress state s → passed_length given.view piece before ≤ progress next after
   pub related : R next after

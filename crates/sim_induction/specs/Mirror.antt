@@ -16,7 +16,7 @@ abbrev pub priority_of : Config → System → ℕ → ℕ
 priority_of config s t = current_priority config (declaration config t) (task s t)
 
 -- an Active task, of the greatest current priority of the Active ones
-pub record Runs (config : Config) (s : System) (t : ℕ) : Type 0 where
+pub record IsRunningTask (config : Config) (s : System) (t : ℕ) : Type 0 where
   pub declared : t < length config.tasks
   pub active : (task s t).state ≡ mode.Active
   pub is_greatest : (u : ℕ) → u < length config.tasks → (task s u).state ≡ mode.Active → priority_of config s u ≤ priority_of config s t
@@ -29,7 +29,7 @@ pub record Mirror (config : Config) (core : Core) (s : System) : Type 0 where
       → (slice_index core.enabled t ≡ 1) × (slice_index core.pending t ≡ 1)
   pub waiting : (t mask : ℕ) → t < length config.tasks → (task s t).state ≡ mode.Waiting mask → slice_index core.enabled t ≡ 0
   -- the running level is that of the running task's current priority, and the first word of memory names the task
-  pub running : (t : ℕ) → Runs config s t → (core.ilevel ≡ level_of config (priority_of config s t)) × (word_at core.ram 0 ≡ t + 1)
+  pub running : (t : ℕ) → IsRunningTask config s t → (core.ilevel ≡ level_of config (priority_of config s t)) × (word_at core.ram 0 ≡ t + 1)
   -- a counter's line is enabled, and pending exactly where the counter is due
   pub counters : (c : ℕ) → c < length config.counters
       → (slice_index core.enabled (counter_line c) ≡ 1) × (slice_index core.pending (counter_line c) ≡ cond (counter s c).due 1 0)

@@ -8,7 +8,7 @@ use Rattle.osek_scheduler.specs.declared.state.TaskState.TheVariants as mode
 use Rattle.osek_scheduler.specs.State.{System, task, opening}
 use Rattle.osek_scheduler.specs.Priority.{IsTop}
 use Rattle.code_rules.specs.Code.{is_in}
-use Rattle.osek_scheduler.specs.Runs.{Leads, PassesOver}
+use Rattle.osek_scheduler.specs.Runs.{AreStepsTo, PassesOver}
 use Rattle.masked_code.specs.Trace.{Trace, early_arrivals}
 use Rattle.sim_induction.specs.Admits.{with_admits, admit_event, arrivals_before_event}
 
@@ -23,6 +23,6 @@ StaysTop =
 abbrev pub PassesOverInner : Type 0
 PassesOverInner =
     (config : Config) (app : App) (past : List Stamped) (count t : ℕ) (s : System) (trace : Trace) → length config.tasks ≤ first_counter_line
-    → Leads config app past (opening config app) s → s.booted ≡ true
+    → AreStepsTo config app past (opening config app) s → s.booted ≡ true
     → AreTasks (owners_in config) (early_arrivals trace) → IsTop config s [] t → (task s t).state ≡ mode.Active
     → PassesOver config app (past ++ map admit_event (arrivals_before_event (count + 1) trace)) (with_admits (early_arrivals trace) s) t count

@@ -11,7 +11,7 @@ use Rattle.sloth_base.specs.Stretches.{Beginning, Boots, later_beginning, stretc
 use Rattle.sloth_base.specs.Take.{execution_state, line_to_take}
 use Rattle.rv32_instr.specs.Ram.{word_at}
 use Rattle.rv32_instr.specs.Execute.{Going, step}
-use Rattle.rv32_machine.specs.Advance.{seen_step}
+use Rattle.rv32_machine.specs.Advance.{observed_step}
 use Rattle.rv32_machine.specs.Run.{state_with_arrivals}
 use Rattle.masked_code.specs.Masked.{Steps}
 use Rattle.masked_code.specs.Trace.{Trace, touched_lines, early_arrivals, late_arrivals}
@@ -19,13 +19,13 @@ use Rattle.observe.specs.Pieces.{begins}
 use Rattle.observe.specs.Observe.{stretch_event, outside_events, mark_at}
 use Rattle.osek_scheduler.specs.State.{System, opening}
 use Rattle.osek_scheduler.specs.Steps.{OsekStep}
-use Rattle.osek_scheduler.specs.Runs.{Leads, PassesOverArrivals}
+use Rattle.osek_scheduler.specs.Runs.{AreStepsTo, PassesOverArrivals}
 use Rattle.sim_induction.specs.Short.{TouchesOnly}
 use Rattle.sim_induction.specs.Admits.{Setting, lines_at, with_admits, admit_event, arrivals_before_event}
 
 -- what is seen of the instruction of a count that leads from this state to the next
 abbrev pub seen_step_at : Setting → ℕ → State → State → Step
-seen_step_at given count state next = seen_step count (state_with_arrivals given.arrivals count state) next
+seen_step_at given count state next = observed_step count (state_with_arrivals given.arrivals count state) next
 
 -- how a stretch behind boot begins at a count
 abbrev pub beginning_at : Setting → ℕ → State → Beginning
@@ -58,16 +58,16 @@ pub record StretchLaw (given : Setting) (R : State → System → Type 0) (count
       → stretch_event given.view (seen_step_at given count state next) last ≡ what
   pub after : System
   pub step_is : OsekStep given.config given.app what (with_admits (early_arrivals trace) (with_admits (lines_at given.arrivals count) s)) after
-  pub passes : (past : List Stamped) → Leads given.config given.app past (opening given.config given.app) (with_admits (lines_at given.arrivals count) s)
+  pub passes : (past : List Stamped) → AreStepsTo given.config given.app past (opening given.config given.app) (with_admits (lines_at given.arrivals count) s)
       → PassesOverArrivals given.config given.app (past ++ map admit_event (arrivals_before_event (count + 1) trace))
       (with_admits (early_arrivals trace) (with_admits (lines_at given.arrivals count) s)) count what
   pub related : R end (with_admits (late_arrivals trace) after)
 
 -- what an instruction outside the stretches shows: nothing, or one event, which is a step
-abbrev pub Shows : Setting → List Event → System → System → Type 0
-Shows given [] s after = after ≡ s
-Shows given (what ∷ []) s after = OsekStep given.config given.app what s after
-Shows given (what ∷ other ∷ more) s after = ⊥
+abbrev pub IsOutsideStep : Setting → List Event → System → System → Type 0
+IsOutsideStep given [] s after = after ≡ s
+IsOutsideStep given (what ∷ []) s after = OsekStep given.config given.app what s after
+IsOutsideStep given (what ∷ other ∷ more) s after = ⊥
 
 -- an instruction outside the stretches, at a count that finds MIE 1; where it shows nothing, it makes progress
 pub record OutsideLaw (given : Setting) (R : State → System → Type 0) (progress : State → System → ℕ)
@@ -78,7 +78,7 @@ pub record OutsideLaw (given : Setting) (R : State → System → Type 0) (progr
   pub whats : List Event
   pub whats_are : outside_events (mark_at given.view (seen_step_at given count state next).pc) given.view (seen_step_at given count state next) ≡ whats
   pub after : System
-  pub shows : Shows given whats (with_admits (lines_at given.arrivals count) s) after
+  pub shows : IsOutsideStep given whats (with_admits (lines_at given.arrivals count) s) after
   pub progresses : whats ≡ [] → progress state s < progress next after
   pub related : R next after
 

@@ -5,7 +5,7 @@ use Rattle.sloth_base.specs.declared.step.Step.{Step}
 use Rattle.sloth_base.specs.declared.config.Config.{Config}
 use Rattle.sloth_base.specs.Stretches.{Beginning, beginning_of, stretch_limit, touch_limit}
 use Rattle.sloth_base.specs.Limits.{unseen_counts}
-use Rattle.observe.specs.Pieces.{Piece, Outside, Stretch, pieces, cut_off_steps}
+use Rattle.observe.specs.Pieces.{RunPiece, Outside, Stretch, pieces, cut_off_steps}
 use Rattle.observe.specs.Observe.{View, mark_at, outside_events}
 
 -- a step touches no line but these
@@ -23,7 +23,7 @@ AreShort config [] = Unit {0}
 AreShort config (first ∷ more) = IsShortAt config (beginning_of first) (first ∷ more)
 
 -- a short stretch, or a step outside that touches no line
-abbrev pub IsShortPiece : Config → Piece → Type 0
+abbrev pub IsShortPiece : Config → RunPiece → Type 0
 IsShortPiece config (Outside step) = TouchesOnly [] step
 IsShortPiece config (Stretch steps) = AreShort config steps
 
@@ -33,12 +33,12 @@ passed_count [] before = before + 1
 passed_count (event ∷ events) before = 0
 
 -- the same behind a piece of a run
-abbrev pub passed_length : View → Piece → ℕ → ℕ
+abbrev pub passed_length : View → RunPiece → ℕ → ℕ
 passed_length view (Outside step) before = passed_count (outside_events (mark_at view step.pc) view step) before
 passed_length view (Stretch steps) before = 0
 
 -- they are at most 40
-abbrev pub HasShortGaps : View → ℕ → List Piece → Type 0
+abbrev pub HasShortGaps : View → ℕ → List RunPiece → Type 0
 HasShortGaps view before [] = Unit {0}
 HasShortGaps view before (piece ∷ rest) = (passed_length view piece before ≤ unseen_counts) × HasShortGaps view (passed_length view piece before) rest
 

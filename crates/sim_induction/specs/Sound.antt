@@ -13,7 +13,7 @@ use Rattle.rv32_machine.specs.Start.{start}
 use Rattle.rv32_machine.specs.Run.{run, steps_of, state_after, stop_of, state_with_arrivals}
 use Rattle.observe.specs.Observe.{view_of_image, observe}
 use Rattle.osek_scheduler.specs.State.{System, opening}
-use Rattle.osek_scheduler.specs.Runs.{OsekRun, Leads}
+use Rattle.osek_scheduler.specs.Runs.{OsekRun, AreStepsTo}
 use Rattle.osek_scheduler.specs.InTime.{InTime, is_admit}
 use Rattle.sim_induction.specs.Mirror.{Mirror}
 use Rattle.sim_induction.specs.Short.{Short}
@@ -28,7 +28,7 @@ stands_before count e = if is_admit e then nat_le e.stamp.at count else nat_lt e
 
 -- the abstract state that these events lead to mirrors the machine's state, with the arrivals of the count
 abbrev pub MirrorsAt : Config → App → List Stamped → State → Type 0
-MirrorsAt config app events state = (s : System) × Leads config app events (opening config app) s × Mirror config state.core s
+MirrorsAt config app events state = (s : System) × AreStepsTo config app events (opening config app) s × Mirror config state.core s
 
 -- the events of a run are a run of the abstract scheduler
 pub record IsSoundRun (config : Config) (app : App) (image : Image) (arrivals : List Arrival) (n : ℕ) : Type 0 where

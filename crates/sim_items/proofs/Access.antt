@@ -12,7 +12,7 @@ use Rattle.rv32_instr.specs.Access.{load, store}
 use Rattle.rv32_instr.specs.Ram.{half_at, word_at, with_half, with_word}
 use Rattle.rv32_instr.specs.Memory.{memory_of, with_memory, refusal, loaded_number, stored_memory}
 use Rattle.rv32_instr.specs.Effect.{effect}
-use Rattle.rv32_instr.specs.Execute.{perform, touched_line_by, goes_on, unless_refused, with_register}
+use Rattle.rv32_instr.specs.Execute.{perform, touched_line_by, next_behind, unless_refused, with_register}
 use Rattle.masked_code.proofs.Machine.{in_ram_at}
 use Rattle.masked_code.proofs.Perform.{no_line}
 use Rattle.sim_items.proofs.Bytes.{with_bytes, number_at, low_bytes}
@@ -73,11 +73,11 @@ load_effect width.HalfU rd base offset pc x = refl
 
 -- a load of RAM leaves the number in its bytes, extended as its width says
 pub load_performs : (c : Core) (w : Width) (rd address o word pc : ℕ) → IsPlaceOf w address o
-    → perform (Load w rd address) word pc c ≡ goes_on pc (with_register c rd (extended_number w (number_at c.ram o (size_of w))))
+    → perform (Load w rd address) word pc c ≡ next_behind pc (with_register c rd (extended_number w (number_at c.ram o (size_of w))))
 unfolding perform
 load_performs c w rd address o word pc i =
-    ap (λ a. unless_refused (refusal (memory_of c) a w) a (goes_on pc (with_register c rd (loaded_number (memory_of c) a w)))) i.is
-    ∙ rw (allowed c w o i.aligned i.inside) (ap (λ v. goes_on pc (with_register c rd v)) (gives c w o i.inside))
+    ap (λ a. unless_refused (refusal (memory_of c) a w) a (next_behind pc (with_register c rd (loaded_number (memory_of c) a w)))) i.is
+    ∙ rw (allowed c w o i.aligned i.inside) (ap (λ v. next_behind pc (with_register c rd v)) (gives c w o i.inside))
 
 -- it touches no line
 pub load_quiet : (w : Width) (rd address o : ℕ) → IsPlaceOf w address o → touched_line_by (Load w rd address) ≡ None
@@ -86,7 +86,7 @@ load_quiet w rd address o i = let e = i.is in no_line address (omega arith)
 
 -- the same of a load by a register and an offset
 pub load_at : (c : Core) (w : Width) (rd base : ℕ) (offset : ℤ) (o word pc : ℕ) → IsPlaceOf w (plus (slice_index c.registers base) offset) o
-    → perform (effect (load w rd base offset) pc c.registers) word pc c ≡ goes_on pc (with_register c rd (extended_number w (number_at c.ram o (size_of w))))
+    → perform (effect (load w rd base offset) pc c.registers) word pc c ≡ next_behind pc (with_register c rd (extended_number w (number_at c.ram o (size_of w))))
 load_at c w rd base offset o word pc i =
     ap (λ e. perform e word pc c) (load_effect w rd base offset pc c.registers) ∙ load_performs c w rd (plus (slice_index c.registers base) offset) o word pc i
 
@@ -127,11 +127,11 @@ leaves c width.ByteU o value l = rw (in_ram_at (memory_base + o) 1 (omega arith)
 leaves c width.HalfU o value l = rw (base o) (ap (λ r. record c { ram = r }) (half_bytes c.ram o value))
 
 store_performs : (c : Core) (w : Width) (address value o word pc : ℕ) → IsPlaceOf w address o
-    → perform (Store w address value) word pc c ≡ goes_on pc (record c { ram = with_bytes c.ram o (low_bytes w value) })
+    → perform (Store w address value) word pc c ≡ next_behind pc (record c { ram = with_bytes c.ram o (low_bytes w value) })
 unfolding perform
 store_performs c w address value o word pc i =
-    ap (λ a. unless_refused (refusal (memory_of c) a w) a (goes_on pc (with_memory c (stored_memory (memory_of c) a w value)))) i.is
-    ∙ rw (allowed c w o i.aligned i.inside) (ap (goes_on pc) (leaves c w o value i.inside))
+    ap (λ a. unless_refused (refusal (memory_of c) a w) a (next_behind pc (with_memory c (stored_memory (memory_of c) a w value)))) i.is
+    ∙ rw (allowed c w o i.aligned i.inside) (ap (next_behind pc) (leaves c w o value i.inside))
 
 both_none : (b : Bool) → ◌≡◌ {A = Option ℕ} (cond b None None) None
 both_none true = refl
@@ -145,7 +145,7 @@ store_quiet w address value o i =
 
 -- the instructions of unsigned widths are those of the others
 pub store_at : (c : Core) (w : Width) (rs base : ℕ) (offset : ℤ) (o word pc : ℕ) → IsPlaceOf w (plus (slice_index c.registers base) offset) o
-    → perform (effect (store w rs base offset) pc c.registers) word pc c ≡ goes_on pc (record c { ram = with_bytes c.ram o (low_bytes w (slice_index c.registers rs)) })
+    → perform (effect (store w rs base offset) pc c.registers) word pc c ≡ next_behind pc (record c { ram = with_bytes c.ram o (low_bytes w (slice_index c.registers rs)) })
 store_at c width.Byte rs base offset o word pc i = store_performs c width.Byte _ _ o word pc i
 store_at c width.Half rs base offset o word pc i = store_performs c width.Half _ _ o word pc i
 store_at c width.Word rs base offset o word pc i = store_performs c width.Word _ _ o word pc i

@@ -17,12 +17,12 @@ use Rattle.sloth_region.specs.Layout.{context_bytes}
 use Rattle.rv32_instr.specs.declared.InstrKind.TheVariants.{Sw}
 use Rattle.rv32_instr.specs.Encode.{Encode}
 use Rattle.rv32_instr.specs.Effect.{effect}
-use Rattle.rv32_instr.specs.Execute.{Going, perform, touched_line_by, jumps, goes_on}
+use Rattle.rv32_instr.specs.Execute.{Going, perform, touched_line_by, next_at_target, next_behind}
 use Rattle.rv32_instr.specs.Ram.{word_at, with_word}
 use Rattle.masked_code.specs.Place.{offset_state}
 use Rattle.masked_code.proofs.Machine.{next_at}
 use Rattle.masked_code.proofs.Words.{word_at-other, word_at-same, get_or-with_word}
-use Rattle.expansion_parts.specs.Expansion.{item_address, distance, zeros, calls, expansion}
+use Rattle.expansion_parts.specs.Expansion.{item_address, distance, zeros, call_code, expansion}
 use Rattle.rv32_expand.specs.InPlace.{result_register, mark_of}
 use Rattle.observe.specs.Observe.{View}
 use Rattle.osek_scheduler.specs.State.{Frame, System, task, entry_frame}
@@ -131,7 +131,7 @@ module _ (b : Build) (view : View) (arrivals : List Arrival) (count : ℕ) (stat
   performs : (offset word : ℕ) → offset + 4 ≤ memory_bytes
       → perform (effect (lowers words) (memory_base + offset) x) word (memory_base + offset) n.core ≡ Going (offset_state (offset + 4 * 1) core_now)
   unfolding perform
-  performs offset word l = ap (λ v. goes_on (memory_base + offset) (record n.core { registers = set x 2 v })) value ∙ next_at offset core_now l
+  performs offset word l = ap (λ v. next_behind (memory_base + offset) (record n.core { registers = set x 2 v })) value ∙ next_at offset core_now l
 
   quiet : (pc : ℕ) → touched_line_by (effect (lowers words) pc x) ≡ None
   unfolding touched_line_by
@@ -214,7 +214,7 @@ module _ (b : Build) (view : View) (arrivals : List Arrival) (count : ℕ) (stat
   count_is : length (expansion b.app b.places item.frame.func item.frame.item) ≡ 4 + size
   count_is = call_size b item.frame.func item.frame.item c.callee call.is
 
-  expands : expansion b.app b.places item.frame.func item.frame.item ≡ calls from size to
+  expands : expansion b.app b.places item.frame.func item.frame.item ≡ call_code from size to
   expands = call_expands b item.frame.func item.frame.item c.callee call.is
 
   low_enough : item.place + 4 + 4 * size ≤ b.top t
@@ -297,8 +297,8 @@ module _ (b : Build) (view : View) (arrivals : List Arrival) (count : ℕ) (stat
         → perform (effect (Sw 2 rs (pos (4 * word))) (memory_base + offset) y) code_word (memory_base + offset) m.core ≡ Going (offset_state (offset + 4 * 1) core_stored)
     store_performs rs offset code_word e l =
         store_at m.core width.Word rs 2 (pos (4 * word)) spot code_word (memory_base + offset) store_spot
-        ∙ ap (λ r. goes_on (memory_base + offset) (record m.core { ram = r })) (sym (word_bytes ram spot (slice_index y rs)))
-        ∙ ap (λ v. goes_on (memory_base + offset) (record m.core { ram = with_word ram spot v })) e
+        ∙ ap (λ r. next_behind (memory_base + offset) (record m.core { ram = r })) (sym (word_bytes ram spot (slice_index y rs)))
+        ∙ ap (λ v. next_behind (memory_base + offset) (record m.core { ram = with_word ram spot v })) e
         ∙ next_at offset core_stored l
 
     store_quiet : (rs pc : ℕ) → touched_line_by (effect (Sw 2 rs (pos (4 * word))) pc y) ≡ None
@@ -362,7 +362,7 @@ module _ (b : Build) (view : View) (arrivals : List Arrival) (count : ℕ) (stat
   link_performs offset word q l =
       let r = return_is in
       let v : sum32 (memory_base + offset) (0 * 4096) ≡ return_address b item.frame = omega arith in
-      ap (λ a. goes_on (memory_base + offset) (record m.core { registers = set y 31 a })) v ∙ next_at offset core_linked l
+      ap (λ a. next_behind (memory_base + offset) (record m.core { registers = set y 31 a })) v ∙ next_at offset core_linked l
 
   link_quiet : (pc : ℕ) → touched_line_by (effect links pc y) ≡ None
   unfolding touched_line_by
@@ -433,7 +433,7 @@ module _ (b : Build) (view : View) (arrivals : List Arrival) (count : ℕ) (stat
   jump_performs offset word q l =
       let r = to_ram.to in
       let d = distance (from + 4 * (size + 3)) to in
-      ap (λ p. jumps (plus p d) m.core) q ∙ ap (λ p. jumps p m.core) (arrives (from + 4 * (size + 3)) to (omega arith) (omega arith)) ∙ jumps_to to m.core (here.fits.items c.callee 0)
+      ap (λ p. next_at_target (plus p d) m.core) q ∙ ap (λ p. next_at_target p m.core) (arrives (from + 4 * (size + 3)) to (omega arith) (omega arith)) ∙ jumps_to to m.core (here.fits.items c.callee 0)
 
   jump_quiet : (pc : ℕ) → touched_line_by (effect (jumps_away from size to) pc y) ≡ None
   unfolding touched_line_by

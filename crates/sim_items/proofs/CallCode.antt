@@ -6,7 +6,7 @@ use Rattle.sloth_base.specs.Named.{operation, function}
 use Rattle.sloth_base.specs.declared.app.Op.TheVariants as op
 use Rattle.rv32_instr.specs.declared.InstrKind.{InstrKind}
 use Rattle.rv32_instr.specs.declared.InstrKind.TheVariants.{Auipc, Sw, Jal, Addi}
-use Rattle.expansion_parts.specs.Expansion.{item_address, distance, zeros, calls, is_long, operation_code, expansion}
+use Rattle.expansion_parts.specs.Expansion.{item_address, distance, zeros, call_code, is_long, operation_code, expansion}
 use Rattle.expansion_parts.proofs.Counts.{zeros_length, calls_length}
 use Rattle.sim_relation.specs.Build.{Build}
 
@@ -32,7 +32,7 @@ last_three address words target = links ∷ stores_link words ∷ jumps_away add
 
 -- the instructions of a call, by the callee's frame
 pub call_expands : (b : Build) (func item callee : ℕ) → operation b.app func item ≡ op.Invoke callee
-    → expansion b.app b.places func item ≡ calls (item_address b.places func item) (function b.app callee).frame_words (item_address b.places callee 0)
+    → expansion b.app b.places func item ≡ call_code (item_address b.places func item) (function b.app callee).frame_words (item_address b.places callee 0)
 call_expands b func item callee is = ap (λ o. operation_code b.app b.places func (item_address b.places func item) (is_long b.places func item) o) is
 
 zeros_split : (d m n k : ℕ) → n ≡ d + m + 1 → zeros n k ≡ zeros d k ++ (clears (k + d) ∷ zeros m (k + d + 1))
@@ -48,7 +48,7 @@ zeros_split (suc d) m (suc n) k e =
 -- a call at one of its words
 pub record AtWord (address words target word : ℕ) : Type 0 where
   pub rest : List InstrKind
-  pub is : calls address words target ≡ (lowers words ∷ zeros word 0) ++ (clears word ∷ rest)
+  pub is : call_code address words target ≡ (lowers words ∷ zeros word 0) ++ (clears word ∷ rest)
   pub long : length (lowers words ∷ zeros word 0) ≡ word + 1
 
 pub at_word : (address words target word : ℕ) → word < words → AtWord address words target word
@@ -66,13 +66,13 @@ at_word address words target word l =
 pub behind_words : (words : ℕ) → length (lowers words ∷ zeros words 0) ≡ words + 1
 behind_words words = let z = zeros_length words 0 in omega arith
 
-pub at_store : (address words target : ℕ) → calls address words target ≡ (lowers words ∷ (zeros words 0 ++ (links ∷ []))) ++ (stores_link words ∷ jumps_away address words target ∷ [])
+pub at_store : (address words target : ℕ) → call_code address words target ≡ (lowers words ∷ (zeros words 0 ++ (links ∷ []))) ++ (stores_link words ∷ jumps_away address words target ∷ [])
 at_store address words target = ap (λ c. lowers words ∷ c) (sym (append_assoc (zeros words 0) (links ∷ []) (stores_link words ∷ jumps_away address words target ∷ [])))
 
 pub behind_link : (words : ℕ) → length (lowers words ∷ (zeros words 0 ++ (links ∷ []))) ≡ words + 2
 behind_link words = let z = zeros_length words 0 in let a = length-append (zeros words 0) (links ∷ []) in omega arith
 
-pub at_jump : (address words target : ℕ) → calls address words target ≡ (lowers words ∷ (zeros words 0 ++ (links ∷ stores_link words ∷ []))) ++ (jumps_away address words target ∷ [])
+pub at_jump : (address words target : ℕ) → call_code address words target ≡ (lowers words ∷ (zeros words 0 ++ (links ∷ stores_link words ∷ []))) ++ (jumps_away address words target ∷ [])
 at_jump address words target = ap (λ c. lowers words ∷ c) (sym (append_assoc (zeros words 0) (links ∷ stores_link words ∷ []) (jumps_away address words target ∷ [])))
 
 pub behind_store : (words : ℕ) → length (lowers words ∷ (zeros words 0 ++ (links ∷ stores_link words ∷ []))) ≡ words + 3

@@ -11,7 +11,7 @@ use Rattle.sloth_base.specs.declared.app.BranchKind.TheVariants as branch
 use Rattle.rv32_instr.specs.declared.InstrKind.{InstrKind}
 use Rattle.rv32_instr.specs.declared.effect.Effect.TheVariants.{Branch}
 use Rattle.rv32_instr.specs.Effect.{effect}
-use Rattle.rv32_instr.specs.Execute.{Going, jumps}
+use Rattle.rv32_instr.specs.Execute.{Going, next_at_target}
 use Rattle.expansion_parts.specs.Expansion.{item_address, is_long, distance, test, opposite, expansion}
 use Rattle.expansion_parts.proofs.Counts.{expanded_some}
 use Rattle.sloth_base.specs.Named.{operation}
@@ -25,7 +25,7 @@ pub arrives : (from to : ℕ) → from < 4294967296 → to < 4294967296 → plus
 arrives from to l h = grind (arith, nat_tests, ints)
 
 -- a jump to a whole word goes there
-pub jumps_to : (target : ℕ) (core : Core) → target % 4 ≡ 0 → jumps target core ≡ Going (record { pc = target; core = core })
+pub jumps_to : (target : ℕ) (core : Core) → target % 4 ≡ 0 → next_at_target target core ≡ Going (record { pc = target; core = core })
 jumps_to target core a = rw (eq-eqb (target % 4) 0 a) refl
 
 -- an address in RAM

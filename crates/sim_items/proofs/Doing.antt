@@ -18,7 +18,7 @@ use Rattle.rv32_instr.specs.declared.InstrKind.TheVariants.{Lui, Addi, Lw, Sw}
 use Rattle.rv32_instr.specs.declared.effect.Effect.TheVariants.{Write}
 use Rattle.rv32_instr.specs.Access.{load, store}
 use Rattle.rv32_instr.specs.Effect.{effect}
-use Rattle.rv32_instr.specs.Execute.{perform, touched_line_by, goes_on, with_register}
+use Rattle.rv32_instr.specs.Execute.{perform, touched_line_by, next_behind, with_register}
 use Rattle.rv32_instr.specs.Ram.{with_word}
 use Rattle.masked_code.proofs.Parts.{hi_lo}
 use Rattle.expansion_parts.specs.Expansion.{item_address, symbol_address, register_operation, number_operation, index_code, operation_code}
@@ -27,7 +27,7 @@ use Rattle.rv32_expand.specs.InPlace.{result_register}
 use Rattle.osek_scheduler.specs.State.{Frame, Task, System, task}
 use Rattle.osek_scheduler.specs.Meaning.{ItemMeaning, meaning, execution, registers_of, register, shown_value, going_on_frame, write_meaning, load_meaning, store_meaning, loaded_word, bytes_after_store, on_some, if_true}
 use Rattle.osek_scheduler.specs.Meaning as meaning
-use Rattle.sim_relation.specs.Build.{Build, Fits}
+use Rattle.sim_relation.specs.Build.{Build, HasFittingPlaces}
 use Rattle.sim_relation.specs.Position.{HasAddress, HasScratch, AreFrames, thread_of}
 use Rattle.sim_relation.specs.DataStands.{DataStands}
 use Rattle.sim_relation.specs.Stands.{Stands, IsActive}
@@ -53,7 +53,7 @@ pub record Does (b : Build) (state : State) (s : System) (t : ℕ) (at : AtItem 
   pub is_own : IsRegister rd
   pub value : ℕ
   pub ram : List ℕ
-  pub performs : (word pc : ℕ) → perform (effect kind pc state.core.registers) word pc state.core ≡ goes_on pc (record (with_register state.core rd value) { ram = ram })
+  pub performs : (word pc : ℕ) → perform (effect kind pc state.core.registers) word pc state.core ≡ next_behind pc (record (with_register state.core rd value) { ram = ram })
   pub quiet : (pc : ℕ) → touched_line_by (effect kind pc state.core.registers) ≡ None
   pub words : List ℕ
   pub symbols : List (List ℕ)
@@ -69,7 +69,7 @@ pub record Does (b : Build) (state : State) (s : System) (t : ℕ) (at : AtItem 
   pub kept : Keeps b state.core.ram ram s t
   pub data_stands : DataStands b ram symbols
 
-module _ (b : Build) (state : State) (s : System) (t : ℕ) (fits : Fits b) (k : Stands b state s) (at : AtItem b state s t) (numbers : HasNumbers b state s) (long : Bool) where
+module _ (b : Build) (state : State) (s : System) (t : ℕ) (fits : HasFittingPlaces b) (k : Stands b state s) (at : AtItem b state s t) (numbers : HasNumbers b state s) (long : Bool) where
   abbrev frame : Frame
   frame = at.frame
 
@@ -98,7 +98,7 @@ module _ (b : Build) (state : State) (s : System) (t : ℕ) (fits : Fits b) (k :
   same_ram (suc rd) value = refl
 
   module _ (o : Op) (before : List InstrKind) (kind : InstrKind) (rd value : ℕ) (is_own : IsRegister rd) (expands : expansion_of o ≡ before ++ (kind ∷ [])) (last : length before ≡ at.here.done)
-      (performs : (word pc : ℕ) → perform (effect kind pc x) word pc state.core ≡ goes_on pc (with_register state.core rd value))
+      (performs : (word pc : ℕ) → perform (effect kind pc x) word pc state.core ≡ next_behind pc (with_register state.core rd value))
       (quiet : (pc : ℕ) → touched_line_by (effect kind pc x) ≡ None) (named : AreOwn (registers_of o))
       (means : execution b.app o own.registers frame at.outer s.symbols ≡ write_meaning rd value own.registers frame at.outer s.symbols) (shown : result_register o ≡ rd) where
     w : Wrote x own.registers rd value (with_register state.core rd value).registers (meaning.with_register own.registers rd value)
@@ -114,7 +114,7 @@ module _ (b : Build) (state : State) (s : System) (t : ℕ) (fits : Fits b) (k :
       is_own = is_own;
       value = value;
       ram = state.core.ram;
-      performs = λ word pc. performs word pc ∙ ap (goes_on pc) (same_ram rd value);
+      performs = λ word pc. performs word pc ∙ ap (next_behind pc) (same_ram rd value);
       quiet = quiet;
       words = frame.words;
       symbols = s.symbols;
@@ -127,7 +127,7 @@ module _ (b : Build) (state : State) (s : System) (t : ℕ) (fits : Fits b) (k :
     }
 
   performs_write : (kind : InstrKind) (rd value : ℕ) → ((pc : ℕ) → effect kind pc x ≡ Write rd value)
-      → (word pc : ℕ) → perform (effect kind pc x) word pc state.core ≡ goes_on pc (with_register state.core rd value)
+      → (word pc : ℕ) → perform (effect kind pc x) word pc state.core ≡ next_behind pc (with_register state.core rd value)
   unfolding perform
   performs_write kind rd value e word pc = ap (λ f. perform f word pc state.core) (e pc)
 
@@ -188,7 +188,7 @@ module _ (b : Build) (state : State) (s : System) (t : ℕ) (fits : Fits b) (k :
       let value : extended_number width.Word (number_at state.core.ram (at.place + 4 * word) 4) ≡ get_or frame.words word 0 =
       sym (word_number state.core.ram (at.place + 4 * word)) ∙ words_at state.core.ram frame.words at.place word l at.stood.1 in
       writes_register (op.FrameLoad rd word) [] (Lw rd 2 (pos (4 * word))) rd (get_or frame.words word 0) h.0 refl (omega arith)
-      (λ w pc. load_at state.core width.Word rd 2 (pos (4 * word)) (at.place + 4 * word) w pc spot ∙ ap (λ v. goes_on pc (with_register state.core rd v)) value)
+      (λ w pc. load_at state.core width.Word rd 2 (pos (4 * word)) (at.place + 4 * word) w pc spot ∙ ap (λ v. next_behind pc (with_register state.core rd v)) value)
       (λ pc. load_at_quiet state.core width.Word rd 2 (pos (4 * word)) (at.place + 4 * word) pc spot) (h.0, tt)
       (ap (λ y. if_true y (write_meaning rd (get_or frame.words word 0) own.registers frame at.outer s.symbols)) (lt-ltb word (length frame.words) l))
       refl
@@ -209,7 +209,7 @@ module _ (b : Build) (state : State) (s : System) (t : ℕ) (fits : Fits b) (k :
         value = 0;
         ram = with_word state.core.ram (at.place + 4 * word) value;
         performs = λ w pc. store_at state.core width.Word rs 2 (pos (4 * word)) (at.place + 4 * word) w pc spot
-            ∙ ap (λ r. goes_on pc (record state.core { ram = r })) (sym (word_bytes state.core.ram (at.place + 4 * word) value));
+            ∙ ap (λ r. next_behind pc (record state.core { ram = r })) (sym (word_bytes state.core.ram (at.place + 4 * word) value));
         quiet = λ pc. store_at_quiet state.core width.Word rs 2 (pos (4 * word)) (at.place + 4 * word) pc spot;
         words = set frame.words word value;
         symbols = s.symbols;
@@ -250,7 +250,7 @@ module _ (b : Build) (state : State) (s : System) (t : ℕ) (fits : Fits b) (k :
       let spot = symbol.spot b fits state.core.ram s.symbols k.data_stands numbers.sizes w y offset inside (plus (slice_index x 31) number) reaches in
       let value = symbol.load_means b fits state.core.ram s.symbols k.data_stands numbers.sizes w y offset inside in
       writes_register o before (load w rd 31 number) rd (loaded_word w (get_or s.symbols y []) offset) is_own expands last
-      (λ word pc. load_at state.core w rd 31 number place word pc spot ∙ ap (λ v. goes_on pc (with_register state.core rd v)) value)
+      (λ word pc. load_at state.core w rd 31 number place word pc spot ∙ ap (λ v. next_behind pc (with_register state.core rd v)) value)
       (λ pc. load_at_quiet state.core w rd 31 number place pc spot) named
       (means ∙ ap (λ found. on_some found (λ found_bytes. write_meaning rd (loaded_word w found_bytes offset) own.registers frame at.outer s.symbols))
       (symbol.accessed_is b fits state.core.ram s.symbols k.data_stands numbers.sizes w y offset inside))

@@ -17,7 +17,7 @@ use Rattle.rv32_instr.specs.declared.InstrKind.{InstrKind}
 use Rattle.rv32_instr.specs.declared.InstrKind.TheVariants.{Lui, Addi, Jal, Jalr}
 use Rattle.rv32_instr.specs.declared.effect.Effect.TheVariants.{Branch, Write}
 use Rattle.rv32_instr.specs.Effect.{effect}
-use Rattle.rv32_instr.specs.Execute.{Going, perform, touched_line_by, jumps}
+use Rattle.rv32_instr.specs.Execute.{Going, perform, touched_line_by, next_at_target}
 use Rattle.masked_code.specs.Place.{offset_state}
 use Rattle.masked_code.proofs.Machine.{next_at, jump_at}
 use Rattle.masked_code.proofs.Parts.{hi_lo}
@@ -25,8 +25,8 @@ use Rattle.expansion_parts.specs.Expansion.{item_address, label_address, distanc
 use Rattle.rv32_expand.specs.InPlace.{result_register, mark_of}
 use Rattle.observe.specs.Observe.{View}
 use Rattle.osek_scheduler.specs.State.{Frame}
-use Rattle.osek_scheduler.specs.Meaning.{meaning, register, target, goes_to, on_some}
-use Rattle.sim_relation.specs.Build.{Build, Fits}
+use Rattle.osek_scheduler.specs.Meaning.{meaning, register, target, jump_meaning, on_some}
+use Rattle.sim_relation.specs.Build.{Build, HasFittingPlaces}
 use Rattle.sim_relation.specs.Position.{Thread, HasTarget, HasScratch, thread_of}
 use Rattle.sim_items.specs.Place.{FunctionStands, IsTarget, IsFlow}
 use Rattle.sim_items.proofs.Distances.{arrives, jumps_to, IsInRam, item_in_ram, test_effect, opposite_holds}
@@ -79,7 +79,7 @@ pub record Turns (b : Build) (state : State) (own : List ℕ) (symbols : List (L
   pub means : meaning b.app operation own frame outer symbols
       ≡ Some (record { registers = own; frames = record frame { item = item } ∷ outer; symbols = symbols; result = 0 })
 
-module _ (b : Build) (view : View) (fits : Fits b) (state : State) (own : List ℕ) (symbols : List (List ℕ)) (frame : Frame) (outer : List Frame) (wide : length state.core.registers ≡ 32)
+module _ (b : Build) (view : View) (fits : HasFittingPlaces b) (state : State) (own : List ℕ) (symbols : List (List ℕ)) (frame : Frame) (outer : List Frame) (wide : length state.core.registers ≡ 32)
     (agree : (r : ℕ) → IsRegister r → slice_index state.core.registers r ≡ register own r) (inside : frame.item < length (function b.app frame.func).items)
     (stand : FunctionStands b view frame.func) where
   abbrev x : List ℕ
@@ -116,7 +116,7 @@ module _ (b : Build) (view : View) (fits : Fits b) (state : State) (own : List �
   arrives_at : (label : ℕ) → IsTarget b.app frame.func label → plus address (distance address (lands label)) ≡ lands label
   arrives_at label h = let f = here_ram.to in let t = (label_ram label h).to in arrives address (lands label) (omega arith) (omega arith)
 
-  jumps_item : (item : ℕ) → jumps (item_address b.places frame.func item) state.core ≡ Going (record { pc = item_address b.places frame.func item; core = state.core })
+  jumps_item : (item : ℕ) → next_at_target (item_address b.places frame.func item) state.core ≡ Going (record { pc = item_address b.places frame.func item; core = state.core })
   jumps_item item = jumps_to (item_address b.places frame.func item) state.core (fits.items frame.func item)
 
   target_is : (label : ℕ) → IsTarget b.app frame.func label → target b.app frame label ≡ Some (label_item label)
@@ -135,14 +135,14 @@ module _ (b : Build) (view : View) (fits : Fits b) (state : State) (own : List �
     exists = h.inside;
     performs = performs;
     quiet = quiet;
-    means = ap (λ found. on_some found (λ item. goes_to item own frame outer symbols)) (target_is label h);
+    means = ap (λ found. on_some found (λ item. jump_meaning item own frame outer symbols)) (target_is label h);
   }
     where
       performs : (offset word : ℕ) → memory_base + offset ≡ address + 4 * done → offset + 4 ≤ memory_bytes
           → perform (effect (Jal 0 (distance address (lands label))) (memory_base + offset) x) word (memory_base + offset) state.core ≡ Going (record { pc = lands label; core = state.core })
       performs offset word e l =
           let f : memory_base + offset ≡ address = omega arith in
-          ap (λ p. jumps (plus p (distance address (lands label))) state.core) f ∙ ap (λ p. jumps p state.core) (arrives_at label h) ∙ jumps_item (label_item label)
+          ap (λ p. next_at_target (plus p (distance address (lands label))) state.core) f ∙ ap (λ p. next_at_target p state.core) (arrives_at label h) ∙ jumps_item (label_item label)
 
       quiet : (pc : ℕ) → touched_line_by (effect (Jal 0 (distance address (lands label))) pc x) ≡ None
       quiet pc = refl
@@ -168,8 +168,8 @@ module _ (b : Build) (view : View) (fits : Fits b) (state : State) (own : List �
         ≡ Some (record { registers = own; frames = record frame { item = chosen taken } ∷ outer; symbols = symbols; result = 0 })
     means taken e =
         own_meaning b.app this own frame outer symbols (h.0, (h.1, tt))
-        ∙ ap (λ found. on_some found (λ item. goes_to (cond holds item (frame.item + 1)) own frame outer symbols)) (target_is label h.2)
-        ∙ ap (λ t. goes_to (cond t (label_item label) (frame.item + 1)) own frame outer symbols) e
+        ∙ ap (λ found. on_some found (λ item. jump_meaning (cond holds item (frame.item + 1)) own frame outer symbols)) (target_is label h.2)
+        ∙ ap (λ t. jump_meaning (cond t (label_item label) (frame.item + 1)) own frame outer symbols) e
 
     -- the test of the machine's registers
     tests : branch_holds kind (slice_index x rs1) (slice_index x rs2) ≡ holds
@@ -187,7 +187,7 @@ module _ (b : Build) (view : View) (fits : Fits b) (state : State) (own : List �
     short_performs true e adjacent offset word f l =
         ap (λ v. perform v word (memory_base + offset) state.core)
         (test_effect kind rs1 rs2 (distance address (lands label)) (memory_base + offset) x ∙ ap (λ v. Branch v (plus (memory_base + offset) (distance address (lands label)))) (tests ∙ e))
-        ∙ ap (λ p. jumps (plus p (distance address (lands label))) state.core) f ∙ ap (λ p. jumps p state.core) (arrives_at label h.2) ∙ jumps_item (label_item label)
+        ∙ ap (λ p. next_at_target (plus p (distance address (lands label))) state.core) f ∙ ap (λ p. next_at_target p state.core) (arrives_at label h.2) ∙ jumps_item (label_item label)
     short_performs false e adjacent offset word f l =
         let a = adjacent h.3 in
         let q : memory_base + (offset + 4) ≡ item_address b.places frame.func (frame.item + 1) = omega arith in
@@ -255,8 +255,8 @@ module _ (b : Build) (view : View) (fits : Fits b) (state : State) (own : List �
             → perform (effect (Jalr 0 31 (pos 0)) (memory_base + offset) x) word (memory_base + offset) state.core ≡ Going (record { pc = goal; core = state.core })
         performs offset word e l =
             let r = goal_ram.to in
-            ap (λ v. jumps (plus v (pos 0) - plus v (pos 0) % 2) state.core) x31
-            ∙ ap (λ p. jumps p state.core) (even goal (omega arith) (fits.items frame.func (chosen holds))) ∙ jumps_item (chosen holds)
+            ap (λ v. next_at_target (plus v (pos 0) - plus v (pos 0) % 2) state.core) x31
+            ∙ ap (λ p. next_at_target p state.core) (even goal (omega arith) (fits.items frame.func (chosen holds))) ∙ jumps_item (chosen holds)
 
         quiet : (pc : ℕ) → touched_line_by (effect (Jalr 0 31 (pos 0)) pc x) ≡ None
         quiet pc = refl
@@ -276,7 +276,7 @@ module _ (b : Build) (view : View) (fits : Fits b) (state : State) (own : List �
         let q : plus (memory_base + offset) (pos 12) ≡ memory_base + (offset + 12) = omega arith in
         ap (λ v. perform v word (memory_base + offset) state.core)
         (test_effect (opposite kind) rs1 rs2 (pos 12) (memory_base + offset) x ∙ ap (λ v. Branch v (plus (memory_base + offset) (pos 12))) (opposite_tests false e))
-        ∙ ap (λ p. jumps p state.core) q ∙ jump_at (offset + 12) state.core (omega arith)
+        ∙ ap (λ p. next_at_target p state.core) q ∙ jump_at (offset + 12) state.core (omega arith)
 
     abbrev Has : ℕ → Thread → Type 0
     Has d th = HasTarget holds next (lands label) d th

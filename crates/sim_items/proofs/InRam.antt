@@ -14,7 +14,7 @@ use Rattle.masked_code.proofs.Machine.{Here, step_at, touched_at}
 use Rattle.expansion_parts.specs.Expansion.{item_address, expansion}
 use Rattle.observe.specs.Observe.{View}
 use Rattle.osek_scheduler.specs.State.{System}
-use Rattle.sim_relation.specs.Build.{Build, Fits}
+use Rattle.sim_relation.specs.Build.{Build, HasFittingPlaces}
 use Rattle.sim_relation.specs.Stands.{Stands}
 use Rattle.sim_items.specs.Place.{HasInstruction, HasInstructions, ItemStands}
 
@@ -36,7 +36,7 @@ behind b (first ∷ before) kind code address h =
 
 -- ---- an instruction of an item, where pc stands
 
-module _ (b : Build) (view : View) (state : State) (s : System) (fits : Fits b) (k : Stands b state s) (func item : ℕ) (placed : ItemStands b view func item) (done : ℕ)
+module _ (b : Build) (view : View) (state : State) (s : System) (fits : HasFittingPlaces b) (k : Stands b state s) (func item : ℕ) (placed : ItemStands b view func item) (done : ℕ)
     (pc_is : state.pc ≡ item_address b.places func item + 4 * done)
     (before : List InstrKind) (kind : InstrKind) (rest : List InstrKind) (expands : expansion b.app b.places func item ≡ before ++ (kind ∷ rest)) (reached : length before ≡ done) where
   pub instruction : HasInstruction b (item_address b.places func item + 4 * length before) kind

@@ -5,7 +5,7 @@ use Rattle.sloth_base.specs.declared.event.Arrival.{Arrival}
 use Rattle.sloth_base.specs.Machine.{State}
 use Rattle.rv32_instr.specs.declared.InstrKind.TheVariants.{Jal}
 use Rattle.sloth_base.specs.Arithmetic.{plus}
-use Rattle.rv32_instr.specs.Execute.{Going, step, touched, touched_line_by, perform, jumps}
+use Rattle.rv32_instr.specs.Execute.{Going, step, touched, touched_line_by, perform, next_at_target}
 use Rattle.masked_code.specs.Place.{offset_state}
 use Rattle.masked_code.proofs.Machine.{Here, step_at, touched_at, jump_at}
 use Rattle.expansion_parts.specs.Expansion.{item_address, block_address, mask_of, distance, is_long, operation_code, expansion}
@@ -102,7 +102,7 @@ module _ (b : Build) (view : View) (arrivals : List Arrival) (count : ℕ) (stat
   unfolding perform
   stepped =
       ap step n_is ∙ step_at offset n.core (Jal 31 (distance address target)) code
-      ∙ ap (λ p. jumps p (record n.core { registers = set n.core.registers 31 link })) arrives_there
+      ∙ ap (λ p. next_at_target p (record n.core { registers = set n.core.registers 31 link })) arrives_there
       ∙ jump_at jump.block (record n.core { registers = set n.core.registers 31 link }) aligned
 
   untouched : touched n ≡ None

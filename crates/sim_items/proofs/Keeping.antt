@@ -7,11 +7,11 @@ use Rattle.sloth_base.specs.MemoryMap.{memory_bytes}
 use Rattle.rv32_instr.specs.Ram.{word_at, with_word}
 use Rattle.masked_code.proofs.Words.{length-with_word, get_or-with_word, word_at-other, word_at-same}
 use Rattle.osek_scheduler.specs.State.{Frame, System, task}
-use Rattle.sim_relation.specs.Build.{Build, Fits}
+use Rattle.sim_relation.specs.Build.{Build, HasFittingPlaces}
 use Rattle.sim_relation.specs.Position.{AreWords, AreFrames, AreOuterFrames}
 use Rattle.sim_relation.specs.DataStands.{DataStands}
-use Rattle.sim_relation.specs.Framing.{Agree}
-use Rattle.sim_relation.specs.Moves.{OthersKept}
+use Rattle.sim_relation.specs.Framing.{AreSameBytes}
+use Rattle.sim_relation.specs.Moves.{AreOthersSame}
 use Rattle.sim_relation.specs.Stands.{IsAlive, StacksApart}
 use Rattle.sim_relation.proofs.Contexts.{data_kept}
 use Rattle.sim_relation.proofs.Framing.{outer_below, outer_kept}
@@ -19,9 +19,9 @@ use Rattle.sim_relation.proofs.Framing.{outer_below, outer_kept}
 -- the service words, the code, and the stacks of other tasks stay
 pub record Keeps (b : Build) (old new : List ℕ) (s : System) (t : ℕ) : Type 0 where
   pub long : length new ≡ length old
-  pub low : Agree old new 0 1024
+  pub low : AreSameBytes old new 0 1024
   pub code : (i : ℕ) → b.is_code i ≡ true → slice_index new i ≡ slice_index old i
-  pub others : OthersKept b old new s t
+  pub others : AreOthersSame b old new s t
 
 -- what writes nothing keeps all
 pub same_keeps : (b : Build) (ram : List ℕ) (s : System) (t : ℕ) → Keeps b ram ram s t
@@ -29,9 +29,9 @@ same_keeps b ram s t = record { long = refl; low = λ i x y. refl; code = λ i h
 
 -- ---- writes to data
 
-module _ (b : Build) (fits : Fits b) (old new : List ℕ) (only : (i : ℕ) → b.is_data i ≡ false → slice_index new i ≡ slice_index old i) where
+module _ (b : Build) (fits : HasFittingPlaces b) (old new : List ℕ) (only : (i : ℕ) → b.is_data i ≡ false → slice_index new i ≡ slice_index old i) where
   -- a task's part of the stacks
-  pub stack_stays : (u : ℕ) → u < length b.config.tasks → Agree old new (b.low u) (b.top u)
+  pub stack_stays : (u : ℕ) → u < length b.config.tasks → AreSameBytes old new (b.low u) (b.top u)
   stack_stays u h i x y =
       only i (false_from_ne_true (b.is_data i) (λ d. ⊎_elim (λ (l : i < b.low u). omega arith) (λ (l : b.top u ≤ i). omega arith) (fits.outside u i h (inr d))))
 
@@ -64,7 +64,7 @@ words_from ram (w ∷ words) place h =
     )
 
 -- a word of a task's part of the stacks
-module _ (b : Build) (fits : Fits b) (ram : List ℕ) (s : System) (t : ℕ) (inside : t < length b.config.tasks) (alive : IsAlive (task s t)) (apart : StacksApart b s)
+module _ (b : Build) (fits : HasFittingPlaces b) (ram : List ℕ) (s : System) (t : ℕ) (inside : t < length b.config.tasks) (alive : IsAlive (task s t)) (apart : StacksApart b s)
     (spot value : ℕ) (low : b.low t ≤ spot) (high : spot + 4 ≤ b.top t) where
   -- what lies outside that part stays
   pub outside_part : (i : ℕ) → (i < b.low t) ⊎ (b.top t ≤ i) → slice_index (with_word ram spot value) i ≡ slice_index ram i
@@ -87,7 +87,7 @@ module _ (b : Build) (fits : Fits b) (ram : List ℕ) (s : System) (t : ℕ) (in
   pub part_data : (i : ℕ) → b.is_data i ≡ true → slice_index (with_word ram spot value) i ≡ slice_index ram i
   part_data i d = outside_part i (fits.outside t i inside (inr d))
 
-module _ (b : Build) (fits : Fits b) (ram : List ℕ) (s : System) (t : ℕ) (inside : t < length b.config.tasks) (alive : IsAlive (task s t)) (apart : StacksApart b s)
+module _ (b : Build) (fits : HasFittingPlaces b) (ram : List ℕ) (s : System) (t : ℕ) (inside : t < length b.config.tasks) (alive : IsAlive (task s t)) (apart : StacksApart b s)
     (long : length ram ≡ memory_bytes) (frame : Frame) (outer : List Frame) (place : ℕ) (room : b.low t + 128 ≤ place) (stood : AreFrames b ram frame outer place (b.top t))
     (word value : ℕ) (here : word < length frame.words) (small : value < 4294967296) where
   abbrev spot : ℕ

@@ -13,7 +13,7 @@ use Rattle.code_rules.specs.AppRange.{IsRegister}
 use Rattle.sloth_base.specs.MemoryMap.{memory_base, memory_bytes}
 use Rattle.rv32_instr.specs.Effect.{effect}
 use Rattle.rv32_instr.specs.Encode.{Encode}
-use Rattle.rv32_instr.specs.Execute.{Going, step, touched, touched_line_by, perform, jumps}
+use Rattle.rv32_instr.specs.Execute.{Going, step, touched, touched_line_by, perform, next_at_target}
 use Rattle.rv32_instr.specs.declared.InstrKind.{InstrKind}
 use Rattle.rv32_instr.specs.declared.InstrKind.TheVariants.{Lui, Addi, Jal}
 use Rattle.rv32_instr.specs.declared.effect.Effect.TheVariants.{Write}
@@ -163,7 +163,7 @@ module _ (b : Build) (view : View) (arrivals : List Arrival) (count : ℕ) (stat
     performs : perform (effect jumps_there (memory_base + offset) x) (Encode jumps_there) (memory_base + offset) n.core ≡ Going next
     unfolding perform
     performs =
-        ap (λ p. jumps p (record n.core { registers = set x 31 link })) arrives_there
+        ap (λ p. next_at_target p (record n.core { registers = set x 31 link })) arrives_there
         ∙ jump_at jump.block (record n.core { registers = set x 31 link }) aligned
 
     quiet : touched_line_by (effect jumps_there (memory_base + offset) x) ≡ None

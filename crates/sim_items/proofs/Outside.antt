@@ -24,7 +24,7 @@ use Rattle.osek_scheduler.specs.State.{System}
 use Rattle.osek_scheduler.specs.Priority.{IsTop}
 use Rattle.osek_scheduler.specs.Steps.{settled_state}
 use Rattle.sim_induction.specs.Admits.{Setting, lines_at, with_admits}
-use Rattle.sim_induction.specs.PieceLaws.{OutsideLaw, Shows, seen_step_at}
+use Rattle.sim_induction.specs.PieceLaws.{OutsideLaw, IsOutsideStep, seen_step_at}
 use Rattle.sim_induction.proofs.Routes.{begins_none}
 use Rattle.sim_induction.proofs.Schedule.{owned_at}
 use Rattle.sim_induction.proofs.Stretched.{task_is}
@@ -62,7 +62,7 @@ module _ (b : Build) (view : View) (arrivals : List Arrival) (progress : State �
 
   -- any instruction after which the relation stands
   pub one_instruction : (next : State) (whats : List Event) (after : System) → step n ≡ Going next → touched n ≡ None
-      → outside_events (mark_at view n.pc) view (seen_step_at given count state next) ≡ whats → Shows given whats s1 after
+      → outside_events (mark_at view n.pc) view (seen_step_at given count state next) ≡ whats → IsOutsideStep given whats s1 after
       → (whats ≡ [] → progress state s < progress next after) → Stands b next after → OutsideLaw given (Stands b) progress count state s next
   one_instruction next whats after goes quiet shown shows rises related = record {
     goes = ap (λ o. step (entry_state o n)) none ∙ goes;

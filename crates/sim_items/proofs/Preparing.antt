@@ -15,7 +15,7 @@ use Rattle.rv32_instr.specs.declared.InstrKind.{InstrKind}
 use Rattle.rv32_instr.specs.declared.InstrKind.TheVariants.{Lui, Addi, Andi, Add, And}
 use Rattle.rv32_instr.specs.declared.effect.Effect.TheVariants.{Write}
 use Rattle.rv32_instr.specs.Effect.{effect}
-use Rattle.rv32_instr.specs.Execute.{Going, perform, touched_line_by, goes_on}
+use Rattle.rv32_instr.specs.Execute.{Going, perform, touched_line_by, next_behind}
 use Rattle.masked_code.specs.Place.{offset_state}
 use Rattle.masked_code.proofs.Machine.{next_at}
 use Rattle.masked_code.proofs.Parts.{hi_lo}
@@ -75,7 +75,7 @@ module _ (b : Build) (state : State) (own : List ℕ) (frame : Frame) (long : Bo
     unfolding perform
     performs_write offset word l =
         ap (λ e. perform e word (memory_base + offset) state.core) (writes (memory_base + offset))
-        ∙ ap (goes_on (memory_base + offset)) (written state.core rd value (omega arith))
+        ∙ ap (next_behind (memory_base + offset)) (written state.core rd value (omega arith))
         ∙ next_at offset (record state.core { registers = set x rd value }) l
 
     quiet_write : (pc : ℕ) → touched_line_by (effect kind pc x) ≡ None

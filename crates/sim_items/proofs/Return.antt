@@ -15,7 +15,7 @@ use Rattle.rv32_instr.specs.declared.InstrKind.{InstrKind}
 use Rattle.rv32_instr.specs.declared.InstrKind.TheVariants.{Lw, Addi, Jalr}
 use Rattle.rv32_instr.specs.Encode.{Encode}
 use Rattle.rv32_instr.specs.Effect.{effect}
-use Rattle.rv32_instr.specs.Execute.{Going, perform, touched_line_by, jumps, goes_on}
+use Rattle.rv32_instr.specs.Execute.{Going, perform, touched_line_by, next_at_target, next_behind}
 use Rattle.masked_code.specs.Place.{offset_state}
 use Rattle.masked_code.proofs.Machine.{next_at}
 use Rattle.expansion_parts.specs.Expansion.{item_address, is_long, operation_code, expansion}
@@ -127,7 +127,7 @@ module _ (b : Build) (view : View) (arrivals : List Arrival) (count : ℕ) (stat
       → perform (effect (loads_link words) (memory_base + offset) x) word (memory_base + offset) n.core ≡ Going (offset_state (offset + 4 * 1) core_now)
   performs offset word l =
       load_at n.core width.Word 31 2 (pos (4 * words)) spot word (memory_base + offset) link_spot
-      ∙ ap (λ v. goes_on (memory_base + offset) (record n.core { registers = set x 31 v })) (sym (word_number n.core.ram spot) ∙ outer_at.0)
+      ∙ ap (λ v. next_behind (memory_base + offset) (record n.core { registers = set x 31 v })) (sym (word_number n.core.ram spot) ∙ outer_at.0)
       ∙ next_at offset core_now l
 
   quiet : (pc : ℕ) → touched_line_by (effect (loads_link words) pc x) ≡ None
@@ -229,7 +229,7 @@ module _ (b : Build) (view : View) (arrivals : List Arrival) (count : ℕ) (stat
     raise_performs : (offset word : ℕ) → offset + 4 ≤ memory_bytes
         → perform (effect (raises size) (memory_base + offset) y) word (memory_base + offset) m.core ≡ Going (offset_state (offset + 4 * 1) core_raised)
     unfolding perform
-    raise_performs offset word l = ap (λ v. goes_on (memory_base + offset) (record m.core { registers = set y 2 v })) raised ∙ next_at offset core_raised l
+    raise_performs offset word l = ap (λ v. next_behind (memory_base + offset) (record m.core { registers = set y 2 v })) raised ∙ next_at offset core_raised l
 
     raise_quiet : (pc : ℕ) → touched_line_by (effect (raises size) pc y) ≡ None
     unfolding touched_line_by
@@ -294,7 +294,7 @@ module _ (b : Build) (view : View) (arrivals : List Arrival) (count : ℕ) (stat
   unfolding perform
   jump_performs word pc =
       let a = here.fits.items r.caller.func (r.caller.item + 1) in
-      ap (λ v. jumps (v - v % 2) m.core) lands ∙ ap (λ v. jumps v m.core) (even goal a) ∙ jumps_to goal m.core a
+      ap (λ v. next_at_target (v - v % 2) m.core) lands ∙ ap (λ v. next_at_target v m.core) (even goal a) ∙ jumps_to goal m.core a
 
   jump_quiet : (pc : ℕ) → touched_line_by (effect goes_back pc y) ≡ None
   unfolding touched_line_by

@@ -17,8 +17,8 @@ use Rattle.observe.specs.Observe.{View}
 use Rattle.osek_scheduler.specs.Priority.{IsTop}
 use Rattle.osek_scheduler.specs.Meaning.{ItemMeaning}
 use Rattle.osek_scheduler.specs.Meaning as meaning
-use Rattle.osek_scheduler.specs.Steps.{IsAt, Executes}
-use Rattle.sim_relation.specs.Build.{Build, Fits}
+use Rattle.osek_scheduler.specs.Steps.{IsAt, IsItemStep}
+use Rattle.sim_relation.specs.Build.{Build, HasFittingPlaces}
 use Rattle.sim_relation.specs.Position.{thread_of}
 use Rattle.sim_relation.specs.Context.{IsContext}
 use Rattle.sim_relation.specs.Stands.{Stands}
@@ -32,7 +32,7 @@ use Rattle.sim_items.proofs.InRam.{code_here, behind}
 use Rattle.sim_items.proofs.Doing.{Does, does}
 use Rattle.sim_items.proofs.Registers.{Wrote, wrote}
 
-module _ (b : Build) (view : View) (state : State) (s : System) (t : ℕ) (fits : Fits b) (k : Stands b state s) (here : AtItem b state s t) (top : IsTop b.config s [] t)
+module _ (b : Build) (view : View) (state : State) (s : System) (t : ℕ) (fits : HasFittingPlaces b) (k : Stands b state s) (here : AtItem b state s t) (top : IsTop b.config s [] t)
     (numbers : HasNumbers b state s) (is : IsStraight b.app here.frame.func (operation b.app here.frame.func here.frame.item))
     (placed : ItemStands b view here.frame.func here.frame.item)
     (last : here.here.done + 1 ≡ length (expansion b.app b.places here.frame.func here.frame.item))
@@ -169,7 +169,7 @@ module _ (b : Build) (view : View) (state : State) (s : System) (t : ℕ) (fits 
     abbrev is_at : IsAt b.app s t this
     is_at = record { active = active_is; free = here.free; frame = frame; outer = here.outer; frames = here.frames; inside = here.inside; next = refl }
 
-    executes : Executes b.config b.app t frame.func frame.item (slice_index next.core.registers (result_register this)) s (moved_system s t own_now v.symbols)
+    executes : IsItemStep b.config b.app t frame.func frame.item (slice_index next.core.registers (result_register this)) s (moved_system s t own_now v.symbols)
     executes = record {
       top = top;
       operation = this;

@@ -12,8 +12,8 @@ use Rattle.rv32_expand.specs.InPlace.{result_register}
 use Rattle.osek_scheduler.specs.State.{Frame, Task, System, task}
 use Rattle.osek_scheduler.specs.Meaning.{ItemMeaning, meaning}
 use Rattle.osek_scheduler.specs.Priority.{IsTop}
-use Rattle.osek_scheduler.specs.Steps.{IsAt, Executes}
-use Rattle.sim_relation.specs.Build.{Build, Fits}
+use Rattle.osek_scheduler.specs.Steps.{IsAt, IsItemStep}
+use Rattle.sim_relation.specs.Build.{Build, HasFittingPlaces}
 use Rattle.sim_relation.specs.Context.{IsContext}
 use Rattle.sim_relation.specs.Moves.{moved_system, TaskStep}
 use Rattle.sim_relation.specs.Position.{AreFrames, thread_of}
@@ -24,7 +24,7 @@ use Rattle.sim_relation.proofs.Placed.{first_by_word, active_by_word}
 use Rattle.sim_relation.proofs.TaskSteps.{task_steps}
 use Rattle.sim_items.specs.ItemSteps.{RunsItem}
 
-module _ (b : Build) (state : State) (s : System) (t : ℕ) (fits : Fits b) (k : Stands b state s) (current : word_at state.core.ram cur ≡ t + 1) (top : IsTop b.config s [] t)
+module _ (b : Build) (state : State) (s : System) (t : ℕ) (fits : HasFittingPlaces b) (k : Stands b state s) (current : word_at state.core.ram cur ≡ t + 1) (top : IsTop b.config s [] t)
     (free : (task s t).owed ≡ false) (frame : Frame) (outer : List Frame) (frames : (task s t).frames ≡ frame ∷ outer) (inside : frame.item < length (function b.app frame.func).items)
     (place : ℕ) (context : IsContext b state.core.ram t (task s t) (thread_of state) place) where
   abbrev own : Task
@@ -78,7 +78,7 @@ module _ (b : Build) (state : State) (s : System) (t : ℕ) (fits : Fits b) (k :
     abbrev is_at : IsAt b.app s t this
     is_at = record { active = active.active; free = free; frame = frame; outer = outer; frames = frames; inside = inside; next = refl }
 
-    executes : Executes b.config b.app t frame.func frame.item (slice_index next.core.registers (result_register this)) s (moved_system s t own_now s.symbols)
+    executes : IsItemStep b.config b.app t frame.func frame.item (slice_index next.core.registers (result_register this)) s (moved_system s t own_now s.symbols)
     executes = record {
       top = top;
       operation = this;

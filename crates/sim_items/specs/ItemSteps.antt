@@ -10,7 +10,7 @@ use Rattle.observe.specs.Observe.{View}
 use Rattle.osek_scheduler.specs.State.{System}
 use Rattle.osek_scheduler.specs.Priority.{IsTop}
 use Rattle.osek_scheduler.specs.Steps.{OsekStep}
-use Rattle.sim_relation.specs.Build.{Build, Fits}
+use Rattle.sim_relation.specs.Build.{Build, HasFittingPlaces}
 use Rattle.sim_relation.specs.Stands.{Stands}
 use Rattle.sim_items.specs.Place.{AtItem, ItemStands, IsStraight, HasNumbers}
 
@@ -25,7 +25,7 @@ pub record RunsItem (b : Build) (state : State) (s : System) (t func item : ℕ)
 
 -- the last instruction of an item behind which the next one follows
 abbrev pub StraightItemsRun : Type 0
-StraightItemsRun = (b : Build) (view : View) (state : State) (s : System) (t : ℕ) → Fits b → Stands b state s → (at : AtItem b state s t)
+StraightItemsRun = (b : Build) (view : View) (state : State) (s : System) (t : ℕ) → HasFittingPlaces b → Stands b state s → (at : AtItem b state s t)
     → IsTop b.config s [] t → HasNumbers b state s
     → IsStraight b.app at.frame.func (operation b.app at.frame.func at.frame.item) → ItemStands b view at.frame.func at.frame.item
     → at.here.done + 1 ≡ length (expansion b.app b.places at.frame.func at.frame.item)

@@ -15,12 +15,12 @@ use Rattle.expansion_parts.specs.Expansion.{item_address, block_address, mask_of
 use Rattle.sloth_base.specs.Named.{operation, function}
 use Rattle.sloth_base.specs.MemoryMap.{memory_base, memory_bytes}
 use Rattle.observe.specs.Observe.{View, mark_at}
-use Rattle.vector_gen.specs.Idle.{Idles}
+use Rattle.vector_gen.specs.Idle.{IsIdleCode}
 use Rattle.osek_scheduler.specs.State.{Frame, System}
 use Rattle.osek_valid.specs.Valid.{AreCalls}
 use Rattle.sim_induction.specs.Admits.{IsSetting, lines_at, with_admits}
 use Rattle.sim_induction.specs.PieceLaws.{OutsideLaw}
-use Rattle.sim_relation.specs.Build.{Build, Fits}
+use Rattle.sim_relation.specs.Build.{Build, HasFittingPlaces}
 use Rattle.sim_relation.specs.Stands.{Stands}
 use Rattle.sim_relation.specs.Placed.{setting_of}
 use Rattle.sim_relation.specs.Placed.{IsPlaced}
@@ -29,7 +29,7 @@ use Rattle.sim_items.specs.Progress.{progress_in}
 
 -- a state at a count from 1 on, which stands
 pub record StandsAt (b : Build) (view : View) (arrivals : List Arrival) (count : ℕ) (state : State) (s : System) : Type 0 where
-  pub fits : Fits b
+  pub fits : HasFittingPlaces b
   pub setting : IsSetting (setting_of b view arrivals)
   pub after_boot : 0 < count
   pub stands : Stands b state s
@@ -144,7 +144,7 @@ MaskedJumpsGoOn = (b : Build) (view : View) (arrivals : List Arrival) (count : �
 -- it stands in the image, with its mark
 pub record HasIdle (b : Build) (view : View) : Type 0 where
   pub code : List InstrKind
-  pub idles : Idles code
+  pub idles : IsIdleCode code
   pub offset : ℕ
   pub is : b.idle ≡ memory_base + offset
   pub placed : IsPlaced b offset code

@@ -25,7 +25,7 @@ use Rattle.rv32_instr.specs.Table.{Decode}
 use Rattle.rv32_instr.specs.Effect.{effect}
 use Rattle.rv32_instr.specs.Ram.{half_at, with_byte, with_half, with_word}
 use Rattle.rv32_instr.specs.Memory.{Memory, memory_of, with_memory, in_ram, refusal, loaded_byte, loaded_number, stored_byte, stored_memory}
-use Rattle.rv32_instr.specs.Execute.{Next, Going, Stopped, with_register, mstatus_of, csr_value, with_csr, changed_core, goes_on, jumps, unless_refused, csr_access, perform, execute, execute_word, step, word_at_pc}
+use Rattle.rv32_instr.specs.Execute.{Next, Going, Stopped, with_register, mstatus_of, csr_value, with_csr, changed_core, next_behind, next_at_target, unless_refused, csr_access, perform, execute, execute_word, step, word_at_pc}
 use Rattle.rv32_instr.proofs.Table.{decode_is}
 use Rattle.masked_code.proofs.Words.{word_below}
 use Rattle.rv32_machine.specs.Advance.{Goes, advance, outcome}
@@ -202,14 +202,14 @@ abbrev NextBounded : Next → Type 0
 NextBounded (Going next) = IsBounded next
 NextBounded (Stopped why) = Unit {0}
 
-on_fits : (pc : ℕ) (core : Core) → CoreBounded core → NextBounded (goes_on pc core)
+on_fits : (pc : ℕ) (core : Core) → CoreBounded core → NextBounded (next_behind pc core)
 on_fits pc core h = record { pc = mod_fits (pc + 4); core = h }
 
 pick_next : (b : Bool) (x y : Next) → NextBounded x → NextBounded y → NextBounded (if b then x else y)
 pick_next true x y h l = h
 pick_next false x y h l = l
 
-jump_fits : (target : ℕ) (core : Core) → target < 4294967296 → CoreBounded core → NextBounded (jumps target core)
+jump_fits : (target : ℕ) (core : Core) → target < 4294967296 → CoreBounded core → NextBounded (next_at_target target core)
 jump_fits target core l h = pick_next (target % 4 == 0) (Going (record { pc = target; core = core })) (Stopped (stop.Misaligned target)) (record { pc = l; core = h }) tt
 
 unless_fits : (o : Option Bad) (address : ℕ) (next : Next) → NextBounded next → NextBounded (unless_refused o address next)

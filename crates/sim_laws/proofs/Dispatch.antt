@@ -56,7 +56,7 @@ use Rattle.sim_ticks.specs.AlarmSteps.{OpensAlarm}
 use Rattle.sim_ticks.proofs.AlarmStretches.{relative_stretches, absolute_stretches, cancel_stretches, told_stretches}
 use Rattle.sim_ticks.proofs.TickRoute.{tick_advances}
 use Rattle.sim_laws.specs.Bounded.{IsBounded}
-use Rattle.sim_laws.specs.Kernel.{Kernel, CallsService, Computes, Invokes, IsKnown}
+use Rattle.sim_laws.specs.Kernel.{Kernel, IsServiceItem, IsComputingItem, IsCallItem, IsKnown}
 use Rattle.sim_laws.specs.Kernel.IsKnown.{computes, flows, invokes, returns, serves}
 use Rattle.sim_laws.specs.Steady.{IsSteady}
 use Rattle.sim_laws.proofs.Masks.{call_jumps, is_word}
@@ -68,27 +68,27 @@ use Rattle.osek_valid.proofs.Held.{falls_inside}
 use Rattle.osek_valid.proofs.Going.{running}
 use Rattle.osek_valid.proofs.Meaning.{there}
 use Rattle.osek_valid.proofs.Stacks.{has_body}
-use Rattle.code_rules.specs.Code.{Pauses, ends_for_good, Ends as EndsTask}
+use Rattle.code_rules.specs.Code.{IsPausing, ends_for_good, IsEnding as EndsTask}
 use Rattle.osek_scheduler.specs.Services.{is_there}
 use Rattle.osek_scheduler.specs.Steps.{IsAt}
 use Rattle.prio_levels.specs.Levels.{AreLevels}
 use Rattle.rv32_instr.specs.declared.InstrKind.{InstrKind}
-use Rattle.service_blocks.specs.Calls.{ServesCall}
-use Rattle.alarm_gen.specs.Block.{ServesAlarm}
-use Rattle.event_gen.specs.ClearEvent.{ClearsEvents}
-use Rattle.event_gen.specs.GetEvent.{TellsEvents}
-use Rattle.event_gen.specs.SetEvent.{SetsEvents}
-use Rattle.event_gen.specs.WaitEvent.{Waits}
-use Rattle.service_gen.specs.ActivateTask.{Activates}
-use Rattle.service_gen.specs.ChainTask.{Chains}
-use Rattle.service_gen.specs.GetResource.{Takes}
-use Rattle.service_gen.specs.GetTaskID.{TellsTask}
-use Rattle.service_gen.specs.GetTaskState.{TellsState}
-use Rattle.service_gen.specs.ReleaseResource.{Releases}
-use Rattle.service_gen.specs.Schedule.{way_back, Yields}
+use Rattle.service_blocks.specs.Calls.{IsAnyServiceBlock}
+use Rattle.alarm_gen.specs.Block.{IsAlarmServiceBlock}
+use Rattle.event_gen.specs.ClearEvent.{IsClearEventCode}
+use Rattle.event_gen.specs.GetEvent.{IsGetEventCode}
+use Rattle.event_gen.specs.SetEvent.{IsSetEventCode}
+use Rattle.event_gen.specs.WaitEvent.{IsWaitEventCode}
+use Rattle.service_gen.specs.ActivateTask.{IsActivateTaskCode}
+use Rattle.service_gen.specs.ChainTask.{IsChainTaskCode}
+use Rattle.service_gen.specs.GetResource.{IsGetResourceCode}
+use Rattle.service_gen.specs.GetTaskID.{IsGetTaskIDCode}
+use Rattle.service_gen.specs.GetTaskState.{IsGetTaskStateCode}
+use Rattle.service_gen.specs.ReleaseResource.{IsReleaseResourceCode}
+use Rattle.service_gen.specs.Schedule.{way_back, IsScheduleCode}
 use Rattle.sim_laws.proofs.Ceilings.{may_have}
 use Rattle.std.specs.Prelude.{slice_index}
-use Rattle.service_gen.specs.TerminateTask.{Terminates}
+use Rattle.service_gen.specs.TerminateTask.{IsTerminateTaskCode}
 use Rattle.sloth_base.specs.declared.places.Levels.{Levels}
 use Rattle.sloth_base.specs.declared.service.Service.{Service}
 use Rattle.sloth_base.specs.declared.service.Service.TheVariants as service
@@ -225,7 +225,7 @@ module _ (b : Build) (image : Image) (kernel : Kernel b image) where
           numbers = record { words = bounded.core.registers; sizes = valid_sizes b.config b.app s1 steady.valid }
 
           -- the last one, or one before it
-          item_goes : (e : InExpansion b (task s1 t) p.frame (thread_of n)) → Computes b p.frame.func p.frame.item → Goes
+          item_goes : (e : InExpansion b (task s1 t) p.frame (thread_of n)) → IsComputingItem b p.frame.func p.frame.item → Goes
           item_goes e h =
               let placed = kernel.items p.frame.func p.frame.item p.inside in
               ⊎_elim
@@ -236,7 +236,7 @@ module _ (b : Build) (image : Image) (kernel : Kernel b image) where
               (cases_lt (e.done + 1) size)
 
           -- a call
-          call_goes : InExpansion b (task s1 t) p.frame (thread_of n) → Invokes b p.frame.func p.frame.item → Goes
+          call_goes : InExpansion b (task s1 t) p.frame (thread_of n) → IsCallItem b p.frame.func p.frame.item → Goes
           call_goes e h =
               outside (call_begins b view arrivals count state s here t (at_item e) h.callee
               (is_call b image kernel t p.frame p.outer chain p.inside h.callee h.is) chain)
@@ -252,7 +252,7 @@ module _ (b : Build) (image : Image) (kernel : Kernel b image) where
           mask_small call is = is_word b (rules b image kernel t) p.frame.func p.frame.item call (record { known = chain.0.known; inside = p.inside; is = is })
 
           -- the call of a service, with a mask of events or without
-          serve_goes : InExpansion b (task s1 t) p.frame (thread_of n) → CallsService b view p.frame.func p.frame.item → Goes
+          serve_goes : InExpansion b (task s1 t) p.frame (thread_of n) → IsServiceItem b view p.frame.func p.frame.item → Goes
           serve_goes e h =
               let placed = kernel.items p.frame.func p.frame.item p.inside in
               ⊎_elim
@@ -305,7 +305,7 @@ module _ (b : Build) (image : Image) (kernel : Kernel b image) where
             holds_nothing : EndsTask a.call.service → (task s1 t).held ≡ []
             holds_nothing ends = ends_free b.config b.app (rules b image kernel t) s1 t a.call steady.valid active.declared is_at ends
 
-            pauses_holding_nothing : Pauses a.call.service → (task s1 t).held ≡ []
+            pauses_holding_nothing : IsPausing a.call.service → (task s1 t).held ≡ []
             pauses_holding_nothing pauses = pauses_free b.config b.app (rules b image kernel t) s1 t a.call steady.valid active.declared is_at pauses
 
             names : (served : Service) → a.call.service ≡ served → is_there b.config (task s1 t).held served object ≡ true
@@ -329,33 +329,33 @@ module _ (b : Build) (image : Image) (kernel : Kernel b image) where
             }
 
             abbrev opens_alarm : (served : Service) → a.call.service ≡ served → ends_for_good served ≡ false
-                → StandsAtBlock b view served object (ServesAlarm b.config served object) → OpensAlarm b view n s1 t served
+                → StandsAtBlock b view served object (IsAlarmServiceBlock b.config served object) → OpensAlarm b view n s1 t served
             opens_alarm served is goes block = record {
               range = kernel.well_formed.in_range.configuration;
-              goes_on = opens_on served (ServesAlarm b.config served) is goes block;
+              goes_on = opens_on served (IsAlarmServiceBlock b.config served) is goes block;
               words = bounded.core.registers;
               values = steady.valid.clock.values;
             }
 
             served : (levels : Levels) → AreLevels b.config levels → (called : Service) → a.call.service ≡ called
-                → StandsAtBlock b view called object (ServesCall b.config called object levels) → Goes
+                → StandsAtBlock b view called object (IsAnyServiceBlock b.config called object levels) → Goes
             served levels are service.TerminateTask is block =
                 stretch (terminate_stretches b view arrivals count state s t kernel.fits setting after_boot stands (record {
-                  opens = opens service.TerminateTask (λ o. Terminates) is block;
+                  opens = opens service.TerminateTask (λ o. IsTerminateTaskCode) is block;
                   holds_nothing = holds_nothing (inl is);
                 }))
             served levels are service.GetTaskID is block =
-                stretch (tells_stretches b view arrivals count state s t kernel.fits setting after_boot stands (opens_on service.GetTaskID (λ o. TellsTask) is refl block))
+                stretch (tells_stretches b view arrivals count state s t kernel.fits setting after_boot stands (opens_on service.GetTaskID (λ o. IsGetTaskIDCode) is refl block))
             served levels are service.ActivateTask is block =
-                stretch (activates_stretches b view arrivals count state s t kernel.fits setting after_boot stands (opens_on service.ActivateTask Activates is refl block))
+                stretch (activates_stretches b view arrivals count state s t kernel.fits setting after_boot stands (opens_on service.ActivateTask IsActivateTaskCode is refl block))
             served levels are service.ChainTask is block =
                 stretch (chain_stretches b view arrivals count state s t kernel.fits setting after_boot stands (record {
-                  goes_on = opens_on service.ChainTask Chains is refl block;
+                  goes_on = opens_on service.ChainTask IsChainTaskCode is refl block;
                   holds_nothing = holds_nothing (inr is);
                 }))
             served levels are service.Schedule is block =
                 stretch (yields_stretches b view arrivals count state s t kernel.fits setting after_boot stands (record {
-                  goes_on = opens_on service.Schedule (λ o. Yields) is refl block;
+                  goes_on = opens_on service.Schedule (λ o. IsScheduleCode) is refl block;
                   may = record {
                     holds_nothing = pauses_holding_nothing (inr is);
                     raised = has_internal b.config b.app s1 t a.call steady.valid active.declared is_at;
@@ -367,30 +367,30 @@ module _ (b : Build) (image : Image) (kernel : Kernel b image) where
                   };
                 }))
             served levels are service.GetTaskState is block =
-                stretch (states_stretches b view arrivals count state s t kernel.fits setting after_boot stands (opens_on service.GetTaskState TellsState is refl block))
+                stretch (states_stretches b view arrivals count state s t kernel.fits setting after_boot stands (opens_on service.GetTaskState IsGetTaskStateCode is refl block))
             served levels are service.GetResource is block =
                 let level = slice_index levels.ceiling object in
                 stretch (takes_stretches b view arrivals count state s t kernel.fits setting after_boot stands level (record {
-                  goes_on = opens_on service.GetResource (λ o. Takes o level) is refl block;
+                  goes_on = opens_on service.GetResource (λ o. IsGetResourceCode o level) is refl block;
                   may = may_have b (rules b image kernel t) levels are s1 t a.call steady.valid active.declared is_at is;
                 }))
             served levels are service.ReleaseResource is block =
-                stretch (releases_stretches b view arrivals count state s t kernel.fits setting after_boot stands (opens_on service.ReleaseResource Releases is refl block))
+                stretch (releases_stretches b view arrivals count state s t kernel.fits setting after_boot stands (opens_on service.ReleaseResource IsReleaseResourceCode is refl block))
             served levels are service.SetEvent is block =
                 stretch (on_events.sets_stretches b view arrivals count state s t kernel.fits setting after_boot stands (record {
-                  goes_on = opens_on service.SetEvent SetsEvents is refl block;
+                  goes_on = opens_on service.SetEvent IsSetEventCode is refl block;
                   is_word = mask_small a.call a.is;
                 }))
             served levels are service.ClearEvent is block =
                 stretch (on_events.clears_stretches b view arrivals count state s t kernel.fits setting after_boot stands (record {
-                  goes_on = opens_on service.ClearEvent (λ o. ClearsEvents) is refl block;
+                  goes_on = opens_on service.ClearEvent (λ o. IsClearEventCode) is refl block;
                   is_word = mask_small a.call a.is;
                 }))
             served levels are service.GetEvent is block =
-                stretch (on_events.tells_stretches b view arrivals count state s t kernel.fits setting after_boot stands (opens_on service.GetEvent TellsEvents is refl block))
+                stretch (on_events.tells_stretches b view arrivals count state s t kernel.fits setting after_boot stands (opens_on service.GetEvent IsGetEventCode is refl block))
             served levels are service.WaitEvent is block =
                 stretch (wait_stretches b view arrivals count state s t kernel.fits setting after_boot stands (record {
-                  goes_on = opens_on service.WaitEvent (λ o. Waits) is refl block;
+                  goes_on = opens_on service.WaitEvent (λ o. IsWaitEventCode) is refl block;
                   holds_nothing = pauses_holding_nothing (inl is);
                   words = bounded.core.registers;
                 }))
@@ -412,7 +412,7 @@ module _ (b : Build) (image : Image) (kernel : Kernel b image) where
               let same : op.Serve h.call ≡ op.Serve a.call = sym h.is ∙ a.is in
               let call : h.call ≡ a.call = cc in
               served a h.levels h.are_levels a.call.service refl
-              (subst (λ (c : Call). StandsAtBlock b view c.service c.object (ServesCall b.config c.service c.object h.levels)) call h.block)
+              (subst (λ (c : Call). StandsAtBlock b view c.service c.object (IsAnyServiceBlock b.config c.service c.object h.levels)) call h.block)
 
           standing : Goes
           standing = ⊎_elim (λ (e : InExpansion b (task s1 t) p.frame (thread_of n)). in_item e known) (λ (a : AtBlock b p.frame (thread_of n)). at_block a known) q.here

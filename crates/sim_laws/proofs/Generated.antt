@@ -13,7 +13,7 @@ use Rattle.rv32_instr.specs.Table.{Decode}
 use Rattle.masked_code.specs.Place.{InPlace}
 use Rattle.sloth_base.specs.Named.{undeclared_task}
 use Rattle.sloth_base.specs.MemoryMap.{memory_base, vectors_base, line_count}
-use Rattle.vector_gen.specs.Boot.{Boots}
+use Rattle.vector_gen.specs.Boot.{IsBootCode}
 use Rattle.vector_gen.specs.Vectors.{AreJumps}
 use Rattle.prologue_gen.specs.Fresh.{vector}
 use Rattle.sim_relation.specs.Build.{Build}
@@ -103,8 +103,8 @@ module _ (b : Build) (image : Image) (levels : Levels) (map : Map) (g : IsGenera
       levels = levels.task;
       ranks = built.ranks;
       code = g.boot;
-      boots = subst (λ i. Boots b.config.tasks (length b.config.counters) levels.task (length b.config.tasks) i g.boot) (sym g.idle_is)
-          (subst (λ top. Boots b.config.tasks (length b.config.counters) levels.task top map.idle g.boot) built.highest g.boots);
+      boots = subst (λ i. IsBootCode b.config.tasks (length b.config.counters) levels.task (length b.config.tasks) i g.boot) (sym g.idle_is)
+          (subst (λ top. IsBootCode b.config.tasks (length b.config.counters) levels.task top map.idle g.boot) built.highest g.boots);
       placed = g.boot_placed;
     };
     idle = g.idle;

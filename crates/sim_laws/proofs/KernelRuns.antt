@@ -20,7 +20,7 @@ use Rattle.sloth_base.specs.Limits.{count_limit}
 use Rattle.sloth_base.specs.MemoryMap.{line_count}
 use Rattle.observe.specs.Observe.{View, view_of_image}
 use Rattle.osek_scheduler.specs.State.{Frame, System, task, opening}
-use Rattle.osek_scheduler.specs.Runs.{Leads}
+use Rattle.osek_scheduler.specs.Runs.{AreStepsTo}
 use Rattle.sim_induction.specs.Sound.{Sound, events_of, stands_before}
 use Rattle.sim_induction.specs.Admits.{IsSetting, lines_at, with_admits, admit_event}
 use Rattle.sim_induction.specs.PieceLaws.{BootLaw}
@@ -142,7 +142,7 @@ module _ (b : Build) (image : Image) (kernel : Kernel b image) where
   -- at each count that finds MIE 1 the relation stands
   pub stands_kernel : (arrivals : List Arrival) (n count : ℕ) (state : State) → AreArrivals (owners_in b.config) arrivals → n ≤ count_limit → count < n
       → state_after count arrivals (start image) ≡ Some state → state.core.mie ≡ true
-      → (s : System) × Leads b.config b.app (filter (stands_before count) (events_of image arrivals n)) (opening b.config b.app) s
+      → (s : System) × AreStepsTo b.config b.app (filter (stands_before count) (events_of image arrivals n)) (opening b.config b.app) s
       × StandsNested b (state_with_arrivals arrivals count state) s
   stands_kernel arrivals n count state are bound before after enabled =
       let setting = is_setting b.config b.app image arrivals kernel.fits.few_tasks kernel.tasks kernel.counters are in

@@ -39,8 +39,8 @@ module _ (b : Build) (view : View) (func item : ℕ) (w : WellFormed b.config b.
     even h = w.no_fault _ (func, known, at_item item code.V3 inside (rule.is_uneven (subst rule.IsUneven (sym is) h)))
 
     -- V4
-    masked : ¬ (rule.MasksPast b.app o)
-    masked h = w.no_fault _ (func, known, at_item item code.V4 inside (rule.masks_past (subst (rule.MasksPast b.app) (sym is) h)))
+    masked : ¬ (rule.IsMaskPast b.app o)
+    masked h = w.no_fault _ (func, known, at_item item code.V4 inside (rule.is_mask_past (subst (rule.IsMaskPast b.app) (sym is) h)))
 
     more : is_followed o ≡ true → item + 1 < length (function b.app func).items
     more = falls_inside b.config b.app rules func item o at

@@ -22,7 +22,7 @@ use Rattle.observe.specs.Observe.{View}
 use Rattle.osek_valid.proofs.Facts.{Facts}
 use Rattle.sim_relation.specs.Build.{Build}
 use Rattle.sim_items.specs.Outside.{mask_register, JumpsToService, JumpsWithMask}
-use Rattle.sim_laws.specs.Kernel.{CallsService}
+use Rattle.sim_laws.specs.Kernel.{IsServiceItem}
 
 -- ---- the mask of a call is a word
 
@@ -55,7 +55,7 @@ mask_cases s mask =
     cond_both (has_mask s) (number_in mask_register mask) [] (λ (xs : List InstrKind). (xs ≡ []) ⊎ (xs ≡ number_in mask_register mask)) (λ _. inr refl)
     (λ _. inl refl)
 
-module _ (b : Build) (view : View) (func item : ℕ) (h : CallsService b view func item) (small : h.call.mask < 4294967296) where
+module _ (b : Build) (view : View) (func item : ℕ) (h : IsServiceItem b view func item) (small : h.call.mask < 4294967296) where
   abbrev address : ℕ
   address = item_address b.places func item
 

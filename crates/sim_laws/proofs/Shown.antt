@@ -14,7 +14,7 @@ use Rattle.sim_relation.specs.ServiceWords.{active_word, IsWaitWord}
 use Rattle.sim_relation.specs.Stands.{Stands, AreLineBytes}
 use Rattle.sloth_inspect.specs.States.{state_in}
 use Rattle.sim_laws.proofs.KernelRuns.{stands_kernel}
-use Rattle.sim_laws.specs.Shown.{ShowStates, KernelShowsStates}
+use Rattle.sim_laws.specs.TaskStates.{AreTaskStates, KernelHasTaskStates}
 
 -- a task's state, as its service words and the bytes of its line show it
 abbrev shown : (activity mask pending enabled : ℕ) → TaskState
@@ -31,18 +31,18 @@ shown_is mode.Ready activity mask pending enabled is waits line = rw (is, line.0
 shown_is mode.Active activity mask pending enabled is waits line = rw is refl
 shown_is (mode.Waiting events) activity mask pending enabled is waits line = rw (is, line, waits) refl
 
-pub states_shown : (b : Build) (state : State) (s : System) → Stands b state s → ShowStates b.config state.core s
+pub states_shown : (b : Build) (state : State) (s : System) → Stands b state s → AreTaskStates b.config state.core s
 unfolding state_in
 states_shown b state s stands t declared =
     let words = stands.words t declared in
     shown_is (task s t).state (word_at state.core.ram (active t)) (word_at state.core.ram (wait t)) (slice_index state.core.pending t)
     (slice_index state.core.enabled t) words.activity words.wait_mask (stands.lines.each t declared)
 
-pub kernel_shows : KernelShowsStates
+pub kernel_shows : KernelHasTaskStates
 kernel_shows b image kernel = record {
   each = λ arrivals n count state s are few before after enabled leads.
       let found = stands_kernel b image kernel arrivals n count state are few before after enabled in
       let same : found.0 ≡ s = one_end b.config b.app _ (opening b.config b.app) found.0 s found.1 leads in
-      subst (λ (x : System). ShowStates b.config (state_with_arrivals arrivals count state).core x) same
+      subst (λ (x : System). AreTaskStates b.config (state_with_arrivals arrivals count state).core x) same
       (states_shown b (state_with_arrivals arrivals count state) found.0 found.2.stands);
 }

@@ -1,7 +1,7 @@
 -- With well-formed task code each event keeps a system valid; what follows from that for the routines.
 use Rattle.std.proofs.Common.{◌≡◌, ℕ, ◌<◌, List, [], ◌++◌, length, refl, sym, ap, ◌∙◌, subst, true, false, inl, inr}
 use Rattle.std.specs.Prelude.{◌⊎◌, get_or, not, ◌&&◌}
-use Rattle.code_rules.specs.Code.{Ends, Pauses}
+use Rattle.code_rules.specs.Code.{IsEnding, IsPausing}
 use Rattle.std.proofs.Math.ListN.{get_or-map}
 use Rattle.std.proofs.Math.Bool.{and-true}
 use Rattle.sloth_base.specs.declared.config.Config.{Config}
@@ -39,7 +39,7 @@ valid_sizes config app s v y =
 
 -- a task that ends holds nothing
 pub ends_free : (config : Config) (app : App) → Facts config app → (s : System) (t : ℕ) (call : Call) → IsValid config app s → t < length config.tasks → IsAt app s t (op.Serve call)
-    → Ends call.service → (task s t).held ≡ []
+    → IsEnding call.service → (task s t).held ≡ []
 ends_free config app w s t call v declared at e =
     let r = running config app s t (op.Serve call) v declared at in
     let frame = at.frame in
@@ -50,7 +50,7 @@ ends_free config app w s t call v declared at e =
 
 -- nor does one that gives way
 pub pauses_free : (config : Config) (app : App) → Facts config app → (s : System) (t : ℕ) (call : Call) → IsValid config app s → t < length config.tasks → IsAt app s t (op.Serve call)
-    → Pauses call.service → (task s t).held ≡ []
+    → IsPausing call.service → (task s t).held ≡ []
 pauses_free config app w s t call v declared at e =
     let r = running config app s t (op.Serve call) v declared at in
     let frame = at.frame in

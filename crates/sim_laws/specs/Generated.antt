@@ -14,15 +14,15 @@ use Rattle.sloth_base.specs.Named.{function}
 use Rattle.sloth_base.specs.MemoryMap.{memory_base, line_count}
 use Rattle.sloth_base.specs.Limits.{frame_limit}
 use Rattle.prio_levels.specs.Levels.{AreLevels}
-use Rattle.vector_gen.specs.Boot.{Boots}
+use Rattle.vector_gen.specs.Boot.{IsBootCode}
 use Rattle.vector_gen.specs.Vectors.{AreJumps}
-use Rattle.prologue_gen.specs.Places.{EntersTask}
+use Rattle.prologue_gen.specs.Places.{IsTaskPrologue}
 use Rattle.sim_relation.specs.Bounds.{AreBelow}
-use Rattle.sim_relation.specs.Build.{Build, Fits}
+use Rattle.sim_relation.specs.Build.{Build, HasFittingPlaces}
 use Rattle.sim_relation.specs.Placed.{IsPlaced}
 use Rattle.sim_relation.specs.Stands.{AreApart}
 use Rattle.sim_entries.specs.Boot.{IsImage}
-use Rattle.sim_entries.specs.Entries.{first_words}
+use Rattle.sim_entries.specs.Entries.{body_frame_words}
 use Rattle.sim_entries.specs.Generated.{HasOneBody}
 use Rattle.sim_items.specs.Place.{ItemStands}
 use Rattle.sim_items.specs.Outside.{HasIdle}
@@ -33,12 +33,12 @@ use Rattle.sim_laws.specs.Nested.{HasNestedParts}
 -- the prologue of a task stands where the map has the handler of its line
 pub record HasPrologue (b : Build) (levels : Levels) (map : Map) (t : ℕ) : Type 0 where
   pub code : List InstrKind
-  pub enters : EntersTask t b.config b.app levels map code
+  pub enters : IsTaskPrologue t b.config b.app levels map code
   pub offset : ℕ
   pub is : slice_index map.handlers t ≡ memory_base + offset
   pub placed : IsPlaced b offset code
   pub one_body : HasOneBody b t
-  pub few_words : first_words b t ≤ frame_limit
+  pub few_words : body_frame_words b t ≤ frame_limit
   pub has_item : 0 < length (function b.app (body_of b.app.funcs t)).items
 
 -- so does the tick of a counter
@@ -51,7 +51,7 @@ pub record HasTick (b : Build) (map : Map) (c : ℕ) : Type 0 where
 
 -- By the levels and the map: the vector words, boot, the idle loop, a prologue for each task, a tick for each counter, and the items with their services.
 pub record IsGenerated (b : Build) (image : Image) (levels : Levels) (map : Map) : Type 0 where
-  pub fits : Fits b
+  pub fits : HasFittingPlaces b
   pub well_formed : WellFormed b.config b.app
   pub are_levels : AreLevels b.config levels
   pub places : b.places ≡ map.places
@@ -65,7 +65,7 @@ pub record IsGenerated (b : Build) (image : Image) (levels : Levels) (map : Map)
   pub jumps : AreJumps line_count map.handlers vectors
   pub vectors_placed : IsPlaced b 0x400 vectors
   pub boot : List InstrKind
-  pub boots : Boots b.config.tasks (length b.config.counters) levels.task levels.top map.idle boot
+  pub boots : IsBootCode b.config.tasks (length b.config.counters) levels.task levels.top map.idle boot
   pub boot_placed : IsPlaced b 0x480 boot
   pub idle : HasIdle b (view_of_image image)
   pub prologues : (t : ℕ) → t < length b.config.tasks → HasPrologue b levels map t

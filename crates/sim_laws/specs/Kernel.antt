@@ -12,11 +12,11 @@ use Rattle.stack_bounds.specs.Bounds.{MayMeet}
 use Rattle.sim_laws.specs.Nested.{HasNestedParts}
 use Rattle.prio_levels.specs.Levels.{AreLevels}
 use Rattle.expansion_parts.specs.Expansion.{item_address, expansion}
-use Rattle.service_blocks.specs.Calls.{ServesCall}
+use Rattle.service_blocks.specs.Calls.{IsAnyServiceBlock}
 use Rattle.observe.specs.Observe.{View, view_of_image}
 use Rattle.sim_induction.specs.Sound.{Sound}
 use Rattle.sim_relation.specs.Bounds.{AreBelow}
-use Rattle.sim_relation.specs.Build.{Build, Fits}
+use Rattle.sim_relation.specs.Build.{Build, HasFittingPlaces}
 use Rattle.sim_relation.specs.Stands.{AreApart}
 use Rattle.sim_entries.specs.Boot.{IsImage}
 use Rattle.sim_entries.specs.Codes.{BootStands, PrologueStands}
@@ -27,41 +27,41 @@ use Rattle.sim_services.specs.Stretch.{HasWayBack}
 use Rattle.sim_ticks.specs.TickSteps.{TickStands}
 
 -- an item computes on registers, frame words and data, and isn't the last one of its function
-pub record Computes (b : Build) (func item : ℕ) : Type 0 where
+pub record IsComputingItem (b : Build) (func item : ℕ) : Type 0 where
   pub straight : IsStraight b.app func (operation b.app func item)
   pub more : item + 1 < length (function b.app func).items
 
 -- an item goes on at a label of its function, or may go on there or at the next item
-pub record Flows (b : Build) (func item : ℕ) : Type 0 where
+pub record IsFlowItem (b : Build) (func item : ℕ) : Type 0 where
   pub flow : IsFlow b.app func item (operation b.app func item)
 
 -- an item calls a function
-pub record Invokes (b : Build) (func item : ℕ) : Type 0 where
+pub record IsCallItem (b : Build) (func item : ℕ) : Type 0 where
   pub callee : ℕ
   pub is : operation b.app func item ≡ op.Invoke callee
 
 -- an item returns
-pub record ItemReturns (b : Build) (func item : ℕ) : Type 0 where
+pub record IsReturnItem (b : Build) (func item : ℕ) : Type 0 where
   pub is : operation b.app func item ≡ op.Return
 
 -- an item calls a service, whose block for its object stands in the image, apart from the item, as the generator says
-pub record CallsService (b : Build) (view : View) (func item : ℕ) : Type 0 where
+pub record IsServiceItem (b : Build) (view : View) (func item : ℕ) : Type 0 where
   pub call : Call
   pub is : operation b.app func item ≡ op.Serve call
   pub levels : Levels
   pub are_levels : AreLevels b.config levels
-  pub block : StandsAtBlock b view call.service call.object (ServesCall b.config call.service call.object levels)
+  pub block : StandsAtBlock b view call.service call.object (IsAnyServiceBlock b.config call.service call.object levels)
   pub in_ram : block.offset < memory_bytes
   pub apart : (memory_base + block.offset < item_address b.places func item)
       ⊎ (item_address b.places func item + 4 * length (expansion b.app b.places func item) ≤ memory_base + block.offset)
 
 -- an item is of one of these kinds
 pub data IsKnown (b : Build) (view : View) (func item : ℕ) : Type 0 where
-  computes : Computes b func item → IsKnown b view func item
-  flows : Flows b func item → IsKnown b view func item
-  invokes : Invokes b func item → IsKnown b view func item
-  returns : ItemReturns b func item → IsKnown b view func item
-  serves : CallsService b view func item → IsKnown b view func item
+  computes : IsComputingItem b func item → IsKnown b view func item
+  flows : IsFlowItem b func item → IsKnown b view func item
+  invokes : IsCallItem b func item → IsKnown b view func item
+  returns : IsReturnItem b func item → IsKnown b view func item
+  serves : IsServiceItem b view func item → IsKnown b view func item
 
 -- where an item calls Schedule, the way back stands in the block for its object
 abbrev pub WayBackStands : Build → View → Type 0
@@ -71,7 +71,7 @@ WayBackStands b view = (func item : ℕ) (call : Call) → item < length (functi
 -- Tasks whose code has only such items, and whose parts of the stacks are apart where they may be in use at once: the code of boot, of the
 -- prologues, of ticks, of the idle loop and of the items stands in the image.
 pub record Kernel (b : Build) (image : Image) : Type 0 where
-  pub fits : Fits b
+  pub fits : HasFittingPlaces b
   pub well_formed : WellFormed b.config b.app
   pub tasks : length image.tasks ≡ length b.config.tasks
   pub counters : image.counters ≡ map (λ c. c.name) b.config.counters

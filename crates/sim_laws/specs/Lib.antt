@@ -5,4 +5,4 @@ pub mod Kernel
 pub mod Standing
 pub mod Generated
 pub mod Items
-pub mod Shown
+pub mod TaskStates

@@ -9,7 +9,7 @@ use Rattle.sloth_base.specs.Limits.{count_limit}
 use Rattle.rv32_machine.specs.Start.{start}
 use Rattle.rv32_machine.specs.Run.{state_after, state_with_arrivals}
 use Rattle.osek_scheduler.specs.State.{System, opening}
-use Rattle.osek_scheduler.specs.Runs.{Leads}
+use Rattle.osek_scheduler.specs.Runs.{AreStepsTo}
 use Rattle.sim_induction.specs.Sound.{events_of, stands_before}
 use Rattle.sim_relation.specs.Build.{Build}
 use Rattle.sim_relation.specs.Stands.{Stands}
@@ -28,5 +28,5 @@ abbrev pub KernelStands : Type 0
 KernelStands = (b : Build) (image : Image) → Kernel b image → (arrivals : List Arrival) (n count : ℕ) (state : State)
     → AreArrivals (owners_in b.config) arrivals → n ≤ count_limit → count < n
     → state_after count arrivals (start image) ≡ Some state → state.core.mie ≡ true
-    → (s : System) × Leads b.config b.app (filter (stands_before count) (events_of image arrivals n)) (opening b.config b.app) s
+    → (s : System) × AreStepsTo b.config b.app (filter (stands_before count) (events_of image arrivals n)) (opening b.config b.app) s
     × StandsNested b (state_with_arrivals arrivals count state) s

@@ -7,7 +7,7 @@
 //! `specs/Steady`; the relation at each count at which interrupts are open, with the Active basic tasks' parts of the shared stack one below the
 //! other in the order of entry: `specs/Standing`, `specs/Nested`.
 //!
-//! At each such count the machine shows each task's state in the abstract scheduler (`specs/Shown`). The goal: `sim_induction` (`Sound`); states:
+//! At each such count the machine shows each task's state in the abstract scheduler (`specs/TaskStates`). The goal: `sim_induction` (`Sound`); states:
 //! `sloth_inspect` (`States`).
 #![tactic(auto)]
 

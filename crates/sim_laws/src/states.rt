@@ -1,8 +1,8 @@
 //! What the machine shows of the tasks of a kernel in place, at each count at which interrupts are open.
-ghost use Rattle.sim_laws.specs.Shown.{KernelShowsStates};
+ghost use Rattle.sim_laws.specs.TaskStates.{KernelHasTaskStates};
 
 /// In every run of an image with a kernel in place, whatever lines arrive, the machine shows the state that each task has in the abstract
 /// scheduler.
-pub fn kernel_shows_states()
-    ensures { KernelShowsStates }
+pub fn kernel_has_task_states()
+    ensures { KernelHasTaskStates }
 {}

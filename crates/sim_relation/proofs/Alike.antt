@@ -3,7 +3,7 @@ use Rattle.std.specs.Prelude.{ℕ, ◌<◌, ◌≤◌, ◌≡◌, List}
 use Rattle.osek_scheduler.specs.State.{System, task}
 use Rattle.sim_relation.specs.Build.{Build}
 use Rattle.sim_relation.specs.Position.{Thread}
-use Rattle.sim_relation.specs.Framing.{Agree}
+use Rattle.sim_relation.specs.Framing.{AreSameBytes}
 
 -- the same pc, x2 and x5 to x31
 pub record SameThread (old new : Thread) : Type 0 where
@@ -20,4 +20,4 @@ pub record SamePlace (old new : Thread) : Type 0 where
 -- a task has the same part in both: its record, and the bytes of its stack
 pub record SamePart (b : Build) (old new : List ℕ) (s next : System) (t : ℕ) : Type 0 where
   pub tasks : task next t ≡ task s t
-  pub bytes : Agree old new (b.low t) (b.top t)
+  pub bytes : AreSameBytes old new (b.low t) (b.top t)

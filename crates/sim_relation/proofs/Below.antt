@@ -8,7 +8,7 @@ use Rattle.expansion_parts.specs.Expansion.{item_address}
 use Rattle.masked_code.specs.Kernel.{IsBelow}
 use Rattle.osek_scheduler.specs.State.{Task, System, task}
 use Rattle.sim_induction.specs.Mirror.{priority_of}
-use Rattle.sim_relation.specs.Build.{Build, Fits}
+use Rattle.sim_relation.specs.Build.{Build, HasFittingPlaces}
 use Rattle.sim_relation.specs.Position.{Thread, thread_at, AreFrames, InExpansion, AtBlock, IsPosition}
 use Rattle.sim_relation.specs.Context.{IsContextChain, RunsTask}
 use Rattle.sim_relation.specs.Stands.{AreFalling, AreActive}
@@ -18,7 +18,7 @@ use Rattle.sim_relation.proofs.Contexts.{context_below}
 use Rattle.sim_relation.proofs.Tops.{falling_head, falling_tail}
 
 -- each instruction before which a task may stand is at a multiple of 4
-pub position_aligned : (b : Build) (ram : List ℕ) (t : ℕ) (own : Task) (th : Thread) (place : ℕ) → Fits b → IsPosition b ram t own th place → th.pc % 4 ≡ 0
+pub position_aligned : (b : Build) (ram : List ℕ) (t : ℕ) (own : Task) (th : Thread) (place : ℕ) → HasFittingPlaces b → IsPosition b ram t own th place → th.pc % 4 ≡ 0
 position_aligned b ram t own th place fits p =
     let i = fits.items p.frame.func p.frame.item in
     position_elim b ram t own p.frame p.outer th place (th.pc % 4 ≡ 0)
@@ -43,7 +43,7 @@ pub record StartsAt (ram : List ℕ) (place : ℕ) : Type 0 where
   pub level : word_at ram (place + 4) < 256
 
 -- what the chain says of the next context is what a routine needs of it
-pub chain_starts : (b : Build) (ram : List ℕ) (s : System) (stack : List ℕ) (place : ℕ) → Fits b → AreFalling b s stack → IsContextChain b ram s stack place → StartsAt ram place
+pub chain_starts : (b : Build) (ram : List ℕ) (s : System) (stack : List ℕ) (place : ℕ) → HasFittingPlaces b → AreFalling b s stack → IsContextChain b ram s stack place → StartsAt ram place
 chain_starts b ram s [] place fits f k =
     let p = k.is in
     let c = ap (word_at ram) p ∙ k.pc in
@@ -70,7 +70,7 @@ chain_starts b ram s (t ∷ below) place fits f k =
     }
 
 -- the running task's service finds the context of what runs below it
-pub is_below : (b : Build) (state : State) (s : System) (t : ℕ) (below : List ℕ) → Fits b → AreActive b s (t ∷ below) → (run : RunsTask b state s t below)
+pub is_below : (b : Build) (state : State) (s : System) (t : ℕ) (below : List ℕ) → HasFittingPlaces b → AreActive b s (t ∷ below) → (run : RunsTask b state s t below)
     → IsBelow run.next state.core
 is_below b state s t below fits a run =
     let c = chain_starts b state.core.ram s below run.next fits (falling_tail b s t below a.falling) run.chain in

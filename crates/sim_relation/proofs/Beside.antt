@@ -6,7 +6,7 @@ use Rattle.sloth_region.specs.Layout.{cur, below_word, active, events, wait, res
 use Rattle.rv32_instr.specs.Ram.{word_at}
 use Rattle.osek_scheduler.specs.State.{Clock, System, task}
 use Rattle.code_rules.specs.Code.{is_in}
-use Rattle.sim_relation.specs.Build.{Build, Fits}
+use Rattle.sim_relation.specs.Build.{Build, HasFittingPlaces}
 use Rattle.sim_relation.specs.ClockStands.{CountersStand, ClockStands, IsBesideClock}
 use Rattle.sim_relation.specs.Position.{thread_of}
 use Rattle.sim_relation.specs.Context.{RunsFirst}
@@ -31,7 +31,7 @@ pub record IsBeside (b : Build) (old now : State) : Type 0 where
   pub high : (i : ℕ) → idle_context ≤ i → slice_index now.core.ram i ≡ slice_index old.core.ram i
   pub named : (p : ℕ) → p % 4 ≡ 0 → IsBesideClock p → word_at now.core.ram p ≡ word_at old.core.ram p
 
-module _ (b : Build) (old now : State) (s : System) (k : Stands b old s) (fits : Fits b) (m : IsBeside b old now) where
+module _ (b : Build) (old now : State) (s : System) (k : Stands b old s) (fits : HasFittingPlaces b) (m : IsBeside b old now) where
   in_stack : (u : ℕ) → is_in u k.stack ≡ true → u < length b.config.tasks
   in_stack u h = (falling_active b s k.stack k.active.falling u h).declared
 

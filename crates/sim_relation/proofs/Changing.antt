@@ -14,12 +14,12 @@ use Rattle.sloth_base.specs.Named.{declaration}
 use Rattle.sloth_base.specs.Limits.{task_limit}
 use Rattle.code_rules.specs.Code.{is_in}
 use Rattle.osek_scheduler.specs.Priority.{is_active, current_priority}
-use Rattle.sim_relation.specs.Build.{Build, Fits}
+use Rattle.sim_relation.specs.Build.{Build, HasFittingPlaces}
 use Rattle.sim_relation.specs.Position.{Thread, thread_of, thread_at}
-use Rattle.sim_relation.specs.Context.{IsContext, IsSaved, IsContextChain, RunsFirst, Resumes}
+use Rattle.sim_relation.specs.Context.{IsContext, IsSaved, IsContextChain, RunsFirst, HasOwnContext}
 use Rattle.sim_relation.specs.ServiceWords.{AreServiceWords, base_priority}
 use Rattle.sim_relation.specs.Stands.{Stands, IsActive, AreFalling}
-use Rattle.sim_relation.specs.Framing.{Agree}
+use Rattle.sim_relation.specs.Framing.{AreSameBytes}
 use Rattle.sim_relation.proofs.Alike.{SamePart}
 use Rattle.sim_relation.specs.Changes.{changed_task, system_with_task_state, TaskChange}
 use Rattle.sim_relation.proofs.ClockKept.{clock_kept}
@@ -120,7 +120,7 @@ running_like b old now s next l low p x v high current link (t ∷ below) inside
     }
 
 resumes_like : (b : Build) (ram : List ℕ) (t : ℕ) (old new : Task) (a : Bool) (frames : List Frame) → new.registers ≡ old.registers
-    → Resumes b ram t old a frames → Resumes b ram t new a frames
+    → HasOwnContext b ram t old a frames → HasOwnContext b ram t new a frames
 resumes_like b ram t old new true frames e k = k
 resumes_like b ram t old new false [] e k = k
 resumes_like b ram t old new false (frame ∷ outer) e k = (
@@ -136,7 +136,7 @@ resumes_like b ram t old new false (frame ∷ outer) e k = (
   },
 )
 
-module _ (b : Build) (old now : State) (s : System) (k : Stands b old s) (fits : Fits b) (t : ℕ) (declared : t < length b.config.tasks)
+module _ (b : Build) (old now : State) (s : System) (k : Stands b old s) (fits : HasFittingPlaces b) (t : ℕ) (declared : t < length b.config.tasks)
     (m : TaskState) (set : ℕ) (change : TaskChange b old now s t m set) where
   abbrev own : Task
   own = changed_task s t m set
@@ -166,7 +166,7 @@ module _ (b : Build) (old now : State) (s : System) (k : Stands b old s) (fits :
       let l = (k.tidy.each u h).few r a in
       change.named (saved_level r) (omega arith) (omega arith) (λ c. omega arith)
 
-  part : (u : ℕ) → u < length b.config.tasks → Agree old.core.ram now.core.ram (b.low u) (b.top u)
+  part : (u : ℕ) → u < length b.config.tasks → AreSameBytes old.core.ram now.core.ram (b.low u) (b.top u)
   part u h i x y = change.high i (let f = fits.from u h in omega arith)
 
   own_words : AreServiceWords b now.core.ram t own
@@ -177,7 +177,7 @@ module _ (b : Build) (old now : State) (s : System) (k : Stands b old s) (fits :
         activity = change.named (active t) (omega arith) (omega arith) (λ c. omega arith) ∙ w.activity ∙ ap (λ (x : Bool). cond x 1 0) (sym change.same_active);
         event_mask = change.event_word;
         wait_mask = change.wait_word;
-        resumption = subst (λ a. Resumes b now.core.ram t own a (task s t).frames) (sym change.same_active)
+        resumption = subst (λ a. HasOwnContext b now.core.ram t own a (task s t).frames) (sym change.same_active)
             (resumes_like b now.core.ram t (task s t) own (is_active (task s t).state) (task s t).frames refl
             (resumes_kept b old.core.ram now.core.ram t (task s t) (is_active (task s t).state) (task s t).frames
             (change.named (resume t) (omega arith) (omega arith) (λ c. omega arith)) (λ a f. part t declared) w.resumption));

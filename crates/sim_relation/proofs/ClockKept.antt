@@ -11,9 +11,9 @@ use Rattle.rv32_instr.specs.Ram.{word_at}
 use Rattle.osek_scheduler.specs.State.{Clock, System}
 use Rattle.sloth_base.specs.Named.{declaration}
 use Rattle.sloth_base.specs.MemoryMap.{line_count}
-use Rattle.sim_relation.specs.Build.{Build, Fits}
+use Rattle.sim_relation.specs.Build.{Build, HasFittingPlaces}
 use Rattle.sim_relation.specs.ClockStands.{CounterLineStands, ClockStands}
-use Rattle.sim_relation.specs.Framing.{Agree, NamedKept}
+use Rattle.sim_relation.specs.Framing.{AreSameBytes, AreOtherWordsSame}
 use Rattle.sim_relation.specs.Stands.{Stands}
 use Rattle.sim_relation.proofs.Framing.{word_kept}
 use Rattle.sim_relation.proofs.Levels.{level_of-few}
@@ -46,7 +46,7 @@ in_range b state s k c h =
     (cases_lt (counter_line c) 32)
 
 -- the words of the clock, which stay
-pub clock_kept : (b : Build) (old new : List ℕ) (clock : Clock) → Fits b
+pub clock_kept : (b : Build) (old new : List ℕ) (clock : Clock) → HasFittingPlaces b
     → ((p : ℕ) → counter_value 0 ≤ p → p + 4 ≤ below_word → p % 4 ≡ 0 → word_at new p ≡ word_at old p)
     → ClockStands b.config old clock → ClockStands b.config new clock
 clock_kept b old new clock fits same k =
@@ -61,7 +61,7 @@ clock_kept b old new clock fits same k =
     }
 
 -- where the service words of one task alone change
-pub clock_named : (b : Build) (old new : List ℕ) (clock : Clock) (t : ℕ) → Fits b → t < length b.config.tasks → NamedKept old new t
+pub clock_named : (b : Build) (old new : List ℕ) (clock : Clock) (t : ℕ) → HasFittingPlaces b → t < length b.config.tasks → AreOtherWordsSame old new t
     → ClockStands b.config old clock → ClockStands b.config new clock
 clock_named b old new clock t fits declared named k =
     let few = fits.few_tasks in
@@ -69,5 +69,5 @@ clock_named b old new clock t fits declared named k =
     (λ p from to a. named p (omega arith) a (λ e. omega arith) (λ e. omega arith) (λ e. omega arith) (λ e. omega arith) (λ e. omega arith) (λ e. omega arith)) k
 
 -- where no byte before the idle loop's context changes
-pub clock_low : (b : Build) (old new : List ℕ) (clock : Clock) → Fits b → Agree old new 0 1024 → ClockStands b.config old clock → ClockStands b.config new clock
+pub clock_low : (b : Build) (old new : List ℕ) (clock : Clock) → HasFittingPlaces b → AreSameBytes old new 0 1024 → ClockStands b.config old clock → ClockStands b.config new clock
 clock_low b old new clock fits low k = clock_kept b old new clock fits (λ p from to a. word_kept old new 0 1024 p low (omega arith) (omega arith)) k

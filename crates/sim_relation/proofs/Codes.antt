@@ -6,7 +6,7 @@ use Rattle.sloth_base.specs.Machine.{State}
 use Rattle.sloth_base.specs.MemoryMap.{memory_base}
 use Rattle.rv32_instr.specs.declared.InstrKind.{InstrKind}
 use Rattle.osek_scheduler.specs.State.{System, task}
-use Rattle.sim_relation.specs.Build.{Build, Fits}
+use Rattle.sim_relation.specs.Build.{Build, HasFittingPlaces}
 use Rattle.sim_relation.specs.Position.{thread_of}
 use Rattle.sim_relation.specs.Context.{RunsFirst}
 use Rattle.sim_relation.specs.Stands.{AreFalling}
@@ -16,7 +16,7 @@ use Rattle.sim_relation.proofs.Placed.{code_behind}
 use Rattle.sim_relation.proofs.Tops.{falling_head}
 
 -- code is apart from a task's part of the stacks
-pub code_apart : (b : Build) (t offset : ℕ) (code : List InstrKind) → Fits b → t < length b.config.tasks → b.low t < b.top t → 0 < length code → IsPlaced b offset code
+pub code_apart : (b : Build) (t offset : ℕ) (code : List InstrKind) → HasFittingPlaces b → t < length b.config.tasks → b.low t < b.top t → 0 < length code → IsPlaced b offset code
     → (b.top t ≤ offset) ⊎ (offset + 4 * length code ≤ b.low t)
 code_apart b t offset code fits declared room some p =
     ⊎_elim
@@ -33,7 +33,7 @@ code_apart b t offset code fits declared room some p =
     (cases_lt offset (b.low t))
 
 -- and from the place of the context that is stored at an entry
-pub code_beside : (b : Build) (state : State) (s : System) (stack : List ℕ) (place offset : ℕ) (code : List InstrKind) → Fits b → AreFalling b s stack
+pub code_beside : (b : Build) (state : State) (s : System) (stack : List ℕ) (place offset : ℕ) (code : List InstrKind) → HasFittingPlaces b → AreFalling b s stack
     → slice_index state.core.registers 2 ≡ memory_base + (place + 128) → RunsFirst b state s stack → 0 < length code → IsPlaced b offset code
     → (place + 128 ≤ offset) ⊎ (offset + 4 * length code ≤ place)
 code_beside b state s [] place offset code fits f x k some p =

@@ -10,7 +10,7 @@ use Rattle.sim_relation.specs.Build.{Build}
 use Rattle.sim_relation.specs.Position.{Thread, thread_at}
 use Rattle.sim_relation.specs.Context.{IsContext, IsSaved, IsContextChain}
 use Rattle.sim_relation.specs.DataStands.{DataStands}
-use Rattle.sim_relation.specs.Framing.{Agree, IdleKept}
+use Rattle.sim_relation.specs.Framing.{AreSameBytes, IsSameIdle}
 use Rattle.sim_relation.proofs.Alike.{SameThread, SamePart}
 use Rattle.std.specs.List.{AllByRecursion}
 use Rattle.sim_relation.proofs.Framing.{word_kept, position_kept, position_below}
@@ -21,7 +21,7 @@ context_below b ram t own th place k = position_below b ram t own th place k.pos
 
 -- a context stands where its task, its thread and its bytes are the same
 pub context_same : (b : Build) (old new : List ℕ) (t : ℕ) (own next : Task) (th now : Thread) (place : ℕ)
-    → next ≡ own → SameThread th now → Agree old new place (b.top t) → IsContext b old t own th place → IsContext b new t next now place
+    → next ≡ own → SameThread th now → AreSameBytes old new place (b.top t) → IsContext b old t own th place → IsContext b new t next now place
 context_same b old new t own next th now place e s g k =
     subst (λ v. IsContext b new t v now place) (sym e)
     (record {
@@ -35,7 +35,7 @@ context_same b old new t own next th now place e s g k =
     })
 
 -- the thread of a saved context
-pub saved_same : (old new : List ℕ) (place : ℕ) → Agree old new place (place + 128) → SameThread (thread_at old place) (thread_at new place)
+pub saved_same : (old new : List ℕ) (place : ℕ) → AreSameBytes old new place (place + 128) → SameThread (thread_at old place) (thread_at new place)
 saved_same old new place a = record {
   pc = word_kept old new place (place + 128) place a (omega arith) (omega arith);
   x2 = refl;
@@ -66,7 +66,7 @@ saved_kept b old new s next t place p k =
     }
 
 -- the chain stands as long as each task's part does, and the idle loop's context
-pub chain_kept : (b : Build) (old new : List ℕ) (s next : System) → IdleKept old new → (stack : List ℕ) (place : ℕ)
+pub chain_kept : (b : Build) (old new : List ℕ) (s next : System) → IsSameIdle old new → (stack : List ℕ) (place : ℕ)
     → AllByRecursion (SamePart b old new s next) stack → IsContextChain b old s stack place → IsContextChain b new next stack place
 chain_kept b old new s next idle [] place e k = record {
   is = k.is;

@@ -17,12 +17,12 @@ use Rattle.osek_scheduler.specs.Steps.{settled_state}
 use Rattle.sloth_base.specs.PriorityLevels.{level_of}
 use Rattle.sloth_base.specs.Limits.{task_limit}
 use Rattle.sloth_base.specs.MemoryMap.{line_count}
-use Rattle.sim_relation.specs.Build.{Build, Fits, IsElsewhere}
+use Rattle.sim_relation.specs.Build.{Build, HasFittingPlaces, IsElsewhere}
 use Rattle.sim_relation.specs.Position.{thread_of, thread_at}
 use Rattle.sim_relation.specs.Context.{IsContext, IsContextChain, RunsFirst, RunsTask}
 use Rattle.sim_relation.specs.ServiceWords.{AreServiceWords, AreHeldWords, IsWaitWord, active_word}
 use Rattle.sim_relation.specs.Stands.{Stands, AreFalling, AreLineBytes, IsAlive, IsTidyTask}
-use Rattle.sim_relation.specs.Framing.{Agree, NamedKept}
+use Rattle.sim_relation.specs.Framing.{AreSameBytes, AreOtherWordsSame}
 use Rattle.sim_relation.proofs.Alike.{SameThread, SamePart}
 use Rattle.sim_relation.specs.Entry.{TaskEntry}
 use Rattle.sim_relation.specs.Moves.{WholeMachine}
@@ -45,7 +45,7 @@ enabled_ready (mode.Waiting v) p e q h = cc
 not_first : (b : Build) (s : System) (t : ℕ) (below : List ℕ) → AreFalling b s (t ∷ below) → (u : ℕ) → is_in u below ≡ true → eqb t u ≡ false
 not_first b s t below f u h = ne_eqb t u (λ e. below_other b s t below f u h (sym e))
 
-module _ (b : Build) (old now : State) (s : System) (k : Stands b old s) (fits : Fits b) (t : ℕ) (declared : t < length b.config.tasks) (e : choose old.core ≡ Some t)
+module _ (b : Build) (old now : State) (s : System) (k : Stands b old s) (fits : HasFittingPlaces b) (t : ℕ) (declared : t < length b.config.tasks) (e : choose old.core ≡ Some t)
     (own : Task) (place : ℕ) (entry : TaskEntry b old now s t own place) where
   few : length b.config.tasks ≤ line_count
   few = let f = fits.few_tasks in omega arith
@@ -86,7 +86,7 @@ module _ (b : Build) (old now : State) (s : System) (k : Stands b old s) (fits :
   new_ram = now.core.ram
 
   -- a task that is neither this one nor the preempted one keeps its stack
-  part : (u : ℕ) → u < length b.config.tasks → u ≢ t → IsAlive (task s u) → is_first k.stack u ≡ false → Agree old_ram new_ram (b.low u) (b.top u)
+  part : (u : ℕ) → u < length b.config.tasks → u ≢ t → IsAlive (task s u) → is_first k.stack u ≡ false → AreSameBytes old_ram new_ram (b.low u) (b.top u)
   part u l n a f i x h =
       let v = fits.from u l in
       entry.ram.outside i (omega arith)
@@ -103,7 +103,7 @@ module _ (b : Build) (old now : State) (s : System) (k : Stands b old s) (fits :
   same_thread some = record { pc = entry.ram.pc_word; x2 = sym entry.x2; x = entry.ram.register_words some }
 
   chain_of : (stack : List ℕ) → AreFalling b s stack → ((u : ℕ) → is_in u stack ≡ true → task next u ≡ task s u)
-      → ((u : ℕ) → u < length b.config.tasks → u ≢ t → IsAlive (task s u) → is_first stack u ≡ false → Agree old_ram new_ram (b.low u) (b.top u))
+      → ((u : ℕ) → u < length b.config.tasks → u ≢ t → IsAlive (task s u) → is_first stack u ≡ false → AreSameBytes old_ram new_ram (b.low u) (b.top u))
       → RunsFirst b old s stack → IsContextChain b new_ram next stack place
   chain_of [] fl same pt run =
       let x = run.x2 in
@@ -192,7 +192,7 @@ module _ (b : Build) (old now : State) (s : System) (k : Stands b old s) (fits :
   all = by_task (λ u x. u < length b.config.tasks → x.state ≡ mode.Active → is_in u (t ∷ k.stack) ≡ true) s t own here_now
       (λ h a. is_in-head t k.stack) (λ u n h a. is_in-tail t u k.stack (k.active.all u h a))
 
-  named : NamedKept old_ram new_ram t
+  named : AreOtherWordsSame old_ram new_ram t
   named p h a n0 n1 n2 n3 n4 n5 = entry.ram.named p h a n0 n1 n2 n5
 
   own_words : AreServiceWords b new_ram t own

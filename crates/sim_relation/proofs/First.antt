@@ -5,8 +5,8 @@ use Rattle.sloth_base.specs.Machine.{State}
 use Rattle.masked_code.specs.Kernel.{IsBelow}
 use Rattle.osek_scheduler.specs.State.{Task, System, with_task}
 use Rattle.osek_scheduler.specs.Steps.{settled_state}
-use Rattle.sim_induction.specs.Mirror.{Runs}
-use Rattle.sim_relation.specs.Build.{Build, Fits}
+use Rattle.sim_induction.specs.Mirror.{IsRunningTask}
+use Rattle.sim_relation.specs.Build.{Build, HasFittingPlaces}
 use Rattle.sim_relation.specs.Context.{RunsFirst, RunsTask}
 use Rattle.sim_relation.specs.Stands.{Stands, AreActive}
 use Rattle.sim_relation.specs.Moves.{moved_system, TaskStep, TaskMove, TaskLeave}
@@ -16,7 +16,7 @@ use Rattle.sim_relation.proofs.MirrorOf.{first_is}
 use Rattle.sim_relation.proofs.TaskMoves.{task_moves}
 use Rattle.sim_relation.proofs.TaskSteps.{task_steps}
 
-module _ (b : Build) (state : State) (s : System) (t : ℕ) (fits : Fits b) (k : Stands b state s) (r : Runs b.config s t) where
+module _ (b : Build) (state : State) (s : System) (t : ℕ) (fits : HasFittingPlaces b) (k : Stands b state s) (r : IsRunningTask b.config s t) where
   by_stack : (stack : List ℕ) → k.stack ≡ stack → (below : List ℕ) × (k.stack ≡ t ∷ below)
   by_stack [] is = let a : AreActive b s [] = subst (AreActive b s) is k.active in absurd (false≢true (a.all t r.declared r.active))
   by_stack (u ∷ below) is =

@@ -10,15 +10,15 @@ use Rattle.sloth_base.specs.Named.{operation, function}
 use Rattle.osek_scheduler.specs.State.{Frame, Task}
 use Rattle.sim_relation.specs.Build.{Build}
 use Rattle.sim_relation.specs.Position.{Thread, AreWords, AreOuterFrames, AreFrames, HasIndexed, HasFarIndexed, HasAddress, HasTarget, HasScratch, InExpansion, AtBlock, IsStanding, IsOwing, IsCalling, IsReturning, IsPosition}
-use Rattle.sim_relation.specs.Framing.{Agree}
+use Rattle.sim_relation.specs.Framing.{AreSameBytes}
 use Rattle.sim_relation.proofs.Alike.{SamePlace}
 
 -- a word is the same where the bytes around it are
-pub word_kept : (old new : List ℕ) (from to place : ℕ) → Agree old new from to → from ≤ place → place + 4 ≤ to → word_at new place ≡ word_at old place
+pub word_kept : (old new : List ℕ) (from to place : ℕ) → AreSameBytes old new from to → from ≤ place → place + 4 ≤ to → word_at new place ≡ word_at old place
 word_kept old new from to place a l h = word_at-agree new old place (λ i x y. a i (omega arith) (omega arith))
 
 -- so are words one behind the other
-pub words_kept : (old new : List ℕ) (from to : ℕ) → Agree old new from to → (words : List ℕ) (place : ℕ) → from ≤ place → place + 4 * length words ≤ to
+pub words_kept : (old new : List ℕ) (from to : ℕ) → AreSameBytes old new from to → (words : List ℕ) (place : ℕ) → from ≤ place → place + 4 * length words ≤ to
     → AreWords old place words → AreWords new place words
 words_kept old new from to a [] place l h w = tt
 words_kept old new from to a (x ∷ words) place l h w = (
@@ -33,7 +33,7 @@ outer_below b ram (frame ∷ outer) place top h =
     let below = outer_below b ram outer (place + 4 + 4 * length frame.words) top h.3 in omega arith
 
 -- they stand where their bytes are the same
-pub outer_kept : (b : Build) (old new : List ℕ) (from top : ℕ) → Agree old new from top → (outer : List Frame) (place : ℕ) → from ≤ place
+pub outer_kept : (b : Build) (old new : List ℕ) (from top : ℕ) → AreSameBytes old new from top → (outer : List Frame) (place : ℕ) → from ≤ place
     → AreOuterFrames b old outer place top → AreOuterFrames b new outer place top
 outer_kept b old new from top a [] place l h = h
 outer_kept b old new from top a (frame ∷ outer) place l h =
@@ -45,7 +45,7 @@ outer_kept b old new from top a (frame ∷ outer) place l h =
     )
 
 -- so do all frames of a task
-pub frames_kept : (b : Build) (old new : List ℕ) (from top : ℕ) → Agree old new from top → (frame : Frame) (outer : List Frame) (place : ℕ) → from ≤ place
+pub frames_kept : (b : Build) (old new : List ℕ) (from top : ℕ) → AreSameBytes old new from top → (frame : Frame) (outer : List Frame) (place : ℕ) → from ≤ place
     → AreFrames b old frame outer place top → AreFrames b new frame outer place top
 frames_kept b old new from top a frame outer place l h =
     let below = outer_below b old outer (place + 4 * length frame.words) top h.2 in
@@ -128,7 +128,7 @@ position_elim b ram t own frame outer th place P f g h k (inr (inl x)) = g x
 position_elim b ram t own frame outer th place P f g h k (inr (inr (inl x))) = h x
 position_elim b ram t own frame outer th place P f g h k (inr (inr (inr x))) = k x
 
-module _ (b : Build) (ram new : List ℕ) (t : ℕ) (own : Task) (old now : Thread) (place : ℕ) (e : SamePlace old now) (g : Agree ram new place (b.top t)) where
+module _ (b : Build) (ram new : List ℕ) (t : ℕ) (own : Task) (old now : Thread) (place : ℕ) (e : SamePlace old now) (g : AreSameBytes ram new place (b.top t)) where
   abbrev top : ℕ
   top = b.top t
 

@@ -15,7 +15,7 @@ use Rattle.sim_relation.specs.Build.{Build}
 use Rattle.sim_relation.specs.Position.{thread_of, thread_at}
 use Rattle.sim_relation.specs.Context.{IsContext, IsContextChain, RunsFirst}
 use Rattle.sim_relation.specs.Stands.{AreActive}
-use Rattle.sim_relation.specs.Framing.{IdleKept, HasLeftFor}
+use Rattle.sim_relation.specs.Framing.{IsSameIdle, HasLeftFor}
 use Rattle.sim_relation.proofs.Alike.{SamePart}
 use Rattle.sim_relation.proofs.Contexts.{context_same, context_below, chain_kept}
 use Rattle.sim_relation.proofs.Parts.{each_from, falling_kept}
@@ -23,7 +23,7 @@ use Rattle.sim_relation.proofs.Tops.{falling_tail, is_in-head, is_in-tail}
 
 -- what runs behind the end or the wait of the task above: the other tasks of the stack have kept their parts
 pub leave_runs : (b : Build) (old new : List ℕ) (s next : System) (end : State) (place : ℕ) (stack : List ℕ) → HasLeftFor old new place end
-    → IdleKept old new → ((u : ℕ) → is_in u stack ≡ true → SamePart b old new s next u) → IsContextChain b old s stack place → RunsFirst b end next stack
+    → IsSameIdle old new → ((u : ℕ) → is_in u stack ≡ true → SamePart b old new s next u) → IsContextChain b old s stack place → RunsFirst b end next stack
 leave_runs b old new s next end place [] l idle part k =
     let p = k.is in
     let x = l.x2 in

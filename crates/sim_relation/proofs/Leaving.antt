@@ -7,7 +7,7 @@ use Rattle.osek_scheduler.specs.State.{Task, System, task, with_task}
 use Rattle.code_rules.specs.Code.{is_in}
 use Rattle.osek_scheduler.specs.Priority.{is_active}
 use Rattle.osek_scheduler.specs.Steps.{settled_state}
-use Rattle.sim_relation.specs.Build.{Build, Fits}
+use Rattle.sim_relation.specs.Build.{Build, HasFittingPlaces}
 use Rattle.sim_relation.specs.Context.{IsContextChain, RunsFirst, RunsTask}
 use Rattle.sim_relation.specs.Stands.{Stands, IsActive, AreActive}
 use Rattle.sim_relation.proofs.Alike.{SamePart}
@@ -19,7 +19,7 @@ use Rattle.sim_relation.proofs.Parts.{by_task}
 use Rattle.sim_relation.proofs.Rebuilt.{below_parts, other_kept, among, rebuilt}
 use Rattle.sim_relation.proofs.Tops.{falling_head}
 
-module _ (b : Build) (old now : State) (s : System) (k : Stands b old s) (fits : Fits b) (t : ℕ) (below : List ℕ) (stack_is : k.stack ≡ t ∷ below)
+module _ (b : Build) (old now : State) (s : System) (k : Stands b old s) (fits : HasFittingPlaces b) (t : ℕ) (below : List ℕ) (stack_is : k.stack ≡ t ∷ below)
     (own : Task) (place : ℕ) (leave : TaskLeave b old now s t own place) where
   abbrev next : System
   next = settled_state (with_task s t own)

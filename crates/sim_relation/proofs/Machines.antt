@@ -2,14 +2,14 @@
 use Rattle.std.proofs.Common.{◌≡◌, ℕ, List, length, refl, sym, ap, ◌∙◌}
 use Rattle.std.specs.Prelude.{slice_index}
 use Rattle.sloth_base.specs.Machine.{Core, State}
-use Rattle.masked_code.specs.Kernel.{HoldBases, LeftAs}
+use Rattle.masked_code.specs.Kernel.{HasBases, IsOpenedCore}
 use Rattle.sim_relation.specs.Build.{Build}
 use Rattle.sim_relation.specs.Stands.{IsFixed}
 use Rattle.sim_relation.specs.Moves.{SameMachine, WholeMachine}
 
 -- registers and RAM have changed alone, and x0, x3 and x4 are as they were
 pub kept_machine : (b : Build) (old : State) → IsFixed b old.core → (pc : ℕ) (registers ram : List ℕ) → length registers ≡ length old.core.registers
-    → slice_index registers 0 ≡ slice_index old.core.registers 0 → HoldBases registers → length ram ≡ length old.core.ram
+    → slice_index registers 0 ≡ slice_index old.core.registers 0 → HasBases registers → length ram ≡ length old.core.ram
     → SameMachine old (record { pc = pc; core = record old.core { registers = registers; ram = ram } })
 kept_machine b old f pc registers ram long zero bases long_ram = record {
   ram = long_ram;
@@ -44,7 +44,7 @@ changed_machine b old f pc ram pending enabled long_ram long_pending long_enable
 }
 
 -- a routine leaves the machine as in this core, but for RAM
-module _ (b : Build) (old now : State) (core : Core) (f : IsFixed b old.core) (left : LeftAs core now.core) (ram : length now.core.ram ≡ length old.core.ram)
+module _ (b : Build) (old now : State) (core : Core) (f : IsFixed b old.core) (left : IsOpenedCore core now.core) (ram : length now.core.ram ≡ length old.core.ram)
     (levels : core.levels ≡ old.core.levels) (controller : core.controller ≡ old.core.controller) where
   -- its lines are as they were
   pub left_same : core.pending ≡ old.core.pending → core.enabled ≡ old.core.enabled → SameMachine old now

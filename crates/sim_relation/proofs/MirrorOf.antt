@@ -9,7 +9,7 @@ use Rattle.osek_scheduler.specs.declared.state.TaskState.{TaskState}
 use Rattle.osek_scheduler.specs.declared.state.TaskState.TheVariants as mode
 use Rattle.osek_scheduler.specs.State.{System, task}
 use Rattle.code_rules.specs.Code.{is_in}
-use Rattle.sim_induction.specs.Mirror.{Mirror, Runs, priority_of}
+use Rattle.sim_induction.specs.Mirror.{Mirror, IsRunningTask, priority_of}
 use Rattle.sloth_base.specs.PriorityLevels.{level_of}
 use Rattle.sim_relation.specs.Build.{Build}
 use Rattle.sim_relation.specs.Context.{RunsFirst}
@@ -35,7 +35,7 @@ line_waiting mode.Active mask p e q h = cc
 line_waiting (mode.Waiting w) mask p e q h = h
 
 -- the task that runs by the abstract machine is the first of the stack
-pub first_is : (b : Build) (s : System) (t : ℕ) (below : List ℕ) → AreActive b s (t ∷ below) → (u : ℕ) → Runs b.config s u → t ≡ u
+pub first_is : (b : Build) (s : System) (t : ℕ) (below : List ℕ) → AreActive b s (t ∷ below) → (u : ℕ) → IsRunningTask b.config s u → t ≡ u
 first_is b s t below a u r =
     ⊎_elim (λ (e : eqb t u ≡ true). eqb-true t u e)
     (λ (k : is_in u below ≡ true).
@@ -46,7 +46,7 @@ first_is b s t below a u r =
     absurd (omega arith))
     (or_cases (eqb t u) (is_in u below) (a.all u r.declared r.active))
 
-runs : (b : Build) (state : State) (s : System) (stack : List ℕ) → AreActive b s stack → RunsFirst b state s stack → (u : ℕ) → Runs b.config s u
+runs : (b : Build) (state : State) (s : System) (stack : List ℕ) → AreActive b s stack → RunsFirst b state s stack → (u : ℕ) → IsRunningTask b.config s u
     → (state.core.ilevel ≡ level_of b.config (priority_of b.config s u)) × (word_at state.core.ram cur ≡ u + 1)
 runs b state s [] a k u r = let e = a.all u r.declared r.active in absurd (false≢true e)
 runs b state s (t ∷ below) a k u r =

@@ -16,10 +16,10 @@ use Rattle.osek_scheduler.specs.Priority.{is_active, ceiling, current_priority}
 use Rattle.sloth_base.specs.PriorityLevels.{level_of}
 use Rattle.sim_relation.specs.Build.{Build}
 use Rattle.sim_relation.specs.Position.{thread_of}
-use Rattle.sim_relation.specs.Context.{RunsFirst, IsRested, Resumes}
+use Rattle.sim_relation.specs.Context.{RunsFirst, IsRested, HasOwnContext}
 use Rattle.sim_relation.specs.ServiceWords.{AreServiceWords, AreHeldWords, IsWaitWord, base_priority}
 use Rattle.sim_relation.specs.Stands.{IsActive, AreFalling, AreLineBytes}
-use Rattle.sim_relation.specs.Framing.{Agree}
+use Rattle.sim_relation.specs.Framing.{AreSameBytes}
 use Rattle.sim_relation.proofs.Alike.{SamePart}
 use Rattle.std.specs.List.{AllByRecursion}
 use Rattle.sim_relation.proofs.Framing.{word_kept, frames_kept, frames_below}
@@ -122,7 +122,7 @@ held_kept b old new priority (r ∷ held) e h = (
 )
 
 rested_kept : (b : Build) (old new : List ℕ) (t : ℕ) (own : Task) (frame : Frame) (outer : List Frame) (place : ℕ)
-    → word_at new (resume t) ≡ word_at old (resume t) → Agree old new (b.low t) (b.top t) → IsRested b old t own frame outer place → IsRested b new t own frame outer place
+    → word_at new (resume t) ≡ word_at old (resume t) → AreSameBytes old new (b.low t) (b.top t) → IsRested b old t own frame outer place → IsRested b new t own frame outer place
 rested_kept b old new t own frame outer place e a k =
     let low = k.room in
     let top = frames_below b old frame outer (place + 128) (b.top t) k.frames in
@@ -138,7 +138,7 @@ rested_kept b old new t own frame outer place e a k =
 
 -- a task's word of its own context stands where it and the context are the same
 pub resumes_kept : (b : Build) (old new : List ℕ) (t : ℕ) (own : Task) (a : Bool) (frames : List Frame)
-    → word_at new (resume t) ≡ word_at old (resume t) → (a ≡ false → frames ≢ [] → Agree old new (b.low t) (b.top t)) → Resumes b old t own a frames → Resumes b new t own a frames
+    → word_at new (resume t) ≡ word_at old (resume t) → (a ≡ false → frames ≢ [] → AreSameBytes old new (b.low t) (b.top t)) → HasOwnContext b old t own a frames → HasOwnContext b new t own a frames
 resumes_kept b old new t own true frames e g h = e ∙ h
 resumes_kept b old new t own false [] e g h = e ∙ h
 resumes_kept b old new t own false (frame ∷ outer) e g h = (h.0, rested_kept b old new t own frame outer h.0 e (g refl (λ x. cc)) h.1)
@@ -148,7 +148,7 @@ pub service_kept : (b : Build) (old new : List ℕ) (t : ℕ) (own : Task)
     → word_at new (active t) ≡ word_at old (active t) → word_at new (events t) ≡ word_at old (events t) → word_at new (wait t) ≡ word_at old (wait t)
     → word_at new (resume t) ≡ word_at old (resume t)
     → ((r : ℕ) → is_in r own.held ≡ true → word_at new (saved_level r) ≡ word_at old (saved_level r))
-    → (is_active own.state ≡ false → own.frames ≢ [] → Agree old new (b.low t) (b.top t)) → AreServiceWords b old t own → AreServiceWords b new t own
+    → (is_active own.state ≡ false → own.frames ≢ [] → AreSameBytes old new (b.low t) (b.top t)) → AreServiceWords b old t own → AreServiceWords b new t own
 service_kept b old new t own ea ee ew er eh g k = record {
   activity = ea ∙ k.activity;
   event_mask = ee ∙ k.event_mask;
@@ -168,13 +168,13 @@ word_other ram place value other a c h =
 -- ---- a task that starts anew
 
 -- a task with no frames has 0 as the word of its own context
-pub rests : (b : Build) (ram : List ℕ) (t : ℕ) (own : Task) (a : Bool) (frames : List Frame) → frames ≡ [] → Resumes b ram t own a frames → word_at ram (resume t) ≡ 0
+pub rests : (b : Build) (ram : List ℕ) (t : ℕ) (own : Task) (a : Bool) (frames : List Frame) → frames ≡ [] → HasOwnContext b ram t own a frames → word_at ram (resume t) ≡ 0
 rests b ram t own true frames e h = h
 rests b ram t own false [] e h = h
 rests b ram t own false (frame ∷ outer) e h = cc
 
 -- and 0 is right there
-pub anew : (b : Build) (ram : List ℕ) (t : ℕ) (own : Task) (a : Bool) (frames : List Frame) → frames ≡ [] → word_at ram (resume t) ≡ 0 → Resumes b ram t own a frames
+pub anew : (b : Build) (ram : List ℕ) (t : ℕ) (own : Task) (a : Bool) (frames : List Frame) → frames ≡ [] → word_at ram (resume t) ≡ 0 → HasOwnContext b ram t own a frames
 anew b ram t own true frames e h = h
 anew b ram t own false [] e h = h
 anew b ram t own false (frame ∷ outer) e h = cc

@@ -9,7 +9,7 @@ use Rattle.rv32_instr.specs.Ram.{word_at}
 use Rattle.masked_code.specs.Place.{InPlace}
 use Rattle.masked_code.proofs.Words.{word_at-agree}
 use Rattle.osek_scheduler.specs.State.{System}
-use Rattle.sim_relation.specs.Build.{Build, Fits}
+use Rattle.sim_relation.specs.Build.{Build, HasFittingPlaces}
 use Rattle.sim_relation.specs.Context.{RunsFirst}
 use Rattle.sim_relation.specs.Placed.{IsPlaced}
 use Rattle.sim_relation.specs.Stands.{Stands, IsActive, AreActive}
@@ -30,7 +30,7 @@ pub placed_in : (b : Build) (ram : List ℕ) (offset : ℕ) (code : List InstrKi
 placed_in b ram offset code same p = in_place-agree b.memory ram code offset (λ i a c. same i (p.is_code i a c)) p.placed
 
 -- code stands behind the service words
-pub code_behind : (b : Build) (offset : ℕ) (code : List InstrKind) → Fits b → 0 < length code → IsPlaced b offset code → 1024 ≤ offset
+pub code_behind : (b : Build) (offset : ℕ) (code : List InstrKind) → HasFittingPlaces b → 0 < length code → IsPlaced b offset code → 1024 ≤ offset
 code_behind b offset code fits some p = fits.elsewhere offset (inl (p.is_code offset (omega arith) (omega arith)))
 
 -- the task that the word names is the first of the stack

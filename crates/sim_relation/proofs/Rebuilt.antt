@@ -10,15 +10,15 @@ use Rattle.sloth_region.specs.Layout.{active, events, wait, resume, saved_level}
 use Rattle.osek_scheduler.specs.State.{Task, System, task}
 use Rattle.code_rules.specs.Code.{is_in}
 use Rattle.osek_scheduler.specs.Priority.{is_active}
-use Rattle.sim_relation.specs.Build.{Build, Fits}
+use Rattle.sim_relation.specs.Build.{Build, HasFittingPlaces}
 use Rattle.sim_relation.specs.Context.{RunsFirst}
 use Rattle.sim_relation.specs.ServiceWords.{AreServiceWords}
 use Rattle.sim_relation.specs.ClockStands.{ClockStands}
 use Rattle.sim_relation.specs.DataStands.{DataStands}
 use Rattle.sim_relation.specs.Stands.{Stands, AreFalling, AreActive, AreLineBytes, IsAlive, AreApart, IsTidyTask, IsFixed}
-use Rattle.sim_relation.specs.Framing.{Agree, NamedKept}
+use Rattle.sim_relation.specs.Framing.{AreSameBytes, AreOtherWordsSame}
 use Rattle.sim_relation.proofs.Alike.{SamePart}
-use Rattle.sim_relation.specs.Moves.{changed_system, moved_system, WholeMachine, OthersKept}
+use Rattle.sim_relation.specs.Moves.{changed_system, moved_system, WholeMachine, AreOthersSame}
 use Rattle.sim_relation.proofs.ClockKept.{line_stands, no_task}
 use Rattle.sim_relation.proofs.Parts.{other_task, by_task, line_same, service_kept}
 use Rattle.sim_relation.proofs.Tops.{falling_active, below_other, is_in-tail}
@@ -27,15 +27,15 @@ use Rattle.sim_relation.proofs.Tops.{falling_active, below_other, is_in-tail}
 
 -- those below the running one keep their records and stacks
 pub below_parts : (b : Build) (old new : List ℕ) (s : System) (t : ℕ) (below : List ℕ) (own : Task) (symbols : List (List ℕ)) → AreFalling b s (t ∷ below)
-    → OthersKept b old new s t → (u : ℕ) → is_in u below ≡ true → SamePart b old new s (moved_system s t own symbols) u
+    → AreOthersSame b old new s t → (u : ℕ) → is_in u below ≡ true → SamePart b old new s (moved_system s t own symbols) u
 below_parts b old new s t below own symbols f kept u h =
     let a = falling_active b s (t ∷ below) f u (is_in-tail t u below h) in
     let n = below_other b s t below f u h in
     record { tasks = other_task s t u own n; bytes = kept u a.declared n (inl a.active) }
 
 -- a task keeps its service words, where of those only another task's have changed
-pub other_kept : (b : Build) (old new : List ℕ) (s : System) (t u : ℕ) → Fits b → t < length b.config.tasks → u < length b.config.tasks → u ≢ t → IsTidyTask (task s u)
-    → NamedKept old new t → (is_active (task s u).state ≡ false → (task s u).frames ≢ [] → Agree old new (b.low u) (b.top u))
+pub other_kept : (b : Build) (old new : List ℕ) (s : System) (t u : ℕ) → HasFittingPlaces b → t < length b.config.tasks → u < length b.config.tasks → u ≢ t → IsTidyTask (task s u)
+    → AreOtherWordsSame old new t → (is_active (task s u).state ≡ false → (task s u).frames ≢ [] → AreSameBytes old new (b.low u) (b.top u))
     → AreServiceWords b old u (task s u) → AreServiceWords b new u (task s u)
 other_kept b old new s t u fits declared h n tidy named stack k =
     let c = fits.few_tasks in

@@ -3,14 +3,14 @@ use Rattle.std.proofs.Common.{◌≡◌, ℕ, ◌+◌, ◌*◌, ◌<◌, ◌≤�
 use Rattle.std.specs.Prelude.{map}
 use Rattle.sloth_base.specs.Named.{function}
 use Rattle.sloth_region.specs.Layout.{context_bytes}
-use Rattle.code_rules.specs.Code.{Calls, IsCalledBy}
+use Rattle.code_rules.specs.Code.{HasCall, IsCalledBy}
 use Rattle.osek_scheduler.specs.State.{Frame}
 use Rattle.sloth_base.specs.Named.{body_of}
-use Rattle.sim_relation.specs.Build.{Build, Fits, outer_bytes, frame_bytes}
+use Rattle.sim_relation.specs.Build.{Build, HasFittingPlaces, outer_bytes, frame_bytes}
 use Rattle.sim_relation.specs.Position.{AreOuterFrames, AreFrames}
 
 -- for its first frame
-pub first_room : (b : Build) → Fits b → (t : ℕ) → t < length b.config.tasks
+pub first_room : (b : Build) → HasFittingPlaces b → (t : ℕ) → t < length b.config.tasks
     → b.low t + context_bytes + 4 * (function b.app (body_of b.app.funcs t)).frame_words ≤ b.top t
 first_room b fits t h = let r = fits.room t h (body_of b.app.funcs t) [] refl in omega arith
 
@@ -35,8 +35,8 @@ frames_top b ram frame outer place top h =
     omega arith
 
 -- a function that the innermost one calls has room for its frame, and a context below it
-pub called_room : (b : Build) → Fits b → (ram : List ℕ) (t : ℕ) → t < length b.config.tasks → (frame : Frame) (outer : List Frame) (place : ℕ)
-    → AreFrames b ram frame outer place (b.top t) → IsCalledBy b.app t frame.func (funcs_of outer) → (callee : ℕ) → Calls b.app frame.func callee
+pub called_room : (b : Build) → HasFittingPlaces b → (ram : List ℕ) (t : ℕ) → t < length b.config.tasks → (frame : Frame) (outer : List Frame) (place : ℕ)
+    → AreFrames b ram frame outer place (b.top t) → IsCalledBy b.app t frame.func (funcs_of outer) → (callee : ℕ) → HasCall b.app frame.func callee
     → b.low t + context_bytes + (4 + 4 * (function b.app callee).frame_words) ≤ place
 called_room b fits ram t h frame outer place stood called callee calls =
     let r = fits.room t h callee (frame.func ∷ funcs_of outer) (calls, called) in

@@ -7,7 +7,7 @@ use Rattle.sloth_base.specs.MemoryMap.{memory_bytes, memory_base}
 use Rattle.sloth_region.specs.Layout.{idle_context}
 use Rattle.osek_scheduler.specs.State.{System, task}
 use Rattle.code_rules.specs.Code.{is_in}
-use Rattle.sim_relation.specs.Build.{Build, Fits, IsElsewhere}
+use Rattle.sim_relation.specs.Build.{Build, HasFittingPlaces, IsElsewhere}
 use Rattle.sim_relation.specs.Position.{thread_of}
 use Rattle.sim_relation.specs.Context.{RunsFirst}
 use Rattle.sim_relation.specs.Stands.{AreFalling, IsAlive, StacksApart}
@@ -34,7 +34,7 @@ pub record Spot (b : Build) (s : System) (stack : List ℕ) (place : ℕ) : Type
   pub apart : (u : ℕ) → u < length b.config.tasks → IsAlive (task s u) → is_first stack u ≡ false → (b.top u ≤ place) ⊎ (place + 128 ≤ b.low u)
 
 -- the context has room where it is to be saved
-pub spot : (b : Build) (state : State) (s : System) (stack : List ℕ) (place : ℕ) → Fits b → StacksApart b s → AreFalling b s stack
+pub spot : (b : Build) (state : State) (s : System) (stack : List ℕ) (place : ℕ) → HasFittingPlaces b → StacksApart b s → AreFalling b s stack
     → slice_index state.core.registers 2 ≡ memory_base + (place + 128) → RunsFirst b state s stack → Spot b s stack place
 spot b state s [] place fits apart f x k =
     let y = k.x2 in

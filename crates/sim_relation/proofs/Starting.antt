@@ -11,7 +11,7 @@ use Rattle.osek_scheduler.specs.State.{Task, System, sleeping_task, no_counter, 
 use Rattle.sloth_base.specs.Named.{declaration, undeclared_task}
 use Rattle.sloth_base.specs.Limits.{ceiling_count}
 use Rattle.osek_scheduler.specs.Steps.{autostarted_tasks}
-use Rattle.sim_relation.specs.Build.{Build, Fits}
+use Rattle.sim_relation.specs.Build.{Build, HasFittingPlaces}
 use Rattle.sim_relation.specs.ClockStands.{CounterLineStands}
 use Rattle.sim_relation.specs.ServiceWords.{AreServiceWords}
 use Rattle.sim_relation.specs.Stands.{Stands, AreLineBytes, IsAlive, IsTidyTask}
@@ -68,7 +68,7 @@ words_of : (b : Build) (ram : List ℕ) (t : ℕ) (autostart : Bool) → word_at
 words_of b ram t true a e r = record { activity = a; event_mask = e; wait_mask = tt; resumption = r; held = tt }
 words_of b ram t false a e r = record { activity = a; event_mask = e; wait_mask = tt; resumption = r; held = tt }
 
-module _ (b : Build) (state : State) (fits : Fits b) (start : Starts b state) where
+module _ (b : Build) (state : State) (fits : HasFittingPlaces b) (start : Starts b state) where
   abbrev s : System
   s = started_system b
 

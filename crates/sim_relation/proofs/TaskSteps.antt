@@ -11,8 +11,8 @@ use Rattle.sloth_base.specs.Named.{declaration}
 use Rattle.code_rules.specs.Code.{is_in}
 use Rattle.osek_scheduler.specs.Priority.{is_active, highest_priority, ceiling, greatest, current_priority}
 use Rattle.sloth_base.specs.PriorityLevels.{level_of}
-use Rattle.sim_relation.specs.Build.{Build, Fits}
-use Rattle.sim_relation.specs.Context.{RunsFirst, RunsTask, Resumes}
+use Rattle.sim_relation.specs.Build.{Build, HasFittingPlaces}
+use Rattle.sim_relation.specs.Context.{RunsFirst, RunsTask, HasOwnContext}
 use Rattle.sim_relation.specs.ServiceWords.{AreServiceWords, AreHeldWords, IsWaitWord, active_word}
 use Rattle.sim_relation.specs.Stands.{Stands, IsActive, AreActive, IsTidyTask}
 use Rattle.sim_relation.specs.Moves.{moved_system, TaskMove, TaskStep}
@@ -29,16 +29,16 @@ same_current config d own new h r =
     ∙ ap (λ (x : Bool). max d.priority (max (greatest (map (ceiling config) own.held)) (cond x (highest_priority config) 0))) r
 
 -- an Active task has 0 as the word of its own context
-pub active_resumes : (b : Build) (ram : List ℕ) (t : ℕ) (own : Task) (a : Bool) (frames : List Frame) → a ≡ true → Resumes b ram t own a frames → word_at ram (resume t) ≡ 0
+pub active_resumes : (b : Build) (ram : List ℕ) (t : ℕ) (own : Task) (a : Bool) (frames : List Frame) → a ≡ true → HasOwnContext b ram t own a frames → word_at ram (resume t) ≡ 0
 active_resumes b ram t own true frames e h = h
 active_resumes b ram t own false frames e h = cc
 
 -- and 0 is right there
-pub resumes_active : (b : Build) (ram : List ℕ) (t : ℕ) (own : Task) (a : Bool) (frames : List Frame) → a ≡ true → word_at ram (resume t) ≡ 0 → Resumes b ram t own a frames
+pub resumes_active : (b : Build) (ram : List ℕ) (t : ℕ) (own : Task) (a : Bool) (frames : List Frame) → a ≡ true → word_at ram (resume t) ≡ 0 → HasOwnContext b ram t own a frames
 resumes_active b ram t own true frames e h = h
 resumes_active b ram t own false frames e h = cc
 
-module _ (b : Build) (old now : State) (s : System) (k : Stands b old s) (fits : Fits b) (t : ℕ) (below : List ℕ) (stack_is : k.stack ≡ t ∷ below)
+module _ (b : Build) (old now : State) (s : System) (k : Stands b old s) (fits : HasFittingPlaces b) (t : ℕ) (below : List ℕ) (stack_is : k.stack ≡ t ∷ below)
     (own : Task) (symbols : List (List ℕ)) (step : TaskStep b old now s t own symbols) where
   stack : AreActive b s (t ∷ below)
   stack = subst (AreActive b s) stack_is k.active

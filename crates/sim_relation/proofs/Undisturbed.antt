@@ -6,7 +6,7 @@ use Rattle.sloth_base.specs.MemoryMap.{line_count}
 use Rattle.osek_scheduler.specs.declared.state.TaskState.TheVariants as mode
 use Rattle.osek_scheduler.specs.State.{System, task}
 use Rattle.osek_scheduler.specs.Priority.{IsTop, IsDue}
-use Rattle.sim_induction.specs.Mirror.{Runs}
+use Rattle.sim_induction.specs.Mirror.{IsRunningTask}
 use Rattle.sim_relation.specs.Build.{Build}
 use Rattle.sim_relation.specs.Stands.{Stands, AreActive}
 use Rattle.sim_relation.specs.RelationKept.{IsUndisturbed}
@@ -16,7 +16,7 @@ use Rattle.sim_relation.proofs.Tops.{falling_head}
 use Rattle.std.proofs.lemmas.Bool.{false≢true}
 
 module _ (b : Build) (state : State) (s : System) (few : length b.config.tasks ≤ line_count) (k : Stands b state s) (e : choose state.core ≡ None) where
-  tops : (stack : List ℕ) → k.stack ≡ stack → (t : ℕ) → Runs b.config s t → IsTop b.config s [] t
+  tops : (stack : List ℕ) → k.stack ≡ stack → (t : ℕ) → IsRunningTask b.config s t → IsTop b.config s [] t
   tops [] is t r =
       let active : AreActive b s [] = subst (AreActive b s) is k.active in
       absurd (false≢true (active.all t r.declared r.active))

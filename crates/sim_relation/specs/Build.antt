@@ -58,7 +58,7 @@ HasRoom b t = (f : ℕ) (outer : List ℕ) → IsCalledBy b.app t f outer → b.
 
 -- The places are apart and large enough. Of two tasks' parts of the stacks nothing is said here: those of tasks that are
 -- never alive together may be the same.
-pub record Fits (b : Build) : Type 0 where
+pub record HasFittingPlaces (b : Build) : Type 0 where
   pub few_tasks : length b.config.tasks ≤ task_limit
   pub few_counters : length b.config.counters ≤ counter_limit
   pub few_alarms : length b.config.alarms ≤ alarm_limit

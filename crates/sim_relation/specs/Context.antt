@@ -80,7 +80,7 @@ pub record IsRested (b : Build) (ram : List ℕ) (t : ℕ) (own : Task) (frame :
   pub aligned : place % 4 ≡ 0
 
 -- by whether the task is Active, and its frames; any other task has no such context
-abbrev pub Resumes : Build → List ℕ → ℕ → Task → Bool → List Frame → Type 0
-Resumes b ram t own true frames = word_at ram (resume t) ≡ 0
-Resumes b ram t own false [] = word_at ram (resume t) ≡ 0
-Resumes b ram t own false (frame ∷ outer) = (place : ℕ) × IsRested b ram t own frame outer place
+abbrev pub HasOwnContext : Build → List ℕ → ℕ → Task → Bool → List Frame → Type 0
+HasOwnContext b ram t own true frames = word_at ram (resume t) ≡ 0
+HasOwnContext b ram t own false [] = word_at ram (resume t) ≡ 0
+HasOwnContext b ram t own false (frame ∷ outer) = (place : ℕ) × IsRested b ram t own frame outer place

@@ -10,7 +10,7 @@ use Rattle.sloth_base.specs.Named.{declaration}
 use Rattle.sim_relation.specs.Build.{Build, start_level}
 use Rattle.sim_relation.specs.Position.{thread_of}
 use Rattle.sim_relation.specs.Context.{IsContext}
-use Rattle.masked_code.specs.Kernel.{HoldBases}
+use Rattle.masked_code.specs.Kernel.{HasBases}
 use Rattle.sim_relation.specs.Stands.{IsAlive, AreApart}
 
 -- The RAM: the context of what was preempted, at `place`, the words of the entry, and the task's own stack as it likes; all
@@ -43,7 +43,7 @@ pub record EntryMachine (b : Build) (old now : State) (t : ℕ) : Type 0 where
   pub open_to_lines : now.core.mie ≡ true
   pub previous : now.core.mpie ≡ true
   pub same_level : now.core.plevel ≡ now.core.ilevel
-  pub bases : HoldBases now.core.registers
+  pub bases : HasBases now.core.registers
 
 -- the task's record is `own` now
 pub record TaskEntry (b : Build) (old now : State) (s : System) (t : ℕ) (own : Task) (place : ℕ) : Type 0 where

@@ -6,16 +6,16 @@ use Rattle.sloth_region.specs.Layout.{cur, below_word, active, events, wait, res
 use Rattle.rv32_instr.specs.Ram.{word_at}
 
 -- the bytes from `from` up to `to` are the same
-abbrev pub Agree : List ℕ → List ℕ → (from to : ℕ) → Type 0
-Agree old new from to = (i : ℕ) → from ≤ i → i < to → slice_index new i ≡ slice_index old i
+abbrev pub AreSameBytes : List ℕ → List ℕ → (from to : ℕ) → Type 0
+AreSameBytes old new from to = (i : ℕ) → from ≤ i → i < to → slice_index new i ≡ slice_index old i
 
 -- the pc, level and `cur` of the idle loop's context
-abbrev pub IdleKept : List ℕ → List ℕ → Type 0
-IdleKept old new = Agree old new idle_context (idle_context + 12)
+abbrev pub IsSameIdle : List ℕ → List ℕ → Type 0
+IsSameIdle old new = AreSameBytes old new idle_context (idle_context + 12)
 
 -- of the service words only those of the running task and this task's own change
-abbrev pub NamedKept : List ℕ → List ℕ → ℕ → Type 0
-NamedKept old new t = (p : ℕ) → p + 4 ≤ idle_context → p % 4 ≡ 0 → p ≢ cur → p ≢ below_word → p ≢ active t → p ≢ events t → p ≢ wait t → p ≢ resume t
+abbrev pub AreOtherWordsSame : List ℕ → List ℕ → ℕ → Type 0
+AreOtherWordsSame old new t = (p : ℕ) → p + 4 ≤ idle_context → p % 4 ≡ 0 → p ≢ cur → p ≢ below_word → p ≢ active t → p ≢ events t → p ≢ wait t → p ≢ resume t
     → word_at new p ≡ word_at old p
 
 -- What going back to the context at `place` does, beside what else the routine writes: `old` is the RAM before, `new` the RAM

@@ -16,8 +16,8 @@ use Rattle.sim_relation.specs.ServiceWords.{AreServiceWords}
 use Rattle.sim_relation.specs.ClockStands.{ClockStands}
 use Rattle.sim_relation.specs.DataStands.{DataStands}
 use Rattle.sim_relation.specs.Stands.{IsAlive, AreLineBytes, IsTidyTask}
-use Rattle.masked_code.specs.Kernel.{HoldBases}
-use Rattle.sim_relation.specs.Framing.{Agree, IdleKept, NamedKept, HasLeftFor}
+use Rattle.masked_code.specs.Kernel.{HasBases}
+use Rattle.sim_relation.specs.Framing.{AreSameBytes, IsSameIdle, AreOtherWordsSame, HasLeftFor}
 
 -- the abstract state where a task's record, the data and the tasks that arrived since the last event are these now
 abbrev pub changed_system : System → ℕ → Task → List (List ℕ) → List ℕ → System
@@ -40,7 +40,7 @@ pub record WholeMachine (old now : State) : Type 0 where
   pub open_to_lines : now.core.mie ≡ true
   pub previous : now.core.mpie ≡ true
   pub same_level : now.core.plevel ≡ now.core.ilevel
-  pub bases : HoldBases now.core.registers
+  pub bases : HasBases now.core.registers
 
 -- what a step of the running task, and a service that goes back to it, leaves: the lines stay besides
 pub record SameMachine (old now : State) : Type 0 where
@@ -54,11 +54,11 @@ pub record SameMachine (old now : State) : Type 0 where
   pub open_to_lines : now.core.mie ≡ true
   pub previous : now.core.mpie ≡ true
   pub same_level : now.core.plevel ≡ now.core.ilevel
-  pub bases : HoldBases now.core.registers
+  pub bases : HasBases now.core.registers
 
 -- the bytes of the other tasks that have something on their stacks
-abbrev pub OthersKept : Build → List ℕ → List ℕ → System → ℕ → Type 0
-OthersKept b old new s t = (u : ℕ) → u < length b.config.tasks → u ≢ t → IsAlive (task s u) → Agree old new (b.low u) (b.top u)
+abbrev pub AreOthersSame : Build → List ℕ → List ℕ → System → ℕ → Type 0
+AreOthersSame b old new s t = (u : ℕ) → u < length b.config.tasks → u ≢ t → IsAlive (task s u) → AreSameBytes old new (b.low u) (b.top u)
 
 -- The running task's record is `own` now, and it stays Active. Service words and the level may change.
 pub record TaskMove (b : Build) (old now : State) (s : System) (t : ℕ) (own : Task) (symbols : List (List ℕ)) : Type 0 where
@@ -67,9 +67,9 @@ pub record TaskMove (b : Build) (old now : State) (s : System) (t : ℕ) (own : 
   pub level : now.core.ilevel ≡ level_of b.config (current_priority b.config (declaration b.config t) own)
   pub current : word_at now.core.ram cur ≡ word_at old.core.ram cur
   pub link : word_at now.core.ram below_word ≡ word_at old.core.ram below_word
-  pub idle : IdleKept old.core.ram now.core.ram
+  pub idle : IsSameIdle old.core.ram now.core.ram
   pub code : (i : ℕ) → b.is_code i ≡ true → slice_index now.core.ram i ≡ slice_index old.core.ram i
-  pub others : OthersKept b old.core.ram now.core.ram s t
+  pub others : AreOthersSame b old.core.ram now.core.ram s t
   pub own_words : AreServiceWords b now.core.ram t own
   pub other_words : (u : ℕ) → u < length b.config.tasks → u ≢ t → AreServiceWords b now.core.ram u (task s u)
   pub clock : ClockStands b.config now.core.ram s.clock
@@ -82,9 +82,9 @@ pub record TaskMove (b : Build) (old now : State) (s : System) (t : ℕ) (own : 
 pub record TaskStep (b : Build) (old now : State) (s : System) (t : ℕ) (own : Task) (symbols : List (List ℕ)) : Type 0 where
   pub machine : SameMachine old now
   pub level : now.core.ilevel ≡ old.core.ilevel
-  pub low : Agree old.core.ram now.core.ram 0 1024
+  pub low : AreSameBytes old.core.ram now.core.ram 0 1024
   pub code : (i : ℕ) → b.is_code i ≡ true → slice_index now.core.ram i ≡ slice_index old.core.ram i
-  pub others : OthersKept b old.core.ram now.core.ram s t
+  pub others : AreOthersSame b old.core.ram now.core.ram s t
   pub active : own.state ≡ mode.Active
   pub events : own.events ≡ (task s t).events
   pub held : own.held ≡ (task s t).held
@@ -105,10 +105,10 @@ pub record TaskLeave (b : Build) (old now : State) (s : System) (t : ℕ) (own :
   pub other_pending : (line : ℕ) → line ≢ t → slice_index now.core.pending line ≡ slice_index old.core.pending line
   pub other_enabled : (line : ℕ) → line ≢ t → slice_index now.core.enabled line ≡ slice_index old.core.enabled line
   -- RAM
-  pub idle : IdleKept old.core.ram now.core.ram
+  pub idle : IsSameIdle old.core.ram now.core.ram
   pub elsewhere : (i : ℕ) → IsElsewhere b i → slice_index now.core.ram i ≡ slice_index old.core.ram i
-  pub others : OthersKept b old.core.ram now.core.ram s t
-  pub named : NamedKept old.core.ram now.core.ram t
+  pub others : AreOthersSame b old.core.ram now.core.ram s t
+  pub named : AreOtherWordsSame old.core.ram now.core.ram t
   pub own_words : AreServiceWords b now.core.ram t own
   -- the task
   pub at_rest : is_active own.state ≡ false

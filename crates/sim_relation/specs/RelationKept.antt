@@ -13,8 +13,8 @@ use Rattle.osek_scheduler.specs.State.{Task, System, task, with_task}
 use Rattle.osek_scheduler.specs.Priority.{IsTop, IsDue, NoTicks, IsNextTick}
 use Rattle.osek_scheduler.specs.Steps.{settled_state}
 use Rattle.sim_induction.specs.Admits.{with_admits}
-use Rattle.sim_induction.specs.Mirror.{Mirror, Runs}
-use Rattle.sim_relation.specs.Build.{Build, Fits}
+use Rattle.sim_induction.specs.Mirror.{Mirror, IsRunningTask}
+use Rattle.sim_relation.specs.Build.{Build, HasFittingPlaces}
 use Rattle.sim_relation.specs.Stands.{Stands}
 use Rattle.sim_relation.specs.Moves.{moved_system, TaskStep, TaskMove, TaskLeave}
 use Rattle.sim_relation.specs.Changes.{system_with_task_state, TaskChange}
@@ -46,7 +46,7 @@ TakenIsNext = (b : Build) (state : State) (s : System) → Stands b state s
 
 -- where no line is taken, the running task is the top task, and where none runs none is due; no counter is
 pub record IsUndisturbed (b : Build) (s : System) : Type 0 where
-  pub running : (t : ℕ) → Runs b.config s t → IsTop b.config s [] t
+  pub running : (t : ℕ) → IsRunningTask b.config s t → IsTop b.config s [] t
   pub idle : ((t : ℕ) → t < length b.config.tasks → ¬ ((task s t).state ≡ mode.Active)) → (t : ℕ) → t < length b.config.tasks → ¬ (IsDue s t)
   pub quiet : NoTicks b.config s
 
@@ -58,35 +58,35 @@ NoneTaken = (b : Build) (state : State) (s : System) → length b.config.tasks �
 
 -- an instruction of it, and a service that goes back to it
 abbrev pub StepsKeep : Type 0
-StepsKeep = (b : Build) (old now : State) (s : System) (t : ℕ) (own : Task) (symbols : List (List ℕ)) → Fits b → Stands b old s → Runs b.config s t
+StepsKeep = (b : Build) (old now : State) (s : System) (t : ℕ) (own : Task) (symbols : List (List ℕ)) → HasFittingPlaces b → Stands b old s → IsRunningTask b.config s t
     → TaskStep b old now s t own symbols → Stands b now (moved_system s t own symbols)
 
 -- a move of the running task keeps the relation
 abbrev pub MovesKeep : Type 0
-MovesKeep = (b : Build) (old now : State) (s : System) (t : ℕ) (own : Task) (symbols : List (List ℕ)) → Fits b → Stands b old s → Runs b.config s t
+MovesKeep = (b : Build) (old now : State) (s : System) (t : ℕ) (own : Task) (symbols : List (List ℕ)) → HasFittingPlaces b → Stands b old s → IsRunningTask b.config s t
     → TaskMove b old now s t own symbols → Stands b now (moved_system s t own symbols)
 
 -- its end, or its wait
 abbrev pub LeavesKeep : Type 0
-LeavesKeep = (b : Build) (old now : State) (s : System) (t : ℕ) (own : Task) (place : ℕ) → Fits b → Stands b old s → Runs b.config s t
+LeavesKeep = (b : Build) (old now : State) (s : System) (t : ℕ) (own : Task) (place : ℕ) → HasFittingPlaces b → Stands b old s → IsRunningTask b.config s t
     → TaskLeave b old now s t own place → Stands b now (settled_state (with_task s t own))
 
 -- a change of any task's events and state, that of the running one or of another
 abbrev pub ChangesKeep : Type 0
-ChangesKeep = (b : Build) (old now : State) (s : System) (t : ℕ) (state : TaskState) (set : ℕ) → Fits b → Stands b old s → t < length b.config.tasks
+ChangesKeep = (b : Build) (old now : State) (s : System) (t : ℕ) (state : TaskState) (set : ℕ) → HasFittingPlaces b → Stands b old s → t < length b.config.tasks
     → TaskChange b old now s t state set → Stands b now (system_with_task_state s t state set)
 
 -- the entry of the task whose line is taken
 abbrev pub EntriesKeep : Type 0
-EntriesKeep = (b : Build) (old now : State) (s : System) (t : ℕ) (own : Task) (place : ℕ) → Fits b → Stands b old s
+EntriesKeep = (b : Build) (old now : State) (s : System) (t : ℕ) (own : Task) (place : ℕ) → HasFittingPlaces b → Stands b old s
     → t < length b.config.tasks → choose old.core ≡ Some t
     → TaskEntry b old now s t own place → Stands b now (settled_state (with_task s t own))
 
 -- the context of what runs below it is where a routine looks for it
 abbrev pub BelowIsFound : Type 0
-BelowIsFound = (b : Build) (state : State) (s : System) (t : ℕ) → Fits b → Stands b state s → Runs b.config s t
+BelowIsFound = (b : Build) (state : State) (s : System) (t : ℕ) → HasFittingPlaces b → Stands b state s → IsRunningTask b.config s t
     → (place : ℕ) × IsBelow place state.core
 
 -- it stands where boot has started the system
 abbrev pub StartsStand : Type 0
-StartsStand = (b : Build) (state : State) → Fits b → Starts b state → Stands b state (started_system b)
+StartsStand = (b : Build) (state : State) → HasFittingPlaces b → Starts b state → Stands b state (started_system b)

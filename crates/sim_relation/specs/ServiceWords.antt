@@ -9,7 +9,7 @@ use Rattle.sloth_base.specs.Named.{declaration}
 use Rattle.osek_scheduler.specs.Priority.{highest_priority, ceiling, is_active}
 use Rattle.sloth_base.specs.PriorityLevels.{level_of}
 use Rattle.sim_relation.specs.Build.{Build}
-use Rattle.sim_relation.specs.Context.{Resumes}
+use Rattle.sim_relation.specs.Context.{HasOwnContext}
 
 -- the word that says whether a task is Active
 abbrev pub active_word : TaskState → ℕ
@@ -37,5 +37,5 @@ pub record AreServiceWords (b : Build) (ram : List ℕ) (t : ℕ) (own : Task) :
   pub activity : word_at ram (active t) ≡ active_word own.state
   pub event_mask : word_at ram (events t) ≡ own.events
   pub wait_mask : IsWaitWord own.state (word_at ram (wait t))
-  pub resumption : Resumes b ram t own (is_active own.state) own.frames
+  pub resumption : HasOwnContext b ram t own (is_active own.state) own.frames
   pub held : AreHeldWords b ram (base_priority b t own) own.held

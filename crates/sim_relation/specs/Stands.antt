@@ -16,7 +16,7 @@ use Rattle.sloth_base.specs.MemoryMap.{memory_bytes, line_count}
 use Rattle.sim_relation.specs.Build.{Build}
 use Rattle.sim_relation.specs.Context.{RunsFirst}
 use Rattle.sim_relation.specs.ServiceWords.{AreServiceWords}
-use Rattle.masked_code.specs.Kernel.{HoldBases}
+use Rattle.masked_code.specs.Kernel.{HasBases}
 use Rattle.sim_relation.specs.DataStands.{DataStands}
 use Rattle.sim_relation.specs.ClockStands.{CountersStand, ClockStands}
 
@@ -94,7 +94,7 @@ pub record IsFixed (b : Build) (core : Core) : Type 0 where
   pub open_to_lines : core.mie ≡ true
   pub previous : core.mpie ≡ true
   pub same_level : core.plevel ≡ core.ilevel
-  pub bases : HoldBases core.registers
+  pub bases : HasBases core.registers
   pub controller : core.controller ≡ true
   pub registers : length core.registers ≡ 32
   pub zero : slice_index core.registers 0 ≡ 0

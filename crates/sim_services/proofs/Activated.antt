@@ -10,8 +10,8 @@ use Rattle.sloth_base.specs.Machine.{State}
 use Rattle.sloth_base.specs.MemoryMap.{line_count}
 use Rattle.sloth_region.specs.Layout.{cur}
 use Rattle.rv32_instr.specs.Ram.{word_at}
-use Rattle.service_gen.specs.ActivateTask.{Activated}
-use Rattle.block_parts.specs.Looks.{LooksSuspended}
+use Rattle.service_gen.specs.ActivateTask.{ActivateTaskEffect}
+use Rattle.block_parts.specs.SuspensionTest.{IsFoundSuspended}
 use Rattle.block_parts.specs.Back.{a0}
 use Rattle.osek_scheduler.specs.declared.state.TaskState.TheVariants as mode
 use Rattle.osek_scheduler.specs.State.{Task, System, task}
@@ -19,16 +19,16 @@ use Rattle.osek_scheduler.specs.Services.{activated_state, answered_task, is_the
 use Rattle.osek_scheduler.proofs.ServiceStates.{answered_state}
 use Rattle.osek_scheduler.specs.Outcomes.{outcome}
 use Rattle.osek_scheduler.specs.Steps.{settled_state}
-use Rattle.sim_relation.specs.Build.{Build, Fits}
+use Rattle.sim_relation.specs.Build.{Build, HasFittingPlaces}
 use Rattle.sim_relation.specs.Stands.{Stands}
 use Rattle.sim_relation.proofs.Parts.{by_task}
-use Rattle.sim_services.specs.Served.{IsServed, Answers}
+use Rattle.sim_services.specs.Served.{IsServed, IsServiceAnswer}
 use Rattle.sim_services.specs.ServiceSteps.{MayGoOn}
 use Rattle.sim_services.proofs.GoesOn.{active, answers_so, behind_as_before}
 use Rattle.sim_services.proofs.Raising.{looks, is_so, readied, stayed, first_outcome, second_outcome}
 
-module _ (b : Build) (state : State) (s : System) (t : ℕ) (own : Task) (object : ℕ) (touched : List ℕ) (end : State) (fits : Fits b)
-    (may : MayGoOn b state s t own service.ActivateTask object) (effect : Activated object touched state end) where
+module _ (b : Build) (state : State) (s : System) (t : ℕ) (own : Task) (object : ℕ) (touched : List ℕ) (end : State) (fits : HasFittingPlaces b)
+    (may : MayGoOn b state s t own service.ActivateTask object) (effect : ActivateTaskEffect object touched state end) where
   abbrev is : IsServed b state s t own service.ActivateTask
   is = may.is_served
 
@@ -67,7 +67,7 @@ module _ (b : Build) (state : State) (s : System) (t : ℕ) (own : Task) (object
 
     module _ (next : System) (answer_is : outcome b.config service.ActivateTask is.opening.block.call.object is.opening.block.call.mask t s ≡ GoesOn status next)
         (stands : Stands b (state_arrive (object ∷ []) middle) (settled_state next)) where
-      answer : Answers b s t service.ActivateTask touched end
+      answer : IsServiceAnswer b s t service.ActivateTask touched end
       answer =
           answers_so b state s t own service.ActivateTask is fits touched end object object
           (subst (AllByRecursion (Contains (object ∷ object ∷ []))) (sym effect.touches) ((0, (omega arith), refl), tt))
@@ -82,16 +82,16 @@ module _ (b : Build) (state : State) (s : System) (t : ℕ) (own : Task) (object
   outcome_at : (mask : ℕ) → outcome b.config service.ActivateTask call mask t s ≡ outcome b.config service.ActivateTask object mask t s
   outcome_at mask = ap (λ o. outcome b.config service.ActivateTask o mask t s) may.object_is
 
-  pub activates : Answers b s t service.ActivateTask touched end
+  pub activates : IsServiceAnswer b s t service.ActivateTask touched end
   activates =
       ⊎_elim
-      (λ (h : LooksSuspended object state.core × (slice_index end.core.registers a0 ≡ E_OK)).
+      (λ (h : IsFoundSuspended object state.core × (slice_index end.core.registers a0 ≡ E_OK)).
       let asleep = is_so b state s k object declared h.0 in
       answer E_OK h.1 (activated_state (answered_state E_OK t s) object)
       (outcome_at is.opening.block.call.mask
       ∙ first_outcome (task s object).state (GoesOn E_OK (activated_state (answered_state E_OK t s) object)) (GoesOn E_OS_LIMIT (answered_state E_OS_LIMIT t s)) asleep)
       (readied b middle (after E_OK h.1) (before E_OK h.1) object declared few (same_state E_OK h.1 ∙ asleep)))
-      (λ (h : (LooksSuspended object state.core → ⊥) × (slice_index end.core.registers a0 ≡ E_OS_LIMIT)).
+      (λ (h : (IsFoundSuspended object state.core → ⊥) × (slice_index end.core.registers a0 ≡ E_OS_LIMIT)).
       let awake : (task s object).state ≡ mode.Suspended → ⊥ = λ e. h.0 (looks b state s k object declared e) in
       answer E_OS_LIMIT h.1 (answered_state E_OS_LIMIT t s)
       (outcome_at is.opening.block.call.mask

@@ -10,24 +10,24 @@ use Rattle.sloth_base.specs.Machine.{State}
 use Rattle.sloth_base.specs.MemoryMap.{line_count}
 use Rattle.sloth_region.specs.Layout.{cur}
 use Rattle.rv32_instr.specs.Ram.{word_at}
-use Rattle.block_parts.specs.Looks.{LooksSuspended}
-use Rattle.service_gen.specs.ChainTask.{HasChained, HasNotChained, Chained}
+use Rattle.block_parts.specs.SuspensionTest.{IsFoundSuspended}
+use Rattle.service_gen.specs.ChainTask.{HasChained, HasNotChained, ChainTaskEffect}
 use Rattle.osek_scheduler.specs.declared.state.TaskState.TheVariants as mode
 use Rattle.osek_scheduler.specs.State.{Task, System, task, zero_registers}
-use Rattle.osek_scheduler.specs.Services.{if_suspended, activated_state, is_there, Outcome, GoesOn, Leaves}
+use Rattle.osek_scheduler.specs.Services.{if_suspended, activated_state, is_there, ServiceOutcome, GoesOn, Leaves}
 use Rattle.osek_scheduler.proofs.ServiceStates.{answered_state, ended_state}
 use Rattle.osek_scheduler.specs.Outcomes.{outcome}
 use Rattle.osek_scheduler.specs.Steps.{settled_state}
-use Rattle.sim_relation.specs.Build.{Build, Fits}
+use Rattle.sim_relation.specs.Build.{Build, HasFittingPlaces}
 use Rattle.sim_relation.specs.Stands.{Stands}
 use Rattle.sim_relation.proofs.Parts.{other_task}
-use Rattle.sim_services.specs.Served.{IsServed, Answers}
+use Rattle.sim_services.specs.Served.{IsServed, IsServiceAnswer}
 use Rattle.sim_services.specs.ServiceSteps.{MayEnd, MayChainTo}
 use Rattle.sim_services.proofs.Ending.{ended_stands, ended_own, elsewhere}
 use Rattle.sim_services.proofs.GoesOn.{active, answers_status, leaves_so}
 use Rattle.sim_services.proofs.Raising.{looks, is_so, readied, first_outcome, second_outcome}
 
-module _ (b : Build) (state : State) (s : System) (t : ℕ) (own : Task) (object place : ℕ) (touched : List ℕ) (end : State) (fits : Fits b)
+module _ (b : Build) (state : State) (s : System) (t : ℕ) (own : Task) (object place : ℕ) (touched : List ℕ) (end : State) (fits : HasFittingPlaces b)
     (may : MayChainTo b state s t own object place) where
   abbrev is : IsServed b state s t own service.ChainTask
   is = may.goes_on.is_served
@@ -46,10 +46,10 @@ module _ (b : Build) (state : State) (s : System) (t : ℕ) (own : Task) (object
 
   -- ---- what the abstract scheduler answers
 
-  abbrev other_first : Outcome
+  abbrev other_first : ServiceOutcome
   other_first = Leaves (activated_state (ended_state t s) object)
 
-  abbrev other_second : Outcome
+  abbrev other_second : ServiceOutcome
   other_second = GoesOn E_OS_LIMIT (answered_state E_OS_LIMIT t s)
 
   outcome_is : outcome b.config service.ChainTask is.opening.block.call.object is.opening.block.call.mask t s
@@ -91,19 +91,19 @@ module _ (b : Build) (state : State) (s : System) (t : ℕ) (own : Task) (object
     module _ (u : ℕ) (in_range : u < length b.config.tasks) (asleep : (task after u).state ≡ mode.Suspended) (raised : end ≡ state_arrive (u ∷ []) middle)
         (touches : AllByRecursion (Contains (u ∷ t ∷ [])) touched)
         (answer_is : outcome b.config service.ChainTask is.opening.block.call.object is.opening.block.call.mask t s ≡ Leaves (activated_state (ended_state t s) u)) where
-      ends_so : Answers b s t service.ChainTask touched end
+      ends_so : IsServiceAnswer b s t service.ChainTask touched end
       ends_so =
           leaves_so b state s t own service.ChainTask is fits touched end u t touches names (activated_state (ended_state t s) u) answer_is
           (subst (λ x. Stands b x (settled_state (activated_state (ended_state t s) u))) (sym raised) (readied b middle after over u in_range few asleep)) gone
 
     -- the caller ends, and the chained task is activated
-    pub chains : Answers b s t service.ChainTask touched end
+    pub chains : IsServiceAnswer b s t service.ChainTask touched end
     chains =
         ⊎_elim
         (λ (m : (object ≡ t) × (touched ≡ t ∷ [])).
         ends_so t (active b state s t own service.ChainTask is fits).declared own_asleep (h.raised ∙ ap (λ u. state_arrive (u ∷ []) middle) m.0)
         (subst (AllByRecursion (Contains (t ∷ t ∷ []))) (sym m.1) ((0, (omega arith), refl), tt)) (of_itself m.0))
-        (λ (m : (object ≢ t) × LooksSuspended object state.core × (touched ≡ object ∷ t ∷ [])).
+        (λ (m : (object ≢ t) × IsFoundSuspended object state.core × (touched ≡ object ∷ t ∷ [])).
         let new : Task = record (task s t) { state = mode.Suspended; registers = zero_registers; frames = []; events = 0; raised = false } in
         let asleep = is_so b state s k object declared m.1 in
         ends_so object declared (ap (λ (x : Task). x.state) (other_task s t object new m.0) ∙ asleep) h.raised
@@ -114,7 +114,7 @@ module _ (b : Build) (state : State) (s : System) (t : ℕ) (own : Task) (object
   -- ---- the caller goes on
 
   -- the chained task is not Suspended: the status alone
-  pub refuses : HasNotChained object t touched state end → Answers b s t service.ChainTask touched end
+  pub refuses : HasNotChained object t touched state end → IsServiceAnswer b s t service.ChainTask touched end
   refuses h =
       answers_status b state s t own service.ChainTask is fits touched end object object
       (subst (AllByRecursion (Contains (object ∷ object ∷ []))) (sym h.touches) ((0, (omega arith), refl), tt))
@@ -122,8 +122,8 @@ module _ (b : Build) (state : State) (s : System) (t : ℕ) (own : Task) (object
       (of_other h.other ∙ second_outcome (task s object).state other_first other_second (λ e. h.not_suspended (looks b state s k object declared e)))
 
 -- whichever of the two it is
-pub chain_answers : (b : Build) (state : State) (s : System) (t : ℕ) (own : Task) (object place : ℕ) (touched : List ℕ) (end : State) → Fits b
-    → MayChainTo b state s t own object place → Chained object t place touched state end → Answers b s t service.ChainTask touched end
+pub chain_answers : (b : Build) (state : State) (s : System) (t : ℕ) (own : Task) (object place : ℕ) (touched : List ℕ) (end : State) → HasFittingPlaces b
+    → MayChainTo b state s t own object place → ChainTaskEffect object t place touched state end → IsServiceAnswer b s t service.ChainTask touched end
 chain_answers b state s t own object place touched end fits may effect =
     ⊎_elim
     (λ (h : HasChained object t place touched state end). chains b state s t own object place touched end fits may h)

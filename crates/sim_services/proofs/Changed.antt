@@ -7,7 +7,7 @@ use Rattle.sloth_base.specs.Limits.{task_limit}
 use Rattle.sloth_region.specs.Layout.{cur, events, wait}
 use Rattle.rv32_instr.specs.Ram.{word_at, with_word}
 use Rattle.masked_code.proofs.Words.{word_at-same, get_or-with_word, length-with_word}
-use Rattle.block_parts.specs.Back.{WentBack, a0}
+use Rattle.block_parts.specs.Back.{BackEffect, a0}
 use Rattle.osek_scheduler.specs.declared.state.TaskState.{TaskState}
 use Rattle.osek_scheduler.specs.declared.state.TaskState.TheVariants as mode
 use Rattle.osek_scheduler.specs.State.{Task, System, task}
@@ -15,7 +15,7 @@ use Rattle.osek_scheduler.specs.Priority.{is_active}
 use Rattle.osek_scheduler.specs.Services.{answered_task}
 use Rattle.osek_scheduler.proofs.ServiceStates.{answered_state}
 use Rattle.osek_scheduler.specs.Steps.{settled_state}
-use Rattle.sim_relation.specs.Build.{Build, Fits}
+use Rattle.sim_relation.specs.Build.{Build, HasFittingPlaces}
 use Rattle.sim_relation.specs.Changes.{system_with_task_state, TaskChange}
 use Rattle.sim_relation.specs.ServiceWords.{IsWaitWord}
 use Rattle.sim_relation.specs.Stands.{Stands, AreLineBytes}
@@ -41,9 +41,9 @@ pub record Changes (b : Build) (state : State) (s : System) (u : ℕ) (m : TaskS
   pub other_pending : (line : ℕ) → line ≢ u → slice_index pending line ≡ slice_index state.core.pending line
   pub other_enabled : (line : ℕ) → line ≢ u → slice_index enabled line ≡ slice_index state.core.enabled line
 
-module _ (b : Build) (state : State) (s : System) (t : ℕ) (called : Task) (served : Service) (is : IsServed b state s t called served) (fits : Fits b)
+module _ (b : Build) (state : State) (s : System) (t : ℕ) (called : Task) (served : Service) (is : IsServed b state s t called served) (fits : HasFittingPlaces b)
     (followed : IsFollowed b is.opening.frame.func is.opening.frame.item) (end : State) (u word : ℕ) (pending enabled : List ℕ)
-    (back : WentBack a0 (record state.core { ram = with_word state.core.ram (events u) word; pending = pending; enabled = enabled }) state end)
+    (back : BackEffect a0 (record state.core { ram = with_word state.core.ram (events u) word; pending = pending; enabled = enabled }) state end)
     (status : ℕ) (status_is : slice_index end.core.registers a0 ≡ status) where
   -- the end, before the task changes
   abbrev middle : State

@@ -11,22 +11,22 @@ use Rattle.sloth_region.specs.Layout.{events}
 use Rattle.rv32_instr.specs.Ram.{word_at}
 use Rattle.expansion_parts.specs.Expansion.{mask_of}
 use Rattle.masked_code.proofs.Words.{word_below}
-use Rattle.event_gen.specs.ClearEvent.{EventsCleared, mask_register}
+use Rattle.event_gen.specs.ClearEvent.{ClearEventEffect, mask_register}
 use Rattle.osek_scheduler.specs.State.{Task, System, task, with_task}
 use Rattle.osek_scheduler.specs.Services.{answered_task, is_there}
 use Rattle.osek_scheduler.proofs.ServiceStates.{answered_state}
 use Rattle.osek_scheduler.specs.Steps.{settled_state}
-use Rattle.sim_relation.specs.Build.{Build, Fits}
+use Rattle.sim_relation.specs.Build.{Build, HasFittingPlaces}
 use Rattle.sim_relation.specs.Changes.{system_with_task_state}
 use Rattle.sim_relation.specs.Stands.{Stands, IsActive}
 use Rattle.sim_relation.proofs.Parts.{this_task}
 use Rattle.sim_services.specs.ServiceSteps.{MayGoOn}
-use Rattle.sim_services.specs.Served.{IsServed, Answers}
+use Rattle.sim_services.specs.Served.{IsServed, IsServiceAnswer}
 use Rattle.sim_services.proofs.GoesOn.{active, answers_so}
 use Rattle.sim_services.proofs.Changed.{Changes, among, current, stands_changed}
 
-module _ (b : Build) (state : State) (s : System) (t : ℕ) (own : Task) (object : ℕ) (touched : List ℕ) (end : State) (fits : Fits b)
-    (may : MayGoOn b state s t own service.ClearEvent object) (effect : EventsCleared t touched state end) where
+module _ (b : Build) (state : State) (s : System) (t : ℕ) (own : Task) (object : ℕ) (touched : List ℕ) (end : State) (fits : HasFittingPlaces b)
+    (may : MayGoOn b state s t own service.ClearEvent object) (effect : ClearEventEffect t touched state end) where
   abbrev is : IsServed b state s t own service.ClearEvent
   is = may.is_served
 
@@ -93,7 +93,7 @@ module _ (b : Build) (state : State) (s : System) (t : ℕ) (own : Task) (object
       ap (λ (x : Task). settled_state (with_task (answered_state E_OK t s) t (record x { state = (task s t).state; events = now }))) this
       ∙ ap (λ l. settled_state (record s { tasks = l })) (set-set s.tasks t (answered_task E_OK (task s t)) (record (answered_task E_OK (task s t)) { events = now }))
 
-  pub clears : Answers b s t service.ClearEvent touched end
+  pub clears : IsServiceAnswer b s t service.ClearEvent touched end
   clears =
       answers_so b state s t own service.ClearEvent is fits touched end t t
       (subst (AllByRecursion (Contains (t ∷ t ∷ []))) (sym effect.touches) tt)

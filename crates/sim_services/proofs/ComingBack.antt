@@ -3,11 +3,11 @@ use Rattle.std.proofs.Common.{◌≡◌, ℕ, ◌+◌, ◌<◌, List, refl, sym,
 use Rattle.std.specs.Prelude.{slice_index}
 use Rattle.sloth_base.specs.Machine.{State}
 use Rattle.sloth_base.specs.PriorityLevels.{level_of}
-use Rattle.service_gen.specs.Schedule.{CameBack, start_register}
+use Rattle.service_gen.specs.Schedule.{WayBackEffect, start_register}
 use Rattle.osek_scheduler.specs.State.{Task, System, task, with_task}
 use Rattle.sloth_base.specs.Named.{declaration}
 use Rattle.osek_scheduler.specs.Steps.{settled_state}
-use Rattle.sim_relation.specs.Build.{Build, Fits}
+use Rattle.sim_relation.specs.Build.{Build, HasFittingPlaces}
 use Rattle.sim_relation.specs.Context.{RunsTask, RunsFirst}
 use Rattle.sim_relation.specs.Moves.{moved_system}
 use Rattle.sim_relation.specs.Position.{AreFrames, IsPosition, IsOwing, Thread, thread_of}
@@ -17,7 +17,7 @@ use Rattle.sim_relation.proofs.AtItem.{position_first}
 use Rattle.sim_relation.proofs.Framing.{position_elim}
 use Rattle.sim_relation.proofs.Fresh.{start_priority}
 use Rattle.sim_relation.proofs.Placed.{first_by_word, active_by_word}
-use Rattle.sim_services.specs.ServiceSteps.{MayReturn, Returns}
+use Rattle.sim_services.specs.ServiceSteps.{MayReturn, IsWayBackAnswer}
 use Rattle.sim_services.proofs.OtherLevel.{at_other_level}
 
 clash : {X : Type 0} → true ≡ false → X
@@ -30,8 +30,8 @@ owing_of b ram t own th place owes p =
     position_elim b ram t own p.frame p.outer th place (IsOwing b ram t own p.frame p.outer th place)
     (λ h. clash (sym owes ∙ h.free)) (λ h. h) (λ h. clash (sym owes ∙ h.free)) (λ h. clash (sym owes ∙ h.free)) p.here
 
-module _ (b : Build) (state : State) (s : System) (t : ℕ) (touched : List ℕ) (end : State) (fits : Fits b) (may : MayReturn b state s t)
-    (effect : CameBack touched state end) where
+module _ (b : Build) (state : State) (s : System) (t : ℕ) (touched : List ℕ) (end : State) (fits : HasFittingPlaces b) (may : MayReturn b state s t)
+    (effect : WayBackEffect touched state end) where
   abbrev k : Stands b state s
   k = may.stands
 
@@ -88,7 +88,7 @@ module _ (b : Build) (state : State) (s : System) (t : ℕ) (touched : List ℕ)
         position = position;
       })
 
-  pub comes_back : Returns b s t end
+  pub comes_back : IsWayBackAnswer b s t end
   comes_back = record {
     after = settled_state (with_task s t own_now);
     step_is = (k.tidy.booted, may.top, here.active, may.owes, refl);

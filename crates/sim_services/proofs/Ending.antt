@@ -8,14 +8,14 @@ use Rattle.sloth_base.specs.Limits.{task_limit}
 use Rattle.sloth_region.specs.Layout.{cur, resume}
 use Rattle.rv32_instr.specs.Ram.{word_at}
 use Rattle.masked_code.proofs.Words.{word_below}
-use Rattle.service_gen.specs.TerminateTask.{Terminated}
+use Rattle.service_gen.specs.TerminateTask.{TerminateTaskEffect}
 use Rattle.osek_scheduler.specs.declared.state.TaskState.TheVariants as mode
 use Rattle.osek_scheduler.specs.State.{Task, System, task, zero_registers}
 use Rattle.osek_scheduler.specs.Priority.{is_active}
 use Rattle.osek_scheduler.proofs.ServiceStates.{ended_state}
 use Rattle.osek_scheduler.specs.Steps.{settled_state}
 use Rattle.sim_induction.proofs.Passing.{not_suspended}
-use Rattle.sim_relation.specs.Build.{Build, Fits}
+use Rattle.sim_relation.specs.Build.{Build, HasFittingPlaces}
 use Rattle.sim_relation.specs.ServiceWords.{AreServiceWords, AreHeldWords, base_priority}
 use Rattle.sim_relation.specs.Stands.{Stands, IsActive, AreActive, AreLineBytes}
 use Rattle.sim_relation.specs.Moves.{TaskLeave}
@@ -30,7 +30,7 @@ use Rattle.sim_services.specs.ServiceSteps.{MayEnd}
 use Rattle.sim_services.proofs.EndRam.{EndRam, end_ram}
 
 module _ (b : Build) (state : State) (s : System) (t : ℕ) (called : Task) (served : Service) (place : ℕ) (touched : List ℕ) (end : State)
-    (fits : Fits b) (may : MayEnd b state s t called served place) (eff : Terminated t place touched state end) where
+    (fits : HasFittingPlaces b) (may : MayEnd b state s t called served place) (eff : TerminateTaskEffect t place touched state end) where
   abbrev k : Stands b state s
   k = may.is_served.stands
 

@@ -6,20 +6,20 @@ use Rattle.std.proofs.lemmas.Bool.{ltb-true}
 use Rattle.sloth_base.specs.Machine.{State}
 use Rattle.sloth_base.specs.Status.{E_OK, E_OS_STATE}
 use Rattle.sloth_base.specs.declared.service.Service.TheVariants as service
-use Rattle.event_gen.specs.GetEvent.{HasNotTold, HasTold, EventsTold}
+use Rattle.event_gen.specs.GetEvent.{HasNotTold, HasTold, GetEventEffect}
 use Rattle.osek_scheduler.specs.State.{Task, System, task}
 use Rattle.osek_scheduler.specs.Services.{is_there, GoesOn}
 use Rattle.osek_scheduler.proofs.ServiceStates.{answered_state, answered_state_with}
 use Rattle.osek_scheduler.specs.Outcomes.{outcome}
-use Rattle.sim_relation.specs.Build.{Build, Fits}
+use Rattle.sim_relation.specs.Build.{Build, HasFittingPlaces}
 use Rattle.sim_relation.specs.Stands.{Stands}
 use Rattle.sim_services.specs.ServiceSteps.{MayGoOn}
-use Rattle.sim_services.specs.Served.{IsServed, Answers}
+use Rattle.sim_services.specs.Served.{IsServed, IsServiceAnswer}
 use Rattle.sim_services.proofs.Raising.{looks, is_so, first_outcome, second_outcome}
 use Rattle.sim_services.proofs.GoesOn.{answers_status, answers_number}
 
-module _ (b : Build) (state : State) (s : System) (t : ℕ) (own : Task) (object : ℕ) (touched : List ℕ) (end : State) (fits : Fits b)
-    (may : MayGoOn b state s t own service.GetEvent object) (effect : EventsTold object touched state end) where
+module _ (b : Build) (state : State) (s : System) (t : ℕ) (own : Task) (object : ℕ) (touched : List ℕ) (end : State) (fits : HasFittingPlaces b)
+    (may : MayGoOn b state s t own service.GetEvent object) (effect : GetEventEffect object touched state end) where
   abbrev is : IsServed b state s t own service.GetEvent
   is = may.is_served
 
@@ -47,18 +47,18 @@ module _ (b : Build) (state : State) (s : System) (t : ℕ) (own : Task) (object
   outcome_at : outcome b.config service.GetEvent is.opening.block.call.object is.opening.block.call.mask t s ≡ outcome b.config service.GetEvent object is.opening.block.call.mask t s
   outcome_at = ap (λ o. outcome b.config service.GetEvent o is.opening.block.call.mask t s) may.object_is
 
-  not_told : HasNotTold object state end → Answers b s t service.GetEvent touched end
+  not_told : HasNotTold object state end → IsServiceAnswer b s t service.GetEvent touched end
   not_told h =
       let asleep = is_so b state s k object declared h.suspended in
       answers_status b state s t own service.GetEvent is fits touched end object object touches names may.followed h.back E_OS_STATE h.status
       (outcome_at ∙ first_outcome (task s object).state (GoesOn E_OS_STATE refused) (GoesOn E_OK told) asleep)
 
-  has_told : HasTold object state end → Answers b s t service.GetEvent touched end
+  has_told : HasTold object state end → IsServiceAnswer b s t service.GetEvent touched end
   has_told h =
       let answer_is = h.answer ∙ (k.words object declared).event_mask in
       answers_number b state s t own service.GetEvent is fits touched end object object touches names may.followed h.back h.status value answer_is
       (outcome_at
       ∙ second_outcome (task s object).state (GoesOn E_OS_STATE refused) (GoesOn E_OK told) (λ e. h.not_suspended (looks b state s k object declared e)))
 
-  pub tells_events : Answers b s t service.GetEvent touched end
+  pub tells_events : IsServiceAnswer b s t service.GetEvent touched end
   tells_events = ⊎_elim not_told has_told effect.told

@@ -11,13 +11,13 @@ use Rattle.sloth_base.specs.Machine.{State}
 use Rattle.sloth_base.specs.PriorityLevels.{level_of}
 use Rattle.sloth_region.specs.Layout.{cur}
 use Rattle.rv32_instr.specs.Ram.{word_at}
-use Rattle.service_gen.specs.Schedule.{Yielded}
+use Rattle.service_gen.specs.Schedule.{ScheduleEffect}
 use Rattle.osek_scheduler.specs.State.{Task, System, task, with_task}
 use Rattle.sloth_base.specs.Named.{declaration}
 use Rattle.osek_scheduler.specs.Meaning.{going_on_frame}
 use Rattle.osek_scheduler.specs.Priority.{current_priority, greatest, ceiling, highest_priority}
 use Rattle.osek_scheduler.specs.Services.{answered_task, is_there, moved_frames}
-use Rattle.sim_relation.specs.Build.{Build, Fits}
+use Rattle.sim_relation.specs.Build.{Build, HasFittingPlaces}
 use Rattle.sim_relation.specs.Context.{RunsTask}
 use Rattle.sim_relation.specs.Moves.{moved_system}
 use Rattle.sim_relation.specs.Position.{AreFrames, IsPosition, thread_of}
@@ -25,7 +25,7 @@ use Rattle.sim_relation.specs.ServiceWords.{AreHeldWords, base_priority}
 use Rattle.sim_relation.specs.Stands.{Stands, IsActive}
 use Rattle.sim_relation.proofs.Fresh.{start_priority}
 use Rattle.sim_services.specs.Opening.{AtOpening}
-use Rattle.sim_services.specs.Served.{IsServed, Answers}
+use Rattle.sim_services.specs.Served.{IsServed, IsServiceAnswer}
 use Rattle.sim_services.specs.ServiceSteps.{MayGoOn, MayGiveWay}
 use Rattle.sim_services.proofs.GoesOn.{active, frames_are, stood, long_registers, held_registers, answers_so}
 use Rattle.sim_services.proofs.OtherLevel.{at_other_level}
@@ -37,8 +37,8 @@ plain_priority b d own h r =
     ∙ ap (λ x. max d.priority (max 0 (cond x (highest_priority b.config) 0))) r
     ∙ (let e : max d.priority (max 0 0) ≡ d.priority = omega arith in e)
 
-module _ (b : Build) (state : State) (s : System) (t : ℕ) (called : Task) (object offset : ℕ) (touched : List ℕ) (end : State) (fits : Fits b)
-    (may : MayGoOn b state s t called service.Schedule object) (way : MayGiveWay b t called offset) (effect : Yielded offset t touched state end) where
+module _ (b : Build) (state : State) (s : System) (t : ℕ) (called : Task) (object offset : ℕ) (touched : List ℕ) (end : State) (fits : HasFittingPlaces b)
+    (may : MayGoOn b state s t called service.Schedule object) (way : MayGiveWay b t called offset) (effect : ScheduleEffect offset t touched state end) where
   abbrev is : IsServed b state s t called service.Schedule
   is = may.is_served
 
@@ -123,7 +123,7 @@ module _ (b : Build) (state : State) (s : System) (t : ℕ) (called : Task) (obj
         position = position;
       })
 
-  pub gives_way : Answers b s t service.Schedule touched end
+  pub gives_way : IsServiceAnswer b s t service.Schedule touched end
   gives_way =
       answers_so b state s t called service.Schedule is fits touched end t t
       (subst (AllByRecursion (Contains (t ∷ t ∷ []))) (sym effect.touches) tt)

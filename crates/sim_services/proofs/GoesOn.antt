@@ -10,16 +10,16 @@ use Rattle.sloth_base.specs.Named.{operation}
 use Rattle.sloth_base.specs.Status.{E_OK}
 use Rattle.sloth_region.specs.Layout.{cur}
 use Rattle.rv32_instr.specs.Ram.{word_at}
-use Rattle.masked_code.specs.Kernel.{LeftAs}
-use Rattle.block_parts.specs.Back.{WentBack, a0, a1}
+use Rattle.masked_code.specs.Kernel.{IsOpenedCore}
+use Rattle.block_parts.specs.Back.{BackEffect, a0, a1}
 use Rattle.osek_scheduler.specs.State.{Frame, Task, System, task}
 use Rattle.osek_scheduler.specs.Meaning.{going_on_frame}
-use Rattle.osek_scheduler.specs.Services.{moved_frames, is_there, Outcome, GoesOn, Leaves}
+use Rattle.osek_scheduler.specs.Services.{moved_frames, is_there, ServiceOutcome, GoesOn, Leaves}
 use Rattle.osek_scheduler.proofs.ServiceStates.{answered_state, answered_state_with}
 use Rattle.osek_scheduler.specs.Outcomes.{outcome}
-use Rattle.osek_scheduler.specs.Steps.{OsekStep, ServesCall, settled_state}
+use Rattle.osek_scheduler.specs.Steps.{OsekStep, IsServiceStep, settled_state}
 use Rattle.sim_induction.proofs.Stretched.{shows_call, shows_left}
-use Rattle.sim_relation.specs.Build.{Build, Fits}
+use Rattle.sim_relation.specs.Build.{Build, HasFittingPlaces}
 use Rattle.sim_relation.specs.Context.{RunsTask, RunsFirst}
 use Rattle.sim_relation.specs.DataStands.{DataStands}
 use Rattle.sim_relation.specs.Moves.{moved_system, TaskStep}
@@ -31,10 +31,10 @@ use Rattle.sim_relation.proofs.Machines.{left_same}
 use Rattle.sim_relation.proofs.Placed.{first_by_word, active_by_word}
 use Rattle.sim_relation.proofs.TaskSteps.{task_steps}
 use Rattle.sim_services.specs.Opening.{AtOpening, IsFollowed}
-use Rattle.sim_services.specs.Served.{IsServed, Answers}
+use Rattle.sim_services.specs.Served.{IsServed, IsServiceAnswer}
 use Rattle.sim_services.proofs.Answered.{long_status, status_held, long_both, both_held}
 
-module _ (b : Build) (state : State) (s : System) (t : ℕ) (called : Task) (served : Service) (is : IsServed b state s t called served) (fits : Fits b) where
+module _ (b : Build) (state : State) (s : System) (t : ℕ) (called : Task) (served : Service) (is : IsServed b state s t called served) (fits : HasFittingPlaces b) where
   abbrev k : Stands b state s
   k = is.stands
 
@@ -82,7 +82,7 @@ module _ (b : Build) (state : State) (s : System) (t : ℕ) (called : Task) (ser
       let run : RunsTask b state s t f.0 = subst (RunsFirst b state s) f.1 k.running in
       run.context.registers
 
-  module _ (followed : IsFollowed b frame.func frame.item) (end : State) (left : LeftAs state.core end.core) (pc : end.pc ≡ slice_index state.core.registers 31)
+  module _ (followed : IsFollowed b frame.func frame.item) (end : State) (left : IsOpenedCore state.core end.core) (pc : end.pc ≡ slice_index state.core.registers 31)
       (x2 : slice_index end.core.registers 2 ≡ slice_index state.core.registers 2) (registers : List ℕ) (long : length registers ≡ 25)
       (held : (i : ℕ) → i < 25 → slice_index registers i ≡ slice_index end.core.registers (i + 5)) where
     abbrev own_now : Task
@@ -135,7 +135,7 @@ module _ (b : Build) (state : State) (s : System) (t : ℕ) (called : Task) (ser
     behind = let f = first_by_word b state s t k.stack k.running opening.current in stands_behind f.0 f.1
 
   -- the relation stands behind a status
-  pub behind_status : IsFollowed b frame.func frame.item → (end : State) → WentBack a0 state.core state end → (status : ℕ)
+  pub behind_status : IsFollowed b frame.func frame.item → (end : State) → BackEffect a0 state.core state end → (status : ℕ)
       → slice_index end.core.registers a0 ≡ status → Stands b end (settled_state (answered_state status t s))
   behind_status followed end back status status_is =
       behind followed end back.left back.pc back.x2 (set own.registers 5 status)
@@ -144,12 +144,12 @@ module _ (b : Build) (state : State) (s : System) (t : ℕ) (called : Task) (ser
 
   -- so it does with RAM and the lines as they were, whatever the service leaves of them
   pub behind_as_before : IsFollowed b frame.func frame.item → (end : State) (ram pending enabled old_ram old_pending old_enabled : List ℕ)
-      → WentBack a0 (record state.core { ram = ram; pending = pending; enabled = enabled }) state end
+      → BackEffect a0 (record state.core { ram = ram; pending = pending; enabled = enabled }) state end
       → old_ram ≡ state.core.ram → old_pending ≡ state.core.pending → old_enabled ≡ state.core.enabled → (status : ℕ) → slice_index end.core.registers a0 ≡ status
       → Stands b (record { pc = end.pc; core = record end.core { ram = old_ram; pending = old_pending; enabled = old_enabled } }) (settled_state (answered_state status t s))
   behind_as_before followed end ram pending enabled old_ram old_pending old_enabled back same_ram same_pending same_enabled status status_is =
       let l = back.left in
-      let left : LeftAs state.core (record end.core { ram = old_ram; pending = old_pending; enabled = old_enabled }) =
+      let left : IsOpenedCore state.core (record end.core { ram = old_ram; pending = old_pending; enabled = old_enabled }) =
       record {
         zero = l.zero;
         registers = l.registers;
@@ -171,7 +171,7 @@ module _ (b : Build) (state : State) (s : System) (t : ℕ) (called : Task) (ser
   module _ (touched : List ℕ) (end : State) (one other : ℕ) (touches : AllByRecursion (Contains (one ∷ other ∷ [])) touched)
       (names : is_there b.config called.held served opening.block.call.object ≡ true) where
     -- the call has this outcome
-    serves : (answer : Outcome) → outcome b.config served opening.block.call.object opening.block.call.mask t s ≡ answer → ServesCall b.config b.app t served s answer
+    serves : (answer : ServiceOutcome) → outcome b.config served opening.block.call.object opening.block.call.mask t s ≡ answer → IsServiceStep b.config b.app t served s answer
     serves answer answer_is = record {
       top = is.top;
       call = opening.block.call;
@@ -192,7 +192,7 @@ module _ (b : Build) (state : State) (s : System) (t : ℕ) (called : Task) (ser
     -- the service answers this status
     pub answers_so : (status : ℕ) → slice_index end.core.registers a0 ≡ status → (after : System)
         → outcome b.config served opening.block.call.object opening.block.call.mask t s ≡ GoesOn status after → Stands b end (settled_state after)
-        → word_at end.core.ram cur ≡ word_at state.core.ram cur → Answers b s t served touched end
+        → word_at end.core.ram cur ≡ word_at state.core.ram cur → IsServiceAnswer b s t served touched end
     answers_so status status_is after answer_is stands current = record {
       one = one;
       other = other;
@@ -205,15 +205,15 @@ module _ (b : Build) (state : State) (s : System) (t : ℕ) (called : Task) (ser
     }
 
     -- it answers this status and does nothing else
-    pub answers_status : IsFollowed b frame.func frame.item → WentBack a0 state.core state end → (status : ℕ) → slice_index end.core.registers a0 ≡ status
-        → outcome b.config served opening.block.call.object opening.block.call.mask t s ≡ GoesOn status (answered_state status t s) → Answers b s t served touched end
+    pub answers_status : IsFollowed b frame.func frame.item → BackEffect a0 state.core state end → (status : ℕ) → slice_index end.core.registers a0 ≡ status
+        → outcome b.config served opening.block.call.object opening.block.call.mask t s ≡ GoesOn status (answered_state status t s) → IsServiceAnswer b s t served touched end
     answers_status followed back status status_is answer_is =
         answers_so status status_is (answered_state status t s) answer_is (behind_status followed end back status status_is) (ap (λ r. word_at r cur) back.left.ram)
 
     -- it answers a number besides
-    pub answers_number : IsFollowed b frame.func frame.item → WentBack a1 state.core state end → slice_index end.core.registers a0 ≡ E_OK
+    pub answers_number : IsFollowed b frame.func frame.item → BackEffect a1 state.core state end → slice_index end.core.registers a0 ≡ E_OK
         → (number : ℕ) → slice_index end.core.registers a1 ≡ number
-        → outcome b.config served opening.block.call.object opening.block.call.mask t s ≡ GoesOn E_OK (answered_state_with number t s) → Answers b s t served touched end
+        → outcome b.config served opening.block.call.object opening.block.call.mask t s ≡ GoesOn E_OK (answered_state_with number t s) → IsServiceAnswer b s t served touched end
     answers_number followed back status_is number number_is answer_is =
         answers_so E_OK status_is (answered_state_with number t s) answer_is
         (behind followed end back.left back.pc back.x2 (set (set own.registers 5 E_OK) 6 number)
@@ -223,7 +223,7 @@ module _ (b : Build) (state : State) (s : System) (t : ℕ) (called : Task) (ser
 
     -- its caller leaves
     pub leaves_so : (after : System) → outcome b.config served opening.block.call.object opening.block.call.mask t s ≡ Leaves after → Stands b end (settled_state after)
-        → (word_at end.core.ram cur ≡ t + 1 → ⊥) → Answers b s t served touched end
+        → (word_at end.core.ram cur ≡ t + 1 → ⊥) → IsServiceAnswer b s t served touched end
     leaves_so after answer_is stands gone = record {
       one = one;
       other = other;

@@ -16,23 +16,23 @@ use Rattle.masked_code.specs.Kernel.{masking}
 use Rattle.masked_code.specs.Masked.{FromOpening}
 use Rattle.masked_code.specs.Place.{offset_state}
 use Rattle.observe.specs.Observe.{View}
-use Rattle.service_gen.specs.ActivateTask.{Activates, Activated}
-use Rattle.service_gen.specs.ChainTask.{Chains, Chained}
-use Rattle.service_gen.specs.GetResource.{Takes, Taken}
-use Rattle.service_gen.specs.GetTaskID.{TellsTask, Told}
-use Rattle.service_gen.specs.GetTaskState.{StateTold, TellsState}
-use Rattle.service_gen.specs.ReleaseResource.{Releases, Released}
+use Rattle.service_gen.specs.ActivateTask.{IsActivateTaskCode, ActivateTaskEffect}
+use Rattle.service_gen.specs.ChainTask.{IsChainTaskCode, ChainTaskEffect}
+use Rattle.service_gen.specs.GetResource.{IsGetResourceCode, GetResourceEffect}
+use Rattle.service_gen.specs.GetTaskID.{IsGetTaskIDCode, GetTaskIDEffect}
+use Rattle.service_gen.specs.GetTaskState.{GetTaskStateEffect, IsGetTaskStateCode}
+use Rattle.service_gen.specs.ReleaseResource.{IsReleaseResourceCode, ReleaseResourceEffect}
 use Rattle.osek_scheduler.specs.State.{Frame, Task, System, task}
 use Rattle.sim_induction.specs.Admits.{IsSetting, lines_at, with_admits}
-use Rattle.sim_relation.specs.Build.{Build, Fits}
+use Rattle.sim_relation.specs.Build.{Build, HasFittingPlaces}
 use Rattle.sim_relation.specs.Placed.{setting_of}
 use Rattle.sim_relation.specs.Stands.{Stands}
 use Rattle.sim_services.specs.ServiceSteps.{MayGoOn}
 use Rattle.sim_services.specs.Opening.{AtOpening, IsFollowed}
 use Rattle.sim_services.proofs.Servable.{CanServe}
-use Rattle.sim_services.specs.Served.{IsServed, Answers}
+use Rattle.sim_services.specs.Served.{IsServed, IsServiceAnswer}
 use Rattle.sim_services.proofs.ServiceLaws.{TouchesTasks}
-use Rattle.sim_services.specs.Stretch.{OpensChainTask, OpensGetResource, OpensGoingOn, Stretches}
+use Rattle.sim_services.specs.Stretch.{OpensChainTask, OpensGetResource, OpensGoingOn, HasStretch}
 use Rattle.sim_services.proofs.Activated.{activates}
 use Rattle.sim_services.proofs.Chained.{chain_answers}
 use Rattle.sim_services.proofs.Holding.{takes, popped, saved_few, releases}
@@ -55,7 +55,7 @@ module _ (b : Build) (one two : State) (t : ℕ) (own : Task) (served : Service)
       cc
 
 module _ (b : Build) (view : View) (arrivals : List Arrival) (count : ℕ) (state : State) (s : System) (t : ℕ) (served : Service) (Contract : ℕ → List InstrKind → Type 0)
-    (fits : Fits b) (setting : IsSetting (setting_of b view arrivals)) (after_boot : 0 < count) (stands : Stands b state s)
+    (fits : HasFittingPlaces b) (setting : IsSetting (setting_of b view arrivals)) (after_boot : 0 < count) (stands : Stands b state s)
     (o : OpensGoingOn b view (state_with_arrivals arrivals count state) (with_admits (lines_at arrivals count) s) t served Contract)
     (masks : (rest : List InstrKind) × (o.opens.block.code ≡ masking ∷ rest)) where
   abbrev n : State
@@ -81,15 +81,15 @@ module _ (b : Build) (view : View) (arrivals : List Arrival) (count : ℕ) (stat
   pub going_on_stretches : (most : ℕ) → suc most ≤ stretch_limit b.config Masks → (Effect : ℕ → List ℕ → State → State → Type 0) → ((place : ℕ) → TouchesTasks b (Effect place))
       → ((place : ℕ) → CanServe o.opens.block.offset o.opens.block.code t place n.core → FromOpening most (offset_state o.opens.block.offset n.core) (Effect place))
       → ((place : ℕ) (lines touched : List ℕ) (s2 : System) (end : State) → CanServe o.opens.block.offset o.opens.block.code t place n.core
-      → MayGoOn b (state_arrive lines n) s2 t own served object → Effect place touched (state_arrive lines n) end → Answers b s2 t served touched end)
-      → Stretches b view arrivals count state s
+      → MayGoOn b (state_arrive lines n) s2 t own served object → Effect place touched (state_arrive lines n) end → IsServiceAnswer b s2 t served touched end)
+      → HasStretch b view arrivals count state s
   going_on_stretches most short Effect tasks_alone runs law =
       let found = can_serve b view arrivals count state s t served Contract fits setting after_boot stands o.opens masks in
       service_stretches b view arrivals count state s t served Contract fits setting after_boot stands o.opens masks
       most short (Effect found.0) (tasks_alone found.0) (runs found.0 found.1)
       (λ lines touched s2 end is effect. law found.0 lines touched s2 end found.1 (may_go_on lines s2 is) effect)
 
-module _ (b : Build) (view : View) (arrivals : List Arrival) (count : ℕ) (state : State) (s : System) (t : ℕ) (fits : Fits b)
+module _ (b : Build) (view : View) (arrivals : List Arrival) (count : ℕ) (state : State) (s : System) (t : ℕ) (fits : HasFittingPlaces b)
     (setting : IsSetting (setting_of b view arrivals)) (after_boot : 0 < count) (stands : Stands b state s) where
   abbrev start : State
   start = state_with_arrivals arrivals count state
@@ -98,25 +98,25 @@ module _ (b : Build) (view : View) (arrivals : List Arrival) (count : ℕ) (stat
   found = with_admits (lines_at arrivals count) s
 
   -- GetTaskID
-  pub tells_stretches : OpensGoingOn b view start found t service.GetTaskID (λ object. TellsTask) → Stretches b view arrivals count state s
+  pub tells_stretches : OpensGoingOn b view start found t service.GetTaskID (λ object. IsGetTaskIDCode) → HasStretch b view arrivals count state s
   tells_stretches o =
       let block = o.opens.block in
-      going_on_stretches b view arrivals count state s t service.GetTaskID (λ object. TellsTask) fits setting after_boot stands o block.serves.masks
-      5 (omega arith) (λ place. Told t) (λ place touched from to e. touches_none b touched e.touches)
+      going_on_stretches b view arrivals count state s t service.GetTaskID (λ object. IsGetTaskIDCode) fits setting after_boot stands o block.serves.masks
+      5 (omega arith) (λ place. GetTaskIDEffect t) (λ place touched from to e. touches_none b touched e.touches)
       (λ place can. block.serves.runs block.offset t start.core
       (record { goes_back = can.goes_back; runs = can.current; is_task = can.is_task }))
       (λ place lines touched s2 end can may effect.
       tells b (state_arrive lines start) s2 t (task found t) o.opens.opening.block.call.object touched end fits may effect)
 
   -- GetTaskState
-  pub states_stretches : OpensGoingOn b view start found t service.GetTaskState TellsState → Stretches b view arrivals count state s
+  pub states_stretches : OpensGoingOn b view start found t service.GetTaskState IsGetTaskStateCode → HasStretch b view arrivals count state s
   states_stretches o =
       let block = o.opens.block in
       let object = o.opens.opening.block.call.object in
       let declared = ltb-true object (length b.config.tasks) o.names in
-      let there = k b view arrivals count state s t service.GetTaskState TellsState fits setting after_boot stands o.opens block.serves.masks in
-      going_on_stretches b view arrivals count state s t service.GetTaskState TellsState fits setting after_boot stands o block.serves.masks
-      10 (omega arith) (λ place. StateTold object t) (λ place. state_touches b object t declared)
+      let there = k b view arrivals count state s t service.GetTaskState IsGetTaskStateCode fits setting after_boot stands o.opens block.serves.masks in
+      going_on_stretches b view arrivals count state s t service.GetTaskState IsGetTaskStateCode fits setting after_boot stands o block.serves.masks
+      10 (omega arith) (λ place. GetTaskStateEffect object t) (λ place. state_touches b object t declared)
       (λ place can. block.serves.runs block.offset t start.core (record {
         goes_back = can.goes_back;
         runs = can.current;
@@ -129,14 +129,14 @@ module _ (b : Build) (view : View) (arrivals : List Arrival) (count : ℕ) (stat
       (λ place lines touched s2 end can may effect. tells_state b (state_arrive lines start) s2 t (task found t) object touched end fits may effect)
 
   -- ActivateTask
-  pub activates_stretches : OpensGoingOn b view start found t service.ActivateTask Activates → Stretches b view arrivals count state s
+  pub activates_stretches : OpensGoingOn b view start found t service.ActivateTask IsActivateTaskCode → HasStretch b view arrivals count state s
   activates_stretches o =
       let block = o.opens.block in
       let object = o.opens.opening.block.call.object in
       let declared = ltb-true object (length b.config.tasks) o.names in
-      let there = k b view arrivals count state s t service.ActivateTask Activates fits setting after_boot stands o.opens block.serves.masks in
-      going_on_stretches b view arrivals count state s t service.ActivateTask Activates fits setting after_boot stands o block.serves.masks
-      11 (omega arith) (λ place. Activated object) (λ place touched from to e. touches_one b object touched declared e.touches)
+      let there = k b view arrivals count state s t service.ActivateTask IsActivateTaskCode fits setting after_boot stands o.opens block.serves.masks in
+      going_on_stretches b view arrivals count state s t service.ActivateTask IsActivateTaskCode fits setting after_boot stands o block.serves.masks
+      11 (omega arith) (λ place. ActivateTaskEffect object) (λ place touched from to e. touches_one b object touched declared e.touches)
       (λ place can. block.serves.runs block.offset start.core (record {
         goes_back = can.goes_back;
         is_task = let f = fits.few_tasks in omega arith;
@@ -147,14 +147,14 @@ module _ (b : Build) (view : View) (arrivals : List Arrival) (count : ℕ) (stat
       (λ place lines touched s2 end can may effect. activates b (state_arrive lines start) s2 t (task found t) object touched end fits may effect)
 
   -- ChainTask, which may end its caller too
-  pub chain_stretches : OpensChainTask b view start found t → Stretches b view arrivals count state s
+  pub chain_stretches : OpensChainTask b view start found t → HasStretch b view arrivals count state s
   chain_stretches o =
       let block = o.goes_on.opens.block in
       let object = o.goes_on.opens.opening.block.call.object in
       let declared = ltb-true object (length b.config.tasks) o.goes_on.names in
-      let there = k b view arrivals count state s t service.ChainTask Chains fits setting after_boot stands o.goes_on.opens block.serves.masks in
-      going_on_stretches b view arrivals count state s t service.ChainTask Chains fits setting after_boot stands o.goes_on block.serves.masks
-      59 (omega arith) (λ place. Chained object t place)
+      let there = k b view arrivals count state s t service.ChainTask IsChainTaskCode fits setting after_boot stands o.goes_on.opens block.serves.masks in
+      going_on_stretches b view arrivals count state s t service.ChainTask IsChainTaskCode fits setting after_boot stands o.goes_on block.serves.masks
+      59 (omega arith) (λ place. ChainTaskEffect object t place)
       (λ place. chain_touches b object t place declared (active_by_word b start found t there o.goes_on.opens.opening.current).declared)
       (λ place can. block.serves.runs block.offset t place start.core (record {
         goes_back = can.goes_back;
@@ -171,26 +171,26 @@ module _ (b : Build) (view : View) (arrivals : List Arrival) (count : ℕ) (stat
       (record { goes_on = may; holds_nothing = o.holds_nothing; below = can.below.is }) effect)
 
   -- GetResource
-  pub takes_stretches : (level : ℕ) → OpensGetResource b view start found t level → Stretches b view arrivals count state s
+  pub takes_stretches : (level : ℕ) → OpensGetResource b view start found t level → HasStretch b view arrivals count state s
   takes_stretches level o =
       let block = o.goes_on.opens.block in
       let object = o.goes_on.opens.opening.block.call.object in
-      going_on_stretches b view arrivals count state s t service.GetResource (λ object. Takes object level) fits setting after_boot stands o.goes_on
-      block.serves.masks 8 (omega arith) (λ place. Taken object level) (λ place touched from to e. touches_none b touched e.touches)
+      going_on_stretches b view arrivals count state s t service.GetResource (λ object. IsGetResourceCode object level) fits setting after_boot stands o.goes_on
+      block.serves.masks 8 (omega arith) (λ place. GetResourceEffect object level) (λ place touched from to e. touches_none b touched e.touches)
       (λ place can. block.serves.runs block.offset start.core
       (record { goes_back = can.goes_back; is_resource = let l = o.may.is_resource in omega arith; level = can.level }))
       (λ place lines touched s2 end can may effect. takes b (state_arrive lines start) s2 t (task found t) object level touched end fits may o.may effect)
 
   -- ReleaseResource
-  pub releases_stretches : OpensGoingOn b view start found t service.ReleaseResource Releases → Stretches b view arrivals count state s
+  pub releases_stretches : OpensGoingOn b view start found t service.ReleaseResource IsReleaseResourceCode → HasStretch b view arrivals count state s
   releases_stretches o =
       let block = o.opens.block in
       let object = o.opens.opening.block.call.object in
-      let there = k b view arrivals count state s t service.ReleaseResource Releases fits setting after_boot stands o.opens block.serves.masks in
+      let there = k b view arrivals count state s t service.ReleaseResource IsReleaseResourceCode fits setting after_boot stands o.opens block.serves.masks in
       let here = active_by_word b start found t there o.opens.opening.current in
       let among = (popped b start found there t here.declared object o.names).among in
-      going_on_stretches b view arrivals count state s t service.ReleaseResource Releases fits setting after_boot stands o block.serves.masks
-      5 (omega arith) (λ place. Released object) (λ place touched from to e. touches_none b touched e.touches)
+      going_on_stretches b view arrivals count state s t service.ReleaseResource IsReleaseResourceCode fits setting after_boot stands o block.serves.masks
+      5 (omega arith) (λ place. ReleaseResourceEffect object) (λ place touched from to e. touches_none b touched e.touches)
       (λ place can. block.serves.runs block.offset start.core
       (record {
         goes_back = can.goes_back;

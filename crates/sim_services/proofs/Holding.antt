@@ -10,8 +10,8 @@ use Rattle.sloth_base.specs.Machine.{State}
 use Rattle.sloth_region.specs.Layout.{cur, saved_level, idle_context}
 use Rattle.rv32_instr.specs.Ram.{word_at, with_word}
 use Rattle.masked_code.proofs.Words.{word_at-same, get_or-with_word, length-with_word}
-use Rattle.service_gen.specs.GetResource.{Taken}
-use Rattle.service_gen.specs.ReleaseResource.{Released}
+use Rattle.service_gen.specs.GetResource.{GetResourceEffect}
+use Rattle.service_gen.specs.ReleaseResource.{ReleaseResourceEffect}
 use Rattle.code_rules.specs.Code.{is_last, without_last}
 use Rattle.osek_scheduler.specs.declared.state.TaskState.{TaskState}
 use Rattle.osek_scheduler.specs.declared.state.TaskState.TheVariants as mode
@@ -22,7 +22,7 @@ use Rattle.code_rules.specs.Code.{is_in}
 use Rattle.osek_scheduler.specs.Priority.{is_active, ceiling}
 use Rattle.osek_scheduler.specs.Services.{answered_task, is_there, GoesOn}
 use Rattle.osek_valid.proofs.Stacks.{is_in-append, in-without_last}
-use Rattle.sim_relation.specs.Build.{Build, Fits}
+use Rattle.sim_relation.specs.Build.{Build, HasFittingPlaces}
 use Rattle.sim_relation.specs.Context.{RunsTask, RunsFirst}
 use Rattle.sim_relation.specs.ServiceWords.{AreHeldWords, base_priority}
 use Rattle.sim_relation.specs.Stands.{Stands, AreActive, IsActive}
@@ -30,7 +30,7 @@ use Rattle.sim_relation.proofs.Levels.{level_of-few}
 use Rattle.sim_relation.proofs.Parts.{held_kept, word_other}
 use Rattle.sim_relation.proofs.Placed.{first_by_word}
 use Rattle.sim_relation.proofs.Tops.{below_first}
-use Rattle.sim_services.specs.Served.{IsServed, Answers}
+use Rattle.sim_services.specs.Served.{IsServed, IsServiceAnswer}
 use Rattle.sim_services.specs.ServiceSteps.{MayGoOn, MayHaveResource}
 use Rattle.sim_services.proofs.Answered.{long_status, status_held}
 use Rattle.sim_services.proofs.GoesOn.{active, long_registers, held_registers, answers_so}
@@ -73,8 +73,8 @@ module _ (b : Build) (state : State) (s : System) (k : Stands b state s) (t : �
   pub other_holder : (u q : ℕ) → u < length b.config.tasks → u ≢ t → is_in q (task s u).held ≡ true → q ≢ r
   other_holder u q l n h e = holds_not u l n (subst (λ x. is_in x (task s u).held ≡ true) e h)
 
-module _ (b : Build) (state : State) (s : System) (t : ℕ) (called : Task) (object level : ℕ) (touched : List ℕ) (end : State) (fits : Fits b)
-    (on : MayGoOn b state s t called service.GetResource object) (may : MayHaveResource b t called object level) (effect : Taken object level touched state end) where
+module _ (b : Build) (state : State) (s : System) (t : ℕ) (called : Task) (object level : ℕ) (touched : List ℕ) (end : State) (fits : HasFittingPlaces b)
+    (on : MayGoOn b state s t called service.GetResource object) (may : MayHaveResource b t called object level) (effect : GetResourceEffect object level touched state end) where
   abbrev is : IsServed b state s t called service.GetResource
   is = on.is_served
 
@@ -167,7 +167,7 @@ module _ (b : Build) (state : State) (s : System) (t : ℕ) (called : Task) (obj
       }
 
   -- GetResource
-  pub takes : Answers b s t service.GetResource touched end
+  pub takes : IsServiceAnswer b s t service.GetResource touched end
   takes =
       answers_so b state s t called service.GetResource is fits touched end t t
       (subst (AllByRecursion (Contains (t ∷ t ∷ []))) (sym effect.touches) tt)
@@ -189,8 +189,8 @@ module _ (b : Build) (state : State) (s : System) (k : Stands b state s) (t : �
       let m = level_of-few b.config (with_held b (base_priority b t (task s t)) (without_last (task s t).held)) in
       omega arith
 
-module _ (b : Build) (state : State) (s : System) (t : ℕ) (called : Task) (object : ℕ) (touched : List ℕ) (end : State) (fits : Fits b)
-    (on : MayGoOn b state s t called service.ReleaseResource object) (effect : Released object touched state end) where
+module _ (b : Build) (state : State) (s : System) (t : ℕ) (called : Task) (object : ℕ) (touched : List ℕ) (end : State) (fits : HasFittingPlaces b)
+    (on : MayGoOn b state s t called service.ReleaseResource object) (effect : ReleaseResourceEffect object touched state end) where
   abbrev release_is : IsServed b state s t called service.ReleaseResource
   release_is = on.is_served
 
@@ -229,7 +229,7 @@ module _ (b : Build) (state : State) (s : System) (t : ℕ) (called : Task) (obj
       }
 
   -- ReleaseResource
-  pub releases : Answers b s t service.ReleaseResource touched end
+  pub releases : IsServiceAnswer b s t service.ReleaseResource touched end
   releases =
       answers_so b state s t called service.ReleaseResource release_is fits touched end t t
       (subst (AllByRecursion (Contains (t ∷ t ∷ []))) (sym effect.touches) tt)

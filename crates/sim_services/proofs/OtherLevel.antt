@@ -6,7 +6,7 @@ use Rattle.sloth_base.specs.PriorityLevels.{level_of}
 use Rattle.sloth_base.specs.declared.service.Service.{Service}
 use Rattle.sloth_region.specs.Layout.{cur, below_word, active as active_place, events, wait, resume, saved_level, idle_context}
 use Rattle.rv32_instr.specs.Ram.{word_at}
-use Rattle.masked_code.specs.Kernel.{LeftAs}
+use Rattle.masked_code.specs.Kernel.{IsOpenedCore}
 use Rattle.osek_scheduler.specs.declared.state.TaskState.TheVariants as mode
 use Rattle.osek_scheduler.specs.State.{Task, System, task}
 use Rattle.sloth_base.specs.Named.{declaration}
@@ -15,7 +15,7 @@ use Rattle.osek_scheduler.specs.Meaning.{going_on_frame}
 use Rattle.code_rules.specs.Code.{is_in}
 use Rattle.osek_scheduler.specs.Priority.{is_active, current_priority}
 use Rattle.osek_scheduler.specs.Services.{moved_frames}
-use Rattle.sim_relation.specs.Build.{Build, Fits}
+use Rattle.sim_relation.specs.Build.{Build, HasFittingPlaces}
 use Rattle.sim_relation.specs.Context.{RunsTask, RunsFirst}
 use Rattle.sim_relation.specs.Moves.{moved_system, TaskMove}
 use Rattle.sim_relation.specs.Position.{AreFrames, IsPosition, thread_of}
@@ -36,7 +36,7 @@ use Rattle.sim_services.proofs.GoesOn.{active, frames_are, free, stood}
 
 -- what a routine leaves: the word of one resource may have changed, and no other part of RAM below code, data and stacks
 pub record AtOtherLevel (b : Build) (state : State) (s : System) (t resource : ℕ) (own : Task) (level : ℕ) (ram : List ℕ) (end : State) : Type 0 where
-  pub left : LeftAs (record state.core { ilevel = level; ram = ram }) end.core
+  pub left : IsOpenedCore (record state.core { ilevel = level; ram = ram }) end.core
   pub x2 : slice_index end.core.registers 2 ≡ slice_index state.core.registers 2
   pub active : own.state ≡ mode.Active
   pub events : own.events ≡ (task s t).events
@@ -51,7 +51,7 @@ pub record AtOtherLevel (b : Build) (state : State) (s : System) (t resource : �
   pub level_is : (below : List ℕ) → RunsTask b state s t below → level ≡ level_of b.config (current_priority b.config (declaration b.config t) own)
   pub position : (below : List ℕ) (run : RunsTask b state s t below) → IsPosition b end.core.ram t own (thread_of end) run.place
 
-module _ (b : Build) (state : State) (s : System) (k : Stands b state s) (fits : Fits b) (t : ℕ) (current : word_at state.core.ram cur ≡ t + 1)
+module _ (b : Build) (state : State) (s : System) (k : Stands b state s) (fits : HasFittingPlaces b) (t : ℕ) (current : word_at state.core.ram cur ≡ t + 1)
     (resource : ℕ) (own : Task) (level : ℕ) (ram : List ℕ) (end : State) (h : AtOtherLevel b state s t resource own level ram end) where
   here : IsActive b s t
   here = active_by_word b state s t k current
@@ -134,7 +134,7 @@ module _ (b : Build) (state : State) (s : System) (k : Stands b state s) (fits :
   at_other_level = let f = first_by_word b state s t k.stack k.running current in moves f.0 f.1
 
 -- where a service goes back to its caller, the task stands at the item behind it
-module _ (b : Build) (state : State) (s : System) (t : ℕ) (called : Task) (served : Service) (is : IsServed b state s t called served) (fits : Fits b)
+module _ (b : Build) (state : State) (s : System) (t : ℕ) (called : Task) (served : Service) (is : IsServed b state s t called served) (fits : HasFittingPlaces b)
     (followed : IsFollowed b is.opening.frame.func is.opening.frame.item) (end : State) (pc : end.pc ≡ slice_index state.core.registers 31)
     (ram : List ℕ) (ram_is : end.core.ram ≡ ram) (high : (i : ℕ) → idle_context ≤ i → slice_index ram i ≡ slice_index state.core.ram i)
     (own : Task) (frames : own.frames ≡ moved_frames (task s t).frames) (owes : own.owed ≡ (task s t).owed) (below : List ℕ) (run : RunsTask b state s t below) where

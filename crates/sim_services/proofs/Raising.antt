@@ -6,11 +6,11 @@ use Rattle.sloth_base.specs.Machine.{State}
 use Rattle.sloth_base.specs.MemoryMap.{line_count}
 use Rattle.sloth_region.specs.Layout.{active}
 use Rattle.rv32_instr.specs.Ram.{word_at}
-use Rattle.block_parts.specs.Looks.{LooksSuspended}
+use Rattle.block_parts.specs.SuspensionTest.{IsFoundSuspended}
 use Rattle.osek_scheduler.specs.declared.state.TaskState.{TaskState}
 use Rattle.osek_scheduler.specs.declared.state.TaskState.TheVariants as mode
 use Rattle.osek_scheduler.specs.State.{System, task}
-use Rattle.osek_scheduler.specs.Services.{if_suspended, activated_state, Outcome}
+use Rattle.osek_scheduler.specs.Services.{if_suspended, activated_state, ServiceOutcome}
 use Rattle.osek_scheduler.specs.Steps.{admitted_state, settled_state}
 use Rattle.sim_relation.specs.Build.{Build}
 use Rattle.sim_relation.specs.ServiceWords.{active_word}
@@ -43,11 +43,11 @@ enabled_small mode.Active pending enabled l = omega arith
 enabled_small (mode.Waiting mask) pending enabled l = omega arith
 
 -- the first or the second outcome
-pub first_outcome : (m : TaskState) (first second : Outcome) → m ≡ mode.Suspended → if_suspended m first second ≡ first
+pub first_outcome : (m : TaskState) (first second : ServiceOutcome) → m ≡ mode.Suspended → if_suspended m first second ≡ first
 first_outcome m first second e = ap (λ n. if_suspended n first second) e
 
 -- of a task that is not Suspended, the second outcome
-pub second_outcome : (m : TaskState) (first second : Outcome) → (m ≡ mode.Suspended → ⊥) → if_suspended m first second ≡ second
+pub second_outcome : (m : TaskState) (first second : ServiceOutcome) → (m ≡ mode.Suspended → ⊥) → if_suspended m first second ≡ second
 second_outcome mode.Suspended first second n = absurd (n refl)
 second_outcome mode.Ready first second n = refl
 second_outcome mode.Active first second n = refl
@@ -61,11 +61,11 @@ module _ (b : Build) (state : State) (s : System) (k : Stands b state s) (u : �
   line_is = k.lines.each u declared
 
   -- what the code looks at says of a Suspended task that it is
-  pub looks : (task s u).state ≡ mode.Suspended → LooksSuspended u state.core
+  pub looks : (task s u).state ≡ mode.Suspended → IsFoundSuspended u state.core
   looks e = looks_of (task s u).state (word_at state.core.ram (active u)) (slice_index state.core.pending u) (slice_index state.core.enabled u) word_is line_is e
 
   -- and of no other
-  pub is_so : LooksSuspended u state.core → (task s u).state ≡ mode.Suspended
+  pub is_so : IsFoundSuspended u state.core → (task s u).state ≡ mode.Suspended
   is_so h = of_looks (task s u).state (word_at state.core.ram (active u)) (slice_index state.core.pending u) (slice_index state.core.enabled u) word_is line_is h.0 h.1 h.2
 
   -- the words and bytes that it looks at are bits

@@ -20,7 +20,7 @@ use Rattle.masked_code.specs.Masked.{FromOpening}
 use Rattle.masked_code.specs.Place.{offset_state, InPlace}
 use Rattle.masked_code.specs.Trace.{touched_lines, early_arrivals, late_arrivals}
 use Rattle.masked_code.proofs.Machine.{touched_at}
-use Rattle.service_gen.specs.Schedule.{CameBack, MayComeBack, way_back, Yielded, Yields}
+use Rattle.service_gen.specs.Schedule.{WayBackEffect, MayComeBack, way_back, ScheduleEffect, IsScheduleCode}
 use Rattle.service_gen.proofs.Yielding.{in_place-rest}
 use Rattle.observe.specs.Observe.{View, mark_at, marked_event, running_task}
 use Rattle.osek_scheduler.specs.State.{System, task}
@@ -31,7 +31,7 @@ use Rattle.sim_induction.proofs.Routes.{Masking, masking, begins_masked, opened_
 use Rattle.sim_induction.proofs.Schedule.{owned_at}
 use Rattle.sim_induction.proofs.Stretched.{early_none, task_is}
 use Rattle.sim_induction.proofs.Traces.{lines_trace}
-use Rattle.sim_relation.specs.Build.{Build, Fits}
+use Rattle.sim_relation.specs.Build.{Build, HasFittingPlaces}
 use Rattle.sim_relation.specs.Context.{RunsTask, RunsFirst}
 use Rattle.sim_relation.specs.Placed.{setting_of}
 use Rattle.sim_relation.specs.Position.{IsOwing, IsPosition, thread_of}
@@ -43,8 +43,8 @@ use Rattle.sim_relation.proofs.Placed.{active_by_word, code_behind, first_by_wor
 use Rattle.osek_scheduler.specs.Priority.{highest_priority}
 use Rattle.sloth_base.specs.Named.{declaration}
 use Rattle.sloth_base.specs.MemoryMap.{line_count}
-use Rattle.sim_services.specs.ServiceSteps.{Returns}
-use Rattle.sim_services.specs.Stretch.{OpensSchedule, OpensWayBack, Stretches}
+use Rattle.sim_services.specs.ServiceSteps.{IsWayBackAnswer}
+use Rattle.sim_services.specs.Stretch.{OpensSchedule, OpensWayBack, HasStretch}
 use Rattle.sim_services.proofs.ComingBack.{comes_back, owing_of}
 use Rattle.sim_services.proofs.GivingWay.{gives_way}
 use Rattle.sim_services.proofs.GoingOnStretch.{going_on_stretches}
@@ -53,17 +53,17 @@ use Rattle.sim_services.proofs.Touching.{touches_none}
 
 -- Schedule, up to the count before the way back
 pub yields_stretches : (b : Build) (view : View) (arrivals : List Arrival) (count : ℕ) (state : State) (s : System) (t : ℕ)
-    → Fits b → IsSetting (setting_of b view arrivals) → 0 < count → Stands b state s
-    → OpensSchedule b view (state_with_arrivals arrivals count state) (with_admits (lines_at arrivals count) s) t → Stretches b view arrivals count state s
+    → HasFittingPlaces b → IsSetting (setting_of b view arrivals) → 0 < count → Stands b state s
+    → OpensSchedule b view (state_with_arrivals arrivals count state) (with_admits (lines_at arrivals count) s) t → HasStretch b view arrivals count state s
 yields_stretches b view arrivals count state s t fits setting after_boot stands o =
     let n = state_with_arrivals arrivals count state in
     let s1 = with_admits (lines_at arrivals count) s in
     let block = o.goes_on.opens.block in
     let object = o.goes_on.opens.opening.block.call.object in
-    let there = k b view arrivals count state s t service.Schedule (λ object. Yields) fits setting after_boot stands o.goes_on.opens block.serves.masks in
+    let there = k b view arrivals count state s t service.Schedule (λ object. IsScheduleCode) fits setting after_boot stands o.goes_on.opens block.serves.masks in
     let here = active_by_word b n s1 t there o.goes_on.opens.opening.current in
-    going_on_stretches b view arrivals count state s t service.Schedule (λ object. Yields) fits setting after_boot stands o.goes_on block.serves.masks
-    8 (omega arith) (λ place. Yielded block.offset t) (λ place touched from to e. touches_none b touched e.touches)
+    going_on_stretches b view arrivals count state s t service.Schedule (λ object. IsScheduleCode) fits setting after_boot stands o.goes_on block.serves.masks
+    8 (omega arith) (λ place. ScheduleEffect block.offset t) (λ place touched from to e. touches_none b touched e.touches)
     (λ place can. block.serves.runs.lowers block.offset t n.core (record {
       can_run = can.goes_back.can_run;
       previous = can.goes_back.previous;
@@ -76,7 +76,7 @@ yields_stretches b view arrivals count state s t fits setting after_boot stands 
     (λ place lines touched s2 end can may effect. gives_way b (state_arrive lines n) s2 t (task s1 t) object block.offset touched end fits may o.may effect)
 
 module _ (b : Build) (view : View) (arrivals : List Arrival) (count : ℕ) (state : State) (s : System) (t : ℕ)
-    (fits : Fits b) (setting : IsSetting (setting_of b view arrivals)) (after_boot : 0 < count) (stands : Stands b state s)
+    (fits : HasFittingPlaces b) (setting : IsSetting (setting_of b view arrivals)) (after_boot : 0 < count) (stands : Stands b state s)
     (opens : OpensWayBack b view (state_with_arrivals arrivals count state) (with_admits (lines_at arrivals count) s) t) where
   abbrev n : State
   n = state_with_arrivals arrivals count state
@@ -157,14 +157,14 @@ module _ (b : Build) (view : View) (arrivals : List Arrival) (count : ℕ) (stat
           level = omega arith;
         }
 
-    module _ (e : Masking arrivals 3 count state CameBack) where
+    module _ (e : Masking arrivals 3 count state WayBackEffect) where
       in_range : AreOwned (owners_in b.config) (early_arrivals e.trace) × AreOwned (owners_in b.config) (late_arrivals e.trace)
       in_range = lines_trace (IsOwned (owners_in b.config)) e.more (count + 1) (lines_at arrivals) e.next e.trace e.end all_owned e.steps
 
       no_early : early_arrivals e.trace ≡ []
       no_early = early_none e.trace e.effect.touches
 
-      answer : Returns b s1 t e.last
+      answer : IsWayBackAnswer b s1 t e.last
       answer =
           comes_back b n s1 t (touched_lines e.trace) e.last fits
           (record {
@@ -174,7 +174,7 @@ module _ (b : Build) (view : View) (arrivals : List Arrival) (count : ℕ) (stat
             holds_nothing = opens.holds_nothing;
             top = running_top b n s1 there few opens.none t below stack_is;
           })
-          (subst (λ lines. CameBack (touched_lines e.trace) (state_arrive lines n) e.last) no_early e.effect)
+          (subst (λ lines. WayBackEffect (touched_lines e.trace) (state_arrive lines n) e.last) no_early e.effect)
 
       stretch : StretchLaw (setting_of b view arrivals) (Stands b) count state s e.next e.trace e.end
       stretch = record {
@@ -204,9 +204,9 @@ module _ (b : Build) (view : View) (arrivals : List Arrival) (count : ℕ) (stat
       }
 
   -- the way back
-  pub back_stretches : Stretches b view arrivals count state s
+  pub back_stretches : HasStretch b view arrivals count state s
   back_stretches =
       let f = first_by_word b n s1 t there.stack there.running opens.current in
-      let e = masking arrivals 3 count state CameBack none
-      (subst (λ m. FromOpening 3 m CameBack) (sym (n_is f.0 f.1)) (opens.way.yields.runs.comes_back offset n.core (may_come_back f.0 f.1))) in
+      let e = masking arrivals 3 count state WayBackEffect none
+      (subst (λ m. FromOpening 3 m WayBackEffect) (sym (n_is f.0 f.1)) (opens.way.yields.runs.comes_back offset n.core (may_come_back f.0 f.1))) in
       (e.next, e.trace, e.end, stretch f.0 f.1 e)

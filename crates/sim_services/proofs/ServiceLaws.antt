@@ -6,7 +6,7 @@ use Rattle.sloth_base.specs.Machine.{State}
 use Rattle.sloth_base.specs.Owners.{owners_in, AreTasks}
 use Rattle.osek_scheduler.specs.State.{Task, System}
 use Rattle.sim_relation.specs.Build.{Build}
-use Rattle.sim_services.specs.Served.{IsServed, Answers}
+use Rattle.sim_services.specs.Served.{IsServed, IsServiceAnswer}
 
 -- code with this effect touches the lines of tasks alone
 abbrev pub TouchesTasks : Build → (List ℕ → State → State → Type 0) → Type 0
@@ -16,4 +16,4 @@ TouchesTasks b Effect = (touched : List ℕ) (start end : State) → Effect touc
 abbrev pub ServiceLaw : Build → State → ℕ → Task → Service → (List ℕ → State → State → Type 0) → Type 0
 ServiceLaw b state t own served Effect =
     (lines touched : List ℕ) (s : System) (end : State) → IsServed b (state_arrive lines state) s t own served
-    → Effect touched (state_arrive lines state) end → Answers b s t served touched end
+    → Effect touched (state_arrive lines state) end → IsServiceAnswer b s t served touched end

@@ -32,7 +32,7 @@ use Rattle.sim_induction.proofs.Routes.{Masking, masking}
 use Rattle.sim_induction.proofs.Schedule.{owned_at}
 use Rattle.sim_induction.proofs.Stretched.{service_law}
 use Rattle.sim_induction.proofs.Traces.{lines_trace, early_touched}
-use Rattle.sim_relation.specs.Build.{Build, Fits}
+use Rattle.sim_relation.specs.Build.{Build, HasFittingPlaces}
 use Rattle.sim_relation.specs.Context.{RunsTask, RunsFirst}
 use Rattle.sim_relation.specs.Placed.{setting_of}
 use Rattle.sim_relation.specs.Stands.{Stands, IsActive, AreActive}
@@ -44,12 +44,12 @@ use Rattle.sim_relation.proofs.Placed.{placed_in, code_behind, first_by_word}
 use Rattle.sim_relation.proofs.Tops.{falling_head}
 use Rattle.sim_services.specs.Opening.{AtOpening, OpensService}
 use Rattle.sim_services.proofs.Servable.{CanServe}
-use Rattle.sim_services.specs.Served.{IsServed, Answers}
+use Rattle.sim_services.specs.Served.{IsServed, IsServiceAnswer}
 use Rattle.sim_services.proofs.ServiceLaws.{ServiceLaw, TouchesTasks}
-use Rattle.sim_services.specs.Stretch.{Stretches}
+use Rattle.sim_services.specs.Stretch.{HasStretch}
 
 module _ (b : Build) (view : View) (arrivals : List Arrival) (count : ℕ) (state : State) (s : System) (t : ℕ) (served : Service) (Contract : ℕ → List InstrKind → Type 0)
-    (fits : Fits b) (setting : IsSetting (setting_of b view arrivals)) (after_boot : 0 < count) (stands : Stands b state s)
+    (fits : HasFittingPlaces b) (setting : IsSetting (setting_of b view arrivals)) (after_boot : 0 < count) (stands : Stands b state s)
     (opens : OpensService b view (state_with_arrivals arrivals count state) (with_admits (lines_at arrivals count) s) t served Contract)
     (masks : (rest : List InstrKind) × (opens.block.code ≡ kernel.masking ∷ rest)) where
   abbrev n : State
@@ -177,7 +177,7 @@ module _ (b : Build) (view : View) (arrivals : List Arrival) (count : ℕ) (stat
         bytes = opens.bytes;
       }
 
-      a : Answers b s2 t served (touched_lines e.trace) e.last
+      a : IsServiceAnswer b s2 t served (touched_lines e.trace) e.last
       a = law (early_arrivals e.trace) (touched_lines e.trace) s2 e.last is_served e.effect
 
       stretch : StretchLaw (setting_of b view arrivals) (Stands b) count state s e.next e.trace e.end
@@ -215,7 +215,7 @@ module _ (b : Build) (view : View) (arrivals : List Arrival) (count : ℕ) (stat
 
   -- where the block has its effect from there on, and the service its law, it is a stretch
   pub service_stretches : (most : ℕ) → suc most ≤ stretch_limit b.config Masks → (Effect : List ℕ → State → State → Type 0) → TouchesTasks b Effect → FromOpening most (offset_state offset n.core) Effect
-      → ServiceLaw b n t (task s1 t) served Effect → Stretches b view arrivals count state s
+      → ServiceLaw b n t (task s1 t) served Effect → HasStretch b view arrivals count state s
   service_stretches most short Effect tasks_alone runs law =
       let f = first_by_word b n s1 t k.stack k.running op.current in
       let e = masking arrivals most count state Effect none (subst (λ m. FromOpening most m Effect) (sym n_is) runs) in

@@ -12,10 +12,10 @@ use Rattle.sloth_region.specs.Layout.{events, wait}
 use Rattle.rv32_instr.specs.Ram.{word_at, with_word}
 use Rattle.expansion_parts.specs.Expansion.{mask_of}
 use Rattle.masked_code.proofs.Words.{word_below}
-use Rattle.block_parts.specs.Looks.{LooksSuspended}
-use Rattle.block_parts.specs.Back.{WentBack, a0}
+use Rattle.block_parts.specs.SuspensionTest.{IsFoundSuspended}
+use Rattle.block_parts.specs.Back.{BackEffect, a0}
 use Rattle.event_gen.specs.ClearEvent.{mask_register}
-use Rattle.event_gen.specs.SetEvent.{with_mask, HasNotSet, HasSet, HasWoken, EventsSet}
+use Rattle.event_gen.specs.SetEvent.{with_mask, HasNotSet, HasSet, HasWoken, SetEventEffect}
 use Rattle.osek_scheduler.specs.declared.state.TaskState.{TaskState}
 use Rattle.osek_scheduler.specs.declared.state.TaskState.TheVariants as mode
 use Rattle.osek_scheduler.specs.State.{Task, System, task}
@@ -23,21 +23,21 @@ use Rattle.osek_scheduler.specs.Services.{answered_task, is_there, GoesOn, set_e
 use Rattle.osek_scheduler.proofs.ServiceStates.{answered_state}
 use Rattle.osek_scheduler.specs.Outcomes.{outcome}
 use Rattle.osek_scheduler.specs.Steps.{settled_state}
-use Rattle.sim_relation.specs.Build.{Build, Fits}
+use Rattle.sim_relation.specs.Build.{Build, HasFittingPlaces}
 use Rattle.sim_relation.specs.Changes.{system_with_task_state}
 use Rattle.sim_relation.specs.ServiceWords.{IsWaitWord}
 use Rattle.sim_relation.specs.Stands.{Stands, AreLineBytes}
 use Rattle.sim_relation.proofs.Parts.{by_task}
 use Rattle.sim_services.specs.ServiceSteps.{MayGoOn}
-use Rattle.sim_services.specs.Served.{IsServed, Answers}
+use Rattle.sim_services.specs.Served.{IsServed, IsServiceAnswer}
 use Rattle.sim_services.proofs.GoesOn.{answers_so, answers_status}
 use Rattle.sim_services.proofs.Raising.{looks, is_so, first_outcome, second_outcome}
 use Rattle.sim_services.specs.EventServiceSteps.{MayHaveEvents}
 use Rattle.sim_services.proofs.Changed.{Changes, among, current, stands_changed}
 use Rattle.sim_services.proofs.TaskAfter.{state_after, after_active, after_awake, after_none, some_line, some_word, woken_is}
 
-module _ (b : Build) (state : State) (s : System) (t : ℕ) (own : Task) (object mask : ℕ) (touched : List ℕ) (end : State) (fits : Fits b)
-    (may : MayHaveEvents b state s t own service.SetEvent object mask) (effect : EventsSet object touched state end) where
+module _ (b : Build) (state : State) (s : System) (t : ℕ) (own : Task) (object mask : ℕ) (touched : List ℕ) (end : State) (fits : HasFittingPlaces b)
+    (may : MayHaveEvents b state s t own service.SetEvent object mask) (effect : SetEventEffect object touched state end) where
   abbrev goes_on : MayGoOn b state s t own service.SetEvent object
   goes_on = may.goes_on
 
@@ -91,7 +91,7 @@ module _ (b : Build) (state : State) (s : System) (t : ℕ) (own : Task) (object
       ∙ ap (λ m. outcome b.config service.SetEvent object m t s) may.mask_is
 
   -- the task is Suspended
-  not_set : HasNotSet object state end → Answers b s t service.SetEvent touched end
+  not_set : HasNotSet object state end → IsServiceAnswer b s t service.SetEvent touched end
   not_set h =
       answers_status b state s t own service.SetEvent is fits touched end object object touches names goes_on.followed h.back E_OS_STATE h.status
       (outcome_at ∙ first_outcome (task s object).state (GoesOn E_OS_STATE refused) (GoesOn E_OK done) (is_so b state s k object declared h.suspended))
@@ -100,8 +100,8 @@ module _ (b : Build) (state : State) (s : System) (t : ℕ) (own : Task) (object
   after = state_after (task s object).state now
 
   -- it is not; its line is said beside
-  module _ (busy : LooksSuspended object state.core → ⊥) (status : slice_index end.core.registers a0 ≡ E_OK) (pending enabled : List ℕ)
-      (back : WentBack a0 (record state.core { ram = with_word state.core.ram (events object) word; pending = pending; enabled = enabled }) state end)
+  module _ (busy : IsFoundSuspended object state.core → ⊥) (status : slice_index end.core.registers a0 ≡ E_OK) (pending enabled : List ℕ)
+      (back : BackEffect a0 (record state.core { ram = with_word state.core.ram (events object) word; pending = pending; enabled = enabled }) state end)
       (change : Changes b state s object after now word pending enabled) where
     stood : Stands b end (system_with_task_state (settled_state (answered_state E_OK t s)) object after now)
     stood = stands_changed b state s t own service.SetEvent is fits goes_on.followed end object word pending enabled back E_OK status after now change
@@ -122,7 +122,7 @@ module _ (b : Build) (state : State) (s : System) (t : ℕ) (own : Task) (object
         ∙ ap (λ e. settled_state (woken_state (task s object).state (bit_or e mask) object (with_events middle object (bit_or e mask)))) (same object).1
         ∙ woken_is middle object now (task s object).state inside (same object).0
 
-    has_done : Answers b s t service.SetEvent touched end
+    has_done : IsServiceAnswer b s t service.SetEvent touched end
     has_done =
         answers_so b state s t own service.SetEvent is fits touched end object object touches names E_OK status done
         (outcome_at
@@ -130,10 +130,10 @@ module _ (b : Build) (state : State) (s : System) (t : ℕ) (own : Task) (object
         (subst (Stands b end) (sym next_is) stood)
         (current b state s t own service.SetEvent is fits goes_on.followed end object word pending enabled back E_OK status)
 
-  awake : (LooksSuspended object state.core → ⊥) → (task s object).state ≢ mode.Suspended
+  awake : (IsFoundSuspended object state.core → ⊥) → (task s object).state ≢ mode.Suspended
   awake busy e = busy (looks b state s k object declared e)
 
-  only_set : HasSet object state end → Answers b s t service.SetEvent touched end
+  only_set : HasSet object state end → IsServiceAnswer b s t service.SetEvent touched end
   only_set h =
       let z : bit_and now awaited_word ≡ 0 = ap (λ x. bit_and x awaited_word) (sym word_is) ∙ h.none_awaited in
       let e = after_none (task s object).state now awaited_word z wait_word in
@@ -153,7 +153,7 @@ module _ (b : Build) (state : State) (s : System) (t : ℕ) (own : Task) (object
         other_enabled = λ l n. refl;
       })
 
-  also_woken : HasWoken object state end → Answers b s t service.SetEvent touched end
+  also_woken : HasWoken object state end → IsServiceAnswer b s t service.SetEvent touched end
   also_woken h =
       let f = k.fixed.pending in
       let g = k.fixed.enabled in
@@ -182,5 +182,5 @@ module _ (b : Build) (state : State) (s : System) (t : ℕ) (own : Task) (object
         other_enabled = λ l n. get_or-set_other state.core.enabled object l 1 0 n;
       })
 
-  pub sets_events : Answers b s t service.SetEvent touched end
+  pub sets_events : IsServiceAnswer b s t service.SetEvent touched end
   sets_events = ⊎_elim not_set (λ (e : HasSet object state end ⊎ HasWoken object state end). ⊎_elim only_set also_woken e) effect.done

@@ -8,17 +8,17 @@ use Rattle.sloth_base.specs.Machine.{State}
 use Rattle.sloth_region.specs.Layout.{active}
 use Rattle.rv32_instr.specs.Ram.{word_at}
 use Rattle.block_parts.specs.Back.{a1}
-use Rattle.service_gen.specs.GetTaskState.{IsStateNumber, StateTold}
+use Rattle.service_gen.specs.GetTaskState.{IsStateNumber, GetTaskStateEffect}
 use Rattle.service_gen.specs.GetTaskState.IsStateNumber.{running, preempted, waiting, ready, suspended}
 use Rattle.osek_scheduler.specs.declared.state.TaskState.{TaskState}
 use Rattle.osek_scheduler.specs.declared.state.TaskState.TheVariants as mode
 use Rattle.osek_scheduler.specs.State.{Task, System, task}
 use Rattle.osek_scheduler.specs.Services.{is_there, state_number}
 use Rattle.osek_scheduler.specs.Outcomes.{outcome}
-use Rattle.sim_relation.specs.Build.{Build, Fits}
+use Rattle.sim_relation.specs.Build.{Build, HasFittingPlaces}
 use Rattle.sim_relation.specs.ServiceWords.{active_word}
 use Rattle.sim_relation.specs.Stands.{Stands, AreLineBytes}
-use Rattle.sim_services.specs.Served.{Answers}
+use Rattle.sim_services.specs.Served.{IsServiceAnswer}
 use Rattle.sim_services.specs.ServiceSteps.{MayGoOn}
 use Rattle.sim_services.proofs.GoesOn.{answers_number}
 
@@ -88,8 +88,8 @@ module _ (b : Build) (state : State) (s : System) (k : Stands b state s) (own ob
   touches touched number (suspended l is n) = subst AreOne (sym is) one
 
 -- the number is that of the task's state
-pub tells_state : (b : Build) (state : State) (s : System) (t : ℕ) (own : Task) (object : ℕ) (touched : List ℕ) (end : State) → Fits b
-    → MayGoOn b state s t own service.GetTaskState object → StateTold object t touched state end → Answers b s t service.GetTaskState touched end
+pub tells_state : (b : Build) (state : State) (s : System) (t : ℕ) (own : Task) (object : ℕ) (touched : List ℕ) (end : State) → HasFittingPlaces b
+    → MayGoOn b state s t own service.GetTaskState object → GetTaskStateEffect object t touched state end → IsServiceAnswer b s t service.GetTaskState touched end
 tells_state b state s t own object touched end fits may told =
     let is = may.is_served in
     let declared = ltb-true object (length b.config.tasks) may.names in

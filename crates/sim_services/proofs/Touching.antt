@@ -1,8 +1,8 @@
 -- What a service touches are lines of tasks.
 use Rattle.std.proofs.Common.{◌≡◌, ℕ, ◌<◌, List, [], ◌∷◌, length, sym, subst, ⊎_elim}
 use Rattle.sloth_base.specs.Owners.{owners_in, AreTasks}
-use Rattle.service_gen.specs.ChainTask.{Chained, HasChained, HasNotChained}
-use Rattle.service_gen.specs.GetTaskState.{IsStateNumber, StateTold}
+use Rattle.service_gen.specs.ChainTask.{ChainTaskEffect, HasChained, HasNotChained}
+use Rattle.service_gen.specs.GetTaskState.{IsStateNumber, GetTaskStateEffect}
 use Rattle.service_gen.specs.GetTaskState.IsStateNumber.{running, preempted, waiting, ready, suspended}
 use Rattle.sim_relation.specs.Build.{Build}
 use Rattle.sim_services.proofs.ServiceLaws.{TouchesTasks}
@@ -20,7 +20,7 @@ module _ (b : Build) where
   touches_two t u touched l m e = subst (AreTasks (owners_in b.config)) (sym e) (l, (m, tt))
 
   -- ChainTask touches the lines of its caller and of the chained task
-  pub chain_touches : (t own place : ℕ) → t < length b.config.tasks → own < length b.config.tasks → TouchesTasks b (Chained t own place)
+  pub chain_touches : (t own place : ℕ) → t < length b.config.tasks → own < length b.config.tasks → TouchesTasks b (ChainTaskEffect t own place)
   chain_touches t own place l m touched start end effect =
       ⊎_elim
       (λ (h : HasChained t own place touched start end).
@@ -29,7 +29,7 @@ module _ (b : Build) where
       effect
 
   -- GetTaskState touches the line of the task that is asked for, or none
-  pub state_touches : (t own : ℕ) → t < length b.config.tasks → TouchesTasks b (StateTold t own)
+  pub state_touches : (t own : ℕ) → t < length b.config.tasks → TouchesTasks b (GetTaskStateEffect t own)
   state_touches t own l touched start end effect = by effect.number
     where
       by : {number : ℕ} → IsStateNumber t own start.core touched number → AreTasks (owners_in b.config) touched

@@ -11,10 +11,10 @@ use Rattle.sloth_region.specs.Layout.{context_bytes}
 use Rattle.rv32_instr.specs.declared.InstrKind.{InstrKind}
 use Rattle.rv32_machine.specs.Run.{state_with_arrivals}
 use Rattle.observe.specs.Observe.{View}
-use Rattle.event_gen.specs.WaitEvent.{Waits, Waited, MayWait}
+use Rattle.event_gen.specs.WaitEvent.{IsWaitEventCode, WaitEventEffect, MayWait}
 use Rattle.osek_scheduler.specs.State.{System, task}
 use Rattle.sim_induction.specs.Admits.{IsSetting, lines_at, with_admits}
-use Rattle.sim_relation.specs.Build.{Build, Fits}
+use Rattle.sim_relation.specs.Build.{Build, HasFittingPlaces}
 use Rattle.sim_relation.specs.Context.{IsContextChain, RunsTask, RunsFirst}
 use Rattle.sim_relation.specs.Placed.{IsPlaced, setting_of}
 use Rattle.sim_relation.specs.Position.{thread_of, thread_at}
@@ -24,14 +24,14 @@ use Rattle.sim_relation.proofs.Placed.{first_by_word}
 use Rattle.sim_relation.proofs.Tops.{falling_head, is_in-head, below_other}
 use Rattle.sim_relation.proofs.Codes.{code_apart}
 use Rattle.sim_services.proofs.Servable.{CanServe}
-use Rattle.sim_services.specs.Stretch.{Stretches}
+use Rattle.sim_services.specs.Stretch.{HasStretch}
 use Rattle.sim_services.proofs.GoingOnStretch.{going_on_stretches}
 use Rattle.sim_services.proofs.ServiceStretch.{k}
 use Rattle.sim_services.specs.EventStretch.{OpensWaitEvent}
 use Rattle.sim_services.proofs.Waiting.{wait_answers}
 
 -- where a chain begins, apart from what lies in the part of a task that is not in it
-chain_apart : (b : Build) (ram : List ℕ) (s : System) (t : ℕ) (below : List ℕ) (place own : ℕ) → Fits b → StacksApart b s → AreFalling b s (t ∷ below)
+chain_apart : (b : Build) (ram : List ℕ) (s : System) (t : ℕ) (below : List ℕ) (place own : ℕ) → HasFittingPlaces b → StacksApart b s → AreFalling b s (t ∷ below)
     → b.low t ≤ own → own + context_bytes ≤ b.top t → IsContextChain b ram s below place → (own + context_bytes ≤ place) ⊎ (place + context_bytes ≤ own)
 chain_apart b ram s t [] place own fits apart f l h c =
     let p = c.is in let g = fits.from t f.declared in inr (omega arith)
@@ -48,7 +48,7 @@ abbrev kept_at : State → ℕ
 kept_at state = slice_index state.core.registers 2 - (memory_base + context_bytes)
 
 -- the machine is as the contract asks, with the task's own context directly below x2
-module _ (b : Build) (state : State) (s : System) (t offset place : ℕ) (code : List InstrKind) (fits : Fits b) (stands : Stands b state s) (some : 0 < length code)
+module _ (b : Build) (state : State) (s : System) (t offset place : ℕ) (code : List InstrKind) (fits : HasFittingPlaces b) (stands : Stands b state s) (some : 0 < length code)
     (placed : IsPlaced b offset code) (can : CanServe offset code t place state.core) where
   module _ (below : List ℕ) (stack_is : stands.stack ≡ t ∷ below) where
     may_wait_below : MayWait offset t place (kept_at state) code state.core
@@ -86,19 +86,19 @@ module _ (b : Build) (state : State) (s : System) (t offset place : ℕ) (code :
   may_wait = let f = first_by_word b state s t stands.stack stands.running can.current in may_wait_below f.0 f.1
 
 pub wait_stretches : (b : Build) (view : View) (arrivals : List Arrival) (count : ℕ) (state : State) (s : System) (t : ℕ)
-    → Fits b → IsSetting (setting_of b view arrivals) → 0 < count → Stands b state s
-    → OpensWaitEvent b view (state_with_arrivals arrivals count state) (with_admits (lines_at arrivals count) s) t → Stretches b view arrivals count state s
+    → HasFittingPlaces b → IsSetting (setting_of b view arrivals) → 0 < count → Stands b state s
+    → OpensWaitEvent b view (state_with_arrivals arrivals count state) (with_admits (lines_at arrivals count) s) t → HasStretch b view arrivals count state s
 wait_stretches b view arrivals count state s t fits setting after_boot stands o =
     let n = state_with_arrivals arrivals count state in
     let s1 = with_admits (lines_at arrivals count) s in
     let opens = o.goes_on.opens in
     let block = opens.block in
-    let there = k b view arrivals count state s t service.WaitEvent (λ object. Waits) fits setting after_boot stands opens block.serves.masks in
+    let there = k b view arrivals count state s t service.WaitEvent (λ object. IsWaitEventCode) fits setting after_boot stands opens block.serves.masks in
     let some : 0 < length block.code = subst (λ (c : List InstrKind). 0 < length c) (sym block.serves.masks.1) (omega arith) in
     let found : (place : ℕ) → CanServe block.offset block.code t place n.core → MayWait block.offset t place (kept_at n) block.code n.core =
     λ place can. may_wait b n s1 t block.offset place block.code fits there some block.placed can in
-    going_on_stretches b view arrivals count state s t service.WaitEvent (λ object. Waits) fits setting after_boot stands o.goes_on block.serves.masks
-    85 (omega arith) (λ place. Waited t place (kept_at n)) (λ place touched from to e. touches_none b touched e.touches)
+    going_on_stretches b view arrivals count state s t service.WaitEvent (λ object. IsWaitEventCode) fits setting after_boot stands o.goes_on block.serves.masks
+    85 (omega arith) (λ place. WaitEventEffect t place (kept_at n)) (λ place touched from to e. touches_none b touched e.touches)
     (λ place can. block.serves.runs block.offset t place (kept_at n) n.core (found place can))
     (λ place lines touched s2 end can may effect.
     wait_answers b (state_arrive lines n) s2 t (task s1 t) opens.opening.block.call.object place (kept_at n) touched end fits

@@ -15,16 +15,16 @@ use Rattle.expansion_parts.specs.Expansion.{mask_of}
 use Rattle.masked_code.specs.Pieces.{registers_from}
 use Rattle.masked_code.proofs.Words.{word_below}
 use Rattle.event_gen.specs.ClearEvent.{mask_register}
-use Rattle.event_gen.specs.WaitEvent.{set_of, HasNotWaited, HasWaited, Waited}
+use Rattle.event_gen.specs.WaitEvent.{set_of, HasNotWaited, HasWaited, WaitEventEffect}
 use Rattle.osek_scheduler.specs.declared.state.TaskState.TheVariants as mode
 use Rattle.osek_scheduler.specs.State.{Frame, Task, System, task, with_task}
 use Rattle.osek_scheduler.specs.Meaning.{going_on_frame}
 use Rattle.osek_scheduler.specs.Services.{GoesOn, Leaves, waiting_task, moved_frames, is_there}
 use Rattle.osek_scheduler.proofs.ServiceStates.{answered_state}
 use Rattle.osek_scheduler.specs.Steps.{settled_state}
-use Rattle.sim_relation.specs.Build.{Build, Fits}
+use Rattle.sim_relation.specs.Build.{Build, HasFittingPlaces}
 use Rattle.sim_relation.specs.Position.{AreFrames, thread_of}
-use Rattle.sim_relation.specs.Context.{RunsTask, RunsFirst, IsRested, Resumes}
+use Rattle.sim_relation.specs.Context.{RunsTask, RunsFirst, IsRested, HasOwnContext}
 use Rattle.sim_relation.specs.ServiceWords.{AreServiceWords, AreHeldWords, base_priority}
 use Rattle.sim_relation.specs.Stands.{Stands, IsActive, AreLineBytes}
 use Rattle.sim_relation.specs.Moves.{TaskLeave}
@@ -37,13 +37,13 @@ use Rattle.sim_relation.proofs.Placed.{first_by_word, active_by_word}
 use Rattle.sim_relation.proofs.SavedRegisters.{registers_at, registers_small}
 use Rattle.sim_services.specs.ServiceSteps.{MayGoOn}
 use Rattle.sim_services.specs.Opening.{AtOpening}
-use Rattle.sim_services.specs.Served.{IsServed, Answers}
+use Rattle.sim_services.specs.Served.{IsServed, IsServiceAnswer}
 use Rattle.sim_services.proofs.GoesOn.{active, free, frames_are, stood, answers_status, leaves_so}
 use Rattle.sim_services.specs.EventServiceSteps.{MayWaitAt}
 use Rattle.sim_services.proofs.WaitRam.{WaitRam, wait_ram}
 
-module _ (b : Build) (state : State) (s : System) (t : ℕ) (own : Task) (object place kept : ℕ) (touched : List ℕ) (end : State) (fits : Fits b)
-    (may : MayWaitAt b state s t own object place kept) (effect : Waited t place kept touched state end) where
+module _ (b : Build) (state : State) (s : System) (t : ℕ) (own : Task) (object place kept : ℕ) (touched : List ℕ) (end : State) (fits : HasFittingPlaces b)
+    (may : MayWaitAt b state s t own object place kept) (effect : WaitEventEffect t place kept touched state end) where
   abbrev goes_on : MayGoOn b state s t own service.WaitEvent object
   goes_on = may.goes_on
 
@@ -84,7 +84,7 @@ module _ (b : Build) (state : State) (s : System) (t : ℕ) (own : Task) (object
 
   -- ---- one of the events is set
 
-  stays : HasNotWaited t state end → Answers b s t service.WaitEvent touched end
+  stays : HasNotWaited t state end → IsServiceAnswer b s t service.WaitEvent touched end
   stays h =
       answers_status b state s t own service.WaitEvent is fits touched end t t touches names goes_on.followed h.back E_OK h.status
       (ap (λ (c : Bool). cond c (Leaves waiting) (GoesOn E_OK (answered_state E_OK t s))) (ne_eqb (bit_and (task s t).events mask) 0 (λ e. h.one_set (set_is ∙ e))))
@@ -159,9 +159,9 @@ module _ (b : Build) (state : State) (s : System) (t : ℕ) (own : Task) (object
             aligned = g.4;
           }
 
-      resumes : (frames : List Frame) → frames ≡ going_on_frame frame ∷ opening.outer → Resumes b new t after false frames
+      resumes : (frames : List Frame) → frames ≡ going_on_frame frame ∷ opening.outer → HasOwnContext b new t after false frames
       resumes [] e = cc
-      resumes (f ∷ fs) e = subst (λ (l : List Frame). Resumes b new t after false l) (sym e) (kept, rested)
+      resumes (f ∷ fs) e = subst (λ (l : List Frame). HasOwnContext b new t after false l) (sym e) (kept, rested)
 
       own_words : AreServiceWords b new t after
       own_words =
@@ -226,11 +226,11 @@ module _ (b : Build) (state : State) (s : System) (t : ℕ) (own : Task) (object
         let c : (task (settled_state waiting) t).state ≡ mode.Waiting mask = ap (λ (o : Task). o.state) (this_task s t after inside) in
         cc
 
-    leaves : Answers b s t service.WaitEvent touched end
+    leaves : IsServiceAnswer b s t service.WaitEvent touched end
     leaves =
         leaves_so b state s t own service.WaitEvent is fits touched end t t touches names waiting
         (ap (λ (c : Bool). cond c (Leaves waiting) (GoesOn E_OK (answered_state E_OK t s))) (eq-eqb (bit_and (task s t).events mask) 0 (sym set_is ∙ h.none_set)))
         stands_waiting gone
 
-  pub wait_answers : Answers b s t service.WaitEvent touched end
+  pub wait_answers : IsServiceAnswer b s t service.WaitEvent touched end
   wait_answers = ⊎_elim stays leaves effect.done

@@ -6,25 +6,25 @@ use Rattle.sloth_base.specs.Machine.{State}
 use Rattle.sloth_base.specs.MemoryMap.{memory_base}
 use Rattle.sloth_region.specs.Layout.{below_word, context_bytes}
 use Rattle.rv32_instr.specs.Ram.{word_at}
-use Rattle.event_gen.specs.ClearEvent.{EventsCleared}
-use Rattle.event_gen.specs.GetEvent.{EventsTold}
-use Rattle.event_gen.specs.SetEvent.{EventsSet}
-use Rattle.event_gen.specs.WaitEvent.{Waited}
+use Rattle.event_gen.specs.ClearEvent.{ClearEventEffect}
+use Rattle.event_gen.specs.GetEvent.{GetEventEffect}
+use Rattle.event_gen.specs.SetEvent.{SetEventEffect}
+use Rattle.event_gen.specs.WaitEvent.{WaitEventEffect}
 use Rattle.osek_scheduler.specs.State.{Task, System}
 use Rattle.sim_relation.specs.Bounds.{AreBelow}
-use Rattle.sim_relation.specs.Build.{Build, Fits}
+use Rattle.sim_relation.specs.Build.{Build, HasFittingPlaces}
 use Rattle.sim_services.specs.ServiceSteps.{MayGoOn}
-use Rattle.sim_services.specs.Served.{Answers}
+use Rattle.sim_services.specs.Served.{IsServiceAnswer}
 
 -- ClearEvent takes the events of its mask out of the running task's, and the task goes on.
 abbrev pub ClearEventGoesOn : Type 0
-ClearEventGoesOn = (b : Build) (state : State) (s : System) (t : ℕ) (own : Task) (object : ℕ) (touched : List ℕ) (end : State) → Fits b
-    → MayGoOn b state s t own service.ClearEvent object → EventsCleared t touched state end → Answers b s t service.ClearEvent touched end
+ClearEventGoesOn = (b : Build) (state : State) (s : System) (t : ℕ) (own : Task) (object : ℕ) (touched : List ℕ) (end : State) → HasFittingPlaces b
+    → MayGoOn b state s t own service.ClearEvent object → ClearEventEffect t touched state end → IsServiceAnswer b s t service.ClearEvent touched end
 
 -- GetEvent answers the events of a task that is not Suspended, and the caller goes on.
 abbrev pub GetEventGoesOn : Type 0
-GetEventGoesOn = (b : Build) (state : State) (s : System) (t : ℕ) (own : Task) (object : ℕ) (touched : List ℕ) (end : State) → Fits b
-    → MayGoOn b state s t own service.GetEvent object → EventsTold object touched state end → Answers b s t service.GetEvent touched end
+GetEventGoesOn = (b : Build) (state : State) (s : System) (t : ℕ) (own : Task) (object : ℕ) (touched : List ℕ) (end : State) → HasFittingPlaces b
+    → MayGoOn b state s t own service.GetEvent object → GetEventEffect object touched state end → IsServiceAnswer b s t service.GetEvent touched end
 
 -- what holds where a service with this mask of events begins: the mask is a word
 pub record MayHaveEvents (b : Build) (state : State) (s : System) (t : ℕ) (own : Task) (served : Service) (object mask : ℕ) : Type 0 where
@@ -35,8 +35,8 @@ pub record MayHaveEvents (b : Build) (state : State) (s : System) (t : ℕ) (own
 -- SetEvent sets the events of its mask for a task that is not Suspended, the caller too, and makes it Ready where it waits for one of
 -- them; the caller goes on.
 abbrev pub SetEventGoesOn : Type 0
-SetEventGoesOn = (b : Build) (state : State) (s : System) (t : ℕ) (own : Task) (object mask : ℕ) (touched : List ℕ) (end : State) → Fits b
-    → MayHaveEvents b state s t own service.SetEvent object mask → EventsSet object touched state end → Answers b s t service.SetEvent touched end
+SetEventGoesOn = (b : Build) (state : State) (s : System) (t : ℕ) (own : Task) (object mask : ℕ) (touched : List ℕ) (end : State) → HasFittingPlaces b
+    → MayHaveEvents b state s t own service.SetEvent object mask → SetEventEffect object touched state end → IsServiceAnswer b s t service.SetEvent touched end
 
 -- What holds where WaitEvent begins: the task holds no resource, the context below it stands at `place`, its own is to stand at `kept`,
 -- directly below x2, and its registers hold words.
@@ -49,5 +49,5 @@ pub record MayWaitAt (b : Build) (state : State) (s : System) (t : ℕ) (own : T
 
 -- WaitEvent goes on where one of the events of its mask is set; else the task waits for them, and what runs below it goes on.
 abbrev pub WaitEventAnswers : Type 0
-WaitEventAnswers = (b : Build) (state : State) (s : System) (t : ℕ) (own : Task) (object place kept : ℕ) (touched : List ℕ) (end : State) → Fits b
-    → MayWaitAt b state s t own object place kept → Waited t place kept touched state end → Answers b s t service.WaitEvent touched end
+WaitEventAnswers = (b : Build) (state : State) (s : System) (t : ℕ) (own : Task) (object place kept : ℕ) (touched : List ℕ) (end : State) → HasFittingPlaces b
+    → MayWaitAt b state s t own object place kept → WaitEventEffect t place kept touched state end → IsServiceAnswer b s t service.WaitEvent touched end

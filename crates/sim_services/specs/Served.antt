@@ -22,7 +22,7 @@ pub record IsServed (b : Build) (state : State) (s : System) (t : ℕ) (own : Ta
   pub bytes : AreBelow 256 state.core.ram
 
 -- The service touches at most two lines, its event is a step of the abstract scheduler, and the states at its end are related.
-pub record Answers (b : Build) (s : System) (t : ℕ) (served : Service) (touched : List ℕ) (end : State) : Type 0 where
+pub record IsServiceAnswer (b : Build) (s : System) (t : ℕ) (served : Service) (touched : List ℕ) (end : State) : Type 0 where
   pub one : ℕ
   pub other : ℕ
   pub touches : AllByRecursion (Contains (one ∷ other ∷ [])) touched

@@ -6,14 +6,14 @@ use Rattle.sloth_base.specs.Machine.{State}
 use Rattle.sloth_base.specs.declared.event.Event.TheVariants as event
 use Rattle.sloth_region.specs.Layout.{below_word, cur}
 use Rattle.rv32_instr.specs.Ram.{word_at}
-use Rattle.service_gen.specs.ActivateTask.{Activated}
-use Rattle.service_gen.specs.ChainTask.{Chained}
-use Rattle.service_gen.specs.GetResource.{Taken}
-use Rattle.service_gen.specs.GetTaskID.{Told}
-use Rattle.service_gen.specs.GetTaskState.{StateTold}
-use Rattle.service_gen.specs.ReleaseResource.{Released}
-use Rattle.service_gen.specs.Schedule.{CameBack, way_back, Yielded}
-use Rattle.service_gen.specs.TerminateTask.{Terminated}
+use Rattle.service_gen.specs.ActivateTask.{ActivateTaskEffect}
+use Rattle.service_gen.specs.ChainTask.{ChainTaskEffect}
+use Rattle.service_gen.specs.GetResource.{GetResourceEffect}
+use Rattle.service_gen.specs.GetTaskID.{GetTaskIDEffect}
+use Rattle.service_gen.specs.GetTaskState.{GetTaskStateEffect}
+use Rattle.service_gen.specs.ReleaseResource.{ReleaseResourceEffect}
+use Rattle.service_gen.specs.Schedule.{WayBackEffect, way_back, ScheduleEffect}
+use Rattle.service_gen.specs.TerminateTask.{TerminateTaskEffect}
 use Rattle.osek_scheduler.specs.State.{Task, System, task}
 use Rattle.sloth_base.specs.Named.{declaration}
 use Rattle.code_rules.specs.Code.{is_in}
@@ -23,10 +23,10 @@ use Rattle.sloth_base.specs.PriorityLevels.{level_of}
 use Rattle.sloth_base.specs.MemoryMap.{memory_base}
 use Rattle.sloth_base.specs.Limits.{ceiling_count}
 use Rattle.osek_scheduler.specs.Services.{is_there}
-use Rattle.sim_relation.specs.Build.{Build, Fits}
+use Rattle.sim_relation.specs.Build.{Build, HasFittingPlaces}
 use Rattle.sim_relation.specs.Stands.{Stands}
 use Rattle.sim_services.specs.Opening.{IsFollowed}
-use Rattle.sim_services.specs.Served.{IsServed, Answers}
+use Rattle.sim_services.specs.Served.{IsServed, IsServiceAnswer}
 
 -- what holds where a service begins that may end the running task: it holds no resource, and the context below it stands at `place`
 pub record MayEnd (b : Build) (state : State) (s : System) (t : ℕ) (own : Task) (served : Service) (place : ℕ) : Type 0 where
@@ -36,8 +36,8 @@ pub record MayEnd (b : Build) (state : State) (s : System) (t : ℕ) (own : Task
 
 -- TerminateTask ends the task: what runs below it goes on, the task below or the idle loop.
 abbrev pub TerminateTaskEnds : Type 0
-TerminateTaskEnds = (b : Build) (state : State) (s : System) (t : ℕ) (own : Task) (place : ℕ) (touched : List ℕ) (end : State) → Fits b
-    → MayEnd b state s t own service.TerminateTask place → Terminated t place touched state end → Answers b s t service.TerminateTask touched end
+TerminateTaskEnds = (b : Build) (state : State) (s : System) (t : ℕ) (own : Task) (place : ℕ) (touched : List ℕ) (end : State) → HasFittingPlaces b
+    → MayEnd b state s t own service.TerminateTask place → TerminateTaskEffect t place touched state end → IsServiceAnswer b s t service.TerminateTask touched end
 
 -- what holds where a service with this object begins behind which its task may go on: another item follows
 pub record MayGoOn (b : Build) (state : State) (s : System) (t : ℕ) (own : Task) (served : Service) (object : ℕ) : Type 0 where
@@ -48,19 +48,19 @@ pub record MayGoOn (b : Build) (state : State) (s : System) (t : ℕ) (own : Tas
 
 -- GetTaskID answers the running task's number, and the task goes on.
 abbrev pub GetTaskIDGoesOn : Type 0
-GetTaskIDGoesOn = (b : Build) (state : State) (s : System) (t : ℕ) (own : Task) (object : ℕ) (touched : List ℕ) (end : State) → Fits b
-    → MayGoOn b state s t own service.GetTaskID object → Told t touched state end → Answers b s t service.GetTaskID touched end
+GetTaskIDGoesOn = (b : Build) (state : State) (s : System) (t : ℕ) (own : Task) (object : ℕ) (touched : List ℕ) (end : State) → HasFittingPlaces b
+    → MayGoOn b state s t own service.GetTaskID object → GetTaskIDEffect t touched state end → IsServiceAnswer b s t service.GetTaskID touched end
 
 -- GetTaskState answers the number of a task's state, and the caller goes on.
 abbrev pub GetTaskStateGoesOn : Type 0
-GetTaskStateGoesOn = (b : Build) (state : State) (s : System) (t : ℕ) (own : Task) (object : ℕ) (touched : List ℕ) (end : State) → Fits b
-    → MayGoOn b state s t own service.GetTaskState object → StateTold object t touched state end
-    → Answers b s t service.GetTaskState touched end
+GetTaskStateGoesOn = (b : Build) (state : State) (s : System) (t : ℕ) (own : Task) (object : ℕ) (touched : List ℕ) (end : State) → HasFittingPlaces b
+    → MayGoOn b state s t own service.GetTaskState object → GetTaskStateEffect object t touched state end
+    → IsServiceAnswer b s t service.GetTaskState touched end
 
 -- ActivateTask makes the other task Ready where it is Suspended, and answers whether it was; the caller goes on.
 abbrev pub ActivateTaskGoesOn : Type 0
-ActivateTaskGoesOn = (b : Build) (state : State) (s : System) (t : ℕ) (own : Task) (object : ℕ) (touched : List ℕ) (end : State) → Fits b
-    → MayGoOn b state s t own service.ActivateTask object → Activated object touched state end → Answers b s t service.ActivateTask touched end
+ActivateTaskGoesOn = (b : Build) (state : State) (s : System) (t : ℕ) (own : Task) (object : ℕ) (touched : List ℕ) (end : State) → HasFittingPlaces b
+    → MayGoOn b state s t own service.ActivateTask object → ActivateTaskEffect object touched state end → IsServiceAnswer b s t service.ActivateTask touched end
 
 -- what holds where ChainTask of a task begins
 pub record MayChainTo (b : Build) (state : State) (s : System) (t : ℕ) (own : Task) (object place : ℕ) : Type 0 where
@@ -71,8 +71,8 @@ pub record MayChainTo (b : Build) (state : State) (s : System) (t : ℕ) (own : 
 -- ChainTask ends the caller and makes the other task Ready, or the caller itself; where the other one is not Suspended, it answers
 -- so, and the caller goes on.
 abbrev pub ChainTaskAnswers : Type 0
-ChainTaskAnswers = (b : Build) (state : State) (s : System) (t : ℕ) (own : Task) (object place : ℕ) (touched : List ℕ) (end : State) → Fits b
-    → MayChainTo b state s t own object place → Chained object t place touched state end → Answers b s t service.ChainTask touched end
+ChainTaskAnswers = (b : Build) (state : State) (s : System) (t : ℕ) (own : Task) (object place : ℕ) (touched : List ℕ) (end : State) → HasFittingPlaces b
+    → MayChainTo b state s t own object place → ChainTaskEffect object t place touched state end → IsServiceAnswer b s t service.ChainTask touched end
 
 -- the level of a resource's ceiling: the greater of it and the level of a priority is the level of the greater priority
 abbrev pub IsCeilingLevel : Build → (resource level : ℕ) → Type 0
@@ -87,14 +87,14 @@ pub record MayHaveResource (b : Build) (t : ℕ) (own : Task) (resource level : 
 
 -- GetResource takes the resource, and the task goes on at its ceiling at least.
 abbrev pub GetResourceGoesOn : Type 0
-GetResourceGoesOn = (b : Build) (state : State) (s : System) (t : ℕ) (own : Task) (object level : ℕ) (touched : List ℕ) (end : State) → Fits b
-    → MayGoOn b state s t own service.GetResource object → MayHaveResource b t own object level → Taken object level touched state end
-    → Answers b s t service.GetResource touched end
+GetResourceGoesOn = (b : Build) (state : State) (s : System) (t : ℕ) (own : Task) (object level : ℕ) (touched : List ℕ) (end : State) → HasFittingPlaces b
+    → MayGoOn b state s t own service.GetResource object → MayHaveResource b t own object level → GetResourceEffect object level touched state end
+    → IsServiceAnswer b s t service.GetResource touched end
 
 -- ReleaseResource releases the resource that was taken last, and the task goes on at the level that ran before.
 abbrev pub ReleaseResourceGoesOn : Type 0
-ReleaseResourceGoesOn = (b : Build) (state : State) (s : System) (t : ℕ) (own : Task) (object : ℕ) (touched : List ℕ) (end : State) → Fits b
-    → MayGoOn b state s t own service.ReleaseResource object → Released object touched state end → Answers b s t service.ReleaseResource touched end
+ReleaseResourceGoesOn = (b : Build) (state : State) (s : System) (t : ℕ) (own : Task) (object : ℕ) (touched : List ℕ) (end : State) → HasFittingPlaces b
+    → MayGoOn b state s t own service.ReleaseResource object → ReleaseResourceEffect object touched state end → IsServiceAnswer b s t service.ReleaseResource touched end
 
 -- what holds where Schedule's block begins at this offset: the running task holds nothing and has its internal resource where its
 -- scheduling is NON, and the way back stands in the block
@@ -105,9 +105,9 @@ pub record MayGiveWay (b : Build) (t : ℕ) (own : Task) (offset : ℕ) : Type 0
 
 -- Schedule gives the internal resource back, and the task owes the way back.
 abbrev pub ScheduleGivesWay : Type 0
-ScheduleGivesWay = (b : Build) (state : State) (s : System) (t : ℕ) (own : Task) (object offset : ℕ) (touched : List ℕ) (end : State) → Fits b
-    → MayGoOn b state s t own service.Schedule object → MayGiveWay b t own offset → Yielded offset t touched state end
-    → Answers b s t service.Schedule touched end
+ScheduleGivesWay = (b : Build) (state : State) (s : System) (t : ℕ) (own : Task) (object offset : ℕ) (touched : List ℕ) (end : State) → HasFittingPlaces b
+    → MayGoOn b state s t own service.Schedule object → MayGiveWay b t own offset → ScheduleEffect offset t touched state end
+    → IsServiceAnswer b s t service.Schedule touched end
 
 -- what holds where a task is to come back from Schedule: it runs, owes this, holds nothing, and is the top task
 pub record MayReturn (b : Build) (state : State) (s : System) (t : ℕ) : Type 0 where
@@ -118,12 +118,12 @@ pub record MayReturn (b : Build) (state : State) (s : System) (t : ℕ) : Type 0
   pub top : IsTop b.config s [] t
 
 -- the event is a step of the abstract scheduler, and the states at its end are related
-pub record Returns (b : Build) (s : System) (t : ℕ) (end : State) : Type 0 where
+pub record IsWayBackAnswer (b : Build) (s : System) (t : ℕ) (end : State) : Type 0 where
   pub after : System
   pub step_is : OsekStep b.config b.app (event.Back t) s after
   pub stands : Stands b end after
 
 -- The way back takes the internal resource again, and the task goes on behind Schedule.
 abbrev pub ScheduleReturns : Type 0
-ScheduleReturns = (b : Build) (state : State) (s : System) (t : ℕ) (touched : List ℕ) (end : State) → Fits b
-    → MayReturn b state s t → CameBack touched state end → Returns b s t end
+ScheduleReturns = (b : Build) (state : State) (s : System) (t : ℕ) (touched : List ℕ) (end : State) → HasFittingPlaces b
+    → MayReturn b state s t → WayBackEffect touched state end → IsWayBackAnswer b s t end

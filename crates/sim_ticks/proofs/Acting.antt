@@ -12,7 +12,7 @@ use Rattle.sloth_base.specs.MemoryMap.{line_count}
 use Rattle.sloth_region.specs.Layout.{active, events, wait}
 use Rattle.rv32_instr.specs.Ram.{word_at, with_word}
 use Rattle.masked_code.proofs.Words.{word_at-same, get_or-with_word, length-with_word, word_below}
-use Rattle.block_parts.specs.Looks.{LooksSuspended}
+use Rattle.block_parts.specs.SuspensionTest.{IsFoundSuspended}
 use Rattle.alarm_gen.specs.Tick.{Ground, core_with_ground}
 use Rattle.alarm_gen.specs.Tick as code
 use Rattle.osek_scheduler.specs.declared.state.TaskState.{TaskState}
@@ -22,7 +22,7 @@ use Rattle.osek_scheduler.specs.Priority.{is_active}
 use Rattle.osek_scheduler.specs.Services.{if_suspended, activated_state, set_events, acted_state}
 use Rattle.osek_scheduler.specs.Steps.{settled_state}
 use Rattle.sim_relation.specs.Bounds.{AreBelow}
-use Rattle.sim_relation.specs.Build.{Build, Fits}
+use Rattle.sim_relation.specs.Build.{Build, HasFittingPlaces}
 use Rattle.sim_relation.specs.Changes.{system_with_task_state, TaskChange}
 use Rattle.sim_relation.specs.ServiceWords.{IsWaitWord}
 use Rattle.sim_relation.specs.Stands.{Stands, AreLineBytes}
@@ -49,7 +49,7 @@ tests_true p e w h =
 true_tests : (p e w : ℕ) → w ≡ 0 → p ≡ 0 → e ≡ 1 → ((p == 0) && ((e == 1) && (w == 0))) ≡ true
 true_tests p e w a c d = and_from (p == 0) ((e == 1) && (w == 0)) (eq-eqb p 0 c) (and_from (e == 1) (w == 0) (eq-eqb e 1 d) (eq-eqb w 0 a))
 
-module _ (b : Build) (end : State) (fits : Fits b) where
+module _ (b : Build) (end : State) (fits : HasFittingPlaces b) where
   -- the machine at the end, with this ground
   abbrev pub at : Ground → State
   at g = record { pc = end.pc; core = core_with_ground end.core g }
@@ -196,7 +196,7 @@ module _ (b : Build) (end : State) (fits : Fits b) where
         let w = word_at g.ram (active t) in
         ⊎_elim
         (λ (y : code.is_suspended_task t g ≡ true).
-        let looks_so : LooksSuspended t (at g).core = tests_true p e w y in
+        let looks_so : IsFoundSuspended t (at g).core = tests_true p e w y in
         let asleep : state ≡ mode.Suspended = is_so b (at g) (settled_state s) k t declared looks_so in
         subst (λ x. Holds (code.action_ground (Set t mask) g) x) (ap (λ m. if_suspended m s (set_events t mask s)) (sym asleep))
         (subst (λ x. Holds x s) (ap (λ c. cond c g (code.with_set t mask g)) (sym y)) h))

@@ -6,11 +6,11 @@ use Rattle.sloth_base.specs.declared.service.Service.{Service}
 use Rattle.sloth_base.specs.Limits.{alarm_limit}
 use Rattle.sloth_region.specs.Layout.{idle_context, below_word, counter_value, alarm_left, alarm_cycle}
 use Rattle.rv32_instr.specs.Ram.{word_at}
-use Rattle.block_parts.specs.Back.{WentBack, a0}
+use Rattle.block_parts.specs.Back.{BackEffect, a0}
 use Rattle.osek_scheduler.specs.State.{Task, System, with_alarm}
 use Rattle.osek_scheduler.proofs.ServiceStates.{answered_state}
 use Rattle.osek_scheduler.specs.Steps.{settled_state}
-use Rattle.sim_relation.specs.Build.{Build, Fits}
+use Rattle.sim_relation.specs.Build.{Build, HasFittingPlaces}
 use Rattle.sim_relation.specs.Stands.{Stands}
 use Rattle.sim_relation.proofs.Beside.{beside}
 use Rattle.sim_relation.proofs.Machines.{changed_machine}
@@ -27,9 +27,9 @@ pub record AlarmAlone (a left cycle : ℕ) (old new : List ℕ) : Type 0 where
   pub left_is : word_at new (alarm_left a) ≡ left
   pub cycle_is : word_at new (alarm_cycle a) ≡ cycle
 
-module _ (b : Build) (state : State) (s : System) (t : ℕ) (own : Task) (served : Service) (is : IsServed b state s t own served) (fits : Fits b)
+module _ (b : Build) (state : State) (s : System) (t : ℕ) (own : Task) (served : Service) (is : IsServed b state s t own served) (fits : HasFittingPlaces b)
     (followed : IsFollowed b is.opening.frame.func is.opening.frame.item) (end : State) (a left cycle : ℕ) (there : a < length b.config.alarms)
-    (ram : List ℕ) (alone : AlarmAlone a left cycle state.core.ram ram) (back : WentBack a0 (record state.core { ram = ram }) state end)
+    (ram : List ℕ) (alone : AlarmAlone a left cycle state.core.ram ram) (back : BackEffect a0 (record state.core { ram = ram }) state end)
     (status : ℕ) (status_is : slice_index end.core.registers a0 ≡ status) where
   -- the end, before the alarm changes
   abbrev middle : State

@@ -15,19 +15,19 @@ use Rattle.sloth_base.specs.MemoryMap.{memory_bytes}
 use Rattle.sloth_region.specs.Layout.{cur, counter_value, alarm_left, alarm_cycle}
 use Rattle.rv32_instr.specs.Ram.{word_at, with_word}
 use Rattle.masked_code.proofs.Words.{word_at-same, length-with_word, get_or-with_word}
-use Rattle.block_parts.specs.Back.{WentBack, a0, a1}
-use Rattle.alarm_gen.specs.CancelAlarm.{left_ticks, HasNoAlarm, HasCancelled, AlarmCancelled}
-use Rattle.alarm_gen.specs.GetAlarm.{HasToldLeft, AlarmTold}
-use Rattle.alarm_gen.specs.SetAlarm.{CycleFits, TicksFit, AlarmValueFits, first_operand, second_operand, ticks_until, HasAlarm, HasNoFit, HasAlarmSet, AlarmSet}
+use Rattle.block_parts.specs.Back.{BackEffect, a0, a1}
+use Rattle.alarm_gen.specs.CancelAlarm.{left_ticks, HasNoAlarm, HasCancelled, CancelAlarmEffect}
+use Rattle.alarm_gen.specs.GetAlarm.{HasToldLeft, GetAlarmEffect}
+use Rattle.alarm_gen.specs.SetAlarm.{CycleFits, TicksFit, AlarmValueFits, first_operand, second_operand, ticks_until, HasAlarm, HasNoFit, HasAlarmSet, SetAlarmEffect}
 use Rattle.osek_scheduler.specs.declared.state.Alarm.{Alarm}
 use Rattle.osek_scheduler.specs.State.{Task, System, task, counter, alarm, with_alarm}
-use Rattle.osek_scheduler.specs.Services.{is_in_use, allows_cycle, allows_relative, allows_absolute, is_there, Outcome, GoesOn}
+use Rattle.osek_scheduler.specs.Services.{is_in_use, allows_cycle, allows_relative, allows_absolute, is_there, ServiceOutcome, GoesOn}
 use Rattle.osek_scheduler.proofs.ServiceStates.{answered_state, answered_state_with}
 use Rattle.osek_scheduler.specs.Outcomes.{outcome}
-use Rattle.sim_relation.specs.Build.{Build, Fits}
+use Rattle.sim_relation.specs.Build.{Build, HasFittingPlaces}
 use Rattle.sim_relation.specs.Stands.{Stands}
 use Rattle.sim_relation.proofs.Parts.{word_other}
-use Rattle.sim_services.specs.Served.{IsServed, Answers}
+use Rattle.sim_services.specs.Served.{IsServed, IsServiceAnswer}
 use Rattle.sim_services.proofs.GoesOn.{answers_so, answers_status, answers_number, held_registers}
 use Rattle.sim_ticks.specs.AlarmSteps.{MayUseAlarm}
 use Rattle.sim_ticks.proofs.AlarmKept.{AlarmAlone, stands_set}
@@ -72,7 +72,7 @@ set_alone ram a left cycle few small word long =
       cycle_is = word_at-same mid (alarm_cycle a) cycle (omega (arith, few, long, l1)) word;
     }
 
-module _ (b : Build) (state : State) (s : System) (t : ℕ) (own : Task) (served : Service) (a : ℕ) (touched : List ℕ) (end : State) (fits : Fits b)
+module _ (b : Build) (state : State) (s : System) (t : ℕ) (own : Task) (served : Service) (a : ℕ) (touched : List ℕ) (end : State) (fits : HasFittingPlaces b)
     (may : MayUseAlarm b state s t own served a) (there : a < length b.config.alarms) (touches : touched ≡ []) where
   abbrev is : IsServed b state s t own served
   is = may.goes_on.is_served
@@ -105,15 +105,15 @@ module _ (b : Build) (state : State) (s : System) (t : ℕ) (own : Task) (served
   outcome_at = ap (λ o. outcome b.config served o mask t s) may.goes_on.object_is
 
   -- the status alone
-  pub refuses : (status : ℕ) → slice_index end.core.registers a0 ≡ status → WentBack a0 state.core state end
-      → outcome b.config served a mask t s ≡ GoesOn status (answered_state status t s) → Answers b s t served touched end
+  pub refuses : (status : ℕ) → slice_index end.core.registers a0 ≡ status → BackEffect a0 state.core state end
+      → outcome b.config served a mask t s ≡ GoesOn status (answered_state status t s) → IsServiceAnswer b s t served touched end
   refuses status status_is back answer_is =
       answers_status b state s t own served is fits touched end 0 0 none names may.goes_on.followed back status status_is (outcome_at ∙ answer_is)
 
   -- the alarm is this one now
-  pub sets : (left cycle : ℕ) (ram : List ℕ) → AlarmAlone a left cycle old ram → WentBack a0 (record state.core { ram = ram }) state end
+  pub sets : (left cycle : ℕ) (ram : List ℕ) → AlarmAlone a left cycle old ram → BackEffect a0 (record state.core { ram = ram }) state end
       → slice_index end.core.registers a0 ≡ E_OK
-      → outcome b.config served a mask t s ≡ GoesOn E_OK (with_alarm (answered_state E_OK t s) a (record { left = left; cycle = cycle })) → Answers b s t served touched end
+      → outcome b.config served a mask t s ≡ GoesOn E_OK (with_alarm (answered_state E_OK t s) a (record { left = left; cycle = cycle })) → IsServiceAnswer b s t served touched end
   sets left cycle ram alone back status_is answer_is =
       answers_so b state s t own served is fits touched end 0 0 none names E_OK status_is
       (with_alarm (answered_state E_OK t s) a (record { left = left; cycle = cycle })) (outcome_at ∙ answer_is)
@@ -121,8 +121,8 @@ module _ (b : Build) (state : State) (s : System) (t : ℕ) (own : Task) (served
       (ap (λ r. word_at r cur) back.left.ram ∙ alone.other cur (omega arith) (λ e. omega (arith, e)) (λ e. omega (arith, e)))
 
   -- the ticks that are left are told
-  pub tells : slice_index end.core.registers a0 ≡ E_OK → (number : ℕ) → slice_index end.core.registers a1 ≡ number → WentBack a1 state.core state end
-      → outcome b.config served a mask t s ≡ GoesOn E_OK (answered_state_with number t s) → Answers b s t served touched end
+  pub tells : slice_index end.core.registers a0 ≡ E_OK → (number : ℕ) → slice_index end.core.registers a1 ≡ number → BackEffect a1 state.core state end
+      → outcome b.config served a mask t s ≡ GoesOn E_OK (answered_state_with number t s) → IsServiceAnswer b s t served touched end
   tells status_is number number_is back answer_is =
       answers_number b state s t own served is fits touched end 0 0 none names may.goes_on.followed back status_is number number_is (outcome_at ∙ answer_is)
 
@@ -152,36 +152,36 @@ module _ (b : Build) (state : State) (s : System) (t : ℕ) (own : Task) (served
       ≡ cond in_use (GoesOn E_OS_STATE (answered_state E_OS_STATE t s))
       (cond fits (GoesOn E_OK (with_alarm (answered_state E_OK t s) a (record { left = ticks state.core; cycle = second_operand state.core })))
       (GoesOn E_OS_VALUE (answered_state E_OS_VALUE t s)))) where
-    busy : HasAlarm a state end → Answers b s t served touched end
+    busy : HasAlarm a state end → IsServiceAnswer b s t served touched end
     busy h = refuses E_OS_STATE h.status h.back (decides true (is_used h.used) allowed refl)
 
-    no_fit : HasNoFit a Fit state end → Answers b s t served touched end
+    no_fit : HasNoFit a Fit state end → IsServiceAnswer b s t served touched end
     no_fit h = refuses E_OS_VALUE h.status h.back (decides false (not_used h.unused) false (none_fits h.none))
 
-    now_set : HasAlarmSet a Fit ticks state end → Answers b s t served touched end
+    now_set : HasAlarmSet a Fit ticks state end → IsServiceAnswer b s t served touched end
     now_set h =
         sets (ticks state.core) (second_operand state.core) _
         (set_alone old a (ticks state.core) (second_operand state.core) few (small h.fits) (may.words 11) k.fixed.ram) h.back h.status
         (decides false (not_used h.unused) true (all_fit h.fits))
 
-    pub set_answers : AlarmSet a Fit ticks touched state end → Answers b s t served touched end
+    pub set_answers : SetAlarmEffect a Fit ticks touched state end → IsServiceAnswer b s t served touched end
     set_answers effect = ⊎_elim busy (λ (e : HasNoFit a Fit state end ⊎ HasAlarmSet a Fit ticks state end). ⊎_elim no_fit now_set e) effect.done
 
 -- ---- the four services
 
-module _ (b : Build) (state : State) (s : System) (t : ℕ) (own : Task) (a : ℕ) (touched : List ℕ) (end : State) (fits : Fits b) where
+module _ (b : Build) (state : State) (s : System) (t : ℕ) (own : Task) (a : ℕ) (touched : List ℕ) (end : State) (fits : HasFittingPlaces b) where
   abbrev declared : CounterDecl
   declared = counter_of b.config a
 
   -- CancelAlarm
-  pub cancels : MayUseAlarm b state s t own service.CancelAlarm a → AlarmCancelled a touched state end → Answers b s t service.CancelAlarm touched end
+  pub cancels : MayUseAlarm b state s t own service.CancelAlarm a → CancelAlarmEffect a touched state end → IsServiceAnswer b s t service.CancelAlarm touched end
   cancels may effect =
       let there = ltb-true a (length b.config.alarms) may.goes_on.names in
       let k = may.goes_on.is_served.stands in
       let few : a < alarm_limit = let f = fits.few_alarms in omega (arith, there, f) in
       let cycle : ℕ = (alarm s a).cycle in
-      let now : Outcome = GoesOn E_OK (with_alarm (answered_state E_OK t s) a (record { left = 0; cycle = cycle })) in
-      let no : Outcome = GoesOn E_OS_NOFUNC (answered_state E_OS_NOFUNC t s) in
+      let now : ServiceOutcome = GoesOn E_OK (with_alarm (answered_state E_OK t s) a (record { left = 0; cycle = cycle })) in
+      let no : ServiceOutcome = GoesOn E_OS_NOFUNC (answered_state E_OS_NOFUNC t s) in
       ⊎_elim
       (λ (h : HasNoAlarm a state end).
       refuses b state s t own service.CancelAlarm a touched end fits may there effect.touches E_OS_NOFUNC h.status h.back
@@ -201,11 +201,11 @@ module _ (b : Build) (state : State) (s : System) (t : ℕ) (own : Task) (a : �
       effect.done
 
   -- GetAlarm
-  pub tells_left : MayUseAlarm b state s t own service.GetAlarm a → AlarmTold a touched state end → Answers b s t service.GetAlarm touched end
+  pub tells_left : MayUseAlarm b state s t own service.GetAlarm a → GetAlarmEffect a touched state end → IsServiceAnswer b s t service.GetAlarm touched end
   tells_left may effect =
       let there = ltb-true a (length b.config.alarms) may.goes_on.names in
-      let now : Outcome = GoesOn E_OK (answered_state_with (alarm s a).left t s) in
-      let no : Outcome = GoesOn E_OS_NOFUNC (answered_state E_OS_NOFUNC t s) in
+      let now : ServiceOutcome = GoesOn E_OK (answered_state_with (alarm s a).left t s) in
+      let no : ServiceOutcome = GoesOn E_OS_NOFUNC (answered_state E_OS_NOFUNC t s) in
       ⊎_elim
       (λ (h : HasNoAlarm a state end).
       refuses b state s t own service.GetAlarm a touched end fits may there effect.touches E_OS_NOFUNC h.status h.back
@@ -217,17 +217,17 @@ module _ (b : Build) (state : State) (s : System) (t : ℕ) (own : Task) (a : �
       effect.done
 
   -- SetRelAlarm
-  pub sets_relative : MayUseAlarm b state s t own service.SetRelAlarm a → AlarmSet a (TicksFit declared.max declared.min_cycle) first_operand touched state end
-      → Answers b s t service.SetRelAlarm touched end
+  pub sets_relative : MayUseAlarm b state s t own service.SetRelAlarm a → SetAlarmEffect a (TicksFit declared.max declared.min_cycle) first_operand touched state end
+      → IsServiceAnswer b s t service.SetRelAlarm touched end
   sets_relative may effect =
       let there = ltb-true a (length b.config.alarms) may.goes_on.names in
       let x = first_operand state.core in
       let y = second_operand state.core in
       let x_is = first_is b state s t own service.SetRelAlarm a touched end fits may there effect.touches in
       let y_is = second_is b state s t own service.SetRelAlarm a touched end fits may there effect.touches in
-      let one : Outcome = GoesOn E_OS_STATE (answered_state E_OS_STATE t s) in
-      let two : (ticks cycle : ℕ) → Outcome = λ ticks cycle. GoesOn E_OK (with_alarm (answered_state E_OK t s) a (record { left = ticks; cycle = cycle })) in
-      let three : Outcome = GoesOn E_OS_VALUE (answered_state E_OS_VALUE t s) in
+      let one : ServiceOutcome = GoesOn E_OS_STATE (answered_state E_OS_STATE t s) in
+      let two : (ticks cycle : ℕ) → ServiceOutcome = λ ticks cycle. GoesOn E_OK (with_alarm (answered_state E_OK t s) a (record { left = ticks; cycle = cycle })) in
+      let three : ServiceOutcome = GoesOn E_OS_VALUE (answered_state E_OS_VALUE t s) in
       set_answers b state s t own service.SetRelAlarm a touched end fits may there effect.touches (TicksFit declared.max declared.min_cycle) first_operand
       (allows_relative declared x y)
       (λ f. and_from (not (x == 0)) (leb x declared.max && allows_cycle declared y) (ap not (ne_eqb x 0 f.0))
@@ -246,8 +246,8 @@ module _ (b : Build) (state : State) (s : System) (t : ℕ) (own : Task) (a : �
 
   -- SetAbsAlarm
   pub sets_absolute : MayUseAlarm b state s t own service.SetAbsAlarm a
-      → AlarmSet a (AlarmValueFits declared.max declared.min_cycle) (ticks_until (alarm_declaration b.config a).counter declared.max) touched state end
-      → Answers b s t service.SetAbsAlarm touched end
+      → SetAlarmEffect a (AlarmValueFits declared.max declared.min_cycle) (ticks_until (alarm_declaration b.config a).counter declared.max) touched state end
+      → IsServiceAnswer b s t service.SetAbsAlarm touched end
   sets_absolute may effect =
       let there = ltb-true a (length b.config.alarms) may.goes_on.names in
       let k = may.goes_on.is_served.stands in
@@ -261,9 +261,9 @@ module _ (b : Build) (state : State) (s : System) (t : ℕ) (own : Task) (a : �
       let v_is : v ≡ (counter s c).value = k.clock.values c on in
       let x_is = first_is b state s t own service.SetAbsAlarm a touched end fits may there effect.touches in
       let y_is = second_is b state s t own service.SetAbsAlarm a touched end fits may there effect.touches in
-      let one : Outcome = GoesOn E_OS_STATE (answered_state E_OS_STATE t s) in
-      let two : (ticks cycle : ℕ) → Outcome = λ ticks cycle. GoesOn E_OK (with_alarm (answered_state E_OK t s) a (record { left = ticks; cycle = cycle })) in
-      let three : Outcome = GoesOn E_OS_VALUE (answered_state E_OS_VALUE t s) in
+      let one : ServiceOutcome = GoesOn E_OS_STATE (answered_state E_OS_STATE t s) in
+      let two : (ticks cycle : ℕ) → ServiceOutcome = λ ticks cycle. GoesOn E_OK (with_alarm (answered_state E_OK t s) a (record { left = ticks; cycle = cycle })) in
+      let three : ServiceOutcome = GoesOn E_OS_VALUE (answered_state E_OS_VALUE t s) in
       set_answers b state s t own service.SetAbsAlarm a touched end fits may there effect.touches (AlarmValueFits max declared.min_cycle) (ticks_until c max)
       (allows_absolute declared x y)
       (λ f. and_from (leb x max) (allows_cycle declared y) (le-leb x max f.0) (cycle_yes declared y f.1))

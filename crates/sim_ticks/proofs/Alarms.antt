@@ -18,13 +18,13 @@ use Rattle.osek_scheduler.specs.declared.state.Alarm.{Alarm}
 use Rattle.osek_scheduler.specs.State.{System, alarm, no_alarm}
 use Rattle.osek_scheduler.specs.Services.{acted_state, with_left, alarm_ticked_state, alarms_ticked_state}
 use Rattle.osek_scheduler.specs.Steps.{settled_state}
-use Rattle.sim_relation.specs.Build.{Build, Fits}
+use Rattle.sim_relation.specs.Build.{Build, HasFittingPlaces}
 use Rattle.sim_relation.proofs.Beside.{beside}
 use Rattle.sim_relation.proofs.Machines.{changed_machine}
 use Rattle.sim_ticks.proofs.Acting.{ActsOn, at, Holds, acts_hold}
 use Rattle.sim_ticks.proofs.Clocks.{OneWord, alarm_set, written, twice}
 
-module _ (b : Build) (end : State) (fits : Fits b) where
+module _ (b : Build) (end : State) (fits : HasFittingPlaces b) where
   -- the ticks that are left are others now
   left_holds : (a v : ℕ) (ram : List ℕ) (g : Ground) (s : System) → a < length b.config.alarms → OneWord (alarm_left a) v g.ram ram → Holds b end fits g s
       → Holds b end fits (record g { ram = ram }) (with_left a v s)

@@ -10,12 +10,12 @@ use Rattle.osek_scheduler.specs.declared.state.Alarm.{Alarm}
 use Rattle.osek_scheduler.specs.declared.state.Counter.{Counter}
 use Rattle.osek_scheduler.specs.State.{Clock, no_counter, no_alarm}
 use Rattle.sim_relation.specs.Bounds.{AreBelow}
-use Rattle.sim_relation.specs.Build.{Build, Fits}
+use Rattle.sim_relation.specs.Build.{Build, HasFittingPlaces}
 use Rattle.sim_relation.specs.ClockStands.{ClockStands}
 use Rattle.sim_relation.proofs.Parts.{by_element, word_other}
 
 -- an alarm has these ticks left and this cycle
-pub alarm_set : (b : Build) (old new : List ℕ) (clock : Clock) (a left cycle : ℕ) → Fits b → a < length b.config.alarms
+pub alarm_set : (b : Build) (old new : List ℕ) (clock : Clock) (a left cycle : ℕ) → HasFittingPlaces b → a < length b.config.alarms
     → word_at new (alarm_left a) ≡ left → word_at new (alarm_cycle a) ≡ cycle
     → ((p : ℕ) → p % 4 ≡ 0 → p ≢ alarm_left a → p ≢ alarm_cycle a → word_at new p ≡ word_at old p) → ClockStands b.config old clock
     → ClockStands b.config new (record clock { alarms = set clock.alarms a (record { left = left; cycle = cycle }) })
@@ -35,7 +35,7 @@ alarm_set b old new clock a left cycle fits there left_is cycle_is other k =
     }
 
 -- a counter is this one
-pub counter_set : (b : Build) (old new : List ℕ) (clock : Clock) (c : ℕ) (own : Counter) → Fits b → c < length b.config.counters
+pub counter_set : (b : Build) (old new : List ℕ) (clock : Clock) (c : ℕ) (own : Counter) → HasFittingPlaces b → c < length b.config.counters
     → word_at new (counter_value c) ≡ own.value → ((p : ℕ) → p % 4 ≡ 0 → p ≢ counter_value c → word_at new p ≡ word_at old p) → ClockStands b.config old clock
     → ClockStands b.config new (record clock { counters = set clock.counters c own })
 counter_set b old new clock c own fits there value_is other k =

@@ -21,7 +21,7 @@ use Rattle.sloth_base.specs.MemoryMap.{memory_base, vectors_base}
 use Rattle.sloth_base.proofs.Owners.{kind_of_counter, tasks_owned}
 use Rattle.sloth_base.proofs.Stretches.{counter_entry_limit, counter_touches}
 use Rattle.rv32_instr.specs.Execute.{touched}
-use Rattle.rv32_machine.specs.Advance.{seen_step}
+use Rattle.rv32_machine.specs.Advance.{observed_step}
 use Rattle.rv32_machine.specs.Run.{state_with_arrivals}
 use Rattle.masked_code.specs.Masked.{Masked, WithArrivals}
 use Rattle.masked_code.specs.Place.{offset_state}
@@ -29,7 +29,7 @@ use Rattle.masked_code.specs.Trace.{Trace, lines_of, touched_lines, early_arriva
 use Rattle.observe.specs.Observe.{View, stretch_event, later_event, entry_event}
 use Rattle.alarm_gen.specs.declared.alarms.NumberedAlarm.{NumberedAlarm}
 use Rattle.alarm_gen.specs.Alarms.{counter_alarms, targets}
-use Rattle.alarm_gen.specs.Tick.{vector, ground, AreTaskBits, MayTick, Ticked}
+use Rattle.alarm_gen.specs.Tick.{vector, ground, AreTaskBits, MayTick, TickEffect}
 use Rattle.osek_scheduler.specs.State.{Clock, System, no_counter}
 use Rattle.osek_scheduler.specs.Priority.{IsNextTick}
 use Rattle.osek_scheduler.specs.Services.{ticked_state}
@@ -43,7 +43,7 @@ use Rattle.sim_induction.proofs.Routes.{Entering, entering, touches_parted, begi
 use Rattle.sim_induction.proofs.Schedule.{owned_at}
 use Rattle.sim_induction.proofs.StretchPiece.{stretch_advances}
 use Rattle.sim_induction.proofs.Traces.{lines_trace, early_touched}
-use Rattle.sim_relation.specs.Build.{Build, Fits}
+use Rattle.sim_relation.specs.Build.{Build, HasFittingPlaces}
 use Rattle.sim_relation.specs.Placed.{setting_of}
 use Rattle.sim_relation.specs.Stands.{Stands}
 use Rattle.sim_relation.proofs.Arrive.{stands_arrived}
@@ -76,7 +76,7 @@ contains_all (x ∷ xs) = ((0, omega arith, refl), deeper xs (contains_all xs))
     deeper [] h = tt
     deeper (y ∷ ys) h = ((suc h.0.0, omega (arith, h.0.1), h.0.2), deeper ys h.1)
 
-module _ (b : Build) (view : View) (arrivals : List Arrival) (setting : IsSetting (setting_of b view arrivals)) (fits : Fits b) (count : ℕ) (late_count : 0 < count)
+module _ (b : Build) (view : View) (arrivals : List Arrival) (setting : IsSetting (setting_of b view arrivals)) (fits : HasFittingPlaces b) (count : ℕ) (late_count : 0 < count)
     (state : State) (s : System) (stands : Stands b state s) (c : ℕ) (chosen : choose (state_with_arrivals arrivals count state).core ≡ Some (counter_line c))
     (may : MayCount b (state_with_arrivals arrivals count state) (with_admits (lines_at arrivals count) s) c) (tick : TickStands b c) where
   abbrev now : State
@@ -163,7 +163,7 @@ module _ (b : Build) (view : View) (arrivals : List Arrival) (setting : IsSettin
       }
 
   abbrev Effect : List ℕ → State → State → Type 0
-  Effect = Ticked c max alarms
+  Effect = TickEffect c max alarms
 
   at_vector : offset_state (vector line) core ≡ execution_state now
   at_vector =
@@ -245,10 +245,10 @@ module _ (b : Build) (view : View) (arrivals : List Arrival) (setting : IsSettin
   kind_is : line_kind view.owners line ≡ line_of.Counter c
   kind_is = ap (λ o. line_kind o line) setting.owners ∙ kind_of_counter (owners_in b.config) c fits.few_tasks may.declared
 
-  event_is : (last : Step) → stretch_event view (seen_step count now route.next) last ≡ event.Tick c
+  event_is : (last : Step) → stretch_event view (observed_step count now route.next) last ≡ event.Tick c
   event_is last =
-      ap (λ v. cond v event.Boot (later_event (line_to_take now) view (seen_step count now route.next) last)) (ne_eqb count 0 (λ z. omega (arith, z, late_count)))
-      ∙ ap (λ o. later_event o view (seen_step count now route.next) last) taken
+      ap (λ v. cond v event.Boot (later_event (line_to_take now) view (observed_step count now route.next) last)) (ne_eqb count 0 (λ z. omega (arith, z, late_count)))
+      ∙ ap (λ o. later_event o view (observed_step count now route.next) last) taken
       ∙ ap (entry_event line) kind_is
 
   touches : IfSome (touched (execution_state now)) (Contains (targets alarms)) × AllByRecursion (Contains (targets alarms)) (touched_lines route.trace)

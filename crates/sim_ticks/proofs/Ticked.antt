@@ -24,7 +24,7 @@ use Rattle.osek_scheduler.specs.declared.state.Counter.{Counter}
 use Rattle.osek_scheduler.specs.State.{System, counter, no_counter}
 use Rattle.osek_scheduler.specs.Services.{next_value, counted_on_state, ticked_state}
 use Rattle.osek_scheduler.specs.Steps.{settled_state}
-use Rattle.sim_relation.specs.Build.{Build, Fits}
+use Rattle.sim_relation.specs.Build.{Build, HasFittingPlaces}
 use Rattle.sim_relation.specs.ClockStands.{CounterLineStands}
 use Rattle.sim_relation.specs.Stands.{Stands}
 use Rattle.sim_relation.proofs.Beside.{IsBeside, beside}
@@ -53,7 +53,7 @@ module _ (b : Build) (range : InRange b.config) where
       by [] h = tt
       by (d ∷ later) h = (acts_on d.action h.0.action, by later h.1)
 
-module _ (b : Build) (old end : State) (s : System) (c : ℕ) (touched : List ℕ) (fits : Fits b) (may : MayCount b old s c) (effect : HasTicked b c touched old end) where
+module _ (b : Build) (old end : State) (s : System) (c : ℕ) (touched : List ℕ) (fits : HasFittingPlaces b) (may : MayCount b old s c) (effect : HasTicked b c touched old end) where
   abbrev k : Stands b old s
   k = may.stands
 

@@ -17,14 +17,14 @@ use Rattle.rv32_machine.specs.Run.{state_with_arrivals}
 use Rattle.masked_code.specs.Trace.{Trace}
 use Rattle.observe.specs.Observe.{View}
 use Rattle.alarm_gen.specs.Alarms.{counter_alarms}
-use Rattle.alarm_gen.specs.Tick.{vector, Ticked, Ticks}
+use Rattle.alarm_gen.specs.Tick.{vector, TickEffect, IsTickCode}
 use Rattle.osek_scheduler.specs.State.{System, counter}
 use Rattle.osek_scheduler.specs.Services.{ticked_state}
 use Rattle.osek_scheduler.specs.Steps.{settled_state}
 use Rattle.sim_induction.specs.Admits.{IsSetting, lines_at, with_admits}
 use Rattle.sim_induction.specs.PieceLaws.{StretchLaw}
 use Rattle.sim_relation.specs.Bounds.{AreBelow}
-use Rattle.sim_relation.specs.Build.{Build, Fits}
+use Rattle.sim_relation.specs.Build.{Build, HasFittingPlaces}
 use Rattle.sim_relation.specs.Placed.{IsPlaced, setting_of}
 use Rattle.sim_relation.specs.Stands.{Stands}
 
@@ -43,17 +43,17 @@ pub record MayCount (b : Build) (state : State) (s : System) (c : ℕ) : Type 0 
 -- Its line was taken, and then the code of its tick has run.
 abbrev pub HasTicked : Build → (c : ℕ) → List ℕ → State → State → Type 0
 HasTicked b c touched state end =
-    Ticked c (counter_declaration b.config c).max (counter_alarms b.config c) touched (take (counter_line c) state) end
+    TickEffect c (counter_declaration b.config c).max (counter_alarms b.config c) touched (take (counter_line c) state) end
 
 -- The code of a tick does what the tick of the counter does, whatever ran.
 abbrev pub TickLaw : Type 0
-TickLaw = (b : Build) (state end : State) (s : System) (c : ℕ) (touched : List ℕ) → Fits b → MayCount b state s c → HasTicked b c touched state end
+TickLaw = (b : Build) (state end : State) (s : System) (c : ℕ) (touched : List ℕ) → HasFittingPlaces b → MayCount b state s c → HasTicked b c touched state end
     → Stands b end (settled_state (ticked_state b.config c s))
 
 -- code is the tick of a counter of a configuration
 pub record IsTick (config : Config) (c : ℕ) (code : List InstrKind) : Type 0 where
   pub size : length code ≡ tick_length c config.alarms
-  pub ticks : Ticks c (counter_declaration config c).max (counter_alarms config c) code
+  pub ticks : IsTickCode c (counter_declaration config c).max (counter_alarms config c) code
 
 -- the code of a counter's tick, and the jump to it at the vector of the counter's line
 pub record TickStands (b : Build) (c : ℕ) : Type 0 where
@@ -68,6 +68,6 @@ pub record TickStands (b : Build) (c : ℕ) : Type 0 where
 -- Where the line that is taken at a count is that of a counter, the code of its tick is a stretch, whatever lines arrive.
 abbrev pub TickStretch : Type 0
 TickStretch = (b : Build) (view : View) (arrivals : List Arrival) (count c : ℕ) (state : State) (s : System) → IsSetting (setting_of b view arrivals)
-    → Fits b → 0 < count → Stands b state s → choose (state_with_arrivals arrivals count state).core ≡ Some (counter_line c)
+    → HasFittingPlaces b → 0 < count → Stands b state s → choose (state_with_arrivals arrivals count state).core ≡ Some (counter_line c)
     → MayCount b (state_with_arrivals arrivals count state) (with_admits (lines_at arrivals count) s) c → TickStands b c
     → (next : State) × (trace : Trace) × (end : State) × StretchLaw (setting_of b view arrivals) (Stands b) count state s next trace end

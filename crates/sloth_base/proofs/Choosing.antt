@@ -4,7 +4,7 @@ use Rattle.std.proofs.lemmas.Bool.{cases_Bool, cases_eq, ltb-true, ltb-false}
 use Rattle.std.proofs.lemmas.Bool.Decides.{nat_tests}
 use Rattle.std.specs.Prelude.{nat_lt}
 use Rattle.sloth_base.specs.Lines.{Lines}
-use Rattle.sloth_base.specs.Choose.{MayTake, Precedes, IsChosen, may_take, better_line, best_line_below, choose_line}
+use Rattle.sloth_base.specs.Choose.{MayTake, IsBetterLine, IsChosen, may_take, better_line, best_line_below, choose_line}
 use Rattle.sloth_base.specs.MemoryMap.{line_count}
 
 -- the test tells whether the line may be taken
@@ -25,7 +25,7 @@ IsBest : Lines → ℕ → ℕ → Option ℕ → Type 0
 IsBest lines level n None = (line : ℕ) → line < n → MayTake lines level line → ⊥
 IsBest lines level n (Some best) =
     (best < n) × MayTake lines level best
-    × ((line : ℕ) → line < n → MayTake lines level line → Precedes lines best line)
+    × ((line : ℕ) → line < n → MayTake lines level line → IsBetterLine lines best line)
 
 below_more : (P : ℕ → Type 0) (n : ℕ) → ((k : ℕ) → k < n → P k) → P n → (k : ℕ) → k < suc n → P k
 below_more P n a b k h =
@@ -38,19 +38,19 @@ unfolding IsBest
 now_better lines level n None h m = (
   omega arith,
   m,
-  below_more (λ k. MayTake lines level k → Precedes lines n k) n (λ k l t. absurd (h k l t)) (λ t. grind arith),
+  below_more (λ k. MayTake lines level k → IsBetterLine lines n k) n (λ k l t. absurd (h k l t)) (λ t. grind arith),
 )
 now_better lines level n (Some best) h m =
     ⊎_elim
     (λ (e : nat_lt (slice_index lines.levels best) (slice_index lines.levels n) ≡ true).
     let lt = ltb-true (slice_index lines.levels best) (slice_index lines.levels n) e in
     subst (λ v. IsBest lines level (suc n) (cond v (Some n) (Some best))) (sym e)
-    (omega arith, m, below_more (λ k. MayTake lines level k → Precedes lines n k) n (λ k l t. let f = h.2 k l t in grind (arith, f)) (λ t. grind arith)))
+    (omega arith, m, below_more (λ k. MayTake lines level k → IsBetterLine lines n k) n (λ k l t. let f = h.2 k l t in grind (arith, f)) (λ t. grind arith)))
     (λ (e : nat_lt (slice_index lines.levels best) (slice_index lines.levels n) ≡ false).
     let ge = ltb-false (slice_index lines.levels best) (slice_index lines.levels n) e in
     let lower = h.0 in
     subst (λ v. IsBest lines level (suc n) (cond v (Some n) (Some best))) (sym e)
-    (omega arith, h.1, below_more (λ k. MayTake lines level k → Precedes lines best k) n h.2 (λ t. grind arith)))
+    (omega arith, h.1, below_more (λ k. MayTake lines level k → IsBetterLine lines best k) n h.2 (λ t. grind arith)))
     (cases_Bool (nat_lt (slice_index lines.levels best) (slice_index lines.levels n)))
 
 as_before
@@ -60,7 +60,7 @@ unfolding IsBest
 as_before lines level n None h m = below_more (λ k. MayTake lines level k → ⊥) n h m
 as_before lines level n (Some best) h m =
     let lower = h.0 in
-    (omega arith, h.1, below_more (λ k. MayTake lines level k → Precedes lines best k) n h.2 (λ t. absurd (m t)))
+    (omega arith, h.1, below_more (λ k. MayTake lines level k → IsBetterLine lines best k) n h.2 (λ t. absurd (m t)))
 
 best : (lines : Lines) (level n : ℕ) → n ≤ line_count → IsBest lines level n (best_line_below lines level n)
 unfolding IsBest best_line_below

@@ -10,13 +10,13 @@ abbrev pub moments : ℕ → ℕ → List Arrival → List Arrival
 moments from to arrivals = filter (λ a. nat_le from a.at && nat_lt a.at to) arrivals
 
 -- the moments never fall
-abbrev pub NeverFalls : ℕ → List Arrival → Type 0
-NeverFalls before [] = Unit {0}
-NeverFalls before (a ∷ rest) = (before ≤ a.at) × NeverFalls a.at rest
+abbrev pub AreRisingMoments : ℕ → List Arrival → Type 0
+AreRisingMoments before [] = Unit {0}
+AreRisingMoments before (a ∷ rest) = (before ≤ a.at) × AreRisingMoments a.at rest
 
 -- at most 100,000 arrivals, at moments from 1 to 1,000,000 that never fall, of lines that have owners
 pub record AreArrivals (owners : Owners) (arrivals : List Arrival) : Type 0 where
   pub few : length arrivals ≤ arrival_limit
   pub moments_in_range : All (λ a. a.at ≤ count_limit) arrivals
-  pub ordered : NeverFalls 1 arrivals
+  pub ordered : AreRisingMoments 1 arrivals
   pub lines_owned : All (λ a. IsOwned owners a.line) arrivals

@@ -12,8 +12,8 @@ pub record MayTake (lines : Lines) (level line : ℕ) : Type 0 where
   pub is_above : level < slice_index lines.levels line
 
 -- a line comes before another: by a higher level, or on equal levels by a number that is not greater
-abbrev pub Precedes : Lines → ℕ → ℕ → Type 0
-Precedes lines line other =
+abbrev pub IsBetterLine : Lines → ℕ → ℕ → Type 0
+IsBetterLine lines line other =
     (slice_index lines.levels other < slice_index lines.levels line)
     ⊎ ((slice_index lines.levels other ≡ slice_index lines.levels line) × (line ≤ other))
 
@@ -21,7 +21,7 @@ Precedes lines line other =
 abbrev pub IsChosen : Lines → ℕ → Option ℕ → Type 0
 IsChosen lines level None = (line : ℕ) → MayTake lines level line → ⊥
 IsChosen lines level (Some line) =
-    MayTake lines level line × ((other : ℕ) → MayTake lines level other → Precedes lines line other)
+    MayTake lines level line × ((other : ℕ) → MayTake lines level other → IsBetterLine lines line other)
 
 -- the choice, computed: the best among the lines below a number
 abbrev pub may_take : Lines → ℕ → ℕ → Bool

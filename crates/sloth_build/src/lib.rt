@@ -2,7 +2,7 @@
 //!
 //! `build` gives an image exactly where the texts are accepted, unless memory is wanting; else the first refusal. The image is sound (clause
 //! `sound`), shows the abstract scheduler's task states (`shows`), has the items in place (`items`), and its bytes are below 256 (`bytes`). The
-//! promise of the image: `sim_induction` (`Sound`), `rv32_expand` (`InPlace`), `sim_laws` (`Shown`); texts: `sloth_source` (`Texts`).
+//! promise of the image: `sim_induction` (`Sound`), `rv32_expand` (`InPlace`), `sim_laws` (`TaskStates`); texts: `sloth_source` (`Texts`).
 #![tactic(auto)]
 
 mod building;

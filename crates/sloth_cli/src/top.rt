@@ -2,11 +2,11 @@
 ghost use Rattle.std.specs.Prelude.{IfOk, IfErr, OnOk};
 ghost use Rattle.command_line.specs.Command.{words_of, Builds, IsInLimit, KeepsLimit};
 ghost use Rattle.command_line.specs.Words.{building_of, command_of, run_of};
-ghost use Rattle.sloth_commands.specs.Top.{world, Answers, TellsUsage, TellsRefused, IsComplete};
-ghost use Rattle.sloth_commands.specs.ImageAnswers.{TellsFault, TellsNoImage, TellsExecRefused, TellsExecuted, TellsListed};
-ghost use Rattle.sloth_commands.specs.SampleAnswers.{TellsSampleRefused, TellsSampled};
-ghost use Rattle.sloth_commands.specs.ToolAnswers.{TellsTool, TellsToolDone};
-ghost use Rattle.sloth_commands.specs.Failures.{CommandFailed, IsPerformed};
+ghost use Rattle.sloth_commands.specs.Top.{world, IsTopAnswer, HasUsageAnswer, HasRefusalAnswer, IsComplete};
+ghost use Rattle.sloth_commands.specs.ImageAnswers.{HasImageFaultAnswer, HasNoImageAnswer, HasExecRefusedAnswer, HasExecutedAnswer, HasListedAnswer};
+ghost use Rattle.sloth_commands.specs.SampleAnswers.{HasSampleRefusedAnswer, HasSampledAnswer};
+ghost use Rattle.sloth_commands.specs.ToolAnswers.{HasToolAnswer, HasToolDoneAnswer};
+ghost use Rattle.sloth_commands.specs.Failures.{IsCommandFailure, IsPerformed};
 ghost use Rattle.tool_answers.specs.declared.status.Status.TheVariants.{Done as DoneStatus};
 
 use command_line::command::{BuildWords, CommandWords, command};
@@ -31,7 +31,7 @@ fn attempt<F: Store, S: Sink>(
     requires { IsInLimit (run_of c.now.run) }
     ensures done { OnOk result (IsPerformed DoneStatus
         (world (F.seen files.old) (S.seen out.old)) (world (F.seen files.new) (S.seen out.new)) (Builds (building_of c.now))) }
-    ensures err { IfErr result (λ failure. CommandFailed failure
+    ensures err { IfErr result (λ failure. IsCommandFailure failure
         (world (F.seen files.old) (S.seen out.old)) (world (F.seen files.new) (S.seen out.new)) (Builds (building_of c.now))) }
 {
     let inputs = read_inputs(alloc, files, c)?;
@@ -56,7 +56,7 @@ fn obey<F: Store, S: Sink>(
     requires { KeepsLimit (command_of c.now) }
     ensures done { IfOk result (λ status. IsPerformed status
         (world (F.seen files.old) (S.seen out.old)) (world (F.seen files.new) (S.seen out.new)) (command_of c.now)) }
-    ensures err { IfErr result (λ failure. CommandFailed failure
+    ensures err { IfErr result (λ failure. IsCommandFailure failure
         (world (F.seen files.old) (S.seen out.old)) (world (F.seen files.new) (S.seen out.new)) (command_of c.now)) }
 {
     match c {
@@ -74,7 +74,7 @@ fn obey<F: Store, S: Sink>(
 // Does what the words say, and puts the last line of a failure. It has one clause, proved on each of its ways out; from that clause alone
 // those of `sloth_top` follow, by a law each.
 fn answer<F: Store, S: Sink>(alloc: Global, words: &[String], files: &mut F, out: &mut S) -> Status
-    ensures { Answers (words_of words.now) (world (F.seen files.old) (S.seen out.old)) (world (F.seen files.new) (S.seen out.new)) result }
+    ensures { IsTopAnswer (words_of words.now) (world (F.seen files.old) (S.seen out.old)) (world (F.seen files.new) (S.seen out.new)) result }
 {
     let Some(c) = command(words) else {
         return say(out, b"usage\n", Status::Usage);
@@ -92,21 +92,21 @@ pub fn sloth_top<F: Store, S: Sink>(
     files: &mut F,
     out: &mut S,
 ) -> Status
-    ensures answers { Answers (words_of words.now) (world (F.seen files.old) (S.seen out.old)) (world (F.seen files.new) (S.seen out.new)) result }
-    ensures usage { TellsUsage (words_of words.now) (world (F.seen files.old) (S.seen out.old)) (world (F.seen files.new) (S.seen out.new)) result }
-    ensures refused { TellsRefused (words_of words.now) (world (F.seen files.old) (S.seen out.old)) (world (F.seen files.new) (S.seen out.new)) result }
+    ensures answers { IsTopAnswer (words_of words.now) (world (F.seen files.old) (S.seen out.old)) (world (F.seen files.new) (S.seen out.new)) result }
+    ensures usage { HasUsageAnswer (words_of words.now) (world (F.seen files.old) (S.seen out.old)) (world (F.seen files.new) (S.seen out.new)) result }
+    ensures refused { HasRefusalAnswer (words_of words.now) (world (F.seen files.old) (S.seen out.old)) (world (F.seen files.new) (S.seen out.new)) result }
     ensures complete { IsComplete (words_of words.now) (world (F.seen files.old) (S.seen out.old)) (world (F.seen files.new) (S.seen out.new)) result }
-    ensures fault { TellsFault (words_of words.now) (world (F.seen files.old) (S.seen out.old)) (world (F.seen files.new) (S.seen out.new)) result }
-    ensures no_image { TellsNoImage (words_of words.now) (world (F.seen files.old) (S.seen out.old)) (world (F.seen files.new) (S.seen out.new)) result }
-    ensures exec_refused { TellsExecRefused (words_of words.now)
+    ensures fault { HasImageFaultAnswer (words_of words.now) (world (F.seen files.old) (S.seen out.old)) (world (F.seen files.new) (S.seen out.new)) result }
+    ensures no_image { HasNoImageAnswer (words_of words.now) (world (F.seen files.old) (S.seen out.old)) (world (F.seen files.new) (S.seen out.new)) result }
+    ensures exec_refused { HasExecRefusedAnswer (words_of words.now)
         (world (F.seen files.old) (S.seen out.old)) (world (F.seen files.new) (S.seen out.new)) result }
-    ensures executed { TellsExecuted (words_of words.now) (world (F.seen files.old) (S.seen out.old)) (world (F.seen files.new) (S.seen out.new)) result }
-    ensures listed { TellsListed (words_of words.now) (world (F.seen files.old) (S.seen out.old)) (world (F.seen files.new) (S.seen out.new)) result }
-    ensures sample_refused { TellsSampleRefused (words_of words.now)
+    ensures executed { HasExecutedAnswer (words_of words.now) (world (F.seen files.old) (S.seen out.old)) (world (F.seen files.new) (S.seen out.new)) result }
+    ensures listed { HasListedAnswer (words_of words.now) (world (F.seen files.old) (S.seen out.old)) (world (F.seen files.new) (S.seen out.new)) result }
+    ensures sample_refused { HasSampleRefusedAnswer (words_of words.now)
         (world (F.seen files.old) (S.seen out.old)) (world (F.seen files.new) (S.seen out.new)) result }
-    ensures sampled { TellsSampled (words_of words.now) (world (F.seen files.old) (S.seen out.old)) (world (F.seen files.new) (S.seen out.new)) result }
-    ensures tool { TellsTool (words_of words.now) (world (F.seen files.old) (S.seen out.old)) (world (F.seen files.new) (S.seen out.new)) result }
-    ensures tool_done { TellsToolDone (words_of words.now) (world (F.seen files.old) (S.seen out.old)) (world (F.seen files.new) (S.seen out.new)) result }
+    ensures sampled { HasSampledAnswer (words_of words.now) (world (F.seen files.old) (S.seen out.old)) (world (F.seen files.new) (S.seen out.new)) result }
+    ensures tool { HasToolAnswer (words_of words.now) (world (F.seen files.old) (S.seen out.old)) (world (F.seen files.new) (S.seen out.new)) result }
+    ensures tool_done { HasToolDoneAnswer (words_of words.now) (world (F.seen files.old) (S.seen out.old)) (world (F.seen files.new) (S.seen out.new)) result }
 {
     answer(alloc, words, files, out)
 }

@@ -21,17 +21,17 @@ use Rattle.tool_answers.specs.declared.status.Status.{Status}
 use Rattle.tool_answers.specs.declared.status.Status.TheVariants as status
 use Rattle.sloth_commands.specs.declared.failure.Failure.{Failure}
 use Rattle.sloth_commands.specs.declared.failure.Failure.TheVariants as failure
-use Rattle.sloth_commands.specs.Top.{World, world, inputs_of, AreInputs, FilesStay, IsAccepted, IsBuiltImage}
+use Rattle.sloth_commands.specs.Top.{World, world, inputs_of, AreInputs, AreFilesSame, IsAccepted, IsBuiltImage}
 use Rattle.sloth_base.specs.DeclaredNames.{task_names, counter_names}
-use Rattle.sloth_commands.specs.Top.{IsWritten, IsDone, Requires, Took, Puts, Closes, BrokeOff, Answers, done_text}
-use Rattle.sloth_commands.specs.Failures.{ReadFailed, JudgeFailed, PerformFailed, Ends, EndsPlainly, CommandFailed, IsPerformed, Finished}
+use Rattle.sloth_commands.specs.Top.{IsWritten, IsDone, IsRequired, IsTextTaken, IsPutAnswer, IsCloseAnswer, IsTextBrokenOff, IsTopAnswer, done_text}
+use Rattle.sloth_commands.specs.Failures.{IsReadFailure, IsJudgeFailure, IsPerformFailure, IsCommandEnd, IsPlainEnd, IsCommandFailure, IsPerformed, IsFailureEnd}
 use Rattle.sloth_commands.proofs.Ceilings.{shown-keep, shown-keep_bounds}
 use Rattle.sloth_commands.proofs.ToolCauses.{end-required}
 
 -- ---- a command
 
-pub read-ends : (f : Failure) (old new : Files) (sink : Output) (c : Command) → ReadFailed f old new (inputs_of c) → FilesStay old new
-    → CommandFailed f (world old sink) (world new sink) c
+pub read-ends : (f : Failure) (old new : Files) (sink : Output) (c : Command) → IsReadFailure f old new (inputs_of c) → AreFilesSame old new
+    → IsCommandFailure f (world old sink) (world new sink) c
 read-ends failure.ReadFault old new sink c h stay = (h, stay, refl)
 read-ends failure.TooLong old new sink c h stay = (h, stay, refl)
 read-ends failure.NoMemory old new sink c h stay = (stay, refl)
@@ -41,7 +41,7 @@ read-ends failure.Put old new sink c h stay = absurd h
 read-ends (failure.NotAnImage fault) old new sink c h stay = absurd h
 
 pub judge-ends : (f : Failure) (old new : Files) (sink : Output) (c : Building) (oil src arr : List ℕ)
-    → AreInputs old c oil src arr → JudgeFailed f oil src arr → FilesStay old new → CommandFailed f (world old sink) (world new sink) (Builds c)
+    → AreInputs old c oil src arr → IsJudgeFailure f oil src arr → AreFilesSame old new → IsCommandFailure f (world old sink) (world new sink) (Builds c)
 judge-ends (failure.Refused r) old new sink c oil src arr inputs h stay =
     (record { oil = oil; src = src; arr = arr; inputs = inputs; is = h }, stay, refl)
 judge-ends failure.NoMemory old new sink c oil src arr inputs h stay = (stay, refl)
@@ -88,8 +88,8 @@ done old mid new c image arrivals b w = record {
 }
 
 pub perform-ends : (f : Failure) (old mid : Files) (sink : Output) (new : World) (c : Building) (image : Image) (arrivals : List Arrival)
-    → IsBuilt old mid c image arrivals → PerformFailed f (world mid sink) new c.img (image_bytes image) (done_text image arrivals c.run)
-    → CommandFailed f (world old sink) new (Builds c)
+    → IsBuilt old mid c image arrivals → IsPerformFailure f (world mid sink) new c.img (image_bytes image) (done_text image arrivals c.run)
+    → IsCommandFailure f (world old sink) new (Builds c)
 perform-ends failure.NoMemory old mid sink new c image arrivals is h = (λ name. h.0 name ∙ is.kept.holds name, h.1)
 perform-ends failure.WriteFile old mid sink new c image arrivals is h = (
   record {
@@ -121,12 +121,12 @@ both-ok (Err e) P Q R f p q = tt
 -- ---- the last line
 
 -- a line that is put behind a command that put nothing
-puts-behind : (wanted answer : Status) (old mid new : Output) (line : List ℕ) → mid ≡ old → Puts wanted answer mid new line → Puts wanted answer old new line
-puts-behind wanted answer old mid new line same p = subst (λ (x : Output). Puts wanted answer x new line) same p
+puts-behind : (wanted answer : Status) (old mid new : Output) (line : List ℕ) → mid ≡ old → IsPutAnswer wanted answer mid new line → IsPutAnswer wanted answer old new line
+puts-behind wanted answer old mid new line same p = subst (λ (x : Output). IsPutAnswer wanted answer x new line) same p
 
 -- how a command ended is what its status requires
-required-plain : (s : Status) (words : List (List ℕ)) (c : Command) (old new : Files) (text : List ℕ) → IsCommand words c → EndsPlainly s old new c text
-    → Requires s words old new text
+required-plain : (s : Status) (words : List (List ℕ)) (c : Command) (old new : Files) (text : List ℕ) → IsCommand words c → IsPlainEnd s old new c text
+    → IsRequired s words old new text
 required-plain status.Done words c old new text is h = (c, is, h)
 required-plain status.Stopped words c old new text is h = (c, is, h)
 required-plain status.Usage words c old new text is h = absurd h
@@ -140,8 +140,8 @@ required-plain status.NotAnElf words c old new text is h = absurd h
 required-plain status.BadTrace words c old new text is h = absurd h
 required-plain status.NoHolds words c old new text is h = absurd h
 
-required : (s : Status) (words : List (List ℕ)) (c : Command) (old new : Files) (text : List ℕ) → IsCommand words c → Ends s old new c text
-    → Requires s words old new text
+required : (s : Status) (words : List (List ℕ)) (c : Command) (old new : Files) (text : List ℕ) → IsCommand words c → IsCommandEnd s old new c text
+    → IsRequired s words old new text
 required s words (Builds b) old new text is h = required-plain s words (Builds b) old new text is h
 required s words (Executes e) old new text is h = required-plain s words (Executes e) old new text is h
 required s words (Lists img) old new text is h = required-plain s words (Lists img) old new text is h
@@ -149,7 +149,7 @@ required s words (Samples seed img) old new text is h = required-plain s words (
 required s words (Uses u) old new text is h = end-required s words u old new text is h
 
 pub finished : (f : Failure) (words : List (List ℕ)) (c : Command) (old : World) (files : Files) (mid new : Output) (answer : Status)
-    → IsCommand words c → CommandFailed f old (world files mid) c → Finished f answer mid new → Answers words old (world files new) answer
+    → IsCommand words c → IsCommandFailure f old (world files mid) c → IsFailureEnd f answer mid new → IsTopAnswer words old (world files new) answer
 finished (failure.Refused r) words c old files mid new answer is h d = record {
   wanted = status.Refused;
   text = refusal_line r;
@@ -190,17 +190,17 @@ finished failure.Put words c old files mid new answer is h d = record {
   wanted = h.0;
   text = h.1;
   required = required h.0 words c old.files files h.1 is h.2;
-  puts = inr (d.0, subst (λ (x : Output). BrokeOff old.sink x h.1) (sym d.1) h.3);
+  puts = inr (d.0, subst (λ (x : Output). IsTextBrokenOff old.sink x h.1) (sym d.1) h.3);
 }
 
 -- a text that was taken, and then what the sink holds back
-pub closed : (wanted answer : Status) (old mid new : Output) (text : List ℕ) → Took old mid text → Closes wanted answer mid new
-    → Puts wanted answer old new text
+pub closed : (wanted answer : Status) (old mid new : Output) (text : List ℕ) → IsTextTaken old mid text → IsCloseAnswer wanted answer mid new
+    → IsPutAnswer wanted answer old new text
 closed wanted answer old mid new text took (inl done) = inl (done.0, done.1 ∙ took)
 closed wanted answer old mid new text took (inr failed) = inr (failed.0, part-whole old mid new text took failed.1)
 
 pub answered : (words : List (List ℕ)) (c : Command) (old : World) (files : Files) (mid new : Output) (s answer : Status) → IsCommand words c
-    → IsPerformed s old (world files mid) c → Closes s answer mid new → Answers words old (world files new) answer
+    → IsPerformed s old (world files mid) c → IsCloseAnswer s answer mid new → IsTopAnswer words old (world files new) answer
 answered words c old files mid new s answer is h d = record {
   wanted = s;
   text = h.0;

@@ -24,10 +24,10 @@ use Rattle.sloth_commands.specs.ImageFiles.{IsNoImage}
 use Rattle.tool_answers.specs.declared.status.Status.{Status}
 use Rattle.tool_answers.specs.declared.status.Status.TheVariants as status
 use Rattle.sloth_commands.specs.Top.{World, arrivals_named, inputs_of, FirstUnread, AreInputs, HoldsArrivals, AreThere, IsFailedRead, IsLongRead}
-use Rattle.sloth_commands.specs.Top.{CommandDone, CommandRefused, CommandUnwritten, CommandStopped, done_text, IsRefused, IsAccepted, IsBuiltImage, Requires, Puts, Took, BrokeOff, EndsAs, Answers}
+use Rattle.sloth_commands.specs.Top.{IsCommandDone, IsCommandRefused, IsCommandUnwritten, IsCommandStopped, done_text, IsRefused, IsAccepted, IsBuiltImage, IsRequired, IsPutAnswer, IsTextTaken, IsTextBrokenOff, IsFullAnswer, IsTopAnswer}
 use Rattle.trace_check.specs.Inputs.{IsRefusal}
 use Rattle.sloth_base.specs.DeclaredNames.{task_names, counter_names}
-use Rattle.sloth_commands.specs.Top.{AnswersUsage, AnswersRefused, ReadsWork, WritesWork, HasSpace, PutsWork, CallsWork, TellsUsage, TellsRefused, IsComplete}
+use Rattle.sloth_commands.specs.Top.{IsUsageAnswer, IsRefusalAnswer, ReadsWork, WritesWork, HasSpace, PutsWork, CallsWork, HasUsageAnswer, HasRefusalAnswer, IsComplete}
 use Rattle.command_line.proofs.Commands.{one-command}
 use Rattle.trace_check.proofs.Refused.{not-refused, one-way}
 
@@ -120,7 +120,7 @@ refused-verdict old c config app oil src arr r there h none refused =
 -- ---- puts and writes
 
 -- a put that broke off is counted
-pub counted-put : (old new : Output) (text : List ℕ) → BrokeOff old new text → Rose old.faults new.faults
+pub counted-put : (old new : Output) (text : List ℕ) → IsTextBrokenOff old new text → Rose old.faults new.faults
 counted-put old new text h = let rose : new.faults ≡ min (old.faults + 1) 18446744073709551615 = ap (λ (o : Output). o.faults) h.3 in omega (arith, rose)
 
 full : (taken : Option (List ℕ)) (space : Option ℕ) (text : List ℕ) → HasSpace taken space text → HasNoSpace taken space text → ⊥
@@ -129,7 +129,7 @@ full None (Some space) text h n = h
 full (Some taken) (Some space) text h n =
     let room : length taken + length text ≤ space = h in let over : space < length taken + length text = n in omega (arith, room, over)
 
-pub no-broken-put : (old new : Output) (text : List ℕ) → PutsWork old new text → BrokeOff old new text → ⊥
+pub no-broken-put : (old new : Output) (text : List ℕ) → PutsWork old new text → IsTextBrokenOff old new text → ⊥
 no-broken-put old new text (inl stay) h = stays old.faults new.faults stay (counted-put old new text h)
 no-broken-put old new text (inr room) h = full old.taken old.space text room h.4
 
@@ -143,8 +143,8 @@ no-tool words u c used is other = subst IsNoTool (one-command words c (Uses u) i
 
 -- ---- Usage
 
-usage-by : (wanted answer : Status) (words : List (List ℕ)) (old new : World) (text : List ℕ) → Requires wanted words old.files new.files text
-    → Puts wanted answer old.sink new.sink text → NoCommand words → AnswersUsage old new answer
+usage-by : (wanted answer : Status) (words : List (List ℕ)) (old new : World) (text : List ℕ) → IsRequired wanted words old.files new.files text
+    → IsPutAnswer wanted answer old.sink new.sink text → NoCommand words → IsUsageAnswer old new answer
 usage-by status.Usage answer words old new text r (inl p) none = inl p.0
 usage-by status.Usage answer words old new text r (inr p) none = inr (p.0, counted-put old.sink new.sink text p.1)
 usage-by status.Done answer words old new text r p none = absurd (none r.0 r.1)
@@ -159,18 +159,18 @@ usage-by status.NotAnElf answer words old new text r p none = absurd (none (Uses
 usage-by status.BadTrace answer words old new text r p none = absurd (none (Uses r.0) r.1)
 usage-by status.NoHolds answer words old new text r p none = absurd (none (Uses r.0) r.1)
 
-pub tells-usage : (words : List (List ℕ)) (old new : World) (answer : Status) → Answers words old new answer → TellsUsage words old new answer
+pub tells-usage : (words : List (List ℕ)) (old new : World) (answer : Status) → IsTopAnswer words old new answer → HasUsageAnswer words old new answer
 tells-usage words old new answer h none = usage-by h.wanted answer words old new h.text h.required h.puts none
 
 -- ---- Refused
 
 refused-by : (wanted answer : Status) (words : List (List ℕ)) (old new : World) (text : List ℕ) (c : Building) (oil src arr : List ℕ) (r : Refusal)
-    → Requires wanted words old.files new.files text → Puts wanted answer old.sink new.sink text
-    → IsCommand words (Builds c) → AreThere old.files c oil src arr → ReadsWork old.files new.files → IsRefusal oil src arr r → AnswersRefused old new r answer
+    → IsRequired wanted words old.files new.files text → IsPutAnswer wanted answer old.sink new.sink text
+    → IsCommand words (Builds c) → AreThere old.files c oil src arr → ReadsWork old.files new.files → IsRefusal oil src arr r → IsRefusalAnswer old new r answer
 refused-by status.Refused answer words old new text c oil src arr r q (inl p) is there works refusal =
     let same : q.2 ≡ r =
-    told-refusal old.files c oil src arr q.2 r there (subst (λ x. CommandRefused old.files x q.2) (one-command words q.0 (Builds c) q.1 is) q.3) refusal in
-    inl (p.0, subst (λ x. Took old.sink new.sink x) (q.4 ∙ ap refusal_line same) p.1)
+    told-refusal old.files c oil src arr q.2 r there (subst (λ x. IsCommandRefused old.files x q.2) (one-command words q.0 (Builds c) q.1 is) q.3) refusal in
+    inl (p.0, subst (λ x. IsTextTaken old.sink new.sink x) (q.4 ∙ ap refusal_line same) p.1)
 refused-by status.Refused answer words old new text c oil src arr r q (inr p) is there works refusal =
     inr (inr (p.0, counted-put old.sink new.sink text p.1))
 refused-by status.NoMemory answer words old new text c oil src arr r q (inl p) is there works refusal = inr (inl p.0)
@@ -178,24 +178,24 @@ refused-by status.NoMemory answer words old new text c oil src arr r q (inr p) i
     inr (inr (p.0, counted-put old.sink new.sink text p.1))
 refused-by status.Usage answer words old new text c oil src arr r q p is there works refusal = absurd (q.0 (Builds c) is)
 refused-by status.Done answer words old new text c oil src arr r q p is there works refusal =
-    let d = subst (λ x. CommandDone old.files new.files x text) (one-command words q.0 (Builds c) q.1 is) q.2 in
+    let d = subst (λ x. IsCommandDone old.files new.files x text) (one-command words q.0 (Builds c) q.1 is) q.2 in
     absurd (one-verdict old.files c d.config d.app d.arrivals oil src arr r there d.accepted refusal)
 refused-by status.ReadFault answer words old new text c oil src arr r q p is there works refusal =
     absurd (no-failed-read old.files new.files c oil src arr there works (subst (IsFailedRead old.files new.files) (one-command words q.0 (Builds c) q.1 is) q.2))
 refused-by status.WriteFault answer words old new text c oil src arr r q p is there works refusal =
-    let d = subst (CommandUnwritten old.files new.files) (one-command words q.0 (Builds c) q.1 is) q.2 in
+    let d = subst (IsCommandUnwritten old.files new.files) (one-command words q.0 (Builds c) q.1 is) q.2 in
     absurd (one-verdict old.files c d.config d.app d.arrivals oil src arr r there d.accepted refusal)
 refused-by status.TooLong answer words old new text c oil src arr r q p is there works refusal =
     absurd (no-long-read old.files new.files c oil src arr there (subst (IsLongRead old.files new.files) (one-command words q.0 (Builds c) q.1 is) q.2))
 refused-by status.Stopped answer words old new text c oil src arr r q p is there works refusal =
-    absurd (subst (λ x. CommandStopped old.files new.files x text) (one-command words q.0 (Builds c) q.1 is) q.2)
+    absurd (subst (λ x. IsCommandStopped old.files new.files x text) (one-command words q.0 (Builds c) q.1 is) q.2)
 refused-by status.NotAnImage answer words old new text c oil src arr r q p is there works refusal =
     absurd (subst (λ x. IsNoImage old.files x q.2) (one-command words q.0 (Builds c) q.1 is) q.3).inputs
 refused-by status.NotAnElf answer words old new text c oil src arr r q p is there works refusal = absurd (no-tool words q.0 (Builds c) q.1 is tt)
 refused-by status.BadTrace answer words old new text c oil src arr r q p is there works refusal = absurd (no-tool words q.0 (Builds c) q.1 is tt)
 refused-by status.NoHolds answer words old new text c oil src arr r q p is there works refusal = absurd (no-tool words q.0 (Builds c) q.1 is tt)
 
-pub tells-refused : (words : List (List ℕ)) (old new : World) (answer : Status) → Answers words old new answer → TellsRefused words old new answer
+pub tells-refused : (words : List (List ℕ)) (old new : World) (answer : Status) → IsTopAnswer words old new answer → HasRefusalAnswer words old new answer
 tells-refused words old new answer h c is oil src arr there works r refusal =
     refused-by h.wanted answer words old new h.text c oil src arr r h.required h.puts is there works refusal
 
@@ -203,7 +203,7 @@ tells-refused words old new answer h c is oil src arr there works r refusal =
 
 -- no put failed, so the answer is the one that was wanted
 pub stands : (wanted answer : Status) (words : List (List ℕ)) (old new : World) (text : List ℕ) → PutsWork old.sink new.sink text
-    → Requires wanted words old.files new.files text → Puts wanted answer old.sink new.sink text → EndsAs wanted words old new answer
+    → IsRequired wanted words old.files new.files text → IsPutAnswer wanted answer old.sink new.sink text → IsFullAnswer wanted words old new answer
 stands wanted answer words old new text w q (inl p) = (p.0, (text, q, p.1))
 stands wanted answer words old new text w q (inr p) = absurd (no-broken-put old.sink new.sink text w p.1)
 
@@ -231,11 +231,11 @@ image-of config other app another image same h =
 module _ (old new : World) (c : Building) (oil src arr : List ℕ) (config : Config) (app : App) (arrivals : List Arrival)
     (there : AreThere old.files c oil src arr) (h : AreAccepted oil src config app) (read : AreRead (task_names config) (counter_names config) arr arrivals)
     (works : CallsWork c config app arrivals old new) where
-  complete-by : (wanted answer : Status) (words : List (List ℕ)) (text : List ℕ) → Requires wanted words old.files new.files text
-      → Puts wanted answer old.sink new.sink text → IsCommand words (Builds c)
-      → EndsAs status.Done words old new answer ⊎ EndsAs status.NoMemory words old new answer
+  complete-by : (wanted answer : Status) (words : List (List ℕ)) (text : List ℕ) → IsRequired wanted words old.files new.files text
+      → IsPutAnswer wanted answer old.sink new.sink text → IsCommand words (Builds c)
+      → IsFullAnswer status.Done words old new answer ⊎ IsFullAnswer status.NoMemory words old new answer
   complete-by status.Done answer words text q p is =
-      let d = subst (λ x. CommandDone old.files new.files x text) (one-command words q.0 (Builds c) q.1 is) q.2 in
+      let d = subst (λ x. IsCommandDone old.files new.files x text) (one-command words q.0 (Builds c) q.1 is) q.2 in
       let same = one-app old.files c oil src arr config d.config app d.app arrivals d.arrivals there h read d.accepted in
       let lines = works.lines d.image (image-of config d.config app d.app d.image (same.0, same.1) d.is_image) in
       let text_is : text ≡ done_text d.image arrivals c.run = d.text_is ∙ ap (λ (xs : List Arrival). done_text d.image xs c.run) same.2 in
@@ -245,24 +245,24 @@ module _ (old new : World) (c : Building) (oil src arr : List ℕ) (config : Con
   complete-by status.Usage answer words text q p is = absurd (q.0 (Builds c) is)
   complete-by status.Refused answer words text q p is =
       absurd (refused-verdict old.files c config app oil src arr q.2 there h read.no_fault
-      (subst (λ x. CommandRefused old.files x q.2) (one-command words q.0 (Builds c) q.1 is) q.3))
+      (subst (λ x. IsCommandRefused old.files x q.2) (one-command words q.0 (Builds c) q.1 is) q.3))
   complete-by status.ReadFault answer words text q p is =
       absurd (no-failed-read old.files new.files c oil src arr there works.reads (subst (IsFailedRead old.files new.files) (one-command words q.0 (Builds c) q.1 is) q.2))
   complete-by status.WriteFault answer words text q p is =
-      let d = subst (CommandUnwritten old.files new.files) (one-command words q.0 (Builds c) q.1 is) q.2 in
+      let d = subst (IsCommandUnwritten old.files new.files) (one-command words q.0 (Builds c) q.1 is) q.2 in
       let same = one-app old.files c oil src arr config d.config app d.app arrivals d.arrivals there h read d.accepted in
       let image = image-of config d.config app d.app d.image (same.0, same.1) d.is_image in
       absurd (no-failed-write old.files new.files c.img (length (image_bytes d.image)) (works.write d.image image) d.failed)
   complete-by status.TooLong answer words text q p is =
       absurd (no-long-read old.files new.files c oil src arr there (subst (IsLongRead old.files new.files) (one-command words q.0 (Builds c) q.1 is) q.2))
   complete-by status.Stopped answer words text q p is =
-      absurd (subst (λ x. CommandStopped old.files new.files x text) (one-command words q.0 (Builds c) q.1 is) q.2)
+      absurd (subst (λ x. IsCommandStopped old.files new.files x text) (one-command words q.0 (Builds c) q.1 is) q.2)
   complete-by status.NotAnImage answer words text q p is =
       absurd (subst (λ x. IsNoImage old.files x q.2) (one-command words q.0 (Builds c) q.1 is) q.3).inputs
   complete-by status.NotAnElf answer words text q p is = absurd (no-tool words q.0 (Builds c) q.1 is tt)
   complete-by status.BadTrace answer words text q p is = absurd (no-tool words q.0 (Builds c) q.1 is tt)
   complete-by status.NoHolds answer words text q p is = absurd (no-tool words q.0 (Builds c) q.1 is tt)
 
-pub is-complete : (words : List (List ℕ)) (old new : World) (answer : Status) → Answers words old new answer → IsComplete words old new answer
+pub is-complete : (words : List (List ℕ)) (old new : World) (answer : Status) → IsTopAnswer words old new answer → IsComplete words old new answer
 is-complete words old new answer a c is oil src arr there config app accepted arrivals read works =
     complete-by old new c oil src arr config app arrivals there accepted read works a.wanted answer words a.text a.required a.puts is

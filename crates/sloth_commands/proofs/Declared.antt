@@ -9,7 +9,7 @@ use Rattle.app_gen.specs.Oil.{oil_text, event_object, resource_object, schedule_
 use Rattle.app_gen.specs.Pieces.{number_behind}
 use Rattle.oil_lex.specs.Bytes.{class_of, is_word_byte, is_digit, is_hex_digit, is_quoted, is_not_lf}
 use Rattle.oil_lex.specs.Front.{front_piece, comment_length, comment_piece, text_piece, slash_piece, number_piece, piece_by}
-use Rattle.oil_lex.specs.Pieces.{Piece, IsCutInto}
+use Rattle.oil_lex.specs.Pieces.{TextPiece, IsCutInto}
 use Rattle.oil_lex.specs.Tokens.{Lexeme, AreTokens, tokens_of}
 use Rattle.oil_lex.proofs.Fronts.{front_stands}
 use Rattle.oil_lex.proofs.Cuts.{tokens_one}
@@ -29,7 +29,7 @@ use Rattle.oil_events.specs.Events.{events_of}
 use Rattle.sloth_source.specs.OilText.{OilText}
 
 -- the pieces of a text that is no longer than the first list
-unfoldable pieces : List ℕ → List ℕ → List Piece
+unfoldable pieces : List ℕ → List ℕ → List TextPiece
 pieces fuel [] = []
 pieces [] (b ∷ bs) = []
 pieces (f ∷ fuel) (b ∷ bs) = let k = front_piece (b ∷ bs) in record { kind = k.0; bytes = take k.1 (b ∷ bs) } ∷ pieces fuel (drop k.1 (b ∷ bs))

@@ -16,8 +16,8 @@ use Rattle.trace_check.specs.Inputs.{AreRead}
 use Rattle.sloth_commands.specs.ImageFiles.{AreExecInputs, IsRunnable, IsExecuted, IsListed, exec_text}
 use Rattle.sloth_commands.specs.ImageAnswers.{end_status}
 use Rattle.sloth_runner.specs.Runner.{run_end}
-use Rattle.sloth_commands.specs.Top.{world, FilesStay, Took}
-use Rattle.sloth_commands.specs.Failures.{LinesFailed, LineFailed, Ends, CommandFailed, IsPerformed}
+use Rattle.sloth_commands.specs.Top.{world, AreFilesSame, IsTextTaken}
+use Rattle.sloth_commands.specs.Failures.{IsLinesFailure, IsLineFailure, IsCommandEnd, IsCommandFailure, IsPerformed}
 use Rattle.sloth_commands.specs.declared.failure.Failure.{Failure}
 use Rattle.sloth_commands.specs.declared.failure.Failure.TheVariants as failure
 use Rattle.tool_answers.specs.declared.status.Status.{Status}
@@ -42,8 +42,8 @@ broke-second old mid new one other a h =
 -- ---- `exec`
 
 -- a run that ends so is one of `exec`
-exec-ends : (end : RunEnd) (old new : Files) (e : Execution) (text : List ℕ) → IsExecuted old e end text → FilesStay old new
-    → Ends (end_status end) old new (Executes e) text
+exec-ends : (end : RunEnd) (old new : Files) (e : Execution) (text : List ℕ) → IsExecuted old e end text → AreFilesSame old new
+    → IsCommandEnd (end_status end) old new (Executes e) text
 exec-ends ends.Whole old new e text is stay = (is, stay)
 exec-ends (ends.Stopped pc stop) old new e text is stay = (pc, stop, is, stay)
 
@@ -52,7 +52,7 @@ executed : (old : Files) (e : Execution) (image : Image) (arrivals : List Arriva
 executed old e image arrivals is = record { image = image; arrivals = arrivals; accepted = is; end_is = refl; text_is = refl }
 
 pub exec-done : (s : Status) (old new : Files) (sink : Output) (out : Output) (e : Execution) (image : Image) (arrivals : List Arrival)
-    → IsRunnable old e image arrivals → FilesStay old new → s ≡ end_status (run_end image arrivals e.n) → Took sink out (exec_text image arrivals e.n)
+    → IsRunnable old e image arrivals → AreFilesSame old new → s ≡ end_status (run_end image arrivals e.n) → IsTextTaken sink out (exec_text image arrivals e.n)
     → IsPerformed s (world old sink) (world new out) (Executes e)
 exec-done s old new sink out e image arrivals is stay same took =
     let P : Status → Type 0 = λ x. IsPerformed x (world old sink) (world new out) (Executes e) in
@@ -68,8 +68,8 @@ both-told (Ok t) P Q W f p q = f t p q
 both-told (Err e) P Q W f p q = tt
 
 pub exec-failed : (f : Failure) (old new : Files) (sink out : Output) (e : Execution) (image : Image) (arrivals : List Arrival)
-    → IsRunnable old e image arrivals → FilesStay old new → LinesFailed f sink out (exec_text image arrivals e.n)
-    → CommandFailed f (world old sink) (world new out) (Executes e)
+    → IsRunnable old e image arrivals → AreFilesSame old new → IsLinesFailure f sink out (exec_text image arrivals e.n)
+    → IsCommandFailure f (world old sink) (world new out) (Executes e)
 exec-failed failure.NoMemory old new sink out e image arrivals is stay h = (stay, h)
 exec-failed failure.Put old new sink out e image arrivals is stay h = (
   end_status (run_end image arrivals e.n),
@@ -94,8 +94,8 @@ pub listed : (old : Files) (img file : List ℕ) (image : Image) → Holds old i
     → IsListed old img (listing image)
 listed old img file image read short is = record { file = file; image = image; input = record { read = read; short = short }; is_image = is; text_is = refl }
 
-pub list-failed : (f : Failure) (old new : Files) (sink out : Output) (img text : List ℕ) → IsListed old img text → FilesStay old new → LineFailed f sink out text
-    → CommandFailed f (world old sink) (world new out) (Lists img)
+pub list-failed : (f : Failure) (old new : Files) (sink out : Output) (img text : List ℕ) → IsListed old img text → AreFilesSame old new → IsLineFailure f sink out text
+    → IsCommandFailure f (world old sink) (world new out) (Lists img)
 list-failed failure.Put old new sink out img text is stay h = (status.Done, text, (is, stay), h)
 list-failed failure.NoMemory old new sink out img text is stay h = absurd h
 list-failed (failure.Refused r) old new sink out img text is stay h = absurd h

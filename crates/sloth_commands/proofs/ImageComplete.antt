@@ -28,11 +28,11 @@ use Rattle.sloth_commands.proofs.ToolReads.{told-inputs, none-unread as no-tool-
 use Rattle.sloth_commands.proofs.ToolComplete.{AnswersAs, tool-image}
 use Rattle.trace_check.specs.Inputs.{AreRead}
 use Rattle.sloth_commands.specs.ImageFiles.{AreExecInputs, ReadsImageFile, IsRunnable, IsExecuted, IsNoImage, exec_text}
-use Rattle.sloth_commands.specs.ImageAnswers.{end_status, LinesWork, AnswersNoImage, AnswersFault, TellsFault, TellsNoImage, TellsExecRefused, TellsExecuted, TellsListed}
+use Rattle.sloth_commands.specs.ImageAnswers.{end_status, LinesWork, IsNoImageAnswer, IsImageFaultAnswer, HasImageFaultAnswer, HasNoImageAnswer, HasExecRefusedAnswer, HasExecutedAnswer, HasListedAnswer}
 use Rattle.command_line.specs.LastLine.{no_image_line, refusal_line}
 use Rattle.sloth_runner.specs.Runner.{run_end}
-use Rattle.sloth_commands.specs.Top.{World, inputs_of, FirstUnread, IsFailedRead, IsLongRead, Requires, Puts, Took, EndsAs, Answers, AnswersRefused, ReadsWork, PutsWork}
-use Rattle.sloth_commands.specs.Top.{CommandDone, CommandRefused, CommandUnwritten, CommandStopped, IsToolEnd}
+use Rattle.sloth_commands.specs.Top.{World, inputs_of, FirstUnread, IsFailedRead, IsLongRead, IsRequired, IsPutAnswer, IsTextTaken, IsFullAnswer, IsTopAnswer, IsRefusalAnswer, ReadsWork, PutsWork}
+use Rattle.sloth_commands.specs.Top.{IsCommandDone, IsCommandRefused, IsCommandUnwritten, IsCommandStopped, IsToolEnd}
 use Rattle.sloth_runner.specs.declared.runner.RunEnd.{RunEnd}
 use Rattle.sloth_runner.specs.declared.runner.RunEnd.TheVariants as ends
 use Rattle.tool_answers.specs.declared.status.Status.{Status}
@@ -101,7 +101,7 @@ ended-image wanted old new u file text tells i h other =
     other-answer old u file h.answer tells i h.is (λ fault same. other (h.status_is ∙ ap tool_status same))
 
 -- what was run or listed has an image
-done-image : (old new : Files) (c : Command) (file text : List ℕ) → IsTrue old.tells → ReadsImageFile old c file → CommandDone old new c text → HasImage file
+done-image : (old new : Files) (c : Command) (file text : List ℕ) → IsTrue old.tells → ReadsImageFile old c file → IsCommandDone old new c text → HasImage file
 done-image old new (Builds b) file text tells i h = absurd i
 done-image old new (Executes e) file text tells i h =
     let a = h.0.accepted in moved a.file file (told-file old (Executes e) a.file file tells (a.arr, a.inputs) i) (h.0.image, a.is_image)
@@ -110,7 +110,7 @@ done-image old new (Lists img) file text tells i h =
 done-image old new (Samples seed img) file text tells i h = absurd i
 done-image old new (Uses u) file text tells i h = ended-image status.Done old new u file text tells i h (λ e. let same : status.Done ≡ status.NotAnImage = e in cc)
 
-stopped-image : (old new : Files) (c : Command) (file text : List ℕ) → IsTrue old.tells → ReadsImageFile old c file → CommandStopped old new c text → HasImage file
+stopped-image : (old new : Files) (c : Command) (file text : List ℕ) → IsTrue old.tells → ReadsImageFile old c file → IsCommandStopped old new c text → HasImage file
 stopped-image old new (Builds b) file text tells i h = absurd i
 stopped-image old new (Executes e) file text tells i h =
     let a = h.2.accepted in moved a.file file (told-file old (Executes e) a.file file tells (a.arr, a.inputs) i) (h.2.image, a.is_image)
@@ -118,7 +118,7 @@ stopped-image old new (Lists img) file text tells i h = absurd h
 stopped-image old new (Samples seed img) file text tells i h = absurd i
 stopped-image old new (Uses u) file text tells i h = ended-image status.Stopped old new u file text tells i h (λ e. let same : status.Stopped ≡ status.NotAnImage = e in cc)
 
-refused-image : (old : Files) (c : Command) (file : List ℕ) (r : Refusal) → IsTrue old.tells → ReadsImageFile old c file → CommandRefused old c r → HasImage file
+refused-image : (old : Files) (c : Command) (file : List ℕ) (r : Refusal) → IsTrue old.tells → ReadsImageFile old c file → IsCommandRefused old c r → HasImage file
 refused-image old (Builds b) file r tells i h = absurd i
 refused-image old (Executes e) file r tells i h =
     moved h.file file (told-file old (Executes e) h.file file tells (h.arr, h.inputs) i) (h.image, h.is_image)
@@ -128,7 +128,7 @@ refused-image old (Uses u) file r tells i h =
     other-answer old u file (tool_answer.Refused r) tells i h (λ fault e. let same : tool_answer.Refused r ≡ tool_answer.NotAnImage fault = e in cc)
 
 -- a tool whose file was not written has one too; other commands on an image file write none
-unwritten-image : (old new : Files) (c : Command) (file : List ℕ) → IsTrue old.tells → ReadsImageFile old c file → CommandUnwritten old new c → HasImage file
+unwritten-image : (old new : Files) (c : Command) (file : List ℕ) → IsTrue old.tells → ReadsImageFile old c file → IsCommandUnwritten old new c → HasImage file
 unwritten-image old new (Builds b) file tells i h = absurd i
 unwritten-image old new (Executes e) file tells i h = absurd h
 unwritten-image old new (Lists img) file tells i h = absurd h
@@ -152,10 +152,10 @@ Verdict wanted file text =
 
 module _ (words : List (List ℕ)) (old new : Files) (text : List ℕ) (c : Command) (file : List ℕ) (is : IsCommand words c) (tells : IsTrue old.tells)
     (i : ReadsImageFile old c file) (works : ReadsWork old new) where
-  verdict : (wanted : Status) → Requires wanted words old new text → Verdict wanted file text
-  verdict status.Done q = inl (done-image old new c file text tells i (subst (λ x. CommandDone old new x text) (one-command words q.0 c q.1 is) q.2))
-  verdict status.Stopped q = inl (stopped-image old new c file text tells i (subst (λ x. CommandStopped old new x text) (one-command words q.0 c q.1 is) q.2))
-  verdict status.Refused q = inl (refused-image old c file q.2 tells i (subst (λ x. CommandRefused old x q.2) (one-command words q.0 c q.1 is) q.3))
+  verdict : (wanted : Status) → IsRequired wanted words old new text → Verdict wanted file text
+  verdict status.Done q = inl (done-image old new c file text tells i (subst (λ x. IsCommandDone old new x text) (one-command words q.0 c q.1 is) q.2))
+  verdict status.Stopped q = inl (stopped-image old new c file text tells i (subst (λ x. IsCommandStopped old new x text) (one-command words q.0 c q.1 is) q.2))
+  verdict status.Refused q = inl (refused-image old c file q.2 tells i (subst (λ x. IsCommandRefused old x q.2) (one-command words q.0 c q.1 is) q.3))
   verdict status.NotAnImage q =
       let n = subst (λ x. IsNoImage old x q.2) (one-command words q.0 c q.1 is) q.3 in
       let same : n.file ≡ file = told-file old c n.file file tells n.inputs i in
@@ -165,7 +165,7 @@ module _ (words : List (List ℕ)) (old new : Files) (text : List ℕ) (c : Comm
   verdict status.ReadFault q =
       absurd (no-failed-read old new c file tells i works (subst (IsFailedRead old new) (one-command words q.0 c q.1 is) q.2))
   verdict status.TooLong q = absurd (no-long-read old new c file tells i (subst (IsLongRead old new) (one-command words q.0 c q.1 is) q.2))
-  verdict status.WriteFault q = inl (unwritten-image old new c file tells i (subst (CommandUnwritten old new) (one-command words q.0 c q.1 is) q.2))
+  verdict status.WriteFault q = inl (unwritten-image old new c file tells i (subst (IsCommandUnwritten old new) (one-command words q.0 c q.1 is) q.2))
   verdict status.NotAnElf q =
       inl (own-image old c file (tool_answer.NotAnElf q.2) tells i (subst (AnswersAs old (tool_answer.NotAnElf q.2)) (one-command words (Uses q.0) c q.1 is) q.3)
       (λ fault e. let same : tool_answer.NotAnElf q.2 ≡ tool_answer.NotAnImage fault = e in cc))
@@ -177,26 +177,26 @@ module _ (words : List (List ℕ)) (old new : Files) (text : List ℕ) (c : Comm
       (λ fault e. let same : tool_answer.NoHolds ≡ tool_answer.NotAnImage fault = e in cc))
 
 fault-by : (wanted answer : Status) (old new : World) (file text : List ℕ) (fault : ImageFault) → IsFirstImageFault fault file → Verdict wanted file text
-    → Puts wanted answer old.sink new.sink text → AnswersFault old new fault answer
+    → IsPutAnswer wanted answer old.sink new.sink text → IsImageFaultAnswer old new fault answer
 fault-by wanted answer old new file text fault h (inl image) p = absurd (none_is_both file image.0 fault image.1 h)
 fault-by wanted answer old new file text fault h v (inr p) = inr (inr (p.0, counted-put old.sink new.sink text p.1))
 fault-by wanted answer old new file text fault h (inr (inl v)) (inl p) =
     let same : v.1.0 ≡ fault = fault_is_one file v.1.0 fault v.1.1 h in
-    inl (p.0 ∙ v.0, subst (λ x. Took old.sink new.sink x) (v.1.2 ∙ ap no_image_line same) p.1)
+    inl (p.0 ∙ v.0, subst (λ x. IsTextTaken old.sink new.sink x) (v.1.2 ∙ ap no_image_line same) p.1)
 fault-by wanted answer old new file text fault h (inr (inr none)) (inl p) = inr (inl (p.0 ∙ none))
 
-pub tells-fault : (words : List (List ℕ)) (old new : World) (answer : Status) → Answers words old new answer → TellsFault words old new answer
+pub tells-fault : (words : List (List ℕ)) (old new : World) (answer : Status) → IsTopAnswer words old new answer → HasImageFaultAnswer words old new answer
 tells-fault words old new answer h c is tells file i works fault faulty =
     fault-by h.wanted answer old new file h.text fault faulty (verdict words old.files new.files h.text c file is tells i works h.wanted h.required) h.puts
 
 none-by : (wanted answer : Status) (old new : World) (file text : List ℕ) → ((image : Image) → ImageText file image → ⊥) → Verdict wanted file text
-    → Puts wanted answer old.sink new.sink text → AnswersNoImage old new answer
+    → IsPutAnswer wanted answer old.sink new.sink text → IsNoImageAnswer old new answer
 none-by wanted answer old new file text h (inl image) p = absurd (h image.0 image.1)
 none-by wanted answer old new file text h v (inr p) = inr (inr (p.0, counted-put old.sink new.sink text p.1))
 none-by wanted answer old new file text h (inr (inl v)) (inl p) = inl (p.0 ∙ v.0)
 none-by wanted answer old new file text h (inr (inr none)) (inl p) = inr (inl (p.0 ∙ none))
 
-pub tells-no-image : (words : List (List ℕ)) (old new : World) (answer : Status) → Answers words old new answer → TellsNoImage words old new answer
+pub tells-no-image : (words : List (List ℕ)) (old new : World) (answer : Status) → IsTopAnswer words old new answer → HasNoImageAnswer words old new answer
 tells-no-image words old new answer h c is tells file i works none =
     none-by h.wanted answer old new file h.text none (verdict words old.files new.files h.text c file is tells i works h.wanted h.required) h.puts
 
@@ -223,13 +223,13 @@ module _ (words : List (List ℕ)) (old new : World) (answer : Status) (e : Exec
     (tells : IsTrue old.files.tells) (i : AreExecInputs old.files e file arr) (is_image : ImageText file image) where
   -- a run of the image, whole or not, is the one that is wanted
   ended-by : (end : RunEnd) (arrivals : List Arrival) (text : List ℕ) → AreRead image.tasks image.counters arr arrivals → PutsWork old.sink new.sink (exec_text image arrivals e.n)
-      → IsExecuted old.files e end text → Requires (end_status end) words old.files new.files text → Puts (end_status end) answer old.sink new.sink text
-      → EndsAs (end_status (run_end image arrivals e.n)) words old new answer
+      → IsExecuted old.files e end text → IsRequired (end_status end) words old.files new.files text → IsPutAnswer (end_status end) answer old.sink new.sink text
+      → IsFullAnswer (end_status (run_end image arrivals e.n)) words old new answer
   ended-by end arrivals text read lines d q p =
       let same = one-image old.files e file arr image d.image arrivals d.arrivals tells i is_image read d.accepted in
       let text_is : text ≡ exec_text image arrivals e.n = d.text_is ∙ same-text image d.image arrivals d.arrivals e.n same in
       let end_is : end ≡ run_end image arrivals e.n = d.end_is ∙ same-end image d.image arrivals d.arrivals e.n same in
-      let P : RunEnd → Type 0 = λ x. EndsAs (end_status x) words old new answer in
+      let P : RunEnd → Type 0 = λ x. IsFullAnswer (end_status x) words old new answer in
       subst P end_is (stands (end_status end) answer words old new text (subst (λ x. PutsWork old.sink new.sink x) (sym text_is) lines) q p)
 
   -- the file is an image's, so it has no fault
@@ -239,18 +239,18 @@ module _ (words : List (List ℕ)) (old new : World) (answer : Status) (e : Exec
       none_is_both file image fault is_image (subst (IsFirstImageFault fault) same n.faulty)
 
   executed-by : (wanted : Status) (arrivals : List Arrival) (text : List ℕ) → AreRead image.tasks image.counters arr arrivals → LinesWork old new (exec_text image arrivals e.n)
-      → Requires wanted words old.files new.files text → Puts wanted answer old.sink new.sink text
-      → EndsAs (end_status (run_end image arrivals e.n)) words old new answer ⊎ EndsAs status.NoMemory words old new answer
+      → IsRequired wanted words old.files new.files text → IsPutAnswer wanted answer old.sink new.sink text
+      → IsFullAnswer (end_status (run_end image arrivals e.n)) words old new answer ⊎ IsFullAnswer status.NoMemory words old new answer
   executed-by status.Done arrivals text read works q p =
-      let d = subst (λ x. CommandDone old.files new.files x text) (one-command words q.0 (Executes e) q.1 is) q.2 in
+      let d = subst (λ x. IsCommandDone old.files new.files x text) (one-command words q.0 (Executes e) q.1 is) q.2 in
       inl (ended-by ends.Whole arrivals text read works.lines d.0 q p)
   executed-by status.Stopped arrivals text read works q p =
-      let d = subst (λ x. CommandStopped old.files new.files x text) (one-command words q.0 (Executes e) q.1 is) q.2 in
+      let d = subst (λ x. IsCommandStopped old.files new.files x text) (one-command words q.0 (Executes e) q.1 is) q.2 in
       inl (ended-by (ends.Stopped d.0 d.1) arrivals text read works.lines d.2 q p)
   executed-by status.NoMemory arrivals text read works q p =
       inr (stands status.NoMemory answer words old new text (subst (λ x. PutsWork old.sink new.sink x) (sym q.2) works.last_line) q p)
   executed-by status.Refused arrivals text read works q p =
-      let d = subst (λ x. CommandRefused old.files x q.2) (one-command words q.0 (Executes e) q.1 is) q.3 in
+      let d = subst (λ x. IsCommandRefused old.files x q.2) (one-command words q.0 (Executes e) q.1 is) q.3 in
       let file_is : d.file ≡ file = told old.files e.img d.file file tells d.inputs.image_file.read i.image_file.read in
       let arr_is : d.arr ≡ arr = told old.files e.arr d.arr arr tells d.inputs.arrivals_file.read i.arrivals_file.read in
       let same : d.image ≡ image = image-unique d.image image file (subst (λ x. ImageText x d.image) file_is d.is_image) is_image in
@@ -263,7 +263,7 @@ module _ (words : List (List ℕ)) (old new : World) (answer : Status) (e : Exec
   executed-by status.TooLong arrivals text read works q p =
       absurd (no-long-read old.files new.files (Executes e) file tells (arr, i) (subst (IsLongRead old.files new.files) (one-command words q.0 (Executes e) q.1 is) q.2))
   executed-by status.WriteFault arrivals text read works q p =
-      absurd (subst (CommandUnwritten old.files new.files) (one-command words q.0 (Executes e) q.1 is) q.2)
+      absurd (subst (IsCommandUnwritten old.files new.files) (one-command words q.0 (Executes e) q.1 is) q.2)
   executed-by status.NotAnElf arrivals text read works q p = absurd (no-tool words q.0 (Executes e) q.1 is tt)
   executed-by status.BadTrace arrivals text read works q p = absurd (no-tool words q.0 (Executes e) q.1 is tt)
   executed-by status.NoHolds arrivals text read works q p = absurd (no-tool words q.0 (Executes e) q.1 is tt)
@@ -277,23 +277,23 @@ module _ (words : List (List ℕ)) (old new : World) (answer : Status) (e : Exec
       a.read.no_fault r (subst (λ (x : Image). ArrivalsFault x.tasks x.counters a.arr r) (sym same) (subst (λ x. ArrivalsFault image.tasks image.counters x r) (sym arr_is) least.is_fault))
 
   refused-by : (wanted : Status) (text : List ℕ) (r : Refusal) → ReadsWork old.files new.files → IsLeast (ArrivalsFault image.tasks image.counters arr) r
-      → Requires wanted words old.files new.files text → Puts wanted answer old.sink new.sink text → AnswersRefused old new r answer
+      → IsRequired wanted words old.files new.files text → IsPutAnswer wanted answer old.sink new.sink text → IsRefusalAnswer old new r answer
   refused-by status.Refused text r works least q (inl p) =
-      let d = subst (λ x. CommandRefused old.files x q.2) (one-command words q.0 (Executes e) q.1 is) q.3 in
+      let d = subst (λ x. IsCommandRefused old.files x q.2) (one-command words q.0 (Executes e) q.1 is) q.3 in
       let file_is : d.file ≡ file = told old.files e.img d.file file tells d.inputs.image_file.read i.image_file.read in
       let arr_is : d.arr ≡ arr = told old.files e.arr d.arr arr tells d.inputs.arrivals_file.read i.arrivals_file.read in
       let same : d.image ≡ image = image-unique d.image image file (subst (λ x. ImageText x d.image) file_is d.is_image) is_image in
       let least_too = subst (λ x. IsLeast (ArrivalsFault image.tasks image.counters x) q.2) arr_is (subst (λ (x : Image). IsLeast (ArrivalsFault x.tasks x.counters d.arr) q.2) same d.least) in
       let one : q.2 ≡ r = one_least Arr (ArrivalsFault image.tasks image.counters arr) (of-arrivals image.tasks image.counters arr) q.2 r least_too least in
-      inl (p.0, subst (λ x. Took old.sink new.sink x) (q.4 ∙ ap refusal_line one) p.1)
+      inl (p.0, subst (λ x. IsTextTaken old.sink new.sink x) (q.4 ∙ ap refusal_line one) p.1)
   refused-by status.Refused text r works least q (inr p) = inr (inr (p.0, counted-put old.sink new.sink text p.1))
   refused-by status.NoMemory text r works least q (inl p) = inr (inl p.0)
   refused-by status.NoMemory text r works least q (inr p) = inr (inr (p.0, counted-put old.sink new.sink text p.1))
   refused-by status.Done text r works least q p =
-      let d = subst (λ x. CommandDone old.files new.files x text) (one-command words q.0 (Executes e) q.1 is) q.2 in
+      let d = subst (λ x. IsCommandDone old.files new.files x text) (one-command words q.0 (Executes e) q.1 is) q.2 in
       absurd (not-accepted d.0.image d.0.arrivals r d.0.accepted least)
   refused-by status.Stopped text r works least q p =
-      let d = subst (λ x. CommandStopped old.files new.files x text) (one-command words q.0 (Executes e) q.1 is) q.2 in
+      let d = subst (λ x. IsCommandStopped old.files new.files x text) (one-command words q.0 (Executes e) q.1 is) q.2 in
       absurd (not-accepted d.2.image d.2.arrivals r d.2.accepted least)
   refused-by status.NotAnImage text r works least q p =
       absurd (no-fault q.2 (subst (λ x. IsNoImage old.files x q.2) (one-command words q.0 (Executes e) q.1 is) q.3))
@@ -303,16 +303,16 @@ module _ (words : List (List ℕ)) (old new : World) (answer : Status) (e : Exec
   refused-by status.TooLong text r works least q p =
       absurd (no-long-read old.files new.files (Executes e) file tells (arr, i) (subst (IsLongRead old.files new.files) (one-command words q.0 (Executes e) q.1 is) q.2))
   refused-by status.WriteFault text r works least q p =
-      absurd (subst (CommandUnwritten old.files new.files) (one-command words q.0 (Executes e) q.1 is) q.2)
+      absurd (subst (IsCommandUnwritten old.files new.files) (one-command words q.0 (Executes e) q.1 is) q.2)
   refused-by status.NotAnElf text r works least q p = absurd (no-tool words q.0 (Executes e) q.1 is tt)
   refused-by status.BadTrace text r works least q p = absurd (no-tool words q.0 (Executes e) q.1 is tt)
   refused-by status.NoHolds text r works least q p = absurd (no-tool words q.0 (Executes e) q.1 is tt)
 
-pub tells-executed : (words : List (List ℕ)) (old new : World) (answer : Status) → Answers words old new answer → TellsExecuted words old new answer
+pub tells-executed : (words : List (List ℕ)) (old new : World) (answer : Status) → IsTopAnswer words old new answer → HasExecutedAnswer words old new answer
 tells-executed words old new answer h e is tells file arr i image is_image arrivals read works =
     executed-by words old new answer e file arr image is tells i is_image h.wanted arrivals h.text read works h.required h.puts
 
-pub tells-exec-refused : (words : List (List ℕ)) (old new : World) (answer : Status) → Answers words old new answer → TellsExecRefused words old new answer
+pub tells-exec-refused : (words : List (List ℕ)) (old new : World) (answer : Status) → IsTopAnswer words old new answer → HasExecRefusedAnswer words old new answer
 tells-exec-refused words old new answer h e is tells file arr i works image is_image r least =
     refused-by words old new answer e file arr image is tells i is_image h.wanted h.text r works least h.required h.puts
 
@@ -320,10 +320,10 @@ tells-exec-refused words old new answer h e is tells file arr i works image is_i
 
 module _ (words : List (List ℕ)) (old new : World) (answer : Status) (img file : List ℕ) (image : Image) (is : IsCommand words (Lists img))
     (tells : IsTrue old.files.tells) (i : IsInput old.files img file) (is_image : ImageText file image) (works : LinesWork old new (listing image)) where
-  listed-by : (wanted : Status) (text : List ℕ) → Requires wanted words old.files new.files text → Puts wanted answer old.sink new.sink text
-      → EndsAs status.Done words old new answer ⊎ EndsAs status.NoMemory words old new answer
+  listed-by : (wanted : Status) (text : List ℕ) → IsRequired wanted words old.files new.files text → IsPutAnswer wanted answer old.sink new.sink text
+      → IsFullAnswer status.Done words old new answer ⊎ IsFullAnswer status.NoMemory words old new answer
   listed-by status.Done text q p =
-      let d = subst (λ x. CommandDone old.files new.files x text) (one-command words q.0 (Lists img) q.1 is) q.2 in
+      let d = subst (λ x. IsCommandDone old.files new.files x text) (one-command words q.0 (Lists img) q.1 is) q.2 in
       let file_is : d.0.file ≡ file = told old.files img d.0.file file tells d.0.input.read i.read in
       let same : d.0.image ≡ image = image-unique d.0.image image file (subst (λ x. ImageText x d.0.image) file_is d.0.is_image) is_image in
       let text_is : text ≡ listing image = d.0.text_is ∙ ap listing same in
@@ -334,18 +334,18 @@ module _ (words : List (List ℕ)) (old new : World) (answer : Status) (img file
       let n = subst (λ x. IsNoImage old.files x q.2) (one-command words q.0 (Lists img) q.1 is) q.3 in
       let same : n.file ≡ file = told-file old.files (Lists img) n.file file tells n.inputs i in
       absurd (none_is_both file image q.2 is_image (subst (IsFirstImageFault q.2) same n.faulty))
-  listed-by status.Stopped text q p = absurd (subst (λ x. CommandStopped old.files new.files x text) (one-command words q.0 (Lists img) q.1 is) q.2)
-  listed-by status.Refused text q p = absurd (subst (λ x. CommandRefused old.files x q.2) (one-command words q.0 (Lists img) q.1 is) q.3)
+  listed-by status.Stopped text q p = absurd (subst (λ x. IsCommandStopped old.files new.files x text) (one-command words q.0 (Lists img) q.1 is) q.2)
+  listed-by status.Refused text q p = absurd (subst (λ x. IsCommandRefused old.files x q.2) (one-command words q.0 (Lists img) q.1 is) q.3)
   listed-by status.Usage text q p = absurd (q.0 (Lists img) is)
   listed-by status.ReadFault text q p =
       absurd (no-failed-read old.files new.files (Lists img) file tells i works.reads (subst (IsFailedRead old.files new.files) (one-command words q.0 (Lists img) q.1 is) q.2))
   listed-by status.TooLong text q p =
       absurd (no-long-read old.files new.files (Lists img) file tells i (subst (IsLongRead old.files new.files) (one-command words q.0 (Lists img) q.1 is) q.2))
-  listed-by status.WriteFault text q p = absurd (subst (CommandUnwritten old.files new.files) (one-command words q.0 (Lists img) q.1 is) q.2)
+  listed-by status.WriteFault text q p = absurd (subst (IsCommandUnwritten old.files new.files) (one-command words q.0 (Lists img) q.1 is) q.2)
   listed-by status.NotAnElf text q p = absurd (no-tool words q.0 (Lists img) q.1 is tt)
   listed-by status.BadTrace text q p = absurd (no-tool words q.0 (Lists img) q.1 is tt)
   listed-by status.NoHolds text q p = absurd (no-tool words q.0 (Lists img) q.1 is tt)
 
-pub tells-listed : (words : List (List ℕ)) (old new : World) (answer : Status) → Answers words old new answer → TellsListed words old new answer
+pub tells-listed : (words : List (List ℕ)) (old new : World) (answer : Status) → IsTopAnswer words old new answer → HasListedAnswer words old new answer
 tells-listed words old new answer h img is tells file i image is_image works =
     listed-by words old new answer img file image is tells i is_image works h.wanted h.text h.required h.puts

@@ -18,7 +18,7 @@ use Rattle.sloth_base.specs.Events.{named_task}
 use Rattle.sloth_base.specs.Limits.{count_limit}
 use Rattle.osek_scheduler.specs.State.{System, opening}
 use Rattle.osek_scheduler.specs.Steps.{OsekStep}
-use Rattle.osek_scheduler.specs.Runs.{Follows}
+use Rattle.osek_scheduler.specs.Runs.{AreStepsBehind}
 use Rattle.sim_induction.specs.Sound.{events_of}
 use Rattle.line_words.specs.EventNumbers.{Has32Bits, HasNumbers, IsNumberOrNone, IsNameNumber}
 use Rattle.trace_text.specs.Texts.{lines_with}
@@ -85,7 +85,7 @@ module _ (config : Config) (app : App) (in_range : AppInRange config app) where
       let at = counter_place c step.1.declared in record { word = at.word; names = inl at.inside }
   numbers_of e s next step value = numbered (named_task e) (task_declared config app e s next step)
 
-  lines_of_run : (n : ℕ) → n ≤ count_limit → (past events : List Stamped) (s end : System) → Follows config app past s events end → All (IsStamped n) events
+  lines_of_run : (n : ℕ) → n ≤ count_limit → (past events : List Stamped) (s end : System) → AreStepsBehind config app past s events end → All (IsStamped n) events
       → AllByRecursion HasValueAt events → All (HasLine (task_names config) (function_names app) (counter_names config)) events
   lines_of_run n few past [] s end h stamped values = λ k d l. absurd (omega (arith, l))
   lines_of_run n few past (e ∷ events) s end h stamped values =

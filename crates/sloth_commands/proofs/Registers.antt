@@ -20,10 +20,10 @@ use Rattle.sloth_base.specs.declared.image.MarkKind.TheVariants as kind
 use Rattle.sloth_base.specs.declared.service.Service.{Service}
 use Rattle.sloth_base.specs.declared.step.Step.{Step}
 use Rattle.rv32_instr.specs.Execute.{Next, Going, Stopped, step}
-use Rattle.rv32_machine.specs.Advance.{Outcome, Goes, Halts, advance, outcome, seen_step}
+use Rattle.rv32_machine.specs.Advance.{StepOutcome, Goes, Halts, advance, outcome, observed_step}
 use Rattle.rv32_machine.specs.Run.{state_with_arrivals, moment, moment_of, on_goes, run_from, steps_of}
 use Rattle.rv32_machine.specs.Start.{start}
-use Rattle.observe.specs.Pieces.{Piece, Outside, Stretch, cut_off_steps, is_outside, pieces}
+use Rattle.observe.specs.Pieces.{RunPiece, Outside, Stretch, cut_off_steps, is_outside, pieces}
 use Rattle.observe.specs.Pieces as cut
 use Rattle.observe.specs.Observe.{NO_COUNTER, NO_TASK, View, admission, arrival_event, entry_event, events_of_kind, found_admits, is_early, last_of, later_event, mark_at, marked_event, first_masked_moment, observe, outside_events, piece_events, running_task, service_event, stamp, stretch_event, unentered_event, view_of_image}
 use Rattle.sim_induction.specs.Sound.{events_of}
@@ -40,7 +40,7 @@ AreWords s = AreBelow 4294967296 s.regs
 
 registers_seen : (count : ℕ) (before : State) (next : Next) (s : Step) (after : State) → outcome count before next ≡ Goes s after → s.regs ≡ after.core.registers
 registers_seen count before (Going x) s after e =
-    let step_is : seen_step count before x ≡ s = cc in
+    let step_is : observed_step count before x ≡ s = cc in
     let state_is : x ≡ after = cc in
     ap (λ (y : Step). y.regs) (sym step_is) ∙ ap (λ (y : State). y.core.registers) state_is
 registers_seen count before (Stopped stop) s after e = absurd cc
@@ -55,7 +55,7 @@ unfolding run_from
 steps_fit zero arrivals count state h = tt
 steps_fit (suc n) arrivals count state h = by (moment arrivals count state) refl (steps_fit n arrivals (count + 1))
   where
-    by : (o : Outcome) → moment arrivals count state ≡ o → ((after : State) → IsBounded after → AllByRecursion AreWords (steps_of (run_from n arrivals (count + 1) after)))
+    by : (o : StepOutcome) → moment arrivals count state ≡ o → ((after : State) → IsBounded after → AllByRecursion AreWords (steps_of (run_from n arrivals (count + 1) after)))
         → AllByRecursion AreWords (steps_of (on_goes o [] (λ s after. moment_of arrivals count state s after ∷ run_from n arrivals (count + 1) after)))
     by (Goes s after) e more =
         let bounded = bounds_stay arrivals count state after s e h in
@@ -151,7 +151,7 @@ module _ (view : View) where
       by false = later_fits first.entered first last h
 
   module _ (arrivals : List Arrival) where
-    piece_fits : (p : Piece) → AllByRecursion AreWords (cut.steps_of p) → AllByRecursion HasValueAt (piece_events view arrivals p)
+    piece_fits : (p : RunPiece) → AllByRecursion AreWords (cut.steps_of p) → AllByRecursion HasValueAt (piece_events view arrivals p)
     piece_fits (Outside s) h =
         all_append HasValueAt (map (admission view) (moments s.count (s.count + 1) arrivals)) (map (stamp s.count s.count) (outside_events (mark_at view s.pc) view s))
         (admits_fit (moments s.count (s.count + 1) arrivals)) (stamped_fit s.count (outside_events (mark_at view s.pc) view s) (outside_fits (mark_at view s.pc) s h.0))

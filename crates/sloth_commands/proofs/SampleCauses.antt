@@ -14,8 +14,8 @@ use Rattle.sloth_source.specs.Texts.{AreAccepted}
 use Rattle.command_line.specs.Command.{Samples}
 use Rattle.sloth_runner.proofs.SoundRuns.{whole-run}
 use Rattle.sloth_commands.specs.Samples.{sample_oil, sample_source, sample_arrivals, sample_text}
-use Rattle.sloth_commands.specs.Top.{World, world, IsBuiltImage, IsWritten, IsSampled, Took}
-use Rattle.sloth_commands.specs.Failures.{PerformFailed, CommandFailed, IsPerformed}
+use Rattle.sloth_commands.specs.Top.{World, world, IsBuiltImage, IsWritten, IsSampled, IsTextTaken}
+use Rattle.sloth_commands.specs.Failures.{IsPerformFailure, IsCommandFailure, IsPerformed}
 use Rattle.tool_answers.specs.declared.status.Status.TheVariants as status
 use Rattle.sloth_commands.specs.declared.failure.Failure.{Failure}
 use Rattle.sloth_commands.specs.declared.failure.Failure.TheVariants as failure
@@ -54,8 +54,8 @@ sampled old new seed img image is written = record {
 }
 
 pub sample-failed : (f : Failure) (old : Files) (sink : Output) (new : World) (seed : ℕ) (img : List ℕ) (image : Image)
-    → IsGenerated seed image → PerformFailed f (world old sink) new img (image_bytes image) (sample_text image (sample_arrivals seed))
-    → CommandFailed f (world old sink) new (Samples seed img)
+    → IsGenerated seed image → IsPerformFailure f (world old sink) new img (image_bytes image) (sample_text image (sample_arrivals seed))
+    → IsCommandFailure f (world old sink) new (Samples seed img)
 sample-failed failure.NoMemory old sink new seed img image is h = h
 sample-failed failure.WriteFile old sink new seed img image is h =
     (record { config = is.config; app = is.app; image = image; accepted = is.accepted; is_image = is.is_image; failed = h.0; others = h.1 }, h.2)
@@ -67,7 +67,7 @@ sample-failed failure.TooLong old sink new seed img image is h = absurd h
 sample-failed (failure.NotAnImage fault) old sink new seed img image is h = absurd h
 
 pub sample-done : (old new : Files) (sink out : Output) (seed : ℕ) (img : List ℕ) (image : Image)
-    → IsGenerated seed image → IsWritten old new img (image_bytes image) → Took sink out (sample_text image (sample_arrivals seed))
+    → IsGenerated seed image → IsWritten old new img (image_bytes image) → IsTextTaken sink out (sample_text image (sample_arrivals seed))
     → IsPerformed status.Done (world old sink) (world new out) (Samples seed img)
 sample-done old new sink out seed img image is written took =
     (sample_text image (sample_arrivals seed), sampled old new seed img image is written, took)

@@ -16,8 +16,8 @@ use Rattle.tool_commands.proofs.OneAnswer.{no-image, reads-one}
 use Rattle.sloth_commands.specs.ImageFiles.{IsNoImage}
 use Rattle.tool_answers.specs.Statuses.{tool_status}
 use Rattle.sloth_commands.specs.ToolFiles.{AreToolInputs, IsToolAnswer, ReadsImageFirst}
-use Rattle.sloth_commands.specs.Top.{World, world, FilesAfter, IsOutput, IsToolEnd, IsUnwrittenOutput, Requires, Took}
-use Rattle.sloth_commands.specs.Failures.{TellFailed, CommandFailed, IsPerformed}
+use Rattle.sloth_commands.specs.Top.{World, world, FilesAfter, IsOutput, IsToolEnd, IsUnwrittenOutput, IsRequired, IsTextTaken}
+use Rattle.sloth_commands.specs.Failures.{IsTellFailure, IsCommandFailure, IsPerformed}
 use Rattle.tool_answers.specs.declared.status.Status.{Status}
 use Rattle.sloth_commands.specs.declared.failure.Failure.{Failure}
 use Rattle.sloth_commands.specs.declared.failure.Failure.TheVariants as failure
@@ -43,7 +43,7 @@ no-image-file files u fault is h =
 -- ---- what the answer requires
 
 tool-required : (a : ToolAnswer) (words : List (List ℕ)) (u : ToolUse) (old new : Files) → IsCommand words (Uses u) → IsToolAnswer old u a
-    → FilesAfter a old new u.output → Requires (tool_status a) words old new (tool_text a)
+    → FilesAfter a old new u.output → IsRequired (tool_status a) words old new (tool_text a)
 tool-required (tool_answer.Done outcome) words u old new is h after =
     (Uses u, is, record { answer = tool_answer.Done outcome; is = h; status_is = refl; text_is = refl; files = after })
 tool-required (tool_answer.Stopped pc stop) words u old new is h after =
@@ -55,10 +55,10 @@ tool-required (tool_answer.BadTrace fault) words u old new is h after = (u, is, 
 tool-required tool_answer.NoHolds words u old new is h after = (u, is, h, refl, after)
 
 pub end-required : (s : Status) (words : List (List ℕ)) (u : ToolUse) (old new : Files) (text : List ℕ) → IsCommand words (Uses u) → IsToolEnd s old new u text
-    → Requires s words old new text
+    → IsRequired s words old new text
 end-required s words u old new text is h =
-    subst (λ x. Requires x words old new text) (sym h.status_is)
-    (subst (λ t. Requires (tool_status h.answer) words old new t) (sym h.text_is) (tool-required h.answer words u old new is h.is h.files))
+    subst (λ x. IsRequired x words old new text) (sym h.status_is)
+    (subst (λ t. IsRequired (tool_status h.answer) words old new t) (sym h.text_is) (tool-required h.answer words u old new is h.is h.files))
 
 -- ---- behind the reads
 
@@ -87,7 +87,7 @@ unwritten-kept old mid new (Some name) bytes kept h = (
 )
 
 module _ (old mid : Files) (sink : Output) (new : World) (u : ToolUse) (kept : KeepsFiles old mid) where
-  pub tell-ends : (f : Failure) (a : ToolAnswer) → IsToolAnswer old u a → TellFailed f a (world mid sink) new u.output → CommandFailed f (world old sink) new (Uses u)
+  pub tell-ends : (f : Failure) (a : ToolAnswer) → IsToolAnswer old u a → IsTellFailure f a (world mid sink) new u.output → IsCommandFailure f (world old sink) new (Uses u)
   tell-ends failure.Put a is h = (
     tool_status a,
     tool_text a,
@@ -108,7 +108,7 @@ module _ (old mid : Files) (sink : Output) (new : World) (u : ToolUse) (kept : K
   tell-ends (failure.NotAnImage e) a is h = absurd h
   tell-ends failure.NoMemory a is h = absurd h
 
-  pub tool-performed : (s : Status) (a : ToolAnswer) → IsToolAnswer old u a → s ≡ tool_status a → Took sink new.sink (tool_text a) → FilesAfter a mid new.files u.output
+  pub tool-performed : (s : Status) (a : ToolAnswer) → IsToolAnswer old u a → s ≡ tool_status a → IsTextTaken sink new.sink (tool_text a) → FilesAfter a mid new.files u.output
       → IsPerformed s (world old sink) new (Uses u)
   tool-performed s a is status text after =
       (tool_text a, record { answer = a; is = is; status_is = status; text_is = refl; files = after-kept a old mid new.files u.output kept after }, text)

@@ -18,9 +18,9 @@ use Rattle.tool_commands.proofs.OneAnswer.{HasImage, image-or-fault, no-image, o
 use Rattle.sloth_commands.specs.ImageFiles.{IsNoImage}
 use Rattle.tool_answers.specs.Statuses.{tool_status}
 use Rattle.sloth_commands.specs.ToolFiles.{AreToolInputs, IsToolAnswer, ReadsImageFirst}
-use Rattle.sloth_commands.specs.ToolAnswers.{IsTold, AnswersTool, OutputWorks, ToolWorks, TellsTool, TellsToolDone}
-use Rattle.sloth_commands.specs.Top.{World, IsFailedRead, IsLongRead, FilesAfter, IsUnwrittenOutput, Requires, Puts, Took, BrokeOff, EndsAs, Answers}
-use Rattle.sloth_commands.specs.Top.{CommandDone, CommandRefused, CommandUnwritten, CommandStopped, ReadsWork}
+use Rattle.sloth_commands.specs.ToolAnswers.{IsTold, IsToolStatus, OutputWorks, ToolWorks, HasToolAnswer, HasToolDoneAnswer}
+use Rattle.sloth_commands.specs.Top.{World, IsFailedRead, IsLongRead, FilesAfter, IsUnwrittenOutput, IsRequired, IsPutAnswer, IsTextTaken, IsTextBrokenOff, IsFullAnswer, IsTopAnswer}
+use Rattle.sloth_commands.specs.Top.{IsCommandDone, IsCommandRefused, IsCommandUnwritten, IsCommandStopped, ReadsWork}
 use Rattle.tool_answers.specs.declared.status.Status.{Status}
 use Rattle.tool_answers.specs.declared.status.Status.TheVariants as status
 use Rattle.sloth_commands.proofs.Complete.{not-missing, not-long, counted-put, no-broken-put, no-failed-write}
@@ -65,10 +65,10 @@ IsUnwrittenFor tool_answer.NoHolds output old new = ⊥
 -- what a failed write leaves to be said
 data Told (words : List (List ℕ)) (a : ToolAnswer) (output : Option (List ℕ)) (old new : World) (answer : Status) : Type 0 where
   Whole : IsTold a output old new answer → Told words a output old new answer
-  Wanting : EndsAs status.NoMemory words old new answer → Told words a output old new answer
+  Wanting : IsFullAnswer status.NoMemory words old new answer → Told words a output old new answer
   Unwritten : answer ≡ status.WriteFault → IsUnwrittenFor a output old.files new.files → Told words a output old new answer
-  Broke : answer ≡ status.WriteFault → BrokeOff old.sink new.sink (tool_text a) → Told words a output old new answer
-  BrokeWanting : answer ≡ status.WriteFault → BrokeOff old.sink new.sink (codes "no memory\n") → Told words a output old new answer
+  Broke : answer ≡ status.WriteFault → IsTextBrokenOff old.sink new.sink (tool_text a) → Told words a output old new answer
+  BrokeWanting : answer ≡ status.WriteFault → IsTextBrokenOff old.sink new.sink (codes "no memory\n") → Told words a output old new answer
 
 module _ (words : List (List ℕ)) (old new : World) (answer : Status) (u : ToolUse) (is : IsCommand words (Uses u)) (tells : IsTrue old.files.tells)
     (inputs : List (List ℕ)) (i : AreToolInputs old.files u.inputs inputs) (works : ReadsWork old.files new.files) (a : ToolAnswer)
@@ -80,17 +80,17 @@ module _ (words : List (List ℕ)) (old new : World) (answer : Status) (u : Tool
       one_answer u.tool u.counts inputs b a (subst (λ xs. IsAnswer u.tool u.counts xs b) same h.is) is_answer
 
   ended : (wanted : Status) (b : ToolAnswer) (text : List ℕ) → IsToolAnswer old.files u b → wanted ≡ tool_status b → text ≡ tool_text b
-      → FilesAfter b old.files new.files u.output → Puts wanted answer old.sink new.sink text → Told words a u.output old new answer
+      → FilesAfter b old.files new.files u.output → IsPutAnswer wanted answer old.sink new.sink text → Told words a u.output old new answer
   ended wanted b text h status_is text_is after (inl p) =
       let same = the-answer b h in
       let P : ToolAnswer → Type 0 = λ x. FilesAfter x old.files new.files u.output in
       Whole (record {
         status_is = p.0 ∙ status_is ∙ ap tool_status same;
-        text = subst (λ x. Took old.sink new.sink x) (text_is ∙ ap tool_text same) p.1;
+        text = subst (λ x. IsTextTaken old.sink new.sink x) (text_is ∙ ap tool_text same) p.1;
         files = subst P same after;
       })
   ended wanted b text h status_is text_is after (inr p) =
-      Broke p.0 (subst (λ x. BrokeOff old.sink new.sink x) (text_is ∙ ap tool_text (the-answer b h)) p.1)
+      Broke p.0 (subst (λ x. IsTextBrokenOff old.sink new.sink x) (text_is ∙ ap tool_text (the-answer b h)) p.1)
 
   own : (c : Command) (b : ToolAnswer) → IsCommand words c → AnswersAs old.files b c → IsToolAnswer old.files u b
   own c b other h = subst (AnswersAs old.files b) (one-command words c (Uses u) other is) h
@@ -115,16 +115,16 @@ module _ (words : List (List ℕ)) (old new : World) (answer : Status) (u : Tool
   unwritten-for : (b : ToolAnswer) → b ≡ a → IsUnwrittenFor b u.output old.files new.files → IsUnwrittenFor a u.output old.files new.files
   unwritten-for b same h = subst (λ x. IsUnwrittenFor x u.output old.files new.files) same h
 
-  told-by : (wanted : Status) (text : List ℕ) → Requires wanted words old.files new.files text → Puts wanted answer old.sink new.sink text
+  told-by : (wanted : Status) (text : List ℕ) → IsRequired wanted words old.files new.files text → IsPutAnswer wanted answer old.sink new.sink text
       → Told words a u.output old new answer
   told-by status.Done text q p =
-      let d = subst (λ x. CommandDone old.files new.files x text) (one-command words q.0 (Uses u) q.1 is) q.2 in
+      let d = subst (λ x. IsCommandDone old.files new.files x text) (one-command words q.0 (Uses u) q.1 is) q.2 in
       ended status.Done d.answer text d.is d.status_is d.text_is d.files p
   told-by status.Stopped text q p =
-      let d = subst (λ x. CommandStopped old.files new.files x text) (one-command words q.0 (Uses u) q.1 is) q.2 in
+      let d = subst (λ x. IsCommandStopped old.files new.files x text) (one-command words q.0 (Uses u) q.1 is) q.2 in
       ended status.Stopped d.answer text d.is d.status_is d.text_is d.files p
   told-by status.Refused text q p =
-      let d = subst (λ x. CommandRefused old.files x q.2) (one-command words q.0 (Uses u) q.1 is) q.3 in
+      let d = subst (λ x. IsCommandRefused old.files x q.2) (one-command words q.0 (Uses u) q.1 is) q.3 in
       ended status.Refused (tool_answer.Refused q.2) text d refl q.4 q.5 p
   told-by status.NotAnImage text q p =
       let n = subst (λ x. IsNoImage old.files x q.2) (one-command words q.0 (Uses u) q.1 is) q.3 in
@@ -133,12 +133,12 @@ module _ (words : List (List ℕ)) (old new : World) (answer : Status) (u : Tool
   told-by status.BadTrace text q p = ended status.BadTrace (tool_answer.BadTrace q.2) text (own (Uses q.0) (tool_answer.BadTrace q.2) q.1 q.3) refl q.4 q.5 p
   told-by status.NoHolds text q p = ended status.NoHolds tool_answer.NoHolds text (own (Uses q.0) tool_answer.NoHolds q.1 q.2) refl q.3 q.4 p
   told-by status.NoMemory text q (inl p) = Wanting (p.0, (text, q, p.1))
-  told-by status.NoMemory text q (inr p) = BrokeWanting p.0 (subst (λ x. BrokeOff old.sink new.sink x) q.2 p.1)
+  told-by status.NoMemory text q (inr p) = BrokeWanting p.0 (subst (λ x. IsTextBrokenOff old.sink new.sink x) q.2 p.1)
   told-by status.WriteFault text q p =
-      let d = subst (CommandUnwritten old.files new.files) (one-command words q.0 (Uses u) q.1 is) q.2 in
+      let d = subst (IsCommandUnwritten old.files new.files) (one-command words q.0 (Uses u) q.1 is) q.2 in
       Unwritten (write-fault p) (unwritten-for (tool_answer.Done d.outcome) (the-answer (tool_answer.Done d.outcome) d.is) d.failed)
     where
-      write-fault : Puts status.WriteFault answer old.sink new.sink text → answer ≡ status.WriteFault
+      write-fault : IsPutAnswer status.WriteFault answer old.sink new.sink text → answer ≡ status.WriteFault
       write-fault (inl p) = p.0
       write-fault (inr p) = p.0
   told-by status.Usage text q p = absurd (q.0 (Uses u) is)
@@ -177,7 +177,7 @@ not-unwritten (tool_answer.BadTrace f) output old new works h = h
 not-unwritten tool_answer.NoHolds output old new works h = h
 
 answers-tool : (words : List (List ℕ)) (a : ToolAnswer) (output : Option (List ℕ)) (old new : World) (answer : Status) → Told words a output old new answer
-    → AnswersTool words a output old new answer
+    → IsToolStatus words a output old new answer
 answers-tool words a output old new answer (Whole h) = inl h
 answers-tool words a output old new answer (Wanting h) = inr (inl h)
 answers-tool words a output old new answer (Unwritten is h) = inr (inr (inl (is, rose-for a output old.files new.files h)))
@@ -185,18 +185,18 @@ answers-tool words a output old new answer (Broke is h) = inr (inr (inr (is, cou
 answers-tool words a output old new answer (BrokeWanting is h) = inr (inr (inr (is, counted-put old.sink new.sink (codes "no memory\n") h)))
 
 answers-done : (words : List (List ℕ)) (a : ToolAnswer) (output : Option (List ℕ)) (old new : World) (answer : Status) → ToolWorks a output old new
-    → Told words a output old new answer → IsTold a output old new answer ⊎ EndsAs status.NoMemory words old new answer
+    → Told words a output old new answer → IsTold a output old new answer ⊎ IsFullAnswer status.NoMemory words old new answer
 answers-done words a output old new answer works (Whole h) = inl h
 answers-done words a output old new answer works (Wanting h) = inr h
 answers-done words a output old new answer works (Unwritten is h) = absurd (not-unwritten a output old.files new.files works.write h)
 answers-done words a output old new answer works (Broke is h) = absurd (no-broken-put old.sink new.sink (tool_text a) works.text h)
 answers-done words a output old new answer works (BrokeWanting is h) = absurd (no-broken-put old.sink new.sink (codes "no memory\n") works.last_line h)
 
-pub tells-tool : (words : List (List ℕ)) (old new : World) (answer : Status) → Answers words old new answer → TellsTool words old new answer
+pub tells-tool : (words : List (List ℕ)) (old new : World) (answer : Status) → IsTopAnswer words old new answer → HasToolAnswer words old new answer
 tells-tool words old new answer h u is tells inputs i reads a is_answer =
     answers-tool words a u.output old new answer (told-by words old new answer u is tells inputs i reads a is_answer h.wanted h.text h.required h.puts)
 
-pub tells-tool-done : (words : List (List ℕ)) (old new : World) (answer : Status) → Answers words old new answer → TellsToolDone words old new answer
+pub tells-tool-done : (words : List (List ℕ)) (old new : World) (answer : Status) → IsTopAnswer words old new answer → HasToolDoneAnswer words old new answer
 tells-tool-done words old new answer h u is tells inputs i a is_answer works =
     answers-done words a u.output old new answer works
     (told-by words old new answer u is tells inputs i works.reads a is_answer h.wanted h.text h.required h.puts)

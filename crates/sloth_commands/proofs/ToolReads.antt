@@ -10,7 +10,7 @@ use Rattle.command_line.specs.Command.{words_of}
 use Rattle.sloth_commands.specs.FileInputs.{IsInput}
 use Rattle.sloth_commands.specs.ToolFiles.{AreToolInputs}
 use Rattle.sloth_commands.specs.Top.{FirstUnread}
-use Rattle.sloth_commands.specs.Failures.{FetchFailed, ReadFailed}
+use Rattle.sloth_commands.specs.Failures.{IsFetchFailure, IsReadFailure}
 use Rattle.sloth_commands.specs.declared.failure.Failure.{Failure}
 use Rattle.sloth_commands.specs.declared.failure.Failure.TheVariants as failure
 
@@ -50,7 +50,7 @@ long-kept old mid new name kept h =
     )
 
 pub fetch-ends : (f : Failure) (old mid new : Files) (names inputs : List (List ℕ)) (name : List ℕ) (rest all : List (List ℕ)) → AreToolInputs old names inputs
-    → KeepsFiles old mid → names ++ name ∷ rest ≡ all → FetchFailed f mid new name → ReadFailed f old new all
+    → KeepsFiles old mid → names ++ name ∷ rest ≡ all → IsFetchFailure f mid new name → IsReadFailure f old new all
 fetch-ends failure.ReadFault old mid new names inputs name rest all are kept e h =
     subst (λ xs. FirstUnread old (IsMissing old new) xs) e (unread-behind old (IsMissing old new) names inputs name rest are (missing-kept old mid new name kept h))
 fetch-ends failure.TooLong old mid new names inputs name rest all are kept e h =
@@ -165,7 +165,7 @@ fetched-more old mid new names i d inputs after name bytes lt before is holds sh
     }
 
 pub fetch-failed : (f : Failure) (old mid new : Files) (names : List (String Global)) (i : ℕ) (d : String Global) (inputs : List (List ℕ)) (name : List ℕ) → i < length names
-    → AreFetched old mid names i inputs → name ≡ string_bytes (get_or names i d) → FetchFailed f mid new name → ReadFailed f old new (words_of names)
+    → AreFetched old mid names i inputs → name ≡ string_bytes (get_or names i d) → IsFetchFailure f mid new name → IsReadFailure f old new (words_of names)
 fetch-failed f old mid new names i d inputs name lt before is h =
     fetch-ends f old mid new (words_of (take i names)) inputs (string_bytes (get_or names i d)) (words_of (drop (i + 1) names)) (words_of names) before.read before.kept
-    (words-around names i d lt) (subst (λ n. FetchFailed f mid new n) is h)
+    (words-around names i d lt) (subst (λ n. IsFetchFailure f mid new n) is h)

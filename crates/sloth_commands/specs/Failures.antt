@@ -23,9 +23,9 @@ use Rattle.tool_answers.specs.declared.answer.ToolAnswer.TheVariants as tool_ans
 use Rattle.sloth_commands.specs.ImageFiles.{IsNoImage}
 use Rattle.command_line.specs.LastLine.{refusal_line, no_image_line}
 use Rattle.sloth_commands.specs.Samples.{sample_oil, sample_source}
-use Rattle.sloth_commands.specs.Top.{World, FirstUnread, IsFailedRead, IsLongRead, FilesStay, IsWritten, Took, BrokeOff, Puts}
+use Rattle.sloth_commands.specs.Top.{World, FirstUnread, IsFailedRead, IsLongRead, AreFilesSame, IsWritten, IsTextTaken, IsTextBrokenOff, IsPutAnswer}
 use Rattle.trace_check.specs.Inputs.{IsRefusal}
-use Rattle.sloth_commands.specs.Top.{CommandDone, CommandRefused, CommandUnwritten, CommandStopped, FilesAfter, IsToolEnd, IsUnwrittenOutput}
+use Rattle.sloth_commands.specs.Top.{IsCommandDone, IsCommandRefused, IsCommandUnwritten, IsCommandStopped, FilesAfter, IsToolEnd, IsUnwrittenOutput}
 use Rattle.tool_answers.specs.declared.status.Status.{Status}
 use Rattle.tool_answers.specs.declared.status.Status.TheVariants as status
 use Rattle.sloth_commands.specs.declared.failure.Failure.{Failure}
@@ -48,104 +48,104 @@ image_failure (image_error.Fault fault) = failure.NotAnImage fault
 image_failure image_error.Memory = failure.NoMemory
 
 -- the file of this name was not read for this reason
-abbrev pub FetchFailed : Failure → Files → Files → List ℕ → Type 0
-FetchFailed failure.ReadFault old new name = IsMissing old new name
-FetchFailed failure.TooLong old new name = IsTooLong old new name file_limit
-FetchFailed failure.NoMemory old new name = Unit {0}
-FetchFailed _ old new name = ⊥
+abbrev pub IsFetchFailure : Failure → Files → Files → List ℕ → Type 0
+IsFetchFailure failure.ReadFault old new name = IsMissing old new name
+IsFetchFailure failure.TooLong old new name = IsTooLong old new name file_limit
+IsFetchFailure failure.NoMemory old new name = Unit {0}
+IsFetchFailure _ old new name = ⊥
 
 -- not all of these files were read for this reason, which is that of the first that was not
-abbrev pub ReadFailed : Failure → Files → Files → List (List ℕ) → Type 0
-ReadFailed failure.ReadFault old new names = FirstUnread old (IsMissing old new) names
-ReadFailed failure.TooLong old new names = FirstUnread old (λ name. IsTooLong old new name file_limit) names
-ReadFailed failure.NoMemory old new names = Unit {0}
-ReadFailed _ old new names = ⊥
+abbrev pub IsReadFailure : Failure → Files → Files → List (List ℕ) → Type 0
+IsReadFailure failure.ReadFault old new names = FirstUnread old (IsMissing old new) names
+IsReadFailure failure.TooLong old new names = FirstUnread old (λ name. IsTooLong old new name file_limit) names
+IsReadFailure failure.NoMemory old new names = Unit {0}
+IsReadFailure _ old new names = ⊥
 
 -- nothing was built of these texts for this reason
-abbrev pub JudgeFailed : Failure → List ℕ → List ℕ → List ℕ → Type 0
-JudgeFailed (failure.Refused refusal) oil src arr = IsRefusal oil src arr refusal
-JudgeFailed failure.NoMemory oil src arr = Unit {0}
-JudgeFailed _ oil src arr = ⊥
+abbrev pub IsJudgeFailure : Failure → List ℕ → List ℕ → List ℕ → Type 0
+IsJudgeFailure (failure.Refused refusal) oil src arr = IsRefusal oil src arr refusal
+IsJudgeFailure failure.NoMemory oil src arr = Unit {0}
+IsJudgeFailure _ oil src arr = ⊥
 
 -- nothing was built of the texts that are generated from this seed for this reason
-abbrev pub SampleFailed : Failure → ℕ → Type 0
-SampleFailed (failure.Refused refusal) seed = FirstRefusal sample_oil (sample_source seed) refusal
-SampleFailed failure.NoMemory seed = Unit {0}
-SampleFailed _ seed = ⊥
+abbrev pub IsSampleFailure : Failure → ℕ → Type 0
+IsSampleFailure (failure.Refused refusal) seed = FirstRefusal sample_oil (sample_source seed) refusal
+IsSampleFailure failure.NoMemory seed = Unit {0}
+IsSampleFailure _ seed = ⊥
 
 -- no image and no arrivals were read of these files for this reason
-abbrev pub LoadFailed : Failure → List ℕ → List ℕ → Type 0
-LoadFailed (failure.NotAnImage fault) file arr = IsFirstImageFault fault file
-LoadFailed (failure.Refused refusal) file arr = (image : Image) × ImageText file image × IsLeast (ArrivalsFault image.tasks image.counters arr) refusal
-LoadFailed failure.NoMemory file arr = Unit {0}
-LoadFailed _ file arr = ⊥
+abbrev pub IsLoadFailure : Failure → List ℕ → List ℕ → Type 0
+IsLoadFailure (failure.NotAnImage fault) file arr = IsFirstImageFault fault file
+IsLoadFailure (failure.Refused refusal) file arr = (image : Image) × ImageText file image × IsLeast (ArrivalsFault image.tasks image.counters arr) refusal
+IsLoadFailure failure.NoMemory file arr = Unit {0}
+IsLoadFailure _ file arr = ⊥
 
 -- the lines of an image that is not written were not all put for this reason
-abbrev pub LinesFailed : Failure → Output → Output → List ℕ → Type 0
-LinesFailed failure.NoMemory old new text = new ≡ old
-LinesFailed failure.Put old new text = BrokeOff old new text
-LinesFailed _ old new text = ⊥
+abbrev pub IsLinesFailure : Failure → Output → Output → List ℕ → Type 0
+IsLinesFailure failure.NoMemory old new text = new ≡ old
+IsLinesFailure failure.Put old new text = IsTextBrokenOff old new text
+IsLinesFailure _ old new text = ⊥
 
 -- The image was not run, or its lines were not put, for this reason. The image's file was to hold these bytes, and the sink to take this text.
-abbrev pub PerformFailed : Failure → World → World → List ℕ → List ℕ → List ℕ → Type 0
-PerformFailed failure.NoMemory old new img bytes text = FilesStay old.files new.files × (new.sink ≡ old.sink)
-PerformFailed failure.WriteFile old new img bytes text =
+abbrev pub IsPerformFailure : Failure → World → World → List ℕ → List ℕ → List ℕ → Type 0
+IsPerformFailure failure.NoMemory old new img bytes text = AreFilesSame old.files new.files × (new.sink ≡ old.sink)
+IsPerformFailure failure.WriteFile old new img bytes text =
     IsUnwritten old.files new.files img (length bytes) × KeepsOthers old.files new.files img × (new.sink ≡ old.sink)
-PerformFailed failure.Put old new img bytes text = IsWritten old.files new.files img bytes × BrokeOff old.sink new.sink text
-PerformFailed _ old new img bytes text = ⊥
+IsPerformFailure failure.Put old new img bytes text = IsWritten old.files new.files img bytes × IsTextBrokenOff old.sink new.sink text
+IsPerformFailure _ old new img bytes text = ⊥
 
 -- a command that is no tool ended with this status and had this text: it was done, or its run stopped
-abbrev pub EndsPlainly : Status → Files → Files → Command → List ℕ → Type 0
-EndsPlainly status.Done old new c text = CommandDone old new c text
-EndsPlainly status.Stopped old new c text = CommandStopped old new c text
-EndsPlainly _ old new c text = ⊥
+abbrev pub IsPlainEnd : Status → Files → Files → Command → List ℕ → Type 0
+IsPlainEnd status.Done old new c text = IsCommandDone old new c text
+IsPlainEnd status.Stopped old new c text = IsCommandStopped old new c text
+IsPlainEnd _ old new c text = ⊥
 
 -- a command that ended with this status had this text; a tool has its own statuses
-abbrev pub Ends : Status → Files → Files → Command → List ℕ → Type 0
-Ends status old new (Builds b) text = EndsPlainly status old new (Builds b) text
-Ends status old new (Executes e) text = EndsPlainly status old new (Executes e) text
-Ends status old new (Lists img) text = EndsPlainly status old new (Lists img) text
-Ends status old new (Samples seed img) text = EndsPlainly status old new (Samples seed img) text
-Ends status old new (Uses u) text = IsToolEnd status old new u text
+abbrev pub IsCommandEnd : Status → Files → Files → Command → List ℕ → Type 0
+IsCommandEnd status old new (Builds b) text = IsPlainEnd status old new (Builds b) text
+IsCommandEnd status old new (Executes e) text = IsPlainEnd status old new (Executes e) text
+IsCommandEnd status old new (Lists img) text = IsPlainEnd status old new (Lists img) text
+IsCommandEnd status old new (Samples seed img) text = IsPlainEnd status old new (Samples seed img) text
+IsCommandEnd status old new (Uses u) text = IsToolEnd status old new u text
 
 -- the file of a tool that was done was not written
-abbrev pub OutputFailed : Failure → Files → Files → Option (List ℕ) → List ℕ → Type 0
-OutputFailed failure.WriteFile old new output bytes = IsUnwrittenOutput old new output bytes
-OutputFailed _ old new output bytes = ⊥
+abbrev pub IsOutputFailure : Failure → Files → Files → Option (List ℕ) → List ℕ → Type 0
+IsOutputFailure failure.WriteFile old new output bytes = IsUnwrittenOutput old new output bytes
+IsOutputFailure _ old new output bytes = ⊥
 
 -- a line was not put
-abbrev pub LineFailed : Failure → Output → Output → List ℕ → Type 0
-LineFailed failure.Put old new line = BrokeOff old new line
-LineFailed _ old new line = ⊥
+abbrev pub IsLineFailure : Failure → Output → Output → List ℕ → Type 0
+IsLineFailure failure.Put old new line = IsTextBrokenOff old new line
+IsLineFailure _ old new line = ⊥
 
 -- The answer of a tool was not told for this reason: its file was not written, or its text was not put.
-abbrev pub TellFailed : Failure → ToolAnswer → World → World → Option (List ℕ) → Type 0
-TellFailed failure.Put answer old new output = FilesAfter answer old.files new.files output × BrokeOff old.sink new.sink (tool_text answer)
-TellFailed failure.WriteFile (tool_answer.Done outcome) old new output =
+abbrev pub IsTellFailure : Failure → ToolAnswer → World → World → Option (List ℕ) → Type 0
+IsTellFailure failure.Put answer old new output = FilesAfter answer old.files new.files output × IsTextBrokenOff old.sink new.sink (tool_text answer)
+IsTellFailure failure.WriteFile (tool_answer.Done outcome) old new output =
     IsUnwrittenOutput old.files new.files output outcome.file × (new.sink ≡ old.sink)
-TellFailed _ answer old new output = ⊥
+IsTellFailure _ answer old new output = ⊥
 
 -- The command was not done for this reason; no last line is put yet.
-abbrev pub CommandFailed : Failure → World → World → Command → Type 0
-CommandFailed (failure.Refused refusal) old new c = CommandRefused old.files c refusal × FilesStay old.files new.files × (new.sink ≡ old.sink)
-CommandFailed failure.ReadFault old new c = IsFailedRead old.files new.files c × FilesStay old.files new.files × (new.sink ≡ old.sink)
-CommandFailed failure.TooLong old new c = IsLongRead old.files new.files c × FilesStay old.files new.files × (new.sink ≡ old.sink)
-CommandFailed (failure.NotAnImage fault) old new c = IsNoImage old.files c fault × FilesStay old.files new.files × (new.sink ≡ old.sink)
-CommandFailed failure.NoMemory old new c = FilesStay old.files new.files × (new.sink ≡ old.sink)
-CommandFailed failure.WriteFile old new c = CommandUnwritten old.files new.files c × (new.sink ≡ old.sink)
-CommandFailed failure.Put old new c =
-    (status : Status) × (text : List ℕ) × Ends status old.files new.files c text × BrokeOff old.sink new.sink text
+abbrev pub IsCommandFailure : Failure → World → World → Command → Type 0
+IsCommandFailure (failure.Refused refusal) old new c = IsCommandRefused old.files c refusal × AreFilesSame old.files new.files × (new.sink ≡ old.sink)
+IsCommandFailure failure.ReadFault old new c = IsFailedRead old.files new.files c × AreFilesSame old.files new.files × (new.sink ≡ old.sink)
+IsCommandFailure failure.TooLong old new c = IsLongRead old.files new.files c × AreFilesSame old.files new.files × (new.sink ≡ old.sink)
+IsCommandFailure (failure.NotAnImage fault) old new c = IsNoImage old.files c fault × AreFilesSame old.files new.files × (new.sink ≡ old.sink)
+IsCommandFailure failure.NoMemory old new c = AreFilesSame old.files new.files × (new.sink ≡ old.sink)
+IsCommandFailure failure.WriteFile old new c = IsCommandUnwritten old.files new.files c × (new.sink ≡ old.sink)
+IsCommandFailure failure.Put old new c =
+    (status : Status) × (text : List ℕ) × IsCommandEnd status old.files new.files c text × IsTextBrokenOff old.sink new.sink text
 
 -- the command ended with this status
 abbrev pub IsPerformed : Status → World → World → Command → Type 0
-IsPerformed status old new c = (text : List ℕ) × Ends status old.files new.files c text × Took old.sink new.sink text
+IsPerformed status old new c = (text : List ℕ) × IsCommandEnd status old.files new.files c text × IsTextTaken old.sink new.sink text
 
 -- the failure's last line was put, or broke off; where a put failed before, there is none
-abbrev pub Finished : Failure → Status → Output → Output → Type 0
-Finished (failure.Refused refusal) answer old new = Puts status.Refused answer old new (refusal_line refusal)
-Finished failure.ReadFault answer old new = Puts status.ReadFault answer old new (codes "read fault\n")
-Finished failure.TooLong answer old new = Puts status.TooLong answer old new (codes "too long\n")
-Finished (failure.NotAnImage fault) answer old new = Puts status.NotAnImage answer old new (no_image_line fault)
-Finished failure.NoMemory answer old new = Puts status.NoMemory answer old new (codes "no memory\n")
-Finished failure.WriteFile answer old new = Puts status.WriteFault answer old new (codes "write fault\n")
-Finished failure.Put answer old new = (answer ≡ status.WriteFault) × (new ≡ old)
+abbrev pub IsFailureEnd : Failure → Status → Output → Output → Type 0
+IsFailureEnd (failure.Refused refusal) answer old new = IsPutAnswer status.Refused answer old new (refusal_line refusal)
+IsFailureEnd failure.ReadFault answer old new = IsPutAnswer status.ReadFault answer old new (codes "read fault\n")
+IsFailureEnd failure.TooLong answer old new = IsPutAnswer status.TooLong answer old new (codes "too long\n")
+IsFailureEnd (failure.NotAnImage fault) answer old new = IsPutAnswer status.NotAnImage answer old new (no_image_line fault)
+IsFailureEnd failure.NoMemory answer old new = IsPutAnswer status.NoMemory answer old new (codes "no memory\n")
+IsFailureEnd failure.WriteFile answer old new = IsPutAnswer status.WriteFault answer old new (codes "write fault\n")
+IsFailureEnd failure.Put answer old new = (answer ≡ status.WriteFault) × (new ≡ old)

@@ -15,7 +15,7 @@ use Rattle.sloth_commands.specs.FileInputs.{IsInput}
 use Rattle.sloth_commands.specs.ImageFiles.{AreExecInputs, ReadsImageFile, exec_text}
 use Rattle.command_line.specs.LastLine.{no_image_line}
 use Rattle.sloth_runner.specs.Runner.{run_end}
-use Rattle.sloth_commands.specs.Top.{World, Took, EndsAs, IsBrokenOff, AnswersRefused, ReadsWork, PutsWork}
+use Rattle.sloth_commands.specs.Top.{World, IsTextTaken, IsFullAnswer, IsBrokenOff, IsRefusalAnswer, ReadsWork, PutsWork}
 use Rattle.sloth_runner.specs.declared.runner.RunEnd.{RunEnd}
 use Rattle.sloth_runner.specs.declared.runner.RunEnd.TheVariants as ends
 use Rattle.tool_answers.specs.declared.status.Status.{Status}
@@ -33,44 +33,44 @@ pub record LinesWork (old new : World) (text : List ℕ) : Type 0 where
   pub last_line : PutsWork old.sink new.sink (codes "no memory\n")
 
 -- no image, unless memory was wanting or the line could not be put
-abbrev pub AnswersNoImage : World → World → Status → Type 0
-AnswersNoImage old new answer = (answer ≡ status.NotAnImage) ⊎ ((answer ≡ status.NoMemory) ⊎ IsBrokenOff old new answer)
+abbrev pub IsNoImageAnswer : World → World → Status → Type 0
+IsNoImageAnswer old new answer = (answer ≡ status.NotAnImage) ⊎ ((answer ≡ status.NoMemory) ⊎ IsBrokenOff old new answer)
 
 -- the same with the line of this fault
-abbrev pub AnswersFault : World → World → ImageFault → Status → Type 0
-AnswersFault old new fault answer =
-    ((answer ≡ status.NotAnImage) × Took old.sink new.sink (no_image_line fault)) ⊎ ((answer ≡ status.NoMemory) ⊎ IsBrokenOff old new answer)
+abbrev pub IsImageFaultAnswer : World → World → ImageFault → Status → Type 0
+IsImageFaultAnswer old new fault answer =
+    ((answer ≡ status.NotAnImage) × IsTextTaken old.sink new.sink (no_image_line fault)) ⊎ ((answer ≡ status.NoMemory) ⊎ IsBrokenOff old new answer)
 
 -- The inputs are there, and this is the first fault of the image file: NotAnImage, with the line that says it.
-abbrev pub TellsFault : List (List ℕ) → World → World → Status → Type 0
-TellsFault words old new answer =
+abbrev pub HasImageFaultAnswer : List (List ℕ) → World → World → Status → Type 0
+HasImageFaultAnswer words old new answer =
     (c : Command) → IsCommand words c → IsTrue old.files.tells → (file : List ℕ) → ReadsImageFile old.files c file → ReadsWork old.files new.files
-    → (fault : ImageFault) → IsFirstImageFault fault file → AnswersFault old new fault answer
+    → (fault : ImageFault) → IsFirstImageFault fault file → IsImageFaultAnswer old new fault answer
 
 -- The inputs are there, and no image has the bytes of the image file: NotAnImage.
-abbrev pub TellsNoImage : List (List ℕ) → World → World → Status → Type 0
-TellsNoImage words old new answer =
+abbrev pub HasNoImageAnswer : List (List ℕ) → World → World → Status → Type 0
+HasNoImageAnswer words old new answer =
     (c : Command) → IsCommand words c → IsTrue old.files.tells → (file : List ℕ) → ReadsImageFile old.files c file → ReadsWork old.files new.files
-    → ((image : Image) → ImageText file image → ⊥) → AnswersNoImage old new answer
+    → ((image : Image) → ImageText file image → ⊥) → IsNoImageAnswer old new answer
 
 -- `exec`: the inputs are there, the image file is one, and this is the least fault of the arrivals: Refused, with the line that says it.
-abbrev pub TellsExecRefused : List (List ℕ) → World → World → Status → Type 0
-TellsExecRefused words old new answer =
+abbrev pub HasExecRefusedAnswer : List (List ℕ) → World → World → Status → Type 0
+HasExecRefusedAnswer words old new answer =
     (e : Execution) → IsCommand words (Executes e) → IsTrue old.files.tells → (file arr : List ℕ) → AreExecInputs old.files e file arr
     → ReadsWork old.files new.files → (image : Image) → ImageText file image
-    → (refusal : Refusal) → IsLeast (ArrivalsFault image.tasks image.counters arr) refusal → AnswersRefused old new refusal answer
+    → (refusal : Refusal) → IsLeast (ArrivalsFault image.tasks image.counters arr) refusal → IsRefusalAnswer old new refusal answer
 
 -- `exec`: the inputs are there and accepted, and no read or put failed: Done, or Stopped where the run stops, or memory was wanting.
-abbrev pub TellsExecuted : List (List ℕ) → World → World → Status → Type 0
-TellsExecuted words old new answer =
+abbrev pub HasExecutedAnswer : List (List ℕ) → World → World → Status → Type 0
+HasExecutedAnswer words old new answer =
     (e : Execution) → IsCommand words (Executes e) → IsTrue old.files.tells → (file arr : List ℕ) → AreExecInputs old.files e file arr
     → (image : Image) → ImageText file image → (arrivals : List Arrival) → AreRead image.tasks image.counters arr arrivals
     → LinesWork old new (exec_text image arrivals e.n)
-    → EndsAs (end_status (run_end image arrivals e.n)) words old new answer ⊎ EndsAs status.NoMemory words old new answer
+    → IsFullAnswer (end_status (run_end image arrivals e.n)) words old new answer ⊎ IsFullAnswer status.NoMemory words old new answer
 
 -- `list`: the image file is there and is one, and no read or put failed: Done, or memory was wanting.
-abbrev pub TellsListed : List (List ℕ) → World → World → Status → Type 0
-TellsListed words old new answer =
+abbrev pub HasListedAnswer : List (List ℕ) → World → World → Status → Type 0
+HasListedAnswer words old new answer =
     (img : List ℕ) → IsCommand words (Lists img) → IsTrue old.files.tells → (file : List ℕ) → IsInput old.files img file
     → (image : Image) → ImageText file image → LinesWork old new (listing image)
-    → EndsAs status.Done words old new answer ⊎ EndsAs status.NoMemory words old new answer
+    → IsFullAnswer status.Done words old new answer ⊎ IsFullAnswer status.NoMemory words old new answer

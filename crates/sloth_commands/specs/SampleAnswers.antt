@@ -8,7 +8,7 @@ use Rattle.image_file.specs.ImageText.{image_bytes}
 use Rattle.sloth_source.specs.Texts.{AreAccepted, FirstRefusal}
 use Rattle.command_line.specs.Command.{Samples, IsCommand}
 use Rattle.sloth_commands.specs.Samples.{sample_oil, sample_source, sample_arrivals, sample_text}
-use Rattle.sloth_commands.specs.Top.{World, IsBuiltImage, EndsAs, AnswersRefused, WritesWork, PutsWork}
+use Rattle.sloth_commands.specs.Top.{World, IsBuiltImage, IsFullAnswer, IsRefusalAnswer, WritesWork, PutsWork}
 use Rattle.tool_answers.specs.declared.status.Status.{Status}
 use Rattle.tool_answers.specs.declared.status.Status.TheVariants as status
 
@@ -19,14 +19,14 @@ pub record SampleWorks (seed : ℕ) (img : List ℕ) (config : Config) (app : Ap
   pub last_line : PutsWork old.sink new.sink (codes "no memory\n")
 
 -- The generated texts are refused so: Refused, with the line that says it.
-abbrev pub TellsSampleRefused : List (List ℕ) → World → World → Status → Type 0
-TellsSampleRefused words old new answer =
+abbrev pub HasSampleRefusedAnswer : List (List ℕ) → World → World → Status → Type 0
+HasSampleRefusedAnswer words old new answer =
     (seed : ℕ) (img : List ℕ) → IsCommand words (Samples seed img)
-    → (refusal : Refusal) → FirstRefusal sample_oil (sample_source seed) refusal → AnswersRefused old new refusal answer
+    → (refusal : Refusal) → FirstRefusal sample_oil (sample_source seed) refusal → IsRefusalAnswer old new refusal answer
 
 -- The generated texts are accepted, and no write or put failed: Done, or memory was wanting.
-abbrev pub TellsSampled : List (List ℕ) → World → World → Status → Type 0
-TellsSampled words old new answer =
+abbrev pub HasSampledAnswer : List (List ℕ) → World → World → Status → Type 0
+HasSampledAnswer words old new answer =
     (seed : ℕ) (img : List ℕ) → IsCommand words (Samples seed img)
     → (config : Config) (app : App) → AreAccepted sample_oil (sample_source seed) config app → SampleWorks seed img config app old new
-    → EndsAs status.Done words old new answer ⊎ EndsAs status.NoMemory words old new answer
+    → IsFullAnswer status.Done words old new answer ⊎ IsFullAnswer status.NoMemory words old new answer

@@ -10,14 +10,14 @@ use Rattle.tool_answers.specs.declared.answer.ToolAnswer.{ToolAnswer}
 use Rattle.tool_answers.specs.declared.answer.ToolAnswer.TheVariants as tool_answer
 use Rattle.tool_answers.specs.Statuses.{tool_status}
 use Rattle.sloth_commands.specs.ToolFiles.{AreToolInputs}
-use Rattle.sloth_commands.specs.Top.{World, Took, FilesAfter, EndsAs, IsBrokenOff, ReadsWork, WritesWork, PutsWork}
+use Rattle.sloth_commands.specs.Top.{World, IsTextTaken, FilesAfter, IsFullAnswer, IsBrokenOff, ReadsWork, WritesWork, PutsWork}
 use Rattle.tool_answers.specs.declared.status.Status.{Status}
 use Rattle.tool_answers.specs.declared.status.Status.TheVariants as status
 
 -- this is the tool's answer: its status, its text whole, and what it leaves in the files
 pub record IsTold (a : ToolAnswer) (output : Option (List ℕ)) (old new : World) (answer : Status) : Type 0 where
   pub status_is : answer ≡ tool_status a
-  pub text : Took old.sink new.sink (tool_text a)
+  pub text : IsTextTaken old.sink new.sink (tool_text a)
   pub files : FilesAfter a old.files new.files output
 
 -- a write failed
@@ -25,9 +25,9 @@ abbrev pub IsNotWritten : World → World → Status → Type 0
 IsNotWritten old new answer = (answer ≡ status.WriteFault) × Rose old.files.failed_writes new.files.failed_writes
 
 -- this answer, unless memory was wanting, the tool's file was not written or the text could not be put
-abbrev pub AnswersTool : List (List ℕ) → ToolAnswer → Option (List ℕ) → World → World → Status → Type 0
-AnswersTool words a output old new answer =
-    IsTold a output old new answer ⊎ (EndsAs status.NoMemory words old new answer ⊎ (IsNotWritten old new answer ⊎ IsBrokenOff old new answer))
+abbrev pub IsToolStatus : List (List ℕ) → ToolAnswer → Option (List ℕ) → World → World → Status → Type 0
+IsToolStatus words a output old new answer =
+    IsTold a output old new answer ⊎ (IsFullAnswer status.NoMemory words old new answer ⊎ (IsNotWritten old new answer ⊎ IsBrokenOff old new answer))
 
 -- no write of the file of a tool that was done failed, or none is to fail
 abbrev pub OutputWorks : ToolAnswer → Option (List ℕ) → Files → Files → Type 0
@@ -42,14 +42,14 @@ pub record ToolWorks (a : ToolAnswer) (output : Option (List ℕ)) (old new : Wo
   pub last_line : PutsWork old.sink new.sink (codes "no memory\n")
 
 -- The files are there, and this is the tool's answer to them: this answer.
-abbrev pub TellsTool : List (List ℕ) → World → World → Status → Type 0
-TellsTool words old new answer =
+abbrev pub HasToolAnswer : List (List ℕ) → World → World → Status → Type 0
+HasToolAnswer words old new answer =
     (u : ToolUse) → IsCommand words (Uses u) → IsTrue old.files.tells → (inputs : List (List ℕ)) → AreToolInputs old.files u.inputs inputs
-    → ReadsWork old.files new.files → (a : ToolAnswer) → IsAnswer u.tool u.counts inputs a → AnswersTool words a u.output old new answer
+    → ReadsWork old.files new.files → (a : ToolAnswer) → IsAnswer u.tool u.counts inputs a → IsToolStatus words a u.output old new answer
 
 -- And no call failed: this answer, or memory was wanting.
-abbrev pub TellsToolDone : List (List ℕ) → World → World → Status → Type 0
-TellsToolDone words old new answer =
+abbrev pub HasToolDoneAnswer : List (List ℕ) → World → World → Status → Type 0
+HasToolDoneAnswer words old new answer =
     (u : ToolUse) → IsCommand words (Uses u) → IsTrue old.files.tells → (inputs : List (List ℕ)) → AreToolInputs old.files u.inputs inputs
     → (a : ToolAnswer) → IsAnswer u.tool u.counts inputs a → ToolWorks a u.output old new
-    → IsTold a u.output old new answer ⊎ EndsAs status.NoMemory words old new answer
+    → IsTold a u.output old new answer ⊎ IsFullAnswer status.NoMemory words old new answer

@@ -15,7 +15,7 @@ use Rattle.osek_blocking.specs.Protocol.{KeepsCeilingProtocol}
 use Rattle.run_bounds.specs.BlockingBounds.{KeepsBlockingBounds}
 use Rattle.osek_blocking.specs.NextEvents.{IsOnlyRun}
 use Rattle.sim_induction.specs.Sound.{Sound, events_of}
-use Rattle.sim_laws.specs.Shown.{ShowsStates}
+use Rattle.sim_laws.specs.TaskStates.{HasTaskStates}
 use Rattle.sloth_io.specs.Counts.{Rose, Stays}
 use Rattle.sloth_io.specs.Sink.{Output, output_with, GainsPart, FailsToPassOn}
 use Rattle.sloth_io.specs.Store.{Files, Holds, KeepsOthers, IsMissing, IsTooLong, IsUnwritten}
@@ -103,8 +103,8 @@ IsLongRead old new c = FirstUnread old (λ name. IsTooLong old new name file_lim
 -- ---- what stands after an answer
 
 -- no file has changed
-abbrev pub FilesStay : Files → Files → Type 0
-FilesStay old new = (name : List ℕ) → new.holds name ≡ old.holds name
+abbrev pub AreFilesSame : Files → Files → Type 0
+AreFilesSame old new = (name : List ℕ) → new.holds name ≡ old.holds name
 
 -- the image's file holds these bytes, and no other file has changed
 abbrev pub IsWritten : Files → Files → List ℕ → List ℕ → Type 0
@@ -147,7 +147,7 @@ pub record IsBuiltImage (config : Config) (app : App) (image : Image) : Type 0 w
   -- every run of the image, whatever lines arrive, is one of the abstract scheduler
   pub sound : Sound config app image
   -- and the machine shows the task states of the abstract scheduler at each count that finds interrupts open
-  pub shows : ShowsStates config app image
+  pub shows : HasTaskStates config app image
   -- so a Ready task is blocked by one lower task at most, and resources are held by one task at a time
   pub protocol : RunsKeepProtocol config app image
   -- and waits for no more work of lower tasks than its bound
@@ -235,18 +235,18 @@ pub record IsUnwrittenSample (old new : Files) (seed : ℕ) (img : List ℕ) : T
 
 -- the file of a tool, if it writes one, holds these bytes, and no other file has changed
 abbrev pub IsOutput : Files → Files → Option (List ℕ) → List ℕ → Type 0
-IsOutput old new None bytes = FilesStay old new
+IsOutput old new None bytes = AreFilesSame old new
 IsOutput old new (Some name) bytes = IsWritten old new name bytes
 
 -- what the files hold behind the answer of a tool: only one that was done writes a file
 abbrev pub FilesAfter : ToolAnswer → Files → Files → Option (List ℕ) → Type 0
 FilesAfter (tool_answer.Done outcome) old new output = IsOutput old new output outcome.file
-FilesAfter (tool_answer.Refused refusal) old new output = FilesStay old new
-FilesAfter (tool_answer.Stopped pc stop) old new output = FilesStay old new
-FilesAfter (tool_answer.NotAnImage fault) old new output = FilesStay old new
-FilesAfter (tool_answer.NotAnElf fault) old new output = FilesStay old new
-FilesAfter (tool_answer.BadTrace fault) old new output = FilesStay old new
-FilesAfter tool_answer.NoHolds old new output = FilesStay old new
+FilesAfter (tool_answer.Refused refusal) old new output = AreFilesSame old new
+FilesAfter (tool_answer.Stopped pc stop) old new output = AreFilesSame old new
+FilesAfter (tool_answer.NotAnImage fault) old new output = AreFilesSame old new
+FilesAfter (tool_answer.NotAnElf fault) old new output = AreFilesSame old new
+FilesAfter (tool_answer.BadTrace fault) old new output = AreFilesSame old new
+FilesAfter tool_answer.NoHolds old new output = AreFilesSame old new
 
 -- the tool has an answer with this status and this text, and the files hold what it says
 pub record IsToolEnd (wanted : Status) (old new : Files) (u : ToolUse) (text : List ℕ) : Type 0 where
@@ -268,90 +268,90 @@ pub record IsUnwrittenTool (old new : Files) (u : ToolUse) : Type 0 where
   pub failed : IsUnwrittenOutput old new u.output outcome.file
 
 -- the command was done, and this is its text; a command on an image file changes no file
-abbrev pub CommandDone : Files → Files → Command → List ℕ → Type 0
-CommandDone old new (Builds b) text = IsDone old new b text
-CommandDone old new (Executes e) text = IsExecuted old e ends.Whole text × FilesStay old new
-CommandDone old new (Lists img) text = IsListed old img text × FilesStay old new
-CommandDone old new (Samples seed img) text = IsSampled old new seed img text
-CommandDone old new (Uses u) text = IsToolEnd status.Done old new u text
+abbrev pub IsCommandDone : Files → Files → Command → List ℕ → Type 0
+IsCommandDone old new (Builds b) text = IsDone old new b text
+IsCommandDone old new (Executes e) text = IsExecuted old e ends.Whole text × AreFilesSame old new
+IsCommandDone old new (Lists img) text = IsListed old img text × AreFilesSame old new
+IsCommandDone old new (Samples seed img) text = IsSampled old new seed img text
+IsCommandDone old new (Uses u) text = IsToolEnd status.Done old new u text
 
 -- its inputs or its generated texts are refused so; of one that lists an image there are none to be refused
-abbrev pub CommandRefused : Files → Command → Refusal → Type 0
-CommandRefused old (Builds b) refusal = IsRefused old b refusal
-CommandRefused old (Executes e) refusal = IsExecRefused old e refusal
-CommandRefused old (Lists img) refusal = ⊥
-CommandRefused old (Samples seed img) refusal = FirstRefusal sample_oil (sample_source seed) refusal
-CommandRefused old (Uses u) refusal = IsToolAnswer old u (tool_answer.Refused refusal)
+abbrev pub IsCommandRefused : Files → Command → Refusal → Type 0
+IsCommandRefused old (Builds b) refusal = IsRefused old b refusal
+IsCommandRefused old (Executes e) refusal = IsExecRefused old e refusal
+IsCommandRefused old (Lists img) refusal = ⊥
+IsCommandRefused old (Samples seed img) refusal = FirstRefusal sample_oil (sample_source seed) refusal
+IsCommandRefused old (Uses u) refusal = IsToolAnswer old u (tool_answer.Refused refusal)
 
 -- its file was to be written, and the write failed
-abbrev pub CommandUnwritten : Files → Files → Command → Type 0
-CommandUnwritten old new (Builds b) = IsUnwrittenBuild old new b
-CommandUnwritten old new (Executes e) = ⊥
-CommandUnwritten old new (Lists img) = ⊥
-CommandUnwritten old new (Samples seed img) = IsUnwrittenSample old new seed img
-CommandUnwritten old new (Uses u) = IsUnwrittenTool old new u
+abbrev pub IsCommandUnwritten : Files → Files → Command → Type 0
+IsCommandUnwritten old new (Builds b) = IsUnwrittenBuild old new b
+IsCommandUnwritten old new (Executes e) = ⊥
+IsCommandUnwritten old new (Lists img) = ⊥
+IsCommandUnwritten old new (Samples seed img) = IsUnwrittenSample old new seed img
+IsCommandUnwritten old new (Uses u) = IsUnwrittenTool old new u
 
 -- the machine stopped before the last instruction that was to be run; an image that was built never does
-abbrev pub CommandStopped : Files → Files → Command → List ℕ → Type 0
-CommandStopped old new (Builds b) text = ⊥
-CommandStopped old new (Executes e) text = (pc : ℕ) × (stop : Stop) × IsExecuted old e (ends.Stopped pc stop) text × FilesStay old new
-CommandStopped old new (Lists img) text = ⊥
-CommandStopped old new (Samples seed img) text = ⊥
-CommandStopped old new (Uses u) text = IsToolEnd status.Stopped old new u text
+abbrev pub IsCommandStopped : Files → Files → Command → List ℕ → Type 0
+IsCommandStopped old new (Builds b) text = ⊥
+IsCommandStopped old new (Executes e) text = (pc : ℕ) × (stop : Stop) × IsExecuted old e (ends.Stopped pc stop) text × AreFilesSame old new
+IsCommandStopped old new (Lists img) text = ⊥
+IsCommandStopped old new (Samples seed img) text = ⊥
+IsCommandStopped old new (Uses u) text = IsToolEnd status.Stopped old new u text
 
 -- the sink took the text, and no put failed
-abbrev pub Took : Output → Output → List ℕ → Type 0
-Took old new text = new ≡ output_with old text
+abbrev pub IsTextTaken : Output → Output → List ℕ → Type 0
+IsTextTaken old new text = new ≡ output_with old text
 
 -- a put failed, and the sink took a part of the text
-abbrev pub BrokeOff : Output → Output → List ℕ → Type 0
-BrokeOff old new text = GainsPart old new text
+abbrev pub IsTextBrokenOff : Output → Output → List ℕ → Type 0
+IsTextBrokenOff old new text = GainsPart old new text
 
 -- the text was put, with this answer; or it broke off, which is answered by WriteFault
-abbrev pub Puts : Status → Status → Output → Output → List ℕ → Type 0
-Puts wanted answer old new text = ((answer ≡ wanted) × Took old new text) ⊎ ((answer ≡ status.WriteFault) × BrokeOff old new text)
+abbrev pub IsPutAnswer : Status → Status → Output → Output → List ℕ → Type 0
+IsPutAnswer wanted answer old new text = ((answer ≡ wanted) × IsTextTaken old new text) ⊎ ((answer ≡ status.WriteFault) × IsTextBrokenOff old new text)
 
 -- what the sink holds back was handed on, with this answer; or it was not, which is answered by WriteFault
-abbrev pub Closes : Status → Status → Output → Output → Type 0
-Closes wanted answer old new = ((answer ≡ wanted) × (new ≡ old)) ⊎ ((answer ≡ status.WriteFault) × FailsToPassOn old new)
+abbrev pub IsCloseAnswer : Status → Status → Output → Output → Type 0
+IsCloseAnswer wanted answer old new = ((answer ≡ wanted) × (new ≡ old)) ⊎ ((answer ≡ status.WriteFault) × FailsToPassOn old new)
 
 -- What an answer requires: its cause, this text, and what the files hold.
-abbrev pub Requires : Status → List (List ℕ) → Files → Files → List ℕ → Type 0
-Requires status.Done words old new text = (c : Command) × IsCommand words c × CommandDone old new c text
-Requires status.Usage words old new text = NoCommand words × (text ≡ codes "usage\n") × FilesStay old new
-Requires status.Refused words old new text =
-    (c : Command) × IsCommand words c × (refusal : Refusal) × CommandRefused old c refusal × (text ≡ refusal_line refusal) × FilesStay old new
-Requires status.ReadFault words old new text =
-    (c : Command) × IsCommand words c × IsFailedRead old new c × (text ≡ codes "read fault\n") × FilesStay old new
-Requires status.WriteFault words old new text =
-    (c : Command) × IsCommand words c × CommandUnwritten old new c × (text ≡ codes "write fault\n")
-Requires status.NoMemory words old new text = (c : Command) × IsCommand words c × (text ≡ codes "no memory\n") × FilesStay old new
-Requires status.TooLong words old new text =
-    (c : Command) × IsCommand words c × IsLongRead old new c × (text ≡ codes "too long\n") × FilesStay old new
-Requires status.Stopped words old new text = (c : Command) × IsCommand words c × CommandStopped old new c text
-Requires status.NotAnImage words old new text =
-    (c : Command) × IsCommand words c × (fault : ImageFault) × IsNoImage old c fault × (text ≡ no_image_line fault) × FilesStay old new
-Requires status.NotAnElf words old new text =
+abbrev pub IsRequired : Status → List (List ℕ) → Files → Files → List ℕ → Type 0
+IsRequired status.Done words old new text = (c : Command) × IsCommand words c × IsCommandDone old new c text
+IsRequired status.Usage words old new text = NoCommand words × (text ≡ codes "usage\n") × AreFilesSame old new
+IsRequired status.Refused words old new text =
+    (c : Command) × IsCommand words c × (refusal : Refusal) × IsCommandRefused old c refusal × (text ≡ refusal_line refusal) × AreFilesSame old new
+IsRequired status.ReadFault words old new text =
+    (c : Command) × IsCommand words c × IsFailedRead old new c × (text ≡ codes "read fault\n") × AreFilesSame old new
+IsRequired status.WriteFault words old new text =
+    (c : Command) × IsCommand words c × IsCommandUnwritten old new c × (text ≡ codes "write fault\n")
+IsRequired status.NoMemory words old new text = (c : Command) × IsCommand words c × (text ≡ codes "no memory\n") × AreFilesSame old new
+IsRequired status.TooLong words old new text =
+    (c : Command) × IsCommand words c × IsLongRead old new c × (text ≡ codes "too long\n") × AreFilesSame old new
+IsRequired status.Stopped words old new text = (c : Command) × IsCommand words c × IsCommandStopped old new c text
+IsRequired status.NotAnImage words old new text =
+    (c : Command) × IsCommand words c × (fault : ImageFault) × IsNoImage old c fault × (text ≡ no_image_line fault) × AreFilesSame old new
+IsRequired status.NotAnElf words old new text =
     (u : ToolUse) × IsCommand words (Uses u) × (fault : ElfFault) × IsToolAnswer old u (tool_answer.NotAnElf fault) × (text ≡ no_elf_line fault)
-    × FilesStay old new
-Requires status.BadTrace words old new text =
+    × AreFilesSame old new
+IsRequired status.BadTrace words old new text =
     (u : ToolUse) × IsCommand words (Uses u) × (fault : TraceFault) × IsToolAnswer old u (tool_answer.BadTrace fault) × (text ≡ bad_trace_line fault)
-    × FilesStay old new
-Requires status.NoHolds words old new text =
-    (u : ToolUse) × IsCommand words (Uses u) × IsToolAnswer old u tool_answer.NoHolds × (text ≡ codes "no holds\n") × FilesStay old new
+    × AreFilesSame old new
+IsRequired status.NoHolds words old new text =
+    (u : ToolUse) × IsCommand words (Uses u) × IsToolAnswer old u tool_answer.NoHolds × (text ≡ codes "no holds\n") × AreFilesSame old new
 
 -- The sink took the text that the answer requires, and the files hold what it requires; or a put failed, the answer is WriteFault, and
 -- this holds of another answer and a part of its text.
-pub record Answers (words : List (List ℕ)) (old new : World) (answer : Status) : Type 0 where
+pub record IsTopAnswer (words : List (List ℕ)) (old new : World) (answer : Status) : Type 0 where
   pub wanted : Status
   pub text : List ℕ
-  pub required : Requires wanted words old.files new.files text
-  pub puts : Puts wanted answer old.sink new.sink text
+  pub required : IsRequired wanted words old.files new.files text
+  pub puts : IsPutAnswer wanted answer old.sink new.sink text
 
 -- this is the answer, and all that it requires stands
-abbrev pub EndsAs : Status → List (List ℕ) → World → World → Status → Type 0
-EndsAs wanted words old new answer =
-    (answer ≡ wanted) × ((text : List ℕ) × Requires wanted words old.files new.files text × Took old.sink new.sink text)
+abbrev pub IsFullAnswer : Status → List (List ℕ) → World → World → Status → Type 0
+IsFullAnswer wanted words old new answer =
+    (answer ≡ wanted) × ((text : List ℕ) × IsRequired wanted words old.files new.files text × IsTextTaken old.sink new.sink text)
 
 -- ---- which answer comes
 
@@ -365,13 +365,13 @@ abbrev pub IsBrokenOff : World → World → Status → Type 0
 IsBrokenOff old new answer = (answer ≡ status.WriteFault) × Rose old.sink.faults new.sink.faults
 
 -- words of no command, unless the line could not be put
-abbrev pub AnswersUsage : World → World → Status → Type 0
-AnswersUsage old new answer = (answer ≡ status.Usage) ⊎ IsBrokenOff old new answer
+abbrev pub IsUsageAnswer : World → World → Status → Type 0
+IsUsageAnswer old new answer = (answer ≡ status.Usage) ⊎ IsBrokenOff old new answer
 
 -- this refusal, unless memory was wanting or the line could not be put
-abbrev pub AnswersRefused : World → World → Refusal → Status → Type 0
-AnswersRefused old new refusal answer =
-    ((answer ≡ status.Refused) × Took old.sink new.sink (refusal_line refusal)) ⊎ ((answer ≡ status.NoMemory) ⊎ IsBrokenOff old new answer)
+abbrev pub IsRefusalAnswer : World → World → Refusal → Status → Type 0
+IsRefusalAnswer old new refusal answer =
+    ((answer ≡ status.Refused) × IsTextTaken old.sink new.sink (refusal_line refusal)) ⊎ ((answer ≡ status.NoMemory) ⊎ IsBrokenOff old new answer)
 
 -- no read failed in this call, or none is to fail
 abbrev pub ReadsWork : Files → Files → Type 0
@@ -399,18 +399,18 @@ pub record CallsWork (c : Building) (config : Config) (app : App) (arrivals : Li
   pub last_line : PutsWork old.sink new.sink (codes "no memory\n")
 
 -- The words are those of no command: Usage.
-abbrev pub TellsUsage : List (List ℕ) → World → World → Status → Type 0
-TellsUsage words old new answer = NoCommand words → AnswersUsage old new answer
+abbrev pub HasUsageAnswer : List (List ℕ) → World → World → Status → Type 0
+HasUsageAnswer words old new answer = NoCommand words → IsUsageAnswer old new answer
 
 -- The inputs are there and are refused so: Refused, with the line that says it.
-abbrev pub TellsRefused : List (List ℕ) → World → World → Status → Type 0
-TellsRefused words old new answer =
+abbrev pub HasRefusalAnswer : List (List ℕ) → World → World → Status → Type 0
+HasRefusalAnswer words old new answer =
     (c : Building) → IsCommand words (Builds c) → (oil src arr : List ℕ) → AreThere old.files c oil src arr → ReadsWork old.files new.files
-    → (refusal : Refusal) → IsRefusal oil src arr refusal → AnswersRefused old new refusal answer
+    → (refusal : Refusal) → IsRefusal oil src arr refusal → IsRefusalAnswer old new refusal answer
 
 -- The inputs are there and accepted, and no read, write or put failed: all was done, or memory was wanting, with all that this requires.
 abbrev pub IsComplete : List (List ℕ) → World → World → Status → Type 0
 IsComplete words old new answer =
     (c : Building) → IsCommand words (Builds c) → (oil src arr : List ℕ) → AreThere old.files c oil src arr
     → (config : Config) (app : App) → AreAccepted oil src config app → (arrivals : List Arrival) → AreRead (task_names config) (counter_names config) arr arrivals
-    → CallsWork c config app arrivals old new → EndsAs status.Done words old new answer ⊎ EndsAs status.NoMemory words old new answer
+    → CallsWork c config app arrivals old new → IsFullAnswer status.Done words old new answer ⊎ IsFullAnswer status.NoMemory words old new answer

@@ -12,9 +12,9 @@ ghost use Rattle.command_line.specs.Words.{building_of, run_of};
 ghost use Rattle.trace_check.specs.Inputs.{AreRead};
 ghost use Rattle.command_line.specs.LastLine.{built_line};
 ghost use Rattle.sloth_runner.specs.Runner.{IsFresh, image_of, given_arrivals, run_text};
-ghost use Rattle.sloth_commands.specs.Top.{world, arrivals_named, inputs_of, AreInputs, HoldsArrivals, IsBuiltImage, IsWritten, done_text, Took};
+ghost use Rattle.sloth_commands.specs.Top.{world, arrivals_named, inputs_of, AreInputs, HoldsArrivals, IsBuiltImage, IsWritten, done_text, IsTextTaken};
 ghost use Rattle.sloth_base.specs.DeclaredNames.{task_names, counter_names};
-ghost use Rattle.sloth_commands.specs.Failures.{ReadFailed, JudgeFailed, PerformFailed};
+ghost use Rattle.sloth_commands.specs.Failures.{IsReadFailure, IsJudgeFailure, IsPerformFailure};
 
 use crate::building::build_image;
 use crate::failure::Failure;
@@ -48,7 +48,7 @@ fn fetch_arrivals<F: Store>(
     ensures ok { IfOk result (λ bytes. HoldsArrivals (F.seen files.old) (run_of run.now) bytes.items) }
     ensures short { IfOk result (λ bytes. length bytes.items ≤ file_limit) }
     ensures err { IfErr result (λ failure.
-        ReadFailed failure (F.seen files.old) (F.seen files.new) (arrivals_named (run_of run.now))) }
+        IsReadFailure failure (F.seen files.old) (F.seen files.new) (arrivals_named (run_of run.now))) }
     ensures keeps { KeepsFiles (F.seen files.old) (F.seen files.new) }
 {
     match run {
@@ -64,7 +64,7 @@ pub fn read_inputs<F: Store>(
     c: &BuildWords,
 ) -> Result<Inputs, Failure>
     ensures ok { IfOk result (λ i. AreInputs (F.seen files.old) (building_of c.now) i.oil.items i.src.items i.arr.items) }
-    ensures err { IfErr result (λ failure. ReadFailed failure (F.seen files.old) (F.seen files.new) (inputs_of (Builds (building_of c.now)))) }
+    ensures err { IfErr result (λ failure. IsReadFailure failure (F.seen files.old) (F.seen files.new) (inputs_of (Builds (building_of c.now)))) }
     ensures keeps { KeepsFiles (F.seen files.old) (F.seen files.new) }
 {
     Ok(Inputs {
@@ -91,7 +91,7 @@ pub fn judge(alloc: Global, inputs: &Inputs) -> Result<Judged, Failure>
     ensures read { IfOk result (λ judged.
         AreRead (task_names judged.built.config) (counter_names judged.built.config) inputs.now.arr.items judged.arrivals.items) }
     ensures in_range { IfOk result (λ judged. AreArrivals (owners_in judged.built.config) judged.arrivals.items) }
-    ensures err { IfErr result (λ failure. JudgeFailed failure inputs.now.oil.items inputs.now.src.items inputs.now.arr.items) }
+    ensures err { IfErr result (λ failure. IsJudgeFailure failure inputs.now.oil.items inputs.now.src.items inputs.now.arr.items) }
 {
     let built = build_image(alloc, inputs.oil.as_slice(), inputs.src.as_slice())?;
     let arrivals = read_arrivals(
@@ -111,9 +111,9 @@ fn perform_build<F: Store, S: Sink>(
     bytes: &[u8],
 ) -> Result<(), Failure>
     ensures written { OnOk result (IsWritten (F.seen files.old) (F.seen files.new) img.now bytes.now) }
-    ensures text { OnOk result (Took (S.seen out.old) (S.seen out.new) (built_line (length bytes.now))) }
+    ensures text { OnOk result (IsTextTaken (S.seen out.old) (S.seen out.new) (built_line (length bytes.now))) }
     ensures err { IfErr result (λ failure.
-        PerformFailed failure (world (F.seen files.old) (S.seen out.old)) (world (F.seen files.new) (S.seen out.new))
+        IsPerformFailure failure (world (F.seen files.old) (S.seen out.old)) (world (F.seen files.new) (S.seen out.new))
         img.now bytes.now (built_line (length bytes.now))) }
 {
     files.write(img, bytes).map_err(|_| Failure::WriteFile)?;
@@ -133,10 +133,10 @@ fn write_and_run<F: Store, S: Sink>(
     requires fresh { IsFresh runner.old }
     requires few { run.now.n ≤ count_limit }
     ensures written { OnOk result (IsWritten (F.seen files.old) (F.seen files.new) img.now bytes.now) }
-    ensures text { OnOk result (Took (S.seen out.old) (S.seen out.new)
+    ensures text { OnOk result (IsTextTaken (S.seen out.old) (S.seen out.new)
         (run_text (image_of runner.old) (given_arrivals runner.old) run.now.form run.now.n)) }
     ensures err { IfErr result (λ failure.
-        PerformFailed failure (world (F.seen files.old) (S.seen out.old)) (world (F.seen files.new) (S.seen out.new))
+        IsPerformFailure failure (world (F.seen files.old) (S.seen out.old)) (world (F.seen files.new) (S.seen out.new))
         img.now bytes.now (run_text (image_of runner.old) (given_arrivals runner.old) run.now.form run.now.n)) }
 {
     files.write(img, bytes).map_err(|_| Failure::WriteFile)?;
@@ -159,9 +159,9 @@ fn perform_run<F: Store, S: Sink>(
     requires arrivals { AreArrivals (owners_named image.now) arrivals.now }
     requires few { run.now.n ≤ count_limit }
     ensures written { OnOk result (IsWritten (F.seen files.old) (F.seen files.new) img.now bytes.now) }
-    ensures text { OnOk result (Took (S.seen out.old) (S.seen out.new) (run_text image.now arrivals.now run.now.form run.now.n)) }
+    ensures text { OnOk result (IsTextTaken (S.seen out.old) (S.seen out.new) (run_text image.now arrivals.now run.now.form run.now.n)) }
     ensures err { IfErr result (λ failure.
-        PerformFailed failure (world (F.seen files.old) (S.seen out.old)) (world (F.seen files.new) (S.seen out.new))
+        IsPerformFailure failure (world (F.seen files.old) (S.seen out.old)) (world (F.seen files.new) (S.seen out.new))
         img.now bytes.now (run_text image.now arrivals.now run.now.form run.now.n)) }
 {
     let mut runner = Runner::new(alloc, image, arrivals)?;
@@ -181,9 +181,9 @@ pub fn perform<F: Store, S: Sink>(
     requires arrivals { AreArrivals (owners_named image.now) arrivals.now }
     requires few { IsInLimit (run_of c.now.run) }
     ensures written { OnOk result (IsWritten (F.seen files.old) (F.seen files.new) c.now.img.now (image_bytes image.now)) }
-    ensures text { OnOk result (Took (S.seen out.old) (S.seen out.new) (done_text image.now arrivals.now (run_of c.now.run))) }
+    ensures text { OnOk result (IsTextTaken (S.seen out.old) (S.seen out.new) (done_text image.now arrivals.now (run_of c.now.run))) }
     ensures err { IfErr result (λ failure.
-        PerformFailed failure (world (F.seen files.old) (S.seen out.old)) (world (F.seen files.new) (S.seen out.new))
+        IsPerformFailure failure (world (F.seen files.old) (S.seen out.old)) (world (F.seen files.new) (S.seen out.new))
         c.now.img.now (image_bytes image.now) (done_text image.now arrivals.now (run_of c.now.run))) }
 {
     let bytes = write_image(alloc, image)?;

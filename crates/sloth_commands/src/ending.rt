@@ -1,6 +1,6 @@
 //! How a command ends: its last line, and what the sink holds back.
-ghost use Rattle.sloth_commands.specs.Top.{Puts, Closes};
-ghost use Rattle.sloth_commands.specs.Failures.{Finished};
+ghost use Rattle.sloth_commands.specs.Top.{IsPutAnswer, IsCloseAnswer};
+ghost use Rattle.sloth_commands.specs.Failures.{IsFailureEnd};
 
 use crate::failure::Failure;
 use command_line::last_line::{no_image_line, refusal_line};
@@ -9,7 +9,7 @@ use tool_answers::Status;
 
 /// Hands on what the sink holds back. Where it can't be, the status is WriteFault.
 pub fn close<S: Sink>(out: &mut S, status: Status) -> Status
-    ensures { Closes status result (S.seen out.old) (S.seen out.new) }
+    ensures { IsCloseAnswer status result (S.seen out.old) (S.seen out.new) }
 {
     match out.flush() {
         Ok(()) => status,
@@ -19,7 +19,7 @@ pub fn close<S: Sink>(out: &mut S, status: Status) -> Status
 
 /// Puts a last line. Where it can't be put or handed on, the status is WriteFault.
 pub fn say<S: Sink>(out: &mut S, line: &[u8], status: Status) -> Status
-    ensures { Puts status result (S.seen out.old) (S.seen out.new) line.now }
+    ensures { IsPutAnswer status result (S.seen out.old) (S.seen out.new) line.now }
 {
     match out.put(line) {
         Ok(()) => close(out, status),
@@ -29,7 +29,7 @@ pub fn say<S: Sink>(out: &mut S, line: &[u8], status: Status) -> Status
 
 /// Puts the last line of a failure.
 pub fn finish<S: Sink>(out: &mut S, failure: Failure) -> Status
-    ensures { Finished failure result (S.seen out.old) (S.seen out.new) }
+    ensures { IsFailureEnd failure result (S.seen out.old) (S.seen out.new) }
 {
     match failure {
         Failure::Refused(refusal) => say(out, refusal_line(refusal).bytes(), Status::Refused),

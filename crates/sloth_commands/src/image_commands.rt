@@ -13,8 +13,8 @@ ghost use Rattle.trace_check.specs.Inputs.{AreRead};
 ghost use Rattle.sloth_commands.specs.ImageFiles.{AreExecInputs, end_line, exec_text};
 ghost use Rattle.sloth_commands.specs.ImageAnswers.{end_status};
 ghost use Rattle.sloth_runner.specs.Runner.{IsFresh, image_of, given_arrivals, run_end};
-ghost use Rattle.sloth_commands.specs.Top.{world, inputs_of, Took};
-ghost use Rattle.sloth_commands.specs.Failures.{ReadFailed, LoadFailed, LinesFailed, LineFailed, CommandFailed, IsPerformed};
+ghost use Rattle.sloth_commands.specs.Top.{world, inputs_of, IsTextTaken};
+ghost use Rattle.sloth_commands.specs.Failures.{IsReadFailure, IsLoadFailure, IsLinesFailure, IsLineFailure, IsCommandFailure, IsPerformed};
 ghost use Rattle.tool_answers.specs.declared.status.Status.TheVariants.{Done as DoneStatus};
 ghost use Rattle.trace_text.specs.Listing.{listing};
 
@@ -45,7 +45,7 @@ struct ExecInputs {
 fn read_inputs<F: Store>(alloc: Global, files: &mut F, e: &ExecWords) -> Result<ExecInputs, Failure>
     ensures ok { IfOk result (λ i. AreExecInputs (F.seen files.old) (execution_of e.now) i.file.items i.arr.items) }
     ensures err { IfErr result (λ failure.
-        ReadFailed failure (F.seen files.old) (F.seen files.new) (inputs_of (Executes (execution_of e.now)))) }
+        IsReadFailure failure (F.seen files.old) (F.seen files.new) (inputs_of (Executes (execution_of e.now)))) }
     ensures keeps { KeepsFiles (F.seen files.old) (F.seen files.new) }
 {
     Ok(ExecInputs {
@@ -60,7 +60,7 @@ fn load(alloc: Global, inputs: ExecInputs) -> Result<RunInputs, Failure>
     ensures image { IfOk result (λ loaded. ImageText inputs.file.items loaded.image) }
     ensures read { IfOk result (λ loaded. AreRead loaded.image.tasks loaded.image.counters inputs.arr.items loaded.arrivals.items) }
     ensures in_range { IfOk result (λ loaded. AreArrivals (owners_named loaded.image) loaded.arrivals.items) }
-    ensures err { IfErr result (λ failure. LoadFailed failure inputs.file.items inputs.arr.items) }
+    ensures err { IfErr result (λ failure. IsLoadFailure failure inputs.file.items inputs.arr.items) }
 {
     match read_run(alloc, inputs.file.as_slice(), inputs.arr.as_slice()) {
         Ok(loaded) => Ok(loaded),
@@ -96,9 +96,9 @@ fn run_lines<S: Sink>(runner: &mut Runner, n: u32, out: &mut S) -> Result<Status
     requires fresh { IsFresh runner.old }
     requires few { n ≤ count_limit }
     ensures end { IfOk result (λ status. status ≡ end_status (run_end (image_of runner.old) (given_arrivals runner.old) n)) }
-    ensures text { OnOk result (Took (S.seen out.old) (S.seen out.new) (exec_text (image_of runner.old) (given_arrivals runner.old) n)) }
+    ensures text { OnOk result (IsTextTaken (S.seen out.old) (S.seen out.new) (exec_text (image_of runner.old) (given_arrivals runner.old) n)) }
     ensures err { IfErr result (λ failure.
-        LinesFailed failure (S.seen out.old) (S.seen out.new) (exec_text (image_of runner.old) (given_arrivals runner.old) n)) }
+        IsLinesFailure failure (S.seen out.old) (S.seen out.new) (exec_text (image_of runner.old) (given_arrivals runner.old) n)) }
 {
     let end = runner.run(n, Form::Counted, out)?;
     put_end(end, out)?;
@@ -117,9 +117,9 @@ fn run_image<S: Sink>(
     requires arrivals { AreArrivals (owners_named image.now) arrivals.now }
     requires few { n ≤ count_limit }
     ensures end { IfOk result (λ status. status ≡ end_status (run_end image.now arrivals.now n)) }
-    ensures text { OnOk result (Took (S.seen out.old) (S.seen out.new) (exec_text image.now arrivals.now n)) }
+    ensures text { OnOk result (IsTextTaken (S.seen out.old) (S.seen out.new) (exec_text image.now arrivals.now n)) }
     ensures err { IfErr result (λ failure.
-        LinesFailed failure (S.seen out.old) (S.seen out.new) (exec_text image.now arrivals.now n)) }
+        IsLinesFailure failure (S.seen out.old) (S.seen out.new) (exec_text image.now arrivals.now n)) }
 {
     let mut runner = Runner::new(alloc, image, arrivals)?;
     run_lines(&mut runner, n, out)
@@ -135,7 +135,7 @@ pub fn execute<F: Store, S: Sink>(
     requires { e.now.n ≤ count_limit }
     ensures done { IfOk result (λ status. IsPerformed status
         (world (F.seen files.old) (S.seen out.old)) (world (F.seen files.new) (S.seen out.new)) (Executes (execution_of e.now))) }
-    ensures err { IfErr result (λ failure. CommandFailed failure
+    ensures err { IfErr result (λ failure. IsCommandFailure failure
         (world (F.seen files.old) (S.seen out.old)) (world (F.seen files.new) (S.seen out.new)) (Executes (execution_of e.now))) }
 {
     let inputs = read_inputs(alloc, files, e)?;
@@ -146,8 +146,8 @@ pub fn execute<F: Store, S: Sink>(
 // Puts the listing of an image.
 fn put_lines<S: Sink>(image: &Image, out: &mut S) -> Result<(), Failure>
     requires { InFormat image.now }
-    ensures ok { OnOk result (Took (S.seen out.old) (S.seen out.new) (listing image.now)) }
-    ensures err { IfErr result (λ failure. LineFailed failure (S.seen out.old) (S.seen out.new) (listing image.now)) }
+    ensures ok { OnOk result (IsTextTaken (S.seen out.old) (S.seen out.new) (listing image.now)) }
+    ensures err { IfErr result (λ failure. IsLineFailure failure (S.seen out.old) (S.seen out.new) (listing image.now)) }
 {
     put_listing(image, out)?;
     Ok(())
@@ -162,7 +162,7 @@ fn list_file<F: Store, S: Sink>(
 ) -> Result<(), Failure>
     ensures done { OnOk result (IsPerformed DoneStatus
         (world (F.seen files.old) (S.seen out.old)) (world (F.seen files.new) (S.seen out.new)) (Lists img.now)) }
-    ensures err { IfErr result (λ failure. CommandFailed failure
+    ensures err { IfErr result (λ failure. IsCommandFailure failure
         (world (F.seen files.old) (S.seen out.old)) (world (F.seen files.new) (S.seen out.new)) (Lists img.now)) }
 {
     let file = fetch(alloc, files, img)?;
@@ -179,7 +179,7 @@ pub fn list<F: Store, S: Sink>(
 ) -> Result<Status, Failure>
     ensures done { IfOk result (λ status. IsPerformed status
         (world (F.seen files.old) (S.seen out.old)) (world (F.seen files.new) (S.seen out.new)) (Lists img.now)) }
-    ensures err { IfErr result (λ failure. CommandFailed failure
+    ensures err { IfErr result (λ failure. IsCommandFailure failure
         (world (F.seen files.old) (S.seen out.old)) (world (F.seen files.new) (S.seen out.new)) (Lists img.now)) }
 {
     list_file(alloc, files, out, img)?;

@@ -2,7 +2,7 @@
 ghost use Rattle.std.specs.Prelude.{◌≤◌, IfOk, IfErr, length};
 ghost use Rattle.sloth_base.specs.Limits.{file_limit};
 ghost use Rattle.sloth_io.specs.Store.{KeepsFiles, Holds};
-ghost use Rattle.sloth_commands.specs.Failures.{FetchFailed};
+ghost use Rattle.sloth_commands.specs.Failures.{IsFetchFailure};
 
 use crate::failure::Failure;
 use sloth_base::limits::FILE_LIMIT;
@@ -13,7 +13,7 @@ use std::alloc::Global;
 pub fn fetch<F: Store>(alloc: Global, files: &mut F, name: &str) -> Result<Vec<u8>, Failure>
     ensures ok { IfOk result (λ bytes. Holds (F.seen files.old) name.now bytes.items) }
     ensures short { IfOk result (λ bytes. length bytes.items ≤ file_limit) }
-    ensures err { IfErr result (λ failure. FetchFailed failure (F.seen files.old) (F.seen files.new) name.now) }
+    ensures err { IfErr result (λ failure. IsFetchFailure failure (F.seen files.old) (F.seen files.new) name.now) }
     ensures keeps { KeepsFiles (F.seen files.old) (F.seen files.new) }
 {
     let mut bytes = Vec::new(alloc);

@@ -9,8 +9,8 @@ ghost use Rattle.sloth_source.specs.Texts.{AreAccepted};
 ghost use Rattle.command_line.specs.Command.{Samples};
 ghost use Rattle.sloth_runner.specs.Runner.{IsFresh, image_of, given_arrivals};
 ghost use Rattle.sloth_commands.specs.Samples.{sample_oil, sample_source, sample_arrivals, sample_text};
-ghost use Rattle.sloth_commands.specs.Top.{world, IsBuiltImage, IsWritten, Took};
-ghost use Rattle.sloth_commands.specs.Failures.{SampleFailed, PerformFailed, CommandFailed, IsPerformed};
+ghost use Rattle.sloth_commands.specs.Top.{world, IsBuiltImage, IsWritten, IsTextTaken};
+ghost use Rattle.sloth_commands.specs.Failures.{IsSampleFailure, IsPerformFailure, IsCommandFailure, IsPerformed};
 ghost use Rattle.tool_answers.specs.declared.status.Status.TheVariants.{Done as DoneStatus};
 
 use crate::building::build_image;
@@ -43,7 +43,7 @@ fn generate(alloc: Global, seed: u32) -> Result<Generated, Failure>
     ensures image { IfOk result (λ made. IsBuiltImage made.built.config made.built.app made.built.image) }
     ensures arrivals { IfOk result (λ made. made.arrivals ≡ sample_arrivals seed) }
     ensures in_range { IfOk result (λ made. AreArrivals (owners_in made.built.config) made.arrivals) }
-    ensures err { IfErr result (λ failure. SampleFailed failure seed) }
+    ensures err { IfErr result (λ failure. IsSampleFailure failure seed) }
 {
     let Sample { oil, src, arrivals } = sample(alloc, seed, TASK_LIMIT as u32)?;
     let built = build_image(alloc, oil.items(), src.items())?;
@@ -71,9 +71,9 @@ fn write_and_show<F: Store, S: Sink>(
 ) -> Result<(), Failure>
     requires fresh { IsFresh runner.old }
     ensures written { OnOk result (IsWritten (F.seen files.old) (F.seen files.new) img.now bytes.now) }
-    ensures text { OnOk result (Took (S.seen out.old) (S.seen out.new) (sample_text (image_of runner.old) (given_arrivals runner.old))) }
+    ensures text { OnOk result (IsTextTaken (S.seen out.old) (S.seen out.new) (sample_text (image_of runner.old) (given_arrivals runner.old))) }
     ensures err { IfErr result (λ failure.
-        PerformFailed failure (world (F.seen files.old) (S.seen out.old)) (world (F.seen files.new) (S.seen out.new))
+        IsPerformFailure failure (world (F.seen files.old) (S.seen out.old)) (world (F.seen files.new) (S.seen out.new))
         img.now bytes.now (sample_text (image_of runner.old) (given_arrivals runner.old))) }
 {
     files.write(img, bytes).map_err(|_| Failure::WriteFile)?;
@@ -93,9 +93,9 @@ fn perform<F: Store, S: Sink>(
     requires format { InFormat image.now }
     requires arrivals { AreArrivals (owners_named image.now) arrivals.now }
     ensures written { OnOk result (IsWritten (F.seen files.old) (F.seen files.new) img.now (image_bytes image.now)) }
-    ensures text { OnOk result (Took (S.seen out.old) (S.seen out.new) (sample_text image.now arrivals.now)) }
+    ensures text { OnOk result (IsTextTaken (S.seen out.old) (S.seen out.new) (sample_text image.now arrivals.now)) }
     ensures err { IfErr result (λ failure.
-        PerformFailed failure (world (F.seen files.old) (S.seen out.old)) (world (F.seen files.new) (S.seen out.new))
+        IsPerformFailure failure (world (F.seen files.old) (S.seen out.old)) (world (F.seen files.new) (S.seen out.new))
         img.now (image_bytes image.now) (sample_text image.now arrivals.now)) }
 {
     let bytes = write_image(alloc, image)?;
@@ -113,7 +113,7 @@ fn attempt<F: Store, S: Sink>(
 ) -> Result<(), Failure>
     ensures done { OnOk result (IsPerformed DoneStatus
         (world (F.seen files.old) (S.seen out.old)) (world (F.seen files.new) (S.seen out.new)) (Samples seed img.now)) }
-    ensures err { IfErr result (λ failure. CommandFailed failure
+    ensures err { IfErr result (λ failure. IsCommandFailure failure
         (world (F.seen files.old) (S.seen out.old)) (world (F.seen files.new) (S.seen out.new)) (Samples seed img.now)) }
 {
     let made = generate(alloc, seed)?;
@@ -138,7 +138,7 @@ pub fn sample_run<F: Store, S: Sink>(
 ) -> Result<Status, Failure>
     ensures done { IfOk result (λ status. IsPerformed status
         (world (F.seen files.old) (S.seen out.old)) (world (F.seen files.new) (S.seen out.new)) (Samples seed img.now)) }
-    ensures err { IfErr result (λ failure. CommandFailed failure
+    ensures err { IfErr result (λ failure. IsCommandFailure failure
         (world (F.seen files.old) (S.seen out.old)) (world (F.seen files.new) (S.seen out.new)) (Samples seed img.now)) }
 {
     attempt(alloc, files, out, seed, img)?;

@@ -9,8 +9,8 @@ ghost use Rattle.tool_commands.specs.Lines.{tool_text};
 ghost use Rattle.tool_answers.specs.declared.answer.ToolAnswer.TheVariants as tool_answer;
 ghost use Rattle.tool_answers.specs.Statuses.{tool_status};
 ghost use Rattle.sloth_commands.specs.ToolFiles.{AreToolInputs};
-ghost use Rattle.sloth_commands.specs.Top.{world, Took, FilesAfter, IsOutput};
-ghost use Rattle.sloth_commands.specs.Failures.{ReadFailed, OutputFailed, LineFailed, TellFailed, CommandFailed, IsPerformed};
+ghost use Rattle.sloth_commands.specs.Top.{world, IsTextTaken, FilesAfter, IsOutput};
+ghost use Rattle.sloth_commands.specs.Failures.{IsReadFailure, IsOutputFailure, IsLineFailure, IsTellFailure, IsCommandFailure, IsPerformed};
 
 use crate::failure::Failure;
 use crate::inputs::fetch;
@@ -32,7 +32,7 @@ fn fetch_all<F: Store>(
     names: &[String],
 ) -> Result<Vec<List<u8>>, Failure>
     ensures ok { IfOk result (λ inputs. AreToolInputs (F.seen files.old) (words_of names.now) inputs.items) }
-    ensures err { IfErr result (λ failure. ReadFailed failure (F.seen files.old) (F.seen files.new) (words_of names.now)) }
+    ensures err { IfErr result (λ failure. IsReadFailure failure (F.seen files.old) (F.seen files.new) (words_of names.now)) }
     ensures keeps { KeepsFiles (F.seen files.old) (F.seen files.new) }
 {
     let mut inputs = Vec::new(alloc);
@@ -47,7 +47,7 @@ fn fetch_all<F: Store>(
 fn write_output<F: Store>(files: &mut F, words: &ToolWords, bytes: &[u8]) -> Result<(), Failure>
     ensures ok { OnOk result (IsOutput (F.seen files.old) (F.seen files.new) (use_of words.now).output bytes.now) }
     ensures err { IfErr result (λ failure.
-        OutputFailed failure (F.seen files.old) (F.seen files.new) (use_of words.now).output bytes.now) }
+        IsOutputFailure failure (F.seen files.old) (F.seen files.new) (use_of words.now).output bytes.now) }
 {
     let Some(name) = words.output else {
         return Ok(());
@@ -88,8 +88,8 @@ fn tell_outcome<F: Store, S: Sink>(
     outcome: &Outcome,
 ) -> Result<(), Failure>
     ensures files { OnOk result (IsOutput (F.seen files.old) (F.seen files.new) (use_of words.now).output outcome.now.file) }
-    ensures text { OnOk result (Took (S.seen out.old) (S.seen out.new) outcome.now.text) }
-    ensures err { IfErr result (λ failure. TellFailed failure (tool_answer.Done outcome.now)
+    ensures text { OnOk result (IsTextTaken (S.seen out.old) (S.seen out.new) outcome.now.text) }
+    ensures err { IfErr result (λ failure. IsTellFailure failure (tool_answer.Done outcome.now)
         (world (F.seen files.old) (S.seen out.old)) (world (F.seen files.new) (S.seen out.new)) (use_of words.now).output) }
 {
     write_output(files, words, outcome.file.items())?;
@@ -99,8 +99,8 @@ fn tell_outcome<F: Store, S: Sink>(
 
 // Puts the last line of an answer.
 fn tell_line<S: Sink>(out: &mut S, line: &[u8]) -> Result<(), Failure>
-    ensures ok { OnOk result (Took (S.seen out.old) (S.seen out.new) line.now) }
-    ensures err { IfErr result (λ failure. LineFailed failure (S.seen out.old) (S.seen out.new) line.now) }
+    ensures ok { OnOk result (IsTextTaken (S.seen out.old) (S.seen out.new) line.now) }
+    ensures err { IfErr result (λ failure. IsLineFailure failure (S.seen out.old) (S.seen out.new) line.now) }
 {
     out.put(line)?;
     Ok(())
@@ -113,9 +113,9 @@ fn tell_text<F: Store, S: Sink>(
     words: &ToolWords,
     answer: &ToolAnswer,
 ) -> Result<(), Failure>
-    ensures text { OnOk result (Took (S.seen out.old) (S.seen out.new) (tool_text answer.now)) }
+    ensures text { OnOk result (IsTextTaken (S.seen out.old) (S.seen out.new) (tool_text answer.now)) }
     ensures files { OnOk result (FilesAfter answer.now (F.seen files.old) (F.seen files.new) (use_of words.now).output) }
-    ensures err { IfErr result (λ failure. TellFailed failure answer.now
+    ensures err { IfErr result (λ failure. IsTellFailure failure answer.now
         (world (F.seen files.old) (S.seen out.old)) (world (F.seen files.new) (S.seen out.new)) (use_of words.now).output) }
 {
     match answer {
@@ -137,9 +137,9 @@ fn tell<F: Store, S: Sink>(
     answer: &ToolAnswer,
 ) -> Result<Status, Failure>
     ensures status { IfOk result (λ status. status ≡ tool_status answer.now) }
-    ensures text { OnOk result (Took (S.seen out.old) (S.seen out.new) (tool_text answer.now)) }
+    ensures text { OnOk result (IsTextTaken (S.seen out.old) (S.seen out.new) (tool_text answer.now)) }
     ensures files { OnOk result (FilesAfter answer.now (F.seen files.old) (F.seen files.new) (use_of words.now).output) }
-    ensures err { IfErr result (λ failure. TellFailed failure answer.now
+    ensures err { IfErr result (λ failure. IsTellFailure failure answer.now
         (world (F.seen files.old) (S.seen out.old)) (world (F.seen files.new) (S.seen out.new)) (use_of words.now).output) }
 {
     tell_text(files, out, words, answer)?;
@@ -156,7 +156,7 @@ pub fn use_tool<F: Store, S: Sink>(
     requires { IsToolUse (use_of words.now) }
     ensures done { IfOk result (λ status. IsPerformed status
         (world (F.seen files.old) (S.seen out.old)) (world (F.seen files.new) (S.seen out.new)) (Uses (use_of words.now))) }
-    ensures err { IfErr result (λ failure. CommandFailed failure
+    ensures err { IfErr result (λ failure. IsCommandFailure failure
         (world (F.seen files.old) (S.seen out.old)) (world (F.seen files.new) (S.seen out.new)) (Uses (use_of words.now))) }
 {
     let inputs = fetch_all(alloc, files, words.inputs)?;

@@ -24,13 +24,13 @@ abbrev pub taken_bytes : {R : Type 0} → FileStore R → ℕ
 taken_bytes store = store.taken
 
 -- some bytes stand behind the old ones
-abbrev pub Extends : List ℕ → List ℕ → Type 0
-Extends old new = (bytes : List ℕ) × (new ≡ old ++ bytes)
+abbrev pub HasPrefix : List ℕ → List ℕ → Type 0
+HasPrefix old new = (bytes : List ℕ) × (new ≡ old ++ bytes)
 
 -- they are at most `limit`
-abbrev pub ExtendsWithin : ℕ → List ℕ → List ℕ → Type 0
-ExtendsWithin limit old new = (bytes : List ℕ) × (new ≡ old ++ bytes) × (length bytes ≤ limit)
+abbrev pub HasPrefixWithin : ℕ → List ℕ → List ℕ → Type 0
+HasPrefixWithin limit old new = (bytes : List ℕ) × (new ≡ old ++ bytes) × (length bytes ≤ limit)
 
 -- they are more than `limit`
-abbrev pub ExtendsBeyond : ℕ → List ℕ → List ℕ → Type 0
-ExtendsBeyond limit old new = (bytes : List ℕ) × (new ≡ old ++ bytes) × (limit < length bytes)
+abbrev pub HasPrefixBeyond : ℕ → List ℕ → List ℕ → Type 0
+HasPrefixBeyond limit old new = (bytes : List ℕ) × (new ≡ old ++ bytes) × (limit < length bytes)

@@ -41,8 +41,8 @@ abbrev pub has_space : MemSink → List ℕ → Bool
 has_space sink piece = nat_le (length (taken_by sink) + length piece) sink.buffer.space
 
 -- the next call takes the piece and does not fail
-abbrev pub takes_next : MemSink → List ℕ → Bool
-takes_next sink piece = has_space sink piece && is_none (next_limit sink)
+abbrev pub is_next_piece_taken : MemSink → List ℕ → Bool
+is_next_piece_taken sink piece = has_space sink piece && is_none (next_limit sink)
 
 -- what the sink holds after the next call; a part for which there is no space is not taken at all
 abbrev pub bytes_after_call : MemSink → List ℕ → List ℕ

@@ -16,8 +16,8 @@ abbrev pub files_of : MemStore → List MemFile
 files_of store = map file_of store.slots.items
 
 -- the next call, counted over reads and writes, is to fail
-abbrev pub fails_next : MemStore → Bool
-fails_next store = list_any (λ call. call == next_call store.calls) store.fails.items
+abbrev pub is_next_call_failed : MemStore → Bool
+is_next_call_failed store = list_any (λ call. call == next_call store.calls) store.fails.items
 
 -- why a file is not read, for what it holds
 abbrev pub length_fault : Option (List ℕ) → ℕ → Option StoreFault
@@ -27,7 +27,7 @@ length_fault (Some bytes) limit = if nat_lt limit (length bytes) then Some TooLo
 -- why the next read of a file is refused, but for want of memory
 abbrev pub read_fault : MemStore → List ℕ → ℕ → Option StoreFault
 read_fault store name limit =
-    if fails_next store then Some Failed else length_fault (bytes_named name (files_of store)) limit
+    if is_next_call_failed store then Some Failed else length_fault (bytes_named name (files_of store)) limit
 
 -- the read is refused as too long
 abbrev pub is_too_long : Option StoreFault → Bool
@@ -42,8 +42,8 @@ is_sure [] = true
 is_sure (_ ∷ _) = false
 
 -- the next write is done
-abbrev pub writes_next : MemStore → List ℕ → ℕ → Bool
-writes_next store name size = not (fails_next store) && has_space name size (files_of store)
+abbrev pub is_next_write_done : MemStore → List ℕ → ℕ → Bool
+is_next_write_done store name size = not (is_next_call_failed store) && has_space name size (files_of store)
 
 -- what the store shows
 abbrev pub shown_files : MemStore → Files

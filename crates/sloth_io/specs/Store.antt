@@ -34,8 +34,8 @@ pub record KeepsReads (old new : Files) : Type 0 where
   pub failed_writes : old.failed_writes ≤ new.failed_writes
 
 -- the file's bytes, which are at most `limit`, stand behind the old ones
-abbrev pub Appends : Files → List ℕ → ℕ → List ℕ → List ℕ → Type 0
-Appends files name limit old new =
+abbrev pub IsAppended : Files → List ℕ → ℕ → List ℕ → List ℕ → Type 0
+IsAppended files name limit old new =
     (bytes : List ℕ) × (new ≡ old ++ bytes) × (length bytes ≤ limit) × (IsTrue files.tells → files.holds name ≡ Some bytes)
 
 -- a read failed in a store that is not sure, or the store tells that there is no such file

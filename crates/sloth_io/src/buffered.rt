@@ -5,7 +5,7 @@ ghost use Rattle.sloth_io.specs.Buffered.{PassesOn, BreaksOff};
 
 use crate::backlog::{Backlog, MOST};
 use crate::sink::SinkFault;
-use crate::whole::write_whole;
+use crate::whole_files::write_whole;
 use std::io::Write;
 
 /// A writer, and the bytes that were put and are not yet written to it. Behind a failure nothing is held back.

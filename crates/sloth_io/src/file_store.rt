@@ -1,10 +1,10 @@
 //! The system's files.
 ghost use Rattle.std.specs.Prelude.{◌≡◌, ◌≢◌, ◌<◌, ◌+◌, OnErr, OnOk, length};
-ghost use Rattle.sloth_io.specs.Store.{Appends, IsMissing, IsTooLong, IsUnwritten, Holds, KeepsOthers, KeepsFiles, KeepsReads};
-ghost use Rattle.sloth_io.specs.FileStore.{Extends, ExtendsBeyond, ExtendsWithin, shown_files, taken_bytes, untold_files};
+ghost use Rattle.sloth_io.specs.Store.{IsAppended, IsMissing, IsTooLong, IsUnwritten, Holds, KeepsOthers, KeepsFiles, KeepsReads};
+ghost use Rattle.sloth_io.specs.FileStore.{HasPrefix, HasPrefixBeyond, HasPrefixWithin, shown_files, taken_bytes, untold_files};
 
 use crate::store::{Store, StoreFault};
-use crate::whole::{read_whole, write_whole};
+use crate::whole_files::{read_whole, write_whole};
 use std::fs;
 use std::rt::Files;
 
@@ -47,9 +47,9 @@ fn read_file<R: Files>(
     limit: usize,
     into: &mut Vec<u8>,
 ) -> Result<(), StoreFault>
-    ensures ok { OnOk result (ExtendsWithin limit into.old.items into.new.items) }
-    ensures too_long { result ≡ Err StoreFault.TooLong → ExtendsBeyond limit into.old.items into.new.items }
-    ensures front { Extends into.old.items into.new.items }
+    ensures ok { OnOk result (HasPrefixWithin limit into.old.items into.new.items) }
+    ensures too_long { result ≡ Err StoreFault.TooLong → HasPrefixBeyond limit into.old.items into.new.items }
+    ensures front { HasPrefix into.old.items into.new.items }
 {
     let Ok(mut file) = fs::open(rt, name) else {
         return Err(StoreFault::Failed);
@@ -69,7 +69,7 @@ impl<'a, R: Files> Store for FileStore<'a, R> {
     ghost seen = { λ store. shown_files store };
 
     fn read(&mut self, name: &str, limit: usize, into: &mut Vec<u8>) -> Result<(), StoreFault>
-        ensures ok { OnOk result (Appends (shown_files self.old) name.now limit into.old.items into.new.items) }
+        ensures ok { OnOk result (IsAppended (shown_files self.old) name.now limit into.old.items into.new.items) }
         ensures err { OnErr result (into.new.items ≡ into.old.items) }
         ensures failed { result ≡ Err StoreFault.Failed → IsMissing (shown_files self.old) (shown_files self.new) name.now }
         ensures too_long { result ≡ Err StoreFault.TooLong → IsTooLong (shown_files self.old) (shown_files self.new) name.now limit }

@@ -21,4 +21,4 @@ pub mod out_sink;
 pub mod sink;
 pub mod slots;
 pub mod store;
-mod whole;
+mod whole_files;

@@ -1,7 +1,7 @@
 //! A sink in memory.
 ghost use Rattle.std.specs.Prelude.{◌≡◌, ◌≤◌, IfOk, OnErr, OnOk, is_ok, is_err};
 ghost use Rattle.sloth_io.specs.Counts.{count_after_call};
-ghost use Rattle.sloth_io.specs.MemSink.{IsCalled, IsFresh, limit_of, shown_output, taken_by, bytes_after_call, takes_next};
+ghost use Rattle.sloth_io.specs.MemSink.{IsCalled, IsFresh, limit_of, shown_output, taken_by, bytes_after_call, is_next_piece_taken};
 ghost use Rattle.sloth_io.specs.Sink.{output_with, GainsPart};
 
 use crate::buffer::Buffer;
@@ -63,7 +63,7 @@ impl Sink for MemSink {
         ensures never_falls { self.old.faults ≤ self.new.faults }
 
         // It fails exactly at the calls that are to fail, and where there is no space for the piece.
-        ensures done { is_ok result ≡ takes_next self.old piece.now }
+        ensures done { is_ok result ≡ is_next_piece_taken self.old piece.now }
         ensures taken { taken_by self.new ≡ bytes_after_call self.old piece.now }
         ensures faults { self.new.faults ≡ count_after_call (is_err result) self.old.faults }
         ensures called { IsCalled self.old self.new }

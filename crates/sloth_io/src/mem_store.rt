@@ -4,9 +4,9 @@ ghost use Rattle.std.specs.Prelude.{OnErr, OnOk, IfOk, IfSome, IfNone, IsOkUnles
 ghost use Rattle.std.specs.List.{AllPairs};
 ghost use Rattle.sloth_io.specs.Counts.{count_after_call, next_call};
 ghost use Rattle.sloth_io.specs.Slots.{bytes_named, files_with};
-ghost use Rattle.sloth_io.specs.MemStore.{IsFresh, fails_next, files_of, IsCalled};
-ghost use Rattle.sloth_io.specs.MemStore.{is_too_long, read_fault, shown_files, writes_next};
-ghost use Rattle.sloth_io.specs.Store.{Appends, IsMissing, IsTooLong, IsUnwritten, Holds, KeepsOthers, KeepsFiles, KeepsReads};
+ghost use Rattle.sloth_io.specs.MemStore.{IsFresh, is_next_call_failed, files_of, IsCalled};
+ghost use Rattle.sloth_io.specs.MemStore.{is_too_long, read_fault, shown_files, is_next_write_done};
+ghost use Rattle.sloth_io.specs.Store.{IsAppended, IsMissing, IsTooLong, IsUnwritten, Holds, KeepsOthers, KeepsFiles, KeepsReads};
 
 pub use crate::slots::MemFile;
 use crate::slots::{Slot, bytes_of, replace, slots_of};
@@ -55,7 +55,7 @@ impl MemStore {
 
     // Counts a call, and says whether it is to fail.
     fn call(&mut self) -> bool
-        ensures fails { result ≡ fails_next self.old }
+        ensures fails { result ≡ is_next_call_failed self.old }
         ensures rest { self.new ≡ record self.old { calls = next_call self.old.calls } }
     {
         self.calls = self.calls.saturating_add(1);
@@ -67,7 +67,7 @@ impl Store for MemStore {
     ghost seen = { λ store. shown_files store };
 
     fn read(&mut self, name: &str, limit: usize, into: &mut Vec<u8>) -> Result<(), StoreFault>
-        ensures ok { OnOk result (Appends (shown_files self.old) name.now limit into.old.items into.new.items) }
+        ensures ok { OnOk result (IsAppended (shown_files self.old) name.now limit into.old.items into.new.items) }
         ensures err { OnErr result (into.new.items ≡ into.old.items) }
         ensures failed { result ≡ Err StoreFault.Failed → IsMissing (shown_files self.old) (shown_files self.new) name.now }
         ensures too_long { result ≡ Err StoreFault.TooLong →
@@ -79,7 +79,7 @@ impl Store for MemStore {
         // It refuses exactly the calls that are to fail, files that are not there and files that are too long.
         ensures refused { MatchOption (read_fault self.old name.now limit)
             (IsOkUnless result StoreFault.Memory) (λ fault. result ≡ Err fault) }
-        ensures counted_failed { self.new.failed_reads ≡ count_after_call (fails_next self.old) self.old.failed_reads }
+        ensures counted_failed { self.new.failed_reads ≡ count_after_call (is_next_call_failed self.old) self.old.failed_reads }
         ensures counted_overlong { self.new.overlong_reads ≡
             count_after_call (is_too_long (read_fault self.old name.now limit)) self.old.overlong_reads }
         ensures called { IsCalled self.old self.new }
@@ -111,7 +111,7 @@ impl Store for MemStore {
         ensures failed_writes { OnOk result (self.new.failed_writes ≡ self.old.failed_writes) }
 
         // It fails exactly at the calls that are to fail, and where there is no file with space for the bytes.
-        ensures done { is_ok result ≡ writes_next self.old name.now (length bytes.now) }
+        ensures done { is_ok result ≡ is_next_write_done self.old name.now (length bytes.now) }
         ensures counted_failed { self.new.failed_writes ≡ count_after_call (is_err result) self.old.failed_writes }
         ensures called { IsCalled self.old self.new }
         ensures files { files_of self.new ≡

@@ -1,6 +1,6 @@
 //! Named files.
 ghost use Rattle.std.specs.Prelude.{◌≡◌, ◌≢◌, OnErr, OnOk, length};
-ghost use Rattle.sloth_io.specs.Store.{Files, Appends, IsMissing, IsTooLong, IsUnwritten, Holds, KeepsOthers, KeepsFiles, KeepsReads};
+ghost use Rattle.sloth_io.specs.Store.{Files, IsAppended, IsMissing, IsTooLong, IsUnwritten, Holds, KeepsOthers, KeepsFiles, KeepsReads};
 
 use thiserror::Error;
 
@@ -22,7 +22,7 @@ pub trait Store {
 
     /// Appends the bytes of a file of at most `limit` bytes. Want of memory may come at any call.
     fn read(&mut self, name: &str, limit: usize, into: &mut Vec<u8>) -> Result<(), StoreFault>
-        ensures ok { OnOk result (Appends (seen self.old) name.now limit into.old.items into.new.items) }
+        ensures ok { OnOk result (IsAppended (seen self.old) name.now limit into.old.items into.new.items) }
         ensures err { OnErr result (into.new.items ≡ into.old.items) }
         ensures failed { result ≡ Err StoreFault.Failed → IsMissing (seen self.old) (seen self.new) name.now }
         ensures too_long { result ≡ Err StoreFault.TooLong → IsTooLong (seen self.old) (seen self.new) name.now limit }

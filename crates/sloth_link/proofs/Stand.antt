@@ -13,7 +13,7 @@ use Rattle.rv32_instr.proofs.Fits.{encode_fits}
 use Rattle.masked_code.specs.Place.{AreWritten}
 use Rattle.sloth_link.specs.declared.datum.Datum.{Datum}
 use Rattle.mem_map.specs.Sections.{code_bytes, block_section}
-use Rattle.sloth_link.specs.Linked.{datum_section, sections_of, Holds, BlockStands, AreLinked}
+use Rattle.sloth_link.specs.Linked.{datum_section, sections_of, HasSectionBytes, BlockStands, AreLinked}
 use Rattle.sloth_link.proofs.Written.{front_of, back_of, each_of}
 
 -- the word that four bytes are
@@ -25,7 +25,7 @@ word_of memory o n fits a b c d =
     let w = from_le_bytes-to_le_bytes_4 n fits in
     omega (arith, z, a, b, c, d, w)
 
-behind : (memory : List ℕ) (o : ℕ) (kind : InstrKind) (code : List InstrKind) → Holds memory (record { offset = o; bytes = code_bytes (kind ∷ code) }) → Holds memory (record { offset = o + 4; bytes = code_bytes code })
+behind : (memory : List ℕ) (o : ℕ) (kind : InstrKind) (code : List InstrKind) → HasSectionBytes memory (record { offset = o; bytes = code_bytes (kind ∷ code) }) → HasSectionBytes memory (record { offset = o + 4; bytes = code_bytes code })
 behind memory o kind code h = λ k l.
     let four : length (to_le_bytes w32 (Encode kind)) ≡ 4 = refl in
     let n = length-append {A = ℕ} (to_le_bytes w32 (Encode kind)) (code_bytes code) in
@@ -33,7 +33,7 @@ behind memory o kind code h = λ k l.
     ap (slice_index memory) e ∙ h (4 + k) (omega (arith, four, n, l)) ∙ get_or-append-add (to_le_bytes w32 (Encode kind)) (code_bytes code) k 0
 
 -- each instruction is the word at its address
-pub written : (code : List InstrKind) (memory : List ℕ) (o : ℕ) → All InRange code → Holds memory (record { offset = o; bytes = code_bytes code }) → AreWritten memory o code
+pub written : (code : List InstrKind) (memory : List ℕ) (o : ℕ) → All InRange code → HasSectionBytes memory (record { offset = o; bytes = code_bytes code }) → AreWritten memory o code
 written [] memory o r h = tt
 written (kind ∷ code) memory o r h =
     let four : length (to_le_bytes w32 (Encode kind)) ≡ 4 = refl in
@@ -45,13 +45,13 @@ written (kind ∷ code) memory o r h =
 
 -- ---- every block, and every symbol
 
-stand : (blocks : List Block) (memory : List ℕ) → All (λ b. All InRange b.code) blocks → All (λ b. Holds memory (block_section b)) blocks → All (BlockStands memory) blocks
+stand : (blocks : List Block) (memory : List ℕ) → All (λ b. All InRange b.code) blocks → All (λ b. HasSectionBytes memory (block_section b)) blocks → All (BlockStands memory) blocks
 stand blocks memory r h = λ k d l. written _ memory _ (r k d l) (h k d l)
 
 -- the code of each
 pub blocks_stand : (size : ℕ) (blocks : List Block) (symbols : List Datum) (memory : List ℕ) → All (λ b. All InRange b.code) blocks → AreLinked size (sections_of blocks symbols) memory → All (BlockStands memory) blocks
-blocks_stand size blocks symbols memory r linked = stand blocks memory r (front_of (Holds memory) block_section blocks _ linked.hold)
+blocks_stand size blocks symbols memory r linked = stand blocks memory r (front_of (HasSectionBytes memory) block_section blocks _ linked.hold)
 
 -- the bytes of each
-pub symbols_stand : (size : ℕ) (blocks : List Block) (symbols : List Datum) (memory : List ℕ) → AreLinked size (sections_of blocks symbols) memory → All (λ d. Holds memory (datum_section d)) symbols
-symbols_stand size blocks symbols memory linked = each_of (Holds memory) datum_section symbols (back_of (Holds memory) _ _ linked.hold)
+pub symbols_stand : (size : ℕ) (blocks : List Block) (symbols : List Datum) (memory : List ℕ) → AreLinked size (sections_of blocks symbols) memory → All (λ d. HasSectionBytes memory (datum_section d)) symbols
+symbols_stand size blocks symbols memory linked = each_of (HasSectionBytes memory) datum_section symbols (back_of (HasSectionBytes memory) _ _ linked.hold)

@@ -5,7 +5,7 @@ use Rattle.std.proofs.lemmas.List.{length-set, length-replicate, get_or-set_same
 use Rattle.std.proofs.lemmas.List.Elements.{All-cons, All-head, All-tail}
 pub use Rattle.mem_map.proofs.CodeBytes.{code_bytes_length}
 use Rattle.mem_map.specs.Sections.{Section, with_bytes, linked_memory, IsInside}
-use Rattle.sloth_link.specs.Linked.{Holds, Misses, AreApart, AreLinked}
+use Rattle.sloth_link.specs.Linked.{HasSectionBytes, IsOutsideSection, AreApart, AreLinked}
 
 -- ---- bytes
 
@@ -48,13 +48,13 @@ linked_append [] ys memory = refl
 linked_append (x ∷ xs) ys memory = linked_append xs ys (with_bytes memory x.offset x.bytes)
 
 -- a byte that no section has stays
-pub untouched : (sections : List Section) (memory : List ℕ) (i : ℕ) → All (Misses i) sections → slice_index (linked_memory memory sections) i ≡ slice_index memory i
+pub untouched : (sections : List Section) (memory : List ℕ) (i : ℕ) → All (IsOutsideSection i) sections → slice_index (linked_memory memory sections) i ≡ slice_index memory i
 untouched [] memory i h = refl
 untouched (p ∷ sections) memory i h =
-    untouched sections (with_bytes memory p.offset p.bytes) i (All-tail (Misses i) p sections h)
-    ∙ other_byte p.bytes memory p.offset i (All-head (Misses i) p sections h)
+    untouched sections (with_bytes memory p.offset p.bytes) i (All-tail (IsOutsideSection i) p sections h)
+    ∙ other_byte p.bytes memory p.offset i (All-head (IsOutsideSection i) p sections h)
 
-misses : (p q : Section) (k : ℕ) → k < length p.bytes → AreApart p q → Misses (p.offset + k) q
+misses : (p q : Section) (k : ℕ) → k < length p.bytes → AreApart p q → IsOutsideSection (p.offset + k) q
 misses p q k l (inl x) = inl (omega arith)
 misses p q k l (inr x) = inr (omega arith)
 
@@ -65,12 +65,12 @@ rest : (p : Section) (sections : List Section) → AllPairs AreApart (p ∷ sect
 rest p sections h = λ i j d l m. h (suc i) (suc j) d (omega arith) (omega arith)
 
 -- sections that are apart all hold their bytes at the end
-pub all_hold : (sections : List Section) (memory : List ℕ) → All (IsInside (length memory)) sections → AllPairs AreApart sections → All (Holds (linked_memory memory sections)) sections
+pub all_hold : (sections : List Section) (memory : List ℕ) → All (IsInside (length memory)) sections → AllPairs AreApart sections → All (HasSectionBytes (linked_memory memory sections)) sections
 all_hold [] memory inside apart = λ k d l. absurd (omega arith)
 all_hold (p ∷ sections) memory inside apart =
     let first = with_bytes memory p.offset p.bytes in
     let n = length-with_bytes p.bytes memory p.offset in
-    All-cons (Holds (linked_memory first sections)) p sections
+    All-cons (HasSectionBytes (linked_memory first sections)) p sections
     (λ k l. untouched sections first (p.offset + k) (λ j d m. misses p _ k l (later p sections apart j d m)) ∙ own_byte p.bytes memory p.offset k l (All-head (IsInside (length memory)) p sections inside))
     (all_hold sections first (λ j d m. let h = All-tail (IsInside (length memory)) p sections inside j d m in omega (arith, n, h)) (rest p sections apart))
 

@@ -11,11 +11,11 @@ use Rattle.code_rules.specs.WellFormed.{WellFormed}
 use Rattle.rv32_instr.specs.declared.block.Block.{Block}
 use Rattle.rv32_instr.specs.Range.{InRange}
 use Rattle.rv32_expand.specs.InPlace.{IsBodyName}
-use Rattle.rv32_expand.specs.Sizes.{AgreeWithSizes, Covers}
+use Rattle.rv32_expand.specs.Sizes.{AgreeWithSizes, HasWordAddresses}
 use Rattle.mem_map.specs.Zones.{data_zone}
 use Rattle.sloth_link.specs.declared.datum.Datum.{Datum}
 use Rattle.sloth_link.specs.Items.{MarksAreOfItems, item_blocks}
-use Rattle.sloth_link.specs.Linked.{AreLinked, BlockStands, HaveRoom, Holds, datum_section, sections_of}
+use Rattle.sloth_link.specs.Linked.{AreLinked, BlockStands, HaveRoom, HasSectionBytes, datum_section, sections_of}
 use Rattle.mem_map.specs.Sections.{HaveOwnAddresses, addresses, marks_of}
 use Rattle.sloth_link.specs.Standing.{ItemsStand}
 use Rattle.sloth_link.specs.Symbols.{alarm_data, data_of}
@@ -43,7 +43,7 @@ pub record MayLink (config : Config) (app : App) (map : Map) (blocks : List Bloc
   pub named : (t : ℕ) → t < length config.tasks → IsBodyName app t (declaration config t).name
   -- what the map has of the task code
   pub agree : AgreeWithSizes app map.places
-  pub covers : Covers app map.places
+  pub covers : HasWordAddresses app map.places
   pub symbols : length map.places.symbols ≡ length app.symbols
   pub zones : 2 < length map.extents
   pub above : vectors_base ≤ (data_zone map).base
@@ -61,7 +61,7 @@ pub record HasMemory (config : Config) (app : App) (map : Map) (blocks : List Bl
   pub stand : ItemsStand app map.places memory marks
   pub range : All (λ b. All InRange b.code) (all_blocks app map blocks)
   pub code : All (BlockStands memory) (all_blocks app map blocks)
-  pub data_stands : All (λ d. Holds memory (datum_section d)) (all_data config app map)
+  pub data_stands : All (λ d. HasSectionBytes memory (datum_section d)) (all_data config app map)
   pub linked : AreLinked (memory_size map) (sections_of (all_blocks app map blocks) (all_data config app map)) memory
   pub bytes : (i : ℕ) → slice_index memory i < 256
   pub moved : IsPermutation (marks_of (all_blocks app map blocks)) marks

@@ -19,18 +19,18 @@ abbrev pub AreApart : Section → Section → Type 0
 AreApart a b = (a.offset + length a.bytes ≤ b.offset) ⊎ (b.offset + length b.bytes ≤ a.offset)
 
 -- the section's bytes stand in this memory
-abbrev pub Holds : List ℕ → Section → Type 0
-Holds memory section = (k : ℕ) → k < length section.bytes → slice_index memory (section.offset + k) ≡ slice_index section.bytes k
+abbrev pub HasSectionBytes : List ℕ → Section → Type 0
+HasSectionBytes memory section = (k : ℕ) → k < length section.bytes → slice_index memory (section.offset + k) ≡ slice_index section.bytes k
 
 -- this byte is not one of the section
-abbrev pub Misses : ℕ → Section → Type 0
-Misses i section = (i < section.offset) ⊎ (section.offset + length section.bytes ≤ i)
+abbrev pub IsOutsideSection : ℕ → Section → Type 0
+IsOutsideSection i section = (i < section.offset) ⊎ (section.offset + length section.bytes ≤ i)
 
 -- a memory with these sections in it, and zeros elsewhere
 pub record AreLinked (size : ℕ) (sections : List Section) (memory : List ℕ) : Type 0 where
   pub size_is : length memory ≡ size
-  pub hold : All (Holds memory) sections
-  pub zeros : (i : ℕ) → All (Misses i) sections → slice_index memory i ≡ 0
+  pub hold : All (HasSectionBytes memory) sections
+  pub zeros : (i : ℕ) → All (IsOutsideSection i) sections → slice_index memory i ≡ 0
 
 -- the block's instructions stand at its address
 abbrev pub BlockStands : List ℕ → Block → Type 0

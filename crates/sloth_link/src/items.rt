@@ -3,7 +3,7 @@ ghost use Rattle.std.specs.Prelude.{◌≡◌, ◌<◌, IfOk, length};
 ghost use Rattle.sloth_base.specs.Named.{function, item_of};
 ghost use Rattle.sloth_base.specs.Limits.{body_limit};
 ghost use Rattle.rv32_expand.specs.InPlace.{IsItem};
-ghost use Rattle.rv32_expand.specs.Sizes.{AgreeWithSizes, Covers, IsVerified};
+ghost use Rattle.rv32_expand.specs.Sizes.{AgreeWithSizes, HasWordAddresses, IsVerified};
 ghost use Rattle.sloth_link.specs.Items.{item_block, items_of, item_blocks};
 
 use mem_map::mark;
@@ -33,7 +33,7 @@ fn one(
     requires few { func < body_limit }
     requires is_item { IsItem app.now func index }
     requires is { item.now ≡ item_of (function app.now func) index }
-    requires covers { Covers app.now places.now }
+    requires covers { HasWordAddresses app.now places.now }
     requires agree { AgreeWithSizes app.now places.now }
     ensures { IfOk result (λ block. block ≡ item_block app.now places.now func index) }
 {
@@ -61,7 +61,7 @@ fn items_in(app: &App, func: u32) -> &[Item]
 fn of_function(alloc: Global, func: u32, app: &App, places: &Places) -> Result<Vec<Block>, NoMemory>
     requires verified { IsVerified app.now }
     requires exists { func < length app.now.funcs }
-    requires covers { Covers app.now places.now }
+    requires covers { HasWordAddresses app.now places.now }
     requires agree { AgreeWithSizes app.now places.now }
     ensures { IfOk result (λ blocks. blocks.items ≡ items_of app.now places.now func) }
 {
@@ -81,7 +81,7 @@ fn of_function(alloc: Global, func: u32, app: &App, places: &Places) -> Result<V
 /// its mark.
 pub fn items(alloc: Global, app: &App, places: &Places) -> Result<Vec<Block>, NoMemory>
     requires verified { IsVerified app.now }
-    requires covers { Covers app.now places.now }
+    requires covers { HasWordAddresses app.now places.now }
     requires agree { AgreeWithSizes app.now places.now }
     ensures { IfOk result (λ blocks. blocks.items ≡ item_blocks app.now places.now (length app.now.funcs)) }
 {

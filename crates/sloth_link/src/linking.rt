@@ -9,7 +9,7 @@ ghost use Rattle.rv32_expand.specs.InPlace.{ItemsInPlace};
 ghost use Rattle.mem_map.specs.Zones.{data_zone};
 ghost use Rattle.sloth_link.specs.Image.{MayLink, HasMemory, all_blocks, all_data, memory_size};
 ghost use Rattle.mem_map.specs.Sections.{marks_of, HaveOwnAddresses, addresses, linked_memory};
-ghost use Rattle.sloth_link.specs.Linked.{HaveRoom, AreLinked, sections_of, BlockStands, datum_section, Holds};
+ghost use Rattle.sloth_link.specs.Linked.{HaveRoom, AreLinked, sections_of, BlockStands, datum_section, HasSectionBytes};
 ghost use Rattle.sloth_base.specs.DeclaredNames.{task_names, counter_names, function_names};
 ghost use Rattle.sloth_link.specs.Standing.{ItemsStand};
 
@@ -110,7 +110,7 @@ fn link_all(
     requires marks { HaveOwnAddresses (marks_of (blocks.now ++ items.now)) }
     ensures range { All (λ b. All InRange b.code) (blocks.now ++ items.now) }
     ensures code { IfOk result (λ linked. All (BlockStands linked.memory) (blocks.now ++ items.now)) }
-    ensures symbols { IfOk result (λ linked. All (λ d. Holds linked.memory (datum_section d)) symbols.now) }
+    ensures symbols { IfOk result (λ linked. All (λ d. HasSectionBytes linked.memory (datum_section d)) symbols.now) }
     ensures linked { IfOk result (λ linked. AreLinked size (sections_of (blocks.now ++ items.now) symbols.now) linked.memory) }
     ensures bytes { IfOk result (λ linked. (i : ℕ) → slice_index linked.memory i < 256) }
     ensures marks { IfOk result (λ linked. IsPermutation (marks_of (blocks.now ++ items.now)) linked.marks) }
@@ -181,7 +181,7 @@ pub fn link(
     ensures stand { IfOk result (λ image. ItemsStand app.now map.now.places image.memory image.marks) }
     ensures range { IfOk result (λ image. All (λ b. All InRange b.code) (all_blocks app.now map.now blocks.now)) }
     ensures code { IfOk result (λ image. All (BlockStands image.memory) (all_blocks app.now map.now blocks.now)) }
-    ensures data_stands { IfOk result (λ image. All (λ d. Holds image.memory (datum_section d)) (all_data config.now app.now map.now)) }
+    ensures data_stands { IfOk result (λ image. All (λ d. HasSectionBytes image.memory (datum_section d)) (all_data config.now app.now map.now)) }
     ensures linked { IfOk result (λ image.
         AreLinked (memory_size map.now) (sections_of (all_blocks app.now map.now blocks.now) (all_data config.now app.now map.now)) image.memory) }
     ensures bytes { IfOk result (λ image. (i : ℕ) → slice_index image.memory i < 256) }

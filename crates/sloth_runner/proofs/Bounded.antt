@@ -14,11 +14,11 @@ use Rattle.sloth_base.specs.declared.image.Image.{Image}
 use Rattle.sloth_base.specs.declared.image.Mark.{Mark}
 use Rattle.sloth_base.specs.declared.image.MarkKind.{MarkKind}
 use Rattle.sloth_base.specs.declared.image.MarkKind.TheVariants as kind
-use Rattle.observe.specs.Pieces.{Piece, Outside, Stretch, pieces, cut_off_steps, begins}
+use Rattle.observe.specs.Pieces.{RunPiece, Outside, Stretch, pieces, cut_off_steps, begins}
 use Rattle.observe.specs.Observe.{View, view_of_image, mark_at, events_of_kind, outside_events, admission, stamp, is_early, first_masked_moment, last_of, found_admits, stretch_event, stretch_events, piece_events, observe}
 use Rattle.rv32_machine.specs.Coherent.{AreCoherent}
 use Rattle.rv32_machine.specs.Start.{start}
-use Rattle.rv32_machine.specs.Advance.{Outcome, Goes, Halts}
+use Rattle.rv32_machine.specs.Advance.{StepOutcome, Goes, Halts}
 use Rattle.rv32_machine.specs.Run.{moment, moment_of, on_goes, run_from, run, steps_of}
 use Rattle.rv32_machine.proofs.Coherence.{coherent}
 use Rattle.sim_induction.specs.Sound.{events_of}
@@ -103,11 +103,11 @@ module _ (view : View) (A : List Arrival) where
   opened_at (first ∷ more) count = first.count
 
   -- how many events these pieces and the steps behind them show
-  abbrev shown : List Piece → List Step → ℕ
+  abbrev shown : List RunPiece → List Step → ℕ
   shown parts rest = length (flat_map (piece_events view A) parts) + length (found_admits view A rest)
 
   -- a stretch that may end with its last step
-  in-stretch : (e : Bool) (first : Step) (more : List Step) (parts : List Piece) (rest : List Step) (on : List Piece) (on_rest : List Step) (n c : ℕ)
+  in-stretch : (e : Bool) (first : Step) (more : List Step) (parts : List RunPiece) (rest : List Step) (on : List RunPiece) (on_rest : List Step) (n c : ℕ)
       → (last_of first more).count ≡ c → first.count ≤ c → shown parts rest ≤ n + left (c + 1) A → shown on on_rest ≤ n + left first.count A
       → shown (if e then Stretch (first ∷ more) ∷ parts else on) (if e then rest else on_rest) ≤ suc n + left first.count A
   in-stretch true first more parts rest on on_rest n c last begun ends goes =
@@ -123,7 +123,7 @@ module _ (view : View) (A : List Arrival) where
       omega (arith, found, at_c, m1, m2, own, all, ends)
   in-stretch false first more parts rest on on_rest n c last begun ends goes = omega (arith, goes)
 
-  outside-one : (step : Step) (parts : List Piece) (rest : List Step) (n c : ℕ) → step.count ≡ c → shown parts rest ≤ n + left (c + 1) A
+  outside-one : (step : Step) (parts : List RunPiece) (rest : List Step) (n c : ℕ) → step.count ≡ c → shown parts rest ≤ n + left (c + 1) A
       → shown (Outside step ∷ parts) rest ≤ suc n + left c A
   outside-one step parts rest n c is ends =
       let own = of-outside step in
@@ -183,7 +183,7 @@ steps-few : (n : ℕ) (A : List Arrival) (count : ℕ) (state : State) → lengt
 unfolding run_from
 steps-few zero A count state = omega arith
 steps-few (suc n) A count state =
-    let P : Outcome → Type 0 = λ o. length (steps_of (on_goes o [] (λ step after. moment_of A count state step after ∷ run_from n A (count + 1) after))) ≤ suc n in
+    let P : StepOutcome → Type 0 = λ o. length (steps_of (on_goes o [] (λ step after. moment_of A count state step after ∷ run_from n A (count + 1) after))) ≤ suc n in
     elim (moment A count state) as P [
       | Goes step after ↦ (let ih = steps-few n A (count + 1) after in omega (arith, ih))
       | Halts stop ↦ omega arith

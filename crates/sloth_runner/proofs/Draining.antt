@@ -12,9 +12,9 @@ use Rattle.trace_text.proofs.Appends.{text_after-append}
 use Rattle.observe.specs.declared.observing.Observer.{Observer}
 use Rattle.observe.specs.Progress.{Fed, remaining, view_of, arrivals_of, expected_count}
 use Rattle.sloth_runner.proofs.Handing.{handing-init, handing-more}
-use Rattle.sloth_runner.proofs.RunInvariants.{Draining}
+use Rattle.sloth_runner.proofs.RunInvariants.{IsDraining}
 
-pub draining-init : (image : Image) (form : Form) (idle : Bool) (o : Observer) (t : Output) → Draining image form idle o idle o t t
+pub draining-init : (image : Image) (form : Form) (idle : Bool) (o : Observer) (t : Output) → IsDraining image form idle o idle o t t
 draining-init image form idle o t = record {
   done = [];
   taken = sym (gains-nil t);
@@ -25,10 +25,10 @@ draining-init image form idle o t = record {
 
 -- one more line was put, where its event needs one
 pub draining-more : (image : Image) (form : Form) (idle : Bool) (o0 : Observer) (last : Bool) (o p : Observer) (t0 t u : Output) (e : Stamped)
-    → Draining image form idle o0 last o t0 t → remaining o ≡ e ∷ remaining p → view_of p ≡ view_of o → arrivals_of p ≡ arrivals_of o → expected_count p ≡ expected_count o
+    → IsDraining image form idle o0 last o t0 t → remaining o ≡ e ∷ remaining p → view_of p ≡ view_of o → arrivals_of p ≡ arrivals_of o → expected_count p ≡ expected_count o
     → ((steps : List Step) (events : List Stamped) → Fed o steps events → Fed p steps (events ++ e ∷ []))
     → u ≡ output_with t (text_after image form last (e ∷ []))
-    → Draining image form idle o0 (is_idle e.event) p t0 u
+    → IsDraining image form idle o0 (is_idle e.event) p t0 u
 draining-more image form idle o0 last o p t0 t u e d head view arrivals expected fed put =
     let line : List ℕ = text_after image form last (e ∷ []) in
     let split : text_after image form last (remaining o) ≡ line ++ text_after image form (is_idle e.event) (remaining p) =
@@ -43,7 +43,7 @@ draining-more image form idle o0 last o p t0 t u e d head view arrivals expected
 
 -- the front of what was due, where a line was put in part
 pub draining-part : (image : Image) (form : Form) (idle : Bool) (o0 : Observer) (last : Bool) (o p : Observer) (t0 t u : Output) (e : Stamped)
-    → Draining image form idle o0 last o t0 t → remaining o ≡ e ∷ remaining p → GainsPart t u (text_after image form last (e ∷ []))
+    → IsDraining image form idle o0 last o t0 t → remaining o ≡ e ∷ remaining p → GainsPart t u (text_after image form last (e ∷ []))
     → GainsPart t0 u (text_after image form idle (remaining o0))
 draining-part image form idle o0 last o p t0 t u e d head part =
     let line : List ℕ = text_after image form last (e ∷ []) in
@@ -57,31 +57,31 @@ nothing-left image form.Counted last = refl
 nothing-left image form.Bare last = refl
 
 -- all was put
-pub draining-done : (image : Image) (form : Form) (idle : Bool) (o0 : Observer) (last : Bool) (o : Observer) (t0 t : Output) → Draining image form idle o0 last o t0 t → remaining o ≡ []
+pub draining-done : (image : Image) (form : Form) (idle : Bool) (o0 : Observer) (last : Bool) (o : Observer) (t0 t : Output) → IsDraining image form idle o0 last o t0 t → remaining o ≡ []
     → t ≡ output_with t0 (text_after image form idle (remaining o0))
 draining-done image form idle o0 last o t0 t d none =
     d.taken ∙ ap (output_with t0) (sym (d.text ∙ ap (λ es. d.done ++ text_after image form last es) none ∙ ap (λ x. d.done ++ x) (nothing-left image form last) ∙ append-nil d.done))
 
-pub draining-ends : (image : Image) (form : Form) (idle : Bool) (o0 : Observer) (last : Bool) (o : Observer) (t0 t : Output) → Draining image form idle o0 last o t0 t → remaining o ≡ []
+pub draining-ends : (image : Image) (form : Form) (idle : Bool) (o0 : Observer) (last : Bool) (o : Observer) (t0 t : Output) → IsDraining image form idle o0 last o t0 t → remaining o ≡ []
     → last ≡ ends_idle idle (remaining o0)
 draining-ends image form idle o0 last o t0 t d none = sym (d.ends ∙ ap (ends_idle last) none)
 
 -- one more line was put by a printer of the same image and form
 pub draining-put : (image i : Image) (form f : Form) (idle : Bool) (o0 : Observer) (last next : Bool) (o p : Observer) (t0 t u : Output) (e : Stamped)
-    → Draining image form idle o0 last o t0 t → i ≡ image → f ≡ form → next ≡ is_idle e.event
+    → IsDraining image form idle o0 last o t0 t → i ≡ image → f ≡ form → next ≡ is_idle e.event
     → remaining o ≡ e ∷ remaining p → view_of p ≡ view_of o → arrivals_of p ≡ arrivals_of o → expected_count p ≡ expected_count o
     → ((steps : List Step) (events : List Stamped) → Fed o steps events → Fed p steps (events ++ e ∷ []))
     → u ≡ output_with t (text_after i f last (e ∷ []))
-    → Draining image form idle o0 next p t0 u
+    → IsDraining image form idle o0 next p t0 u
 draining-put image i form f idle o0 last next o p t0 t u e d ei ef en head view arrivals expected fed put =
-    let P : Bool → Type 0 = λ b. Draining image form idle o0 b p t0 u in
+    let P : Bool → Type 0 = λ b. IsDraining image form idle o0 b p t0 u in
     let same : u ≡ output_with t (text_after image form last (e ∷ [])) =
     put ∙ ap (λ x. output_with t (text_after x f last (e ∷ []))) ei ∙ ap (λ x. output_with t (text_after image x last (e ∷ []))) ef in
     subst P (sym en) (draining-more image form idle o0 last o p t0 t u e d head view arrivals expected fed same)
 
 -- or in part
 pub draining-broke : (image i : Image) (form f : Form) (idle : Bool) (o0 : Observer) (last : Bool) (o p : Observer) (t0 t u : Output) (e : Stamped)
-    → Draining image form idle o0 last o t0 t → i ≡ image → f ≡ form → remaining o ≡ e ∷ remaining p → GainsPart t u (text_after i f last (e ∷ []))
+    → IsDraining image form idle o0 last o t0 t → i ≡ image → f ≡ form → remaining o ≡ e ∷ remaining p → GainsPart t u (text_after i f last (e ∷ []))
     → GainsPart t0 u (text_after image form idle (remaining o0))
 draining-broke image i form f idle o0 last o p t0 t u e d ei ef head part =
     let I : Image → Type 0 = λ x. GainsPart t u (text_after x f last (e ∷ [])) in

@@ -8,15 +8,15 @@ use Rattle.sloth_base.specs.declared.step.Step.{Step}
 use Rattle.sloth_base.specs.declared.event.Stamped.{Stamped}
 use Rattle.observe.specs.declared.observing.Observer.{Observer}
 use Rattle.observe.specs.Progress.{Fed, remaining, view_of, arrivals_of, expected_count}
-use Rattle.sloth_runner.specs.Moments.{HandsOut}
-use Rattle.sloth_runner.proofs.RunInvariants.{HandingOut}
+use Rattle.sloth_runner.specs.Moments.{IsHandedOut}
+use Rattle.sloth_runner.proofs.RunInvariants.{IsHandingOut}
 
-pub handing-init : (o : Observer) → HandingOut o o
+pub handing-init : (o : Observer) → IsHandingOut o o
 handing-init o = record { view = refl; arrivals = refl; expected = refl; fed = λ steps events f. (events, f, refl) }
 
 -- one event more was handed out
-pub handing-more : (o0 o p : Observer) (e : Stamped) → HandingOut o0 o → remaining o ≡ e ∷ remaining p → view_of p ≡ view_of o → arrivals_of p ≡ arrivals_of o
-    → expected_count p ≡ expected_count o → ((steps : List Step) (events : List Stamped) → Fed o steps events → Fed p steps (events ++ e ∷ [])) → HandingOut o0 p
+pub handing-more : (o0 o p : Observer) (e : Stamped) → IsHandingOut o0 o → remaining o ≡ e ∷ remaining p → view_of p ≡ view_of o → arrivals_of p ≡ arrivals_of o
+    → expected_count p ≡ expected_count o → ((steps : List Step) (events : List Stamped) → Fed o steps events → Fed p steps (events ++ e ∷ [])) → IsHandingOut o0 p
 handing-more o0 o p e h head view arrivals expected fed = record {
   view = view ∙ h.view;
   arrivals = arrivals ∙ h.arrivals;
@@ -26,7 +26,7 @@ handing-more o0 o p e h head view arrivals expected fed = record {
 }
 
 -- all were handed out
-pub handed-out : (o0 o : Observer) → HandingOut o0 o → remaining o ≡ [] → HandsOut o0 o
+pub handed-out : (o0 o : Observer) → IsHandingOut o0 o → remaining o ≡ [] → IsHandedOut o0 o
 handed-out o0 o h none steps events f =
     let q = h.fed steps events f in
     let same : q.0 ≡ events ++ remaining o0 = sym (append-nil q.0) ∙ ap (λ es. q.0 ++ es) (sym none) ∙ q.2 in

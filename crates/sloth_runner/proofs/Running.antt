@@ -17,8 +17,8 @@ use Rattle.rv32_machine.specs.Advance.{Halts}
 use Rattle.rv32_machine.specs.Run.{Moment, moment, state_with_arrivals, run, run_from, steps_of, state_after}
 use Rattle.rv32_machine.proofs.Runs.{run_halts, stop_halts, stop_none, run_front}
 use Rattle.sim_induction.specs.Sound.{events_of}
-use Rattle.sloth_runner.specs.Runner.{IsFresh, IsRunning, Went, Broke, HaltsWith, Adds, image_of, given_arrivals, count_of, run_steps, run_text, run_end, end_of}
-use Rattle.sloth_runner.proofs.RunInvariants.{Ran, Running}
+use Rattle.sloth_runner.specs.Runner.{IsFresh, IsRunning, IsPrintedAdvance, IsBrokenAdvance, HasRunEnd, AreAddedEvents, image_of, given_arrivals, count_of, run_steps, run_text, run_end, end_of}
+use Rattle.sloth_runner.proofs.RunInvariants.{IsBehindRun, IsBehindPrintedRun}
 use Rattle.sloth_runner.specs.Moments.{sloth_state}
 use Rattle.sloth_runner.specs.declared.runner.Runner.{Runner}
 use Rattle.sloth_runner.specs.declared.runner.Printer.{Printer}
@@ -33,9 +33,9 @@ no-text image form.Counted = refl
 no-text image form.Bare = refl
 
 pub running-init : (r : Runner) (form : Form) (printer : Printer) (t : Output) → IsFresh r → printer.after_idle ≡ false → printer.form ≡ form
-    → printer.image.now ≡ image_of r → Running r r form printer t t (count_of r)
+    → printer.image.now ≡ image_of r → IsBehindPrintedRun r r form printer t t (count_of r)
 running-init r form printer t f idle form_is printed =
-    let P : ℕ → Type 0 = λ k. Running r r form printer t t k in
+    let P : ℕ → Type 0 = λ k. IsBehindPrintedRun r r form printer t t k in
     subst P (sym f.1) (record {
       ran = record { running = f.0; count = f.1; image = refl; arrivals = refl };
       taken = sym (gains-nil t) ∙ ap (output_with t) (sym (ap (text_in (image_of r) form) (nothing-yet (image_of r) (given_arrivals r)) ∙ no-text (image_of r) form));
@@ -45,20 +45,20 @@ running-init r form printer t f idle form_is printed =
     })
 
 -- behind one instruction more
-pub ran-more : (r0 r q : Runner) (k : ℕ) → Ran r0 r k → IsRunning q → count_of q ≡ count_of r + 1 → image_of q ≡ image_of r → given_arrivals q ≡ given_arrivals r → Ran r0 q (k + 1)
+pub ran-more : (r0 r q : Runner) (k : ℕ) → IsBehindRun r0 r k → IsRunning q → count_of q ≡ count_of r + 1 → image_of q ≡ image_of r → given_arrivals q ≡ given_arrivals r → IsBehindRun r0 q (k + 1)
 ran-more r0 r q k ran running count image arrivals =
     record { running = running; count = count ∙ ap (λ n. n + 1) ran.count; image = image ∙ ran.image; arrivals = arrivals ∙ ran.arrivals }
 
 -- the same events at equal things
-pub adds-at : (i j : Image) (A B : List Arrival) (k n : ℕ) (es : List Stamped) → i ≡ j → A ≡ B → k ≡ n → Adds i A k es → Adds j B n es
+pub adds-at : (i j : Image) (A B : List Arrival) (k n : ℕ) (es : List Stamped) → i ≡ j → A ≡ B → k ≡ n → AreAddedEvents i A k es → AreAddedEvents j B n es
 adds-at i j A B k n es p q e h =
-    let P : Image → Type 0 = λ x. Adds x A k es in
-    let Q : List Arrival → Type 0 = λ x. Adds j x k es in
-    let R : ℕ → Type 0 = λ x. Adds j B x es in
+    let P : Image → Type 0 = λ x. AreAddedEvents x A k es in
+    let Q : List Arrival → Type 0 = λ x. AreAddedEvents j x k es in
+    let R : ℕ → Type 0 = λ x. AreAddedEvents j B x es in
     subst R e (subst Q q (subst P p h))
 
 -- the text of one instruction more
-text-more : (image : Image) (A : List Arrival) (form : Form) (k : ℕ) (es : List Stamped) → Adds image A k es
+text-more : (image : Image) (A : List Arrival) (form : Form) (k : ℕ) (es : List Stamped) → AreAddedEvents image A k es
     → run_text image A form (k + 1) ≡ run_text image A form k ++ text_after image form (ends_idle false (events_of image A k)) es
 text-more image A form k es h = ap (text_in image form) h ∙ text_after-append image form false (events_of image A k) es
 
@@ -70,8 +70,8 @@ ends-append b (e ∷ es) fs = ends-append _ es fs
 piece-at : (i j : Image) (f g : Form) (b c : Bool) (es : List Stamped) → i ≡ j → f ≡ g → b ≡ c → text_after i f b es ≡ text_after j g c es
 piece-at i j f g b c es p q e = ap (λ x. text_after x f b es) p ∙ ap (λ x. text_after j x b es) q ∙ ap (λ x. text_after j g x es) e
 
-running-more : (r0 r q : Runner) (form : Form) (before after : Printer) (t0 t u : Output) (k : ℕ) → Running r0 r form before t0 t k → Went r q before after t u
-    → image_of q ≡ image_of r → given_arrivals q ≡ given_arrivals r → after.form ≡ before.form → after.image.now ≡ before.image.now → Running r0 q form after t0 u (k + 1)
+running-more : (r0 r q : Runner) (form : Form) (before after : Printer) (t0 t u : Output) (k : ℕ) → IsBehindPrintedRun r0 r form before t0 t k → IsPrintedAdvance r q before after t u
+    → image_of q ≡ image_of r → given_arrivals q ≡ given_arrivals r → after.form ≡ before.form → after.image.now ≡ before.image.now → IsBehindPrintedRun r0 q form after t0 u (k + 1)
 running-more r0 r q form before after t0 t u k run w image arrivals form_is printed =
     let i0 : Image = image_of r0 in
     let A : List Arrival = given_arrivals r0 in
@@ -87,42 +87,42 @@ running-more r0 r q form before after t0 t u k run w image arrivals form_is prin
     }
 
 -- behind one instruction more
-pub running-on : (r0 r q : Runner) (form : Form) (before after : Printer) (t0 t u : Output) → Running r0 r form before t0 t (count_of r)
-    → Went r q before after t u → image_of q ≡ image_of r → given_arrivals q ≡ given_arrivals r → after.form ≡ before.form → after.image.now ≡ before.image.now
-    → Running r0 q form after t0 u (count_of q)
+pub running-on : (r0 r q : Runner) (form : Form) (before after : Printer) (t0 t u : Output) → IsBehindPrintedRun r0 r form before t0 t (count_of r)
+    → IsPrintedAdvance r q before after t u → image_of q ≡ image_of r → given_arrivals q ≡ given_arrivals r → after.form ≡ before.form → after.image.now ≡ before.image.now
+    → IsBehindPrintedRun r0 q form after t0 u (count_of q)
 running-on r0 r q form before after t0 t u run w image arrivals form_is printed =
-    let P : ℕ → Type 0 = λ k. Running r0 q form after t0 u k in
+    let P : ℕ → Type 0 = λ k. IsBehindPrintedRun r0 q form after t0 u k in
     subst P (sym w.count) (running-more r0 r q form before after t0 t u (count_of r) run w image arrivals form_is printed)
 
 -- the state after the instructions that were done
-after-is : (r0 r : Runner) (k : ℕ) → Ran r0 r k → state_after k (given_arrivals r0) (start (image_of r0)) ≡ Some (sloth_state r.machine)
+after-is : (r0 r : Runner) (k : ℕ) → IsBehindRun r0 r k → state_after k (given_arrivals r0) (start (image_of r0)) ≡ Some (sloth_state r.machine)
 after-is r0 r k ran =
     ap (λ n. state_after n (given_arrivals r0) (start (image_of r0))) (sym ran.count)
     ∙ ap (λ A. state_after (count_of r) A (start (image_of r0))) (sym ran.arrivals)
     ∙ ap (λ (i : Image). state_after (count_of r) (given_arrivals r) (start i)) (sym ran.image) ∙ ran.running.ran.after
 
-halted-is : (r0 r : Runner) (k : ℕ) (e : RunEnd) → Ran r0 r k → (h : HaltsWith r e) → moment (given_arrivals r0) k (sloth_state r.machine) ≡ Halts h.0
+halted-is : (r0 r : Runner) (k : ℕ) (e : RunEnd) → IsBehindRun r0 r k → (h : HasRunEnd r e) → moment (given_arrivals r0) k (sloth_state r.machine) ≡ Halts h.0
 halted-is r0 r k e ran h =
     ap (λ A. moment A k (sloth_state r.machine)) (sym ran.arrivals) ∙ ap (λ n. moment (given_arrivals r) n (sloth_state r.machine)) (sym ran.count) ∙ h.1
 
 -- a run that stops shows no more
-pub stopped-events : (r0 r : Runner) (k n : ℕ) (e : RunEnd) → Ran r0 r k → HaltsWith r e → k < n → events_of (image_of r0) (given_arrivals r0) k ≡ events_of (image_of r0) (given_arrivals r0) n
+pub stopped-events : (r0 r : Runner) (k n : ℕ) (e : RunEnd) → IsBehindRun r0 r k → HasRunEnd r e → k < n → events_of (image_of r0) (given_arrivals r0) k ≡ events_of (image_of r0) (given_arrivals r0) n
 stopped-events r0 r k n e ran h lt =
     let i0 : Image = image_of r0 in
     ap (λ ms. observe (view_of_image i0) (given_arrivals r0) (steps_of ms))
     (sym (run_halts n k (given_arrivals r0) (start i0) (sloth_state r.machine) h.0 lt (after-is r0 r k ran) (halted-is r0 r k e ran h)))
 
-pub stopped-text : (r0 r : Runner) (form : Form) (p : Printer) (t0 t u : Output) (k n : ℕ) (e : RunEnd) → Running r0 r form p t0 t k → HaltsWith r e → k < n → u ≡ t → u ≡ output_with t0 (run_text (image_of r0) (given_arrivals r0) form n)
+pub stopped-text : (r0 r : Runner) (form : Form) (p : Printer) (t0 t u : Output) (k n : ℕ) (e : RunEnd) → IsBehindPrintedRun r0 r form p t0 t k → HasRunEnd r e → k < n → u ≡ t → u ≡ output_with t0 (run_text (image_of r0) (given_arrivals r0) form n)
 stopped-text r0 r form p t0 t u k n e run h lt same =
     same ∙ run.taken ∙ ap (λ es. output_with t0 (text_in (image_of r0) form es)) (stopped-events r0 r k n e run.ran h lt)
 
-pub stopped-end : (r0 r : Runner) (k n : ℕ) (e : RunEnd) → Ran r0 r k → HaltsWith r e → k < n → e ≡ run_end (image_of r0) (given_arrivals r0) n
+pub stopped-end : (r0 r : Runner) (k n : ℕ) (e : RunEnd) → IsBehindRun r0 r k → HasRunEnd r e → k < n → e ≡ run_end (image_of r0) (given_arrivals r0) n
 stopped-end r0 r k n e ran h lt =
     h.2 ∙ ap (λ A. end_of (Some (record { pc = (execution_state (state_with_arrivals A (count_of r) (sloth_state r.machine))).pc; stop = h.0 }))) ran.arrivals
     ∙ ap (λ c. end_of (Some (record { pc = (execution_state (state_with_arrivals (given_arrivals r0) c (sloth_state r.machine))).pc; stop = h.0 }))) ran.count
     ∙ ap end_of (sym (stop_halts n k (given_arrivals r0) (start (image_of r0)) (sloth_state r.machine) h.0 lt (after-is r0 r k ran) (halted-is r0 r k e ran h)))
 
-pub whole-end : (r0 r : Runner) (k : ℕ) → Ran r0 r k → end_of None ≡ run_end (image_of r0) (given_arrivals r0) k
+pub whole-end : (r0 r : Runner) (k : ℕ) → IsBehindRun r0 r k → end_of None ≡ run_end (image_of r0) (given_arrivals r0) k
 whole-end r0 r k ran = ap end_of (sym (stop_none k (given_arrivals r0) 0 (start (image_of r0)) (sloth_state r.machine) (after-is r0 r k ran)))
 
 steps-append : (ms ns : List Moment) → steps_of (ms ++ ns) ≡ steps_of ms ++ steps_of ns
@@ -130,7 +130,7 @@ steps-append [] ns = refl
 steps-append (m ∷ ms) ns = ap (λ ss. m.step ∷ ss) (steps-append ms ns)
 
 -- a run that broke off put a front of the text
-pub broken-text : (r0 r : Runner) (form : Form) (p : Printer) (t0 t u : Output) (k n : ℕ) → Running r0 r form p t0 t k → Broke r p t u → k < n → GainsPart t0 u (run_text (image_of r0) (given_arrivals r0) form n)
+pub broken-text : (r0 r : Runner) (form : Form) (p : Printer) (t0 t u : Output) (k n : ℕ) → IsBehindPrintedRun r0 r form p t0 t k → IsBrokenAdvance r p t u → k < n → GainsPart t0 u (run_text (image_of r0) (given_arrivals r0) form n)
 broken-text r0 r form p t0 t u k n run b lt =
     let i0 : Image = image_of r0 in
     let A : List Arrival = given_arrivals r0 in

@@ -15,8 +15,8 @@ use Rattle.trace_text.specs.Summary.{count_of_kind, counts_of}
 use Rattle.observe.specs.Progress.{remaining}
 use Rattle.sim_induction.specs.Sound.{events_of}
 use Rattle.sloth_runner.specs.Moments.{counts_with_one, counts_with}
-use Rattle.sloth_runner.specs.Runner.{Advanced, Adds, image_of, given_arrivals, count_of}
-use Rattle.sloth_runner.proofs.RunInvariants.{Ran}
+use Rattle.sloth_runner.specs.Runner.{IsAdvance, AreAddedEvents, image_of, given_arrivals, count_of}
+use Rattle.sloth_runner.proofs.RunInvariants.{IsBehindRun}
 use Rattle.sloth_runner.specs.declared.runner.Runner.{Runner}
 use Rattle.sloth_runner.proofs.Running.{adds-at}
 use Rattle.sloth_runner.proofs.Turning.{advanced-adds}
@@ -65,12 +65,12 @@ counts-small events more most h k d l =
     let few = count_by-le-length (λ (e : Stamped). kind_of e.event == k) events in omega (arith, is, few, h)
 
 -- the events of an instruction that was done, in terms of what the run began with
-pub adds-of : (r0 r p : Runner) (k : ℕ) → Ran r0 r k → Advanced r p → given_arrivals p ≡ given_arrivals r → Adds (image_of r0) (given_arrivals r0) k (remaining p.observer)
+pub adds-of : (r0 r p : Runner) (k : ℕ) → IsBehindRun r0 r k → IsAdvance r p → given_arrivals p ≡ given_arrivals r → AreAddedEvents (image_of r0) (given_arrivals r0) k (remaining p.observer)
 adds-of r0 r p k ran advanced same =
     adds-at (image_of r) (image_of r0) (given_arrivals r) (given_arrivals r0) (count_of r) k (remaining p.observer) ran.image ran.arrivals ran.count (advanced-adds r p ran.running advanced same)
 
 -- there is room for them
-pub room-of : (r0 r p : Runner) (k : ℕ) → Ran r0 r k → Advanced r p → given_arrivals p ≡ given_arrivals r → length (given_arrivals r0) ≤ arrival_limit → k < count_limit
+pub room-of : (r0 r p : Runner) (k : ℕ) → IsBehindRun r0 r k → IsAdvance r p → given_arrivals p ≡ given_arrivals r → length (given_arrivals r0) ≤ arrival_limit → k < count_limit
     → All (λ number. number + length (remaining p.observer) < 2 ^ 32) (counts_of (events_of (image_of r0) (given_arrivals r0) k))
 room-of r0 r p k ran advanced same few short =
     let adds = ap length (adds-of r0 r p k ran advanced same) in
@@ -79,7 +79,7 @@ room-of r0 r p k ran advanced same few short =
     counts-small (events_of (image_of r0) (given_arrivals r0) k) (length (remaining p.observer)) (2 ^ 32) (omega (arith, adds, all, both, few, short))
 
 -- the numbers behind an instruction
-pub counts-behind : (r0 r p : Runner) (k : ℕ) → Ran r0 r k → Advanced r p → given_arrivals p ≡ given_arrivals r
+pub counts-behind : (r0 r p : Runner) (k : ℕ) → IsBehindRun r0 r k → IsAdvance r p → given_arrivals p ≡ given_arrivals r
     → counts_with (counts_of (events_of (image_of r0) (given_arrivals r0) k)) (remaining p.observer) ≡ counts_of (events_of (image_of r0) (given_arrivals r0) (k + 1))
 counts-behind r0 r p k ran advanced same =
     counted-counts (events_of (image_of r0) (given_arrivals r0) k) (remaining p.observer) ∙ ap counts_of (sym (adds-of r0 r p k ran advanced same))

@@ -2,7 +2,7 @@
 use Rattle.std.proofs.Common.{◌≡◌, ◌<◌, ◌≤◌, ◌+◌, ℕ, zero, suc, List, [], ◌∷◌, ◌++◌, Some, length, take, drop, map, refl, sym, ◌∙◌, ap, subst, arith}
 use Rattle.std.specs.List.{All}
 use Rattle.sloth_base.specs.Machine.{State}
-use Rattle.sloth_base.specs.Arrivals.{moments, NeverFalls, AreArrivals}
+use Rattle.sloth_base.specs.Arrivals.{moments, AreRisingMoments, AreArrivals}
 use Rattle.sloth_base.specs.Arrive.{state_arrive}
 use Rattle.sloth_base.specs.declared.image.Image.{Image}
 use Rattle.sloth_base.specs.declared.event.Arrival.{Arrival}
@@ -19,13 +19,13 @@ use Rattle.observe.specs.declared.observing.Observer.{Observer}
 use Rattle.observe.proofs.Moments.{here-from, behind-from}
 use Rattle.observe.proofs.Growing.{observe-nothing}
 use Rattle.rv32_machine.specs.Start.{start}
-use Rattle.rv32_machine.specs.Advance.{Outcome, Goes, advance}
+use Rattle.rv32_machine.specs.Advance.{StepOutcome, Goes, advance}
 use Rattle.rv32_machine.specs.declared.machine.Machine.{Machine}
 use Rattle.machine_memory.specs.declared.sloth.SlothBus.{SlothBus}
 use Rattle.rv32_machine.specs.Run.{Moment, moment, moment_of, state_with_arrivals, run, run_from, steps_of, state_after}
 use Rattle.sim_induction.specs.Sound.{events_of}
-use Rattle.sloth_runner.specs.Moments.{AreLines, HandsOut, sloth_state}
-use Rattle.sloth_runner.specs.Runner.{HasRun, HasDone, HasArrived, HasExecuted, Advanced, Adds, IsRunning, image_of, given_arrivals, count_of, run_steps}
+use Rattle.sloth_runner.specs.Moments.{AreLines, IsHandedOut, sloth_state}
+use Rattle.sloth_runner.specs.Runner.{HasRun, HasDone, HasArrived, HasExecuted, IsAdvance, AreAddedEvents, IsRunning, image_of, given_arrivals, count_of, run_steps}
 use Rattle.sloth_runner.specs.declared.runner.Runner.{Runner}
 use Rattle.rv32_machine.proofs.Runs.{after_more, run_more}
 use Rattle.std.proofs.lemmas.List.Elements.{All-drop}
@@ -36,11 +36,11 @@ front-is (suc n) [] = refl
 front-is (suc n) (x ∷ xs) = ap (λ ys. x ∷ ys) (front-is n xs)
 
 -- what doesn't fall from a moment on doesn't fall from an earlier one on
-pub weaker : (m n : ℕ) (A : List Arrival) → n ≤ m → NeverFalls m A → NeverFalls n A
+pub weaker : (m n : ℕ) (A : List Arrival) → n ≤ m → AreRisingMoments m A → AreRisingMoments n A
 weaker m n [] le h = tt
 weaker m n (a ∷ A) le h = (omega arith, h.1)
 
-in-order : (r : Runner) (image : Image) (k : ℕ) → HasRun r image k → NeverFalls 0 (given_arrivals r)
+in-order : (r : Runner) (image : Image) (k : ℕ) → HasRun r image k → AreRisingMoments 0 (given_arrivals r)
 in-order r image k ran = weaker 1 0 (given_arrivals r) (omega arith) ran.arrivals.ordered
 
 -- the state with the arrivals of the next moment
@@ -71,7 +71,7 @@ steps-more : (k : ℕ) (A : List Arrival) (m0 m n : State) (s : Step) → state_
 steps-more k A m0 m n s h g = ap steps_of (run_more k A m0 m n s h g) ∙ map-append (run k A m0) (moment_of A k m s n)
 
 -- what the machine does at a moment, behind its arrivals
-pub moment-is : (r a : Runner) (o : Outcome) → HasArrived r a → advance (count_of a) (sloth_state a.machine) ≡ o
+pub moment-is : (r a : Runner) (o : StepOutcome) → HasArrived r a → advance (count_of a) (sloth_state a.machine) ≡ o
     → moment (given_arrivals r) (count_of r) (sloth_state r.machine) ≡ o
 moment-is r a o arrived does =
     ap (advance (count_of r)) (sym arrived.state) ∙ ap (λ c. advance c (sloth_state a.machine)) (sym arrived.count) ∙ does
@@ -96,7 +96,7 @@ machine-more r a q image step ran arrived executed same coming =
 pub adds-is : (r : Runner) (image : Image) (k : ℕ) (s : Step) (n : State) (o : Observer) → HasDone r image k
     → moment (given_arrivals r) k (sloth_state r.machine) ≡ Goes s n
     → ((steps : List Step) (events : List Stamped) → Fed r.observer steps events → Fed o (steps ++ s ∷ []) events) → view_of o ≡ view_of r.observer → arrivals_of o ≡ given_arrivals r
-    → Adds image (given_arrivals r) k (remaining o)
+    → AreAddedEvents image (given_arrivals r) k (remaining o)
 adds-is r image k s n o st g fed view arrivals =
     let F : List Step = run_steps image (given_arrivals r) k in
     let f = fed F (events_of image (given_arrivals r) k) st.fed in
@@ -104,7 +104,7 @@ adds-is r image k s n o st g fed view arrivals =
     ∙ ap (λ w. observe w (given_arrivals r) (F ++ s ∷ [])) (sym (view ∙ st.view)) ∙ ap (λ B. observe (view_of o) B (F ++ s ∷ [])) (sym arrivals) ∙ sym f.told
 
 -- the events of an instruction that was done
-pub advanced-adds : (r p : Runner) → IsRunning r → (a : Advanced r p) → given_arrivals p ≡ given_arrivals r → Adds (image_of r) (given_arrivals r) (count_of r) (remaining p.observer)
+pub advanced-adds : (r p : Runner) → IsRunning r → (a : IsAdvance r p) → given_arrivals p ≡ given_arrivals r → AreAddedEvents (image_of r) (given_arrivals r) (count_of r) (remaining p.observer)
 advanced-adds r p st a arrivals = adds-is r (image_of r) (count_of r) a.step (sloth_state p.machine) p.observer st a.goes a.fed a.view arrivals
 
 -- what the machine has done, with another observer of the same arrivals
@@ -121,7 +121,7 @@ ran-beside p q image k ran same machine coming =
     }
 
 -- the runner behind an instruction whose events were all handed out
-done-more : (r p q : Runner) → IsRunning r → Advanced r p → given_arrivals p ≡ given_arrivals r → HandsOut p.observer q.observer
+done-more : (r p q : Runner) → IsRunning r → IsAdvance r p → given_arrivals p ≡ given_arrivals r → IsHandedOut p.observer q.observer
     → view_of q.observer ≡ view_of p.observer → arrivals_of q.observer ≡ arrivals_of p.observer → expected_count q.observer ≡ expected_count p.observer → remaining q.observer ≡ []
     → HasRun q (image_of r) (count_of r + 1) → HasDone q (image_of r) (count_of r + 1)
 done-more r p q st a arrivals hands view same expected none ran =
@@ -150,7 +150,7 @@ pub running-at : (q : Runner) (k : ℕ) → HasDone q q.image.now k → IsRunnin
 running-at q k st = let P : ℕ → Type 0 = λ n. HasDone q q.image.now n in subst P (sym st.ran.count) st
 
 -- the runner behind an instruction, once its events were handed out
-pub running-behind : (r p q : Runner) → IsRunning r → Advanced r p → image_of q ≡ image_of r → given_arrivals p ≡ given_arrivals r → HandsOut p.observer q.observer
+pub running-behind : (r p q : Runner) → IsRunning r → IsAdvance r p → image_of q ≡ image_of r → given_arrivals p ≡ given_arrivals r → IsHandedOut p.observer q.observer
     → view_of q.observer ≡ view_of p.observer → arrivals_of q.observer ≡ arrivals_of p.observer → expected_count q.observer ≡ expected_count p.observer → remaining q.observer ≡ []
     → q.machine ≡ p.machine → q.coming.now ≡ p.coming.now → IsRunning q
 running-behind r p q st a image arrivals hands view same expected none machine coming =

@@ -13,7 +13,7 @@ use Rattle.sloth_inspect.specs.States.{states_in, running_number_in}
 use Rattle.observe.specs.Progress.{Fed, remaining}
 use Rattle.observe.specs.declared.observing.Observer.{Observer}
 use Rattle.line_words.specs.EventWords.{kind_of}
-use Rattle.sloth_runner.specs.declared.looks.Seen.{Seen}
+use Rattle.sloth_runner.specs.declared.machine_states.Seen.{Seen}
 
 -- the state of a machine
 abbrev pub sloth_state : Machine SlothBus → State
@@ -24,8 +24,8 @@ abbrev pub AreLines : List Arrival → Type 0
 AreLines arrivals = All (λ arrival. arrival.line < line_count) arrivals
 
 -- what a state shows of so many tasks at a count, where it finds MIE 1
-abbrev pub seen_at : (tasks count : ℕ) → State → Option Seen
-seen_at tasks count now =
+abbrev pub open_states : (tasks count : ℕ) → State → Option Seen
+open_states tasks count now =
     if now.core.mie
     then Some (record { count = count; tasks = states_in (memory_of now.core) tasks; running = running_number_in (memory_of now.core) })
     else None
@@ -33,8 +33,8 @@ seen_at tasks count now =
 -- ---- finished events
 
 -- all finished events were handed out
-abbrev pub HandsOut : Observer → Observer → Type 0
-HandsOut old new = (steps : List Step) (events : List Stamped) → Fed old steps events → Fed new steps (events ++ remaining old)
+abbrev pub IsHandedOut : Observer → Observer → Type 0
+IsHandedOut old new = (steps : List Step) (events : List Stamped) → Fed old steps events → Fed new steps (events ++ remaining old)
 
 -- these numbers of events of each kind, with one event more
 abbrev pub counts_with_one : List ℕ → Stamped → List ℕ

@@ -90,8 +90,8 @@ abbrev pub IsFresh : Runner → Type 0
 IsFresh runner = IsRunning runner × (count_of runner ≡ 0)
 
 -- these are the events that the instruction of count k adds
-abbrev pub Adds : Image → List Arrival → ℕ → List Stamped → Type 0
-Adds image arrivals k events = events_of image arrivals (k + 1) ≡ events_of image arrivals k ++ events
+abbrev pub AreAddedEvents : Image → List Arrival → ℕ → List Stamped → Type 0
+AreAddedEvents image arrivals k events = events_of image arrivals (k + 1) ≡ events_of image arrivals k ++ events
 
 -- the arrivals of the moment have come
 pub record HasArrived (old new : Runner) : Type 0 where
@@ -107,12 +107,12 @@ pub record HasExecuted (old new : Runner) (step : Step) : Type 0 where
   pub count : count_of new ≡ count_of old + 1
 
 -- the machine stops at the next one, there and so
-pub record HaltsAt (old : Runner) (halt : Halt) : Type 0 where
+pub record HasHalt (old : Runner) (halt : Halt) : Type 0 where
   pub halts : advance (count_of old) (sloth_state old.machine) ≡ Halts halt.stop
   pub pc : halt.pc ≡ (execution_state (sloth_state old.machine)).pc
 
 -- an instruction was done, and its step fed to the observer, which has its events
-pub record Advanced (old new : Runner) : Type 0 where
+pub record IsAdvance (old new : Runner) : Type 0 where
   pub step : Step
   pub goes : moment (given_arrivals old) (count_of old) (sloth_state old.machine) ≡ Goes step (sloth_state new.machine)
   pub fed : (steps : List Step) (events : List Stamped) → Fed old.observer steps events → Fed new.observer (steps ++ step ∷ []) events
@@ -121,21 +121,21 @@ pub record Advanced (old new : Runner) : Type 0 where
   pub ran : HasRun new (image_of old) (count_of old + 1)
 
 -- an instruction was done, and its events' lines were put
-pub record Went (old new : Runner) (before after : Printer) (t u : Output) : Type 0 where
+pub record IsPrintedAdvance (old new : Runner) (before after : Printer) (t u : Output) : Type 0 where
   pub running : IsRunning new
   pub count : count_of new ≡ count_of old + 1
   pub events : List Stamped
-  pub adds : Adds (image_of old) (given_arrivals old) (count_of old) events
+  pub adds : AreAddedEvents (image_of old) (given_arrivals old) (count_of old) events
   pub taken : u ≡ output_with t (text_after (image_of old) before.form before.after_idle events)
   pub idle : after.after_idle ≡ ends_idle before.after_idle events
 
 -- they were put in part
-pub record Broke (old : Runner) (before : Printer) (t u : Output) : Type 0 where
+pub record IsBrokenAdvance (old : Runner) (before : Printer) (t u : Output) : Type 0 where
   pub events : List Stamped
-  pub adds : Adds (image_of old) (given_arrivals old) (count_of old) events
+  pub adds : AreAddedEvents (image_of old) (given_arrivals old) (count_of old) events
   pub taken : GainsPart t u (text_after (image_of old) before.form before.after_idle events)
 
 -- the next instruction stops, and the run ends so
-abbrev pub HaltsWith : Runner → RunEnd → Type 0
-HaltsWith old end = (stop : Stop) × (moment (given_arrivals old) (count_of old) (sloth_state old.machine) ≡ Halts stop)
+abbrev pub HasRunEnd : Runner → RunEnd → Type 0
+HasRunEnd old end = (stop : Stop) × (moment (given_arrivals old) (count_of old) (sloth_state old.machine) ≡ Halts stop)
     × (end ≡ ends.Stopped (execution_state (state_with_arrivals (given_arrivals old) (count_of old) (sloth_state old.machine))).pc stop)

@@ -1,7 +1,7 @@
 //! Counts events.
 ghost use Rattle.std.specs.Prelude.{◌≡◌, ◌<◌, ◌+◌, ◌^◌, [], All, length};
 ghost use Rattle.observe.specs.Progress.{remaining, view_of, arrivals_of, expected_count};
-ghost use Rattle.sloth_runner.specs.Moments.{HandsOut, counts_with};
+ghost use Rattle.sloth_runner.specs.Moments.{IsHandedOut, counts_with};
 
 use observe::Observer;
 use trace_text::summary::{KINDS, kind_of};
@@ -11,7 +11,7 @@ pub fn count_events(observer: &mut Observer, counts: &mut [u32; KINDS])
     requires room { All (λ number. number + length (remaining observer.old) < 2 ^ 32) counts.old }
     ensures counts { counts.new ≡ counts_with counts.old (remaining observer.old) }
     ensures drained { remaining observer.new ≡ [] }
-    ensures fed { HandsOut observer.old observer.new }
+    ensures fed { IsHandedOut observer.old observer.new }
     ensures view { view_of observer.new ≡ view_of observer.old }
     ensures arrivals { arrivals_of observer.new ≡ arrivals_of observer.old }
     ensures expected { expected_count observer.new ≡ expected_count observer.old }

@@ -9,8 +9,8 @@ ghost use Rattle.sloth_base.specs.Owners.{owners_in};
 ghost use Rattle.sloth_base.specs.Limits.{count_limit};
 ghost use Rattle.sim_induction.specs.Sound.{Sound};
 ghost use Rattle.sloth_runner.specs.Runner.{run_end};
-ghost use Rattle.sloth_runner.specs.Sight.{IsSight};
-ghost use Rattle.sloth_runner.specs.declared.sight.Sight.{Sight};
+ghost use Rattle.sloth_runner.specs.TaskStates.{AreStatesAt};
+ghost use Rattle.sloth_runner.specs.declared.task_states.Sight.{Sight};
 ghost use Rattle.sloth_runner.specs.declared.runner.RunEnd.TheVariants.{Whole};
 
 /// A run of a sound image, of at most 1,000,000 instructions, never stops.
@@ -22,5 +22,5 @@ pub fn sound_runs_are_whole()
 /// A run shows one thing of its tasks.
 pub fn one_sight()
     ensures { (image : Image) (arrivals : List Arrival) (k : ℕ) (one other : Sight) →
-        IsSight image arrivals k one → IsSight image arrivals k other → one ≡ other }
+        AreStatesAt image arrivals k one → AreStatesAt image arrivals k other → one ≡ other }
 {}

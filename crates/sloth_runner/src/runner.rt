@@ -8,7 +8,7 @@ ghost use Rattle.sloth_io.specs.Sink.{output_with, GainsPart};
 ghost use Rattle.trace_text.specs.Texts.{ends_idle, is_idle};
 ghost use Rattle.observe.specs.Progress.{remaining, view_of, arrivals_of, expected_count, arrivals_due};
 ghost use Rattle.sloth_runner.specs.Runner.{lines_of};
-ghost use Rattle.sloth_runner.specs.Moments.{HandsOut};
+ghost use Rattle.sloth_runner.specs.Moments.{IsHandedOut};
 
 use crate::arrivals::arrive_front;
 use observe::{Observer, passing};
@@ -79,7 +79,7 @@ impl<'a> Printer<'a> {
         ensures image { self.new.image.now ≡ self.old.image.now }
         ensures form { self.new.form ≡ self.old.form }
         ensures drained { OnOk result (remaining observer.new ≡ []) }
-        ensures fed { OnOk result (HandsOut observer.old observer.new) }
+        ensures fed { OnOk result (IsHandedOut observer.old observer.new) }
         ensures view { view_of observer.new ≡ view_of observer.old }
         ensures arrivals { arrivals_of observer.new ≡ arrivals_of observer.old }
         ensures expected { expected_count observer.new ≡ expected_count observer.old }
@@ -104,7 +104,7 @@ pub struct Runner<'a> {
 }
 
 impl<'a> Runner<'a> {
-    ghost use Rattle.sloth_runner.specs.Runner.{IsFresh, IsRunning, HasRun, HasArrived, HasExecuted, HaltsAt, Advanced, Went, Broke, HaltsWith, image_of, count_of, given_arrivals, run_text, run_end};
+    ghost use Rattle.sloth_runner.specs.Runner.{IsFresh, IsRunning, HasRun, HasArrived, HasExecuted, HasHalt, IsAdvance, IsPrintedAdvance, IsBrokenAdvance, HasRunEnd, image_of, count_of, given_arrivals, run_text, run_end};
 
     /// A runner that has run nothing, with all memory of a run.
     pub fn new(
@@ -160,7 +160,7 @@ impl<'a> Runner<'a> {
     fn record(&mut self) -> Result<(), Halt>
         requires few { count_of self.old < count_limit }
         ensures ok { OnOk result (HasExecuted self.old self.new self.new.shown) }
-        ensures err { IfErr result (HaltsAt self.old) }
+        ensures err { IfErr result (HasHalt self.old) }
         ensures coming { self.new.coming.now ≡ self.old.coming.now }
         ensures image { image_of self.new ≡ image_of self.old }
         ensures observer { self.new.observer ≡ self.old.observer }
@@ -178,7 +178,7 @@ impl<'a> Runner<'a> {
     pub fn execute(&mut self) -> Result<Step, Halt>
         requires few { count_of self.old < count_limit }
         ensures ok { IfOk result (HasExecuted self.old self.new) }
-        ensures err { IfErr result (HaltsAt self.old) }
+        ensures err { IfErr result (HasHalt self.old) }
         ensures coming { self.new.coming.now ≡ self.old.coming.now }
         ensures image { image_of self.new ≡ image_of self.old }
         ensures observer { self.new.observer ≡ self.old.observer }
@@ -194,8 +194,8 @@ impl<'a> Runner<'a> {
     pub(crate) fn advance(&mut self) -> Option<RunEnd>
         requires few { count_of self.old < count_limit }
         requires running { IsRunning self.old }
-        ensures went { IfNone result (Advanced self.old self.new) }
-        ensures halted { IfSome result (HaltsWith self.old) }
+        ensures went { IfNone result (IsAdvance self.old self.new) }
+        ensures halted { IfSome result (HasRunEnd self.old) }
         ensures image { image_of self.new ≡ image_of self.old }
         ensures arrivals { given_arrivals self.new ≡ given_arrivals self.old }
     {
@@ -222,10 +222,10 @@ impl<'a> Runner<'a> {
         requires running { IsRunning self.old }
         requires printer { printer.old.image.now ≡ image_of self.old }
         ensures went { IfOk result (λ end. IfNone end
-            (Went self.old self.new printer.old printer.new (S.seen out.old) (S.seen out.new))) }
-        ensures halted { IfOk result (λ end. IfSome end (HaltsWith self.old)) }
+            (IsPrintedAdvance self.old self.new printer.old printer.new (S.seen out.old) (S.seen out.new))) }
+        ensures halted { IfOk result (λ end. IfSome end (HasRunEnd self.old)) }
         ensures untold { IfOk result (λ end. OnSome end (S.seen out.new ≡ S.seen out.old)) }
-        ensures broke { OnErr result (Broke self.old printer.old (S.seen out.old) (S.seen out.new)) }
+        ensures broke { OnErr result (IsBrokenAdvance self.old printer.old (S.seen out.old) (S.seen out.new)) }
         ensures image { image_of self.new ≡ image_of self.old }
         ensures arrivals { given_arrivals self.new ≡ given_arrivals self.old }
         ensures form { printer.new.form ≡ printer.old.form }

@@ -6,7 +6,7 @@ use Rattle.sloth_base.specs.declared.refusal.Refusal.{Refusal}
 use Rattle.least_fault.specs.Order.{NoFault}
 use Rattle.oil_lex.specs.Tokens.{TextFault}
 use Rattle.oil_parse.specs.declared.tree.OilTree.{OilTree}
-use Rattle.oil_parse.specs.Text.{HasTree, BreaksGrammar}
+use Rattle.oil_parse.specs.Text.{HasTree, HasGrammarFault}
 use Rattle.oil_parse.proofs.Judged.{judged}
 use Rattle.oil_alarms.specs.ModelFaults.{ModelFault}
 use Rattle.oil_model.specs.Configs.{config_of}
@@ -23,10 +23,10 @@ use Rattle.sloth_source.proofs.Least.{least_or_none}
 oil_whole : (text : List ℕ) → ((config : Config) → OilText text config → ⊥) → ((r : Refusal) → OilRefusal text r → ⊥) → ⊥
 oil_whole text none kept =
     least_or_none (TextFault text) (λ r l. kept r (inl l)) (λ no_text.
-    least_or_none (BreaksGrammar text) (λ r l. kept r (inr (inl l))) (λ no_grammar. by no_text no_grammar (judged text)))
+    least_or_none (HasGrammarFault text) (λ r l. kept r (inr (inl l))) (λ no_grammar. by no_text no_grammar (judged text)))
   where
-    by : NoFault (TextFault text) → NoFault (BreaksGrammar text)
-        → ((r : Refusal) × TextFault text r) ⊎ (((r : Refusal) × BreaksGrammar text r) ⊎ ((tree : OilTree) × HasTree text tree)) → ⊥
+    by : NoFault (TextFault text) → NoFault (HasGrammarFault text)
+        → ((r : Refusal) × TextFault text r) ⊎ (((r : Refusal) × HasGrammarFault text r) ⊎ ((tree : OilTree) × HasTree text tree)) → ⊥
     by no_text no_grammar (inl f) = no_text f.0 f.1
     by no_text no_grammar (inr (inl f)) = no_grammar f.0 f.1
     by no_text no_grammar (inr (inr t)) =

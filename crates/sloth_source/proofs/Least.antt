@@ -6,7 +6,7 @@ use Rattle.sloth_base.specs.declared.refusal.Refusal.{Refusal}
 use Rattle.sloth_base.specs.declared.refusal.Part.{Part}
 use Rattle.sloth_base.specs.declared.refusal.Code.{Code}
 use Rattle.sloth_base.specs.declared.refusal.Code.TheVariants as code
-use Rattle.least_fault.specs.Order.{Precedes, number, IsLeast, NoFault}
+use Rattle.least_fault.specs.Order.{IsNoLater, number, IsLeast, NoFault}
 use Rattle.least_fault.specs.Search.{SomeFrom}
 
 abbrev all : List Code
@@ -56,7 +56,7 @@ by_number code.T2 = refl
 by_number code.T3 = refl
 by_number code.T4 = refl
 
-same_place : (r s : Refusal) → Precedes r s → Precedes s r → (r.line ≡ s.line) × (number r.code ≡ number s.code)
+same_place : (r s : Refusal) → IsNoLater r s → IsNoLater s r → (r.line ≡ s.line) × (number r.code ≡ number s.code)
 same_place r s (inl a) (inl b) = absurd (omega (arith, a, b))
 same_place r s (inl a) (inr b) = absurd (let e = b.0 in omega (arith, a, e))
 same_place r s (inr a) (inl b) = absurd (let e = a.0 in omega (arith, b, e))
@@ -96,10 +96,10 @@ few_codes c = by (cases_lt (number c) 64)
         let first : c ≡ code.O1 = sym (by_number c) ∙ get_or_past all (number c) code.O1 le in
         absurd (let none = ap number first in omega (arith, none, past))
 
-no_later : (r s : Refusal) → rank r ≤ rank s → Precedes r s
+no_later : (r s : Refusal) → rank r ≤ rank s → IsNoLater r s
 no_later r s le = by (cases_lt r.line s.line)
   where
-    by : (r.line < s.line) ⊎ (s.line ≤ r.line) → Precedes r s
+    by : (r.line < s.line) ⊎ (s.line ≤ r.line) → IsNoLater r s
     by (inl lt) = inl lt
     by (inr ge) = let m = few_codes r.code in let n = few_codes s.code in inr (omega (arith, le, ge, m, n), omega (arith, le, ge, m, n))
 
@@ -109,7 +109,7 @@ module _ (F : Refusal → Type 0) where
   none_below never (suc n) r lt f =
       never r (record { is_fault = f; is_least = λ s g. by s (λ below. none_below never n s (omega (arith, below, lt)) g) (cases_lt (rank s) (rank r)) })
     where
-      by : (s : Refusal) → (rank s < rank r → ⊥) → (rank s < rank r) ⊎ (rank r ≤ rank s) → Precedes r s
+      by : (s : Refusal) → (rank s < rank r → ⊥) → (rank s < rank r) ⊎ (rank r ≤ rank s) → IsNoLater r s
       by s none (inl below) = absurd (none below)
       by s none (inr le) = no_later r s le
 

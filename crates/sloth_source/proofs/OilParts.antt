@@ -4,7 +4,7 @@ use Rattle.sloth_base.specs.declared.config.EventDecl.{EventDecl}
 use Rattle.sloth_base.specs.declared.refusal.Refusal.{Refusal}
 use Rattle.sloth_base.specs.declared.refusal.Part.TheVariants.{Oil}
 use Rattle.sloth_base.specs.declared.refusal.Code.{Code}
-use Rattle.oil_lex.specs.Pieces.{Piece}
+use Rattle.oil_lex.specs.Pieces.{TextPiece}
 use Rattle.oil_lex.specs.declared.pieces.Meaning.{Meaning}
 use Rattle.oil_lex.specs.declared.pieces.Meaning.TheVariants as mean
 use Rattle.oil_lex.specs.Tokens.{Lexeme, FaultBy, FaultOf, TextFault, meaning, line_ends}
@@ -12,8 +12,8 @@ use Rattle.oil_parse.specs.declared.tree.OilTree.{OilTree}
 use Rattle.oil_parse.specs.declared.tree.OilObject.{OilObject}
 use Rattle.oil_parse.specs.declared.tree.OilAttr.{OilAttr}
 use Rattle.oil_parse.specs.Faults.{GrammarFault}
-use Rattle.oil_parse.specs.Text.{BreaksGrammar}
-use Rattle.oil_table.specs.Cases.{Case}
+use Rattle.oil_parse.specs.Text.{HasGrammarFault}
+use Rattle.oil_table.specs.Cases.{OilCase}
 use Rattle.oil_table.specs.Objects.{has_scheduler}
 use Rattle.oil_events.specs.Events.{events_of, BitFault}
 use Rattle.oil_rules.specs.ObjectFaults.{KnownFault}
@@ -35,7 +35,7 @@ by_meaning (mean.IsFault c) n r h = ap (λ x. x.part) h
 by_meaning (mean.IsToken k) n r h = absurd h
 by_meaning mean.Nothing n r h = absurd h
 
-of_pieces : (n : ℕ) (ps : List Piece) (r : Refusal) → FaultOf n ps r → r.part ≡ Oil
+of_pieces : (n : ℕ) (ps : List TextPiece) (r : Refusal) → FaultOf n ps r → r.part ≡ Oil
 of_pieces n [] r h = absurd h
 of_pieces n (p ∷ ps) r (inl h) = by_meaning (meaning p.kind p.bytes) n r h
 of_pieces n (p ∷ ps) r (inr h) = of_pieces (n + line_ends p.bytes) ps r h
@@ -48,10 +48,10 @@ of_tokens ts r (inl h) = ap (λ x. x.part) h.is
 of_tokens ts r (inr (inl h)) = ap (λ x. x.part) h.is
 of_tokens ts r (inr (inr h)) = ap (λ x. x.part) h.is
 
-pub of_grammar : (text : List ℕ) (r : Refusal) → BreaksGrammar text r → r.part ≡ Oil
+pub of_grammar : (text : List ℕ) (r : Refusal) → HasGrammarFault text r → r.part ≡ Oil
 of_grammar text r h = of_tokens h.tokens r h.fault
 
-of_case : (b : Bool) (line : ℕ) (c : Code) (r : Refusal) → Case b line c r → r.part ≡ Oil
+of_case : (b : Bool) (line : ℕ) (c : Code) (r : Refusal) → OilCase b line c r → r.part ≡ Oil
 of_case b line c r h = ap (λ x. x.part) h.1
 
 of_known : (scheduler : Bool) (front : List OilObject) (object : OilObject) (r : Refusal) → KnownFault scheduler front object r → r.part ≡ Oil

@@ -11,7 +11,7 @@ use Rattle.asm_parse.specs.AppTexts.{SourceTextFault}
 use Rattle.sloth_source.specs.OilText.{OilText, OilErrorIs}
 use Rattle.sloth_source.specs.SourceText.{HasApp, SourceRefusal}
 use Rattle.sloth_source.specs.Texts.{FirstRefusal, ErrorIs as TextsErrorIs}
-use Rattle.sloth_source.specs.Ranked.{HasRanks, EarlySourceRefusal, EarlyRefusal, EarlySourceErrorIs, EarlyErrorIs}
+use Rattle.sloth_source.specs.RankedTexts.{HasRanks, EarlySourceRefusal, EarlyRefusal, EarlySourceErrorIs, EarlyErrorIs}
 use Rattle.sloth_source.proofs.Readings.{one_configuration}
 use Rattle.sloth_source.proofs.Unique.{declared, never_ranked}
 use Rattle.sloth_source.proofs.Refusals.{one_refusal}

@@ -7,7 +7,7 @@ use Rattle.sloth_base.specs.declared.refusal.Part.TheVariants.{Oil, Src}
 use Rattle.least_fault.specs.Order.{IsLeast, NoFault}
 use Rattle.oil_lex.specs.Tokens.{TextFault}
 use Rattle.oil_parse.specs.declared.tree.OilTree.{OilTree}
-use Rattle.oil_parse.specs.Text.{BreaksGrammar}
+use Rattle.oil_parse.specs.Text.{HasGrammarFault}
 use Rattle.oil_parse.proofs.Texts.{one_tree, not_both}
 use Rattle.oil_alarms.specs.ModelFaults.{ModelFault}
 use Rattle.code_rules.specs.WellFormed.{CycleFault, RuleFault}
@@ -26,7 +26,7 @@ one_oil text r s (inl a) (inl b) = one_least Oil (TextFault text) (of_text text)
 one_oil text r s (inl a) (inr (inl b)) = absurd (b.is_fault.no_text_fault r a.is_fault)
 one_oil text r s (inl a) (inr (inr b)) = absurd (b.has_tree.no_text_fault r a.is_fault)
 one_oil text r s (inr (inl a)) (inl b) = absurd (a.is_fault.no_text_fault s b.is_fault)
-one_oil text r s (inr (inl a)) (inr (inl b)) = one_least Oil (BreaksGrammar text) (of_grammar text) r s a b
+one_oil text r s (inr (inl a)) (inr (inl b)) = one_least Oil (HasGrammarFault text) (of_grammar text) r s a b
 one_oil text r s (inr (inl a)) (inr (inr b)) = absurd (not_both text b.tree r b.has_tree a.is_fault)
 one_oil text r s (inr (inr a)) (inl b) = absurd (a.has_tree.no_text_fault s b.is_fault)
 one_oil text r s (inr (inr a)) (inr (inl b)) = absurd (not_both text a.tree s a.has_tree b.is_fault)

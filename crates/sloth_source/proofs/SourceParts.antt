@@ -6,7 +6,7 @@ use Rattle.sloth_base.specs.declared.refusal.Refusal.{Refusal}
 use Rattle.sloth_base.specs.declared.refusal.Part.TheVariants.{Src}
 use Rattle.sloth_base.specs.declared.refusal.Code.{Code}
 use Rattle.asm_lines.specs.declared.source_line.SourceLine.{SourceLine}
-use Rattle.asm_lines.specs.Faults.{Case, LineFault, FaultAt, TextFault, source_lines}
+use Rattle.asm_lines.specs.Faults.{SourceCase, LineFault, FaultAt, TextFault, source_lines}
 use Rattle.asm_scopes.specs.declared.scope.Scope.{Scope}
 use Rattle.asm_scopes.specs.Bodies.{BodyText, bodies_of}
 use Rattle.asm_scopes.specs.Scopes.{scope_of}
@@ -17,7 +17,7 @@ use Rattle.code_rules.specs.WellFormed.CycleFault.{on_cycle}
 use Rattle.code_rules.specs.WellFormed.BodyFault.{at_header, at_label, at_item}
 use Rattle.sloth_source.proofs.Least.{of_some}
 
-of_case : (b : Bool) (line : ℕ) (c : Code) (r : Refusal) → Case b line c r → r.part ≡ Src
+of_case : (b : Bool) (line : ℕ) (c : Code) (r : Refusal) → SourceCase b line c r → r.part ≡ Src
 of_case b line c r h = ap (λ x. x.part) h.1
 
 of_line : (inside : Bool) (n : ℕ) (s : SourceLine) (r : Refusal) → LineFault inside n s r → r.part ≡ Src

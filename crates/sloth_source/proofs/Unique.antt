@@ -12,7 +12,7 @@ use Rattle.asm_items.specs.Apps.{app_of}
 use Rattle.sloth_source.specs.OilText.{OilText, OilRefusal}
 use Rattle.sloth_source.specs.SourceText.{HasApp, SourceText, SourceRefusal}
 use Rattle.sloth_source.specs.Texts.{AreAccepted, FirstRefusal}
-use Rattle.sloth_source.specs.Ranked.{HasRanks, EarlySourceRefusal}
+use Rattle.sloth_source.specs.RankedTexts.{HasRanks, EarlySourceRefusal}
 use Rattle.sloth_source.proofs.Readings.{one_configuration}
 
 -- a text says one task code

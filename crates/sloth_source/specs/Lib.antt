@@ -1,4 +1,4 @@
 pub mod OilText
 pub mod SourceText
 pub mod Texts
-pub mod Ranked
+pub mod RankedTexts

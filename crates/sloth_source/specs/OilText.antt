@@ -7,7 +7,7 @@ use Rattle.sloth_base.specs.declared.refusal.BuildError.TheVariants as error
 use Rattle.least_fault.specs.Order.{IsLeast, NoFault}
 use Rattle.oil_lex.specs.Tokens.{TextFault}
 use Rattle.oil_parse.specs.declared.tree.OilTree.{OilTree}
-use Rattle.oil_parse.specs.Text.{HasTree, BreaksGrammar}
+use Rattle.oil_parse.specs.Text.{HasTree, HasGrammarFault}
 use Rattle.oil_alarms.specs.ModelFaults.{ModelFault}
 use Rattle.oil_model.specs.Configs.{IsConfig}
 
@@ -27,7 +27,7 @@ pub record HasModelFault (text : List ℕ) (refusal : Refusal) : Type 0 where
 -- The text is refused so: for its tokens, or else its grammar, or else its meaning. A later one is judged only where the text
 -- has no fault of an earlier one.
 abbrev pub OilRefusal : List ℕ → Refusal → Type 0
-OilRefusal text refusal = IsLeast (TextFault text) refusal ⊎ (IsLeast (BreaksGrammar text) refusal ⊎ HasModelFault text refusal)
+OilRefusal text refusal = IsLeast (TextFault text) refusal ⊎ (IsLeast (HasGrammarFault text) refusal ⊎ HasModelFault text refusal)
 
 -- why no configuration was read: want of memory, or the refusal
 abbrev pub OilErrorIs : List ℕ → BuildError → Type 0

@@ -4,7 +4,7 @@ ghost use Rattle.sloth_base.specs.declared.config.Config.{Config};
 ghost use Rattle.sloth_base.specs.declared.app.App.{App};
 ghost use Rattle.sloth_base.specs.declared.refusal.Refusal.{Refusal};
 ghost use Rattle.sloth_source.specs.Texts.{AreAccepted, FirstRefusal};
-ghost use Rattle.sloth_source.specs.Ranked.{HasRanks, EarlyRefusal};
+ghost use Rattle.sloth_source.specs.RankedTexts.{HasRanks, EarlyRefusal};
 
 /// Texts have one meaning at most, and one refusal at most.
 pub fn one_meaning()

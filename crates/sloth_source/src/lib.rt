@@ -8,10 +8,10 @@
 
 mod configuration;
 mod laws;
-mod ranked;
+mod ranked_texts;
 mod reading;
 
 pub use configuration::read_config;
 pub use laws::{one_meaning, one_ranked, one_verdict};
-pub use ranked::{Ranked, read_ranked};
+pub use ranked_texts::{Ranked, read_ranked};
 pub use reading::{Source, read};

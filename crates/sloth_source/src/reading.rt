@@ -5,7 +5,7 @@ ghost use Rattle.stack_bounds.specs.Bounds.{AreBounds};
 ghost use Rattle.sloth_source.specs.SourceText.{BodiesAreNamed};
 ghost use Rattle.sloth_source.specs.Texts.{AreAccepted, ErrorIs};
 
-use crate::ranked::{Ranked, read_ranked};
+use crate::ranked_texts::{Ranked, read_ranked};
 use sloth_base::app::App;
 use sloth_base::config::Config;
 use sloth_base::places::Bounds;

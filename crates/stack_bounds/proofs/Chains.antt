@@ -6,7 +6,7 @@ use Rattle.sloth_base.specs.declared.app.App.{App}
 use Rattle.sloth_base.specs.declared.app.Op.{Op}
 use Rattle.sloth_base.specs.declared.app.Op.TheVariants as op
 use Rattle.sloth_base.specs.Named.{function, operation, body_of}
-use Rattle.code_rules.specs.Code.{Calls, IsCalledBy}
+use Rattle.code_rules.specs.Code.{HasCall, IsCalledBy}
 use Rattle.call_graph.specs.declared.ranking.Ranks.{Ranks}
 use Rattle.call_graph.specs.Ranks.{RanksOf}
 use Rattle.stack_bounds.specs.Bounds.{total, frame_bytes, call_bytes, CallsInTurn, IsGreatest}
@@ -43,7 +43,7 @@ module _ (app : App) where
 module _ (app : App) (callable : AreCallable app.funcs) where
   -- ---- to a depth
 
-  callee_known : (f g : ℕ) → Calls app f g → g < length app.funcs
+  callee_known : (f g : ℕ) → HasCall app f g → g < length app.funcs
   callee_known f g calls = subst (IsKnown app.funcs) calls.1.is (callable.callees f calls.0 calls.1.known calls.1.inside)
 
   chain_le : (depth f : ℕ) (chain : List ℕ) → length chain ≤ depth → CallsInTurn app f chain → total (call_bytes app) chain ≤ calls_to_depth app.funcs depth f
@@ -68,7 +68,7 @@ module _ (app : App) (callable : AreCallable app.funcs) where
       (λ some. ⊎_elim
       (λ zero_is. ([], tt, sym zero_is ∙ some.2))
       (λ call.
-      let calls : Calls app f call.0 = (some.0, record { known = known; inside = some.1; is = call.1 }) in
+      let calls : HasCall app f call.0 = (some.0, record { known = known; inside = some.1; is = call.1 }) in
       let rest = some_chain depth call.0 (callee_known f call.0 calls) in
       let same : size some.0 ≡ call_bytes app call.0 + further call.0 = ap (bytes_called app.funcs further) call.1 in
       (call.0 ∷ rest.0, (calls, rest.1), ap (λ (x : ℕ). call_bytes app call.0 + x) rest.2 ∙ sym same ∙ some.2))
@@ -107,7 +107,7 @@ module _ (app : App) (callable : AreCallable app.funcs) where
         (λ more. let a = lower_no g h more in omega (arith, a))
         (cases_lt (rank h) (rank g))
 
-    callee_lower : (f g : ℕ) → Calls app f g → lower g + 1 ≤ lower f
+    callee_lower : (f g : ℕ) → HasCall app f g → lower g + 1 ≤ lower f
     callee_lower f g calls =
         let above = belong.above f g calls in
         let none = lower_no g g (omega arith) in

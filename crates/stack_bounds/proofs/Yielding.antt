@@ -13,8 +13,8 @@ use Rattle.sloth_base.specs.declared.refusal.Code.TheVariants as code
 use Rattle.sloth_base.specs.Named.{declaration, function, operation, body_of, undeclared_task, no_function, no_item}
 use Rattle.code_rules.specs.AppRange.{IsOp, IsMask, mask_of}
 use Rattle.sloth_base.specs.ConfigRange.{no_event}
-use Rattle.code_rules.specs.Code.{IsItem, service_op, Pauses, Reaches, TaskReaches, ReachesPause}
-use Rattle.code_rules.specs.WellFormed.{WellFormed, HasEvents, UsesUndeclared, at_item, uses_undeclared}
+use Rattle.code_rules.specs.Code.{IsItem, service_op, IsPausing, Reaches, TaskReaches, ReachesPause}
+use Rattle.code_rules.specs.WellFormed.{WellFormed, HasEvents, IsUndeclaredUse, at_item, is_undeclared_use}
 use Rattle.call_graph.specs.declared.ranking.Ranks.{Ranks}
 use Rattle.call_graph.specs.Ranks.{RanksOf}
 use Rattle.stack_bounds.specs.Bounds.{IsBasic, ReachesSchedule, MayBePreempted}
@@ -43,16 +43,16 @@ module _ (config : Config) (app : App) (w : WellFormed config app) where
   never_waits : (t f i object mask : ℕ) → IsBasic config t → TaskReaches app t f → IsItem app f i (service_op service.WaitEvent object mask) → ⊥
   never_waits t f i object mask basic reaches item =
       let operands = subst (IsOp config app (function app f)) item.is ((w.in_range.bodies f no_function item.known).items i no_item item.inside) in
-      let wrong : UsesUndeclared config app f (operation app f i) =
-      subst (UsesUndeclared config app f) (sym item.is) (t, reaches, lacks_all t mask basic (some_mask mask operands.1)) in
-      w.no_fault _ (f, item.known, at_item i code.V12 item.inside (uses_undeclared wrong))
+      let wrong : IsUndeclaredUse config app f (operation app f i) =
+      subst (IsUndeclaredUse config app f) (sym item.is) (t, reaches, lacks_all t mask basic (some_mask mask operands.1)) in
+      w.no_fault _ (f, item.known, at_item i code.V12 item.inside (is_undeclared_use wrong))
 
   module _ (ranks : Ranks) (belong : RanksOf app ranks) where
     pauses_schedule : (t : ℕ) → IsBasic config t → ReachesPause app (body_of app.funcs t) → ReachesSchedule app t
     pauses_schedule t basic p =
         let reaches : TaskReaches app t p.0 = (body_of app.funcs t, has_body config app w.in_range t basic.0, p.5) in by p.2 p.6 p.7 reaches
       where
-        by : (s : Service) → IsItem app p.0 p.1 (service_op s p.3 p.4) → Pauses s → TaskReaches app t p.0 → ReachesSchedule app t
+        by : (s : Service) → IsItem app p.0 p.1 (service_op s p.3 p.4) → IsPausing s → TaskReaches app t p.0 → ReachesSchedule app t
         by s item (inl e) reaches = absurd (never_waits t p.0 p.1 p.3 p.4 basic reaches (subst (λ (x : Service). IsItem app p.0 p.1 (service_op x p.3 p.4)) e item))
         by s item (inr e) reaches = (p.0, p.1, p.3, p.4, reaches, subst (λ (x : Service). IsItem app p.0 p.1 (service_op x p.3 p.4)) e item)
 

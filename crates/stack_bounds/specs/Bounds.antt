@@ -5,7 +5,7 @@ use Rattle.sloth_base.specs.declared.app.App.{App}
 use Rattle.sloth_base.specs.declared.places.Bounds.{Bounds}
 use Rattle.sloth_base.specs.declared.service.Service.TheVariants as service
 use Rattle.sloth_base.specs.Named.{declaration, function, IsBodyOf}
-use Rattle.code_rules.specs.Code.{IsItem, service_op, Calls, IsCalledBy, TaskReaches}
+use Rattle.code_rules.specs.Code.{IsItem, service_op, HasCall, IsCalledBy, TaskReaches}
 
 -- a size summed over a list
 abbrev pub total : (ℕ → ℕ) → List ℕ → ℕ
@@ -34,7 +34,7 @@ call_bytes app f = 4 + frame_bytes app f
 -- a chain of calls: function f calls the first of these, and each of them calls the next
 abbrev pub CallsInTurn : App → ℕ → List ℕ → Type 0
 CallsInTurn app f [] = Unit {0}
-CallsInTurn app f (g ∷ chain) = Calls app f g × CallsInTurn app g chain
+CallsInTurn app f (g ∷ chain) = HasCall app f g × CallsInTurn app g chain
 
 -- the bytes in use where a body has called by this chain: its frame, the calls, and one context
 abbrev pub used_bytes : App → (body : ℕ) → (chain : List ℕ) → ℕ

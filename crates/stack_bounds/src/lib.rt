@@ -13,13 +13,13 @@ ghost use Rattle.stack_bounds.specs.Bounds.{AreBounds};
 
 mod bounding;
 mod calls;
-mod shared;
+mod shared_stack;
 mod stacking;
 pub mod task_bodies;
 mod tasks;
 
 use crate::calls::most_calls;
-use crate::shared::most_stacked;
+use crate::shared_stack::most_stacked;
 use crate::tasks::{bytes_of_tasks, yielding_tasks};
 pub use bounding::bounds_of;
 use call_graph::ranking::Ranks;

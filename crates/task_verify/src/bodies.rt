@@ -1,6 +1,6 @@
 //! V2 to V12 of task code, body by body.
 ghost use Rattle.std.specs.Prelude.{IfOk};
-ghost use Rattle.least_fault.specs.Search.{Finds};
+ghost use Rattle.least_fault.specs.Search.{IsSearchResult};
 ghost use Rattle.code_rules.specs.AppRange.{AppInRange};
 ghost use Rattle.code_rules.specs.WellFormed.{RuleFault};
 ghost use Rattle.call_graph.specs.Ranks.{RanksOf};
@@ -23,7 +23,7 @@ pub fn judge(
 ) -> Result<Option<Refusal>, NoMemory>
     requires in_range { AppInRange config.now app.now }
     requires belong { RanksOf app.now ranks.now }
-    ensures { IfOk result (Finds (RuleFault config.now app.now)) }
+    ensures { IfOk result (IsSearchResult (RuleFault config.now app.now)) }
 {
     let mut least = None;
     for (body, func) in app.funcs.items().iter().enumerate() {

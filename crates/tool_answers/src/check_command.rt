@@ -4,7 +4,7 @@ ghost use Rattle.sloth_base.specs.Limits.{file_limit};
 ghost use Rattle.tool_answers.specs.CheckAnswers.{IsCheckAnswer};
 
 use crate::answer::{ToolAnswer, TraceFault};
-use crate::told::told;
+use crate::text_answer::told;
 use sloth_base::memory::NoMemory;
 use std::alloc::Global;
 use trace_check::{TraceAnswer, Verdict, judge_trace};

@@ -7,7 +7,7 @@
 pub mod answer;
 pub mod check_command;
 pub mod status;
-pub mod told;
+pub mod text_answer;
 
 pub use answer::{Outcome, ToolAnswer, TraceFault};
 pub use status::Status;

@@ -12,11 +12,11 @@ use Rattle.image_file.proofs.Faulted.{fault_is_one, none_is_both}
 use Rattle.image_file.proofs.Images.{image-unique}
 use Rattle.trace_text.specs.ArrivalsText.{ArrivalsFault, arrivals_in}
 use Rattle.sloth_source.proofs.Least.{one_least}
-use Rattle.sloth_runner.specs.Sight.{IsSight}
-use Rattle.sloth_runner.specs.declared.sight.Sight.{Sight}
-use Rattle.sloth_runner.specs.declared.sight.Sight.TheVariants as sight
-use Rattle.sloth_runner.proofs.Sighted.{one_sight}
-use Rattle.tool_commands.specs.AtAnswers.{IsShown, IsRefused, IsAtAnswer, sight_answer}
+use Rattle.sloth_runner.specs.TaskStates.{AreStatesAt}
+use Rattle.sloth_runner.specs.declared.task_states.Sight.{Sight}
+use Rattle.sloth_runner.specs.declared.task_states.Sight.TheVariants as sight
+use Rattle.sloth_runner.proofs.RunStates.{one_sight}
+use Rattle.tool_commands.specs.AtAnswers.{IsStatesAnswer, IsRefused, IsAtAnswer, states_answer}
 use Rattle.tool_commands.specs.RunAnswers.{AreRunInputs}
 use Rattle.tool_answers.specs.declared.answer.ToolAnswer.{ToolAnswer}
 use Rattle.tool_answers.specs.declared.answer.ToolAnswer.TheVariants as answer
@@ -24,7 +24,7 @@ use Rattle.trace_check.proofs.Refused.{of-arrivals}
 
 -- what an answer of `at` is
 pub data AtView (img arr : List ℕ) (k : ℕ) (a : ToolAnswer) : Type 0 where
-  shows : IsShown img arr k a → AtView img arr k a
+  shows : IsStatesAnswer img arr k a → AtView img arr k a
   faults : (fault : ImageFault) → a ≡ answer.NotAnImage fault → IsFirstImageFault fault img → AtView img arr k a
   refuses : (refusal : Refusal) → a ≡ answer.Refused refusal → IsRefused img arr refusal → AtView img arr k a
 
@@ -37,14 +37,14 @@ at-view img arr k (answer.NotAnElf fault) h = absurd h
 at-view img arr k (answer.BadTrace fault) h = absurd h
 at-view img arr k answer.NoHolds h = absurd h
 
-one-shown : (img arr : List ℕ) (k : ℕ) (a b : ToolAnswer) → IsShown img arr k a → IsShown img arr k b → a ≡ b
+one-shown : (img arr : List ℕ) (k : ℕ) (a b : ToolAnswer) → IsStatesAnswer img arr k a → IsStatesAnswer img arr k b → a ≡ b
 one-shown img arr k a b h i =
     let image : h.image ≡ i.image = image-unique h.image i.image img h.is_image i.is_image in
     let arrivals : h.arrivals ≡ i.arrivals = h.arrivals_are ∙ ap (λ (x : Image). arrivals_in x.tasks x.counters arr) image ∙ sym i.arrivals_are in
-    let S : Image → Type 0 = λ x. IsSight x h.arrivals k h.sight in
-    let T : List Arrival → Type 0 = λ xs. IsSight i.image xs k h.sight in
+    let S : Image → Type 0 = λ x. AreStatesAt x h.arrivals k h.sight in
+    let T : List Arrival → Type 0 = λ xs. AreStatesAt i.image xs k h.sight in
     let sight : h.sight ≡ i.sight = one_sight i.image i.arrivals k h.sight i.sight (subst T arrivals (subst S image h.seen)) i.seen in
-    h.answer_is ∙ ap (λ (x : Image). sight_answer x h.sight) image ∙ ap (sight_answer i.image) sight ∙ sym i.answer_is
+    h.answer_is ∙ ap (λ (x : Image). states_answer x h.sight) image ∙ ap (states_answer i.image) sight ∙ sym i.answer_is
 
 pub one-refused : (img arr : List ℕ) (r s : Refusal) → IsRefused img arr r → IsRefused img arr s → r ≡ s
 one-refused img arr r s h i =
@@ -52,7 +52,7 @@ one-refused img arr r s h i =
     let L : Image → Type 0 = λ x. IsLeast (ArrivalsFault x.tasks x.counters arr) r in
     one_least Arr (ArrivalsFault i.0.tasks i.0.counters arr) (of-arrivals i.0.tasks i.0.counters arr) r s (subst L image h.2) i.2
 
-shown-not-refused : (img arr : List ℕ) (k : ℕ) (a : ToolAnswer) (r : Refusal) → IsShown img arr k a → IsRefused img arr r → ⊥
+shown-not-refused : (img arr : List ℕ) (k : ℕ) (a : ToolAnswer) (r : Refusal) → IsStatesAnswer img arr k a → IsRefused img arr r → ⊥
 shown-not-refused img arr k a r h i =
     let image : h.image ≡ i.0 = image-unique h.image i.0 img h.is_image i.1 in
     let N : Image → Type 0 = λ x. NoFault (ArrivalsFault x.tasks x.counters arr) in
@@ -84,10 +84,10 @@ at-image img arr k a h = by (at-view img arr k a h)
 
 -- what a run shows of its tasks is the answer
 pub sight_is_answer : (img arr : List ℕ) (k : ℕ) (image : Image) (arrivals : List Arrival) (s : Sight) (a : ToolAnswer) → AreRunInputs img arr image arrivals
-    → IsSight image arrivals k s → a ≡ sight_answer image s → IsAtAnswer img arr k a
+    → AreStatesAt image arrivals k s → a ≡ states_answer image s → IsAtAnswer img arr k a
 sight_is_answer img arr k image arrivals s a is seen at = subst (λ x. IsAtAnswer img arr k x) (sym at) (by s seen)
   where
-    by : (x : Sight) → IsSight image arrivals k x → IsAtAnswer img arr k (sight_answer image x)
+    by : (x : Sight) → AreStatesAt image arrivals k x → IsAtAnswer img arr k (states_answer image x)
     by (sight.At y) h =
         record { image = image; arrivals = arrivals; sight = sight.At y; is_image = is.is_image; no_fault = is.no_fault; arrivals_are = is.arrivals_are; seen = h; answer_is = refl }
     by sight.Booting h =

@@ -1,7 +1,7 @@
 -- Texts have one answer of `infer`.
 use Rattle.std.proofs.Common.{◌≡◌, ◌∙◌, ℕ, List, refl, sym, ap, ◌⊎◌, inl, inr}
 use Rattle.sloth_base.specs.declared.refusal.Refusal.{Refusal}
-use Rattle.sloth_source.specs.Ranked.{EarlyRefusal}
+use Rattle.sloth_source.specs.RankedTexts.{EarlyRefusal}
 use Rattle.sloth_source.proofs.RankedTexts.{one_early}
 use Rattle.holds_infer.specs.FilledSource.{IsFilledSource, HasNoLists}
 use Rattle.holds_infer.proofs.OneSource.{one_filled_source, filled_or_none, filled_or_refused, none_or_refused}

@@ -3,7 +3,7 @@ use Rattle.std.proofs.Common.{◌≡◌, ◌+◌, ℕ, List, [], ◌++◌, refl,
 use Rattle.std.proofs.Math.Numerals.{add-one}
 use Rattle.sloth_base.specs.declared.image.Image.{Image}
 use Rattle.osek_scheduler.specs.declared.state.TaskState.{TaskState}
-use Rattle.tool_commands.specs.SightText.{task_line, task_lines}
+use Rattle.tool_commands.specs.StatesText.{task_line, task_lines}
 
 pub no-lines : (image : Image) (states : List TaskState) → task_lines image states 0 ≡ []
 unfolding task_lines

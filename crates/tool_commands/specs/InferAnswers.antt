@@ -1,6 +1,6 @@
 -- The answers of `infer`.
 use Rattle.std.specs.Prelude.{ℕ, ◌≡◌, List, length}
-use Rattle.sloth_source.specs.Ranked.{EarlyRefusal}
+use Rattle.sloth_source.specs.RankedTexts.{EarlyRefusal}
 use Rattle.holds_infer.specs.FilledSource.{IsFilledSource, HasNoLists}
 use Rattle.tool_commands.specs.Lines.{written_line}
 use Rattle.tool_answers.specs.declared.answer.ToolAnswer.{ToolAnswer}

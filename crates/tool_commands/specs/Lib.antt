@@ -9,4 +9,4 @@ pub mod PictureAnswers
 pub mod RunAnswers
 pub mod SourceAnswers
 pub mod WaveAnswers
-pub mod SightText
+pub mod StatesText

@@ -4,28 +4,28 @@ ghost use Rattle.sloth_base.specs.ImageRange.{InFormat};
 ghost use Rattle.sloth_base.specs.Arrivals.{AreArrivals};
 ghost use Rattle.sloth_base.specs.Owners.{owners_named};
 ghost use Rattle.sloth_base.specs.Limits.{file_limit};
-ghost use Rattle.sloth_runner.specs.Sight.{IsSight};
-ghost use Rattle.tool_commands.specs.AtAnswers.{IsAtAnswer, sight_answer};
+ghost use Rattle.sloth_runner.specs.TaskStates.{AreStatesAt};
+ghost use Rattle.tool_commands.specs.AtAnswers.{IsAtAnswer, states_answer};
 ghost use Rattle.tool_commands.specs.RunAnswers.{AreRunInputs};
 
-use crate::at_lines::seen_text;
+use crate::at_lines::states_text;
 use crate::run_inputs::{RunInputs, Unread, read_run};
 use sloth_base::event::Arrival;
 use sloth_base::image::Image;
 use sloth_base::list::List;
 use sloth_base::memory::NoMemory;
 use sloth_runner::runner::Runner;
-use sloth_runner::sight::Sight;
+use sloth_runner::task_states::Sight;
 use std::alloc::Global;
 use tool_answers::answer::{Outcome, ToolAnswer};
 
 // The answer to what a run of an image shows of its tasks.
-fn sight_answer(alloc: Global, image: &Image, sight: &Sight) -> Result<ToolAnswer, NoMemory>
+fn states_answer(alloc: Global, image: &Image, sight: &Sight) -> Result<ToolAnswer, NoMemory>
     requires { InFormat image.now }
-    ensures { IfOk result (λ answer. answer ≡ sight_answer image.now sight.now) }
+    ensures { IfOk result (λ answer. answer ≡ states_answer image.now sight.now) }
 {
     let text = match sight {
-        Sight::At(seen) => seen_text(alloc, image, seen)?,
+        Sight::At(seen) => states_text(alloc, image, seen)?,
         Sight::Booting => Vec::from_slice(alloc, b"booting\n")?,
         Sight::Stopped { pc, stop } => {
             return Ok(ToolAnswer::Stopped {
@@ -45,7 +45,7 @@ fn sight_of(alloc: Global, image: &Image, arrivals: &[Arrival], k: u32) -> Resul
     requires format { InFormat image.now }
     requires arrivals { AreArrivals (owners_named image.now) arrivals.now }
     requires k { k ≤ 999999 }
-    ensures { IfOk result (IsSight image.now arrivals.now k) }
+    ensures { IfOk result (AreStatesAt image.now arrivals.now k) }
 {
     let mut runner = Runner::new(alloc, image, arrivals)?;
     Ok(runner.state_at(k))
@@ -53,14 +53,14 @@ fn sight_of(alloc: Global, image: &Image, arrivals: &[Arrival], k: u32) -> Resul
 
 // The answer to an image and arrivals that were read.
 #[tactic(auto, using(crate::proofs::AtAnswers::sight_is_answer))]
-fn seen_of(alloc: Global, run: &RunInputs, k: u32) -> Result<ToolAnswer, NoMemory>
+fn states_of(alloc: Global, run: &RunInputs, k: u32) -> Result<ToolAnswer, NoMemory>
     requires format { InFormat run.now.image }
     requires arrivals { AreArrivals (owners_named run.now.image) run.now.arrivals.items }
     requires k { k ≤ 999999 }
     ensures { (img arr : Sequence ℕ) → AreRunInputs img arr run.now.image run.now.arrivals.items → IfOk result (λ answer. IsAtAnswer img arr k answer) }
 {
     let sight = sight_of(alloc, &run.image, run.arrivals.as_slice(), k)?;
-    let answer = sight_answer(alloc, &run.image, &sight)?;
+    let answer = states_answer(alloc, &run.image, &sight)?;
     Ok(answer)
 }
 
@@ -71,7 +71,7 @@ pub fn at(alloc: Global, img: &[u8], arr: &[u8], k: u32) -> Result<ToolAnswer, N
     ensures { IfOk result (λ answer. IsAtAnswer img.now arr.now k answer) }
 {
     match read_run(alloc, img, arr) {
-        Ok(run) => seen_of(alloc, &run, k),
+        Ok(run) => states_of(alloc, &run, k),
         Err(Unread::NotAnImage(fault)) => Ok(ToolAnswer::NotAnImage(fault)),
         Err(Unread::Refused(refusal)) => Ok(ToolAnswer::Refused(refusal)),
         Err(Unread::NoMemory) => Err(NoMemory),

@@ -1,13 +1,13 @@
 //! What is printed of the tasks' states at a count of a run.
 ghost use Rattle.std.specs.Prelude.{◌≡◌, ◌<◌, ◌+◌, ◌≤◌, ◌++◌, IfOk, length};
 ghost use Rattle.sloth_base.specs.ImageRange.{InFormat};
-ghost use Rattle.tool_commands.specs.SightText.{state_text, task_line, count_line, seen_text};
+ghost use Rattle.tool_commands.specs.StatesText.{state_text, task_line, count_line, states_text};
 
 use osek_scheduler::state::TaskState;
 use sloth_base::image::Image;
 use sloth_base::limits::TASK_LIMIT;
 use sloth_base::memory::NoMemory;
-use sloth_runner::sight::Seen;
+use sloth_runner::task_states::Seen;
 use std::alloc::Global;
 use trace_text::line_text::LineText;
 
@@ -29,7 +29,7 @@ fn push_state(line: &mut LineText, state: TaskState)
 }
 
 // The line of a task.
-#[tactic(auto, unfolding(crate::specs::SightText::task_line))]
+#[tactic(auto, unfolding(crate::specs::StatesText::task_line))]
 fn task_line(image: &Image, states: &[TaskState; TASK_LIMIT], task: usize) -> LineText
     requires format { InFormat image.now }
     requires there { task < length image.now.tasks }
@@ -44,7 +44,7 @@ fn task_line(image: &Image, states: &[TaskState; TASK_LIMIT], task: usize) -> Li
 }
 
 // The line of a count.
-#[tactic(auto, unfolding(crate::specs::SightText::count_line))]
+#[tactic(auto, unfolding(crate::specs::StatesText::count_line))]
 fn count_line(count: u32) -> LineText
     ensures { result ≡ count_line count }
 {
@@ -56,9 +56,9 @@ fn count_line(count: u32) -> LineText
 }
 
 /// What is printed of the tasks' states at a count of a run: the count, and a line for each task of the image.
-pub fn seen_text(alloc: Global, image: &Image, seen: &Seen) -> Result<Vec<u8>, NoMemory>
+pub fn states_text(alloc: Global, image: &Image, seen: &Seen) -> Result<Vec<u8>, NoMemory>
     requires { InFormat image.now }
-    ensures { IfOk result (λ text. text.items ≡ seen_text image.now seen.now) }
+    ensures { IfOk result (λ text. text.items ≡ states_text image.now seen.now) }
 {
     let mut text = Vec::from_slice(alloc, count_line(seen.count).bytes())?;
     for task in 0..image.tasks.items().len() {

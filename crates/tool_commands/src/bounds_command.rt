@@ -9,7 +9,7 @@ use sloth_base::memory::NoMemory;
 use sloth_base::refusal::BuildError;
 use std::alloc::Global;
 use tool_answers::answer::ToolAnswer;
-use tool_answers::told::told;
+use tool_answers::text_answer::told;
 
 /// How much work of lower tasks may stand between each task's becoming Ready and its entry; or the first refusal.
 pub fn bounds(alloc: Global, oil: &[u8], src: &[u8]) -> Result<ToolAnswer, NoMemory>

@@ -4,7 +4,7 @@
 //! The files have exactly the answer that one table of all such commands says, and have one at most (`judge`, `one_answer`). The table:
 //! `specs/Answers`, with a row for each in `specs/ElfAnswers`, `specs/InferAnswers`, `specs/AtAnswers`, `specs/BoundsAnswers`, `specs/MapAnswers`,
 //! `specs/WaveAnswers`, `specs/PictureAnswers`; what two of them share: `specs/SourceAnswers` (`bounds` and `map`), `specs/RunAnswers` (`wave` and
-//! `picture`); `specs/Lines`. The lines of task states: `specs/SightText`. Words: `command_line` (`Tools`); the answer of `check`: `tool_answers`
+//! `picture`); `specs/Lines`. The lines of task states: `specs/StatesText`. Words: `command_line` (`Tools`); the answer of `check`: `tool_answers`
 //! (`CheckAnswers`).
 #![tactic(auto)]
 

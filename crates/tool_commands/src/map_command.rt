@@ -8,7 +8,7 @@ use sloth_base::memory::NoMemory;
 use sloth_base::refusal::BuildError;
 use std::alloc::Global;
 use tool_answers::answer::ToolAnswer;
-use tool_answers::told::told;
+use tool_answers::text_answer::told;
 
 /// What the image of these texts takes of memory, and what its tasks need of the stacks; or the first refusal.
 pub fn map(alloc: Global, oil: &[u8], src: &[u8]) -> Result<ToolAnswer, NoMemory>

@@ -4,7 +4,7 @@ ghost use Rattle.sloth_base.specs.ConfigRange.{InRange};
 ghost use Rattle.sloth_base.specs.Named.{function, item_of};
 ghost use Rattle.code_rules.specs.AppRange.{IsTaskCode};
 ghost use Rattle.rv32_expand.specs.InPlace.{IsItem};
-ghost use Rattle.rv32_expand.specs.Sizes.{AgreeWithSizes, Covers, IsVerified};
+ghost use Rattle.rv32_expand.specs.Sizes.{AgreeWithSizes, HasWordAddresses, IsVerified};
 ghost use Rattle.sloth_link.specs.Image.{MayLink};
 ghost use Rattle.image_gen.specs.Gathered.{MayBuild, MayGenerate};
 
@@ -43,7 +43,7 @@ fn list_item(
     requires verified { IsVerified app.now }
     requires is_item { IsItem app.now 0 index }
     requires is { item.now ≡ item_of (function app.now 0) index }
-    requires covers { Covers app.now places.now }
+    requires covers { HasWordAddresses app.now places.now }
     requires agree { AgreeWithSizes app.now places.now }
 {
     let code = rv32_expand::expand(item, 0, index, app, places);
@@ -61,7 +61,7 @@ fn first_items(app: &App) -> &[Item]
 fn list_first_item(rt: &impl Print, app: &App, places: &Places) -> anyhow::Result<()>
     requires in_range { IsTaskCode app.now }
     requires verified { IsVerified app.now }
-    requires covers { Covers app.now places.now }
+    requires covers { HasWordAddresses app.now places.now }
     requires agree { AgreeWithSizes app.now places.now }
 {
     if app.funcs.items().len() == 0 {

@@ -10,8 +10,8 @@ use Rattle.sloth_base.specs.declared.event.Arrival.{Arrival}
 use Rattle.sloth_base.specs.declared.event.Stamped.{Stamped}
 use Rattle.osek_scheduler.specs.Runs.{OsekRun}
 use Rattle.osek_scheduler.specs.InTime.{InTime}
-use Rattle.walked_events.specs.TraceText.{Shows, IsFirstBad}
-use Rattle.walked_events.specs.Walk.{StraysAt}
+use Rattle.walked_events.specs.TraceText.{IsEventText, IsFirstBad}
+use Rattle.walked_events.specs.Walk.{HasStrayAt}
 use Rattle.sloth_base.specs.DeclaredNames.{task_names, counter_names, function_names}
 use Rattle.trace_check.specs.Verdicts.{Checked, IsFirstStray, IsLate}
 use Rattle.trace_check.specs.Answer.{IsVerdict}
@@ -29,19 +29,19 @@ take_front (suc j) (suc m) (e ∷ events) le = ap (λ (l : List Stamped). e ∷ 
 -- ---- the line of the first event that strays
 
 module _ (config : Config) (app : App) (events : List Stamped) where
-  strays_no_run : (k : ℕ) → StraysAt config app events k → OsekRun config app events → ⊥
+  strays_no_run : (k : ℕ) → HasStrayAt config app events k → OsekRun config app events → ⊥
   strays_no_run k h run =
       let P : List Stamped → Type 0 = λ l. OsekRun config app l in
       h.stray (run_front config app (take k events) (drop k events) (subst P (sym (take-append-drop k events)) run))
 
-  strays_first : (j k : ℕ) → StraysAt config app events j → StraysAt config app events k → j < k → ⊥
+  strays_first : (j k : ℕ) → HasStrayAt config app events j → HasStrayAt config app events k → j < k → ⊥
   strays_first j k a b less =
       let P : List Stamped → Type 0 = λ l. OsekRun config app l in
       let front = take (k - 1) events in
       let cut = take_front j (k - 1) events (omega (arith, less)) in
       a.stray (subst P cut (run_front config app (take j front) (drop j front) (subst P (sym (take-append-drop j front)) b.before)))
 
-  one_stray : (j k : ℕ) → StraysAt config app events j → StraysAt config app events k → j ≡ k
+  one_stray : (j k : ℕ) → HasStrayAt config app events j → HasStrayAt config app events k → j ≡ k
   one_stray j k a b = by (cases_order j k)
     where
       by : (j ≡ k) ⊎ ((j < k) ⊎ (k < j)) → j ≡ k
@@ -54,7 +54,7 @@ module _ (config : Config) (app : App) (events : List Stamped) where
 module _ (config : Config) (app : App) (arrivals : List Arrival) (text : List ℕ) (n : ℕ) (tasks : AreNames (task_names config)) (funcs : AreNames (function_names app)) (counters : AreNames (counter_names config))
     (apart : AreApart (counter_names config) (task_names config)) where
   abbrev ShowsThese : List Stamped → Type 0
-  ShowsThese events = Shows (task_names config) (function_names app) (counter_names config) events text
+  ShowsThese events = IsEventText (task_names config) (function_names app) (counter_names config) events text
 
   one_list : (events others : List Stamped) → ShowsThese events → ShowsThese others → events ≡ others
   one_list events others h k = shows_one (task_names config) (function_names app) (counter_names config) tasks funcs counters apart text events others h k
@@ -74,7 +74,7 @@ module _ (config : Config) (app : App) (arrivals : List Arrival) (text : List �
 
   one_step : (j k : ℕ) → IsFirstStray config app text j → IsFirstStray config app text k → j ≡ k
   one_step j k a b =
-      let P : List Stamped → Type 0 = λ l. StraysAt config app l j in
+      let P : List Stamped → Type 0 = λ l. HasStrayAt config app l j in
       one_stray config app b.events j k (subst P (one_list a.events b.events a.shows b.shows) a.strays) b.strays
 
   abbrev Says : Verdict → Type 0

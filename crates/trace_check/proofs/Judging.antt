@@ -20,11 +20,11 @@ use Rattle.sloth_base.proofs.Owners.{IsCounterLine, owned_cases}
 use Rattle.osek_scheduler.specs.InTime.{InTime}
 use Rattle.line_words.specs.EventNumbers.{HasNumbers}
 use Rattle.trace_time.specs.Counts.{AreSmall, IsSmall}
-use Rattle.walked_events.specs.TraceText.{BeginsWithNone, HasLine, IsFirstBad, Shows}
+use Rattle.walked_events.specs.TraceText.{HasNoFirstLine, HasLine, IsFirstBad, IsEventText}
 use Rattle.sloth_base.specs.DeclaredNames.{AreNamesOf, task_names, counter_names, function_names}
 use Rattle.sloth_base.specs.declared.declared_names.DeclaredNames.{DeclaredNames}
 use Rattle.walked_events.proofs.ReadEvents.{HasRead}
-use Rattle.walked_events.specs.Walk.{StraysAt, IsWalked, WalksOrStrays, Walk}
+use Rattle.walked_events.specs.Walk.{HasStrayAt, IsWalked, IsWalkOrStray, Walk}
 use Rattle.walked_events.proofs.TraceText.{reads_all}
 
 -- the admissions of events that have lines are of numbers of 32 bits
@@ -58,16 +58,16 @@ module _ (config : Config) (app : App) (names : DeclaredNames) (named : AreNames
       (subst (λ (fs : List (List ℕ)). P names.tasks fs (counter_names config)) named.funcs
       (subst (λ (cs : List (List ℕ)). P names.tasks names.funcs cs) named.counters reads))
 
-  none_begins : (rest : List ℕ) → BeginsWithNone names.tasks names.funcs names.counters rest → BeginsWithNone (task_names config) (function_names app) (counter_names config) rest
+  none_begins : (rest : List ℕ) → HasNoFirstLine names.tasks names.funcs names.counters rest → HasNoFirstLine (task_names config) (function_names app) (counter_names config) rest
   none_begins rest none =
-      let P : List (List ℕ) → List (List ℕ) → List (List ℕ) → Type 0 = λ ts fs cs. BeginsWithNone ts fs cs rest in
+      let P : List (List ℕ) → List (List ℕ) → List (List ℕ) → Type 0 = λ ts fs cs. HasNoFirstLine ts fs cs rest in
       subst (λ (ts : List (List ℕ)). P ts (function_names app) (counter_names config)) named.tasks
       (subst (λ (fs : List (List ℕ)). P names.tasks fs (counter_names config)) named.funcs
       (subst (λ (cs : List (List ℕ)). P names.tasks names.funcs cs) named.counters none))
 
   -- the line behind those that were read is no event's
   pub bad_line : (text rest : List ℕ) (events : List Stamped) → HasRead names.tasks names.funcs names.counters text events rest → (length rest == 0) ≡ false
-      → BeginsWithNone names.tasks names.funcs names.counters rest → (k : ℕ) → k ≡ length events + 1
+      → HasNoFirstLine names.tasks names.funcs names.counters rest → (k : ℕ) → k ≡ length events + 1
       → IsFirstBad (task_names config) (function_names app) (counter_names config) text k
   bad_line text rest events reads left none k is =
       let read = all_read text rest events reads in
@@ -89,12 +89,12 @@ pub line_words : (config : Config) (arrivals : List Arrival) → InRange config 
     → All (λ a. a.line < 4294967296) arrivals
 line_words config arrivals range are k d l = line_word config range (get_or arrivals k d).line (are.lines_owned k d l)
 
-module _ (config : Config) (app : App) (events : List Stamped) (stray : Option ℕ) (walk : Walk) (h : WalksOrStrays config app events stray walk) where
-  pub stray_at : (k : ℕ) → stray ≡ Some k → StraysAt config app events k
-  stray_at k is = let P : Option ℕ → Type 0 = λ o. WalksOrStrays config app events o walk in subst P is h
+module _ (config : Config) (app : App) (events : List Stamped) (stray : Option ℕ) (walk : Walk) (h : IsWalkOrStray config app events stray walk) where
+  pub stray_at : (k : ℕ) → stray ≡ Some k → HasStrayAt config app events k
+  stray_at k is = let P : Option ℕ → Type 0 = λ o. IsWalkOrStray config app events o walk in subst P is h
 
   pub none_strays : stray ≡ None → IsWalked config app events walk
-  none_strays is = let P : Option ℕ → Type 0 = λ o. WalksOrStrays config app events o walk in subst P is h
+  none_strays is = let P : Option ℕ → Type 0 = λ o. IsWalkOrStray config app events o walk in subst P is h
 
 empty : (text : List ℕ) → length text ≡ 0 → text ≡ []
 empty [] h = refl
@@ -102,7 +102,7 @@ empty (x ∷ text) h = absurd (omega (arith, h))
 
 -- all of the text was read
 pub shows_all : (tasks functions counters : List (List ℕ)) (text rest : List ℕ) (events : List Stamped) → HasRead tasks functions counters text events rest
-    → (length rest == 0) ≡ true → Shows tasks functions counters events text
+    → (length rest == 0) ≡ true → IsEventText tasks functions counters events text
 shows_all tasks functions counters text rest events reads none =
     reads_all tasks functions counters text events rest reads (empty rest (eqb-true (length rest) 0 none))
 

@@ -1,12 +1,12 @@
 //! The verdict on a text.
 ghost use Rattle.std.specs.Prelude.{◌≡◌, ◌<◌, ◌↔◌, IfOk, IfSome, IfNone, All, length};
-ghost use Rattle.sloth_base.specs.Arrivals.{AreArrivals, NeverFalls};
+ghost use Rattle.sloth_base.specs.Arrivals.{AreArrivals, AreRisingMoments};
 ghost use Rattle.sloth_base.specs.ImageRange.{AreApart, AreNames};
 ghost use Rattle.sloth_base.specs.Owners.{owners_in};
 ghost use Rattle.sloth_base.specs.declared.app.App.{App as AnyApp};
 ghost use Rattle.sloth_base.specs.declared.config.Config.{Config as AnyConfig};
 ghost use Rattle.code_rules.specs.WellFormed.{WellFormed};
-ghost use Rattle.walked_events.specs.TraceText.{Begins, BeginsWithNone};
+ghost use Rattle.walked_events.specs.TraceText.{HasFirstLine, HasNoFirstLine};
 ghost use Rattle.trace_check.specs.Verdicts.{Checked};
 ghost use Rattle.trace_check.specs.Answer.{IsVerdict};
 ghost use Rattle.trace_check.specs.Begun.{IsBegun};
@@ -41,8 +41,8 @@ fn next_event(names: &DeclaredNames, text: &[u8]) -> Option<Stamped>
     requires funcs { AreNames names.now.funcs }
     requires counters { AreNames names.now.counters }
     requires apart { AreApart names.now.counters names.now.tasks }
-    ensures some { IfSome result (λ e. Begins names.now.tasks names.now.funcs names.now.counters text.now e) }
-    ensures none { IfNone result (BeginsWithNone names.now.tasks names.now.funcs names.now.counters text.now) }
+    ensures some { IfSome result (λ e. HasFirstLine names.now.tasks names.now.funcs names.now.counters text.now e) }
+    ensures none { IfNone result (HasNoFirstLine names.now.tasks names.now.funcs names.now.counters text.now) }
 {
     first_event(
         text,
@@ -64,7 +64,7 @@ fn judge_lines(
     requires funcs { AreNames names.now.funcs }
     requires counters { AreNames names.now.counters }
     requires apart { AreApart names.now.counters names.now.tasks }
-    requires rising { NeverFalls 1 timing.old.arrivals }
+    requires rising { AreRisingMoments 1 timing.old.arrivals }
     requires lines { All (λ a. a.line < 4294967296) timing.old.arrivals }
     requires short { length text.now < 4294967295 }
     ensures { IfOk result (λ v. (config : AnyConfig) (app : AnyApp) → IsBegun config app names.now walk.old timing.old

@@ -8,7 +8,7 @@ use Rattle.std.proofs.lemmas.List.{length-take}
 use Rattle.std.proofs.lemmas.List.Elements.{All-nil, All-cons, All-append, All-head, All-tail}
 use Rattle.std.proofs.lemmas.List.Quantifiers.{position-Some}
 use Rattle.std.proofs.Math.Nat.{min-le_left, min-le_right}
-use Rattle.sloth_base.specs.Arrivals.{AreArrivals, NeverFalls}
+use Rattle.sloth_base.specs.Arrivals.{AreArrivals, AreRisingMoments}
 use Rattle.sloth_base.specs.declared.event.Arrival.{Arrival}
 use Rattle.sloth_base.specs.declared.refusal.Part.TheVariants.{Arr}
 use Rattle.sloth_base.specs.declared.refusal.Code.TheVariants.{T2, T3, T4}
@@ -75,7 +75,7 @@ pub some-is : (o : Option ℕ) (P : ℕ → Type 0) → ((i : ℕ) → o ≡ Som
 some-is None P f = tt
 some-is (Some i) P f = f i refl
 
-falls : (b : ℕ) (xs : List Arrival) (a : Arrival) → NeverFalls b xs → last_moment b xs ≤ a.at → NeverFalls b (xs ++ a ∷ [])
+falls : (b : ℕ) (xs : List Arrival) (a : Arrival) → AreRisingMoments b xs → last_moment b xs ≤ a.at → AreRisingMoments b (xs ++ a ∷ [])
 falls b [] a n l = (l, tt)
 falls b (x ∷ xs) a n l = (n.0, falls x.at xs a n.1 l)
 

@@ -3,12 +3,12 @@ ghost use Rattle.std.specs.Prelude.{◌≡◌, ◌<◌, ◌≤◌, take, positio
 ghost use Rattle.std.specs.List.{list_all};
 ghost use Rattle.std.specs.Char.{is_ascii_digit};
 ghost use Rattle.sloth_base.specs.Limits.{count_limit};
-ghost use Rattle.least_fault.specs.Search.{Finds};
+ghost use Rattle.least_fault.specs.Search.{IsSearchResult};
 ghost use Rattle.text_pieces.specs.Digits.{capped_value};
 ghost use Rattle.trace_text.specs.ArrivalsText.{is_comment, are_digits, is_arrival, moment_of, named_among, named_line, arrival_of};
 ghost use Rattle.trace_text.specs.ArrivalsText.{last_moment, is_outside, is_t1, is_t2, is_t3, is_t4, LineFault};
 
-use least_fault::{merge, when};
+use least_fault::{fault_if, merge};
 use sloth_base::event::Arrival;
 use sloth_base::limits::{ARRIVAL_LIMIT, COUNT_LIMIT, TASK_LIMIT};
 use sloth_base::lines::FIRST_COUNTER_LINE;
@@ -165,11 +165,11 @@ pub fn line_fault(
     line: &[u8],
 ) -> Option<Refusal>
     requires { last_moment 0 before.now ≤ count_limit }
-    ensures { Finds (LineFault tasks.now counters.now before.now number line.now) result }
+    ensures { IsSearchResult (LineFault tasks.now counters.now before.now number line.now) result }
 {
-    let t1 = when(is_t1(line), Part::Arr, number, Code::T1);
-    let t2 = when(is_t2(tasks, counters, line), Part::Arr, number, Code::T2);
-    let t3 = when(is_t3(before, line), Part::Arr, number, Code::T3);
-    let t4 = when(is_t4(before, line), Part::Arr, number, Code::T4);
+    let t1 = fault_if(is_t1(line), Part::Arr, number, Code::T1);
+    let t2 = fault_if(is_t2(tasks, counters, line), Part::Arr, number, Code::T2);
+    let t3 = fault_if(is_t3(before, line), Part::Arr, number, Code::T3);
+    let t4 = fault_if(is_t4(before, line), Part::Arr, number, Code::T4);
     merge(t1, merge(t2, merge(t3, t4)))
 }

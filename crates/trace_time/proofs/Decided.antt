@@ -7,14 +7,14 @@ use Rattle.std.specs.List.Sorted.{IsPermutation, IsSorted}
 use Rattle.std.proofs.lemmas.Bool.{false≢true, true≢false, ltb-false}
 use Rattle.std.proofs.lemmas.List.{take-append-drop}
 use Rattle.std.proofs.lemmas.List.Sorted.{IsNonDecreasingBy-from_sort}
-use Rattle.sloth_base.specs.Arrivals.{NeverFalls}
+use Rattle.sloth_base.specs.Arrivals.{AreRisingMoments}
 use Rattle.sloth_base.specs.declared.config.Config.{Config}
 use Rattle.sloth_base.specs.declared.event.Arrival.{Arrival}
 use Rattle.sloth_base.specs.declared.event.Stamped.{Stamped}
 use Rattle.sloth_base.specs.Events.{admitted_line}
-use Rattle.osek_scheduler.specs.InTime.{InTime, AdmitsAll, LeavesOut, others, longest_cut_off_stretch}
+use Rattle.osek_scheduler.specs.InTime.{InTime, AreAllAdmitted, AreLeftOut, others, longest_cut_off_stretch}
 use Rattle.trace_time.specs.Scan.{Scan, scan_start, scan_after_events}
-use Rattle.trace_time.proofs.ScanOrder.{MayFollow, FollowsScan}
+use Rattle.trace_time.proofs.ScanOrder.{MayFollow, IsBehindScan}
 use Rattle.trace_time.specs.Counts.{AreSmall, SameCounts, admit_numbers, arrival_number, may_leave, last_moment, times}
 use Rattle.trace_time.proofs.Endings.{Ending}
 use Rattle.trace_time.specs.Timed.{KeptPass, is_late, NeverInTime, TimedBy}
@@ -38,7 +38,7 @@ decides_counts admits arrivals xs ys p q sorted others b decides = (
 starting : (arrivals : List Arrival) (events : List Stamped) → All (MayFollow (scan_start arrivals)) events
 starting arrivals events k d lt = by (admitted_line (get_or events k d).event)
   where
-    by : (o : Option ℕ) → FollowsScan (scan_start arrivals) o (get_or events k d).stamp.from (get_or events k d).stamp.at
+    by : (o : Option ℕ) → IsBehindScan (scan_start arrivals) o (get_or events k d).stamp.from (get_or events k d).stamp.at
     by (Some t) = omega arith
     by None = (omega arith, omega arith)
 
@@ -51,7 +51,7 @@ scan_is config n arrivals events h =
       keeps = keeps_from_order arrivals events h.in_order;
     })
 
-module _ (config : Config) (n : ℕ) (arrivals : List Arrival) (events : List Stamped) (small : AreSmall events) (lines : All (λ a. a.line < 4294967296) arrivals) (rising : NeverFalls 1 arrivals) where
+module _ (config : Config) (n : ℕ) (arrivals : List Arrival) (events : List Stamped) (small : AreSmall events) (lines : All (λ a. a.line < 4294967296) arrivals) (rising : AreRisingMoments 1 arrivals) where
   abbrev count : ℕ
   count = length (admit_numbers events)
 
@@ -70,7 +70,7 @@ module _ (config : Config) (n : ℕ) (arrivals : List Arrival) (events : List St
   ending_is : (end : Scan) → scan_after_events n (Some (scan_start arrivals)) events ≡ Some end → InTime config n arrivals events → Ending config n arrivals events end.ends
   ending_is end scans h = by h.admitted
     where
-      by : AdmitsAll n arrivals events ⊎ ((k : ℕ) × LeavesOut config n arrivals events k) → Ending config n arrivals events end.ends
+      by : AreAllAdmitted n arrivals events ⊎ ((k : ℕ) × AreLeftOut config n arrivals events k) → Ending config n arrivals events end.ends
       by (inl all) = ending_all config arrivals events small lines n h.stamped rising end.ends all
       by (inr left) =
           ending_left config arrivals events small lines n h.stamped rising end.ends left.0
@@ -88,7 +88,7 @@ module _ (config : Config) (n : ℕ) (arrivals : List Arrival) (events : List St
 
 -- ---- the three answers
 
-module _ (kept : KeptPass) (rising : NeverFalls 1 kept.arrivals) (lines : All (λ a. a.line < 4294967296) kept.arrivals) (events : List Stamped) (small : AreSmall events) (timed : TimedBy events kept) where
+module _ (kept : KeptPass) (rising : AreRisingMoments 1 kept.arrivals) (lines : All (λ a. a.line < 4294967296) kept.arrivals) (events : List Stamped) (small : AreSmall events) (timed : TimedBy events kept) where
   abbrev IsInTime : Type 0
   IsInTime = InTime kept.config kept.n kept.arrivals events
 

@@ -6,7 +6,7 @@ use Rattle.std.proofs.lemmas.List.Elements.{All-cons, All-head, All-tail}
 use Rattle.sloth_base.specs.declared.event.Arrival.{Arrival}
 use Rattle.sloth_base.specs.declared.event.Stamped.{Stamped}
 use Rattle.osek_scheduler.specs.InTime.{is_admit, IsSubsequence, KeepsOrder}
-use Rattle.trace_time.proofs.ScanOrder.{key_of, arrival_key, front_admits, KeepsBehind, Keeps}
+use Rattle.trace_time.proofs.ScanOrder.{key_of, arrival_key, front_admits, IsOrderKeptBehind, IsOrderKept}
 use Rattle.trace_time.proofs.Subsequences.{sub_tail, sub_front}
 
 abbrev AreAdmits : List Stamped → Type 0
@@ -47,7 +47,7 @@ module _ (arrivals : List Arrival) where
   in_front : (events : List Stamped) → KeepsOrder arrivals events → IsSubsequence (map key_of (front_admits events)) (map arrival_key arrivals)
   in_front events h = h [] (front_admits events) (behind_admits events) (front_split events) (front_are_admits events)
 
-  all_behind : (events : List Stamped) → KeepsOrder arrivals events → KeepsBehind arrivals events
+  all_behind : (events : List Stamped) → KeepsOrder arrivals events → IsOrderKeptBehind arrivals events
   all_behind [] h = tt
   all_behind (e ∷ events) h = (by (is_admit e), all_behind events (order_tail e events h))
     where
@@ -55,10 +55,10 @@ module _ (arrivals : List Arrival) where
       by true = tt
       by false = in_front events (order_tail e events h)
 
-  pub keeps_from_order : (events : List Stamped) → KeepsOrder arrivals events → Keeps arrivals arrivals events
+  pub keeps_from_order : (events : List Stamped) → KeepsOrder arrivals events → IsOrderKept arrivals arrivals events
   keeps_from_order events h = record { front = in_front events h; behind = all_behind events h }
 
-  keeps_tail : (e : Stamped) (events : List Stamped) → Keeps arrivals arrivals (e ∷ events) → Keeps arrivals arrivals events
+  keeps_tail : (e : Stamped) (events : List Stamped) → IsOrderKept arrivals arrivals (e ∷ events) → IsOrderKept arrivals arrivals events
   keeps_tail e events k = record { front = by (is_admit e) k.front k.behind.0; behind = k.behind.1 }
     where
       by : (c : Bool) → IsSubsequence (map key_of (cond c (e ∷ front_admits events) [])) (map arrival_key arrivals)
@@ -67,7 +67,7 @@ module _ (arrivals : List Arrival) where
       by true front behind = sub_tail (key_of e) (map key_of (front_admits events)) (map arrival_key arrivals) front
       by false front behind = behind
 
-  order_at : (before group behind : List Stamped) → AreAdmits group → Keeps arrivals arrivals (before ++ (group ++ behind))
+  order_at : (before group behind : List Stamped) → AreAdmits group → IsOrderKept arrivals arrivals (before ++ (group ++ behind))
       → IsSubsequence (map key_of group) (map arrival_key arrivals)
   order_at [] group behind admits k =
       let P : List Stamped → Type 0 = λ l. IsSubsequence (map key_of l) (map arrival_key arrivals) in
@@ -76,6 +76,6 @@ module _ (arrivals : List Arrival) where
       (subst Q (map-append key_of group (front_admits behind)) (subst P (front_group group behind admits) k.front))
   order_at (e ∷ before) group behind admits k = order_at before group behind admits (keeps_tail e (before ++ (group ++ behind)) k)
 
-  pub order_from_keeps : (events : List Stamped) → Keeps arrivals arrivals events → KeepsOrder arrivals events
+  pub order_from_keeps : (events : List Stamped) → IsOrderKept arrivals arrivals events → KeepsOrder arrivals events
   order_from_keeps events k before group behind is admits =
-      let P : List Stamped → Type 0 = λ l. Keeps arrivals arrivals l in order_at before group behind admits (subst P is k)
+      let P : List Stamped → Type 0 = λ l. IsOrderKept arrivals arrivals l in order_at before group behind admits (subst P is k)

@@ -12,18 +12,18 @@ use Rattle.sloth_base.specs.declared.event.Stamped.{Stamped}
 use Rattle.osek_scheduler.specs.Meaning.{on_some}
 use Rattle.osek_scheduler.proofs.Tests.{if_true_some, if_true_is, on_some_from}
 use Rattle.sloth_base.specs.Events.{admitted_line, is_single}
-use Rattle.osek_scheduler.specs.InTime.{is_admit, Spans, IsStamped, StandsBefore, IsOrdered, IsSubsequence, others}
+use Rattle.osek_scheduler.specs.InTime.{is_admit, HasSpan, IsStamped, StandsBefore, IsOrdered, IsSubsequence, others}
 use Rattle.trace_time.specs.Scan.{Scan, behind_first, from_moment, is_stamped, scan_after_admit, scan_after_other, scan_after_line, scan_after_event, scan_after_events}
-use Rattle.trace_time.proofs.ScanOrder.{key_of, arrival_key, front_admits, KeepsBehind, Keeps, FollowsScan, MayFollow}
+use Rattle.trace_time.proofs.ScanOrder.{key_of, arrival_key, front_admits, IsOrderKeptBehind, IsOrderKept, IsBehindScan, MayFollow}
 use Rattle.trace_time.proofs.Subsequences.{found_right, found_left, AreFrom, trim_right, trim_left}
 
 -- ---- stamps
 
-spans_of : (single : Bool) (e : Stamped) → cond single (e.stamp.from == e.stamp.at) (leb e.stamp.from e.stamp.at) ≡ true → (e.stamp.from ≤ e.stamp.at) × Spans single e
+spans_of : (single : Bool) (e : Stamped) → cond single (e.stamp.from == e.stamp.at) (leb e.stamp.from e.stamp.at) ≡ true → (e.stamp.from ≤ e.stamp.at) × HasSpan single e
 spans_of true e h = let same = eqb-true e.stamp.from e.stamp.at h in (omega (arith, same), same)
 spans_of false e h = (leb-true e.stamp.from e.stamp.at h, tt)
 
-spans_is : (single : Bool) (e : Stamped) → e.stamp.from ≤ e.stamp.at → Spans single e → cond single (e.stamp.from == e.stamp.at) (leb e.stamp.from e.stamp.at) ≡ true
+spans_is : (single : Bool) (e : Stamped) → e.stamp.from ≤ e.stamp.at → HasSpan single e → cond single (e.stamp.from == e.stamp.at) (leb e.stamp.from e.stamp.at) ≡ true
 spans_is true e le h = eq-eqb e.stamp.from e.stamp.at h
 spans_is false e le h = le-leb e.stamp.from e.stamp.at le
 
@@ -90,16 +90,16 @@ fine_next s None from at s1 le fine h = let p = other_step s from at s1 h in sub
 -- what may follow behind one event more
 module _ (s : Scan) (from at : ℕ) (le : from ≤ at) (fine : IsFine s) where
   abbrev Both : Option ℕ → Option ℕ → ℕ → ℕ → Type 0
-  Both o p f a = FollowsScan s p f a × StandsBefore (is_some o) (is_some p) (record { from = from; at = at }) (record { from = f; at = a })
+  Both o p f a = IsBehindScan s p f a × StandsBefore (is_some o) (is_some p) (record { from = from; at = at }) (record { from = f; at = a })
 
-  behind_admit : (t : ℕ) (rest : List Arrival) (p : Option ℕ) (f a : ℕ) → FollowsScan (record s { latest = max s.latest at; rest = rest }) p f a ↔ Both (Some t) p f a
+  behind_admit : (t : ℕ) (rest : List Arrival) (p : Option ℕ) (f a : ℕ) → IsBehindScan (record s { latest = max s.latest at; rest = rest }) p f a ↔ Both (Some t) p f a
   behind_admit t rest (Some u) f a = (λ h. (h, tt), λ h. h.0)
   behind_admit t rest None f a = (
     λ h. let q = h.1 in ((h.0, omega (arith, q)), omega (arith, q)),
     λ h. let q = h.0.1 in let r = h.1 in (h.0.0, omega (arith, q, r)),
   )
 
-  behind_other : s.ends ≤ from → s.latest ≤ at → (p : Option ℕ) (f a : ℕ) → FollowsScan (other_scan s from at) p f a ↔ Both None p f a
+  behind_other : s.ends ≤ from → s.latest ≤ at → (p : Option ℕ) (f a : ℕ) → IsBehindScan (other_scan s from at) p f a ↔ Both None p f a
   behind_other ends latest (Some u) f a = (
     λ h. (omega (arith, h, ends, fine), omega (arith, h)),
     λ h. let q = h.1 in omega (arith, q),
@@ -109,14 +109,14 @@ module _ (s : Scan) (from at : ℕ) (le : from ≤ at) (fine : IsFine s) where
     λ h. let q = h.1 in (omega (arith, q), h.0.1),
   )
 
-  next_follow : (o : Option ℕ) (s1 : Scan) → scan_after_line s o from at ≡ Some s1 → (p : Option ℕ) (f a : ℕ) → FollowsScan s1 p f a ↔ Both o p f a
+  next_follow : (o : Option ℕ) (s1 : Scan) → scan_after_line s o from at ≡ Some s1 → (p : Option ℕ) (f a : ℕ) → IsBehindScan s1 p f a ↔ Both o p f a
   next_follow (Some t) s1 h p f a =
       let step = admit_step s t at s1 h in
-      let P : Scan → Type 0 = λ x. FollowsScan x p f a ↔ Both (Some t) p f a in
+      let P : Scan → Type 0 = λ x. IsBehindScan x p f a ↔ Both (Some t) p f a in
       subst P (sym step.is) (behind_admit t step.rest p f a)
   next_follow None s1 h p f a =
       let step = other_step s from at s1 h in
-      let P : Scan → Type 0 = λ x. FollowsScan x p f a ↔ Both None p f a in
+      let P : Scan → Type 0 = λ x. IsBehindScan x p f a ↔ Both None p f a in
       subst P (sym step.is) (behind_other step.ends step.latest p f a)
 
 -- ---- order
@@ -133,7 +133,7 @@ front_from b (e ∷ events) h = by (front_from b events (All-tail (λ (x : Stamp
     by rest true is = (All-head (λ (x : Stamped). is_admit x ≡ true → b ≤ x.stamp.at) e events h is, rest)
     by rest false is = tt
 
-behind_left : (b : ℕ) (base : List Arrival) (events : List Stamped) → AdmitsFrom b events → KeepsBehind base events → KeepsBehind (from_moment b base) events
+behind_left : (b : ℕ) (base : List Arrival) (events : List Stamped) → AdmitsFrom b events → IsOrderKeptBehind base events → IsOrderKeptBehind (from_moment b base) events
 behind_left b base [] from h = tt
 behind_left b base (e ∷ events) from h = (by (is_admit e) h.0, behind_left b base events rest h.1)
   where
@@ -145,7 +145,7 @@ behind_left b base (e ∷ events) from h = (by (is_admit e) h.0, behind_left b b
     by true h = tt
     by false h = trim_left b (map key_of (front_admits events)) base (front_from b events rest) h
 
-behind_right : (b : ℕ) (base : List Arrival) (events : List Stamped) → KeepsBehind (from_moment b base) events → KeepsBehind base events
+behind_right : (b : ℕ) (base : List Arrival) (events : List Stamped) → IsOrderKeptBehind (from_moment b base) events → IsOrderKeptBehind base events
 behind_right b base [] h = tt
 behind_right b base (e ∷ events) h = (by (is_admit e) h.0, behind_right b base events h.1)
   where
@@ -154,13 +154,13 @@ behind_right b base (e ∷ events) h = (by (is_admit e) h.0, behind_right b base
     by true h = tt
     by false h = trim_right b (map key_of (front_admits events)) base h
 
-keeps_left : (b : ℕ) (base : List Arrival) (events : List Stamped) → AdmitsFrom b events → Keeps base base events → Keeps (from_moment b base) (from_moment b base) events
+keeps_left : (b : ℕ) (base : List Arrival) (events : List Stamped) → AdmitsFrom b events → IsOrderKept base base events → IsOrderKept (from_moment b base) (from_moment b base) events
 keeps_left b base events from h = record {
   front = trim_left b (map key_of (front_admits events)) base (front_from b events from) h.front;
   behind = behind_left b base events from h.behind;
 }
 
-keeps_right : (b : ℕ) (base : List Arrival) (events : List Stamped) → Keeps (from_moment b base) (from_moment b base) events → Keeps base base events
+keeps_right : (b : ℕ) (base : List Arrival) (events : List Stamped) → IsOrderKept (from_moment b base) (from_moment b base) events → IsOrderKept base base events
 keeps_right b base events h = record {
   front = trim_right b (map key_of (front_admits events)) base h.front;
   behind = behind_right b base events h.behind;
@@ -172,7 +172,7 @@ pub record Facts (n : ℕ) (s : Scan) (events : List Stamped) : Type 0 where
   pub stamped : All (IsStamped n) events
   pub placed : AllPairs IsOrdered events
   pub follows : All (MayFollow s) events
-  pub keeps : Keeps s.base s.rest events
+  pub keeps : IsOrderKept s.base s.rest events
 
 module _ (n : ℕ) where
   scanned_none : (events : List Stamped) (s : Scan) → scan_after_events n None events ≡ Some s → ⊥
@@ -208,15 +208,15 @@ module _ (n : ℕ) where
   admits_follow : (s : Scan) (events : List Stamped) → All (MayFollow s) events → AdmitsFrom s.begins events
   admits_follow s events h k d lt = by (admitted_line (get_or events k d).event) (h k d lt)
     where
-      by : (o : Option ℕ) → FollowsScan s o (get_or events k d).stamp.from (get_or events k d).stamp.at → is_some o ≡ true → s.begins ≤ (get_or events k d).stamp.at
+      by : (o : Option ℕ) → IsBehindScan s o (get_or events k d).stamp.from (get_or events k d).stamp.at → is_some o ≡ true → s.begins ≤ (get_or events k d).stamp.at
       by (Some t) f is = f
       by None f is = absurd cc
 
   module _ (e : Stamped) (events : List Stamped) where
     -- an admit takes its arrival out of what is left
-    keeps_admit : (s : Scan) (t : ℕ) (s1 : Scan) → admitted_line e.event ≡ Some t → AdmitStep s t e.stamp.at s1 → Keeps s1.base s1.rest events → Keeps s.base s.rest (e ∷ events)
+    keeps_admit : (s : Scan) (t : ℕ) (s1 : Scan) → admitted_line e.event ≡ Some t → AdmitStep s t e.stamp.at s1 → IsOrderKept s1.base s1.rest events → IsOrderKept s.base s.rest (e ∷ events)
     keeps_admit s t s1 is step k =
-        let P : Scan → Type 0 = λ x. Keeps x.base x.rest events in
+        let P : Scan → Type 0 = λ x. IsOrderKept x.base x.rest events in
         let kept = subst P step.is k in
         let admit : is_admit e ≡ true = ap is_some is in
         let F : Bool → Type 0 = λ c. IsSubsequence (map key_of (cond c (e ∷ front_admits events) [])) (map arrival_key s.rest) in
@@ -226,16 +226,16 @@ module _ (n : ℕ) where
         record { front = subst F (sym admit) found; behind = (subst G (sym admit) tt, kept.behind) }
 
     -- another event takes none, and lets those of its moments go
-    keeps_other : (s : Scan) (s1 : Scan) → admitted_line e.event ≡ None → OtherStep s e.stamp.from e.stamp.at s1 → Keeps s1.base s1.rest events → Keeps s.base s.rest (e ∷ events)
+    keeps_other : (s : Scan) (s1 : Scan) → admitted_line e.event ≡ None → OtherStep s e.stamp.from e.stamp.at s1 → IsOrderKept s1.base s1.rest events → IsOrderKept s.base s.rest (e ∷ events)
     keeps_other s s1 is step k =
-        let P : Scan → Type 0 = λ x. Keeps x.base x.rest events in
+        let P : Scan → Type 0 = λ x. IsOrderKept x.base x.rest events in
         let kept = keeps_right (e.stamp.from + 1) s.base events (subst P step.is k) in
         let admit : is_admit e ≡ false = ap is_some is in
         let F : Bool → Type 0 = λ c. IsSubsequence (map key_of (cond c (e ∷ front_admits events) [])) (map arrival_key s.rest) in
         let G : Bool → Type 0 = λ c. cond c (Unit {0}) (IsSubsequence (map key_of (front_admits events)) (map arrival_key s.base)) in
         record { front = subst F (sym admit) tt; behind = (subst G (sym admit) kept.front, kept.behind) }
 
-    keeps_before : (s s1 : Scan) (o : Option ℕ) → admitted_line e.event ≡ o → scan_after_line s o e.stamp.from e.stamp.at ≡ Some s1 → Keeps s1.base s1.rest events → Keeps s.base s.rest (e ∷ events)
+    keeps_before : (s s1 : Scan) (o : Option ℕ) → admitted_line e.event ≡ o → scan_after_line s o e.stamp.from e.stamp.at ≡ Some s1 → IsOrderKept s1.base s1.rest events → IsOrderKept s.base s.rest (e ∷ events)
     keeps_before s s1 (Some t) is h k = keeps_admit s t s1 is (admit_step s t e.stamp.at s1 h) k
     keeps_before s s1 None is h k = keeps_other s s1 is (other_step s e.stamp.from e.stamp.at s1 h) k
 
@@ -243,9 +243,9 @@ module _ (n : ℕ) where
     record Goes (s : Scan) : Type 0 where
       next : Scan
       steps : scan_after_line s (admitted_line e.event) e.stamp.from e.stamp.at ≡ Some next
-      keeps : (All (MayFollow next) events) → Keeps next.base next.rest events
+      keeps : (All (MayFollow next) events) → IsOrderKept next.base next.rest events
 
-    goes : (s : Scan) → MayFollow s e → Keeps s.base s.rest (e ∷ events) → Goes s
+    goes : (s : Scan) → MayFollow s e → IsOrderKept s.base s.rest (e ∷ events) → Goes s
     goes s f k = by (admitted_line e.event) refl f
       where
         admits : (t : ℕ) → admitted_line e.event ≡ Some t → s.begins ≤ e.stamp.at → Goes s
@@ -279,7 +279,7 @@ module _ (n : ℕ) where
                   (record { front = subst G (ap is_some is) k.behind.0; behind = k.behind.1 });
             }
 
-        by : (o : Option ℕ) → admitted_line e.event ≡ o → FollowsScan s o e.stamp.from e.stamp.at → Goes s
+        by : (o : Option ℕ) → admitted_line e.event ≡ o → IsBehindScan s o e.stamp.from e.stamp.at → Goes s
         by (Some t) is f = admits t is f
         by None is f = passes is f
 
@@ -290,7 +290,7 @@ module _ (n : ℕ) where
       let test = if_true_some (is_stamped n e) (scan_after_line s (admitted_line e.event) e.stamp.from e.stamp.at) s1 h in
       (stamped_of n e test.0, test.1)
 
-  follows_first : (s s1 : Scan) (o : Option ℕ) (from at : ℕ) → scan_after_line s o from at ≡ Some s1 → FollowsScan s o from at
+  follows_first : (s s1 : Scan) (o : Option ℕ) (from at : ℕ) → scan_after_line s o from at ≡ Some s1 → IsBehindScan s o from at
   follows_first s s1 (Some t) from at h = (admit_step s t at s1 h).begins
   follows_first s s1 None from at h = let p = other_step s from at s1 h in (p.ends, p.latest)
 

@@ -19,20 +19,20 @@ front_admits [] = []
 front_admits (e ∷ events) = cond (is_admit e) (e ∷ front_admits events) []
 
 -- the admits behind each other event keep the order of the arrivals
-abbrev pub KeepsBehind : List Arrival → List Stamped → Type 0
-KeepsBehind arrivals [] = Unit {0}
-KeepsBehind arrivals (e ∷ events) =
-    cond (is_admit e) (Unit {0}) (IsSubsequence (map key_of (front_admits events)) (map arrival_key arrivals)) × KeepsBehind arrivals events
+abbrev pub IsOrderKeptBehind : List Arrival → List Stamped → Type 0
+IsOrderKeptBehind arrivals [] = Unit {0}
+IsOrderKeptBehind arrivals (e ∷ events) =
+    cond (is_admit e) (Unit {0}) (IsSubsequence (map key_of (front_admits events)) (map arrival_key arrivals)) × IsOrderKeptBehind arrivals events
 
 -- those in front keep that of what is left, those behind each other event that of all
-pub record Keeps (base rest : List Arrival) (events : List Stamped) : Type 0 where
+pub record IsOrderKept (base rest : List Arrival) (events : List Stamped) : Type 0 where
   pub front : IsSubsequence (map key_of (front_admits events)) (map arrival_key rest)
-  pub behind : KeepsBehind base events
+  pub behind : IsOrderKeptBehind base events
 
 -- where an event may stand, by which of the two it is
-abbrev pub FollowsScan : Scan → Option ℕ → ℕ → ℕ → Type 0
-FollowsScan s (Some t) from at = s.begins ≤ at
-FollowsScan s None from at = (s.ends ≤ from) × (s.latest ≤ at)
+abbrev pub IsBehindScan : Scan → Option ℕ → ℕ → ℕ → Type 0
+IsBehindScan s (Some t) from at = s.begins ≤ at
+IsBehindScan s None from at = (s.ends ≤ from) × (s.latest ≤ at)
 
 abbrev pub MayFollow : Scan → Stamped → Type 0
-MayFollow s e = FollowsScan s (admitted_line e.event) e.stamp.from e.stamp.at
+MayFollow s e = IsBehindScan s (admitted_line e.event) e.stamp.from e.stamp.at

@@ -6,13 +6,13 @@ use Rattle.std.proofs.lemmas.List.{length-map}
 use Rattle.std.proofs.Math.Seq.{take-append_seam, drop-append_seam}
 use Rattle.std.proofs.lemmas.List.Elements.{All-cons, All-head, All-tail}
 use Rattle.std.proofs.lemmas.List.Sums.{sum_by-cons, sum_by-append}
-use Rattle.sloth_base.specs.Arrivals.{NeverFalls}
+use Rattle.sloth_base.specs.Arrivals.{AreRisingMoments}
 use Rattle.sloth_base.specs.Options.{is_number}
 use Rattle.sloth_base.specs.declared.config.Config.{Config}
 use Rattle.sloth_base.specs.declared.event.Arrival.{Arrival}
 use Rattle.sloth_base.specs.declared.event.Stamped.{Stamped}
 use Rattle.sloth_base.specs.Events.{admitted_line}
-use Rattle.osek_scheduler.specs.InTime.{admits_at, arrivals_at, AdmitsAll, LeavesOut, IsStamped, longest_cut_off_stretch, others}
+use Rattle.osek_scheduler.specs.InTime.{admits_at, arrivals_at, AreAllAdmitted, AreLeftOut, IsStamped, longest_cut_off_stretch, others}
 use Rattle.trace_time.specs.Counts.{number_at, arrival_number, with_admit, admit_numbers, times, SameCounts, last_moment, may_leave, IsSmall, AreSmall}
 use Rattle.trace_time.proofs.Endings.{Ending}
 use Rattle.trace_time.proofs.Counts.{same_length}
@@ -119,26 +119,26 @@ module _ (k t : ℕ) where
       by true = refl
       by false = refl
 
-all_from : (b : ℕ) (arrivals : List Arrival) → NeverFalls b arrivals → All (λ a. b ≤ a.at) arrivals
+all_from : (b : ℕ) (arrivals : List Arrival) → AreRisingMoments b arrivals → All (λ a. b ≤ a.at) arrivals
 all_from b [] h = λ k d l. absurd (omega (arith, l))
 all_from b (a ∷ arrivals) h =
     let le = h.0 in
     let rest = all_from a.at arrivals h.1 in
     All-cons (λ (x : Arrival). b ≤ x.at) a arrivals le (λ k d l. let r = rest k d l in omega (arith, r, le))
 
-falls_front : (b : ℕ) (xs ys : List Arrival) → NeverFalls b (xs ++ ys) → NeverFalls b xs
+falls_front : (b : ℕ) (xs ys : List Arrival) → AreRisingMoments b (xs ++ ys) → AreRisingMoments b xs
 falls_front b [] ys h = tt
 falls_front b (x ∷ xs) ys h = (h.0, falls_front x.at xs ys h.1)
 
-falls_weaker : (b c : ℕ) (xs : List Arrival) → b ≤ c → NeverFalls c xs → NeverFalls b xs
+falls_weaker : (b c : ℕ) (xs : List Arrival) → b ≤ c → AreRisingMoments c xs → AreRisingMoments b xs
 falls_weaker b c [] le h = tt
 falls_weaker b c (x ∷ xs) le h = let l = h.0 in (omega (arith, le, l), h.1)
 
-falls_back : (b : ℕ) (xs ys : List Arrival) → NeverFalls b (xs ++ ys) → NeverFalls b ys
+falls_back : (b : ℕ) (xs ys : List Arrival) → AreRisingMoments b (xs ++ ys) → AreRisingMoments b ys
 falls_back b [] ys h = h
 falls_back b (x ∷ xs) ys h = falls_weaker b x.at ys h.0 (falls_back x.at xs ys h.1)
 
-below_last : (b : ℕ) (xs : List Arrival) → NeverFalls b xs → (All (λ a. a.at ≤ last_moment xs) xs)
+below_last : (b : ℕ) (xs : List Arrival) → AreRisingMoments b xs → (All (λ a. a.at ≤ last_moment xs) xs)
 below_last b [] h = λ k d l. absurd (omega (arith, l))
 below_last b (a ∷ []) h = All-cons (λ (x : Arrival). x.at ≤ a.at) a [] (omega arith) (λ k d l. absurd (omega (arith, l)))
 below_last b (a ∷ c ∷ xs) h =
@@ -160,7 +160,7 @@ record Parts (k : ℕ) (arrivals : List Arrival) : Type 0 where
   low : All (λ a. a.at < k) front
   high : All (λ a. k ≤ a.at) back
 
-parts : (k b : ℕ) (arrivals : List Arrival) → NeverFalls b arrivals → Parts k arrivals
+parts : (k b : ℕ) (arrivals : List Arrival) → AreRisingMoments b arrivals → Parts k arrivals
 parts k b [] h = record { front = []; back = []; is = refl; low = λ i d l. absurd (omega (arith, l)); high = λ i d l. absurd (omega (arith, l)) }
 parts k b (a ∷ arrivals) h = by (cases_lt a.at k) (parts k a.at arrivals h.1)
   where
@@ -216,9 +216,9 @@ module _ (config : Config) (arrivals : List Arrival) (events : List Stamped) (sm
 
   -- ---- what is left out, from the counts
 
-  module _ (n : ℕ) (stamped : All (IsStamped n) events) (rising : NeverFalls 1 arrivals) where
+  module _ (n : ℕ) (stamped : All (IsStamped n) events) (rising : AreRisingMoments 1 arrivals) where
     -- before a moment that none behind `front` is before
-    admits_all : (k : ℕ) (front back : List Arrival) → arrivals ≡ front ++ back → All (λ a. k ≤ a.at) back → SameAt front → AdmitsAll k arrivals events
+    admits_all : (k : ℕ) (front back : List Arrival) → arrivals ≡ front ++ back → All (λ a. k ≤ a.at) back → SameAt front → AreAllAdmitted k arrivals events
     admits_all k front back is high same moment t less =
         let apart = none_here moment t back (λ i d l e. let r = high i d l in omega (arith, r, e, less)) in
         let all = ap (arrivals_at moment t) is ∙ arrivals-append moment t front back in
@@ -227,9 +227,9 @@ module _ (config : Config) (arrivals : List Arrival) (events : List Stamped) (sm
 
     module _ (ends : ℕ) (behind : (k : ℕ) → ends ≤ k → All (λ e. e.stamp.at < k) (others events)) where
       left_out : (front : List Arrival) (a : Arrival) (rest : List Arrival) → arrivals ≡ front ++ a ∷ rest → SameAt front → a.at < n → last_moment front < a.at → ends ≤ a.at
-          → n - a.at < longest_cut_off_stretch config events → LeavesOut config n arrivals events a.at
+          → n - a.at < longest_cut_off_stretch config events → AreLeftOut config n arrivals events a.at
       left_out front a rest is same inside last after short =
-          let P : List Arrival → Type 0 = λ l. NeverFalls 1 l in
+          let P : List Arrival → Type 0 = λ l. AreRisingMoments 1 l in
           let falls = subst P is rising in
           let back_falls = falls_back 1 front (a ∷ rest) falls in
           let high = All-cons (λ (x : Arrival). a.at ≤ x.at) a rest (omega arith) (all_from a.at rest back_falls.1) in
@@ -247,15 +247,15 @@ module _ (config : Config) (arrivals : List Arrival) (events : List Stamped) (sm
           }
 
       pub ends_well : (front back : List Arrival) → arrivals ≡ front ++ back → SameCounts (admit_numbers events) (map arrival_number front)
-          → may_leave n (longest_cut_off_stretch config events) ends (last_moment front) back ≡ true → AdmitsAll n arrivals events ⊎ ((k : ℕ) × LeavesOut config n arrivals events k)
+          → may_leave n (longest_cut_off_stretch config events) ends (last_moment front) back ≡ true → AreAllAdmitted n arrivals events ⊎ ((k : ℕ) × AreLeftOut config n arrivals events k)
       ends_well front [] is same h = inl (admits_all n front [] is (λ i d l. absurd (omega (arith, l))) (same_counted front [] is same))
       ends_well front (a ∷ rest) is same h = by (leb n a.at) refl h
         where
-          falls : NeverFalls 1 (a ∷ rest)
-          falls = let P : List Arrival → Type 0 = λ l. NeverFalls 1 l in falls_back 1 front (a ∷ rest) (subst P is rising)
+          falls : AreRisingMoments 1 (a ∷ rest)
+          falls = let P : List Arrival → Type 0 = λ l. AreRisingMoments 1 l in falls_back 1 front (a ∷ rest) (subst P is rising)
 
           by : (b : Bool) → leb n a.at ≡ b → cond b true (ltb (last_moment front) a.at && (leb ends a.at && ltb (n - a.at) (longest_cut_off_stretch config events))) ≡ true
-              → AdmitsAll n arrivals events ⊎ ((k : ℕ) × LeavesOut config n arrivals events k)
+              → AreAllAdmitted n arrivals events ⊎ ((k : ℕ) × AreLeftOut config n arrivals events k)
           by true e h =
               let le = leb-true n a.at e in
               inl (admits_all n front (a ∷ rest) is
@@ -272,7 +272,7 @@ module _ (config : Config) (arrivals : List Arrival) (events : List Stamped) (sm
 
     -- ---- and the counts from what is left out
 
-    same_before : (k : ℕ) → AdmitsAll k arrivals events → ((moment t : ℕ) → k ≤ moment → admits_at moment t events ≡ 0) → (p : Parts k arrivals) → SameAt p.front
+    same_before : (k : ℕ) → AreAllAdmitted k arrivals events → ((moment t : ℕ) → k ≤ moment → admits_at moment t events ≡ 0) → (p : Parts k arrivals) → SameAt p.front
     same_before k all none p moment t = by (cases_lt moment k)
       where
         by : (moment < k) ⊎ (k ≤ moment) → admits_at moment t events ≡ arrivals_at moment t p.front
@@ -308,7 +308,7 @@ module _ (config : Config) (arrivals : List Arrival) (events : List Stamped) (sm
           dropped : drop (length (admit_numbers events)) arrivals ≡ back
           dropped = ap (λ k. drop k arrivals) count ∙ (ap (drop (length front)) is ∙ drop-append_seam front back)
 
-      pub ending_all : AdmitsAll n arrivals events → Ending config n arrivals events ends
+      pub ending_all : AreAllAdmitted n arrivals events → Ending config n arrivals events ends
       ending_all all = by p.back p.is p.high
         where
           p : Parts n arrivals
@@ -324,7 +324,7 @@ module _ (config : Config) (arrivals : List Arrival) (events : List Stamped) (sm
               ending_of p.front (a ∷ rest) is same
               (ap (λ b. cond b true (ltb (last_moment p.front) a.at && (leb ends a.at && ltb (n - a.at) (longest_cut_off_stretch config events)))) (le-leb n a.at le))
 
-      pub ending_left : (k : ℕ) → ends ≤ k → LeavesOut config n arrivals events k → Ending config n arrivals events ends
+      pub ending_left : (k : ℕ) → ends ≤ k → AreLeftOut config n arrivals events k → Ending config n arrivals events ends
       ending_left k after h = by p.back p.is p.high
         where
           p : Parts k arrivals
@@ -345,8 +345,8 @@ module _ (config : Config) (arrivals : List Arrival) (events : List Stamped) (sm
               low : k ≤ a.at
               low = All-head (λ (x : Arrival). k ≤ x.at) a rest high
 
-              falls : NeverFalls 1 (p.front ++ a ∷ rest)
-              falls = let P : List Arrival → Type 0 = λ l. NeverFalls 1 l in subst P is rising
+              falls : AreRisingMoments 1 (p.front ++ a ∷ rest)
+              falls = let P : List Arrival → Type 0 = λ l. AreRisingMoments 1 l in subst P is rising
 
               positive : 1 ≤ a.at
               positive = (falls_back 1 p.front (a ∷ rest) falls).0

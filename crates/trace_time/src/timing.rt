@@ -1,7 +1,7 @@
 //! Events looked at one after the other, and whether arrivals are admitted in time.
 ghost use Rattle.std.specs.Prelude.{◌≡◌, ◌<◌, ◌∷◌, ◌++◌, [], cond, IfOk, OnOk, All, List};
 ghost use Rattle.std.specs.Bool.{Decides};
-ghost use Rattle.sloth_base.specs.Arrivals.{NeverFalls};
+ghost use Rattle.sloth_base.specs.Arrivals.{AreRisingMoments};
 ghost use Rattle.sloth_base.specs.declared.event.Stamped.{Stamped as AnyEvent};
 ghost use Rattle.sloth_base.specs.Events.{is_boot};
 ghost use Rattle.sloth_base.specs.Stretches.{longest_stretch};
@@ -110,7 +110,7 @@ impl<'a> Timing<'a> {
 
     /// Whether the events stand where the arrivals allow.
     pub fn in_time(&mut self, alloc: Global) -> Result<bool, NoMemory>
-        requires rising { NeverFalls 1 self.old.arrivals }
+        requires rising { AreRisingMoments 1 self.old.arrivals }
         requires lines { All (λ a. a.line < 4294967296) self.old.arrivals }
         ensures { IfOk result (λ b. (events : List AnyEvent) → AreSmall events → TimedBy events self.old
             → Decides b (InTime self.old.config self.old.n self.old.arrivals events)) }

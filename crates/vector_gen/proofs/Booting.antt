@@ -21,7 +21,7 @@ use Rattle.masked_code.proofs.Routines.{handles}
 use Rattle.code_lengths.specs.CodeLengths.{lines_length}
 use Rattle.code_lengths.proofs.Short.{short_lines}
 use Rattle.block_parts.specs.Boot.{line_code}
-use Rattle.vector_gen.specs.Boot.{register_code, line_start_code, lines_code, counters_code, finishing_code, IsUnused, MayBoot, Booted, Boots}
+use Rattle.vector_gen.specs.Boot.{register_code, line_start_code, lines_code, counters_code, finishing_code, IsUnused, MayBoot, BootEffect, IsBootCode}
 
 -- the lines' bytes after the tasks from this line on
 abbrev levels_with : ℕ → List TaskDecl → List ℕ → List ℕ → List ℕ
@@ -241,7 +241,7 @@ idle_end = memory_base + (idle_context + context_bytes)
 module _ (tasks : List TaskDecl) (counters : ℕ) (levels : List ℕ) (top idle : ℕ) (few : length tasks ≤ task_limit) (few_counters : counters ≤ counter_limit) (byte : top + 1 < 256) (small : (k : ℕ) → get_or levels k 0 < 256) (fits : idle < 2 ^ 32)
     (aligned : idle % 4 ≡ 0) (offset : ℕ) (c : Core) (h : MayBoot offset (boot_code tasks counters levels top idle) c) where
   end_owes : (from to o x2 x1 : ℕ)
-      → Owes from to o (finishing_code idle) 0 (Booted tasks counters levels top idle) (offset_state offset (spread c))
+      → Owes from to o (finishing_code idle) 0 (BootEffect tasks counters levels top idle) (offset_state offset (spread c))
       (record (spread c) { registers = 0 ∷ x1 ∷ x2 ∷ controller_base ∷ 1 ∷ spread_from 27 5 c.registers; levels = filled counters first_counter_line (top + 1) (levels_with 0 tasks levels c.levels); enabled = filled counters first_counter_line 1 (enabled_with 0 tasks c.enabled); pending = pending_with 0 tasks c.pending })
   end_owes from to o x2 x1 =
       let n = length tasks in
@@ -290,18 +290,18 @@ module _ (tasks : List TaskDecl) (counters : ℕ) (levels : List ℕ) (top idle 
         kept = λ i past. others idle idle_end controller_base memory_base (get_or c.registers 1 0) (get_or c.registers 2 0) (get_or c.registers 3 0) (get_or c.registers 4 0) (spread_from 27 5 c.registers) i past;
       }
 
-  owes : (from to : ℕ) → Owes from to offset (boot_code tasks counters levels top idle) 0 (Booted tasks counters levels top idle) (offset_state offset (spread c)) (spread c)
+  owes : (from to : ℕ) → Owes from to offset (boot_code tasks counters levels top idle) 0 (BootEffect tasks counters levels top idle) (offset_state offset (spread c)) (spread c)
   owes from to =
       writes controller_base refl
       ▸ writes 1 refl
-      ▸ starts_owe from to (Booted tasks counters levels top idle) (offset_state offset (spread c)) (get_or c.registers 2 0) (spread_from 27 5 c.registers) levels small tasks 0 (offset + 4 + 4) (get_or c.registers 1 0) (counters_code counters first_counter_line (top + 1) ++ finishing_code idle) (spread c) (omega arith)
-      (λ o x1. counters_owe from to (Booted tasks counters levels top idle) (offset_state offset (spread c)) (get_or c.registers 2 0) (spread_from 27 5 c.registers) levels small counters first_counter_line (top + 1) o x1
+      ▸ starts_owe from to (BootEffect tasks counters levels top idle) (offset_state offset (spread c)) (get_or c.registers 2 0) (spread_from 27 5 c.registers) levels small tasks 0 (offset + 4 + 4) (get_or c.registers 1 0) (counters_code counters first_counter_line (top + 1) ++ finishing_code idle) (spread c) (omega arith)
+      (λ o x1. counters_owe from to (BootEffect tasks counters levels top idle) (offset_state offset (spread c)) (get_or c.registers 2 0) (spread_from 27 5 c.registers) levels small counters first_counter_line (top + 1) o x1
       (finishing_code idle) (record (spread c) { levels = levels_with 0 tasks levels c.levels; enabled = enabled_with 0 tasks c.enabled; pending = pending_with 0 tasks c.pending })
       (omega arith) byte
       (λ o2 y1. end_owes from to o2 (get_or c.registers 2 0) y1))
 
   -- from the first instruction to the idle loop
-  pub runs_it : Masked 136 (offset_state offset c) (WithArrivals (Booted tasks counters levels top idle) (offset_state offset c))
+  pub runs_it : Masked 136 (offset_state offset c) (WithArrivals (BootEffect tasks counters levels top idle) (offset_state offset c))
   runs_it =
       let can = h.can_run in
       let to = offset + 4 * length (boot_code tasks counters levels top idle) in
@@ -310,14 +310,14 @@ module _ (tasks : List TaskDecl) (counters : ℕ) (levels : List ℕ) (top idle 
       let all = length-append (lines_code 0 tasks levels) (counters_code counters first_counter_line (top + 1) ++ finishing_code idle) in
       let more = length-append (counters_code counters first_counter_line (top + 1)) (finishing_code idle) in
       let lasts = length-counters counters first_counter_line (top + 1) in
-      handles offset 136 (boot_code tasks counters levels top idle) c (Booted tasks counters levels top idle) (offset_state offset c)
+      handles offset 136 (boot_code tasks counters levels top idle) c (BootEffect tasks counters levels top idle) (offset_state offset c)
       (record { masked = h.masked; there = can.controller; lines = can.lines; aligned = can.aligned; fits = can.inside; placed = can.placed })
       (omega arith)
-      (subst (λ x. Owes offset to offset (boot_code tasks counters levels top idle) 0 (Booted tasks counters levels top idle) (offset_state offset x) x) (spread_is c can.registers can.zero) (owes offset to))
+      (subst (λ x. Owes offset to offset (boot_code tasks counters levels top idle) 0 (BootEffect tasks counters levels top idle) (offset_state offset x) x) (spread_is c can.registers can.zero) (owes offset to))
 
 -- for each list of tasks and number of counters that it is generated for
 pub boots : (tasks : List TaskDecl) (counters : ℕ) (levels : List ℕ) (top idle : ℕ) → length tasks ≤ task_limit → counters ≤ counter_limit → top + 1 < 256
-    → ((k : ℕ) → get_or levels k 0 < 256) → idle < 2 ^ 32 → Boots tasks counters levels top idle (boot_code tasks counters levels top idle)
+    → ((k : ℕ) → get_or levels k 0 < 256) → idle < 2 ^ 32 → IsBootCode tasks counters levels top idle (boot_code tasks counters levels top idle)
 boots tasks counters levels top idle few few_counters byte small fits =
     let long = length-starts tasks 0 levels in
     let lasts = length-counters counters first_counter_line (top + 1) in

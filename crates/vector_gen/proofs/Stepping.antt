@@ -8,7 +8,7 @@ use Rattle.rv32_instr.specs.Ram.{word_at}
 use Rattle.rv32_instr.specs.Table.{Decode}
 use Rattle.sloth_base.specs.Arithmetic.{plus}
 use Rattle.sloth_base.specs.MemoryMap.{memory_base, vectors_base, line_count}
-use Rattle.rv32_instr.specs.Execute.{Going, step, touched, perform, touched_line_by, jumps}
+use Rattle.rv32_instr.specs.Execute.{Going, step, touched, perform, touched_line_by, next_at_target}
 use Rattle.masked_code.specs.Place.{offset_state, InPlace}
 use Rattle.masked_code.proofs.Machine.{step_at, touched_at, jump_at}
 use Rattle.vector_gen.specs.Vectors.{AreInReach, AreJumps, StepToHandlers}
@@ -37,8 +37,8 @@ module _ (handlers : List ℕ) (code : List InstrKind) (reach : AreInReach handl
       let e : memory_base + (0x400 + 4 * k) ≡ vectors_base + 4 * k = omega arith in
       let f : get_or handlers k 0 ≡ memory_base + o = omega arith in
       step_at (0x400 + 4 * k) c (Jal 0 w.0) (here k c h p, omega arith)
-      ∙ ap (λ x. jumps (plus x w.0) c) e
-      ∙ ap (λ x. jumps x c) (w.2 ∙ f)
+      ∙ ap (λ x. next_at_target (plus x w.0) c) e
+      ∙ ap (λ x. next_at_target x c) (w.2 ∙ f)
       ∙ jump_at o c (omega arith)
       ∙ ap (λ x. Going (record { pc = x; core = c })) (sym f)
 

@@ -12,7 +12,7 @@ use Rattle.sloth_base.specs.Arithmetic.{hi, lo}
 use Rattle.sloth_base.specs.MemoryMap.{memory_base, line_count}
 use Rattle.masked_code.specs.Place.{offset_state}
 use Rattle.masked_code.specs.Masked.{Masked, WithArrivals}
-use Rattle.masked_code.specs.Kernel.{CanRun, LeftAs}
+use Rattle.masked_code.specs.Kernel.{CanRun, IsOpenedCore}
 use Rattle.block_parts.specs.Boot.{line_code}
 
 -- ---- the code
@@ -61,7 +61,7 @@ IsUnused tasks counters line = (tasks ≤ line) × ((line < first_counter_line) 
 -- Each task's line has its level, is enabled, and is pending where the task is autostarted. The lines of so many counters have the level
 -- above that of the highest task, and are enabled. All other lines' bytes, and all of RAM, stay. The idle loop is next, with interrupts open,
 -- at the level that was to be gone back to.
-pub record Booted (tasks : List TaskDecl) (counters : ℕ) (levels : List ℕ) (top idle : ℕ) (touched : List ℕ) (start end : State) : Type 0 where
+pub record BootEffect (tasks : List TaskDecl) (counters : ℕ) (levels : List ℕ) (top idle : ℕ) (touched : List ℕ) (start end : State) : Type 0 where
   pub touches : touched ≡ []
   pub level : (line : ℕ) → line < length tasks → slice_index end.core.levels line ≡ slice_index levels line
   pub counter_level : (counter : ℕ) → counter < counters → slice_index end.core.levels (counter_line counter) ≡ top + 1
@@ -76,13 +76,13 @@ pub record Booted (tasks : List TaskDecl) (counters : ℕ) (levels : List ℕ) (
   pub other_pending : (line : ℕ) → length tasks ≤ line → slice_index end.core.pending line ≡ slice_index start.core.pending line
   pub lines : (length end.core.pending ≡ line_count) × (length end.core.enabled ≡ line_count) × (length end.core.levels ≡ line_count)
   pub pc : end.pc ≡ idle
-  pub left : LeftAs (with_lines_of end.core start.core) end.core
+  pub left : IsOpenedCore (with_lines_of end.core start.core) end.core
   pub x2 : slice_index end.core.registers 2 ≡ memory_base + (idle_context + context_bytes)
   pub kept : (i : ℕ) → 5 ≤ i → slice_index end.core.registers i ≡ slice_index start.core.registers i
 
 -- Code of boot: at most 136 instructions lead to its effect, whatever lines arrive.
-pub record Boots (tasks : List TaskDecl) (counters : ℕ) (levels : List ℕ) (top idle : ℕ) (code : List InstrKind) : Type 0 where
+pub record IsBootCode (tasks : List TaskDecl) (counters : ℕ) (levels : List ℕ) (top idle : ℕ) (code : List InstrKind) : Type 0 where
   pub size : length code ≡ boot_length tasks counters
   pub runs :
       (offset : ℕ) (core : Core) → idle % 4 ≡ 0 → MayBoot offset code core
-      → Masked 136 (offset_state offset core) (WithArrivals (Booted tasks counters levels top idle) (offset_state offset core))
+      → Masked 136 (offset_state offset core) (WithArrivals (BootEffect tasks counters levels top idle) (offset_state offset core))

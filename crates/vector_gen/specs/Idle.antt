@@ -13,7 +13,7 @@ abbrev pub idle_mark : ℕ → Mark
 idle_mark address = record { address = address; kind = mark.Idle; a = 0; b = 0; c = 0 }
 
 -- One word, which in place goes back to itself and changes nothing: it never masks, and touches no line.
-pub record Idles (code : List InstrKind) : Type 0 where
+pub record IsIdleCode (code : List InstrKind) : Type 0 where
   pub word : length code ≡ 1
   pub stays :
       (offset : ℕ) (core : Core) → offset % 4 ≡ 0 → offset + 4 ≤ memory_bytes → InPlace core.ram offset code

@@ -3,7 +3,7 @@ ghost use Rattle.std.specs.Prelude.{ℕ, ◌^◌, slice_index, ◌≡◌, ◌++�
 ghost use Rattle.sloth_base.specs.MemoryMap.{boot_base, line_count};
 ghost use Rattle.sloth_base.specs.ConfigRange.{InRange};
 ghost use Rattle.code_lengths.specs.CodeLengths.{boot_length};
-ghost use Rattle.vector_gen.specs.Boot.{register_code, line_start_code, lines_code, counters_code, finishing_code, Boots};
+ghost use Rattle.vector_gen.specs.Boot.{register_code, line_start_code, lines_code, counters_code, finishing_code, IsBootCode};
 ghost use Rattle.sloth_base.specs.Owners.{first_counter_line};
 ghost use Rattle.sloth_base.specs.Limits.{task_limit, counter_limit, level_count};
 
@@ -33,7 +33,7 @@ pub fn boot(alloc: Global, config: &Config, levels: &Levels, map: &Map) -> Resul
     ensures at { IfOk result (λ block. block.at ≡ boot_base) }
     ensures marks { IfOk result (λ block. block.marks ≡ []) }
     ensures size { IfOk result (λ block. length block.code ≡ boot_length config.now.tasks (length config.now.counters)) }
-    ensures effect { IfOk result (λ block. Boots config.now.tasks (length config.now.counters) levels.now.task levels.now.top map.now.idle
+    ensures effect { IfOk result (λ block. IsBootCode config.now.tasks (length config.now.counters) levels.now.task levels.now.top map.now.idle
         block.code) }
 {
     let mut code = Vec::new(alloc);

@@ -1,6 +1,6 @@
 //! The idle loop: one word that jumps to itself, with interrupts open.
 ghost use Rattle.std.specs.Prelude.{◌≡◌, ◌≤◌, ◌∷◌, [], length, IfOk};
-ghost use Rattle.vector_gen.specs.Idle.{idle_mark, Idles};
+ghost use Rattle.vector_gen.specs.Idle.{idle_mark, IsIdleCode};
 
 use block_parts::boot::stay;
 use rv32_instr::Block;
@@ -15,7 +15,7 @@ pub fn idle(alloc: Global, map: &Map) -> Result<Block, NoMemory>
     ensures at { IfOk result (λ block. block.at ≡ map.now.idle) }
     ensures marks { IfOk result (λ block. block.marks ≡ idle_mark map.now.idle ∷ []) }
     ensures size { IfOk result (λ block. length block.code ≤ 256) }
-    ensures effect { IfOk result (λ block. Idles block.code) }
+    ensures effect { IfOk result (λ block. IsIdleCode block.code) }
 {
     let mut code = Vec::new(alloc);
     stay(&mut code)?;

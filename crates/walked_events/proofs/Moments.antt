@@ -17,7 +17,7 @@ use Rattle.sloth_base.specs.Limits.{task_limit}
 use Rattle.sloth_base.specs.MemoryMap.{line_count}
 use Rattle.osek_scheduler.specs.Services.{if_suspended, activated_state, started_task}
 use Rattle.osek_scheduler.specs.Steps.{OsekStep, admitted_state}
-use Rattle.osek_scheduler.specs.Runs.{Leads, ReadySince}
+use Rattle.osek_scheduler.specs.Runs.{AreStepsTo, ReadySince}
 use Rattle.osek_scheduler.proofs.Leading.{leads-append, leads-parts, one_end}
 use Rattle.osek_blocking.proofs.Effects.{Ordered, Effect}
 use Rattle.osek_blocking.proofs.Ordering.{effect, opening_ordered, leads_ordered}
@@ -71,23 +71,23 @@ module _ (config : Config) (app : App) where
 
   -- ---- one admit behind which a task has been Ready
 
-  behind_leads : (past : List Stamped) (s : System) (u k : ℕ) → (r : ReadySince config app past u k) → Leads config app past (opening config app) s
-      → Leads config app r.behind (admitted_state u r.found) s
+  behind_leads : (past : List Stamped) (s : System) (u k : ℕ) → (r : ReadySince config app past u k) → AreStepsTo config app past (opening config app) s
+      → AreStepsTo config app r.behind (admitted_state u r.found) s
   behind_leads past s u k r h =
-      let P : List Stamped → Type 0 = λ es. Leads config app es (opening config app) s in
+      let P : List Stamped → Type 0 = λ es. AreStepsTo config app es (opening config app) s in
       let parts = leads-parts config app r.before (r.admit ∷ r.behind) (opening config app) s (subst P r.is h) in
       let same : parts.0 ≡ r.found = one_end config app r.before (opening config app) parts.0 r.found parts.1 r.leads in
       let Q : Event → Type 0 = λ e. OsekStep config app e parts.0 parts.2.0 in
       let first = subst Q r.admits parts.2.1 in
       let next : parts.2.0 ≡ admitted_state u r.found = first.2 ∙ ap (admitted_state u) same in
-      let R : System → Type 0 = λ x. Leads config app r.behind x s in
+      let R : System → Type 0 = λ x. AreStepsTo config app r.behind x s in
       subst R next parts.2.2
 
   -- it is Ready now
-  pub ready_now : (past : List Stamped) (s : System) (u k : ℕ) → ReadySince config app past u k → Leads config app past (opening config app) s → IsReady s u
+  pub ready_now : (past : List Stamped) (s : System) (u k : ℕ) → ReadySince config app past u k → AreStepsTo config app past (opening config app) s → IsReady s u
   ready_now past s u k r h = r.since r.behind [] s (sym (append-nil r.behind)) (behind_leads past s u k r h)
 
-  module _ (past : List Stamped) (s next : System) (e : Stamped) (leads : Leads config app past (opening config app) s) (step : OsekStep config app e.event s next) where
+  module _ (past : List Stamped) (s next : System) (e : Stamped) (leads : AreStepsTo config app past (opening config app) s) (step : OsekStep config app e.event s next) where
     -- a task that is Ready behind one event more has been Ready since then
     kept_since : (u k : ℕ) → IsReady next u → ReadySince config app past u k → ReadySince config app (past ++ e ∷ []) u k
     kept_since u k ready r = record {
@@ -103,12 +103,12 @@ module _ (config : Config) (app : App) where
       since = λ front rest x cut path. by front rest x path (snoc_cut e r.behind front rest cut);
     }
       where
-        whole : Leads config app (r.behind ++ e ∷ []) (admitted_state u r.found) next
+        whole : AreStepsTo config app (r.behind ++ e ∷ []) (admitted_state u r.found) next
         whole = leads-append config app r.behind (e ∷ []) (admitted_state u r.found) s next (behind_leads past s u k r leads) (next, step, refl)
 
-        by : (front rest : List Stamped) (x : System) → Leads config app front (admitted_state u r.found) x → Snoc e r.behind front rest → IsReady x u
+        by : (front rest : List Stamped) (x : System) → AreStepsTo config app front (admitted_state u r.found) x → Snoc e r.behind front rest → IsReady x u
         by front rest x path (inl p) =
-            let P : List Stamped → Type 0 = λ l. Leads config app l (admitted_state u r.found) x in
+            let P : List Stamped → Type 0 = λ l. AreStepsTo config app l (admitted_state u r.found) x in
             let Q : System → Type 0 = λ y. IsReady y u in
             subst Q (one_end config app (r.behind ++ e ∷ []) (admitted_state u r.found) next x whole (subst P p.1 path)) ready
         by front rest x path (inr p) = r.since front p.0 x p.1 path
@@ -123,7 +123,7 @@ module _ (config : Config) (app : App) where
         at_end : (r0 : List Stamped) → past ≡ r.before ++ r0 → (r.admit ∷ r.behind) ≡ r0 ++ e ∷ [] → Before u k
         at_end [] front here =
             let it : r.admit ≡ e = cc in
-            let P : List Stamped → Type 0 = λ l. Leads config app l (opening config app) s in
+            let P : List Stamped → Type 0 = λ l. AreStepsTo config app l (opening config app) s in
             let same = one_end config app r.before (opening config app) r.found s r.leads (subst P (front ∙ append-nil r.before) leads) in
             let Q : System → Type 0 = λ y. (task y u).state ≡ mode.Suspended in
             let R : Stamped → Type 0 = λ a. k < a.stamp.at in
@@ -157,7 +157,7 @@ module _ (config : Config) (app : App) where
     abbrev Tells : List ℕ → ℕ → ℕ → Type 0
     Tells moments u k = (k < get_or moments u 0) ↔ ReadySince config app (past ++ e ∷ []) u k
 
-    behind : Leads config app (past ++ e ∷ []) (opening config app) next
+    behind : AreStepsTo config app (past ++ e ∷ []) (opening config app) next
     behind = leads-append config app past (e ∷ []) (opening config app) s next leads (next, step, refl)
 
     -- the entry of a task that the event does not make Ready, and leaves Ready
@@ -191,7 +191,7 @@ module _ (config : Config) (app : App) where
       λ r. by (since_before u k r),
     )
       where
-        now : (front rest : List Stamped) (x : System) → [] ≡ front ++ rest → Leads config app front (admitted_state u s) x → IsReady x u
+        now : (front rest : List Stamped) (x : System) → [] ≡ front ++ rest → AreStepsTo config app front (admitted_state u s) x → IsReady x u
         now [] rest x cut path = let Q : System → Type 0 = λ y. IsReady y u in subst Q (leads_to ∙ sym path) ready
         now (f ∷ front) rest x cut path = absurd cc
 

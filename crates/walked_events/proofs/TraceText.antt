@@ -17,7 +17,7 @@ use Rattle.line_words.specs.EventNumbers.{HasNumbers}
 use Rattle.trace_text.specs.EventLines.{IsLineOf, counted_line}
 use Rattle.line_words.specs.EventWords.{name_of, event_text}
 use Rattle.trace_text.proofs.EventsBack.{stamped_back}
-use Rattle.walked_events.specs.TraceText.{text_of, HasLine, Shows, IsFirstBad, Begins, BeginsWithNone}
+use Rattle.walked_events.specs.TraceText.{text_of, HasLine, IsEventText, IsFirstBad, HasFirstLine, HasNoFirstLine}
 use Rattle.walked_events.proofs.OneLine.{number_lacks, fixed, named_lacks, and, task_lacks}
 use Rattle.walked_events.proofs.ReadEvents.{HasRead}
 
@@ -86,7 +86,7 @@ module _ (tasks functions counters : List (List ℕ)) (named : AreNames tasks) (
       (more.0, ap (λ (x : Stamped). x ∷ others) (sym it) ∙ ap (λ (l : List Stamped). e ∷ l) more.1, more.2, more.3)
 
   -- a text shows one list of events
-  pub shows_one : (text : List ℕ) (events others : List Stamped) → Shows tasks functions counters events text → Shows tasks functions counters others text → events ≡ others
+  pub shows_one : (text : List ℕ) (events others : List Stamped) → IsEventText tasks functions counters events text → IsEventText tasks functions counters others text → events ≡ others
   shows_one text events others h k =
       let f = text_front events others [] h.lines k.lines (append-nil (text_of tasks functions counters events) ∙ (sym h.is ∙ k.is)) in
       sym (f.1 ∙ (ap (λ (l : List Stamped). events ++ l) (no_more f.0 f.2) ∙ append-nil events))
@@ -96,7 +96,7 @@ module _ (tasks functions counters : List (List ℕ)) (named : AreNames tasks) (
       no_more (e ∷ back) h = absurd (not_empty e (text_of tasks functions counters back) (h ∙ append_assoc (counted_line tasks functions counters e) (10 ∷ []) (text_of tasks functions counters back)))
 
   -- one with a bad line shows none
-  pub bad_shows_none : (text : List ℕ) (k : ℕ) (events : List Stamped) → IsFirstBad tasks functions counters text k → Shows tasks functions counters events text → ⊥
+  pub bad_shows_none : (text : List ℕ) (k : ℕ) (events : List Stamped) → IsFirstBad tasks functions counters text k → IsEventText tasks functions counters events text → ⊥
   bad_shows_none text k events b h =
       let f = text_front b.front events b.rest b.lines h.lines (sym b.is ∙ h.is) in
       by f.0 f.2 f.3
@@ -109,7 +109,7 @@ module _ (tasks functions counters : List (List ℕ)) (named : AreNames tasks) (
 
   -- two bad lines of one text
   bad_front : (front others : List Stamped) (rest more : List ℕ) → All (HasLine tasks functions counters) front → All (HasLine tasks functions counters) others
-      → text_of tasks functions counters front ++ rest ≡ text_of tasks functions counters others ++ more → BeginsWithNone tasks functions counters rest → BeginsWithNone tasks functions counters more → length front ≡ length others
+      → text_of tasks functions counters front ++ rest ≡ text_of tasks functions counters others ++ more → HasNoFirstLine tasks functions counters rest → HasNoFirstLine tasks functions counters more → length front ≡ length others
   bad_front [] [] rest more h k same bad worse = refl
   bad_front [] (f ∷ others) rest more h k same bad worse =
       absurd (bad f (text_of tasks functions counters others ++ more) (All-head (HasLine tasks functions counters) f others k) (same ∙ text_cons f others more))
@@ -157,16 +157,16 @@ module _ (tasks functions counters : List (List ℕ)) (named : AreNames tasks) (
       let back = ap (behind 10) end.is ∙ behind_is 10 end.line end.others refl end.lacks_it in
       end.is ∙ (ap (λ (l : List ℕ). l ++ 10 ∷ end.others) (sym front) ∙ ap (λ (l : List ℕ). before 10 text ++ 10 ∷ l) (sym back))
 
-  pub begins : (text : List ℕ) (e : Stamped) → is_byte_of 10 text ≡ true → IsLineOf tasks functions counters e (before 10 text) → Begins tasks functions counters text e
+  pub begins : (text : List ℕ) (e : Stamped) → is_byte_of 10 text ≡ true → IsLineOf tasks functions counters e (before 10 text) → HasFirstLine tasks functions counters text e
   begins text e h is =
       let P : List ℕ → Type 0 = λ t. IsLineOf tasks functions counters e t in
       record { line = subst P is.prints is; is = has_split text h ∙ ap (λ (l : List ℕ). l ++ 10 ∷ behind 10 text) is.prints }
 
-  pub begins_no_end : (text : List ℕ) → is_byte_of 10 text ≡ false → BeginsWithNone tasks functions counters text
+  pub begins_no_end : (text : List ℕ) → is_byte_of 10 text ≡ false → HasNoFirstLine tasks functions counters text
   begins_no_end text no_end e after h same =
       true≢false (sym (has_here 10 (counted_line tasks functions counters e) after refl) ∙ (sym (ap (is_byte_of 10) same) ∙ no_end))
 
-  pub begins_none : (text : List ℕ) → ((e : Stamped) → IsLineOf tasks functions counters e (before 10 text) → ⊥) → BeginsWithNone tasks functions counters text
+  pub begins_none : (text : List ℕ) → ((e : Stamped) → IsLineOf tasks functions counters e (before 10 text) → ⊥) → HasNoFirstLine tasks functions counters text
   begins_none text no_event e after h same =
       let P : List ℕ → Type 0 = λ t. IsLineOf tasks functions counters e t in
       no_event e (subst P (sym (ap (before 10) same ∙ first_line e after h)) h)
@@ -188,7 +188,7 @@ module _ (tasks functions counters : List (List ℕ)) (text : List ℕ) where
   pub reads_nothing : HasRead tasks functions counters text [] text
   reads_nothing = record { lines = λ k d l. absurd (omega (arith, l)); is = refl; few = omega arith }
 
-  pub reads_more : (events : List Stamped) (rest : List ℕ) (e : Stamped) → HasRead tasks functions counters text events rest → Begins tasks functions counters rest e
+  pub reads_more : (events : List Stamped) (rest : List ℕ) (e : Stamped) → HasRead tasks functions counters text events rest → HasFirstLine tasks functions counters rest e
       → HasRead tasks functions counters text (events ++ e ∷ []) (behind 10 rest)
   reads_more events rest e r b = record {
     lines = all_more (HasLine tasks functions counters) events e r.lines b.line;
@@ -201,15 +201,15 @@ module _ (tasks functions counters : List (List ℕ)) (text : List ℕ) where
         omega (arith, few, more, cut, parts);
   }
 
-  pub reads_shorter : (rest : List ℕ) (e : Stamped) → Begins tasks functions counters rest e → length (behind 10 rest) < length rest
+  pub reads_shorter : (rest : List ℕ) (e : Stamped) → HasFirstLine tasks functions counters rest e → length (behind 10 rest) < length rest
   reads_shorter rest e b =
       let cut = ap length b.is in let parts = length-append (counted_line tasks functions counters e) (10 ∷ behind 10 rest) in omega (arith, cut, parts)
 
-  pub reads_bad : (events : List Stamped) (rest : List ℕ) → HasRead tasks functions counters text events rest → rest ≢ [] → BeginsWithNone tasks functions counters rest
+  pub reads_bad : (events : List Stamped) (rest : List ℕ) → HasRead tasks functions counters text events rest → rest ≢ [] → HasNoFirstLine tasks functions counters rest
       → IsFirstBad tasks functions counters text (length events + 1)
   reads_bad events rest r more none = record { front = events; rest = rest; lines = r.lines; is = r.is; line = refl; more = more; bad = none }
 
-  pub reads_all : (events : List Stamped) (rest : List ℕ) → HasRead tasks functions counters text events rest → rest ≡ [] → Shows tasks functions counters events text
+  pub reads_all : (events : List Stamped) (rest : List ℕ) → HasRead tasks functions counters text events rest → rest ≡ [] → IsEventText tasks functions counters events text
   reads_all events rest r none = record {
     lines = r.lines;
     is = r.is ∙ (ap (λ (l : List ℕ). text_of tasks functions counters events ++ l) none ∙ append-nil (text_of tasks functions counters events));
@@ -221,13 +221,13 @@ module _ (tasks functions counters : List (List ℕ)) (named : AreNames tasks) (
   abbrev ReadsLine : Option Stamped → Type 0
   ReadsLine result = (e : Stamped) → (result ≡ Some e) ↔ IsLineOf tasks functions counters e line
 
-  pub reads_some : (result : Option Stamped) → is_byte_of 10 text ≡ true → line ≡ before 10 text → ReadsLine result → IfSome result (λ e. Begins tasks functions counters text e)
+  pub reads_some : (result : Option Stamped) → is_byte_of 10 text ≡ true → line ≡ before 10 text → ReadsLine result → IfSome result (λ e. HasFirstLine tasks functions counters text e)
   reads_some None ended is reads = tt
   reads_some (Some e) ended is reads =
       let P : List ℕ → Type 0 = λ t. IsLineOf tasks functions counters e t in
       begins tasks functions counters named called counted apart text e ended (subst P is ((reads e).0 refl))
 
-  pub reads_none : (result : Option Stamped) → line ≡ before 10 text → ReadsLine result → IfNone result (BeginsWithNone tasks functions counters text)
+  pub reads_none : (result : Option Stamped) → line ≡ before 10 text → ReadsLine result → IfNone result (HasNoFirstLine tasks functions counters text)
   reads_none (Some e) is reads = tt
   reads_none None is reads =
       begins_none tasks functions counters named called counted apart text

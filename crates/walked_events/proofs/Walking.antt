@@ -19,7 +19,7 @@ use Rattle.osek_scheduler.specs.State.{System, task, counter, opening}
 use Rattle.osek_scheduler.specs.Priority.{rank, is_active, NoTicks}
 use Rattle.osek_scheduler.specs.Steps.{OsekStep}
 use Rattle.osek_scheduler.specs.Next.{all_below}
-use Rattle.osek_scheduler.specs.Runs.{Follows, ReadySince, OsekRun, PassesOver, PassesOverArrivals}
+use Rattle.osek_scheduler.specs.Runs.{AreStepsBehind, ReadySince, OsekRun, PassesOver, PassesOverArrivals}
 use Rattle.osek_scheduler.proofs.Tests.{Decides-is_ready, Decides-is_active}
 use Rattle.osek_scheduler.proofs.Leading.{follows_leads, one_end}
 use Rattle.sloth_base.specs.Owners.{is_counter_line, owners_in, first_counter_line}
@@ -27,7 +27,7 @@ use Rattle.sloth_base.specs.Limits.{task_limit}
 use Rattle.sloth_base.specs.MemoryMap.{line_count}
 use Rattle.osek_plans.specs.Above.{is_above, is_due_line, is_line_above}
 use Rattle.walked_events.specs.Moments.{KeepsMoments, all_later}
-use Rattle.walked_events.specs.Walk.{Walk, Walks, WalksOrStrays, StraysAt, Stops, IsWalked, task_passes, event_passes}
+use Rattle.walked_events.specs.Walk.{Walk, IsWalkStep, IsWalkOrStray, HasStrayAt, IsWalkEnd, IsWalked, task_passes, event_passes}
 use Rattle.walked_events.proofs.Moments.{moments_more, no_moments}
 
 abbrev one_bit : Bool → ℕ
@@ -108,8 +108,8 @@ module _ (config : Config) (app : App) (past : List Stamped) (s : System) (momen
 -- ---- runs, one event more
 
 module _ (config : Config) (app : App) where
-  follows_more : (past es : List Stamped) (e : Stamped) (s z next : System) → Follows config app past s es z → OsekStep config app e.event z next
-      → PassesOverArrivals config app (past ++ es) z e.stamp.from e.event → Follows config app past s (es ++ e ∷ []) next
+  follows_more : (past es : List Stamped) (e : Stamped) (s z next : System) → AreStepsBehind config app past s es z → OsekStep config app e.event z next
+      → PassesOverArrivals config app (past ++ es) z e.stamp.from e.event → AreStepsBehind config app past s (es ++ e ∷ []) next
   follows_more past [] e s z next h step passes =
       let P : List Stamped → System → Type 0 = λ l x. PassesOverArrivals config app l x e.stamp.from e.event in
       let Q : System → Type 0 = λ x. OsekStep config app e.event x next in
@@ -121,22 +121,22 @@ module _ (config : Config) (app : App) where
   -- where a run goes on, its front is one
   pub record Cut (past front back : List Stamped) (s z : System) : Type 0 where
     pub middle : System
-    pub before : Follows config app past s front middle
-    pub behind : Follows config app (past ++ front) middle back z
+    pub before : AreStepsBehind config app past s front middle
+    pub behind : AreStepsBehind config app (past ++ front) middle back z
 
-  pub follows_cut : (past front back : List Stamped) (s z : System) → Follows config app past s (front ++ back) z → Cut past front back s z
+  pub follows_cut : (past front back : List Stamped) (s z : System) → AreStepsBehind config app past s (front ++ back) z → Cut past front back s z
   follows_cut past [] back s z h =
-      let P : List Stamped → Type 0 = λ l. Follows config app l s back z in record { middle = s; before = refl; behind = subst P (sym (append-nil past)) h }
+      let P : List Stamped → Type 0 = λ l. AreStepsBehind config app l s back z in record { middle = s; before = refl; behind = subst P (sym (append-nil past)) h }
   follows_cut past (x ∷ front) back s z h =
       let rest = follows_cut (past ++ x ∷ []) front back h.0 z h.3 in
-      let P : List Stamped → Type 0 = λ l. Follows config app l rest.middle back z in
+      let P : List Stamped → Type 0 = λ l. AreStepsBehind config app l rest.middle back z in
       record { middle = rest.middle; before = (h.0, h.1, h.2, rest.before); behind = subst P (append_assoc past (x ∷ []) front) rest.behind }
 
   pub run_front : (front back : List Stamped) → OsekRun config app (front ++ back) → OsekRun config app front
   run_front front back h = let c = follows_cut [] front back (opening config app) h.0 h.1 in (c.middle, c.before)
 
 module _ (config : Config) (app : App) (past : List Stamped) (walk : Walk) (h : IsWalked config app past walk) (e : Stamped) where
-  goes_on : (new : Walk) → walk.machine.config ≡ config → walk.machine.app ≡ app → Walks e walk new → IsWalked config app (past ++ e ∷ []) new
+  goes_on : (new : Walk) → walk.machine.config ≡ config → walk.machine.app ≡ app → IsWalkStep e walk new → IsWalked config app (past ++ e ∷ []) new
   goes_on new c a w =
       let P : Config → App → Type 0 = λ x y. OsekStep x y e.event walk.machine.system new.machine.system in
       let step = subst (λ (y : App). P config y) a (subst (λ (x : Config). P x walk.machine.app) c w.step) in
@@ -151,10 +151,10 @@ module _ (config : Config) (app : App) (past : List Stamped) (walk : Walk) (h : 
         keeps = subst R (sym w.moments) (moments_more config app past walk.machine.system walk.moments h.keeps h.few e.stamp new.machine.system e.event step);
       }
 
-  pub walked_more : (new : Walk) → Walks e walk new → IsWalked config app (past ++ e ∷ []) new
+  pub walked_more : (new : Walk) → IsWalkStep e walk new → IsWalked config app (past ++ e ∷ []) new
   walked_more new w = goes_on new h.config_is h.app_is w
 
-  pub walked_stops : Stops e walk → OsekRun config app (past ++ e ∷ []) → ⊥
+  pub walked_stops : IsWalkEnd e walk → OsekRun config app (past ++ e ∷ []) → ⊥
   walked_stops stops run =
       let cut = follows_cut config app [] past (e ∷ []) (opening config app) run.0 run.1 in
       let same : cut.middle ≡ walk.machine.system =
@@ -169,7 +169,7 @@ module _ (config : Config) (app : App) (past : List Stamped) (walk : Walk) (h : 
       let S : Config → App → Type 0 = λ x y. OsekStep x y e.event walk.machine.system next in
       stops (subst R (sym h.config_is) passes) next (subst (λ (x : Config). S x walk.machine.app) (sym h.config_is) (subst (λ (y : App). S config y) (sym h.app_is) step))
 
-  pub strays_here : (k : ℕ) → k ≡ length past + 1 → Stops e walk → StraysAt config app (past ++ e ∷ []) k
+  pub strays_here : (k : ℕ) → k ≡ length past + 1 → IsWalkEnd e walk → HasStrayAt config app (past ++ e ∷ []) k
   strays_here k is stops =
       let long = length-append past (e ∷ []) in
       let P : List Stamped → Type 0 = λ l. OsekRun config app l in
@@ -184,7 +184,7 @@ module _ (config : Config) (app : App) (past : List Stamped) (walk : Walk) (h : 
       }
 
 -- what strays does so with more behind it
-pub still_strays : (config : Config) (app : App) (events : List Stamped) (e : Stamped) (k : ℕ) → StraysAt config app events k → StraysAt config app (events ++ e ∷ []) k
+pub still_strays : (config : Config) (app : App) (events : List Stamped) (e : Stamped) (k : ℕ) → HasStrayAt config app events k → HasStrayAt config app (events ++ e ∷ []) k
 still_strays config app events e k h =
     let long = length-append events (e ∷ []) in
     let inside = h.inside in
@@ -198,12 +198,12 @@ still_strays config app events e k h =
 
 -- behind a stray event nothing is looked at
 pub stays_stray : (config : Config) (app : App) (events : List Stamped) (e : Stamped) (stray : Option ℕ) (walk : Walk) → is_some stray ≡ true
-    → WalksOrStrays config app events stray walk → WalksOrStrays config app (events ++ e ∷ []) stray walk
+    → IsWalkOrStray config app events stray walk → IsWalkOrStray config app (events ++ e ∷ []) stray walk
 stays_stray config app events e (Some k) walk some h = still_strays config app events e k h
 stays_stray config app events e None walk some h = absurd cc
 
 -- where none strayed, the walk goes on
-pub walks_here : (config : Config) (app : App) (events : List Stamped) (stray : Option ℕ) (walk : Walk) → is_some stray ≡ false → WalksOrStrays config app events stray walk
+pub walks_here : (config : Config) (app : App) (events : List Stamped) (stray : Option ℕ) (walk : Walk) → is_some stray ≡ false → IsWalkOrStray config app events stray walk
     → IsWalked config app events walk
 walks_here config app events None walk none h = h
 walks_here config app events (Some k) walk none h = absurd cc

@@ -9,7 +9,7 @@ use Rattle.sloth_base.specs.MemoryMap.{line_count}
 use Rattle.osek_scheduler.specs.State.{System, task, opening}
 use Rattle.osek_scheduler.specs.Services.{if_suspended}
 use Rattle.osek_scheduler.specs.Next.{all_below}
-use Rattle.osek_scheduler.specs.Runs.{Leads, ReadySince}
+use Rattle.osek_scheduler.specs.Runs.{AreStepsTo, ReadySince}
 
 -- the moments after an event of moment `at` in state s: that of an admit that makes its task Ready is noted, an entry clears
 abbrev pub noted_moments : Event → ℕ → System → List ℕ → List ℕ
@@ -20,7 +20,7 @@ noted_moments _ at s moments = moments
 -- The events lead to s, and the moment kept for each task is the number of the moments k such that the task has been Ready since an
 -- admit behind k: the moment of that admit, or 0 where there is none.
 pub record KeepsMoments (config : Config) (app : App) (past : List Stamped) (s : System) (moments : List ℕ) : Type 0 where
-  pub leads : Leads config app past (opening config app) s
+  pub leads : AreStepsTo config app past (opening config app) s
   pub count : length moments ≡ line_count
   pub tells : (u k : ℕ) → (k < get_or moments u 0) ↔ ReadySince config app past u k
 

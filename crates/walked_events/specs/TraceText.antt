@@ -15,13 +15,13 @@ abbrev pub HasLine : (tasks functions counters : List (List ℕ)) → Stamped �
 HasLine tasks functions counters e = IsLineOf tasks functions counters e (counted_line tasks functions counters e)
 
 -- the text is that of these events
-pub record Shows (tasks functions counters : List (List ℕ)) (events : List Stamped) (text : List ℕ) : Type 0 where
+pub record IsEventText (tasks functions counters : List (List ℕ)) (events : List Stamped) (text : List ℕ) : Type 0 where
   pub lines : All (HasLine tasks functions counters) events
   pub is : text ≡ text_of tasks functions counters events
 
 -- the first line is no event's, or no LF ends it
-abbrev pub BeginsWithNone : (tasks functions counters : List (List ℕ)) → List ℕ → Type 0
-BeginsWithNone tasks functions counters text =
+abbrev pub HasNoFirstLine : (tasks functions counters : List (List ℕ)) → List ℕ → Type 0
+HasNoFirstLine tasks functions counters text =
     (e : Stamped) (after : List ℕ) → HasLine tasks functions counters e → text ≡ counted_line tasks functions counters e ++ 10 ∷ after → ⊥
 
 -- line k is the first that is no event's, or not ended by LF
@@ -32,9 +32,9 @@ pub record IsFirstBad (tasks functions counters : List (List ℕ)) (text : List 
   pub is : text ≡ text_of tasks functions counters front ++ rest
   pub line : k ≡ length front + 1
   pub more : rest ≢ []
-  pub bad : BeginsWithNone tasks functions counters rest
+  pub bad : HasNoFirstLine tasks functions counters rest
 
 -- the first line of the text is this event's, and an LF ends it
-pub record Begins (tasks functions counters : List (List ℕ)) (text : List ℕ) (e : Stamped) : Type 0 where
+pub record HasFirstLine (tasks functions counters : List (List ℕ)) (text : List ℕ) (e : Stamped) : Type 0 where
   pub line : HasLine tasks functions counters e
   pub is : text ≡ counted_line tasks functions counters e ++ 10 ∷ behind 10 text

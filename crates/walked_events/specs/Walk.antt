@@ -9,7 +9,7 @@ use Rattle.sloth_base.specs.Limits.{task_limit}
 use Rattle.osek_scheduler.specs.State.{System, task, opening}
 use Rattle.osek_scheduler.specs.Priority.{is_active}
 use Rattle.osek_scheduler.specs.Steps.{OsekStep}
-use Rattle.osek_scheduler.specs.Runs.{OsekRun, Follows}
+use Rattle.osek_scheduler.specs.Runs.{OsekRun, AreStepsBehind}
 use Rattle.osek_plans.specs.Above.{is_line_above}
 use Rattle.osek_machine.specs.Steps.{Machine}
 use Rattle.walked_events.specs.Moments.{KeepsMoments, all_later, noted_moments}
@@ -38,7 +38,7 @@ with_moment None moments = moments
 with_moment (Some note) moments = set moments note.0 note.1
 
 -- an event leads from one walk to another
-pub record Walks (e : Stamped) (old new : Walk) : Type 0 where
+pub record IsWalkStep (e : Stamped) (old new : Walk) : Type 0 where
   pub config : new.machine.config ≡ old.machine.config
   pub app : new.machine.app ≡ old.machine.app
   pub step : OsekStep old.machine.config old.machine.app e.event old.machine.system new.machine.system
@@ -46,8 +46,8 @@ pub record Walks (e : Stamped) (old new : Walk) : Type 0 where
   pub moments : new.moments ≡ noted_moments e.event e.stamp.at old.machine.system old.moments
 
 -- and to none
-abbrev pub Stops : Stamped → Walk → Type 0
-Stops e old = event_passes old.machine.config old.machine.system old.moments e.event e.stamp.from ≡ true
+abbrev pub IsWalkEnd : Stamped → Walk → Type 0
+IsWalkEnd e old = event_passes old.machine.config old.machine.system old.moments e.event e.stamp.from ≡ true
     → (next : System) → OsekStep old.machine.config old.machine.app e.event old.machine.system next → ⊥
 
 -- a walk of a configuration behind these events
@@ -55,17 +55,17 @@ pub record IsWalked (config : Config) (app : App) (past : List Stamped) (walk : 
   pub few : length config.tasks ≤ task_limit
   pub config_is : walk.machine.config ≡ config
   pub app_is : walk.machine.app ≡ app
-  pub follows : Follows config app [] (opening config app) past walk.machine.system
+  pub follows : AreStepsBehind config app [] (opening config app) past walk.machine.system
   pub keeps : KeepsMoments config app past walk.machine.system walk.moments
 
 -- of these events the one of line k is the first with which they are no run
-pub record StraysAt (config : Config) (app : App) (events : List Stamped) (k : ℕ) : Type 0 where
+pub record HasStrayAt (config : Config) (app : App) (events : List Stamped) (k : ℕ) : Type 0 where
   pub positive : 0 < k
   pub inside : k ≤ length events
   pub before : OsekRun config app (take (k - 1) events)
   pub stray : OsekRun config app (take k events) → ⊥
 
 -- behind these events: the walk, where they are a run, else the line of the first with which they are none
-abbrev pub WalksOrStrays : Config → App → List Stamped → Option ℕ → Walk → Type 0
-WalksOrStrays config app events None walk = IsWalked config app events walk
-WalksOrStrays config app events (Some k) walk = StraysAt config app events k
+abbrev pub IsWalkOrStray : Config → App → List Stamped → Option ℕ → Walk → Type 0
+IsWalkOrStray config app events None walk = IsWalked config app events walk
+IsWalkOrStray config app events (Some k) walk = HasStrayAt config app events k

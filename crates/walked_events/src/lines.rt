@@ -1,7 +1,7 @@
 //! The first event line of a text in the counted form.
 ghost use Rattle.std.specs.Prelude.{IfSome, IfNone};
 ghost use Rattle.sloth_base.specs.ImageRange.{AreApart, AreNames};
-ghost use Rattle.walked_events.specs.TraceText.{Begins, BeginsWithNone};
+ghost use Rattle.walked_events.specs.TraceText.{HasFirstLine, HasNoFirstLine};
 
 use sloth_base::event::Stamped;
 use sloth_base::name::Name;
@@ -19,8 +19,8 @@ pub fn first_event(
     requires funcs { AreNames funcs.now }
     requires counters { AreNames counters.now }
     requires apart { AreApart counters.now tasks.now }
-    ensures some { IfSome result (λ e. Begins tasks.now funcs.now counters.now text.now e) }
-    ensures none { IfNone result (BeginsWithNone tasks.now funcs.now counters.now text.now) }
+    ensures some { IfSome result (λ e. HasFirstLine tasks.now funcs.now counters.now text.now e) }
+    ensures none { IfNone result (HasNoFirstLine tasks.now funcs.now counters.now text.now) }
 {
     if !has(text, b'\n') {
         return None;

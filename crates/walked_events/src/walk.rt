@@ -11,7 +11,7 @@ ghost use Rattle.osek_scheduler.specs.Steps.{OsekStep};
 ghost use Rattle.osek_scheduler.specs.Priority.{is_active};
 ghost use Rattle.osek_scheduler.specs.Services.{if_suspended};
 ghost use Rattle.walked_events.specs.Moments.{all_later, noted_moments};
-ghost use Rattle.walked_events.specs.Walk.{Stops, IsWalked, WalksOrStrays, Walks, event_passes, task_passes, with_moment};
+ghost use Rattle.walked_events.specs.Walk.{IsWalkEnd, IsWalked, IsWalkOrStray, IsWalkStep, event_passes, task_passes, with_moment};
 
 use osek_machine::{NotARun, Osek};
 use osek_plans::priority::is_active;
@@ -140,8 +140,8 @@ impl Walk {
 
     /// One event more. Takes no memory.
     pub fn step(&mut self, event: &Stamped) -> Result<(), NotARun>
-        ensures walks { OnOk result (Walks event.now self.old self.new) }
-        ensures stops { OnErr result (Stops event.now self.old) }
+        ensures walks { OnOk result (IsWalkStep event.now self.old self.new) }
+        ensures stops { OnErr result (IsWalkEnd event.now self.old) }
     {
         if !self.event_passes(&event.event, event.stamp.from) {
             return Err(NotARun);
@@ -158,8 +158,8 @@ impl Walk {
 
     /// One event more, of a line, where none has strayed: the line of the first that strays.
     pub fn follow(&mut self, stray: Option<u32>, event: &Stamped, line: u32) -> Option<u32>
-        ensures { (config : AnyConfig) (app : AnyApp) (past : List AnyEvent) → line ≡ length past + 1 → WalksOrStrays config app past stray self.old
-            → WalksOrStrays config app (past ++ event.now ∷ []) result self.new }
+        ensures { (config : AnyConfig) (app : AnyApp) (past : List AnyEvent) → line ≡ length past + 1 → IsWalkOrStray config app past stray self.old
+            → IsWalkOrStray config app (past ++ event.now ∷ []) result self.new }
     {
         if stray.is_some() {
             return stray;

@@ -8,38 +8,38 @@ use Rattle.run_samples.specs.declared.sampling.Sample.{Sample}
 use Rattle.wave_text.specs.declared.dump.Dump.{Dump}
 use Rattle.wave_text.specs.declared.signals.Scope.{Scope}
 use Rattle.wave_text.specs.declared.signals.Width.{Width}
-use Rattle.wave_text.specs.Changes.{Entry, same_value, change_entries, scope_changes, moment_entries, with_moment, stands_behind}
+use Rattle.wave_text.specs.Changes.{DumpEntry, same_value, change_entries, scope_changes, moment_entries, with_moment, stands_behind}
 use Rattle.wave_text.specs.Signals.{first_code, width_of, value_of, KeepValues}
 use Rattle.wave_text.specs.Text.{entry_line, entry_lines}
-use Rattle.wave_text.specs.Waves.{Gets}
+use Rattle.wave_text.specs.Waves.{HasNewEntries}
 
 -- ---- entries in two parts
 
-pub lines-append : (es fs : List Entry) → entry_lines (es ++ fs) ≡ entry_lines es ++ entry_lines fs
+pub lines-append : (es fs : List DumpEntry) → entry_lines (es ++ fs) ≡ entry_lines es ++ entry_lines fs
 lines-append [] fs = refl
 lines-append (e ∷ es) fs = ap (λ l. entry_line e ++ l) (lines-append es fs) ∙ sym (append_assoc (entry_line e) (entry_lines es) (entry_lines fs))
 
-standing : (count : ℕ) (fs : List Entry) → with_moment count true fs ≡ fs
+standing : (count : ℕ) (fs : List DumpEntry) → with_moment count true fs ≡ fs
 standing count [] = refl
 standing count (f ∷ fs) = refl
 
-moment-append : (count : ℕ) (s : Bool) (es fs : List Entry)
+moment-append : (count : ℕ) (s : Bool) (es fs : List DumpEntry)
     → with_moment count s (es ++ fs) ≡ with_moment count s es ++ with_moment count (stands_behind s es) fs
 moment-append count s [] fs = refl
 moment-append count s (e ∷ es) fs =
     sym (append_assoc (moment_entries count s) (e ∷ es) fs) ∙ ap (λ l. (moment_entries count s ++ e ∷ es) ++ l) (sym (standing count fs))
 
-stands-append : (s : Bool) (es fs : List Entry) → stands_behind s (es ++ fs) ≡ stands_behind (stands_behind s es) fs
+stands-append : (s : Bool) (es fs : List DumpEntry) → stands_behind s (es ++ fs) ≡ stands_behind (stands_behind s es) fs
 stands-append s [] fs = refl
 stands-append s (e ∷ es) [] = refl
 stands-append s (e ∷ es) (f ∷ fs) = refl
 
 -- ---- a dump
 
-pub gets-none : (d : Dump) → Gets d d []
+pub gets-none : (d : Dump) → HasNewEntries d d []
 gets-none d = record { text = sym (append-nil d.text.items); count = refl; stamped = refl }
 
-pub gets-both : (a b c : Dump) (es fs : List Entry) → Gets a b es → Gets b c fs → Gets a c (es ++ fs)
+pub gets-both : (a b c : Dump) (es fs : List DumpEntry) → HasNewEntries a b es → HasNewEntries b c fs → HasNewEntries a c (es ++ fs)
 gets-both a b c es fs h k =
     let front : List ℕ = entry_lines (with_moment a.count a.stamped es) in
     let W : ℕ → Bool → List ℕ = λ n s. entry_lines (with_moment n s fs) in
@@ -54,33 +54,33 @@ gets-both a b c es fs h k =
     }
 
 -- a signal that keeps its value
-pub gets-same : (d : Dump) (code : ℕ) (w : Width) (x y : Option ℕ) → same_value x y ≡ true → Gets d d (change_entries code w x y)
+pub gets-same : (d : Dump) (code : ℕ) (w : Width) (x y : Option ℕ) → same_value x y ≡ true → HasNewEntries d d (change_entries code w x y)
 gets-same d code w x y same =
-    let P : Bool → Type 0 = λ b. Gets d d (if b then [] else Entry.change code w y ∷ []) in
+    let P : Bool → Type 0 = λ b. HasNewEntries d d (if b then [] else DumpEntry.change code w y ∷ []) in
     subst P (sym same) (gets-none d)
 
 -- one that changes, behind the moment's line
 pub gets-change : (a b c : Dump) (code : ℕ) (w : Width) (x y : Option ℕ) → same_value x y ≡ false
-    → b.text.items ≡ a.text.items ++ entry_lines (moment_entries a.count a.stamped) → c.text.items ≡ b.text.items ++ entry_line (Entry.change code w y)
-    → c.count ≡ a.count → c.stamped ≡ true → Gets a c (change_entries code w x y)
+    → b.text.items ≡ a.text.items ++ entry_lines (moment_entries a.count a.stamped) → c.text.items ≡ b.text.items ++ entry_line (DumpEntry.change code w y)
+    → c.count ≡ a.count → c.stamped ≡ true → HasNewEntries a c (change_entries code w x y)
 gets-change a b c code w x y differs stood text count stamped =
-    let P : Bool → Type 0 = λ d. Gets a c (if d then [] else Entry.change code w y ∷ []) in
+    let P : Bool → Type 0 = λ d. HasNewEntries a c (if d then [] else DumpEntry.change code w y ∷ []) in
     subst P (sym differs) (record {
-      text = text ∙ ap (λ t. t ++ entry_line (Entry.change code w y)) stood ∙ flat_map_more entry_line a.text.items (moment_entries a.count a.stamped) (Entry.change code w y);
+      text = text ∙ ap (λ t. t ++ entry_line (DumpEntry.change code w y)) stood ∙ flat_map_more entry_line a.text.items (moment_entries a.count a.stamped) (DumpEntry.change code w y);
       count = count;
       stamped = stamped;
     })
 
 -- the same, with its values by other names
-pub gets-values : (b c : Dump) (code : ℕ) (w : Width) (x y v z : Option ℕ) → x ≡ v → y ≡ z → Gets b c (change_entries code w x y) → Gets b c (change_entries code w v z)
+pub gets-values : (b c : Dump) (code : ℕ) (w : Width) (x y v z : Option ℕ) → x ≡ v → y ≡ z → HasNewEntries b c (change_entries code w x y) → HasNewEntries b c (change_entries code w v z)
 gets-values b c code w x y v z e d h =
-    let P : Option ℕ → Type 0 = λ o. Gets b c (change_entries code w o y) in
-    let Q : Option ℕ → Type 0 = λ o. Gets b c (change_entries code w v o) in
+    let P : Option ℕ → Type 0 = λ o. HasNewEntries b c (change_entries code w o y) in
+    let Q : Option ℕ → Type 0 = λ o. HasNewEntries b c (change_entries code w v o) in
     subst Q d (subst P e h)
 
 -- ---- a scope
 
-pub gets-no-tasks : (d : Dump) (s : Scope) (old new : Option Sample) → Gets d d (scope_changes s old new 0)
+pub gets-no-tasks : (d : Dump) (s : Scope) (old new : Option Sample) → HasNewEntries d d (scope_changes s old new 0)
 unfolding scope_changes
 gets-no-tasks d s old new = gets-none d
 
@@ -89,13 +89,13 @@ task-more : (s : Scope) (old new : Option Sample) (k : ℕ)
 unfolding scope_changes
 task-more s old new k = ap (scope_changes s old new) (add-one k)
 
-pub gets-task : (a b c : Dump) (s : Scope) (old new : Option Sample) (k code : ℕ) (w : Width) (x y : Option ℕ) → Gets a b (scope_changes s old new k)
-    → code ≡ first_code s → w ≡ width_of s → x ≡ value_of s old k → y ≡ value_of s new k → Gets b c (change_entries (code + k) w x y) → Gets a c (scope_changes s old new (k + 1))
+pub gets-task : (a b c : Dump) (s : Scope) (old new : Option Sample) (k code : ℕ) (w : Width) (x y : Option ℕ) → HasNewEntries a b (scope_changes s old new k)
+    → code ≡ first_code s → w ≡ width_of s → x ≡ value_of s old k → y ≡ value_of s new k → HasNewEntries b c (change_entries (code + k) w x y) → HasNewEntries a c (scope_changes s old new (k + 1))
 gets-task a b c s old new k code w x y h at wide from to i =
-    let P : List Entry → Type 0 = Gets a c in
-    let G : ℕ → Type 0 = λ n. Gets b c (change_entries (n + k) w x y) in
-    let H : Width → Type 0 = λ v. Gets b c (change_entries (first_code s + k) v x y) in
-    let own : Gets b c (change_entries (first_code s + k) (width_of s) (value_of s old k) (value_of s new k)) =
+    let P : List DumpEntry → Type 0 = HasNewEntries a c in
+    let G : ℕ → Type 0 = λ n. HasNewEntries b c (change_entries (n + k) w x y) in
+    let H : Width → Type 0 = λ v. HasNewEntries b c (change_entries (first_code s + k) v x y) in
+    let own : HasNewEntries b c (change_entries (first_code s + k) (width_of s) (value_of s old k) (value_of s new k)) =
     gets-values b c (first_code s + k) (width_of s) x y (value_of s old k) (value_of s new k) from to (subst H wide (subst G at i)) in
     subst P (sym (task-more s old new k)) (gets-both a b c (scope_changes s old new k) (change_entries (first_code s + k) (width_of s) (value_of s old k) (value_of s new k)) h own)
 
@@ -111,7 +111,7 @@ no-changes s old new (suc k) keeps =
     let same : same_value (value_of s old k) (value_of s new k) ≡ true =
     ap (same_value (value_of s old k)) (sym (keeps k (omega arith))) ∙ same-value (value_of s old k) in
     ap (λ l. l ++ change_entries (first_code s + k) (width_of s) (value_of s old k) (value_of s new k)) (no-changes s old new k (λ t l. keeps t (omega arith)))
-    ∙ ap (λ b. if b then [] else Entry.change (first_code s + k) (width_of s) (value_of s new k) ∷ []) same
+    ∙ ap (λ b. if b then [] else DumpEntry.change (first_code s + k) (width_of s) (value_of s new k) ∷ []) same
 
-pub gets-kept : (d : Dump) (s : Scope) (old new : Option Sample) (k : ℕ) → KeepValues s k old new → Gets d d (scope_changes s old new k)
-gets-kept d s old new k keeps = let P : List Entry → Type 0 = Gets d d in subst P (sym (no-changes s old new k keeps)) (gets-none d)
+pub gets-kept : (d : Dump) (s : Scope) (old new : Option Sample) (k : ℕ) → KeepValues s k old new → HasNewEntries d d (scope_changes s old new k)
+gets-kept d s old new k keeps = let P : List DumpEntry → Type 0 = HasNewEntries d d in subst P (sym (no-changes s old new k keeps)) (gets-none d)

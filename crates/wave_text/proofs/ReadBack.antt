@@ -10,7 +10,7 @@ use Rattle.wave_text.specs.declared.signals.Scope.{Scope}
 use Rattle.wave_text.specs.declared.signals.Scope.TheVariants as scope
 use Rattle.wave_text.specs.declared.signals.Width.{Width}
 use Rattle.wave_text.specs.declared.signals.Width.TheVariants as width
-use Rattle.wave_text.specs.Changes.{Entry, same_value, change_entries, changes, scope_changes, with_moment, entries, entries_from}
+use Rattle.wave_text.specs.Changes.{DumpEntry, same_value, change_entries, changes, scope_changes, with_moment, entries, entries_from}
 use Rattle.wave_text.specs.Reading.{value_behind, value_at, ReadsBack}
 use Rattle.wave_text.specs.Signals.{first_code, level_signal, masked_code, signal_count, width_of, value_of, level_value, masked_value}
 
@@ -35,54 +35,54 @@ same-values (Some m) None e = absurd (false≢true e)
 same-values (Some m) (Some n) e = ⊎_elim (λ h. ap Some h.1) (λ h. absurd (false≢true (sym h.0 ∙ e))) (eqb_tells m n)
 
 module _ (code at : ℕ) where
-  abbrev V : Option ℕ → List Entry → Option ℕ
+  abbrev V : Option ℕ → List DumpEntry → Option ℕ
   V = value_behind code at
 
   -- ---- one signal
 
   -- another signal's change says nothing
-  other-change : (c : ℕ) (w : Width) (x y v : Option ℕ) (rest : List Entry) → (c ≡ code → ⊥) → V v (change_entries c w x y ++ rest) ≡ V v rest
+  other-change : (c : ℕ) (w : Width) (x y v : Option ℕ) (rest : List DumpEntry) → (c ≡ code → ⊥) → V v (change_entries c w x y ++ rest) ≡ V v rest
   other-change c w x y v rest apart = by (same_value x y)
     where
-      by : (b : Bool) → V v ((if b then [] else Entry.change c w y ∷ []) ++ rest) ≡ V v rest
+      by : (b : Bool) → V v ((if b then [] else DumpEntry.change c w y ∷ []) ++ rest) ≡ V v rest
       by true = refl
       by false = ap (λ d. V (if d then y else v) rest) (is-other c code apart)
 
   -- its own gives it its value
-  own-change : (w : Width) (x y : Option ℕ) (rest : List Entry) → V x (change_entries code w x y ++ rest) ≡ V y rest
+  own-change : (w : Width) (x y : Option ℕ) (rest : List DumpEntry) → V x (change_entries code w x y ++ rest) ≡ V y rest
   own-change w x y rest = by (same_value x y) refl
     where
-      by : (b : Bool) → same_value x y ≡ b → V x ((if b then [] else Entry.change code w y ∷ []) ++ rest) ≡ V y rest
+      by : (b : Bool) → same_value x y ≡ b → V x ((if b then [] else DumpEntry.change code w y ∷ []) ++ rest) ≡ V y rest
       by true e = ap (λ v. V v rest) (same-values x y e)
       by false e = ap (λ d. V (if d then y else x) rest) (is-one code)
 
   -- ---- a scope
 
-  task-more : (s : Scope) (old new : Option Sample) (n : ℕ) (rest : List Entry) → scope_changes s old new (suc n) ++ rest
+  task-more : (s : Scope) (old new : Option Sample) (n : ℕ) (rest : List DumpEntry) → scope_changes s old new (suc n) ++ rest
       ≡ scope_changes s old new n ++ (change_entries (first_code s + n) (width_of s) (value_of s old n) (value_of s new n) ++ rest)
   unfolding scope_changes
   task-more s old new n rest = append_assoc (scope_changes s old new n) (change_entries (first_code s + n) (width_of s) (value_of s old n) (value_of s new n)) rest
 
-  no-task : (s : Scope) (old new : Option Sample) (rest : List Entry) → scope_changes s old new 0 ++ rest ≡ rest
+  no-task : (s : Scope) (old new : Option Sample) (rest : List DumpEntry) → scope_changes s old new 0 ++ rest ≡ rest
   unfolding scope_changes
   no-task s old new rest = refl
 
-  other-scope : (s : Scope) (old new : Option Sample) (n : ℕ) (v : Option ℕ) (rest : List Entry) → ((t : ℕ) → t < n → first_code s + t ≡ code → ⊥)
+  other-scope : (s : Scope) (old new : Option Sample) (n : ℕ) (v : Option ℕ) (rest : List DumpEntry) → ((t : ℕ) → t < n → first_code s + t ≡ code → ⊥)
       → V v (scope_changes s old new n ++ rest) ≡ V v rest
   other-scope s old new zero v rest apart = ap (V v) (no-task s old new rest)
   other-scope s old new (suc n) v rest apart =
-      let own : List Entry = change_entries (first_code s + n) (width_of s) (value_of s old n) (value_of s new n) in
+      let own : List DumpEntry = change_entries (first_code s + n) (width_of s) (value_of s old n) (value_of s new n) in
       ap (V v) (task-more s old new n rest) ∙ other-scope s old new n v (own ++ rest) (λ t l. apart t (omega arith))
       ∙ other-change (first_code s + n) (width_of s) (value_of s old n) (value_of s new n) v rest (apart n (omega arith))
 
 -- the signal of a task
-own-scope : (s : Scope) (old new : Option Sample) (n task at : ℕ) (rest : List Entry) → task < n
+own-scope : (s : Scope) (old new : Option Sample) (n task at : ℕ) (rest : List DumpEntry) → task < n
     → value_behind (first_code s + task) at (value_of s old task) (scope_changes s old new n ++ rest) ≡ value_behind (first_code s + task) at (value_of s new task) rest
 own-scope s old new zero task at rest below = absurd (omega arith)
 own-scope s old new (suc n) task at rest below =
     let code : ℕ = first_code s + task in
-    let last : List Entry = change_entries (first_code s + n) (width_of s) (value_of s old n) (value_of s new n) in
-    let V : Option ℕ → List Entry → Option ℕ = value_behind code at in
+    let last : List DumpEntry = change_entries (first_code s + n) (width_of s) (value_of s old n) (value_of s new n) in
+    let V : Option ℕ → List DumpEntry → Option ℕ = value_behind code at in
     ap (V (value_of s old task)) (task-more code at s old new n rest)
     ∙ ⊎_elim
     (λ (l : task < n).
@@ -99,29 +99,29 @@ own-scope s old new (suc n) task at rest below =
 
 -- a signal whose value this is: the changes from one sample to the next bring it from the one value to the other
 pub record IsFollowed (owners : Owners) (code : ℕ) (val : Option Sample → Option ℕ) : Type 0 where
-  pub follows : (at : ℕ) (old new : Option Sample) (rest : List Entry) → value_behind code at (val old) (changes owners old new ++ rest) ≡ value_behind code at (val new) rest
+  pub follows : (at : ℕ) (old new : Option Sample) (rest : List DumpEntry) → value_behind code at (val old) (changes owners old new ++ rest) ≡ value_behind code at (val new) rest
   pub unknown : val None ≡ None
 
-parts : (a b c f d e rest : List Entry) → (a ++ b ++ c ++ f ++ d ++ e) ++ rest ≡ a ++ (b ++ (c ++ (f ++ (d ++ (e ++ rest)))))
+parts : (a b c f d e rest : List DumpEntry) → (a ++ b ++ c ++ f ++ d ++ e) ++ rest ≡ a ++ (b ++ (c ++ (f ++ (d ++ (e ++ rest)))))
 parts a b c f d e rest = simp append_assoc
 
-module _ (owners : Owners) (few : owners.tasks ≤ task_limit) (at : ℕ) (old new : Option Sample) (rest : List Entry) where
-  abbrev A : List Entry
+module _ (owners : Owners) (few : owners.tasks ≤ task_limit) (at : ℕ) (old new : Option Sample) (rest : List DumpEntry) where
+  abbrev A : List DumpEntry
   A = scope_changes scope.State old new owners.tasks
 
-  abbrev B : List Entry
+  abbrev B : List DumpEntry
   B = scope_changes scope.Runs old new owners.tasks
 
-  abbrev C : List Entry
+  abbrev C : List DumpEntry
   C = scope_changes scope.Pending old new owners.tasks
 
-  abbrev F : List Entry
+  abbrev F : List DumpEntry
   F = scope_changes scope.Counters old new owners.counters
 
-  abbrev D : List Entry
+  abbrev D : List DumpEntry
   D = change_entries level_signal width.Eight (level_value old) (level_value new)
 
-  abbrev E : List Entry
+  abbrev E : List DumpEntry
   E = change_entries masked_code width.One (masked_value old) (masked_value new)
 
   -- the last ones, for a task's signal
@@ -162,7 +162,7 @@ module _ (owners : Owners) (few : owners.tasks ≤ task_limit) (at : ℕ) (old n
       ∙ behind-tasks (93 + task) (value_of scope.Pending new task) (omega arith)
 
   -- the tasks' scopes, for another signal
-  behind-scopes : (code : ℕ) (v : Option ℕ) (more : List Entry) → 123 ≤ code → value_behind code at v (A ++ (B ++ (C ++ more))) ≡ value_behind code at v more
+  behind-scopes : (code : ℕ) (v : Option ℕ) (more : List DumpEntry) → 123 ≤ code → value_behind code at v (A ++ (B ++ (C ++ more))) ≡ value_behind code at v more
   behind-scopes code v more above =
       other-scope code at scope.State old new owners.tasks v (B ++ (C ++ more)) (λ t b (e : 33 + t ≡ code). omega arith)
       ∙ other-scope code at scope.Runs old new owners.tasks v (C ++ more) (λ t b (e : 63 + t ≡ code). omega arith)
@@ -179,7 +179,7 @@ module _ (owners : Owners) (few : owners.tasks ≤ task_limit) (at : ℕ) (old n
       ∙ other-change (125 + counter) at masked_code width.One (masked_value old) (masked_value new) v rest (λ (e : 124 ≡ 125 + counter). omega arith)
 
   -- the counters' lines, for a signal of the kernel
-  behind-counters : (code : ℕ) (v : Option ℕ) (more : List Entry) → 123 ≤ code → code < 125 → value_behind code at v (A ++ (B ++ (C ++ (F ++ more)))) ≡ value_behind code at v more
+  behind-counters : (code : ℕ) (v : Option ℕ) (more : List DumpEntry) → 123 ≤ code → code < 125 → value_behind code at v (A ++ (B ++ (C ++ (F ++ more)))) ≡ value_behind code at v more
   behind-counters code v more above below =
       behind-scopes code v (F ++ more) above ∙ other-scope code at scope.Counters old new owners.counters v more (λ t b (e : 125 + t ≡ code). omega arith)
 
@@ -206,44 +206,44 @@ scope-followed owners few scope.Counters counter l = record { follows = λ at ol
 
 module _ (code at : ℕ) where
   -- a moment up to this one
-  moment-passed : (count : ℕ) (v : Option ℕ) (es rest : List Entry) → count ≤ at → value_behind code at v (with_moment count false es ++ rest) ≡ value_behind code at v (es ++ rest)
+  moment-passed : (count : ℕ) (v : Option ℕ) (es rest : List DumpEntry) → count ≤ at → value_behind code at v (with_moment count false es ++ rest) ≡ value_behind code at v (es ++ rest)
   moment-passed count v [] rest le = refl
   moment-passed count v (e ∷ es) rest le = ap (λ b. if b then value_behind code at v (e ∷ es ++ rest) else v) (is-within count at le)
 
   -- a later one
-  moment-beyond : (count : ℕ) (v : Option ℕ) (es rest : List Entry) → at < count → value_behind code at v rest ≡ v → value_behind code at v (with_moment count false es ++ rest) ≡ v
+  moment-beyond : (count : ℕ) (v : Option ℕ) (es rest : List DumpEntry) → at < count → value_behind code at v rest ≡ v → value_behind code at v (with_moment count false es ++ rest) ≡ v
   moment-beyond count v [] rest lt same = same
   moment-beyond count v (e ∷ es) rest lt same = ap (λ b. if b then value_behind code at v (e ∷ es ++ rest) else v) (is-beyond count at lt)
 
-  abbrev last : ℕ → List Entry
-  last n = Entry.moment n ∷ []
+  abbrev last : ℕ → List DumpEntry
+  last n = DumpEntry.moment n ∷ []
 
   -- all samples of later counts
   all-beyond : (owners : Owners) (n count : ℕ) (v : Option ℕ) (old : Option Sample) (xs : List Sample) → at < count → at < n → value_behind code at v (entries_from owners count old xs ++ last n) ≡ v
   all-beyond owners n count v old [] lt ends = ap (λ b. if b then v else v) (is-beyond n at ends)
   all-beyond owners n count v old (x ∷ xs) lt ends =
-      let es : List Entry = changes owners old (Some x) in
-      let rest : List Entry = entries_from owners (count + 1) (Some x) xs in
+      let es : List DumpEntry = changes owners old (Some x) in
+      let rest : List DumpEntry = entries_from owners (count + 1) (Some x) xs in
       ap (value_behind code at v) (append_assoc (with_moment count false es) rest (last n))
       ∙ moment-beyond count v es (rest ++ last n) lt (all-beyond owners n (count + 1) v (Some x) xs (omega arith) ends)
 
 -- the value of a signal that is followed, at a count
 pub value-at : (owners : Owners) (n code : ℕ) (val : Option Sample → Option ℕ) → IsFollowed owners code val → (xs : List Sample) (count k : ℕ) (old : Option Sample) → k < length xs → count + k < n
-    → value_behind code (count + k) (val old) (entries_from owners count old xs ++ Entry.moment n ∷ []) ≡ val (slice_get xs k)
+    → value_behind code (count + k) (val old) (entries_from owners count old xs ++ DumpEntry.moment n ∷ []) ≡ val (slice_get xs k)
 value-at owners n code val follow [] count k old below ends = absurd (omega arith)
 value-at owners n code val follow (x ∷ xs) count zero old below ends =
-    let es : List Entry = changes owners old (Some x) in
-    let rest : List Entry = entries_from owners (count + 1) (Some x) xs in
+    let es : List DumpEntry = changes owners old (Some x) in
+    let rest : List DumpEntry = entries_from owners (count + 1) (Some x) xs in
     let at : ℕ = count + 0 in
     ap (value_behind code at (val old)) (append_assoc (with_moment count false es) rest (last code at n))
     ∙ moment-passed code at count (val old) es (rest ++ last code at n) (omega arith)
     ∙ follow.follows at old (Some x) (rest ++ last code at n)
     ∙ all-beyond code at owners n (count + 1) (val (Some x)) (Some x) xs (omega arith) ends
 value-at owners n code val follow (x ∷ xs) count (suc k) old below ends =
-    let es : List Entry = changes owners old (Some x) in
-    let rest : List Entry = entries_from owners (count + 1) (Some x) xs in
+    let es : List DumpEntry = changes owners old (Some x) in
+    let rest : List DumpEntry = entries_from owners (count + 1) (Some x) xs in
     let at : ℕ = count + suc k in
-    let P : ℕ → Type 0 = λ m. value_behind code m (val (Some x)) (rest ++ Entry.moment n ∷ []) ≡ val (slice_get xs k) in
+    let P : ℕ → Type 0 = λ m. value_behind code m (val (Some x)) (rest ++ DumpEntry.moment n ∷ []) ≡ val (slice_get xs k) in
     let same : count + 1 + k ≡ count + suc k = omega arith in
     ap (value_behind code at (val old)) (append_assoc (with_moment count false es) rest (last code at n))
     ∙ moment-passed code at count (val old) es (rest ++ last code at n) (omega arith)
@@ -253,7 +253,7 @@ value-at owners n code val follow (x ∷ xs) count (suc k) old below ends =
 signal-reads : (owners : Owners) (code : ℕ) (val : Option Sample → Option ℕ) → IsFollowed owners code val → (xs : List Sample) (k : ℕ) → k < length xs
     → value_at code k (entries owners xs) ≡ val (slice_get xs k)
 signal-reads owners code val follow xs k below =
-    let es : List Entry = entries_from owners 0 None xs ++ Entry.moment (length xs) ∷ [] in
+    let es : List DumpEntry = entries_from owners 0 None xs ++ DumpEntry.moment (length xs) ∷ [] in
     let P : ℕ → Type 0 = λ m. value_behind code m (val None) es ≡ val (slice_get xs k) in
     let same : 0 + k ≡ k = omega arith in
     ap (λ v. value_behind code k v es) (sym follow.unknown) ∙ subst P same (value-at owners (length xs) code val follow xs 0 k None below (omega (arith, below)))

@@ -16,7 +16,7 @@ use Rattle.run_samples.specs.declared.sampling.Sampler.{Sampler}
 use Rattle.run_samples.specs.Samples.{AreSamples, IsSample, IsSampling, sampled_image, sampled_arrivals, sampled_count}
 use Rattle.run_samples.proofs.OneSample.{samples-more}
 use Rattle.wave_text.specs.declared.dump.Dump.{Dump}
-use Rattle.wave_text.specs.Changes.{Entry, changes, entries_from, with_moment}
+use Rattle.wave_text.specs.Changes.{DumpEntry, changes, entries_from, with_moment}
 use Rattle.wave_text.specs.Header.{header}
 use Rattle.wave_text.specs.Text.{entry_line, entry_lines}
 use Rattle.wave_text.specs.Waves.{AreWavesOf}
@@ -38,8 +38,8 @@ entries-more owners k old [] x =
     append-nil (with_moment k false (changes owners old (Some x)))
     ∙ ap (λ n. with_moment n false (changes owners old (Some x))) (let e : k ≡ k + 0 = omega arith in e)
 entries-more owners k old (y ∷ ys) x =
-    let front : List Entry = with_moment k false (changes owners old (Some y)) in
-    let W : ℕ → List Entry = λ n. with_moment n false (changes owners (last_of (Some y) ys) (Some x)) in
+    let front : List DumpEntry = with_moment k false (changes owners old (Some y)) in
+    let W : ℕ → List DumpEntry = λ n. with_moment n false (changes owners (last_of (Some y) ys) (Some x)) in
     let n : k + 1 + length ys ≡ k + suc (length ys) = omega arith in
     ap (λ l. front ++ l) (entries-more owners (k + 1) (Some y) ys x ∙ ap (λ m. entries_from owners (k + 1) (Some y) ys ++ W m) n)
     ∙ sym (append_assoc front (entries_from owners (k + 1) (Some y) ys) (W (k + suc (length ys))))
@@ -78,7 +78,7 @@ dumping-more image A k s t d e old x h sampling sample i a count text =
     let xs : List Sample = h.samples in
     let owners : Owners = owners_named image in
     let front : List ℕ = entry_lines (entries_from owners 0 None xs) in
-    let W : ℕ → Option Sample → List Entry = λ n o. with_moment n false (changes owners o (Some x)) in
+    let W : ℕ → Option Sample → List DumpEntry = λ n o. with_moment n false (changes owners o (Some x)) in
     let S : Image → Type 0 = λ j. IsSample j (sampled_arrivals s) (sampled_count s) x in
     let T : List Arrival → Type 0 = λ B. IsSample image B (sampled_count s) x in
     let U : ℕ → Type 0 = λ n. IsSample image A n x in
@@ -101,10 +101,10 @@ dumping-more image A k s t d e old x h sampling sample i a count text =
 
 -- the waves are whole behind the line of the end
 pub waves-whole : (image : Image) (A : List Arrival) (n : ℕ) (s : Sampler) (d e : Dump) (old : Option Sample) → IsDumping image A n s d old
-    → e.text.items ≡ d.text.items ++ entry_line (Entry.moment n) → AreWavesOf image A n e.text.items
+    → e.text.items ≡ d.text.items ++ entry_line (DumpEntry.moment n) → AreWavesOf image A n e.text.items
 waves-whole image A n s d e old h text =
     let xs : List Sample = h.samples in
-    let shown : List Entry = entries_from (owners_named image) 0 None xs in
+    let shown : List DumpEntry = entries_from (owners_named image) 0 None xs in
     let R : Image → Type 0 = λ i. HasRun s.runner i (sampled_count s) in
     let ran : HasRun s.runner image (sampled_count s) = subst R h.image_is h.sampling.ran in
     let E : ℕ → List Arrival → Type 0 = λ k B. run_end image B k ≡ ends.Whole in
@@ -114,8 +114,8 @@ waves-whole image A n s d e old h text =
       samples = xs;
       counted = h.counted;
       are_samples = h.are_samples;
-      is = text ∙ ap (λ l. l ++ entry_line (Entry.moment n)) h.text ∙ append_assoc (header image) (entry_lines shown) (entry_line (Entry.moment n))
-          ∙ ap (λ l. header image ++ (entry_lines shown ++ l)) (sym (append-nil (entry_line (Entry.moment n))))
-          ∙ ap (λ k. header image ++ (entry_lines shown ++ (entry_line (Entry.moment k) ++ []))) (sym h.counted)
-          ∙ ap (λ l. header image ++ l) (sym (lines-append shown (Entry.moment (length xs) ∷ [])));
+      is = text ∙ ap (λ l. l ++ entry_line (DumpEntry.moment n)) h.text ∙ append_assoc (header image) (entry_lines shown) (entry_line (DumpEntry.moment n))
+          ∙ ap (λ l. header image ++ (entry_lines shown ++ l)) (sym (append-nil (entry_line (DumpEntry.moment n))))
+          ∙ ap (λ k. header image ++ (entry_lines shown ++ (entry_line (DumpEntry.moment k) ++ []))) (sym h.counted)
+          ∙ ap (λ l. header image ++ l) (sym (lines-append shown (DumpEntry.moment (length xs) ∷ [])));
     }

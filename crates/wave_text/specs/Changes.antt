@@ -9,9 +9,9 @@ use Rattle.wave_text.specs.declared.signals.Width.TheVariants as width
 use Rattle.wave_text.specs.Signals.{first_code, level_signal, masked_code, width_of, value_of, level_value, masked_value}
 
 -- what a dump says: it is this moment from here on, or a signal has this value from here on
-pub data Entry : Type 0 where
-  moment : ℕ → Entry
-  change : (code : ℕ) → Width → Option ℕ → Entry
+pub data DumpEntry : Type 0 where
+  moment : ℕ → DumpEntry
+  change : (code : ℕ) → Width → Option ℕ → DumpEntry
 
 -- two values are the same
 abbrev pub same_value : Option ℕ → Option ℕ → Bool
@@ -21,42 +21,42 @@ same_value (Some m) None = false
 same_value (Some m) (Some n) = m == n
 
 -- the entry of a signal, where it changes
-abbrev pub change_entries : (code : ℕ) → Width → (old new : Option ℕ) → List Entry
-change_entries code width old new = if same_value old new then [] else Entry.change code width new ∷ []
+abbrev pub change_entries : (code : ℕ) → Width → (old new : Option ℕ) → List DumpEntry
+change_entries code width old new = if same_value old new then [] else DumpEntry.change code width new ∷ []
 
 -- those of a scope, for its first signals, so many of them
-unfoldable pub scope_changes : Scope → (old new : Option Sample) → ℕ → List Entry
+unfoldable pub scope_changes : Scope → (old new : Option Sample) → ℕ → List DumpEntry
 scope_changes s old new zero = []
 scope_changes s old new (suc task) =
     scope_changes s old new task ++ change_entries (first_code s + task) (width_of s) (value_of s old task) (value_of s new task)
 
 -- those of all signals, from one sample to the next
-abbrev pub changes : Owners → (old new : Option Sample) → List Entry
+abbrev pub changes : Owners → (old new : Option Sample) → List DumpEntry
 changes owners old new =
     scope_changes scope.State old new owners.tasks ++ scope_changes scope.Runs old new owners.tasks
     ++ scope_changes scope.Pending old new owners.tasks ++ scope_changes scope.Counters old new owners.counters
     ++ change_entries level_signal width.Eight (level_value old) (level_value new) ++ change_entries masked_code width.One (masked_value old) (masked_value new)
 
 -- the entry of a moment, unless it stands already
-abbrev pub moment_entries : (count : ℕ) (stands : Bool) → List Entry
-moment_entries count stands = cond stands [] (Entry.moment count ∷ [])
+abbrev pub moment_entries : (count : ℕ) (stands : Bool) → List DumpEntry
+moment_entries count stands = cond stands [] (DumpEntry.moment count ∷ [])
 
 -- entries behind that of their moment; where there is none, the moment has no entry
-abbrev pub with_moment : (count : ℕ) (stands : Bool) → List Entry → List Entry
+abbrev pub with_moment : (count : ℕ) (stands : Bool) → List DumpEntry → List DumpEntry
 with_moment count stands [] = []
 with_moment count stands (e ∷ entries) = moment_entries count stands ++ e ∷ entries
 
 -- the moment's entry stands behind these
-abbrev pub stands_behind : Bool → List Entry → Bool
+abbrev pub stands_behind : Bool → List DumpEntry → Bool
 stands_behind stands [] = stands
 stands_behind stands (e ∷ entries) = true
 
 -- the entries of samples in turn, the first at a count, behind another sample
-abbrev pub entries_from : Owners → (count : ℕ) → Option Sample → List Sample → List Entry
+abbrev pub entries_from : Owners → (count : ℕ) → Option Sample → List Sample → List DumpEntry
 entries_from owners count old [] = []
 entries_from owners count old (new ∷ samples) =
     with_moment count false (changes owners old (Some new)) ++ entries_from owners (count + 1) (Some new) samples
 
 -- those of all samples of a run: only what changes, and at last the moment of the end
-abbrev pub entries : Owners → List Sample → List Entry
-entries owners samples = entries_from owners 0 None samples ++ Entry.moment (length samples) ∷ []
+abbrev pub entries : Owners → List Sample → List DumpEntry
+entries owners samples = entries_from owners 0 None samples ++ DumpEntry.moment (length samples) ∷ []

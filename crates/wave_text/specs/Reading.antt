@@ -3,17 +3,17 @@ use Rattle.std.specs.Prelude.{ℕ, ◌+◌, ◌==◌, ◌≡◌, ◌<◌, nat_le
 use Rattle.sloth_base.specs.declared.lines.Owners.{Owners}
 use Rattle.run_samples.specs.declared.sampling.Sample.{Sample}
 use Rattle.wave_text.specs.declared.signals.Scope.{Scope}
-use Rattle.wave_text.specs.Changes.{Entry, entries}
+use Rattle.wave_text.specs.Changes.{DumpEntry, entries}
 use Rattle.wave_text.specs.Signals.{first_code, level_signal, masked_code, signal_count, value_of, level_value, masked_value}
 
 -- the value of a signal at a moment, where this is its value in front of these entries: that of its last change up to the first later moment
-abbrev pub value_behind : (code at : ℕ) → Option ℕ → List Entry → Option ℕ
+abbrev pub value_behind : (code at : ℕ) → Option ℕ → List DumpEntry → Option ℕ
 value_behind code at value [] = value
-value_behind code at value (Entry.moment count ∷ entries) = if nat_le count at then value_behind code at value entries else value
-value_behind code at value (Entry.change c width new ∷ entries) = value_behind code at (if c == code then new else value) entries
+value_behind code at value (DumpEntry.moment count ∷ entries) = if nat_le count at then value_behind code at value entries else value
+value_behind code at value (DumpEntry.change c width new ∷ entries) = value_behind code at (if c == code then new else value) entries
 
 -- the value at a moment in a dump of these entries; in front of it it is unknown
-abbrev pub value_at : (code at : ℕ) → List Entry → Option ℕ
+abbrev pub value_at : (code at : ℕ) → List DumpEntry → Option ℕ
 value_at code at entries = value_behind code at None entries
 
 -- at each count the dump of samples gives each signal the value that it has in the sample of the count

@@ -6,7 +6,7 @@ use Rattle.osek_scheduler.specs.declared.state.TaskState.TheVariants as mode
 use Rattle.run_samples.specs.declared.sampling.Sample.{Sample}
 use Rattle.sloth_base.specs.declared.lines.Owners.{Owners}
 use Rattle.sloth_base.specs.Limits.{task_limit, counter_limit}
-use Rattle.sloth_runner.specs.declared.looks.Seen.{Seen}
+use Rattle.sloth_runner.specs.declared.machine_states.Seen.{Seen}
 use Rattle.wave_text.specs.declared.signals.Scope.{Scope}
 use Rattle.wave_text.specs.declared.signals.Scope.TheVariants as scope
 use Rattle.wave_text.specs.declared.signals.Width.{Width}
@@ -60,8 +60,8 @@ state_number mode.Active = 2
 state_number (mode.Waiting mask) = 3
 
 -- the number of a task's state, where the tasks were seen
-abbrev pub seen_state : Option Seen → ℕ → Option ℕ
-seen_state seen task = option_map (λ (s : Seen). state_number (get_or s.tasks task mode.Suspended)) seen
+abbrev pub state_value : Option Seen → ℕ → Option ℕ
+state_value seen task = option_map (λ (s : Seen). state_number (get_or s.tasks task mode.Suspended)) seen
 
 -- whether a task is the running one, where the tasks were seen
 abbrev pub running_value : Option Seen → ℕ → Option ℕ
@@ -70,7 +70,7 @@ running_value seen task = option_map (λ (s : Seen). bit (s.running == task + 1)
 -- The value of a signal in a sample: the number of a task's state, whether it is the running task, whether its line or that of a counter is
 -- pending. The first two are unknown where no count has found interrupts open.
 abbrev pub value_in : Scope → Sample → ℕ → Option ℕ
-value_in scope.State sample task = seen_state sample.seen task
+value_in scope.State sample task = state_value sample.seen task
 value_in scope.Runs sample task = running_value sample.seen task
 value_in scope.Pending sample task = Some (bit (get_or sample.interrupts.pending task false))
 value_in scope.Counters sample counter = Some (bit (get_or sample.interrupts.counters_pending counter false))

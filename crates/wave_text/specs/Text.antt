@@ -3,7 +3,7 @@ use Rattle.std.specs.Prelude.{ℕ, ◌+◌, ◌/◌, ◌%◌, List, [], ◌∷�
 use Rattle.std.specs.List.{flat_map}
 use Rattle.wave_text.specs.declared.signals.Width.{Width}
 use Rattle.wave_text.specs.declared.signals.Width.TheVariants as width
-use Rattle.wave_text.specs.Changes.{Entry}
+use Rattle.wave_text.specs.Changes.{DumpEntry}
 
 -- the digit of a number's last binary place
 abbrev pub digit : ℕ → ℕ
@@ -20,10 +20,10 @@ value_text width.Eight (Some n) =
     98 ∷ digit (n / 128) ∷ digit (n / 64) ∷ digit (n / 32) ∷ digit (n / 16) ∷ digit (n / 8) ∷ digit (n / 4) ∷ digit (n / 2) ∷ digit n ∷ 32 ∷ []
 
 -- the line of an entry: `#` and the count, or a value and the signal's code
-unfoldable pub entry_line : Entry → List ℕ
-entry_line (Entry.moment count) = codes "#" ++ decimal count ++ codes "\n"
-entry_line (Entry.change code width value) = value_text width value ++ (code ∷ []) ++ codes "\n"
+unfoldable pub entry_line : DumpEntry → List ℕ
+entry_line (DumpEntry.moment count) = codes "#" ++ decimal count ++ codes "\n"
+entry_line (DumpEntry.change code width value) = value_text width value ++ (code ∷ []) ++ codes "\n"
 
 -- those of entries in turn
-abbrev pub entry_lines : List Entry → List ℕ
+abbrev pub entry_lines : List DumpEntry → List ℕ
 entry_lines entries = flat_map entry_line entries

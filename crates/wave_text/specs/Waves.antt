@@ -10,7 +10,7 @@ use Rattle.sloth_runner.specs.declared.runner.RunEnd.TheVariants as ends
 use Rattle.wave_text.specs.declared.dump.Dump.{Dump}
 use Rattle.wave_text.specs.declared.recording.Recorded.{Recorded}
 use Rattle.wave_text.specs.declared.recording.Recorded.TheVariants as recorded
-use Rattle.wave_text.specs.Changes.{Entry, entries, with_moment, stands_behind}
+use Rattle.wave_text.specs.Changes.{DumpEntry, entries, with_moment, stands_behind}
 use Rattle.wave_text.specs.Header.{header}
 use Rattle.wave_text.specs.Text.{entry_lines}
 
@@ -34,7 +34,7 @@ AreWaves image arrivals n (recorded.Stopped halt) = run_end image arrivals n ≡
 -- ---- on the way
 
 -- a dump got the lines of these entries, behind that of their moment
-pub record Gets (old new : Dump) (more : List Entry) : Type 0 where
+pub record HasNewEntries (old new : Dump) (more : List DumpEntry) : Type 0 where
   pub text : new.text.items ≡ old.text.items ++ entry_lines (with_moment old.count old.stamped more)
   pub count : new.count ≡ old.count
   pub stamped : new.stamped ≡ stands_behind old.stamped more

@@ -1,10 +1,10 @@
 //! The changes of signals, written as they come.
 ghost use Rattle.std.specs.Prelude.{◌≡◌, ◌≤◌, ◌++◌, true, false, Some, None, OnOk};
 ghost use Rattle.sloth_base.specs.Limits.{task_limit, counter_limit};
-ghost use Rattle.wave_text.specs.Changes.{Entry, same_value, change_entries, changes, scope_changes, moment_entries, with_moment};
+ghost use Rattle.wave_text.specs.Changes.{DumpEntry, same_value, change_entries, changes, scope_changes, moment_entries, with_moment};
 ghost use Rattle.wave_text.specs.Text.{digit, entry_line, entry_lines};
 ghost use Rattle.wave_text.specs.Signals.{most_signals};
-ghost use Rattle.wave_text.specs.Waves.{Gets};
+ghost use Rattle.wave_text.specs.Waves.{HasNewEntries};
 
 use crate::keeping::keeps;
 use crate::signals::{
@@ -38,7 +38,7 @@ fn digit(number: u8) -> u8
 // Appends the line of a signal with a value.
 #[tactic(auto, unfolding(crate::specs::Text::value_text, crate::specs::Text::entry_line))]
 fn push_number(text: &mut Vec<u8>, code: u8, width: Width, n: u8) -> Result<(), NoMemory>
-    ensures { OnOk result (text.new.items ≡ text.old.items ++ entry_line (Entry.change code width (Some n))) }
+    ensures { OnOk result (text.new.items ≡ text.old.items ++ entry_line (DumpEntry.change code width (Some n))) }
 {
     match width {
         Width::One => text.extend_from_slice(&[digit(n), code, b'\n'])?,
@@ -66,7 +66,7 @@ fn push_number(text: &mut Vec<u8>, code: u8, width: Width, n: u8) -> Result<(), 
 // Appends the line of a signal whose value is unknown.
 #[tactic(auto, unfolding(crate::specs::Text::value_text, crate::specs::Text::entry_line))]
 fn push_unknown(text: &mut Vec<u8>, code: u8, width: Width) -> Result<(), NoMemory>
-    ensures { OnOk result (text.new.items ≡ text.old.items ++ entry_line (Entry.change code width None)) }
+    ensures { OnOk result (text.new.items ≡ text.old.items ++ entry_line (DumpEntry.change code width None)) }
 {
     match width {
         Width::One => text.extend_from_slice(&[b'x', code, b'\n'])?,
@@ -83,7 +83,7 @@ fn push_change(
     width: Width,
     value: Option<u8>,
 ) -> Result<(), NoMemory>
-    ensures { OnOk result (text.new.items ≡ text.old.items ++ entry_line (Entry.change code width value)) }
+    ensures { OnOk result (text.new.items ≡ text.old.items ++ entry_line (DumpEntry.change code width value)) }
 {
     match value {
         Some(n) => push_number(text, code, width, n),
@@ -94,7 +94,7 @@ fn push_change(
 // Appends the line of a moment.
 #[tactic(auto, unfolding(crate::specs::Text::entry_line))]
 fn push_moment(text: &mut Vec<u8>, count: u32) -> Result<(), NoMemory>
-    ensures { OnOk result (text.new.items ≡ text.old.items ++ entry_line (Entry.moment count)) }
+    ensures { OnOk result (text.new.items ≡ text.old.items ++ entry_line (DumpEntry.moment count)) }
 {
     let mut buffer = Buffer::new();
     text.extend_from_slice(b"#")?;
@@ -114,7 +114,7 @@ pub struct Dump {
 impl Dump {
     // Appends the line of the moment.
     fn stamp(&mut self) -> Result<(), NoMemory>
-        ensures text { OnOk result (self.new.text.items ≡ self.old.text.items ++ entry_line (Entry.moment self.old.count)) }
+        ensures text { OnOk result (self.new.text.items ≡ self.old.text.items ++ entry_line (DumpEntry.moment self.old.count)) }
         ensures count { OnOk result (self.new.count ≡ self.old.count) }
         ensures stamped { OnOk result (self.new.stamped ≡ true) }
     {
@@ -143,7 +143,7 @@ impl Dump {
         before: Option<u8>,
         after: Option<u8>,
     ) -> Result<(), NoMemory>
-        ensures { OnOk result (Gets self.old self.new (change_entries code width before after)) }
+        ensures { OnOk result (HasNewEntries self.old self.new (change_entries code width before after)) }
     {
         if same_value(before, after) {
             return Ok(());
@@ -162,7 +162,7 @@ impl Dump {
     ) -> Result<(), NoMemory>
         requires small { count ≤ task_limit }
         requires few { count ≤ most_signals scope }
-        ensures { OnOk result (Gets self.old self.new (scope_changes scope before.now after.now count)) }
+        ensures { OnOk result (HasNewEntries self.old self.new (scope_changes scope before.now after.now count)) }
     {
         if keeps(scope, count, before, after) {
             return Ok(());
@@ -209,7 +209,7 @@ impl Dump {
 
     /// Appends the line of the end.
     pub fn end(&mut self, count: u32) -> Result<(), NoMemory>
-        ensures { OnOk result (self.new.text.items ≡ self.old.text.items ++ entry_line (Entry.moment count)) }
+        ensures { OnOk result (self.new.text.items ≡ self.old.text.items ++ entry_line (DumpEntry.moment count)) }
     {
         self.count = count;
         self.stamp()

@@ -2,13 +2,13 @@
 ghost use Rattle.std.specs.Prelude.{ℕ, ◌≡◌, ◌<◌, ◌≤◌, IsTrue, false, get_or};
 ghost use Rattle.sloth_base.specs.Limits.{task_limit, counter_limit};
 ghost use Rattle.osek_scheduler.specs.declared.state.TaskState.TheVariants as mode;
-ghost use Rattle.wave_text.specs.Signals.{KeepValues, most_signals, state_number, seen_state, running_value, value_in};
+ghost use Rattle.wave_text.specs.Signals.{KeepValues, most_signals, state_number, state_value, running_value, value_in};
 
 use crate::signals::{Scope, state_number};
 use osek_scheduler::state::TaskState;
 use run_samples::Sample;
 use sloth_base::limits::{COUNTER_LIMIT, TASK_LIMIT};
-use sloth_runner::sight::Seen;
+use sloth_runner::task_states::Seen;
 
 // Whether the states of the tasks have the same numbers.
 fn same_states(tasks: usize, one: &[TaskState; TASK_LIMIT], other: &[TaskState; TASK_LIMIT]) -> bool
@@ -56,7 +56,7 @@ fn same_counters(
 // Whether the tasks were seen before and are seen in the same states.
 fn keeps_states(tasks: usize, before: &Option<Seen>, after: &Option<Seen>) -> bool
     requires { tasks ≤ task_limit }
-    ensures { IsTrue result → (t : ℕ) → t < tasks → seen_state before.now t ≡ seen_state after.now t }
+    ensures { IsTrue result → (t : ℕ) → t < tasks → state_value before.now t ≡ state_value after.now t }
 {
     match before {
         Some(before) => match after {

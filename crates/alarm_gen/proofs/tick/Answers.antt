@@ -7,7 +7,7 @@ use Rattle.sloth_base.specs.declared.config.CounterDecl.{CounterDecl}
 use Rattle.alarm_gen.specs.declared.alarms.NumberedAlarm.{NumberedAlarm}
 use Rattle.alarm_gen.specs.Alarms.{AreNumbered, alarms_from, counter_alarms}
 use Rattle.alarm_gen.specs.Pieces.{tick_code}
-use Rattle.alarm_gen.specs.Tick.{Ticks}
+use Rattle.alarm_gen.specs.Tick.{IsTickCode}
 use Rattle.alarm_gen.proofs.Lengths.{tick_long}
 use Rattle.alarm_gen.proofs.Numbering.{numbered}
 use Rattle.alarm_gen.proofs.tick.Goals as goal
@@ -47,6 +47,6 @@ returns-clause-effect c =
     let counter = c.args.counter in
     let are = alarms_are config counter _ _ _ c.deref.ensures.value c.in_ok-alarms.ensures c.items.ensures in
     let max = max_is config counter c.index-items-counter.result _ c.requires.exists c.items-2.ensures in
-    subst (Ticks counter (counter_declaration config counter).max (counter_alarms config counter)) (sym c.from_vec.ensures)
-    (subst (λ (l : List NumberedAlarm). Ticks counter (counter_declaration config counter).max l c.in_ok-code.code.items) are
-    (subst (λ m. Ticks counter m c.deref.result.now c.in_ok-code.code.items) max c.in_ok-code.ensures.effect))
+    subst (IsTickCode counter (counter_declaration config counter).max (counter_alarms config counter)) (sym c.from_vec.ensures)
+    (subst (λ (l : List NumberedAlarm). IsTickCode counter (counter_declaration config counter).max l c.in_ok-code.code.items) are
+    (subst (λ m. IsTickCode counter m c.deref.result.now c.in_ok-code.code.items) max c.in_ok-code.ensures.effect))

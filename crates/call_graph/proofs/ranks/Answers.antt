@@ -8,7 +8,7 @@ use Rattle.std.specs.Bool.{Decides}
 use Rattle.call_graph.specs.Cycles.{RowCycle}
 use Rattle.call_graph.specs.Rows.{row_has, IsRowChain}
 use Rattle.call_graph.specs.Gathered.{AreGathered}
-use Rattle.call_graph.specs.Reached.{AreFew, func_of, calls_itself}
+use Rattle.call_graph.specs.Reached.{AreFew, func_of, is_direct_call}
 use Rattle.call_graph.proofs.Belongs.{Closed, cycle_is, is_cycle, belongs}
 use Rattle.call_graph.proofs.Few.{few}
 use Rattle.call_graph.proofs.ranks.Goals as goal
@@ -23,11 +23,11 @@ pub gathered-requires-clause-few : goal.gathered-requires-clause-few
 gathered-requires-clause-few c = few_of c.args.app.now c.items-funcs.result.now c.items-funcs.ensures (few c.args.app.now c.requires)
 
 closed_of : (app : App) (funcs : List Func) (direct rows slice : List ℕ) → funcs ≡ app.funcs → slice ≡ rows → length direct ≡ length funcs
-    → ((f g : ℕ) → f < length funcs → row_has direct f g ≡ calls_itself (func_of funcs f) g)
+    → ((f g : ℕ) → f < length funcs → row_has direct f g ≡ is_direct_call (func_of funcs f) g)
     → ((i j : ℕ) → Decides (row_has rows i j) ((between : List ℕ) × IsRowChain direct i between j)) → Closed app direct slice
 closed_of app funcs direct rows slice e v count calls reach = record {
   count = count ∙ ap length e;
-  calls = λ f g l. calls f g (subst (λ (n : ℕ). f < n) (ap length (sym e)) l) ∙ ap (λ (x : List Func). calls_itself (func_of x f) g) e;
+  calls = λ f g l. calls f g (subst (λ (n : ℕ). f < n) (ap length (sym e)) l) ∙ ap (λ (x : List Func). is_direct_call (func_of x f) g) e;
   closed = subst (λ (x : List ℕ). (i j : ℕ) → Decides (row_has x i j) ((between : List ℕ) × IsRowChain direct i between j)) (sym v) reach;
 }
 

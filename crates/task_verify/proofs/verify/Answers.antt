@@ -1,6 +1,6 @@
 use Rattle.std.proofs.Common.{Option, subst}
 use Rattle.sloth_base.specs.declared.refusal.Refusal.{Refusal}
-use Rattle.least_fault.specs.Search.{Finds}
+use Rattle.least_fault.specs.Search.{IsSearchResult}
 use Rattle.code_rules.specs.WellFormed.{RuleFault}
 use Rattle.task_verify.proofs.Acyclic.{no_cycle}
 use Rattle.task_verify.proofs.verify.Goals as goal
@@ -9,5 +9,5 @@ pub copied-requires : goal.copied-requires
 copied-requires c = record {
   in_range = c.requires.in_range;
   no_cycle = no_cycle c.args.app.now c.args.ranks.now c.requires.belong;
-  no_fault = subst (λ (o : Option Refusal). Finds (RuleFault c.args.config.now c.args.app.now) o) c.in-None.is c.in_ok-refusal.ensures;
+  no_fault = subst (λ (o : Option Refusal). IsSearchResult (RuleFault c.args.config.now c.args.app.now) o) c.in-None.is c.in_ok-refusal.ensures;
 }

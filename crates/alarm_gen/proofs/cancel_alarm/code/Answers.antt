@@ -1,6 +1,6 @@
 use Rattle.std.proofs.Common.{◌≡◌, ◌∷◌, sym, subst}
 use Rattle.masked_code.specs.Kernel.{masking}
-use Rattle.alarm_gen.specs.CancelAlarm.{CancelsAlarm}
+use Rattle.alarm_gen.specs.CancelAlarm.{IsCancelAlarmCode}
 use Rattle.alarm_gen.proofs.Using.{cancel_body, cancels}
 use Rattle.alarm_gen.proofs.cancel_alarm.code.Goals as goal
 
@@ -9,4 +9,4 @@ returns c =
     let e : c.go_back.new.code.items ≡ masking ∷ cancel_body c.args.alarm =
     rw (c.in_ok-go_back.ensures, c.in_ok-cancel.ensures, c.in_ok-ask_used.ensures, c.in_ok-open.ensures, c.new-code.ensures.items)
     in
-    subst (CancelsAlarm c.args.alarm) (sym e) (cancels c.args.alarm)
+    subst (IsCancelAlarmCode c.args.alarm) (sym e) (cancels c.args.alarm)

@@ -1,6 +1,6 @@
 use Rattle.std.proofs.Common.{◌≡◌, ◌∷◌, sym, subst}
 use Rattle.masked_code.specs.Kernel.{masking}
-use Rattle.alarm_gen.specs.SetAlarm.{SetsAbsolute}
+use Rattle.alarm_gen.specs.SetAlarm.{IsSetAbsAlarmCode}
 use Rattle.alarm_gen.proofs.Setting.{abs_body, sets_absolute}
 use Rattle.alarm_gen.proofs.set_abs_alarm.code.Goals as goal
 
@@ -12,4 +12,4 @@ returns c =
     rw (c.in_ok-refuse.ensures, c.in_ok-set.ensures, c.in_ok-find_ticks.ensures, c.in_ok-ask_value.ensures, c.in_ok-ask_cycle.ensures.added, c.in_ok-ask_unused.ensures, c.in_ok-open.ensures, c.new-code.ensures.items)
     in
     let w = c.ask_cycle.ensures.fits in
-    subst (SetsAbsolute a.alarm a.counter a.max a.least) (sym e) (sets_absolute a.alarm a.counter a.max a.least h.2 w.1)
+    subst (IsSetAbsAlarmCode a.alarm a.counter a.max a.least) (sym e) (sets_absolute a.alarm a.counter a.max a.least h.2 w.1)

@@ -1,6 +1,6 @@
 use Rattle.std.proofs.Common.{◌≡◌, ◌∷◌, sym, subst}
 use Rattle.masked_code.specs.Kernel.{masking}
-use Rattle.alarm_gen.specs.SetAlarm.{SetsRelative}
+use Rattle.alarm_gen.specs.SetAlarm.{IsSetRelAlarmCode}
 use Rattle.alarm_gen.proofs.Setting.{rel_body, sets_relative}
 use Rattle.alarm_gen.proofs.set_rel_alarm.code.Goals as goal
 
@@ -11,4 +11,4 @@ returns c =
     rw (c.in_ok-refuse.ensures, c.in_ok-set.ensures, c.in_ok-ask_ticks.ensures, c.in_ok-ask_cycle.ensures.added, c.in_ok-ask_unused.ensures, c.in_ok-open.ensures, c.new-code.ensures.items)
     in
     let w = c.ask_cycle.ensures.fits in
-    subst (SetsRelative a.alarm a.max a.least) (sym e) (sets_relative a.alarm a.max a.least w.0 w.1)
+    subst (IsSetRelAlarmCode a.alarm a.max a.least) (sym e) (sets_relative a.alarm a.max a.least w.0 w.1)

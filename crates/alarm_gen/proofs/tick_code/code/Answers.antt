@@ -1,7 +1,7 @@
 use Rattle.std.proofs.Common.{◌≡◌, List, ◌++◌, sym, ◌∙◌, subst, append_assoc}
 use Rattle.rv32_instr.specs.declared.InstrKind.{InstrKind}
 use Rattle.alarm_gen.specs.Pieces.{counting_code, look_clearing_code, looks_code, basing_code, alarms_code, returning_code, tick_code}
-use Rattle.alarm_gen.specs.Tick.{Ticks}
+use Rattle.alarm_gen.specs.Tick.{IsTickCode}
 use Rattle.alarm_gen.proofs.Ticking.{ticks}
 use Rattle.alarm_gen.proofs.tick_code.code.Goals.{In_ok-finish}
 use Rattle.alarm_gen.proofs.tick_code.code.Goals as goal
@@ -23,4 +23,4 @@ pub returns-clause-effect : goal.returns-clause-effect
 returns-clause-effect c =
     let d = (goal.at.returns-clause-effect c).In_ok-finish in
     let a = d.args in
-    subst (Ticks a.counter a.max a.alarms.now) (sym (made d)) (ticks a.counter a.max a.alarms.now d.requires.0 d.count.ensures.fits d.requires.1)
+    subst (IsTickCode a.counter a.max a.alarms.now) (sym (made d)) (ticks a.counter a.max a.alarms.now d.requires.0 d.count.ensures.fits d.requires.1)

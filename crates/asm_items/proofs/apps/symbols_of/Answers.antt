@@ -1,7 +1,7 @@
 use Rattle.std.proofs.Common.{◌∙◌, [], ◌∷◌, ◌++◌, List, map, ap}
 use Rattle.std.specs.Prelude.{filter}
 use Rattle.sloth_base.specs.declared.app.Symbol.{Symbol}
-use Rattle.asm_scopes.specs.Said.{is_data}
+use Rattle.asm_scopes.specs.Statements.{is_data}
 use Rattle.asm_items.specs.Apps.{symbol_of}
 use Rattle.asm_items.proofs.Made.{made_more}
 use Rattle.asm_items.proofs.apps.symbols_of.Goals as goal

@@ -1,6 +1,6 @@
 use Rattle.std.proofs.Common.{◌≡◌, take, map}
 use Rattle.std.specs.Prelude.{filter}
-use Rattle.asm_scopes.specs.Said.{is_data}
+use Rattle.asm_scopes.specs.Statements.{is_data}
 use Rattle.asm_items.specs.Apps.{symbol_of}
 use Rattle.asm_items.proofs.apps.symbols_of.Given as goal
 

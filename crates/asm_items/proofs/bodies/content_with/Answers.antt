@@ -1,5 +1,5 @@
 use Rattle.std.proofs.Common.{ap, length, arith}
-use Rattle.asm_scopes.specs.Said.{is_label, name_of}
+use Rattle.asm_scopes.specs.Statements.{is_label, name_of}
 use Rattle.asm_items.proofs.Numbering.{few_kept}
 use Rattle.asm_items.proofs.bodies.content_with.Goals as goal
 

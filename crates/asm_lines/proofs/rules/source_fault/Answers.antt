@@ -4,9 +4,9 @@ use Rattle.std.proofs.lemmas.List.{length-take-le}
 use Rattle.std.proofs.lemmas.List.Sums.{fold_more}
 use Rattle.std.proofs.Math.Seq.{take-length}
 use Rattle.sloth_base.specs.declared.refusal.Code.TheVariants.{A1}
-use Rattle.least_fault.specs.Search.{Finds, Somewhere}
+use Rattle.least_fault.specs.Search.{IsSearchResult, Somewhere}
 use Rattle.least_fault.proofs.Kept.{loop_more, loop_end, both_are}
-use Rattle.asm_lines.specs.Faults.{FaultAt, LineFault, Case, after_line, ends_inside}
+use Rattle.asm_lines.specs.Faults.{FaultAt, LineFault, SourceCase, after_line, is_end_inside}
 use Rattle.sloth_base.specs.declared.refusal.Part.TheVariants.{Src}
 use Rattle.least_fault.proofs.Cases.{case_found}
 use Rattle.asm_lines.proofs.rules.source_fault.Goals as goal
@@ -19,8 +19,8 @@ loop-n-preserved c =
     let m = c.line_fault.result in
     let inside = c.loop-n.invariant.inside in
     let place : i ≡ length (take i xs) = sym (length-take-le i xs c.loop-n.auto.n-end) in
-    let found = subst (λ (b : Bool). Finds (LineFault b (length (take i xs) + 1) x) m) inside
-    (subst (λ (k : ℕ). Finds (LineFault c.loop-n.inside (k + 1) x) m) place c.line_fault.ensures) in
+    let found = subst (λ (b : Bool). IsSearchResult (LineFault b (length (take i xs) + 1) x) m) inside
+    (subst (λ (k : ℕ). IsSearchResult (LineFault c.loop-n.inside (k + 1) x) m) place c.line_fault.ensures) in
     record {
       finds = loop_more FaultAt xs i x c.loop-n.least m c.merge-least.result c.loop-n-test.true c.index-lines-n.is found c.merge-least.ensures c.loop-n.invariant.finds;
       inside = c.after_line-inside.ensures ∙ (ap (λ b. after_line b x) inside
@@ -32,6 +32,6 @@ returns c =
     let xs = c.args.lines.now in
     let e : c.loop-n.n ≡ length xs = omega arith in
     let inside = c.loop-n.invariant.inside ∙ ap (fold after_line false) (ap (λ k. take k xs) e ∙ take-length xs) in
-    both_are (Somewhere FaultAt xs) (Case (ends_inside xs) (length xs) A1) c.loop-n.least c.when-at_end.result c.merge.result
+    both_are (Somewhere FaultAt xs) (SourceCase (is_end_inside xs) (length xs) A1) c.loop-n.least c.fault_if-at_end.result c.merge.result
     (loop_end FaultAt xs c.loop-n.n c.loop-n.least c.loop-n-test.false c.loop-n.invariant.finds)
-    (case_found Src (ends_inside xs) c.loop-n.inside (length xs) A1 c.when-at_end.result c.when-at_end.ensures inside) c.merge.ensures
+    (case_found Src (is_end_inside xs) c.loop-n.inside (length xs) A1 c.fault_if-at_end.result c.fault_if-at_end.ensures inside) c.merge.ensures

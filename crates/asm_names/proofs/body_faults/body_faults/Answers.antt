@@ -2,9 +2,9 @@ use Rattle.std.proofs.Common.{◌≡◌, ◌∙◌, ◌⊎◌, ℕ, ◌+◌, ◌
 use Rattle.std.proofs.lemmas.List.{length-take-le}
 use Rattle.std.specs.Prelude.{count_by}
 use Rattle.asm_lines.specs.declared.source_line.SourceLine.{SourceLine}
-use Rattle.least_fault.specs.Search.{Finds, Somewhere}
+use Rattle.least_fault.specs.Search.{IsSearchResult, Somewhere}
 use Rattle.least_fault.proofs.Kept.{loop_more, loop_end}
-use Rattle.asm_scopes.specs.Said.{is_item, label_names}
+use Rattle.asm_scopes.specs.Statements.{is_item, label_names}
 use Rattle.asm_scopes.specs.Bodies.{BodyText, body_name, function_names}
 use Rattle.asm_names.specs.NameFaults.{items_in, HeaderFault, LineFault, BodyFault}
 use Rattle.asm_names.proofs.Fronts.{sum_more, take_map}
@@ -22,9 +22,9 @@ loop-n-preserved c =
     let names : take i scope.functions ≡ function_names front = ap (take i) c.requires.functions ∙ take_map body_name xs i in
     let place : i ≡ length front = sym (length-take-le i xs c.loop-n.auto.n-end) in
     let Inner = λ (n : ℕ). Somewhere (LineFault scope (label_names x.lines) n x.line) x.lines in
-    let one = subst (λ (e : List (List ℕ)). Finds (λ r. HeaderFault scope e i x.line x.header r ⊎ Inner c.loop-n.items r) m) names c.in_ok-found.ensures in
-    let two = subst (λ (n : ℕ). Finds (λ r. HeaderFault scope (function_names front) n x.line x.header r ⊎ Inner c.loop-n.items r) m) place one in
-    let found = subst (λ (n : ℕ). Finds (λ r. HeaderFault scope (function_names front) (length front) x.line x.header r ⊎ Inner n r) m) k.items two in
+    let one = subst (λ (e : List (List ℕ)). IsSearchResult (λ r. HeaderFault scope e i x.line x.header r ⊎ Inner c.loop-n.items r) m) names c.in_ok-found.ensures in
+    let two = subst (λ (n : ℕ). IsSearchResult (λ r. HeaderFault scope (function_names front) n x.line x.header r ⊎ Inner c.loop-n.items r) m) place one in
+    let found = subst (λ (n : ℕ). IsSearchResult (λ r. HeaderFault scope (function_names front) (length front) x.line x.header r ⊎ Inner n r) m) k.items two in
     let short = subst (λ (b : BodyText). b.line + length b.lines < 2 ^ 32) (sym c.index-bodies-n.is) (c.requires.short i x c.loop-n-test.true) in
     let few = k.few in
     let bound = c.count_items-items.ensures.few in

@@ -1,6 +1,6 @@
 use Rattle.std.proofs.Common.{◌≡◌, ◌+◌, take, count_by}
 use Rattle.least_fault.proofs.Kept.{Loop}
-use Rattle.asm_scopes.specs.Said.{is_label, is_item}
+use Rattle.asm_scopes.specs.Statements.{is_label, is_item}
 use Rattle.asm_names.specs.NameFaults.{LineFault}
 use Rattle.asm_names.proofs.body_faults.line_faults.Given as goal
 

@@ -2,15 +2,15 @@ use Rattle.std.proofs.Common.{◌∙◌, ◌⊎◌, ◌+◌, ◌<◌, ◌^◌, L
 use Rattle.std.specs.Prelude.{All}
 use Rattle.std.proofs.lemmas.List.Elements.{All-weaker}
 use Rattle.sloth_base.specs.declared.refusal.Code.TheVariants.{A7}
-use Rattle.least_fault.specs.Search.{Finds, Somewhere}
+use Rattle.least_fault.specs.Search.{IsSearchResult, Somewhere}
 use Rattle.sloth_base.specs.declared.refusal.Part.TheVariants.{Src}
 use Rattle.least_fault.proofs.Kept.{both_are}
 use Rattle.least_fault.proofs.Cases.{case_found}
-use Rattle.asm_lines.specs.Faults.{Case}
+use Rattle.asm_lines.specs.Faults.{SourceCase}
 use Rattle.asm_scopes.specs.declared.scope.Scope.{Scope}
 use Rattle.asm_scopes.specs.Bodies.{BodyText, bodies_of}
 use Rattle.asm_scopes.specs.Scopes.{scope_of}
-use Rattle.asm_names.specs.NameFaults.{lacks_body, DataFault, BodyFault}
+use Rattle.asm_names.specs.NameFaults.{is_body_missing, DataFault, BodyFault}
 use Rattle.asm_scopes.proofs.Short.{few_bodies, short_bodies, EndsBefore}
 use Rattle.asm_names.proofs.judging.fault_in_scope.Goals as goal
 
@@ -34,12 +34,12 @@ returns c =
     let lines = c.args.lines.now in
     let found = c.in_ok-of_bodies.of_bodies in
     let scope = c.requires.scope ∙ ap (scope_of config lines) c.requires.bodies in
-    let of_bodies = subst (λ (s : Scope). Finds (Somewhere (BodyFault s) (bodies_of lines)) found) scope
-    (subst (λ (bodies : List BodyText). Finds (Somewhere (BodyFault c.args.scope.now) bodies) found) c.requires.bodies c.in_ok-of_bodies.ensures) in
-    let of_tasks = case_found Src (lacks_body config (bodies_of lines)) c.in_ok-lacks.lacks 1 A7 c.when-of_tasks.result c.when-of_tasks.ensures
-    (c.in_ok-lacks.ensures ∙ ap (lacks_body config) c.requires.bodies) in
-    both_are (Somewhere DataFault lines) (λ r. Somewhere (BodyFault (scope_of config lines (bodies_of lines))) (bodies_of lines) r ⊎ Case (lacks_body config (bodies_of lines)) 1 A7 r)
+    let of_bodies = subst (λ (s : Scope). IsSearchResult (Somewhere (BodyFault s) (bodies_of lines)) found) scope
+    (subst (λ (bodies : List BodyText). IsSearchResult (Somewhere (BodyFault c.args.scope.now) bodies) found) c.requires.bodies c.in_ok-of_bodies.ensures) in
+    let of_tasks = case_found Src (is_body_missing config (bodies_of lines)) c.in_ok-lacks.lacks 1 A7 c.fault_if-of_tasks.result c.fault_if-of_tasks.ensures
+    (c.in_ok-lacks.ensures ∙ ap (is_body_missing config) c.requires.bodies) in
+    both_are (Somewhere DataFault lines) (λ r. Somewhere (BodyFault (scope_of config lines (bodies_of lines))) (bodies_of lines) r ⊎ SourceCase (is_body_missing config (bodies_of lines)) 1 A7 r)
     c.data_faults-of_data.result c.merge.result c.merge-2.result c.data_faults-of_data.ensures
-    (both_are (Somewhere (BodyFault (scope_of config lines (bodies_of lines))) (bodies_of lines)) (Case (lacks_body config (bodies_of lines)) 1 A7) found c.when-of_tasks.result c.merge.result of_bodies of_tasks
+    (both_are (Somewhere (BodyFault (scope_of config lines (bodies_of lines))) (bodies_of lines)) (SourceCase (is_body_missing config (bodies_of lines)) 1 A7) found c.fault_if-of_tasks.result c.merge.result of_bodies of_tasks
     c.merge.ensures)
     c.merge-2.ensures

@@ -1,7 +1,7 @@
 use Rattle.std.proofs.Common.{◌∙◌, ◌+◌, ap, take, length-take, arith}
 use Rattle.std.specs.Prelude.{if◌then◌else◌}
 use Rattle.std.proofs.lemmas.List.Sums.{count_by-le-length}
-use Rattle.asm_scopes.specs.Said.{is_item}
+use Rattle.asm_scopes.specs.Statements.{is_item}
 use Rattle.asm_names.proofs.Fronts.{count_more}
 use Rattle.asm_names.proofs.limits.count_items.Goals as goal
 

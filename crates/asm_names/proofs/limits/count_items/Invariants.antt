@@ -1,5 +1,5 @@
 use Rattle.std.proofs.Common.{◌≡◌, take, count_by}
-use Rattle.asm_scopes.specs.Said.{is_item}
+use Rattle.asm_scopes.specs.Statements.{is_item}
 use Rattle.asm_names.proofs.limits.count_items.Given as goal
 
 abbrev pub invariant-loop-line : goal.invariant-loop-line

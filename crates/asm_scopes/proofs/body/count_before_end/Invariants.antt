@@ -1,6 +1,6 @@
 use Rattle.std.proofs.Common.{◌≡◌, ◌+◌, not, drop}
 use Rattle.std.specs.List.{prefix_len}
-use Rattle.asm_scopes.specs.Said.{closes_body}
+use Rattle.asm_scopes.specs.Statements.{closes_body}
 use Rattle.asm_scopes.proofs.body.count_before_end.Given as goal
 
 abbrev pub invariant-loop-n : goal.invariant-loop-n

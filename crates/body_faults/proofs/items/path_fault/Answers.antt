@@ -1,10 +1,10 @@
 use Rattle.std.proofs.Common.{false, not, get_or, subst}
 use Rattle.sloth_base.specs.declared.app.Item.{Item}
 use Rattle.sloth_base.specs.declared.refusal.Code.TheVariants as code
-use Rattle.least_fault.specs.Search.{Finds}
+use Rattle.least_fault.specs.Search.{IsSearchResult}
 use Rattle.code_rules.specs.WellFormed.{IsUnreached}
 use Rattle.code_rules.proofs.Judged.{decided}
-use Rattle.body_faults.specs.Cases.{Case}
+use Rattle.body_faults.specs.Cases.{BodyCase}
 use Rattle.body_faults.proofs.Lists.{item_is}
 use Rattle.body_faults.proofs.Paths.{Decides-unreached}
 use Rattle.body_faults.proofs.items.path_fault.Goals as goal
@@ -15,5 +15,5 @@ returns c =
     let i = c.args.number in
     let marks = c.args.marks.now in
     let x = c.index-items-number.result in
-    subst (λ (y : Item). Finds (Case (IsUnreached f i) y.line code.V6) c.when.result) (item_is f c.items.result.now i x c.items.ensures c.requires.inside c.index-items-number.is)
-    (decided (IsUnreached f i) (not (get_or marks i false)) x.line code.V6 c.when.result c.when.ensures (Decides-unreached f marks i c.requires.inside (c.requires.exact i)))
+    subst (λ (y : Item). IsSearchResult (BodyCase (IsUnreached f i) y.line code.V6) c.fault_if.result) (item_is f c.items.result.now i x c.items.ensures c.requires.inside c.index-items-number.is)
+    (decided (IsUnreached f i) (not (get_or marks i false)) x.line code.V6 c.fault_if.result c.fault_if.ensures (Decides-unreached f marks i c.requires.inside (c.requires.exact i)))

@@ -1,5 +1,5 @@
 use Rattle.std.proofs.Common.{ℕ, subst, sym, ◌∙◌, arith}
-use Rattle.body_faults.specs.Ways.{Visited}
+use Rattle.body_faults.specs.Ways.{IsMarkVisit}
 use Rattle.body_faults.proofs.Searches.{taken, next_inside, jump_inside, gone_on, ended}
 use Rattle.body_faults.proofs.reachable.spread.Goals as goal
 
@@ -40,8 +40,8 @@ loop-from-preserved c =
     let kept = c.visit-in-Some.new.pending.items in
     let o = taken c.args.func.now c.loop-from.marks c.loop-from.pending.items c.pop.new.self.items c.in-Some.from c.in-Some.ensures.items c.loop-from.invariant in
     gone_on f marks mid new rest more kept x (next_inside f x o.known) (jump_inside f x o.known)
-    (subst (λ (y : ℕ). Visited marks mid rest more y) c.next_of.ensures c.in_ok-visit-in-Some.ensures.visited)
-    (subst (λ (y : ℕ). Visited mid new more kept y) c.jump_of.ensures c.in_ok-visit-in-Some-2.ensures.visited)
+    (subst (λ (y : ℕ). IsMarkVisit marks mid rest more y) c.next_of.ensures c.in_ok-visit-in-Some.ensures.visited)
+    (subst (λ (y : ℕ). IsMarkVisit mid new more kept y) c.jump_of.ensures c.in_ok-visit-in-Some-2.ensures.visited)
     o
 
 pub returns-in-None : goal.returns-in-None

@@ -1,6 +1,6 @@
 use Rattle.std.proofs.Common.{◌≡◌, ℕ, Some, length, subst, sym, ◌∙◌}
 use Rattle.least_fault.proofs.Kept.{finds_same}
-use Rattle.body_faults.specs.Cases.{FallsOther, FallFault}
+use Rattle.body_faults.specs.Cases.{FallIntoFault, FallFault}
 use Rattle.body_faults.specs.Labels.{first_label_below}
 use Rattle.body_faults.proofs.Labelled.{first_is}
 use Rattle.body_faults.proofs.walk.fall_fault.Goals as goal
@@ -15,9 +15,9 @@ returns-in-Some c =
     let place = c.args.place in
     let k = c.in-Some.label in
     let e : first_label_below f.labels place (length f.labels) ≡ Some k = sym c.requires.first ∙ c.in-Some.is in
-    finds_same (FallsOther f place k) (FallFault f place) c.labelled_fault.result
+    finds_same (FallIntoFault f place k) (FallFault f place) c.labelled_fault.result
     (λ r x. (k, e, x))
     (λ r x.
     let s : Some x.0 ≡ Some k = sym x.1 ∙ e in
-    let same : x.0 ≡ k = cc in subst (λ (n : ℕ). FallsOther f place n r) same x.2)
+    let same : x.0 ≡ k = cc in subst (λ (n : ℕ). FallIntoFault f place n r) same x.2)
     c.labelled_fault.ensures

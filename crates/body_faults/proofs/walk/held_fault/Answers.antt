@@ -1,16 +1,16 @@
 use Rattle.std.proofs.Common.{◌⊎◌, sym, subst}
 use Rattle.sloth_base.specs.declared.app.Item.{Item}
 use Rattle.sloth_base.specs.declared.refusal.Code.TheVariants as code
-use Rattle.least_fault.specs.Search.{Finds}
+use Rattle.least_fault.specs.Search.{IsSearchResult}
 use Rattle.least_fault.proofs.Kept.{both_are}
-use Rattle.code_rules.specs.WellFormed.{HoldsOther, ReleasesOther, TakesHeld, LeavesHolding}
+use Rattle.code_rules.specs.WellFormed.{IsOtherListJump, IsWrongRelease, IsSecondTake, IsLeaveWithResource}
 use Rattle.code_rules.specs.AppRange.{IsOp}
 use Rattle.code_rules.proofs.Judged.{decided}
 use Rattle.body_faults.proofs.Tested.{tested}
-use Rattle.body_faults.specs.Cases.{Case, HeldFault}
-use Rattle.body_faults.specs.Tests.{releases_other, takes_held, leaves_holding}
+use Rattle.body_faults.specs.Cases.{BodyCase, HeldFault}
+use Rattle.body_faults.specs.Tests.{is_wrong_release, is_second_take, is_leave_with_resource}
 use Rattle.body_faults.proofs.Lists.{item_is}
-use Rattle.body_faults.proofs.Tests.{Decides-releases_other, Decides-takes_held, Decides-leaves_holding}
+use Rattle.body_faults.proofs.Tests.{Decides-is_wrong_release, Decides-is_second_take, Decides-is_leave_with_resource}
 use Rattle.body_faults.proofs.walk.held_fault.Goals as goal
 
 pub returns : goal.returns
@@ -25,21 +25,21 @@ returns c =
     let op_is = subst (λ (y : Item). IsOp config app f y.op) (sym same) c.requires.item in
     let in_range = c.requires.in_range in
     let belong = c.requires.belong in
-    let P7 = Case (HoldsOther f held x.op) x.line code.V7 in
-    let P8 = Case (ReleasesOther held x.op) x.line code.V8 in
-    let P9 = Case (TakesHeld app held x.op) x.line code.V9 in
-    let P10 = Case (LeavesHolding app held x.op) x.line code.V10 in
-    subst (λ (y : Item). Finds (HeldFault app f held y.line y.op) c.merge-3.result) same
-    (both_are P7 (λ r. P8 r ⊎ (P9 r ⊎ P10 r)) c.when-other.result c.merge-2.result c.merge-3.result
-    (decided (HoldsOther f held x.op) c.holds_other.result x.line code.V7 c.when-other.result c.when-other.ensures c.holds_other.ensures)
-    (both_are P8 (λ r. P9 r ⊎ P10 r) c.when-releases.result c.merge.result c.merge-2.result
-    (tested (ReleasesOther held x.op) (releases_other held x.op) c.releases_other.result x.line code.V8 c.when-releases.result c.when-releases.ensures c.releases_other.ensures
-    (Decides-releases_other held x.op))
-    (both_are P9 P10 c.when-takes.result c.when-leaves.result c.merge.result
-    (tested (TakesHeld app held x.op) (takes_held ranks held x.op) c.takes_held.result x.line code.V9 c.when-takes.result c.when-takes.ensures c.takes_held.ensures
-    (Decides-takes_held config app ranks in_range belong f held x.op op_is))
-    (tested (LeavesHolding app held x.op) (leaves_holding ranks held x.op) c.leaves_holding.result x.line code.V10 c.when-leaves.result c.when-leaves.ensures c.leaves_holding.ensures
-    (Decides-leaves_holding config app ranks in_range belong f held x.op op_is))
+    let P7 = BodyCase (IsOtherListJump f held x.op) x.line code.V7 in
+    let P8 = BodyCase (IsWrongRelease held x.op) x.line code.V8 in
+    let P9 = BodyCase (IsSecondTake app held x.op) x.line code.V9 in
+    let P10 = BodyCase (IsLeaveWithResource app held x.op) x.line code.V10 in
+    subst (λ (y : Item). IsSearchResult (HeldFault app f held y.line y.op) c.merge-3.result) same
+    (both_are P7 (λ r. P8 r ⊎ (P9 r ⊎ P10 r)) c.fault_if-other.result c.merge-2.result c.merge-3.result
+    (decided (IsOtherListJump f held x.op) c.is_other_list_jump.result x.line code.V7 c.fault_if-other.result c.fault_if-other.ensures c.is_other_list_jump.ensures)
+    (both_are P8 (λ r. P9 r ⊎ P10 r) c.fault_if-releases.result c.merge.result c.merge-2.result
+    (tested (IsWrongRelease held x.op) (is_wrong_release held x.op) c.is_wrong_release.result x.line code.V8 c.fault_if-releases.result c.fault_if-releases.ensures c.is_wrong_release.ensures
+    (Decides-is_wrong_release held x.op))
+    (both_are P9 P10 c.fault_if-takes.result c.fault_if-leaves.result c.merge.result
+    (tested (IsSecondTake app held x.op) (is_second_take ranks held x.op) c.is_second_take.result x.line code.V9 c.fault_if-takes.result c.fault_if-takes.ensures c.is_second_take.ensures
+    (Decides-is_second_take config app ranks in_range belong f held x.op op_is))
+    (tested (IsLeaveWithResource app held x.op) (is_leave_with_resource ranks held x.op) c.is_leave_with_resource.result x.line code.V10 c.fault_if-leaves.result c.fault_if-leaves.ensures c.is_leave_with_resource.ensures
+    (Decides-is_leave_with_resource config app ranks in_range belong f held x.op op_is))
     c.merge.ensures)
     c.merge-2.ensures)
     c.merge-3.ensures)

@@ -1,6 +1,6 @@
 use Rattle.std.proofs.Common.{ℕ, ◌<◌, ◌≤◌, List, length, ap, sym, subst, ◌∙◌, add-one, arith}
 use Rattle.sloth_base.specs.declared.app.Item.{Item}
-use Rattle.least_fault.specs.Search.{Finds}
+use Rattle.least_fault.specs.Search.{IsSearchResult}
 use Rattle.least_fault.proofs.Kept.{both_are}
 use Rattle.sloth_base.specs.Named.{item_of}
 use Rattle.code_rules.specs.Code.{held_list_fallen_into, held_after}
@@ -32,7 +32,7 @@ loop-number-preserved c =
     let line = (item_of f i).line in
     let o = (item_of f i).op in
     let found = c.held_fault-here.result in
-    let here = subst (λ (h : List ℕ). Finds (HeldFault app f h line o) found) (c.deref-in-loop-number.ensures.value ∙ held_now) c.held_fault-here.ensures in
+    let here = subst (λ (h : List ℕ). IsSearchResult (HeldFault app f h line o) found) (c.deref-in-loop-number.ensures.value ∙ held_now) c.held_fault-here.ensures in
     let same = item_is f c.items.result.now i c.index-items-number.result c.items.ensures inside c.index-items-number.is in
     record {
       finds = judged_more (PlaceFault app f) (length f.items) i c.loop-number.least c.merge.result c.merge-least.result inside
@@ -49,5 +49,5 @@ returns c =
     let end = subst (λ (x : List Item). length x ≤ i) c.items-number-end.ensures c.loop-number-test.false in
     both_are (Below (PlaceFault app f) (length f.items)) (FallFault f (length f.items)) c.loop-number.least c.fall_fault.result c.merge-2.result
     (judged_end (PlaceFault app f) (length f.items) i c.loop-number.least end c.loop-number.invariant.finds)
-    (subst (λ (x : List Item). Finds (FallFault f (length x)) c.fall_fault.result) c.items-count.ensures c.fall_fault.ensures)
+    (subst (λ (x : List Item). IsSearchResult (FallFault f (length x)) c.fall_fault.result) c.items-count.ensures c.fall_fault.ensures)
     c.merge-2.ensures

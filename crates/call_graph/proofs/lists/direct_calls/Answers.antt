@@ -5,7 +5,7 @@ use Rattle.sloth_base.specs.declared.app.Item.{Item}
 use Rattle.call_graph.specs.Bits.{is_member}
 use Rattle.call_graph.specs.Rows.{is_call}
 use Rattle.call_graph.proofs.Growing.{held_more}
-use Rattle.call_graph.specs.Reached.{CallsFew, func_of, calls_itself}
+use Rattle.call_graph.specs.Reached.{CallsFew, func_of, is_direct_call}
 use Rattle.call_graph.proofs.Itself.{func_is}
 use Rattle.call_graph.proofs.lists.direct_calls.Goals as goal
 
@@ -21,8 +21,8 @@ loop-func-preserved c =
     let i = c.loop-func.func-index in
     let f = c.func-item.result in
     let h =
-    held_more ℕ (λ f x. (g : ℕ) → is_member x g ≡ calls_itself (func_of c.args.funcs.now f) g) c.loop-func.rows.items c.push.new.list.items c.called.result 0 i
+    held_more ℕ (λ f x. (g : ℕ) → is_member x g ≡ is_direct_call (func_of c.args.funcs.now f) g) c.loop-func.rows.items c.push.new.list.items c.called.result 0 i
     c.loop-func.invariant.count (λ f lt g. c.loop-func.invariant.calls f g lt) c.in_ok-push.ensures
     (λ g. c.called.ensures g ∙ ap (λ (items : List Item). list_any (λ item. is_call g item.op) items) c.items.ensures
-    ∙ ap (λ (x : Func). calls_itself x g) (func_is c.args.funcs.now i f c.loop-func-test.true c.func-item.is)) in
+    ∙ ap (λ (x : Func). is_direct_call x g) (func_is c.args.funcs.now i f c.loop-func-test.true c.func-item.is)) in
     record { count = h.count; calls = λ f g lt. h.each f lt g }

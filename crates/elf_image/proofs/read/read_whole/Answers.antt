@@ -1,6 +1,6 @@
 use Rattle.std.proofs.Common.{◌≡◌, ◌∙◌, ◌+◌, ap, subst, take, drop, length}
 use Rattle.std.proofs.lemmas.Result.{err_from_is_err_and, IfErr-weaker}
-use Rattle.elf_image.specs.Reading.{AreRead, ContentsFail, DescriptionFails, IsDescription, IsNote}
+use Rattle.elf_image.specs.Reading.{AreRead, IsContentsError, IsDescriptionError, IsDescription, IsNote}
 use Rattle.elf_image.proofs.Steps.{both-ok, contents-fail, description-fails, elf-read}
 use Rattle.elf_image.proofs.Whole.{memory-size}
 use Rattle.elf_image.proofs.read.read_whole.Goals as goal
@@ -15,7 +15,7 @@ returns-in_err-outline-clause-failed c =
     let failed = err_from_is_err_and c.from_residual-in_err-outline.result c.from_residual-in_err-outline.ensures.1 in
     rw (failed.1, failed.2)
     (description-fails c.args.bytes.now c.in_ok-size.size frame.0 frame.1 c.in_ok-length.length is c.in_err-outline.field-0.0
-    (subst (λ x. DescriptionFails c.in_err-outline.field-0.0 x) described c.in_err-outline.ensures.failed))
+    (subst (λ x. IsDescriptionError c.in_err-outline.field-0.0 x) described c.in_err-outline.ensures.failed))
 
 pub returns-clause-read : goal.returns-clause-read
 returns-clause-read c =
@@ -48,6 +48,6 @@ returns-clause-failed c =
     ap (λ x. length x) c.part-memory.ensures ∙ memory-size c.args.bytes.now c.in_ok-size.size frame.0 frame.1 in
     IfErr-weaker c.read_contents.result _ _ (λ f h.
     contents-fail c.args.bytes.now c.in_ok-size.size frame.0 frame.1 c.in_ok-length.length is o.tasks.items o.funcs.items o.counters.items o.memory o.count whole f
-    (subst (λ s. ContentsFail f (take c.in_ok-length.length (drop 20 (drop (116 + c.in_ok-size.size) c.args.bytes.now))) o.tasks.items o.funcs.items o.counters.items o.memory o.count s) size
-    (subst (λ x. ContentsFail f x o.tasks.items o.funcs.items o.counters.items o.memory o.count (length c.part-memory.result.now)) described h)))
+    (subst (λ s. IsContentsError f (take c.in_ok-length.length (drop 20 (drop (116 + c.in_ok-size.size) c.args.bytes.now))) o.tasks.items o.funcs.items o.counters.items o.memory o.count s) size
+    (subst (λ x. IsContentsError f x o.tasks.items o.funcs.items o.counters.items o.memory o.count (length c.part-memory.result.now)) described h)))
     c.read_contents.ensures.failed

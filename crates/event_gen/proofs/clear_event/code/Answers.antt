@@ -1,6 +1,6 @@
 use Rattle.std.proofs.Common.{◌≡◌, ◌∷◌, sym, subst}
 use Rattle.masked_code.specs.Kernel.{masking}
-use Rattle.event_gen.specs.ClearEvent.{ClearsEvents}
+use Rattle.event_gen.specs.ClearEvent.{IsClearEventCode}
 use Rattle.event_gen.proofs.Clearing.{body, clears}
 use Rattle.event_gen.proofs.clear_event.code.Goals as goal
 
@@ -9,4 +9,4 @@ returns c =
     let e : c.go_back.new.code.items ≡ masking ∷ body =
     rw (c.in_ok-go_back.ensures, c.in_ok-clear_own.ensures, c.in_ok-find_own.ensures, c.in_ok-open.ensures, c.new-code.ensures.items)
     in
-    subst ClearsEvents (sym e) clears
+    subst IsClearEventCode (sym e) clears

@@ -1,6 +1,6 @@
 use Rattle.std.proofs.Common.{◌≡◌, ◌∷◌, sym, subst}
 use Rattle.masked_code.specs.Kernel.{masking}
-use Rattle.event_gen.specs.GetEvent.{TellsEvents}
+use Rattle.event_gen.specs.GetEvent.{IsGetEventCode}
 use Rattle.event_gen.proofs.Getting.{body, tells}
 use Rattle.event_gen.proofs.get_event.code.Goals as goal
 
@@ -9,4 +9,4 @@ returns c =
     let e : c.go_back.new.code.items ≡ masking ∷ body c.args.task =
     rw (c.in_ok-go_back.ensures, c.in_ok-tell_events.ensures, c.in_ok-look_at.ensures, c.in_ok-open.ensures, c.new-code.ensures.items)
     in
-    subst (TellsEvents c.args.task) (sym e) (tells c.args.task)
+    subst (IsGetEventCode c.args.task) (sym e) (tells c.args.task)

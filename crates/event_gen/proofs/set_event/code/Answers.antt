@@ -1,6 +1,6 @@
 use Rattle.std.proofs.Common.{◌≡◌, ◌∷◌, sym, subst}
 use Rattle.masked_code.specs.Kernel.{masking}
-use Rattle.event_gen.specs.SetEvent.{SetsEvents}
+use Rattle.event_gen.specs.SetEvent.{IsSetEventCode}
 use Rattle.event_gen.proofs.Setting.{body, sets}
 use Rattle.event_gen.proofs.set_event.code.Goals as goal
 
@@ -9,4 +9,4 @@ returns c =
     let e : c.go_back.new.code.items ≡ masking ∷ body c.args.task =
     rw (c.in_ok-go_back.ensures, c.in_ok-enable.ensures, c.in_ok-raise.ensures, c.in_ok-ask_awaited.ensures, c.in_ok-add_events.ensures, c.in_ok-refuse.ensures, c.in_ok-look_at.ensures, c.in_ok-open.ensures, c.new-code.ensures.items)
     in
-    subst (SetsEvents c.args.task) (sym e) (sets c.args.task)
+    subst (IsSetEventCode c.args.task) (sym e) (sets c.args.task)

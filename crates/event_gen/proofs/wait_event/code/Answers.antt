@@ -1,6 +1,6 @@
 use Rattle.std.proofs.Common.{◌≡◌, ◌∷◌, sym, subst}
 use Rattle.masked_code.specs.Kernel.{masking}
-use Rattle.event_gen.specs.WaitEvent.{Waits}
+use Rattle.event_gen.specs.WaitEvent.{IsWaitEventCode}
 use Rattle.event_gen.proofs.Waiting.{body, waits}
 use Rattle.event_gen.proofs.wait_event.code.Goals as goal
 
@@ -9,4 +9,4 @@ returns c =
     let e : c.leave.new.code.items ≡ masking ∷ body =
     rw (c.in_ok-leave.ensures, c.in_ok-disable.ensures, c.in_ok-hold_controller-2.ensures, c.in_ok-keep.ensures, c.in_ok-save_own.ensures, c.in_ok-go_to_rest.ensures, c.in_ok-go_back.ensures, c.in_ok-answer_set.ensures, c.in_ok-hold_controller.ensures, c.in_ok-ask_set.ensures, c.in_ok-find_own.ensures, c.in_ok-open.ensures, c.new-code.ensures.items)
     in
-    subst Waits (sym e) waits
+    subst IsWaitEventCode (sym e) waits

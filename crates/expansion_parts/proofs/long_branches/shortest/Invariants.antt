@@ -1,12 +1,12 @@
 use Rattle.std.proofs.Common.{◌≡◌, length}
-use Rattle.expansion_parts.specs.Long.{Set, Suffices, IsInSet}
+use Rattle.expansion_parts.specs.Long.{BranchSet, IsSufficient, IsInSet}
 use Rattle.expansion_parts.specs.Passes.{set_in_list, short_count}
 use Rattle.expansion_parts.proofs.long_branches.shortest.Given as goal
 
 abbrev pub invariant-loop-long : goal.invariant-loop-long
 invariant-loop-long l = record {
   count : length l.long.items ≡ length l.body.items;
-  least : (other : Set) → Suffices l.app l.body other → IsInSet l.body (set_in_list l.long.items) other;
+  least : (other : BranchSet) → IsSufficient l.app l.body other → IsInSet l.body (set_in_list l.long.items) other;
 }
 
 abbrev pub decreases-loop-long : goal.decreases-loop-long

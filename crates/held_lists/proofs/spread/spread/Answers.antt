@@ -2,7 +2,7 @@ use Rattle.std.proofs.Common.{◌≡◌, ℕ, List, length, subst, sym, ap, ◌�
 use Rattle.std.proofs.lemmas.List.{length-map, length_push}
 use Rattle.std.specs.Prelude.{is_some}
 use Rattle.label_lists.specs.Places.{list_at}
-use Rattle.held_lists.specs.Spread.{marks, list_after, Placed}
+use Rattle.held_lists.specs.Spread.{marks, list_after, IsListVisit}
 use Rattle.body_faults.proofs.Searches.{next_inside, jump_inside}
 use Rattle.held_lists.proofs.Spreading.{taken_inside, turned, visits, visit_costs, spread_done}
 use Rattle.held_lists.proofs.spread.spread.Goals as goal
@@ -61,10 +61,10 @@ loop-from-preserved c =
       spreading = c.loop-from.invariant;
       taken_from = c.in-Some.ensures.items;
       behind_is = behind_is ∙ ap (λ o. list_after o (list_at lists x)) c.op_at.ensures;
-      next = subst (λ (y : ℕ). Placed lists mid rest more y behind) c.next_of.ensures
-          (subst (λ (held : List ℕ). Placed lists mid rest more c.next_of.result held) c.as_slice.ensures.value c.in_ok-visit-in-Some.ensures);
-      jump = subst (λ (y : ℕ). Placed mid new more kept y behind) c.jump_of.ensures
-          (subst (λ (held : List ℕ). Placed mid new more kept c.jump_of.result held) c.as_slice-in-Some.ensures.value c.in_ok-visit-in-Some-2.ensures);
+      next = subst (λ (y : ℕ). IsListVisit lists mid rest more y behind) c.next_of.ensures
+          (subst (λ (held : List ℕ). IsListVisit lists mid rest more c.next_of.result held) c.as_slice.ensures.value c.in_ok-visit-in-Some.ensures);
+      jump = subst (λ (y : ℕ). IsListVisit mid new more kept y behind) c.jump_of.ensures
+          (subst (λ (held : List ℕ). IsListVisit mid new more kept c.jump_of.result held) c.as_slice-in-Some.ensures.value c.in_ok-visit-in-Some-2.ensures);
     })
 
 pub loop-from-smaller : goal.loop-from-smaller

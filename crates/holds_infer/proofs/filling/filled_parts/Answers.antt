@@ -7,7 +7,7 @@ use Rattle.text_pieces.specs.Names.{referent}
 use Rattle.asm_lines.specs.declared.source_line.SourceLine.{SourceLine}
 use Rattle.asm_lines.specs.Lines.{line_of}
 use Rattle.asm_lines.specs.SourceLines.{source_line}
-use Rattle.asm_scopes.specs.Said.{is_label}
+use Rattle.asm_scopes.specs.Statements.{is_label}
 use Rattle.holds_infer.specs.FilledText.{filled_part, filled_parts}
 use Rattle.holds_infer.proofs.Loops.{written_on, count_lines, line_at, last_at, few_behind}
 use Rattle.holds_infer.proofs.filling.filled_parts.Goals as goal

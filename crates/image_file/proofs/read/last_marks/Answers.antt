@@ -3,7 +3,7 @@ use Rattle.std.proofs.lemmas.List.{drop_all, length-drop}
 use Rattle.std.proofs.lemmas.Bool.{true≢false}
 use Rattle.std.proofs.lemmas.Result.{err_from_is_err_and}
 use Rattle.sloth_base.specs.ImageRange.{AreAscending, service_limit}
-use Rattle.image_file.specs.Reading.{MarksFail, parts_at}
+use Rattle.image_file.specs.Reading.{IsMarksError, parts_at}
 use Rattle.image_file.proofs.RightParts.{marks_fail, right_by}
 use Rattle.image_file.proofs.read.last_marks.Goals as goal
 
@@ -15,7 +15,7 @@ returns-in_err-marks-clause-failed c =
     let u : c.len.result ≡ length p.counters.items = omega (arith, c.len.ensures, p.counters.ok.0) in
     let services : c.service_limit.result ≡ service_limit (length p.counters.items) = c.service_limit.ensures ∙ ap service_limit u in
     let n : c.len-2.result ≡ length p.funcs.items = omega (arith, c.len-2.ensures, p.funcs.ok.0) in
-    let P : ℕ → ℕ → Type 0 = λ s n. MarksFail c.in_err-marks.field-0.0 file (p.memory + p.size) p.count s n p.size in
+    let P : ℕ → ℕ → Type 0 = λ s n. IsMarksError c.in_err-marks.field-0.0 file (p.memory + p.size) p.count s n p.size in
     rw (q.1, q.2) (marks_fail c.in_err-marks.field-0.0 file p.tasks.items p.funcs.items p.counters.items p.memory p.size p.count _ c.requires.long c.requires.parts
     (subst (λ s. P s (length p.funcs.items)) services (subst (P c.service_limit.result) n c.in_err-marks.ensures.failed)))
 

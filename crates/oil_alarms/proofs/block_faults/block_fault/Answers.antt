@@ -1,5 +1,5 @@
 use Rattle.std.proofs.Common.{◌∙◌, List, ap, subst}
-use Rattle.least_fault.specs.Search.{Finds, Somewhere}
+use Rattle.least_fault.specs.Search.{IsSearchResult, Somewhere}
 use Rattle.oil_parse.specs.declared.tree.OilAttr.{OilAttr}
 use Rattle.oil_table.specs.declared.table.Place.{Place}
 use Rattle.oil_table.specs.declared.table.Place.TheVariants as place
@@ -13,6 +13,6 @@ returns c =
     let limits = c.args.limits in
     let head = c.args.block.now.head in
     let found = c.in_ok-found.found in
-    subst (λ (x : List OilAttr). Finds (Somewhere (InsideFault objects limits (block_place place.Alarm head) x) x) found) c.inner.ensures
-    (subst (λ (p : Place). Finds (Somewhere (InsideFault objects limits p c.inner.result.now) c.inner.result.now) found)
+    subst (λ (x : List OilAttr). IsSearchResult (Somewhere (InsideFault objects limits (block_place place.Alarm head) x) x) found) c.inner.ensures
+    (subst (λ (p : Place). IsSearchResult (Somewhere (InsideFault objects limits p c.inner.result.now) c.inner.result.now) found)
     (c.block_place-place.ensures ∙ ap (block_place place.Alarm) c.head.ensures) c.in_ok-found.ensures)

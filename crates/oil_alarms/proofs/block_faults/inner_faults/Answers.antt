@@ -1,5 +1,5 @@
 use Rattle.std.proofs.Common.{◌∙◌, List, subst}
-use Rattle.least_fault.specs.Search.{Finds}
+use Rattle.least_fault.specs.Search.{IsSearchResult}
 use Rattle.least_fault.proofs.Kept.{loop_more, loop_end}
 use Rattle.oil_parse.specs.declared.tree.OilAttr.{OilAttr}
 use Rattle.oil_alarms.specs.AlarmFaults.{InsideFault}
@@ -15,7 +15,7 @@ loop-number-preserved c =
     let found = c.inner_fault-found.result in
     record {
       finds = loop_more P inner i x c.loop-number.least found c.merge-least.result c.loop-number-test.true c.index-inner-number.is
-          (subst (λ (b : List OilAttr). Finds (P b x) found) k.behind c.inner_fault-found.ensures) c.merge-least.ensures k.finds;
+          (subst (λ (b : List OilAttr). IsSearchResult (P b x) found) k.behind c.inner_fault-found.ensures) c.merge-least.ensures k.finds;
       depth = c.in_ok-before.ensures.depth ∙ k.depth;
       behind = c.in_ok-before.ensures.attrs;
     }

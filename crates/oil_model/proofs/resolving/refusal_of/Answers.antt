@@ -1,7 +1,7 @@
 use Rattle.std.proofs.Common.{◌∙◌, ap, sym, subst, List}
 use Rattle.std.specs.Prelude.{map}
 use Rattle.sloth_base.specs.declared.config.EventDecl.{EventDecl}
-use Rattle.least_fault.specs.Search.{Finds, Somewhere}
+use Rattle.least_fault.specs.Search.{IsSearchResult, Somewhere}
 use Rattle.least_fault.proofs.Kept.{both_are}
 use Rattle.oil_parse.specs.declared.tree.OilObject.{OilObject}
 use Rattle.oil_events.specs.Events.{number_masks}
@@ -20,4 +20,4 @@ returns c =
     let tree = c.args.tree.now in
     let found = c.in_ok-of_alarms.of_alarms in
     both_are (TreeFault tree) (Somewhere (AlarmFault tree.objects) tree.objects) c.in_ok-of_tree.of_tree found c.merge.result c.in_ok-of_tree.ensures
-    (subst (λ (x : List OilObject). Finds (Somewhere (AlarmFault x) x) found) c.items-objects.ensures c.in_ok-of_alarms.ensures) c.merge.ensures
+    (subst (λ (x : List OilObject). IsSearchResult (Somewhere (AlarmFault x) x) found) c.items-objects.ensures c.in_ok-of_alarms.ensures) c.merge.ensures

@@ -1,6 +1,6 @@
 use Rattle.std.proofs.Common.{◌∙◌, Option, List, ap, sym, subst, take}
 use Rattle.std.proofs.lemmas.List.Sums.{fold_more}
-use Rattle.least_fault.specs.Search.{Finds}
+use Rattle.least_fault.specs.Search.{IsSearchResult}
 use Rattle.least_fault.proofs.Kept.{loop_more, loop_end}
 use Rattle.oil_parse.specs.declared.tree.OilAttr.{OilAttr}
 use Rattle.oil_table.specs.declared.table.Attribute.{Attribute}
@@ -22,8 +22,8 @@ loop-number-preserved c =
     let found = c.row_fault.result in
     record {
       finds = loop_more (AttributeFault objects c.args.scheduler place) attrs i x c.loop-number.least found c.merge-least.result c.loop-number-test.true c.index-attrs-number.is
-          (subst (λ (r : Option Attribute). Finds (RowFault objects c.args.scheduler r (take i attrs) x) found) row
-          (subst (λ (b : List OilAttr). Finds (RowFault objects c.args.scheduler c.attribute_of-row.result b x) found) k.behind c.row_fault.ensures))
+          (subst (λ (r : Option Attribute). IsSearchResult (RowFault objects c.args.scheduler r (take i attrs) x) found) row
+          (subst (λ (b : List OilAttr). IsSearchResult (RowFault objects c.args.scheduler c.attribute_of-row.result b x) found) k.behind c.row_fault.ensures))
           c.merge-least.ensures k.finds;
       opens = c.opened-inner.ensures ∙ ap (λ p. opened_place place p x) k.opens ∙ ap (opened_place place (inner_place place (take i attrs))) c.index-attrs-number.is
           ∙ sym (fold_more (opened_place place) Nowhere attrs i x c.loop-number-test.true);

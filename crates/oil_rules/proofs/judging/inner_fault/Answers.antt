@@ -1,5 +1,5 @@
 use Rattle.std.proofs.Common.{◌∙◌, ◌⊎◌, ap, subst, List}
-use Rattle.least_fault.specs.Search.{Finds, Somewhere}
+use Rattle.least_fault.specs.Search.{IsSearchResult, Somewhere}
 use Rattle.least_fault.proofs.Kept.{both_are}
 use Rattle.oil_parse.specs.declared.tree.OilAttr.{OilAttr}
 use Rattle.oil_table.specs.declared.table.Place.{Place}
@@ -18,8 +18,8 @@ returns c =
     let events = c.args.events.now in
     let found = c.in_ok-attributes.attributes in
     let place = c.place_of-place.ensures ∙ ap place_of c.bytes.ensures in
-    let attributes = subst (λ (x : List OilAttr). Finds (Somewhere (AttributeFault objects scheduler (place_of o.kind)) x) found) c.items.ensures
-    (subst (λ (p : Place). Finds (Somewhere (AttributeFault objects scheduler p) c.items.result.now) found) place c.in_ok-attributes.ensures) in
+    let attributes = subst (λ (x : List OilAttr). IsSearchResult (Somewhere (AttributeFault objects scheduler (place_of o.kind)) x) found) c.items.ensures
+    (subst (λ (p : Place). IsSearchResult (Somewhere (AttributeFault objects scheduler p) c.items.result.now) found) place c.in_ok-attributes.ensures) in
     both_are (KnownFault scheduler front o) (λ r. Somewhere (AttributeFault objects scheduler (place_of o.kind)) o.attrs r ⊎ TaskFaults events front o r)
     c.known_fault-known.result c.merge.result c.merge-2.result c.known_fault-known.ensures
     (both_are (Somewhere (AttributeFault objects scheduler (place_of o.kind)) o.attrs) (TaskFaults events front o) found c.in_ok-of_task.of_task c.merge.result attributes c.in_ok-of_task.ensures

@@ -1,5 +1,5 @@
 use Rattle.std.proofs.Common.{◌≡◌, true, take, subst, List}
-use Rattle.least_fault.specs.Search.{Finds}
+use Rattle.least_fault.specs.Search.{IsSearchResult}
 use Rattle.least_fault.proofs.Kept.{loop_more, loop_end, both_are}
 use Rattle.oil_parse.specs.declared.tree.OilObject.{OilObject}
 use Rattle.oil_rules.specs.ObjectFaults.{is_known, KindFault}
@@ -18,7 +18,7 @@ loop-number-preserved c =
     record {
       finds = loop_more (ObjectFault table scheduler events) objects i x c.loop-number.least c.merge.result c.merge-least.result c.loop-number-test.true c.index-objects-number.is
           (both_are (KindFault x) (λ r. (is_known x ≡ true) × InnerFault table scheduler events (take i objects) x r) c.kind_fault.result known c.merge.result c.kind_fault.ensures
-          (subst (λ (front : List OilObject). Finds (λ r. (is_known x ≡ true) × InnerFault table scheduler events front x r) known) c.loop-number.invariant.behind c.in_ok-known.ensures)
+          (subst (λ (front : List OilObject). IsSearchResult (λ r. (is_known x ≡ true) × InnerFault table scheduler events front x r) known) c.loop-number.invariant.behind c.in_ok-known.ensures)
           c.merge.ensures)
           c.merge-least.ensures c.loop-number.invariant.finds;
       behind = c.in_ok-front.ensures;

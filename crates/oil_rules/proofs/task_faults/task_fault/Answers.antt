@@ -2,7 +2,7 @@ use Rattle.std.proofs.Common.{◌∙◌, ap}
 use Rattle.std.specs.Prelude.{◌&&◌, not, codes}
 use Rattle.sloth_base.specs.declared.refusal.Code.TheVariants.{O13, O15}
 use Rattle.least_fault.proofs.Kept.{both_are}
-use Rattle.oil_table.specs.Cases.{Case}
+use Rattle.oil_table.specs.Cases.{OilCase}
 use Rattle.oil_table.specs.Objects.{is_use, number_of}
 use Rattle.oil_rules.specs.TaskFaults.{is_taken, repeats_priority, shares_bit}
 use Rattle.sloth_base.specs.declared.refusal.Part.TheVariants.{Oil}
@@ -16,8 +16,8 @@ returns c =
     let before = c.args.before.now in
     let repeats = repeats_priority front before.attrs a in
     let shares = shares_bit before.events before.attrs a in
-    both_are (Case repeats a.line O13) (Case shares a.line O15) c.when-repeated.result c.when-shared.result c.merge.result
-    (case_found Oil repeats c.repeats_priority-repeated.result a.line O13 c.when-repeated.result c.when-repeated.ensures
+    both_are (OilCase repeats a.line O13) (OilCase shares a.line O15) c.fault_if-repeated.result c.fault_if-shared.result c.merge.result
+    (case_found Oil repeats c.repeats_priority-repeated.result a.line O13 c.fault_if-repeated.result c.fault_if-repeated.ensures
     (c.repeats_priority-repeated.ensures ∙ ap (λ b. (is_use (codes "PRIORITY") a && not b) && is_taken front (number_of a.value)) c.requires))
-    (case_found Oil shares c.shares_bit.result a.line O15 c.when-shared.result c.when-shared.ensures c.shares_bit.ensures)
+    (case_found Oil shares c.shares_bit.result a.line O15 c.fault_if-shared.result c.fault_if-shared.ensures c.shares_bit.ensures)
     c.merge.ensures

@@ -1,7 +1,7 @@
 use Rattle.std.proofs.Common.{◌∙◌, ap, sym, subst, take, ◌+◌}
 use Rattle.std.specs.Prelude.{◌||◌, codes}
 use Rattle.std.proofs.lemmas.List.Folds.{list_any_more}
-use Rattle.least_fault.specs.Search.{Finds}
+use Rattle.least_fault.specs.Search.{IsSearchResult}
 use Rattle.least_fault.proofs.Kept.{loop_more, loop_end}
 use Rattle.oil_parse.specs.declared.tree.OilAttr.{OilAttr}
 use Rattle.oil_table.specs.Objects.{is_use, is_used}
@@ -19,7 +19,7 @@ loop-number-preserved c =
     let k = c.loop-number.invariant in
     record {
       finds = loop_more (TaskFault events front) attrs i x c.loop-number.least c.task_fault.result c.merge-least.result c.loop-number-test.true c.index-attrs-number.is
-          (subst (λ (r : ReferenceContext). Finds (TaskFault r.events front r.attrs x) c.task_fault.result) k.behind c.task_fault.ensures)
+          (subst (λ (r : ReferenceContext). IsSearchResult (TaskFault r.events front r.attrs x) c.task_fault.result) k.behind c.task_fault.ensures)
           c.merge-least.ensures k.finds;
       is_given = c.is_given_with-given.ensures ∙ ap (λ b. b || is_use (codes "PRIORITY") x) k.is_given
           ∙ ap (λ (y : OilAttr). is_used (take i attrs) (codes "PRIORITY") || is_use (codes "PRIORITY") y) c.index-attrs-number.is

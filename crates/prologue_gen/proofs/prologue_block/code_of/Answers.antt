@@ -1,12 +1,12 @@
 use Rattle.std.proofs.Common.{◌≡◌, ◌-◌, sym, subst}
 use Rattle.sloth_base.specs.MemoryMap.{memory_base}
-use Rattle.prologue_gen.specs.Places.{DoesEnter}
+use Rattle.prologue_gen.specs.Places.{IsPrologueCode}
 use Rattle.prologue_gen.proofs.BothKinds.{code, does_enter, length_is}
 use Rattle.prologue_gen.proofs.prologue_block.code_of.Goals.{In_ok-start_anew}
 use Rattle.prologue_gen.proofs.prologue_block.code_of.Goals as goal
 
 made : (c : In_ok-start_anew)
-    → DoesEnter c.args.extended c.args.task c.args.level c.args.first (c.args.frame - memory_base) c.args.words c.start_anew.new.code.items
+    → IsPrologueCode c.args.extended c.args.task c.args.level c.args.first (c.args.frame - memory_base) c.args.words c.start_anew.new.code.items
 made c =
     let extended = c.args.extended in
     let task = c.args.task in
@@ -19,7 +19,7 @@ made c =
     rw (c.in_ok-start_anew.ensures, c.in_ok-take_up.ensures, c.in_ok-mark_active.ensures, c.in_ok-save_context.ensures, c.new-code.ensures.items)
     in
     let enters = does_enter extended task level first frame words small.0 small.1 c.ranges.first.fits small.2 c.requires.in_ram in
-    subst (DoesEnter extended task level first (frame - memory_base) words) (sym e) enters
+    subst (IsPrologueCode extended task level first (frame - memory_base) words) (sym e) enters
 
 pub returns-clause-size : goal.returns-clause-size
 returns-clause-size c =

@@ -1,6 +1,6 @@
 use Rattle.lane_drawing.specs.Strips.{ShowsMore}
 use Rattle.schedule_picture.specs.Lanes.{HaveChanged}
-use Rattle.schedule_picture.specs.Looks.{lane_look}
+use Rattle.schedule_picture.specs.LaneLooks.{lane_look}
 use Rattle.schedule_picture.proofs.lanes.show.Given as goal
 
 abbrev pub invariant-loop-lane : goal.invariant-loop-lane

@@ -2,7 +2,7 @@ use Rattle.std.proofs.Common.{All, get_or, length, sym, subst}
 use Rattle.lane_drawing.specs.declared.scale.Scale.{Scale}
 use Rattle.lane_drawing.specs.Bars.{IsInside}
 use Rattle.lane_drawing.specs.Strips.{empty_lane}
-use Rattle.schedule_picture.specs.Looks.{look_at}
+use Rattle.schedule_picture.specs.LaneLooks.{look_at}
 use Rattle.schedule_picture.proofs.Sampling.{picture_of, all_inside}
 use Rattle.schedule_picture.proofs.picture.text_with.Goals as goal
 

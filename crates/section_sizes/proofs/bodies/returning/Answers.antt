@@ -3,7 +3,7 @@ use Rattle.std.specs.Prelude.{Decides}
 use Rattle.std.proofs.lemmas.List.{length-set}
 use Rattle.sloth_base.specs.declared.app.Func.{Func}
 use Rattle.sloth_base.specs.Named.{function}
-use Rattle.section_sizes.specs.Parts.{Returns}
+use Rattle.section_sizes.specs.Parts.{CanReturn}
 use Rattle.section_sizes.specs.Computed.{returns_of}
 use Rattle.section_sizes.proofs.Bodily.{returns_is, number_known, number_inside, knows_more}
 use Rattle.section_sizes.proofs.bodies.returning.Goals as goal
@@ -34,7 +34,7 @@ loop-number-preserved c =
     c.returns_of.ensures ∙ ap (λ (g : Func). returns_of g c.deref-in-loop-number.result.now) c.function_at-func.ensures
     ∙ ap (λ (m : List Bool). returns_of (function c.args.app.now f) m) c.deref-in-loop-number.ensures.value in
     let decides =
-    subst (λ (b : Bool). Decides b (Returns c.args.app.now f)) (sym same)
+    subst (λ (b : Bool). Decides b (CanReturn c.args.app.now f)) (sym same)
     (returns_is c.args.config.now c.args.app.now c.requires.well_formed f there c.in_ok-reached.reached.items c.in_ok-reached.ensures.exact) in
     record {
       count = length-set c.loop-number.returns.items f c.returns_of.result ∙ c.loop-number.invariant.count;

@@ -1,11 +1,11 @@
 use Rattle.std.proofs.Common.{◌≡◌, ℕ, true, false, length, get_or, take}
 use Rattle.std.specs.Prelude.{Decides}
 use Rattle.code_rules.specs.Code.{is_in}
-use Rattle.section_sizes.specs.Parts.{Returns}
+use Rattle.section_sizes.specs.Parts.{CanReturn}
 use Rattle.section_sizes.proofs.bodies.returning.Given as goal
 
 abbrev pub invariant-loop-number : goal.invariant-loop-number
 invariant-loop-number l = record {
   count : length l.returns.items ≡ length l.app.funcs;
-  each : (g : ℕ) → is_in g (take l.number-index l.order) ≡ true → Decides (get_or l.returns.items g false) (Returns l.app g);
+  each : (g : ℕ) → is_in g (take l.number-index l.order) ≡ true → Decides (get_or l.returns.items g false) (CanReturn l.app g);
 }

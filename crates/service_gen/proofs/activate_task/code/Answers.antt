@@ -1,6 +1,6 @@
 use Rattle.std.proofs.Common.{◌≡◌, ◌∷◌, sym, subst}
 use Rattle.masked_code.specs.Kernel.{masking}
-use Rattle.service_gen.specs.ActivateTask.{Activates}
+use Rattle.service_gen.specs.ActivateTask.{IsActivateTaskCode}
 use Rattle.service_gen.proofs.Activating.{body, activates}
 use Rattle.service_gen.proofs.activate_task.code.Goals as goal
 
@@ -9,4 +9,4 @@ returns c =
     let e : c.go_back.new.code.items ≡ masking ∷ body c.args.task =
     rw (c.in_ok-go_back.ensures, c.in_ok-raise.ensures, c.in_ok-tell.ensures, c.in_ok-look_at.ensures, c.in_ok-open.ensures, c.new-code.ensures.items)
     in
-    subst (Activates c.args.task) (sym e) (activates c.args.task)
+    subst (IsActivateTaskCode c.args.task) (sym e) (activates c.args.task)

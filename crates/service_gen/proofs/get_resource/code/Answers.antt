@@ -1,6 +1,6 @@
 use Rattle.std.proofs.Common.{◌≡◌, ◌∷◌, sym, subst}
 use Rattle.masked_code.specs.Kernel.{masking}
-use Rattle.service_gen.specs.GetResource.{Takes}
+use Rattle.service_gen.specs.GetResource.{IsGetResourceCode}
 use Rattle.service_gen.proofs.Taking.{body, taken}
 use Rattle.service_gen.proofs.get_resource.code.Goals as goal
 
@@ -9,4 +9,4 @@ returns c =
     let e : c.go_on.new.code.items ≡ masking ∷ body c.args.resource c.args.ceiling =
     rw (c.in_ok-go_on.ensures, c.in_ok-take.ensures, c.in_ok-open.ensures, c.new-code.ensures.items)
     in
-    subst (Takes c.args.resource c.args.ceiling) (sym e) (taken c.args.resource c.args.ceiling c.ranges.ceiling.fits)
+    subst (IsGetResourceCode c.args.resource c.args.ceiling) (sym e) (taken c.args.resource c.args.ceiling c.ranges.ceiling.fits)

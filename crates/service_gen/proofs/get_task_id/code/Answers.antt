@@ -1,6 +1,6 @@
 use Rattle.std.proofs.Common.{◌≡◌, ◌∷◌, sym, subst}
 use Rattle.masked_code.specs.Kernel.{masking}
-use Rattle.service_gen.specs.GetTaskID.{TellsTask}
+use Rattle.service_gen.specs.GetTaskID.{IsGetTaskIDCode}
 use Rattle.service_gen.proofs.Telling.{body, tells}
 use Rattle.service_gen.proofs.get_task_id.code.Goals as goal
 
@@ -9,4 +9,4 @@ returns c =
     let e : c.go_back.new.code.items ≡ masking ∷ body =
     rw (c.in_ok-go_back.ensures, c.in_ok-tell_own.ensures, c.in_ok-open.ensures, c.new-code.ensures.items)
     in
-    subst (TellsTask) (sym e) (tells)
+    subst (IsGetTaskIDCode) (sym e) (tells)

@@ -1,6 +1,6 @@
 use Rattle.std.proofs.Common.{◌≡◌, ◌∷◌, sym, subst}
 use Rattle.masked_code.specs.Kernel.{masking}
-use Rattle.service_gen.specs.TerminateTask.{Terminates}
+use Rattle.service_gen.specs.TerminateTask.{IsTerminateTaskCode}
 use Rattle.service_gen.proofs.TerminateTask.{body, terminates}
 use Rattle.service_gen.proofs.terminate_task.code.Goals as goal
 
@@ -9,4 +9,4 @@ returns c =
     let e : c.leave.new.code.items ≡ masking ∷ body =
     rw (c.in_ok-leave.ensures, c.in_ok-end.ensures, c.in_ok-open.ensures, c.new-code.ensures.items)
     in
-    subst Terminates (sym e) terminates
+    subst IsTerminateTaskCode (sym e) terminates

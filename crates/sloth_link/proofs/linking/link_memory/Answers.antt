@@ -5,7 +5,7 @@ use Rattle.rv32_instr.specs.Range.{InRange}
 use Rattle.rv32_instr.specs.declared.block.Block.{Block}
 use Rattle.sloth_link.specs.declared.datum.Datum.{Datum}
 use Rattle.sloth_link.specs.Image.{all_blocks, all_data, symbol_data, memory_size}
-use Rattle.sloth_link.specs.Linked.{AreLinked, BlockStands, HaveRoom, Holds, datum_section, sections_of}
+use Rattle.sloth_link.specs.Linked.{AreLinked, BlockStands, HaveRoom, HasSectionBytes, datum_section, sections_of}
 use Rattle.mem_map.specs.Sections.{HaveOwnAddresses, marks_of}
 use Rattle.sloth_link.proofs.InPlace.{stand}
 use Rattle.sloth_link.proofs.AlarmRoom.{alarms_have_room}
@@ -58,7 +58,7 @@ returns c =
       stand = stand config app map blocks c.requires memory marks linked code moved;
       range = subst (λ (bs : List Block). All (λ b. All InRange b.code) (blocks ++ bs)) items_are h.range;
       code = code;
-      data_stands = subst (λ (ds : List Datum). All (λ d. Holds memory (datum_section d)) ds) data_are h.symbols;
+      data_stands = subst (λ (ds : List Datum). All (λ d. HasSectionBytes memory (datum_section d)) ds) data_are h.symbols;
       linked = linked;
       bytes = h.bytes;
       moved = moved;

@@ -1,7 +1,7 @@
 use Rattle.std.proofs.Common.{◌<◌, List, ℕ, sym, subst}
 use Rattle.std.specs.Prelude.{All, IfOk}
 use Rattle.std.proofs.lemmas.Result.{IfOk-weaker}
-use Rattle.sloth_base.specs.Arrivals.{NeverFalls}
+use Rattle.sloth_base.specs.Arrivals.{AreRisingMoments}
 use Rattle.sloth_base.specs.ImageRange.{AreApart, AreNames}
 use Rattle.sloth_base.specs.declared.event.Arrival.{Arrival}
 use Rattle.trace_check.specs.Answer.{IsVerdict}
@@ -27,7 +27,7 @@ judge_lines-requires-clause-apart c =
     c.requires.well_formed.in_range.configuration.counters_apart)
 
 pub judge_lines-requires-clause-rising : goal.judge_lines-requires-clause-rising
-judge_lines-requires-clause-rising c = subst (λ (l : List Arrival). NeverFalls 1 l) (sym c.new-timing.ensures.arrivals) c.requires.arrivals.ordered
+judge_lines-requires-clause-rising c = subst (λ (l : List Arrival). AreRisingMoments 1 l) (sym c.new-timing.ensures.arrivals) c.requires.arrivals.ordered
 
 pub judge_lines-requires-clause-lines : goal.judge_lines-requires-clause-lines
 judge_lines-requires-clause-lines c =

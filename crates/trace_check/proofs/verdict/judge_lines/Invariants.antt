@@ -4,7 +4,7 @@ use Rattle.sloth_base.specs.declared.config.Config.{Config}
 use Rattle.sloth_base.specs.declared.event.Stamped.{Stamped}
 use Rattle.trace_time.specs.Timed.{TimedBy}
 use Rattle.walked_events.proofs.ReadEvents.{HasRead}
-use Rattle.walked_events.specs.Walk.{IsWalked, WalksOrStrays}
+use Rattle.walked_events.specs.Walk.{IsWalked, IsWalkOrStray}
 use Rattle.trace_check.proofs.verdict.judge_lines.Given as goal
 
 abbrev pub invariant-loop-rest : goal.invariant-loop-rest
@@ -12,7 +12,7 @@ invariant-loop-rest l = record {
   events : List Stamped;
   reads : HasRead l.names.tasks l.names.funcs l.names.counters l.text events l.rest;
   line : l.line ≡ length events;
-  walks : (config : Config) (app : App) → IsWalked config app [] l.fn.walk → WalksOrStrays config app events l.stray l.walk;
+  walks : (config : Config) (app : App) → IsWalked config app [] l.fn.walk → IsWalkOrStray config app events l.stray l.walk;
   timed : TimedBy [] l.fn.timing → TimedBy events l.timing;
   config : l.timing.config ≡ l.fn.timing.config;
   n : l.timing.n ≡ l.fn.timing.n;

@@ -1,12 +1,12 @@
 use Rattle.std.proofs.Common.{List, ℕ, subst}
 use Rattle.std.specs.Prelude.{IfSome, IfNone}
-use Rattle.walked_events.specs.TraceText.{Begins, BeginsWithNone}
+use Rattle.walked_events.specs.TraceText.{HasFirstLine, HasNoFirstLine}
 use Rattle.trace_check.proofs.verdict.next_event.Goals as goal
 
 pub returns-clause-some : goal.returns-clause-some
 returns-clause-some c =
     let text = c.args.text.now in
-    let P : List (List ℕ) → List (List ℕ) → List (List ℕ) → Type 0 = λ ts fs cs. IfSome c.first_event.result (λ e. Begins ts fs cs text e) in
+    let P : List (List ℕ) → List (List ℕ) → List (List ℕ) → Type 0 = λ ts fs cs. IfSome c.first_event.result (λ e. HasFirstLine ts fs cs text e) in
     let tasks = c.items.result.now in
     let funcs = c.items-2.result.now in
     subst (λ (ts : List (List ℕ)). P ts c.args.names.now.funcs c.args.names.now.counters) c.items.ensures
@@ -16,7 +16,7 @@ returns-clause-some c =
 pub returns-clause-none : goal.returns-clause-none
 returns-clause-none c =
     let text = c.args.text.now in
-    let P : List (List ℕ) → List (List ℕ) → List (List ℕ) → Type 0 = λ ts fs cs. IfNone c.first_event.result (BeginsWithNone ts fs cs text) in
+    let P : List (List ℕ) → List (List ℕ) → List (List ℕ) → Type 0 = λ ts fs cs. IfNone c.first_event.result (HasNoFirstLine ts fs cs text) in
     let tasks = c.items.result.now in
     let funcs = c.items-2.result.now in
     subst (λ (ts : List (List ℕ)). P ts c.args.names.now.funcs c.args.names.now.counters) c.items.ensures

@@ -1,7 +1,7 @@
 use Rattle.std.proofs.Common.{◌≡◌, ◌+◌, List, ◌++◌, length, sym, ap, subst, append_assoc, arith}
 use Rattle.sloth_base.specs.Owners.{first_counter_line}
 use Rattle.rv32_instr.specs.declared.InstrKind.{InstrKind}
-use Rattle.vector_gen.specs.Boot.{register_code, lines_code, counters_code, finishing_code, Boots}
+use Rattle.vector_gen.specs.Boot.{register_code, lines_code, counters_code, finishing_code, IsBootCode}
 use Rattle.vector_gen.proofs.Booting.{boot_code, boots}
 use Rattle.vector_gen.proofs.boot_code.boot.Goals as goal
 
@@ -18,7 +18,7 @@ returns-clause-effect c =
     in
     let level = c.counter_level.ensures in
     let byte = c.start_counters.ensures.byte in
-    subst (Boots tasks counters levels top idle) (sym e) (boots tasks counters levels top idle c.requires.range.few_tasks c.requires.range.few_counters (omega (arith, level, byte)) c.start_all.ensures.bytes c.finish.ensures.fits)
+    subst (IsBootCode tasks counters levels top idle) (sym e) (boots tasks counters levels top idle c.requires.range.few_tasks c.requires.range.few_counters (omega (arith, level, byte)) c.start_all.ensures.bytes c.finish.ensures.fits)
 
 pub returns-clause-size : goal.returns-clause-size
 returns-clause-size c = (returns-clause-effect c).size

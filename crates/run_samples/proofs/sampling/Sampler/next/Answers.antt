@@ -1,7 +1,7 @@
 use Rattle.std.proofs.Common.{◌∙◌, ap}
 use Rattle.sloth_runner.specs.Runner.{image_of}
 use Rattle.sloth_runner.specs.Moments.{sloth_state}
-use Rattle.sloth_runner.specs.Sight.{interrupts_in}
+use Rattle.sloth_runner.specs.TaskStates.{interrupts_in}
 use Rattle.sloth_runner.specs.declared.runner.Runner.{Runner}
 use Rattle.run_samples.proofs.NextSample.{IsLookedAt, sample-is, sampling-behind, stops-there}
 use Rattle.run_samples.proofs.sampling.Sampler.next.Goals as goal

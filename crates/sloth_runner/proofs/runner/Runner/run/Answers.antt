@@ -2,7 +2,7 @@ use Rattle.std.proofs.Common.{◌≡◌, ◌+◌, arith, ◌∙◌, ap, refl}
 use Rattle.std.proofs.lemmas.Result.{err_from_is_err_and}
 use Rattle.sloth_io.specs.Sink.{output_with}
 use Rattle.sloth_runner.proofs.Running.{running-init, running-on, stopped-text, stopped-end, whole-end, broken-text}
-use Rattle.sloth_runner.specs.Runner.{Went, run_end, run_text, image_of, given_arrivals, count_of}
+use Rattle.sloth_runner.specs.Runner.{IsPrintedAdvance, run_end, run_text, image_of, given_arrivals, count_of}
 use Rattle.sloth_runner.proofs.runner.Runner.run.Goals as goal
 
 pub loop-self-init : goal.loop-self-init
@@ -11,7 +11,7 @@ loop-self-init g c =
 
 pub loop-self-preserved : goal.loop-self-preserved
 loop-self-preserved g c =
-    let went : Went c.loop-self.self c.turn.new.self c.loop-self.printer c.turn.new.printer (g.S.Sink.seen c.loop-self.out) (g.S.Sink.seen c.turn.new.out) =
+    let went : IsPrintedAdvance c.loop-self.self c.turn.new.self c.loop-self.printer c.turn.new.printer (g.S.Sink.seen c.loop-self.out) (g.S.Sink.seen c.turn.new.out) =
     rw c.in_default.is at c.in_ok-end.ensures.went in
     let more : count_of c.turn.new.self ≡ count_of c.loop-self.self + 1 = went.count in (
       running-on c.args.self.now c.loop-self.self c.turn.new.self _ c.loop-self.printer c.turn.new.printer _ (g.S.Sink.seen c.loop-self.out) _

@@ -7,13 +7,13 @@ use Rattle.sloth_base.specs.Machine.{State}
 use Rattle.sloth_base.specs.Take.{execution_state}
 use Rattle.sloth_base.specs.declared.image.Image.{Image}
 use Rattle.sloth_runner.specs.declared.runner.Runner.{Runner}
-use Rattle.sloth_runner.specs.declared.looks.Seen.{Seen}
+use Rattle.sloth_runner.specs.declared.machine_states.Seen.{Seen}
 use Rattle.sloth_runner.specs.Runner.{HasRun, HasArrived, HasExecuted, image_of, given_arrivals, count_of}
 use Rattle.sloth_runner.specs.Moments.{sloth_state}
-use Rattle.sloth_runner.specs.Sight.{IsLast, IsSight, sight_at}
-use Rattle.sloth_runner.proofs.WholeRuns.{sight_of}
+use Rattle.sloth_runner.specs.TaskStates.{IsLast, AreStatesAt, image_states}
+use Rattle.sloth_runner.proofs.WholeRuns.{states_behind_run}
 use Rattle.sloth_runner.proofs.Turning.{moment-is, machine-more}
-use Rattle.sloth_runner.proofs.Sighted.{last-behind, sight-stopped, sight-behind}
+use Rattle.sloth_runner.proofs.RunStates.{last-behind, sight-stopped, sight-behind}
 use Rattle.sloth_runner.proofs.runner.Runner.state_at.Goals as goal
 
 pub loop-self-init : goal.loop-self-init
@@ -57,7 +57,7 @@ loop-self-preserved c =
     let after : state_after k A (start image) ≡ Some m = ap (λ B. state_after k B (start image)) (sym h.arrivals) ∙ h.ran.after in
     let there : sloth_state c.arrive_now.new.self.machine ≡ state_with_arrivals A k m =
     c.arrive_now.ensures.arrived.state ∙ ap (λ B. state_with_arrivals B k m) h.arrivals in
-    let seen = c.look.ensures.seen ∙ ap (λ n. sight_at (image_of c.arrive_now.new.self) n (sloth_state c.arrive_now.new.self.machine)) c.arrive_now.ensures.arrived.count in
+    let seen = c.look.ensures.seen ∙ ap (λ n. image_states (image_of c.arrive_now.new.self) n (sloth_state c.arrive_now.new.self.machine)) c.arrive_now.ensures.arrived.count in
     let last = last-behind image A k m (sloth_state c.arrive_now.new.self.machine) (image_of c.arrive_now.new.self) c.look.result c.loop-self.last after h.last shown there seen in
     let more : count_of q ≡ k + 1 = executed.count ∙ ap (λ n. n + 1) looked.count in
     let P : ℕ → Type 0 = λ n. HasRun q image n in
@@ -74,11 +74,11 @@ loop-self-preserved c =
 pub returns-in-Some : goal.returns-in-Some
 returns-in-Some c =
     let h = c.loop-self.invariant in
-    let S : Option Seen → Type 0 = λ last. IsSight (image_of c.args.self.now) (given_arrivals c.args.self.now) c.args.k (sight_of last) in
+    let S : Option Seen → Type 0 = λ last. AreStatesAt (image_of c.args.self.now) (given_arrivals c.args.self.now) c.args.k (states_behind_run last) in
     subst S c.in-Some.is (sight-behind c.args.self.now c.loop-self.self c.args.k c.loop-self.last h.ran h.arrivals h.last (omega arith))
 
 pub returns-in-None : goal.returns-in-None
 returns-in-None c =
     let h = c.loop-self.invariant in
-    let S : Option Seen → Type 0 = λ last. IsSight (image_of c.args.self.now) (given_arrivals c.args.self.now) c.args.k (sight_of last) in
+    let S : Option Seen → Type 0 = λ last. AreStatesAt (image_of c.args.self.now) (given_arrivals c.args.self.now) c.args.k (states_behind_run last) in
     subst S c.in-None.is (sight-behind c.args.self.now c.loop-self.self c.args.k c.loop-self.last h.ran h.arrivals h.last (omega arith))

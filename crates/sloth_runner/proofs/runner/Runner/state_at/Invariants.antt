@@ -1,6 +1,6 @@
 use Rattle.std.proofs.Common.{◌≡◌, ◌≤◌, ◌+◌, ◌-◌}
 use Rattle.sloth_runner.specs.Runner.{HasRun, image_of, given_arrivals, count_of}
-use Rattle.sloth_runner.specs.Sight.{IsLast}
+use Rattle.sloth_runner.specs.TaskStates.{IsLast}
 use Rattle.sloth_runner.proofs.runner.Runner.state_at.Given as goal
 
 abbrev pub invariant-loop-self : goal.invariant-loop-self

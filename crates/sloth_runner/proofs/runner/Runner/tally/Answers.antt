@@ -3,8 +3,8 @@ use Rattle.std.specs.List.{All}
 use Rattle.observe.specs.Progress.{remaining}
 use Rattle.sim_induction.specs.Sound.{events_of}
 use Rattle.trace_text.specs.Summary.{counts_of}
-use Rattle.sloth_runner.specs.Runner.{Advanced, image_of, given_arrivals, count_of, run_end}
-use Rattle.sloth_runner.proofs.RunInvariants.{Ran}
+use Rattle.sloth_runner.specs.Runner.{IsAdvance, image_of, given_arrivals, count_of, run_end}
+use Rattle.sloth_runner.proofs.RunInvariants.{IsBehindRun}
 use Rattle.sloth_runner.specs.Moments.{counts_with}
 use Rattle.sloth_runner.specs.declared.runner.Runner.{Runner}
 use Rattle.sloth_runner.proofs.Running.{ran-more, stopped-events, stopped-end, whole-end, nothing-yet}
@@ -46,9 +46,9 @@ loop-self-preserved c =
     let r0 = c.args.self.now in
     let r = c.loop-self.self in
     let p = c.advance.new.self in
-    let advanced : Advanced r p = c.in_default.ensures.went in
+    let advanced : IsAdvance r p = c.in_default.ensures.went in
     let q : Runner = record p { observer = c.count_events.new.observer } in
-    let P : ℕ → Type 0 = λ k. Ran r0 q k in
+    let P : ℕ → Type 0 = λ k. IsBehindRun r0 q k in
     let running = running-behind r p q c.loop-self.invariant.ran.running advanced c.advance.ensures.image c.advance.ensures.arrivals c.count_events.ensures.fed
     c.count_events.ensures.view c.count_events.ensures.arrivals c.count_events.ensures.expected c.count_events.ensures.drained refl refl in
     let more = advanced.ran.count in

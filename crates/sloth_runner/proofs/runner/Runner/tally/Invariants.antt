@@ -2,12 +2,12 @@ use Rattle.std.proofs.Common.{◌≡◌, ◌≤◌, ◌-◌}
 use Rattle.sim_induction.specs.Sound.{events_of}
 use Rattle.trace_text.specs.Summary.{counts_of}
 use Rattle.sloth_runner.specs.Runner.{image_of, given_arrivals, count_of}
-use Rattle.sloth_runner.proofs.RunInvariants.{Ran}
+use Rattle.sloth_runner.proofs.RunInvariants.{IsBehindRun}
 use Rattle.sloth_runner.proofs.runner.Runner.tally.Given as goal
 
 abbrev pub invariant-loop-self : goal.invariant-loop-self
 invariant-loop-self l = record {
-  ran : Ran l.fn.self l.self (count_of l.self);
+  ran : IsBehindRun l.fn.self l.self (count_of l.self);
   few : count_of l.self ≤ l.fn.n;
   counts : l.counts ≡ counts_of (events_of (image_of l.fn.self) (given_arrivals l.fn.self) (count_of l.self));
 }

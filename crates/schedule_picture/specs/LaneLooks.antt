@@ -1,0 +1,40 @@
+-- What a lane of a picture shows at a count.
+use Rattle.std.specs.Prelude.{ℕ, ◌+◌, ◌==◌, ◌||◌, is_some, Bool, cond, if◌then◌else◌, List, [], false, get_or, Option, Some, None}
+use Rattle.osek_scheduler.specs.declared.state.TaskState.{TaskState}
+use Rattle.osek_scheduler.specs.declared.state.TaskState.TheVariants as mode
+use Rattle.sloth_runner.specs.declared.machine_states.Seen.{Seen}
+use Rattle.run_samples.specs.declared.sampling.Sample.{Sample}
+use Rattle.lane_drawing.specs.declared.bars.Look.{Look}
+use Rattle.lane_drawing.specs.declared.bars.Look.TheVariants as look
+
+-- an Active task runs, or is preempted; a Suspended one is not shown
+abbrev pub task_look : TaskState → (runs : Bool) → Option Look
+task_look mode.Suspended runs = None
+task_look mode.Ready runs = Some look.Ready
+task_look mode.Active runs = Some (cond runs look.Runs look.Preempted)
+task_look (mode.Waiting mask) runs = Some look.Waiting
+
+-- a task as it was seen; the running task is told by its number and 1 more
+abbrev pub state_look : Option Seen → ℕ → Option Look
+state_look None task = None
+state_look (Some seen) task = task_look (get_or seen.tasks task mode.Suspended) (seen.running == task + 1)
+
+-- generated kernel code is executed: interrupts are masked before the count's instruction, or a line is taken before it
+abbrev pub is_kernel : Sample → Bool
+is_kernel sample = sample.interrupts.masked || is_some sample.taken
+
+-- The look of a lane: a task's, or behind those of all tasks the lane of kernel code.
+abbrev pub lane_look : (tasks : ℕ) → Sample → (lane : ℕ) → Option Look
+lane_look tasks sample lane = if lane == tasks then cond (is_kernel sample) (Some look.Kernel) None else state_look sample.seen lane
+
+-- a sample that shows nothing
+abbrev pub no_sample : Sample
+no_sample = record {
+  seen = None;
+  interrupts = record { pending = []; counters_pending = []; level = 0; masked = false };
+  taken = None;
+}
+
+-- the look of a lane at a count of a run, of which these are the samples from its first count on
+abbrev pub look_at : (tasks : ℕ) → List Sample → (lane count : ℕ) → Option Look
+look_at tasks samples lane count = lane_look tasks (get_or samples count no_sample) lane

@@ -1,0 +1,52 @@
+//! What a lane shows at a count.
+ghost use Rattle.std.specs.Prelude.{◌≡◌, ◌≤◌};
+ghost use Rattle.sloth_base.specs.Limits.{task_limit};
+ghost use Rattle.schedule_picture.specs.LaneLooks.{task_look, is_kernel, state_look, lane_look};
+
+use lane_drawing::Look;
+use osek_scheduler::state::TaskState;
+use run_samples::Sample;
+use sloth_runner::task_states::Seen;
+
+fn task_look(state: TaskState, runs: bool) -> Option<Look>
+    ensures { result ≡ task_look state runs }
+{
+    match state {
+        TaskState::Suspended => None,
+        TaskState::Ready => Some(Look::Ready),
+        TaskState::Active => Some(if runs { Look::Runs } else { Look::Preempted }),
+        TaskState::Waiting(_) => Some(Look::Waiting),
+    }
+}
+
+fn state_look(seen: &Option<Seen>, task: usize) -> Option<Look>
+    requires { task ≤ 29 }
+    ensures { result ≡ state_look seen.now task }
+{
+    match seen {
+        None => None,
+        Some(seen) => task_look(seen.tasks[task], seen.running == task as u32 + 1),
+    }
+}
+
+fn is_kernel(sample: &Sample) -> bool
+    ensures { result ≡ is_kernel sample.now }
+{
+    sample.interrupts.masked || sample.taken.is_some()
+}
+
+/// The look of a lane in a sample: a task's, or behind those of all tasks the lane of kernel code.
+pub fn lane_look(tasks: usize, sample: &Sample, lane: usize) -> Option<Look>
+    requires tasks { tasks ≤ task_limit }
+    requires lane { lane ≤ tasks }
+    ensures { result ≡ lane_look tasks sample.now lane }
+{
+    if lane != tasks {
+        return state_look(&sample.seen, lane);
+    }
+    if is_kernel(sample) {
+        Some(Look::Kernel)
+    } else {
+        None
+    }
+}

@@ -1,5 +1,0 @@
-use Rattle.sim_laws.proofs.states.kernel_shows_states.Goals as goal
-use Rattle.sim_laws.proofs.Shown.{kernel_shows}
-
-pub returns : goal.returns
-returns c = kernel_shows

@@ -1,0 +1,113 @@
+//! The states of the tasks at a count of a run.
+ghost use Rattle.std.specs.Prelude.{◌≡◌, ◌<◌, ◌≤◌, length};
+ghost use Rattle.sloth_base.specs.Limits.{task_limit, count_limit};
+ghost use Rattle.sloth_runner.specs.Moments.{sloth_state};
+ghost use Rattle.sloth_runner.specs.TaskStates.{image_states, pending_counters_in, interrupts_in, task_levels};
+
+pub use crate::machine_states::Seen;
+use crate::machine_states::{instructions_through, look};
+use crate::runner::Runner;
+use rv32_machine::{SlothBus, Stop};
+use sloth_base::limits::{COUNTER_LIMIT, TASK_LIMIT};
+use sloth_base::lines::FIRST_COUNTER_LINE;
+use sloth_base::numbers::Line;
+use sloth_inspect::{levels, pending};
+
+/// What the machine shows of interrupts at a count.
+#[derive(Clone, Copy)]
+pub struct Interrupts {
+    /// Whether each task's line is pending, in 30 places.
+    pub pending: [bool; TASK_LIMIT],
+    /// Whether the line of each counter is pending.
+    pub counters_pending: [bool; COUNTER_LIMIT],
+    /// The running level, 0 to 255.
+    pub level: u8,
+    /// Whether interrupts are masked.
+    pub masked: bool,
+}
+
+/// What a run shows of its tasks.
+#[derive(Clone, Copy)]
+pub enum Sight {
+    /// At the last count that finds interrupts open.
+    At(Seen),
+    /// No count finds interrupts open.
+    Booting,
+    /// The machine stops before the last instruction.
+    Stopped { pc: u32, stop: Stop },
+}
+
+// Whether the line of each counter is pending.
+fn counters_pending(bus: &SlothBus) -> [bool; COUNTER_LIMIT]
+    ensures { result ≡ pending_counters_in bus.now }
+{
+    [
+        bus.is_pending(Line(FIRST_COUNTER_LINE)),
+        bus.is_pending(Line(FIRST_COUNTER_LINE + 1)),
+    ]
+}
+
+impl<'a> Runner<'a> {
+    ghost use Rattle.sloth_runner.specs.Runner.{IsFresh, image_of, given_arrivals, count_of};
+    ghost use Rattle.sloth_runner.specs.TaskStates.{AreStatesAt};
+
+    /// What the machine shows of the tasks, where interrupts are open.
+    pub fn look(&mut self) -> Option<Seen>
+        requires { length (image_of self.old).tasks ≤ task_limit }
+        ensures seen { result ≡ image_states (image_of self.old) (count_of self.old) (sloth_state self.old.machine) }
+        ensures same { self.new ≡ self.old }
+    {
+        let tasks = self.image.tasks.items().len() as u32;
+        let count = self.machine.count;
+        look(&mut self.machine, count, tasks)
+    }
+
+    /// What the machine shows of interrupts.
+    pub fn interrupts(&mut self) -> Interrupts
+        requires { length (image_of self.old).tasks ≤ task_limit }
+        ensures interrupts { result ≡ interrupts_in (image_of self.old) (sloth_state self.old.machine) }
+        ensures same { self.new ≡ self.old }
+    {
+        let tasks = self.image.tasks.items().len() as u32;
+        Interrupts {
+            pending: pending(self.machine.bus_mut(), tasks),
+            counters_pending: counters_pending(self.machine.bus_mut()),
+            level: self.machine.level(),
+            masked: !self.machine.enabled(),
+        }
+    }
+
+    /// The level byte of each task's line, in 30 places.
+    pub fn levels(&mut self) -> [u8; TASK_LIMIT]
+        requires { length (image_of self.old).tasks ≤ task_limit }
+        ensures levels { result ≡ task_levels (image_of self.old) (sloth_state self.old.machine) }
+        ensures same { self.new ≡ self.old }
+    {
+        let tasks = self.image.tasks.items().len() as u32;
+        levels(self.machine.bus_mut(), tasks)
+    }
+
+    /// Runs k + 1 instructions, and tells the states of the tasks at the last count that finds interrupts open.
+    pub fn state_at(&mut self, k: u32) -> Sight
+        requires fresh { IsFresh self.old }
+        requires few { k < count_limit }
+        ensures { AreStatesAt (image_of self.old) (given_arrivals self.old) k result }
+    {
+        let n = instructions_through(k);
+        let mut last = None;
+        while self.machine.count < n {
+            self.arrive_now();
+            last = self.look().or(last);
+            if let Err(halt) = self.execute() {
+                return Sight::Stopped {
+                    pc: halt.pc,
+                    stop: halt.stop,
+                };
+            }
+        }
+        match last {
+            Some(seen) => Sight::At(seen),
+            None => Sight::Booting,
+        }
+    }
+}
