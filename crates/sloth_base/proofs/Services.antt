@@ -2,12 +2,12 @@
 use Rattle.std.proofs.Common.{◌≡◌, ◌∙◌, ℕ, zero, suc, ◌<◌, ◌≤◌, List, [], ◌∷◌, Bool, true, length, Some, refl, sym, ap, subst, arith}
 use Rattle.std.specs.Prelude.{slice_get}
 use Rattle.std.specs.List.{list_all}
-use Rattle.std.proofs.lemmas.Bool.{and_parts, eqb-true, eq-eqb}
+use Rattle.std.proofs.lemmas.Bool.{and_parts, eqb-true}
 use Rattle.sloth_base.specs.declared.service.ObjectKind.{ObjectKind}
 use Rattle.sloth_base.specs.declared.service.ObjectKind.TheVariants as object
 use Rattle.sloth_base.specs.declared.service.Service.{Service}
 use Rattle.sloth_base.specs.declared.service.Service.TheVariants as service
-use Rattle.sloth_base.specs.ServiceCodes.{code_of, services, service_of, is_service, service_name, service_named, IsObjectNumber}
+use Rattle.sloth_base.specs.ServiceCodes.{code_of, service_of, is_service, service_name, service_named, IsObjectNumber}
 
 -- a service is that of its number
 pub of_code : (s : Service) → service_of (code_of s) ≡ Some s
@@ -24,27 +24,16 @@ same_code a b e = some_same a b (sym (of_code a) ∙ (ap service_of e ∙ of_cod
 pub same_service : (a b : Service) → is_service a b ≡ true → a ≡ b
 same_service a b e = same_code a b (eqb-true (code_of a) (code_of b) e)
 
-pub is_itself : (a b : Service) → a ≡ b → is_service a b ≡ true
-is_itself a b e = eq-eqb (code_of a) (code_of b) (ap code_of e)
-
 -- a place in a list holds an item that is there
 place_within : (xs : List Service) (k : ℕ) (s : Service) → slice_get xs k ≡ Some s → k < length xs
 place_within [] k s e = absurd cc
 place_within (x ∷ xs) zero s e = omega arith
 place_within (x ∷ xs) (suc k) s e = let lt = place_within xs k s e in omega (arith, lt)
 
--- each number is below that of all services
-pub code_below : (s : Service) → code_of s < length services
-code_below s = place_within services (code_of s) s (of_code s)
-
 all_at : (test : Service → Bool) (xs : List Service) (k : ℕ) (s : Service) → list_all test xs ≡ true → slice_get xs k ≡ Some s → test s ≡ true
 all_at test [] k s h e = absurd cc
 all_at test (x ∷ xs) zero s h e = subst (λ y. test y ≡ true) (some_same x s e) (and_parts (test x) (list_all test xs) h).0
 all_at test (x ∷ xs) (suc k) s h e = all_at test xs k s (and_parts (test x) (list_all test xs) h).1 e
-
--- what is tested of the list holds of each service
-pub every_service : (test : Service → Bool) → list_all test services ≡ true → (s : Service) → test s ≡ true
-every_service test h s = all_at test services (code_of s) s h (of_code s)
 
 -- a service is that of its name
 pub of_name : (s : Service) → service_named (service_name s) ≡ Some s

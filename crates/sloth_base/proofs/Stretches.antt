@@ -28,10 +28,6 @@ at_most_greatest (suc n) f k h =
 pub alarms_at_most : (config : Config) (c : ℕ) → c < length config.counters → alarms_of config c ≤ most_alarms config
 alarms_at_most config c h = at_most_greatest (length config.counters) (alarms_of config) c h
 
--- where there is no counter it is 0
-pub no_alarms : (config : Config) → length config.counters ≡ 0 → most_alarms config ≡ 0
-no_alarms config none = ap (λ n. greatest_value_below n (alarms_of config)) none
-
 -- ---- limits
 
 -- no stretch behind boot is longer than the longest
@@ -46,16 +42,6 @@ within_longest config (Some line) = by (line_kind (owners_in config) line) refl
         let most = alarms_at_most config c tells.declared in
         omega (arith, most)
     by line_of.Unused e = omega arith
-
--- a stretch has an instruction
-pub limit_some : (config : Config) (entered : Option ℕ) → 0 < stretch_limit config (later_beginning entered)
-limit_some config None = omega arith
-limit_some config (Some line) = by (line_kind (owners_in config) line)
-  where
-    by : (kind : LineKind) → 0 < entry_limit config kind
-    by (line_of.Task t) = omega arith
-    by (line_of.Counter c) = omega arith
-    by line_of.Unused = omega arith
 
 -- the limit where a task's line is taken
 pub task_entry_limit : (config : Config) (t : ℕ) → t < length config.tasks → stretch_limit config (Takes t) ≡ entry_limit config (line_of.Task t)
