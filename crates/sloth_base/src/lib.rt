@@ -7,7 +7,8 @@
 //! controller and the taking of a line (`specs/Machine`, `specs/Lines`, `specs/Choose`, `specs/Take`, `specs/Arrive`); words of 32 bits
 //! (`specs/Arithmetic`); what numbers name (`specs/Named`); services, the kind of object that each takes and a number for each service with its
 //! object (`specs/ServiceCodes`, `specs/Blocks`); what an event is (`specs/Events`); where an image stands (`specs/MemoryMap`); what lines are for,
-//! tasks' or counters' (`specs/Owners`); how long code may stay masked and how many lines it may touch (`specs/Stretches`).
+//! tasks' or counters' (`specs/Owners`); how long code may stay masked and how many lines it may touch (`specs/Stretches`); what a configuration
+//! and task code name (`specs/DeclaredNames`). The limits of the program stand once, in `limits` and `specs/Limits`.
 #![tactic(auto)]
 
 pub mod app;

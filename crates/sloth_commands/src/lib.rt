@@ -5,7 +5,7 @@
 //! run the ceiling protocol and the blocking bounds. Calls in memory work (`calls_work_in_memory`, `lines_work_in_memory`, `sample_works_in_memory`).
 //!
 //! What the top call promises: `specs/Top`; of commands on image files `specs/ImageFiles`, `specs/ImageAnswers`; of `sample` `specs/Samples`,
-//! `specs/SampleAnswers`; of tools `specs/ToolFiles`, `specs/ToolAnswers`; `specs/Inputs`, `specs/InMemory`.
+//! `specs/SampleAnswers`; of tools `specs/ToolFiles`, `specs/ToolAnswers`; of calls in memory `specs/InMemory`.
 //!
 //! Two laws stand here since the promise cites them. The text of each run of a sound image with its items in place is that of a run of the abstract
 //! scheduler with the arrivals in time, so `check` answers yes (`runs_are_checked`, `specs/CheckedRuns`). And the OIL text of a generated application
