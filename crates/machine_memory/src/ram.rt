@@ -20,6 +20,7 @@ pub struct Ram {
 
 impl Model for Ram {
     ghost use Rattle.std.specs.Prelude.{◌≡◌, List, ℕ, length};
+    ghost use Rattle.sloth_base.specs.MemoryMap.{memory_bytes};
 
     ghost Value = { List ℕ };
 

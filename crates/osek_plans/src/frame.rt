@@ -16,6 +16,7 @@ pub struct FrameRoom {
 
 impl Model for FrameRoom {
     ghost use Rattle.std.specs.Prelude.{take, ◌≤◌};
+    ghost use Rattle.sloth_base.specs.Limits.{frame_limit};
     ghost use Rattle.osek_scheduler.specs.State.{Frame};
 
     ghost Value = { Frame };

@@ -14,6 +14,7 @@ pub struct Fresh {
 
 impl Model for Fresh {
     ghost use Rattle.std.specs.Prelude.{List, ℕ, drop, ◌≤◌};
+    ghost use Rattle.sloth_base.specs.Limits.{task_limit};
 
     ghost Value = { List ℕ };
 

@@ -16,6 +16,7 @@ pub struct Held {
 
 impl Model for Held {
     ghost use Rattle.std.specs.Prelude.{List, ℕ, vec_len, vec_capacity, ◌≤◌};
+    ghost use Rattle.sloth_base.specs.Limits.{ceiling_count};
 
     ghost Value = { List ℕ };
 

@@ -20,6 +20,7 @@ pub struct Stack {
 
 impl Model for Stack {
     ghost use Rattle.std.specs.Prelude.{List, reverse, vec_len, vec_capacity, ◌≤◌};
+    ghost use Rattle.sloth_base.specs.Limits.{body_limit};
     ghost use Rattle.osek_scheduler.specs.State.{Frame};
 
     ghost Value = { List Frame };
