@@ -6,6 +6,6 @@
 
 mod fresh;
 mod prologue_block;
-mod resuming;
+mod resumption;
 
 pub use prologue_block::prologue;

@@ -7,7 +7,7 @@ ghost use Rattle.code_lengths.specs.CodeLengths.{prologue_length, IsPrologueLeng
 ghost use Rattle.prologue_gen.specs.Places.{IsStackTop, IsTaskPrologue, IsPrologueCode, frame_at};
 
 use crate::fresh::{mark_active, save_context, start_anew};
-use crate::resuming::take_up;
+use crate::resumption::take_up;
 use block_parts::prologues::start_level;
 use code_lengths::body_of;
 use rv32_instr::{Block, Instr};
