@@ -11,6 +11,9 @@ use crate::store::Store;
 use sloth_base::config::Config;
 use sloth_base::lines::FIRST_COUNTER_LINE;
 
+// The line of the first counter; the others follow it.
+const FIRST_COUNTER: u32 = FIRST_COUNTER_LINE as u32;
+
 // Whether a task is Ready and has a greater rank than another, whose rank is given.
 fn is_above(config: &Config, store: &Store, rank_of_task: u64, task: usize, other: usize) -> bool
     requires count { length store.now.tasks ≡ length config.now.tasks }
@@ -58,7 +61,7 @@ pub fn lines_above(config: &Config, store: &Store, task: u32) -> u32
     let mut row = tasks_above(config, store, task);
     for counter in 0..config.counters.items().len() {
         if store.counter(counter).due {
-            row = with_line(row, u32::from(FIRST_COUNTER_LINE) + counter as u32);
+            row = with_line(row, FIRST_COUNTER + counter as u32);
         }
     }
     row
