@@ -64,14 +64,14 @@ module _ (config : Config) (range : InRange config) (scope : Scope) (named : sco
       ∙ ap (λ (ns : List (List ℕ)). number_of ns (get_or config.resources r [])) named
       ∙ ap (λ o. unwrap_or o 0) (position_at config.resources range.resource_names.distinct r [] l)
 
-  scheduler_number : IsTrue config.res_scheduler → resource_number scope (resource_name config scheduler_number) ≡ scheduler_number
-  scheduler_number h =
+  scheduler_back : IsTrue config.res_scheduler → resource_number scope (resource_name config scheduler_number) ≡ scheduler_number
+  scheduler_back h =
       ap (λ b. cond (b && bytes_eq res_scheduler_name (codes "RES_SCHEDULER")) 32 (number_of scope.resources res_scheduler_name)) (schedules ∙ h)
       ∙ ap (λ b. cond b 32 (number_of scope.resources res_scheduler_name)) ((bytes_eq-Decides res_scheduler_name (codes "RES_SCHEDULER")).1 refl)
 
   number_back : (r : ℕ) → IsResource config r → resource_number scope (resource_name config r) ≡ r
   number_back r (inl l) = declared_number r l
-  number_back r (inr h) = subst (λ (x : ℕ). resource_number scope (resource_name config x) ≡ x) (sym h.0) (scheduler_number h.1)
+  number_back r (inr h) = subst (λ (x : ℕ). resource_number scope (resource_name config x) ≡ x) (sym h.0) (scheduler_back h.1)
 
   names_back : (held : List ℕ) → All (IsResource config) held → holds_of scope (map Name (resource_names config held)) ≡ held
   names_back [] h = refl
