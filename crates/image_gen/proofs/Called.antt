@@ -1,5 +1,5 @@
 -- What items call has code that is generated.
-use Rattle.std.proofs.Common.{◌≡◌, ◌<◌, ◌==◌, ℕ, Bool, cond, true, false, length, get_or, sym, ap, ◌∙◌, subst, arith}
+use Rattle.std.proofs.Common.{◌≡◌, ◌<◌, ◌≤◌, ◌==◌, ℕ, Bool, cond, true, false, length, get_or, sym, ap, ◌∙◌, subst, arith}
 use Rattle.std.proofs.lemmas.Bool.{ne_eqb}
 use Rattle.sloth_base.specs.Named.{function, no_function, no_item, operation, undeclared_alarm}
 use Rattle.sloth_base.specs.ConfigRange.{InRange}
