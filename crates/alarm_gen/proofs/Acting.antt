@@ -21,7 +21,7 @@ use Rattle.sloth_base.specs.declared.config.Action.TheVariants.{Activate, Set}
 use Rattle.sloth_base.specs.Limits.{task_limit, alarm_limit}
 use Rattle.code_lengths.specs.CodeLengths.{sets_events_of}
 use Rattle.alarm_gen.specs.declared.alarms.NumberedAlarm.{NumberedAlarm}
-use Rattle.alarm_gen.specs.Alarms.{IsAction, IsNumbered, AreNumbered, is_target}
+use Rattle.alarm_gen.specs.Alarms.{IsActionInRange, IsAlarmInRange, AreAlarmsInRange, is_target}
 use Rattle.block_parts.specs.Ticks.{awaited_events_test}
 use Rattle.alarm_gen.specs.Pieces.{waking_code, basing_code, action_code, action_size, losing_code, alarm_code, alarms_code}
 use Rattle.alarm_gen.specs.Tick.{Ground, is_suspended_task, grown_events, with_events, woken_ground, with_set, action_ground, less_one, with_left, alarm_ground, alarms_ground}
@@ -169,7 +169,7 @@ module _ (from to : ℕ) (low : 1024 ≤ from) (E : List ℕ → State → State
               (cases_Bool (is_suspended_task t c));
         }
 
-  acts_owe : (action : Action) → IsAction action → ((u : ℕ) → sets_events_of u action ≡ true → target u ≡ true) → (rest : List InstrKind) (c : Ground)
+  acts_owe : (action : Action) → IsActionInRange action → ((u : ℕ) → sets_events_of u action ≡ true → target u ≡ true) → (rest : List InstrKind) (c : Ground)
       → Leads (action_code action) rest c (action_ground action c)
   acts_owe (Activate t) is covered rest c = activate_owes rest c t is
   acts_owe (Set t mask) is covered rest c = sets_owe rest t mask is.0 is.1 (covered t (eq-eqb t t refl)) c
@@ -191,7 +191,7 @@ module _ (from to : ℕ) (low : 1024 ≤ from) (E : List ℕ → State → State
       → Owes from to o (action_code action ++ rest) (action_size action) E start c
   passes_act action rest o c go = passes from to E start (action_code action) rest (action_size action) o c (size_is action) go
 
-  module _ (alarm : NumberedAlarm) (is : IsNumbered alarm) (covered : (u : ℕ) → sets_events_of u alarm.action ≡ true → target u ≡ true) (rest : List InstrKind) (c : Ground) where
+  module _ (alarm : NumberedAlarm) (is : IsAlarmInRange alarm) (covered : (u : ℕ) → sets_events_of u alarm.action ≡ true → target u ≡ true) (rest : List InstrKind) (c : Ground) where
     abbrev number : ℕ
     number = alarm.number
 
@@ -296,7 +296,7 @@ module _ (from to : ℕ) (low : 1024 ≤ from) (E : List ℕ → State → State
   second_target u false b h = h
 
   -- the code of alarms changes the machine as they do, one behind the other, where each task that they set events of was looked at
-  pub alarms_owe : (alarms : List NumberedAlarm) → AreNumbered alarms → ((u : ℕ) → is_target u alarms ≡ true → target u ≡ true)
+  pub alarms_owe : (alarms : List NumberedAlarm) → AreAlarmsInRange alarms → ((u : ℕ) → is_target u alarms ≡ true → target u ≡ true)
       → (rest : List InstrKind) (c : Ground) → Leads (alarms_code alarms) rest c (alarms_ground alarms c)
   alarms_owe [] is covered rest c o x1 flags fits knows long go = go o x1 flags fits knows long
   alarms_owe (alarm ∷ later) is covered rest c o x1 flags fits knows long go =

@@ -12,10 +12,10 @@ use Rattle.sloth_base.specs.ConfigRange.{InRange, IsAlarm, no_event}
 use Rattle.sloth_base.specs.ConfigRange as range
 use Rattle.sloth_base.specs.Limits.{alarm_limit}
 use Rattle.alarm_gen.specs.declared.alarms.NumberedAlarm.{NumberedAlarm}
-use Rattle.alarm_gen.specs.Alarms.{IsAction, AreNumbered, alarms_from, counter_alarms}
+use Rattle.alarm_gen.specs.Alarms.{IsActionInRange, AreAlarmsInRange, alarms_from, counter_alarms}
 
 module _ (config : Config) (fits : InRange config) where
-  action_fits : (action : Action) → range.IsAction config action → IsAction action
+  action_fits : (action : Action) → range.IsAction config action → IsActionInRange action
   action_fits (Activate task) is = let few = fits.few_tasks in omega (arith, is)
   action_fits (Set task mask) is =
       let few = fits.few_tasks in
@@ -24,18 +24,18 @@ module _ (config : Config) (fits : InRange config) where
       (omega (arith, is.0), subst (λ m. m < 2 ^ 32) (sym is.1.2) word)
 
   numbered_from : (counter first : ℕ) (alarms : List AlarmDecl) → first + length alarms ≤ alarm_limit → AllByRecursion (IsAlarm config) alarms
-      → AreNumbered (alarms_from counter first alarms)
+      → AreAlarmsInRange (alarms_from counter first alarms)
   numbered_from counter first [] few are = tt
   numbered_from counter first (alarm ∷ later) few are =
       by (alarm.counter == counter) (numbered_from counter (first + 1) later (omega arith) are.1)
     where
-      by : (b : Bool) → AreNumbered (alarms_from counter (first + 1) later)
-          → AreNumbered (cond b (record { number = first; action = alarm.action } ∷ alarms_from counter (first + 1) later) (alarms_from counter (first + 1) later))
+      by : (b : Bool) → AreAlarmsInRange (alarms_from counter (first + 1) later)
+          → AreAlarmsInRange (cond b (record { number = first; action = alarm.action } ∷ alarms_from counter (first + 1) later) (alarms_from counter (first + 1) later))
       by false rest = rest
       by true rest = (record { number = omega arith; action = action_fits alarm.action are.0.action }, rest)
 
 -- those of each counter
-pub numbered : (config : Config) → InRange config → (counter : ℕ) → AreNumbered (counter_alarms config counter)
+pub numbered : (config : Config) → InRange config → (counter : ℕ) → AreAlarmsInRange (counter_alarms config counter)
 numbered config fits counter =
     let few = fits.few_alarms in
     numbered_from config fits counter 0 config.alarms (omega arith) (recursion_from_All (IsAlarm config) config.alarms fits.alarms)

@@ -23,7 +23,7 @@ use Rattle.masked_code.proofs.Routines.{jumps_in}
 use Rattle.masked_code.proofs.Words.{word_at-other}
 use Rattle.block_parts.proofs.Landing.{lands}
 use Rattle.alarm_gen.specs.declared.alarms.NumberedAlarm.{NumberedAlarm}
-use Rattle.alarm_gen.specs.Alarms.{AreNumbered, is_target, targets}
+use Rattle.alarm_gen.specs.Alarms.{AreAlarmsInRange, is_target, targets}
 use Rattle.alarm_gen.specs.Pieces.{look_clearing_code, looks_code, basing_code, alarms_code, returning_code, tick_code}
 use Rattle.alarm_gen.specs.Tick.{Ground, vector, next_value, counted_ground, alarms_ground, AreTaskBits, MayTick, TickEffect, IsTickCode}
 use Rattle.alarm_gen.proofs.Looking.{looks_owe}
@@ -43,7 +43,7 @@ told_counted ram enabled pending counter v (t ∷ tasks) h =
       told_counted ram enabled pending counter v tasks h.1,
     )
 
-module _ (counter max : ℕ) (alarms : List NumberedAlarm) (small : counter < counter_limit) (max_fits : max < 2 ^ 32) (numbered : AreNumbered alarms)
+module _ (counter max : ℕ) (alarms : List NumberedAlarm) (small : counter < counter_limit) (max_fits : max < 2 ^ 32) (numbered : AreAlarmsInRange alarms)
     (offset : ℕ) (c : Core) (h : MayTick offset counter alarms (tick_code counter max alarms) c) where
   abbrev to : ℕ
   to = offset + 4 * length (tick_code counter max alarms)
@@ -161,6 +161,6 @@ module _ (counter max : ℕ) (alarms : List NumberedAlarm) (small : counter < co
       (subst (λ x. Owes offset to offset (tick_code counter max alarms) 0 (TickEffect counter max alarms) (offset_state v x) x) (based_is c can.registers can.zero h.bases) owes))
 
 -- from the vector word back to what it interrupts, for each counter with its alarms
-pub ticks : (counter max : ℕ) (alarms : List NumberedAlarm) → counter < counter_limit → max < 2 ^ 32 → AreNumbered alarms
+pub ticks : (counter max : ℕ) (alarms : List NumberedAlarm) → counter < counter_limit → max < 2 ^ 32 → AreAlarmsInRange alarms
     → IsTickCode counter max alarms (tick_code counter max alarms)
 ticks counter max alarms small fits numbered = λ offset core h. runs_it counter max alarms small fits numbered offset core h

@@ -23,18 +23,18 @@ counter_alarms config counter = alarms_from counter 0 config.alarms
 -- ---- what is in range
 
 -- an action names a task, and its events are a word
-abbrev pub IsAction : Action → Type 0
-IsAction (Activate task) = task < task_limit
-IsAction (Set task mask) = (task < task_limit) × (mask < 2 ^ 32)
+abbrev pub IsActionInRange : Action → Type 0
+IsActionInRange (Activate task) = task < task_limit
+IsActionInRange (Set task mask) = (task < task_limit) × (mask < 2 ^ 32)
 
 -- an alarm
-pub record IsNumbered (alarm : NumberedAlarm) : Type 0 where
+pub record IsAlarmInRange (alarm : NumberedAlarm) : Type 0 where
   pub number : alarm.number < alarm_limit
-  pub action : IsAction alarm.action
+  pub action : IsActionInRange alarm.action
 
 -- several
-abbrev pub AreNumbered : List NumberedAlarm → Type 0
-AreNumbered alarms = AllByRecursion IsNumbered alarms
+abbrev pub AreAlarmsInRange : List NumberedAlarm → Type 0
+AreAlarmsInRange alarms = AllByRecursion IsAlarmInRange alarms
 
 -- ---- which tasks are looked at
 

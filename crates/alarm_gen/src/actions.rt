@@ -1,7 +1,7 @@
 //! What a tick does with each alarm: it loses a tick, and where it expires it acts.
 ghost use Rattle.std.specs.Prelude.{◌≡◌, ◌<◌, ◌≤◌, ◌++◌, OnOk};
 ghost use Rattle.sloth_base.specs.Limits.{task_limit, alarm_limit};
-ghost use Rattle.alarm_gen.specs.Alarms.{IsAction, IsNumbered, AreNumbered};
+ghost use Rattle.alarm_gen.specs.Alarms.{IsActionInRange, IsAlarmInRange, AreAlarmsInRange};
 ghost use Rattle.alarm_gen.specs.Pieces.{basing_code, activating_code, event_adding_code, waking_code, action_code, action_size, losing_code, alarm_code, alarms_code};
 ghost use Rattle.block_parts.specs.Ticks.{suspension_test, awaited_events_test};
 
@@ -19,7 +19,7 @@ use std::alloc::AllocError;
 
 /// The alarms in order.
 pub fn run_all(code: &mut Vec<Instr>, alarms: &[NumberedAlarm]) -> Result<(), AllocError>
-    requires { AreNumbered alarms.now }
+    requires { AreAlarmsInRange alarms.now }
     ensures { OnOk result (code.new.items ≡ code.old.items ++ alarms_code alarms.now) }
 {
     for i in 0..alarms.len() {
@@ -30,7 +30,7 @@ pub fn run_all(code: &mut Vec<Instr>, alarms: &[NumberedAlarm]) -> Result<(), Al
 
 /// One alarm.
 fn run(code: &mut Vec<Instr>, alarm: &NumberedAlarm) -> Result<(), AllocError>
-    requires { IsNumbered alarm.now }
+    requires { IsAlarmInRange alarm.now }
     ensures { OnOk result (code.new.items ≡ code.old.items ++ alarm_code alarm.now) }
 {
     lose(code, alarm.number, action_size(alarm.action))?;
@@ -66,7 +66,7 @@ fn action_size(action: Action) -> u32
 
 /// What an action does.
 fn act(code: &mut Vec<Instr>, action: Action) -> Result<(), AllocError>
-    requires { IsAction action }
+    requires { IsActionInRange action }
     ensures { OnOk result (code.new.items ≡ code.old.items ++ action_code action) }
 {
     match action {

@@ -1,6 +1,6 @@
 //! The looks of a tick at tasks: bit T of x3 says whether task T is not Suspended.
 ghost use Rattle.std.specs.Prelude.{◌≡◌, ◌++◌, OnOk};
-ghost use Rattle.alarm_gen.specs.Alarms.{IsAction, AreNumbered, is_target};
+ghost use Rattle.alarm_gen.specs.Alarms.{IsActionInRange, AreAlarmsInRange, is_target};
 ghost use Rattle.alarm_gen.specs.Pieces.{look_of, looks_code};
 
 use crate::alarms::NumberedAlarm;
@@ -13,7 +13,7 @@ use std::alloc::AllocError;
 
 /// The looks at the tasks whose events the alarms set.
 pub fn look_at_all(code: &mut Vec<Instr>, alarms: &[NumberedAlarm]) -> Result<(), AllocError>
-    requires { AreNumbered alarms.now }
+    requires { AreAlarmsInRange alarms.now }
     ensures { OnOk result (code.new.items ≡ code.old.items ++ looks_code alarms.now) }
 {
     for i in 0..alarms.len() {
@@ -28,7 +28,7 @@ fn look_unless(
     action: Action,
     later: &[NumberedAlarm],
 ) -> Result<(), AllocError>
-    requires { IsAction action }
+    requires { IsActionInRange action }
     ensures { OnOk result (code.new.items ≡ code.old.items ++ look_of action later.now) }
 {
     match action {

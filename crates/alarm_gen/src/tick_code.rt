@@ -2,7 +2,7 @@
 //! and leaves x1 alone with anything.
 ghost use Rattle.std.specs.Prelude.{◌≡◌, ◌<◌, ◌^◌, ◌++◌, IfOk, OnOk};
 ghost use Rattle.sloth_base.specs.Limits.{counter_limit};
-ghost use Rattle.alarm_gen.specs.Alarms.{AreNumbered};
+ghost use Rattle.alarm_gen.specs.Alarms.{AreAlarmsInRange};
 ghost use Rattle.alarm_gen.specs.Tick.{IsTickCode};
 ghost use Rattle.alarm_gen.specs.Pieces.{counting_code, look_clearing_code, returning_code, tick_code};
 
@@ -23,7 +23,7 @@ pub fn code(
     max: u32,
     alarms: &[NumberedAlarm],
 ) -> Result<Vec<Instr>, AllocError>
-    requires { (counter < counter_limit) × AreNumbered alarms.now }
+    requires { (counter < counter_limit) × AreAlarmsInRange alarms.now }
     ensures is { IfOk result (λ code. code.items ≡ tick_code counter max alarms.now) }
     ensures effect { IfOk result (λ code. IsTickCode counter max alarms.now code.items) }
 {

@@ -10,7 +10,7 @@ use Rattle.asm_lines.specs.Bytes.{is_blank, trim}
 use Rattle.asm_lines.specs.Numbers.{number}
 use Rattle.asm_lines.specs.Registers.{register}
 use Rattle.asm_lines.specs.Operands.{before, behind, small_of, direct_operand, direct_operand_at, indexed_operand, indexed_operand_at, frame_operand, in_brackets, bracketed_operand, place}
-use Rattle.asm_lines.specs.Grammar.{Blanks, has_bare_start, HasBareEnds, IsPlace, is_alone, is_offset, is_indexed, is_frame}
+use Rattle.asm_lines.specs.Grammar.{Blanks, has_bare_start, HasBareEnds, IsPlaceText, is_alone, is_offset, is_indexed, is_frame}
 use Rattle.asm_lines.proofs.Trims.{trim_is}
 use Rattle.asm_lines.proofs.Cuts.{lacks, has_here, has_in, before_is, behind_is, last_is, but_last}
 use Rattle.asm_lines.proofs.Parts.{is_number_byte, name_bytes, number_bytes, number_some, register_bytes, register_some, bare_of}
@@ -86,7 +86,7 @@ long : (y x : List ℕ) → 0 < length x → 0 < length (y ++ x)
 long [] x l = l
 long (b ∷ y) x l = omega arith
 
-pub place_made : (f : Bool) (t : List ℕ) (o : Operand) → IsPlace f t o → place f t ≡ o
+pub place_made : (f : Bool) (t : List ℕ) (o : Operand) → IsPlaceText f t o → place f t ≡ o
 place_made f t o (is_alone n h) = alone f n h (name_lacks 91 refl n h) (name_lacks 43 refl n h)
 place_made f t o (is_offset n a b k z h ha hb hk) =
     let e : n ++ (a ++ 43 ∷ (b ++ k)) ≡ (n ++ a) ++ 43 ∷ (b ++ k) = sym (append_assoc n a (43 ∷ (b ++ k))) in

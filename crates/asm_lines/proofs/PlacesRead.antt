@@ -16,7 +16,7 @@ use Rattle.asm_lines.specs.Numbers.{number}
 use Rattle.asm_lines.specs.Registers.{register}
 use Rattle.asm_lines.specs.Operands.{before, behind, small_of, direct_operand, direct_operand_at, indexed_operand, indexed_operand_at, frame_operand, in_brackets, bracketed_operand, place}
 use Rattle.asm_lines.specs.Faults.{is_wrong}
-use Rattle.asm_lines.specs.Grammar.{Blanks, has_bare_start, HasBareEnds, IsPlace, is_alone, is_offset, is_indexed, is_frame}
+use Rattle.asm_lines.specs.Grammar.{Blanks, has_bare_start, HasBareEnds, IsPlaceText, is_alone, is_offset, is_indexed, is_frame}
 use Rattle.asm_lines.proofs.Trims.{trimmed, reversed_all}
 use Rattle.asm_lines.proofs.Cuts.{cut_there, ends_there}
 
@@ -34,27 +34,27 @@ none_behind y b h s =
     sym (reverse-reverse b) ∙ ap reverse e
 
 -- what names a number, and is not wrong
-direct_read : (f : Bool) (t n a b k : List ℕ) (o : Operand) → t ≡ n ++ (a ++ 43 ∷ (b ++ k)) → Blanks a → Blanks b → direct_operand n (small_of (number k)) ≡ o → is_wrong o ≡ false → IsPlace f t o
+direct_read : (f : Bool) (t n a b k : List ℕ) (o : Operand) → t ≡ n ++ (a ++ 43 ∷ (b ++ k)) → Blanks a → Blanks b → direct_operand n (small_of (number k)) ≡ o → is_wrong o ≡ false → IsPlaceText f t o
 direct_read f t n a b k o e ha hb d w =
-    let Q : Option ℤ → Type 0 = λ z. number k ≡ z → direct_operand_at n (small_of z) ≡ o → is_name n ≡ true → IsPlace f t o in
-    let P : Bool → Type 0 = λ v. is_name n ≡ v → cond v (direct_operand_at n (small_of (number k))) Wrong ≡ o → IsPlace f t o in
+    let Q : Option ℤ → Type 0 = λ z. number k ≡ z → direct_operand_at n (small_of z) ≡ o → is_name n ≡ true → IsPlaceText f t o in
+    let P : Bool → Type 0 = λ v. is_name n ≡ v → cond v (direct_operand_at n (small_of (number k))) Wrong ≡ o → IsPlaceText f t o in
     elim (is_name n) as P [
       | true ↦ λ h g. elim (number k) as Q [
         | None ↦ λ q g h. let x : is_wrong Wrong ≡ false = ap is_wrong g ∙ w in cc
-        | Some z ↦ λ q g h. subst (λ (y : Operand). IsPlace f t y) g (subst (λ (y : List ℕ). IsPlace f y (direct_operand_at n (small_of (Some z)))) (sym e) (is_offset n a b k z h ha hb q))
+        | Some z ↦ λ q g h. subst (λ (y : Operand). IsPlaceText f t y) g (subst (λ (y : List ℕ). IsPlaceText f y (direct_operand_at n (small_of (Some z)))) (sym e) (is_offset n a b k z h ha hb q))
       ] refl g h
       | false ↦ λ h g. let x : is_wrong Wrong ≡ false = ap is_wrong g ∙ w in cc
     ] refl d
 
-name_read : (f : Bool) (t : List ℕ) (o : Operand) → direct_operand t (Is 0) ≡ o → is_wrong o ≡ false → IsPlace f t o
+name_read : (f : Bool) (t : List ℕ) (o : Operand) → direct_operand t (Is 0) ≡ o → is_wrong o ≡ false → IsPlaceText f t o
 name_read f t o d w =
-    let P : Bool → Type 0 = λ v. is_name t ≡ v → cond v (Direct t 0) Wrong ≡ o → IsPlace f t o in
+    let P : Bool → Type 0 = λ v. is_name t ≡ v → cond v (Direct t 0) Wrong ≡ o → IsPlaceText f t o in
     elim (is_name t) as P [
-      | true ↦ λ h g. subst (λ (y : Operand). IsPlace f t y) g (is_alone t h)
+      | true ↦ λ h g. subst (λ (y : Operand). IsPlaceText f t y) g (is_alone t h)
       | false ↦ λ h g. let x : is_wrong Wrong ≡ false = ap is_wrong g ∙ w in cc
     ] refl d
 
-plus_read : (f : Bool) (t : List ℕ) (o : Operand) → HasBareEnds t → is_byte_of 43 t ≡ true → direct_operand (trim (before 43 t)) (small_of (number (trim (behind 43 t)))) ≡ o → is_wrong o ≡ false → IsPlace f t o
+plus_read : (f : Bool) (t : List ℕ) (o : Operand) → HasBareEnds t → is_byte_of 43 t ≡ true → direct_operand (trim (before 43 t)) (small_of (number (trim (behind 43 t)))) ≡ o → is_wrong o ≡ false → IsPlaceText f t o
 plus_read f t o bare h d w =
     let l = trimmed (before 43 t) in
     let r = trimmed (behind 43 t) in
@@ -73,7 +73,7 @@ plus_read f t o bare h d w =
 
 -- what stands in the brackets, with blanks a and d round it
 masked_read : (f : Bool) (t n a y d : List ℕ) (o : Operand) → t ≡ n ++ 91 ∷ (a ++ (y ++ (d ++ 93 ∷ []))) → Blanks a → Blanks d → is_byte_of 38 y ≡ true
-    → indexed_operand n (register (trim (before 38 y))) (small_of (number (trim (behind 38 y)))) ≡ o → is_wrong o ≡ false → IsPlace f t o
+    → indexed_operand n (register (trim (before 38 y))) (small_of (number (trim (behind 38 y)))) ≡ o → is_wrong o ≡ false → IsPlaceText f t o
 masked_read f t n a y d o e ha hd h g w =
     let l = trimmed (before 38 y) in
     let q = trimmed (behind 38 y) in
@@ -83,17 +83,17 @@ masked_read f t n a y d o e ha hd h g w =
     cut_there 38 y h ∙ (ap (λ v. v ++ 38 ∷ behind 38 y) l.text ∙ ap (λ v. (l.before ++ (r ++ l.behind)) ++ 38 ∷ v) q.text) in
     let whole : t ≡ n ++ 91 ∷ ((a ++ l.before) ++ (r ++ (l.behind ++ 38 ∷ (q.before ++ (m ++ ((q.behind ++ d) ++ 93 ∷ [])))))) =
     e ∙ (ap (λ v. n ++ 91 ∷ (a ++ (v ++ (d ++ 93 ∷ [])))) cut ∙ simp append_assoc) in
-    let wrong : Wrong ≡ o → IsPlace f t o = λ v. let x : is_wrong Wrong ≡ false = ap is_wrong v ∙ w in cc in
-    let M : ℕ → Option ℤ → Type 0 = λ x z. number m ≡ z → indexed_operand_at n (Some x) (small_of z) ≡ o → register r ≡ Some x → is_name n ≡ true → IsPlace f t o in
-    let R : Option ℕ → Type 0 = λ x. register r ≡ x → indexed_operand_at n x (small_of (number m)) ≡ o → is_name n ≡ true → IsPlace f t o in
-    let P : Bool → Type 0 = λ v. is_name n ≡ v → cond v (indexed_operand_at n (register r) (small_of (number m))) Wrong ≡ o → IsPlace f t o in
+    let wrong : Wrong ≡ o → IsPlaceText f t o = λ v. let x : is_wrong Wrong ≡ false = ap is_wrong v ∙ w in cc in
+    let M : ℕ → Option ℤ → Type 0 = λ x z. number m ≡ z → indexed_operand_at n (Some x) (small_of z) ≡ o → register r ≡ Some x → is_name n ≡ true → IsPlaceText f t o in
+    let R : Option ℕ → Type 0 = λ x. register r ≡ x → indexed_operand_at n x (small_of (number m)) ≡ o → is_name n ≡ true → IsPlaceText f t o in
+    let P : Bool → Type 0 = λ v. is_name n ≡ v → cond v (indexed_operand_at n (register r) (small_of (number m))) Wrong ≡ o → IsPlaceText f t o in
     elim (is_name n) as P [
       | true ↦ λ hn gn. elim (register r) as R [
         | None ↦ λ hr gr hn. wrong gr
         | Some x ↦ λ hr gr hn. elim (number m) as (M x) [
           | None ↦ λ hm gm hr hn. wrong gm
           | Some z ↦ λ hm gm hr hn.
-              subst (λ (v : Operand). IsPlace f t v) gm (subst (λ (v : List ℕ). IsPlace f v (indexed_operand_at n (Some x) (small_of (Some z)))) (sym whole)
+              subst (λ (v : Operand). IsPlaceText f t v) gm (subst (λ (v : List ℕ). IsPlaceText f v (indexed_operand_at n (Some x) (small_of (Some z)))) (sym whole)
               (is_indexed n (a ++ l.before) r l.behind q.before m (q.behind ++ d) x z hn (blanks_both a l.before ha l.blanks_before) l.blanks_behind q.blanks_before
               (blanks_both q.behind d q.blanks_behind hd) hr hm))
         ] refl gr hr hn
@@ -102,11 +102,11 @@ masked_read f t n a y d o e ha hd h g w =
     ] refl g
 
 frame_read : (f : Bool) (t n a y d : List ℕ) (o : Operand) → t ≡ n ++ 91 ∷ (a ++ (y ++ (d ++ 93 ∷ []))) → Blanks a → Blanks d
-    → cond (f && bytes_eq n (codes "frame")) (frame_operand (small_of (number y))) Wrong ≡ o → is_wrong o ≡ false → IsPlace f t o
+    → cond (f && bytes_eq n (codes "frame")) (frame_operand (small_of (number y))) Wrong ≡ o → is_wrong o ≡ false → IsPlaceText f t o
 frame_read f t n a y d o e ha hd g w =
-    let wrong : Wrong ≡ o → IsPlace f t o = λ v. let x : is_wrong Wrong ≡ false = ap is_wrong v ∙ w in cc in
-    let Q : Option ℤ → Type 0 = λ z. number y ≡ z → frame_operand (small_of z) ≡ o → IsPlace f t o in
-    let P : Bool → Type 0 = λ v. (f && bytes_eq n (codes "frame")) ≡ v → cond v (frame_operand (small_of (number y))) Wrong ≡ o → IsPlace f t o in
+    let wrong : Wrong ≡ o → IsPlaceText f t o = λ v. let x : is_wrong Wrong ≡ false = ap is_wrong v ∙ w in cc in
+    let Q : Option ℤ → Type 0 = λ z. number y ≡ z → frame_operand (small_of z) ≡ o → IsPlaceText f t o in
+    let P : Bool → Type 0 = λ v. (f && bytes_eq n (codes "frame")) ≡ v → cond v (frame_operand (small_of (number y))) Wrong ≡ o → IsPlaceText f t o in
     elim (f && bytes_eq n (codes "frame")) as P [
       | true ↦ λ h k.
           let b = and_parts f (bytes_eq n (codes "frame")) h in
@@ -114,24 +114,24 @@ frame_read f t n a y d o e ha hd g w =
           let whole : t ≡ codes "frame" ++ 91 ∷ (a ++ (y ++ (d ++ 93 ∷ []))) = e ∙ ap (λ v. v ++ 91 ∷ (a ++ (y ++ (d ++ 93 ∷ [])))) name in
           elim (number y) as Q [
             | None ↦ λ q i. wrong i
-            | Some z ↦ λ q i. subst (λ (v : Operand). IsPlace f t v) i (subst (λ (v : List ℕ). IsPlace f v (frame_operand (small_of (Some z)))) (sym whole) (is_frame a y d z b.0 ha hd q))
+            | Some z ↦ λ q i. subst (λ (v : Operand). IsPlaceText f t v) i (subst (λ (v : List ℕ). IsPlaceText f v (frame_operand (small_of (Some z)))) (sym whole) (is_frame a y d z b.0 ha hd q))
           ] refl k
       | false ↦ λ h k. wrong k
     ] refl g
 
-inside_read : (f : Bool) (t n a y d : List ℕ) (o : Operand) → t ≡ n ++ 91 ∷ (a ++ (y ++ (d ++ 93 ∷ []))) → Blanks a → Blanks d → in_brackets f n y ≡ o → is_wrong o ≡ false → IsPlace f t o
+inside_read : (f : Bool) (t n a y d : List ℕ) (o : Operand) → t ≡ n ++ 91 ∷ (a ++ (y ++ (d ++ 93 ∷ []))) → Blanks a → Blanks d → in_brackets f n y ≡ o → is_wrong o ≡ false → IsPlaceText f t o
 unfolding in_brackets
 inside_read f t n a y d o e ha hd g w =
     let A : Operand = indexed_operand n (register (trim (before 38 y))) (small_of (number (trim (behind 38 y)))) in
     let B : Operand = cond (f && bytes_eq n (codes "frame")) (frame_operand (small_of (number y))) Wrong in
-    let P : Bool → Type 0 = λ v. is_byte_of 38 y ≡ v → cond v A B ≡ o → IsPlace f t o in
+    let P : Bool → Type 0 = λ v. is_byte_of 38 y ≡ v → cond v A B ≡ o → IsPlaceText f t o in
     elim (is_byte_of 38 y) as P [ true ↦ λ h k. masked_read f t n a y d o e ha hd h k w | false ↦ λ h k. frame_read f t n a y d o e ha hd k w ] refl g
 
-bracket_read : (f : Bool) (t n r : List ℕ) (o : Operand) → t ≡ n ++ 91 ∷ r → bracketed_operand f n r ≡ o → is_wrong o ≡ false → IsPlace f t o
+bracket_read : (f : Bool) (t n r : List ℕ) (o : Operand) → t ≡ n ++ 91 ∷ r → bracketed_operand f n r ≡ o → is_wrong o ≡ false → IsPlaceText f t o
 unfolding bracketed_operand
 bracket_read f t n r o e g w =
     let x = take (length r - 1) r in
-    let P : Bool → Type 0 = λ v. (slice_index r (length r - 1) == 93) ≡ v → cond v (in_brackets f n (trim x)) Wrong ≡ o → IsPlace f t o in
+    let P : Bool → Type 0 = λ v. (slice_index r (length r - 1) == 93) ≡ v → cond v (in_brackets f n (trim x)) Wrong ≡ o → IsPlaceText f t o in
     elim (slice_index r (length r - 1) == 93) as P [
       | true ↦ λ h k.
           let c = trimmed x in
@@ -142,13 +142,13 @@ bracket_read f t n r o e g w =
       | false ↦ λ h k. let z : is_wrong Wrong ≡ false = ap is_wrong k ∙ w in cc
     ] refl g
 
-pub place_read : (f : Bool) (t : List ℕ) (o : Operand) → HasBareEnds t → place f t ≡ o → is_wrong o ≡ false → IsPlace f t o
+pub place_read : (f : Bool) (t : List ℕ) (o : Operand) → HasBareEnds t → place f t ≡ o → is_wrong o ≡ false → IsPlaceText f t o
 unfolding place
 place_read f t o bare g w =
     let A : Operand = bracketed_operand f (before 91 t) (behind 91 t) in
     let B : Operand = direct_operand (trim (before 43 t)) (small_of (number (trim (behind 43 t)))) in
-    let Q : Bool → Type 0 = λ v. is_byte_of 43 t ≡ v → cond v B (direct_operand t (Is 0)) ≡ o → IsPlace f t o in
-    let P : Bool → Type 0 = λ v. is_byte_of 91 t ≡ v → cond v A (cond (is_byte_of 43 t) B (direct_operand t (Is 0))) ≡ o → IsPlace f t o in
+    let Q : Bool → Type 0 = λ v. is_byte_of 43 t ≡ v → cond v B (direct_operand t (Is 0)) ≡ o → IsPlaceText f t o in
+    let P : Bool → Type 0 = λ v. is_byte_of 91 t ≡ v → cond v A (cond (is_byte_of 43 t) B (direct_operand t (Is 0))) ≡ o → IsPlaceText f t o in
     elim (is_byte_of 91 t) as P [
       | true ↦ λ h k. bracket_read f t (before 91 t) (behind 91 t) o (cut_there 91 t h) k w
       | false ↦ λ h. elim (is_byte_of 43 t) as Q [ true ↦ λ i k. plus_read f t o bare i k w | false ↦ λ i k. name_read f t o k w ] refl

@@ -87,5 +87,5 @@ abbrev pub source_lines : List ℕ → List SourceLine
 source_lines text = map source_line (lines text)
 
 -- A fault of a text. Its last line ends with no LF, so the number of its lines is 1 plus that of its LF bytes.
-abbrev pub TextFault : List ℕ → Refusal → Type 0
-TextFault text r = SourceFault (source_lines text) r
+abbrev pub SourceLinesFault : List ℕ → Refusal → Type 0
+SourceLinesFault text r = SourceFault (source_lines text) r

@@ -40,14 +40,14 @@ pub record IsTrimmed (t x : List ℕ) : Type 0 where
 
 -- `NAME`, `NAME+k`, `NAME[reg & m]`, and in the frame `frame[k]`. Blanks are allowed round `+` (43) and `&` (38), and inside the
 -- brackets (91, 93). A number that is out of its range makes the operand that is outside.
-pub data IsPlace (in_frame : Bool) : List ℕ → Operand → Type 0 where
-  is_alone : (n : List ℕ) → is_name n ≡ true → IsPlace in_frame n (Direct n 0)
+pub data IsPlaceText (in_frame : Bool) : List ℕ → Operand → Type 0 where
+  is_alone : (n : List ℕ) → is_name n ≡ true → IsPlaceText in_frame n (Direct n 0)
   is_offset : (n a b k : List ℕ) (z : ℤ) → is_name n ≡ true → Blanks a → Blanks b → number k ≡ Some z
-      → IsPlace in_frame (n ++ (a ++ 43 ∷ (b ++ k))) (direct_operand_at n (small_of (Some z)))
+      → IsPlaceText in_frame (n ++ (a ++ 43 ∷ (b ++ k))) (direct_operand_at n (small_of (Some z)))
   is_indexed : (n a r b c m d : List ℕ) (x : ℕ) (z : ℤ) → is_name n ≡ true → Blanks a → Blanks b → Blanks c → Blanks d → register r ≡ Some x → number m ≡ Some z
-      → IsPlace in_frame (n ++ 91 ∷ (a ++ (r ++ (b ++ 38 ∷ (c ++ (m ++ (d ++ 93 ∷ []))))))) (indexed_operand_at n (Some x) (small_of (Some z)))
+      → IsPlaceText in_frame (n ++ 91 ∷ (a ++ (r ++ (b ++ 38 ∷ (c ++ (m ++ (d ++ 93 ∷ []))))))) (indexed_operand_at n (Some x) (small_of (Some z)))
   is_frame : (a k b : List ℕ) (z : ℤ) → in_frame ≡ true → Blanks a → Blanks b → number k ≡ Some z
-      → IsPlace in_frame (codes "frame" ++ 91 ∷ (a ++ (k ++ (b ++ 93 ∷ [])))) (frame_operand (small_of (Some z)))
+      → IsPlaceText in_frame (codes "frame" ++ 91 ∷ (a ++ (k ++ (b ++ 93 ∷ [])))) (frame_operand (small_of (Some z)))
 
 -- x is what remains of a line: a `#` (35) starts a comment, and the blanks at both ends do not count
 pub data IsRemains : List ℕ → List ℕ → Type 0 where

@@ -4,7 +4,7 @@ ghost use Rattle.least_fault.specs.Order.{ErrorIs, NoFault};
 ghost use Rattle.text_pieces.specs.Names.{referent};
 ghost use Rattle.asm_lines.specs.Lines.{without_returns};
 ghost use Rattle.asm_lines.specs.SourceLines.{source_line};
-ghost use Rattle.asm_lines.specs.Faults.{source_lines, TextFault};
+ghost use Rattle.asm_lines.specs.Faults.{source_lines, SourceLinesFault};
 
 use crate::cutting::{line_of, split};
 use crate::rules::source_fault;
@@ -43,8 +43,8 @@ fn read_lines(alloc: Global, text: &[u8]) -> Result<List<SourceLine>, NoMemory>
 pub fn read(alloc: Global, text: &[u8]) -> Result<List<SourceLine>, BuildError>
     requires { length text.now < 4294967295 }
     ensures lines { IfOk result (λ read. read ≡ source_lines text.now) }
-    ensures none { OnOk result (NoFault (TextFault text.now)) }
-    ensures refused { IfErr result (λ error. ErrorIs (TextFault text.now) error) }
+    ensures none { OnOk result (NoFault (SourceLinesFault text.now)) }
+    ensures refused { IfErr result (λ error. ErrorIs (SourceLinesFault text.now) error) }
 {
     let read = read_lines(alloc, text)?;
     match source_fault(read.items()) {

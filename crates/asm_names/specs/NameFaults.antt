@@ -80,22 +80,22 @@ abbrev pub is_beyond : ℕ → SourceLine → Bool
 is_beyond items l = (is_item l && (items == item_limit)) || has_long l
 
 -- A5 and A6 of line n, in a body with these labels, behind labels of these earlier names and so many items of all bodies
-abbrev pub InnerFault : Scope → List (List ℕ) → List (List ℕ) → ℕ → ℕ → SourceLine → Refusal → Type 0
-InnerFault scope labels earlier items n l r = SourceCase (is_misnamed scope labels earlier l) n A5 r ⊎ SourceCase (is_beyond items l) n A6 r
+abbrev pub BodyLineFault : Scope → List (List ℕ) → List (List ℕ) → ℕ → ℕ → SourceLine → Refusal → Type 0
+BodyLineFault scope labels earlier items n l r = SourceCase (is_misnamed scope labels earlier l) n A5 r ⊎ SourceCase (is_beyond items l) n A6 r
 
 -- the same of a line with these lines of the body before it, where the header stands on line n, behind so many items
-abbrev pub LineFault : Scope → List (List ℕ) → ℕ → ℕ → List SourceLine → SourceLine → Refusal → Type 0
-LineFault scope labels items n front l r = InnerFault scope labels (label_names front) (items + count_by is_item front) (n + length front + 1) l r
+abbrev pub LineNameFault : Scope → List (List ℕ) → ℕ → ℕ → List SourceLine → SourceLine → Refusal → Type 0
+LineNameFault scope labels items n front l r = BodyLineFault scope labels (label_names front) (items + count_by is_item front) (n + length front + 1) l r
 
 -- the items of a body
 abbrev pub items_in : BodyText → ℕ
 items_in body = count_by is_item body.lines
 
 -- a fault of a body, with these bodies before it
-abbrev pub BodyFault : Scope → List BodyText → BodyText → Refusal → Type 0
-BodyFault scope front body r =
+abbrev pub BodyNameFault : Scope → List BodyText → BodyText → Refusal → Type 0
+BodyNameFault scope front body r =
     HeaderFault scope (function_names front) (length front) body.line body.header r
-    ⊎ Somewhere (LineFault scope (label_names body.lines) (sum_by items_in front) body.line) body.lines r
+    ⊎ Somewhere (LineNameFault scope (label_names body.lines) (sum_by items_in front) body.line) body.lines r
 
 -- ---- all
 
@@ -107,5 +107,5 @@ is_body_missing config bodies = list_any (λ (t : TaskDecl). not (list_any (byte
 abbrev pub NameFault : Config → List SourceLine → Refusal → Type 0
 NameFault config ls r =
     Somewhere DataFault ls r
-    ⊎ (Somewhere (BodyFault (scope_of config ls (bodies_of ls))) (bodies_of ls) r
+    ⊎ (Somewhere (BodyNameFault (scope_of config ls (bodies_of ls))) (bodies_of ls) r
     ⊎ SourceCase (is_body_missing config (bodies_of ls)) 1 A7 r)

@@ -3,7 +3,7 @@ ghost use Rattle.std.specs.Prelude.{◌≡◌, ◌+◌, ◌<◌, ◌^◌, take, 
 ghost use Rattle.least_fault.specs.Search.{IsSearchResult, Somewhere};
 ghost use Rattle.asm_scopes.specs.Statements.{label_names};
 ghost use Rattle.asm_scopes.specs.Bodies.{function_names};
-ghost use Rattle.asm_names.specs.NameFaults.{is_too_great, is_strange, is_misnamed, is_beyond, HeaderFault, InnerFault, LineFault, BodyFault};
+ghost use Rattle.asm_names.specs.NameFaults.{is_too_great, is_strange, is_misnamed, is_beyond, HeaderFault, BodyLineFault, LineNameFault, BodyNameFault};
 
 use crate::limits::{count_item, count_items, count_label, has_long};
 use asm_lines::SourceLine;
@@ -61,7 +61,7 @@ fn inner_fault(
     number: u32,
     line: &SourceLine,
 ) -> Option<Refusal>
-    ensures { IsSearchResult (InnerFault scope.now labels.now (take count labels.now) items number line.now) result }
+    ensures { IsSearchResult (BodyLineFault scope.now labels.now (take count labels.now) items number line.now) result }
 {
     let misnamed = fault_if(
         is_misnamed(scope, labels, count, line),
@@ -84,7 +84,7 @@ fn line_faults(
     requires few { number + length lines.now < 2 ^ 32 }
     requires items { items + length lines.now < 2 ^ 64 }
     requires labels { labels.now ≡ label_names lines.now }
-    ensures { IsSearchResult (Somewhere (LineFault scope.now labels.now items number) lines.now) result }
+    ensures { IsSearchResult (Somewhere (LineNameFault scope.now labels.now items number) lines.now) result }
 {
     let mut least = None;
     let mut count = 0;
@@ -111,7 +111,7 @@ fn body_fault(
     requires items { items + length body.now.lines < 2 ^ 64 }
     ensures { IfOk result (λ found. IsSearchResult (λ r.
         HeaderFault scope.now (take count scope.now.functions) count body.now.line body.now.header r
-        ⊎ Somewhere (LineFault scope.now (label_names body.now.lines) items body.now.line) body.now.lines r) found) }
+        ⊎ Somewhere (LineNameFault scope.now (label_names body.now.lines) items body.now.line) body.now.lines r) found) }
 {
     let labels = label_names(alloc, body.lines())?;
     let of_header = header_fault(scope, count, body.line(), body.header());
@@ -128,7 +128,7 @@ pub fn body_faults(
     requires few { length bodies.now < 2 ^ 32 }
     requires short { All (λ body. body.line + length body.lines < 2 ^ 32) bodies.now }
     requires functions { scope.now.functions ≡ function_names bodies.now }
-    ensures { IfOk result (λ found. IsSearchResult (Somewhere (BodyFault scope.now) bodies.now) found) }
+    ensures { IfOk result (λ found. IsSearchResult (Somewhere (BodyNameFault scope.now) bodies.now) found) }
 {
     let mut least = None;
     let mut items = 0;

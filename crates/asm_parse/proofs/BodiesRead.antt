@@ -15,7 +15,7 @@ use Rattle.asm_lines.specs.declared.source_line.SourceLine.TheVariants.{Empty}
 use Rattle.asm_scopes.specs.declared.scope.Scope.{Scope}
 use Rattle.asm_scopes.specs.Statements.{opens_body, closes_body, is_item, is_label, name_of, number_of, label_names}
 use Rattle.asm_scopes.specs.Bodies.{BodyText, bodies_from, body_name, function_names}
-use Rattle.asm_names.specs.NameFaults.{has_long, is_misnamed, is_beyond, is_too_great, items_in, LineFault, BodyFault}
+use Rattle.asm_names.specs.NameFaults.{has_long, is_misnamed, is_beyond, is_too_great, items_in, LineNameFault, BodyNameFault}
 use Rattle.asm_scopes.specs.Scopes.{has_unknown}
 use Rattle.asm_parse.proofs.Growth.{within, Apart, all_apart, kept_apart}
 use Rattle.asm_parse.proofs.Read.{IsRead}
@@ -50,7 +50,7 @@ abbrev pub line_at : BodyText → ℕ → SourceLine
 line_at body j = get_or body.lines j Empty
 
 module _ (scope : Scope) (bodies : List BodyText)
-    (none : (i : ℕ) → i < length bodies → NoFault (BodyFault scope (take i bodies) (body_at bodies i))) where
+    (none : (i : ℕ) → i < length bodies → NoFault (BodyNameFault scope (take i bodies) (body_at bodies i))) where
   -- ---- headers
 
   new_name : (i : ℕ) → i < length bodies → list_any (bytes_eq (body_name (body_at bodies i))) (function_names (take i bodies)) ≡ false
@@ -87,8 +87,8 @@ module _ (scope : Scope) (bodies : List BodyText)
     abbrev pub before : ℕ
     before = sum_by items_in (take i bodies)
 
-    line_fault : (j : ℕ) → j < length body.lines → NoFault (LineFault scope (label_names body.lines) before body.line (take j body.lines) (line_at body j))
-    line_fault j l = nowhere (LineFault scope (label_names body.lines) before body.line) body.lines (λ r x. none i h r (inr x)) j Empty l
+    line_fault : (j : ℕ) → j < length body.lines → NoFault (LineNameFault scope (label_names body.lines) before body.line (take j body.lines) (line_at body j))
+    line_fault j l = nowhere (LineNameFault scope (label_names body.lines) before body.line) body.lines (λ r x. none i h r (inr x)) j Empty l
 
     well_named : (j : ℕ) → j < length body.lines → is_misnamed scope (label_names body.lines) (label_names (take j body.lines)) (line_at body j) ≡ false
     well_named j l =

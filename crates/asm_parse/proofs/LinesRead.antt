@@ -17,7 +17,7 @@ use Rattle.statement_forms.specs.Forms.{is_operand_count}
 use Rattle.asm_lines.specs.Table.{mnemonic_of}
 use Rattle.asm_lines.specs.Operands.{before}
 use Rattle.asm_lines.specs.SourceLines.{read_operands, known_statement, statement_of, source_line, has_empty, begins_statement}
-use Rattle.asm_lines.specs.Faults.{is_wrong, is_outside, is_long, is_a3, is_a4, FaultAt, source_lines, TextFault}
+use Rattle.asm_lines.specs.Faults.{is_wrong, is_outside, is_long, is_a3, is_a4, FaultAt, source_lines, SourceLinesFault}
 use Rattle.asm_parse.proofs.Read.{IsRead}
 use Rattle.asm_parse.proofs.ReadFits.{all_fit}
 use Rattle.asm_parse.proofs.KindsRead.{HasKindIf, has_kind}
@@ -60,7 +60,7 @@ lines_sound : (ls : List (List ℕ)) → All IsSound (map source_line ls)
 lines_sound [] = All-nil IsSound
 lines_sound (l ∷ ls) = All-cons IsSound (source_line l) (map source_line ls) (line_sound l) (lines_sound ls)
 
-pub all_read : (text : List ℕ) → NoFault (TextFault text) → All IsRead (source_lines text)
+pub all_read : (text : List ℕ) → NoFault (SourceLinesFault text) → All IsRead (source_lines text)
 all_read text none i d h =
     let l = get_or (source_lines text) i d in
     let n = nowhere FaultAt (source_lines text) (λ r f. none r (inl f)) i d h in

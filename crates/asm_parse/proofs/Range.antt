@@ -29,17 +29,17 @@ use Rattle.least_fault.specs.Order.{NoFault}
 use Rattle.least_fault.proofs.Nowhere.{nowhere, case_false}
 use Rattle.asm_lines.specs.declared.source_line.SourceLine.{SourceLine}
 use Rattle.asm_lines.specs.declared.source_line.SourceLine.TheVariants.{Empty}
-use Rattle.asm_lines.specs.Faults.{source_lines, TextFault}
+use Rattle.asm_lines.specs.Faults.{source_lines, SourceLinesFault}
 use Rattle.asm_scopes.specs.declared.scope.Scope.{Scope}
 use Rattle.asm_scopes.specs.Statements.{is_data, is_label, is_task, name_of, label_names, symbol_names}
 use Rattle.asm_scopes.specs.Bodies.{BodyText, bodies_of, body_name, is_task_body, is_called_body, function_names, called_names, task_body_names}
 use Rattle.sloth_base.specs.DeclaredNames.{task_names, event_names, alarm_names}
 use Rattle.asm_scopes.specs.Scopes.{scope_of, is_scheduler}
-use Rattle.asm_names.specs.NameFaults.{has_long, items_in, is_body_missing, BodyFault, NameFault}
+use Rattle.asm_names.specs.NameFaults.{has_long, items_in, is_body_missing, BodyNameFault, NameFault}
 use Rattle.asm_items.specs.Operations.{number_of as number_in, resource_number, mask_given, mask_at}
 use Rattle.asm_items.specs.Apps.{func_of, symbol_of, body_task, app_of, labels_from}
 use Rattle.asm_parse.specs.AppTexts.{AppText, SourceTextFault}
-use Rattle.code_rules.specs.AppRange.{IsResource, IsCallable, IsPlaced, IsBody, HasBodies, IsWithinLimits, AppInRange}
+use Rattle.code_rules.specs.AppRange.{IsResource, IsCallable, IsLabelPlaced, IsBody, HasBodies, IsWithinLimits, AppInRange}
 use Rattle.sloth_base.specs.ConfigRange.{no_event}
 use Rattle.asm_parse.proofs.BodiesRead.{IsReadBody, bodies_read, no_body, body_at, line_at, names_apart, few_bodies, few_words, short_name, known_at, short_at, labels_apart, few_items}
 use Rattle.asm_parse.proofs.Declared.{header_name, label_name}
@@ -87,8 +87,8 @@ module _ (config : Config) (ls : List SourceLine) (range : InRange config) (read
   abbrev app : App
   app = app_of config ls
 
-  body_none : (i : ℕ) → i < length bodies → NoFault (BodyFault scope (take i bodies) (body_at bodies i))
-  body_none i h = nowhere (BodyFault scope) bodies (λ r x. none r (inr (inl x))) i no_body h
+  body_none : (i : ℕ) → i < length bodies → NoFault (BodyNameFault scope (take i bodies) (body_at bodies i))
+  body_none i h = nowhere (BodyNameFault scope) bodies (λ r x. none r (inr (inl x))) i no_body h
 
   all_bodies : All IsReadBody bodies
   all_bodies = bodies_read 1 ls read
@@ -244,7 +244,7 @@ module _ (config : Config) (ls : List SourceLine) (range : InRange config) (read
       record {
         frame = few_words scope bodies body_none i h;
         label_names = subst AreNames (sym (names_of_labels config scope labels (body.line + 1) 0 body.lines)) (names_of_body i h);
-        labels = All-weaker (IsPlacedIn config app f scope labels (known i h) (length f.items)) (IsPlaced config f) (λ l p. record { place = p.0; holds = p.1 }) f.labels
+        labels = All-weaker (IsPlacedIn config app f scope labels (known i h) (length f.items)) (IsLabelPlaced config f) (λ l p. record { place = p.0; holds = p.1 }) f.labels
             (labels_range config app f scope labels (known i h) (length f.items) (body.line + 1) 0 body.lines lines (omega arith));
         items = (items_range config app f scope labels (known i h) (body.line + 1) body.lines lines).0;
       }
@@ -304,5 +304,5 @@ module _ (config : Config) (ls : List SourceLine) (range : InRange config) (read
 -- the task code of a text without a fault
 pub text_in_range : (text : List ℕ) (config : Config) (app : App) → InRange config → NoFault (SourceTextFault config text) → AppText text config app → AppInRange config app
 text_in_range text config a range none says =
-    let lines : NoFault (TextFault text) = λ r x. none r (inl x) in
+    let lines : NoFault (SourceLinesFault text) = λ r x. none r (inl x) in
     subst (AppInRange config) (sym says) (in_range config (source_lines text) range (all_read text lines) (λ r x. none r (inr (lines, x))))

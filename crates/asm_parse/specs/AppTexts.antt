@@ -4,7 +4,7 @@ use Rattle.sloth_base.specs.declared.app.App.{App}
 use Rattle.sloth_base.specs.declared.config.Config.{Config}
 use Rattle.sloth_base.specs.declared.refusal.Refusal.{Refusal}
 use Rattle.least_fault.specs.Order.{NoFault}
-use Rattle.asm_lines.specs.Faults.{source_lines, TextFault}
+use Rattle.asm_lines.specs.Faults.{source_lines, SourceLinesFault}
 use Rattle.asm_names.specs.NameFaults.{NameFault}
 use Rattle.asm_items.specs.Apps.{app_of}
 
@@ -14,4 +14,4 @@ AppText text config app = app ≡ app_of config (source_lines text)
 
 -- A fault of the text: one of its lines, or, where no line has one, one of names and limits.
 abbrev pub SourceTextFault : Config → List ℕ → Refusal → Type 0
-SourceTextFault config text r = TextFault text r ⊎ (NoFault (TextFault text) × NameFault config (source_lines text) r)
+SourceTextFault config text r = SourceLinesFault text r ⊎ (NoFault (SourceLinesFault text) × NameFault config (source_lines text) r)

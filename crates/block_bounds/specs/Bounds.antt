@@ -19,7 +19,7 @@ IsTold config app h bound.Huge = ExceedsBound config app h greatest_told_bound
 IsTold config app h bound.Endless = HasNoBound config app h
 
 -- what is told of each task is so
-pub record AreBounds (config : Config) (app : App) (bounds : List Bound) : Type 0 where
+pub record AreToldBounds (config : Config) (app : App) (bounds : List Bound) : Type 0 where
   pub count : length bounds ≡ length config.tasks
   pub each : (h : ℕ) → h < length config.tasks → IsTold config app h (get_or bounds h bound.Endless)
 

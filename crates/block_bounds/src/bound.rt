@@ -4,11 +4,11 @@ ghost use Rattle.code_rules.specs.WellFormed.{WellFormed};
 ghost use Rattle.osek_valid.specs.Apart.{static_priority};
 ghost use Rattle.call_graph.specs.Ranks.{RanksOf};
 ghost use Rattle.call_graph.specs.Reached.{any_below};
-ghost use Rattle.call_graph.specs.Tables.{HasBody};
+ghost use Rattle.call_graph.specs.Tables.{HasTaskBody};
 ghost use Rattle.section_sizes.specs.CallOrder.{IsCallOrder};
 ghost use Rattle.section_sizes.specs.Known.{AreKnownBodies, AreSummaries};
 ghost use Rattle.block_bounds.specs.Kept.{RunsKeepTold};
-ghost use Rattle.block_bounds.specs.Bounds.{IsTold, AreBounds, is_below, is_some_unlimited, greatest_section, greatest_sections};
+ghost use Rattle.block_bounds.specs.Bounds.{IsTold, AreToldBounds, is_below, is_some_unlimited, greatest_section, greatest_sections};
 
 use bound_rules::bodies::Body;
 pub use bound_rules::bound::Bound;
@@ -53,7 +53,7 @@ fn is_some_unlimited(
     own: &[Summary],
     priority: u32,
 ) -> bool
-    requires bodies { (t : ℕ) → t < length tasks.now → HasBody funcs.now t }
+    requires bodies { (t : ℕ) → t < length tasks.now → HasTaskBody funcs.now t }
     requires whole_count { length whole.now ≡ length funcs.now }
     requires own_count { length own.now ≡ length funcs.now }
     ensures { result ≡ is_some_unlimited tasks.now funcs.now whole.now own.now priority }
@@ -76,7 +76,7 @@ fn greatest_section(
     task: usize,
 ) -> u32
     requires inside { task < length tasks.now }
-    requires body { HasBody funcs.now task }
+    requires body { HasTaskBody funcs.now task }
     requires whole_count { length whole.now ≡ length funcs.now }
     requires own_count { length own.now ≡ length funcs.now }
     ensures { result ≡ greatest_section tasks.now funcs.now whole.now own.now priority task }
@@ -96,7 +96,7 @@ fn greatest_sections(
     own: &[Summary],
     priority: u32,
 ) -> u32
-    requires bodies { (t : ℕ) → t < length tasks.now → HasBody funcs.now t }
+    requires bodies { (t : ℕ) → t < length tasks.now → HasTaskBody funcs.now t }
     requires whole_count { length whole.now ≡ length funcs.now }
     requires own_count { length own.now ≡ length funcs.now }
     ensures { result ≡ greatest_sections tasks.now funcs.now whole.now own.now priority }
@@ -179,7 +179,7 @@ fn bounds_by(
     requires bodies { AreKnownBodies config.now app.now bodies.now }
     requires order { IsCallOrder app.now order.now }
     requires whole { AreSummaries config.now app.now None whole.now }
-    ensures { IfOk result (λ bounds. AreBounds config.now app.now bounds.items) }
+    ensures { IfOk result (λ bounds. AreToldBounds config.now app.now bounds.items) }
 {
     let mut bounds = Vec::new(alloc);
     for task in 0..config.tasks.items().len() {
@@ -198,7 +198,7 @@ fn bounds_of(
 ) -> Result<Vec<Bound>, NoMemory>
     requires well_formed { WellFormed config.now app.now }
     requires belong { RanksOf app.now ranks.now }
-    ensures { IfOk result (λ bounds. AreBounds config.now app.now bounds.items) }
+    ensures { IfOk result (λ bounds. AreToldBounds config.now app.now bounds.items) }
 {
     let order = callees_first(alloc, app, ranks)?;
     let bodies = bodies(alloc, config, app, &order)?;
@@ -209,7 +209,7 @@ fn bounds_of(
 /// The blocking bound of each task, 0 to 1,000,000 items, or that it is above that, or that there is none.
 pub fn bounds(alloc: Global, verified: &Verified, ranks: &Ranks) -> Result<List<Bound>, NoMemory>
     requires { RanksOf verified.now.app ranks.now }
-    ensures exact { IfOk result (AreBounds verified.now.config verified.now.app) }
+    ensures exact { IfOk result (AreToldBounds verified.now.config verified.now.app) }
     ensures kept { IfOk result (RunsKeepTold verified.now.config verified.now.app) }
 {
     let bounds = bounds_of(alloc, verified.config(), verified.app(), ranks)?;

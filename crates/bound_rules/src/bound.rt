@@ -1,6 +1,6 @@
 //! What is told of a task: the summary of its body, and the bound by a greatest size.
 ghost use Rattle.std.specs.Prelude.{◌≡◌, ◌<◌, length};
-ghost use Rattle.call_graph.specs.Tables.{HasBody};
+ghost use Rattle.call_graph.specs.Tables.{HasTaskBody};
 ghost use Rattle.bound_rules.specs.Tasks.{task_summary, told};
 
 use crate::sizes::Summary;
@@ -29,7 +29,7 @@ pub fn task_summary(
     task: usize,
 ) -> Summary
     requires inside { task < length tasks.now }
-    requires body { HasBody funcs.now task }
+    requires body { HasTaskBody funcs.now task }
     requires whole_count { length whole.now ≡ length funcs.now }
     requires own_count { length own.now ≡ length funcs.now }
     ensures { result ≡ task_summary tasks.now funcs.now whole.now own.now task }

@@ -14,14 +14,14 @@ use Rattle.osek_valid.specs.Apart.{static_priority}
 use Rattle.run_bounds.specs.Latency.{any_stretch, running_limit, latency, EntersBefore}
 use Rattle.run_bounds.proofs.Runs.{keeps_blocking_bounds}
 use Rattle.bound_rules.specs.declared.bound.Bound.{Bound}
-use Rattle.block_bounds.specs.Bounds.{AreBounds}
+use Rattle.block_bounds.specs.Bounds.{AreToldBounds}
 use Rattle.block_bounds.proofs.KeptTold.{told-bound}
 use Rattle.bounds_text.specs.BoundsText.{HasLines, bound_lines}
 use Rattle.bounds_text.specs.KeptRuns.{RunsKeepAll, IsBehindBoot, with_ticks, RunsKeepLatency}
 use Rattle.block_bounds.specs.Highest.{IsHighestAmong}
 use Rattle.bounds_text.specs.Latency.{IsHighestTask, HasLatency, last_line}
 
-pub runs-keep-all : (config : Config) (app : App) (bounds : List Bound) → WellFormed config app → AreBounds config app bounds → RunsKeepAll config app bounds
+pub runs-keep-all : (config : Config) (app : App) (bounds : List Bound) → WellFormed config app → AreToldBounds config app bounds → RunsKeepAll config app bounds
 runs-keep-all config app bounds code are image arrivals n sound h b is =
     let kept = keeps_blocking_bounds config app image arrivals n code sound in
     record {
@@ -46,7 +46,7 @@ running-behind config moment (e ∷ before) ended =
         ∙ ap (λ b. cond b (any_stretch config) (running_limit config moment before)) late
     by false is = ap (λ b. cond (b && leb moment e.stamp.at) (any_stretch config) (running_limit config moment before)) is
 
-pub runs-keep-latency : (config : Config) (app : App) (bounds : List Bound) (highest : Option ℕ) → WellFormed config app → AreBounds config app bounds
+pub runs-keep-latency : (config : Config) (app : App) (bounds : List Bound) (highest : Option ℕ) → WellFormed config app → AreToldBounds config app bounds
     → IsHighestTask config highest → RunsKeepLatency config app bounds highest
 runs-keep-latency config app bounds None code are is = tt
 runs-keep-latency config app bounds (Some h) code are is =
@@ -95,13 +95,13 @@ one-highest config (Some h) (Some k) a b = by (cases_eq h k)
 
 -- ---- the lines
 
-pub has_lines : (config : Config) (app : App) (bounds : List Bound) (text : List ℕ) → WellFormed config app → AreBounds config app bounds
+pub has_lines : (config : Config) (app : App) (bounds : List Bound) (text : List ℕ) → WellFormed config app → AreToldBounds config app bounds
     → text ≡ bound_lines config.tasks bounds (length config.tasks) → HasLines config app text
 has_lines config app bounds text code are lines =
     record { bounds = bounds; are_bounds = are; lines = lines; kept = runs-keep-all config app bounds code are }
 
 pub has_latency : (config : Config) (app : App) (bounds : List Bound) (highest : Option ℕ) (text : List ℕ) → WellFormed config app
-    → AreBounds config app bounds → IsHighestTask config highest → text ≡ bound_lines config.tasks bounds (length config.tasks) ++ last_line config bounds highest
+    → AreToldBounds config app bounds → IsHighestTask config highest → text ≡ bound_lines config.tasks bounds (length config.tasks) ++ last_line config bounds highest
     → HasLatency config app text
 has_latency config app bounds highest text code are is lines = record {
   bounds = bounds;

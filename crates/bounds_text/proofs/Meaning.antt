@@ -8,7 +8,7 @@ use Rattle.least_fault.specs.Order.{NoFault}
 use Rattle.code_rules.specs.WellFormed.{RuleFault}
 use Rattle.task_verify.specs.Accepted.{VerifiedCode}
 use Rattle.sloth_source.specs.RankedTexts.{HasRanks}
-use Rattle.sloth_source.specs.Texts.{AreAccepted, ErrorIs}
+use Rattle.sloth_source.specs.Texts.{AreAccepted, SourcesErrorIs}
 use Rattle.bounds_text.specs.BoundsText.{RulesErrorIs}
 
 pub accepted_code : (oil src : List ℕ) (config : Config) (app : App) (v : VerifiedCode) → HasRanks oil src config app → NoFault (RuleFault config app)
@@ -20,7 +20,7 @@ accepted_code oil src config app v ranked none e = subst (λ (x : VerifiedCode).
 
 -- why it is not verified is why the texts are refused
 pub refused_code : (oil src : List ℕ) (config : Config) (app : App) (error : BuildError) → HasRanks oil src config app → RulesErrorIs config app error
-    → ErrorIs oil src error
+    → SourcesErrorIs oil src error
 refused_code oil src config app (build_error.Refused refusal) ranked least =
     inr (record {
       config = config;

@@ -6,14 +6,14 @@ use Rattle.sloth_base.specs.Named.{declaration}
 use Rattle.sloth_source.proofs.Unique.{one_meaning}
 use Rattle.bound_rules.specs.declared.bound.Bound.{Bound}
 use Rattle.bound_rules.specs.declared.bound.Bound.TheVariants as bound
-use Rattle.block_bounds.specs.Bounds.{AreBounds}
+use Rattle.block_bounds.specs.Bounds.{AreToldBounds}
 use Rattle.block_bounds.proofs.OneTold.{one_told}
 use Rattle.bounds_text.specs.BoundsText.{bound_lines}
 use Rattle.bounds_text.specs.Latency.{IsHighestTask, HasLatency, OneLatencyText, latency_text, latency_line, last_line}
 use Rattle.bounds_text.proofs.Lines.{same-lines}
 use Rattle.bounds_text.proofs.Keeping.{one-highest}
 
-module _ (config : Config) (app : App) (one other : List Bound) (a : AreBounds config app one) (b : AreBounds config app other) where
+module _ (config : Config) (app : App) (one other : List Bound) (a : AreToldBounds config app one) (b : AreToldBounds config app other) where
   same-bound : (t : ℕ) → t < length config.tasks → get_or one t bound.Endless ≡ get_or other t bound.Endless
   same-bound t lt = one_told config app t (get_or one t bound.Endless) (get_or other t bound.Endless) (a.each t lt) (b.each t lt)
 

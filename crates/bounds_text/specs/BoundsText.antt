@@ -14,7 +14,7 @@ use Rattle.task_verify.specs.Accepted.{VerifiedCode}
 use Rattle.sloth_source.specs.Texts.{AreAccepted}
 use Rattle.bound_rules.specs.declared.bound.Bound.{Bound}
 use Rattle.bound_rules.specs.declared.bound.Bound.TheVariants as bound
-use Rattle.block_bounds.specs.Bounds.{AreBounds}
+use Rattle.block_bounds.specs.Bounds.{AreToldBounds}
 use Rattle.bounds_text.specs.KeptRuns.{RunsKeepAll}
 
 -- ---- task code
@@ -59,7 +59,7 @@ bound_lines tasks bounds (suc k) = bound_lines tasks bounds k ++ bound_line task
 -- these are the lines of the bounds of all tasks, and runs keep them
 pub record HasLines (config : Config) (app : App) (text : List ℕ) : Type 0 where
   pub bounds : List Bound
-  pub are_bounds : AreBounds config app bounds
+  pub are_bounds : AreToldBounds config app bounds
   pub lines : text ≡ bound_lines config.tasks bounds (length config.tasks)
   pub kept : RunsKeepAll config app bounds
 

@@ -8,7 +8,7 @@ use Rattle.sloth_source.specs.Texts.{AreAccepted}
 use Rattle.run_bounds.specs.Latency.{IsHighest, latency}
 use Rattle.bound_rules.specs.declared.bound.Bound.{Bound}
 use Rattle.bound_rules.specs.declared.bound.Bound.TheVariants as bound
-use Rattle.block_bounds.specs.Bounds.{AreBounds}
+use Rattle.block_bounds.specs.Bounds.{AreToldBounds}
 use Rattle.bounds_text.specs.BoundsText.{bound_lines}
 use Rattle.bounds_text.specs.KeptRuns.{RunsKeepAll, RunsKeepLatency}
 
@@ -41,7 +41,7 @@ pub record AreAllLines (config : Config) (bounds : List Bound) (text : List ℕ)
 -- these are the lines of the bounds of all tasks, and then that of the latency of the task of highest priority, and runs keep both
 pub record HasLatency (config : Config) (app : App) (text : List ℕ) : Type 0 where
   pub bounds : List Bound
-  pub are_bounds : AreBounds config app bounds
+  pub are_bounds : AreToldBounds config app bounds
   pub highest : Option ℕ
   pub is_highest : IsHighestTask config highest
   pub lines : text ≡ bound_lines config.tasks bounds (length config.tasks) ++ last_line config bounds highest

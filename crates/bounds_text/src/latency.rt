@@ -2,7 +2,7 @@
 ghost use Rattle.std.specs.Prelude.{◌≡◌, ◌<◌, length, IfOk, IfErr};
 ghost use Rattle.sloth_base.specs.ConfigRange.{InRange};
 ghost use Rattle.call_graph.specs.Ranks.{RanksOf};
-ghost use Rattle.sloth_source.specs.Texts.{ErrorIs};
+ghost use Rattle.sloth_source.specs.Texts.{SourcesErrorIs};
 ghost use Rattle.bounds_text.specs.BoundsText.{IsTellable, AreTellable};
 ghost use Rattle.bounds_text.specs.Latency.{IsHighestTask, HasLatency, IsLatencyText, latency_text, latency_line, last_line, AreAllLines};
 
@@ -122,7 +122,7 @@ pub fn latency_lines(alloc: Global, oil: &[u8], src: &[u8]) -> Result<Vec<u8>, B
     requires oil { length oil.now < 4294967295 }
     requires src { length src.now < 4294967295 }
     ensures text { IfOk result (λ text. IsLatencyText oil.now src.now text.items) }
-    ensures refused { IfErr result (ErrorIs oil.now src.now) }
+    ensures refused { IfErr result (SourcesErrorIs oil.now src.now) }
 {
     let checked = read_checked(alloc, oil, src)?;
     latency_of_code(alloc, &checked.verified, &checked.ranks)

@@ -10,7 +10,7 @@
 ghost use Rattle.std.specs.Prelude.{◌≡◌, ◌<◌, length, IfOk, IfErr};
 ghost use Rattle.code_rules.specs.AppRange.{AppInRange};
 ghost use Rattle.call_graph.specs.Ranks.{RanksOf};
-ghost use Rattle.sloth_source.specs.Texts.{AreAccepted, ErrorIs};
+ghost use Rattle.sloth_source.specs.Texts.{AreAccepted, SourcesErrorIs};
 ghost use Rattle.bounds_text.specs.BoundsText.{IsTellable, AreTellable, IsChecked, RulesErrorIs, HasLines, bound_text, bound_line, bound_lines, IsBoundsText};
 
 pub mod latency;
@@ -110,7 +110,7 @@ fn read_checked(alloc: Global, oil: &[u8], src: &[u8]) -> Result<Checked, BuildE
     requires src { length src.now < 4294967295 }
     ensures accepted { IfOk result (λ checked. AreAccepted oil.now src.now checked.verified.config checked.verified.app) }
     ensures belong { IfOk result (λ checked. RanksOf checked.verified.app checked.ranks) }
-    ensures refused { IfErr result (ErrorIs oil.now src.now) }
+    ensures refused { IfErr result (SourcesErrorIs oil.now src.now) }
 {
     let Ranked { config, app, ranks } = read_ranked(alloc, oil, src)?;
     checked_code(alloc, &config, &app, ranks)
@@ -133,7 +133,7 @@ pub fn bounds_text(alloc: Global, oil: &[u8], src: &[u8]) -> Result<Vec<u8>, Bui
     requires oil { length oil.now < 4294967295 }
     requires src { length src.now < 4294967295 }
     ensures text { IfOk result (λ text. IsBoundsText oil.now src.now text.items) }
-    ensures refused { IfErr result (ErrorIs oil.now src.now) }
+    ensures refused { IfErr result (SourcesErrorIs oil.now src.now) }
 {
     let checked = read_checked(alloc, oil, src)?;
     checked_text(alloc, &checked.verified, &checked.ranks)

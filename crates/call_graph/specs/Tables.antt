@@ -48,26 +48,26 @@ pub record IsTable (funcs : List Func) (depth : ℕ) (table : List ℕ) : Type 0
   pub calls : (f : ℕ) → f < length funcs → table_entry table f ≡ calls_to_depth funcs depth f
 
 -- the function that this operation calls is there
-abbrev pub IsKnown : List Func → Op → Type 0
-IsKnown funcs (op.Invoke g) = g < length funcs
-IsKnown funcs _ = Unit {0}
+abbrev pub IsKnownCall : List Func → Op → Type 0
+IsKnownCall funcs (op.Invoke g) = g < length funcs
+IsKnownCall funcs _ = Unit {0}
 
 -- few functions, with small frames, that call functions which are there
 pub record AreCallable (funcs : List Func) : Type 0 where
   pub few : length funcs ≤ body_limit
   pub frames : (f : ℕ) → f < length funcs → (func_of funcs f).frame_words ≤ frame_limit
-  pub callees : (f i : ℕ) → f < length funcs → i < length (func_of funcs f).items → IsKnown funcs (get_or (func_of funcs f).items i no_item).op
+  pub callees : (f i : ℕ) → f < length funcs → i < length (func_of funcs f).items → IsKnownCall funcs (get_or (func_of funcs f).items i no_item).op
 
 -- as many entries as functions, none above that of 64 calls
-pub record IsSmall (funcs : List Func) (table : List ℕ) : Type 0 where
+pub record IsTableInLimit (funcs : List Func) (table : List ℕ) : Type 0 where
   pub count : length table ≡ length funcs
   pub small : (f : ℕ) → table_entry table f ≤ 8448
 
 -- ---- tasks
 
 -- some function is the body of the task
-abbrev pub HasBody : List Func → ℕ → Type 0
-HasBody funcs t = (f : ℕ) × (f < length funcs) × ((func_of funcs f).task ≡ Some t)
+abbrev pub HasTaskBody : List Func → ℕ → Type 0
+HasTaskBody funcs t = (f : ℕ) × (f < length funcs) × ((func_of funcs f).task ≡ Some t)
 
 -- the bytes of a task by the table
 abbrev pub task_bytes : List Func → List ℕ → ℕ → ℕ

@@ -129,7 +129,7 @@ IsOp config app f (op.Serve call) = AreOperands config call.service call.object 
 -- ---- bodies and data
 
 -- a label of a body: it stands before an item or behind the last one
-pub record IsPlaced (config : Config) (f : Func) (l : Label) : Type 0 where
+pub record IsLabelPlaced (config : Config) (f : Func) (l : Label) : Type 0 where
   pub place : l.item ≤ length f.items
   pub holds : All (IsResource config) l.holds
 
@@ -137,7 +137,7 @@ pub record IsPlaced (config : Config) (f : Func) (l : Label) : Type 0 where
 pub record IsBody (config : Config) (app : App) (f : Func) : Type 0 where
   pub frame : f.frame_words ≤ frame_limit
   pub label_names : AreNames (map (λ l. l.name) f.labels)
-  pub labels : All (IsPlaced config f) f.labels
+  pub labels : All (IsLabelPlaced config f) f.labels
   pub items : All (λ item. IsOp config app f item.op) f.items
 
 -- each task has one body, and no body is an undeclared task's

@@ -18,7 +18,7 @@ use Rattle.image_file.proofs.Headers.{FitWords, same_with, words_fit}
 use Rattle.image_file.proofs.Unique.{Splits, four, lists, mark, mark_fits}
 use Rattle.image_file.proofs.Faulted.{one_body}
 use Rattle.elf_image.specs.Faults.{AreRight, Description, IsWithin, described_bytes}
-use Rattle.elf_image.specs.Reading.{AreRead, BeginsWith, IsDescription, description_at, numbers_before}
+use Rattle.elf_image.specs.Reading.{AreNamesAndMarks, HasDescriptionSizes, IsDescription, description_at, numbers_before}
 
 -- its numbers, and its parts: there is no memory
 abbrev pub sizes_of : Description → Sizes
@@ -37,7 +37,7 @@ sizes-fit d w = record {
   few_marks = w.few_marks;
 }
 
-pub begins : (d : Description) → IsWithin d → BeginsWith (described_bytes d) (sizes_of d)
+pub begins : (d : Description) → IsWithin d → HasDescriptionSizes (described_bytes d) (sizes_of d)
 unfolding four_bytes
 begins d w = record { within = sizes-fit d w; no_memory = refl; long = omega arith; are = refl }
 
@@ -53,13 +53,13 @@ same-numbers s t rest p q memory same =
     let k = four s.marks t.marks rest rest p.marks q.marks c.1 in
     same_with s.tasks t.tasks s.funcs t.funcs s.counters t.counters s.memory t.memory s.marks t.marks a.0 b.0 c.0 memory k.0
 
-pub one-numbers : (description : List ℕ) (s t : Sizes) → BeginsWith description s → BeginsWith description t → s ≡ t
+pub one-numbers : (description : List ℕ) (s t : Sizes) → HasDescriptionSizes description s → HasDescriptionSizes description t → s ≡ t
 one-numbers description s t h i =
     same-numbers s t (drop 16 description) (words_fit s h.within) (words_fit t i.within) (h.no_memory ∙ sym i.no_memory) (sym h.are ∙ i.are)
 
 -- numbers that are out of the limits are no description's
 pub no-numbers : (description : List ℕ) (s : Sizes) → FitWords s → s.memory ≡ 0 → description ≡ numbers_before s (drop 16 description) → (SizesFit s → ⊥)
-    → (t : Sizes) → ¬ (BeginsWith description t)
+    → (t : Sizes) → ¬ (HasDescriptionSizes description t)
 no-numbers description s fit none are out t has =
     let same = same-numbers s t (drop 16 description) fit (words_fit t has.within) (none ∙ sym has.no_memory) (sym are ∙ has.are) in
     out (subst SizesFit (sym same) has.within)
@@ -77,10 +77,10 @@ unfolding four_bytes
 behind-numbers d = refl
 
 -- its parts stand behind its numbers
-pub stands : (description : List ℕ) (s : Sizes) (d : Description) → BeginsWith description s → IsWithin d → description ≡ described_bytes d
+pub stands : (description : List ℕ) (s : Sizes) (d : Description) → HasDescriptionSizes description s → IsWithin d → description ≡ described_bytes d
     → PartsStand description 16 s (parts_of d) []
 stands description s d has w e =
-    let P : List ℕ → Type 0 = λ x. BeginsWith x (sizes_of d) in
+    let P : List ℕ → Type 0 = λ x. HasDescriptionSizes x (sizes_of d) in
     let same : sizes_of d ≡ s = one-numbers description (sizes_of d) s (subst P (sym e) (begins d w)) has in
     record {
       tasks = ap (λ (x : Sizes). x.tasks) same;
@@ -103,7 +103,7 @@ one-described d e w v same =
 pub marks-here : (file : List ℕ) (at count : ℕ) → at + count * 12 ≡ length file → length (take (count * 12) (drop (at + 0) file)) ≡ count * 12
 marks-here file at count ends = length-take-le (count * 12) (drop (at + 0) file) (let e = length-drop (at + 0) file in omega (arith, e, ends))
 
-module _ (description : List ℕ) (s : Sizes) (tasks funcs counters : List (List ℕ)) (at : ℕ) (has : BeginsWith description s)
+module _ (description : List ℕ) (s : Sizes) (tasks funcs counters : List (List ℕ)) (at : ℕ) (has : HasDescriptionSizes description s)
     (read : NamedPartsStand description 16 s tasks funcs counters at) where
   -- what was read up to the end is the description
   pub description-is : (count : ℕ) → count ≡ s.marks → at + count * 12 ≡ length description → IsDescription description tasks funcs counters at count
@@ -157,7 +157,7 @@ all-marks file at count ends =
     take_whole xs = ap (λ x. take (length xs) x) (sym (append-nil xs)) ∙ take-append_seam xs []
 
 pub right-read : (file : List ℕ) (tasks funcs counters : List (List ℕ)) (at count size : ℕ) (image : Image) → IsDescription file tasks funcs counters at count
-    → AreRead file tasks funcs counters at count size image → AreRight size (description_at file tasks funcs counters at count) image.marks
+    → AreNamesAndMarks file tasks funcs counters at count size image → AreRight size (description_at file tasks funcs counters at count) image.marks
 right-read file tasks funcs counters at count size image is read =
     let ends = is.ends in
     let counted : length image.marks * 12 ≡ count * 12 = ap (λ n. n * 12) read.counted in
@@ -173,7 +173,7 @@ right-read file tasks funcs counters at count size image is read =
 
 pub read-right : (file : List ℕ) (tasks funcs counters : List (List ℕ)) (at count size : ℕ) (memory : List ℕ) (marks : List Mark) → IsDescription file tasks funcs counters at count
     → AreRight size (description_at file tasks funcs counters at count) marks
-    → AreRead file tasks funcs counters at count size (record { tasks = tasks; funcs = funcs; counters = counters; memory = memory; marks = marks })
+    → AreNamesAndMarks file tasks funcs counters at count size (record { tasks = tasks; funcs = funcs; counters = counters; memory = memory; marks = marks })
 read-right file tasks funcs counters at count size memory marks is right =
     let ends = is.ends in
     let counted : length marks * 12 ≡ count * 12 = ap (λ n. n * 12) right.counted in

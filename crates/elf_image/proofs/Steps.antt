@@ -6,7 +6,7 @@ use Rattle.sloth_base.specs.declared.image.Image.{Image}
 use Rattle.image_file.specs.declared.sizes.Sizes.{Sizes}
 use Rattle.elf_image.specs.ElfText.{ElfText, note_bytes}
 use Rattle.elf_image.specs.Faults.{Description, IsElfErrorOf, HasNote, IsFramed, described_bytes}
-use Rattle.elf_image.specs.Reading.{AreRead, BeginsWith, IsContentsError, IsDescriptionError, IsDescription, IsNote, IsElfMarksError, IsNoteError, IsElfPartsError, description_at}
+use Rattle.elf_image.specs.Reading.{AreNamesAndMarks, HasDescriptionSizes, IsContentsError, IsDescriptionError, IsDescription, IsNote, IsElfMarksError, IsNoteError, IsElfPartsError, description_at}
 use Rattle.elf_image.specs.declared.fault.ElfFault.TheVariants as fault
 use Rattle.elf_image.specs.declared.fault.ElfFault.{ElfFault}
 use Rattle.image_file.specs.declared.fault.FileError.{FileError}
@@ -22,7 +22,7 @@ both-ok (Ok a) P Q R h p q = h a p q
 both-ok (Err e) P Q R h p q = tt
 
 -- parts that are missing are a fault of the description
-pub parts-miss : (f : FileError ElfFault) (description : List ℕ) (s : Sizes) → BeginsWith description s → IsElfPartsError f description 16 s → IsDescriptionError f description
+pub parts-miss : (f : FileError ElfFault) (description : List ℕ) (s : Sizes) → HasDescriptionSizes description s → IsElfPartsError f description 16 s → IsDescriptionError f description
 parts-miss (failure.Fault fault.E7) description s has h = λ d w e. h (parts_of d) [] (stands description s d has w e)
 parts-miss (failure.Fault fault.E1) description s has h = absurd h
 parts-miss (failure.Fault fault.E2) description s has h = absurd h
@@ -127,7 +127,7 @@ module _ (file : List ℕ) (size note : ℕ) (frame : IsFramed file size note) w
           ∙ ap (λ x. record { tasks = image.tasks; funcs = image.funcs; counters = image.counters; memory = x; marks = image.marks }) (sym m)
 
       -- names and marks that are right are an image's
-      pub elf-read : (image : Image) → AreRead (take n (drop 20 (drop (116 + size) file))) tasks funcs counters at count size image
+      pub elf-read : (image : Image) → AreNamesAndMarks (take n (drop 20 (drop (116 + size) file))) tasks funcs counters at count size image
           → image.memory ≡ memory_in file size → ElfText file image
       elf-read image read memory =
           let d : Description = description_at (take n (drop 20 (drop (116 + size) file))) tasks funcs counters at count in

@@ -48,7 +48,7 @@ abbrev pub numbers_before : Sizes → List ℕ → List ℕ
 numbers_before sizes rest = flat_map four_bytes (sizes.tasks ∷ sizes.funcs ∷ sizes.counters ∷ sizes.marks ∷ []) ++ rest
 
 -- a description begins with these numbers, within the limits; it has no memory
-pub record BeginsWith (description : List ℕ) (sizes : Sizes) : Type 0 where
+pub record HasDescriptionSizes (description : List ℕ) (sizes : Sizes) : Type 0 where
   pub within : SizesFit sizes
   pub no_memory : sizes.memory ≡ 0
   pub long : 16 ≤ length description
@@ -84,7 +84,7 @@ pub record AreRightMarks (file : List ℕ) (tasks funcs counters : List (List �
   pub ascending : AreAscending marks
 
 -- the names and marks that were read there are right for an image with so many bytes of memory
-pub record AreRead (file : List ℕ) (tasks funcs counters : List (List ℕ)) (at count : ℕ) (size : ℕ) (image : Image) : Type 0 where
+pub record AreNamesAndMarks (file : List ℕ) (tasks funcs counters : List (List ℕ)) (at count : ℕ) (size : ℕ) (image : Image) : Type 0 where
   pub tasks_are : image.tasks ≡ tasks
   pub funcs_are : image.funcs ≡ funcs
   pub counters_are : image.counters ≡ counters
@@ -96,6 +96,6 @@ pub record AreRead (file : List ℕ) (tasks funcs counters : List (List ℕ)) (a
 -- what an error says of the names and marks: the fault, that no marks there are right with these names
 abbrev pub IsContentsError : FileError ElfFault → List ℕ → (tasks funcs counters : List (List ℕ)) → ℕ → ℕ → ℕ → Type 0
 IsContentsError (failure.Fault fault.E8) file tasks funcs counters at count size =
-    (image : Image) → ¬ (AreRead file tasks funcs counters at count size image)
+    (image : Image) → ¬ (AreNamesAndMarks file tasks funcs counters at count size image)
 IsContentsError (failure.Fault _) file tasks funcs counters at count size = ⊥
 IsContentsError failure.Memory file tasks funcs counters at count size = ⊤

@@ -7,7 +7,7 @@ ghost use Rattle.sloth_base.specs.declared.image.Image.{Image as ImageOf};
 ghost use Rattle.sloth_base.specs.MemoryMap.{memory_bytes};
 ghost use Rattle.elf_image.specs.ElfText.{ElfText, note_bytes};
 ghost use Rattle.elf_image.specs.Faults.{IsElfErrorOf, IsFirstElfFault};
-ghost use Rattle.elf_image.specs.Reading.{IsFramedAt, IsElfPartsError, IsElfMarksError, IsNote, IsNoteError, BeginsWith, IsDescription, IsDescriptionError, AreRead, AreRightMarks, IsContentsError};
+ghost use Rattle.elf_image.specs.Reading.{IsFramedAt, IsElfPartsError, IsElfMarksError, IsNote, IsNoteError, HasDescriptionSizes, IsDescription, IsDescriptionError, AreNamesAndMarks, AreRightMarks, IsContentsError};
 ghost use Rattle.elf_image.specs.declared.fault.ElfFault.{ElfFault as FaultOf};
 ghost use Rattle.image_file.specs.declared.fault.FileError.TheVariants as failed_by;
 
@@ -116,8 +116,8 @@ fn read_note(alloc: Global, note: &[u8]) -> Result<usize, ElfError>
 
 // The numbers of a description, where it has them and they are within the limits.
 fn read_numbers(description: &[u8]) -> Option<Sizes>
-    ensures read { IfSome result (λ sizes. BeginsWith description.now sizes) }
-    ensures none { IfNone result ((sizes : AnySizes) → ¬ (BeginsWith description.now sizes)) }
+    ensures read { IfSome result (λ sizes. HasDescriptionSizes description.now sizes) }
+    ensures none { IfNone result ((sizes : AnySizes) → ¬ (HasDescriptionSizes description.now sizes)) }
 {
     if description.len() < NUMBERS {
         return None;
@@ -137,7 +137,7 @@ fn read_numbers(description: &[u8]) -> Option<Sizes>
 
 // The parts of a description behind its numbers, or the fault that they are missing.
 fn parts_behind(alloc: Global, description: &[u8], sizes: &Sizes) -> Result<Outline, ElfError>
-    requires { BeginsWith description.now sizes.now }
+    requires { HasDescriptionSizes description.now sizes.now }
     ensures read { IfOk result (λ outline.
         NamedPartsStand description.now 16 sizes.now outline.tasks.items outline.funcs.items outline.counters.items outline.memory) }
     ensures count { IfOk result (λ outline. outline.count ≡ sizes.now.marks) }
@@ -234,7 +234,7 @@ fn read_contents(
     requires parts { IsDescription file.now outline.tasks.items outline.funcs.items outline.counters.items outline.memory outline.count }
     requires fits { length memory.now ≤ memory_bytes }
     ensures read { IfOk result (λ image.
-        AreRead file.now outline.tasks.items outline.funcs.items outline.counters.items outline.memory outline.count (length memory.now) image) }
+        AreNamesAndMarks file.now outline.tasks.items outline.funcs.items outline.counters.items outline.memory outline.count (length memory.now) image) }
     ensures memory { IfOk result (λ image. image.memory ≡ memory.now) }
     ensures failed { IfErr result (λ failure.
         IsContentsError failure file.now outline.tasks.items outline.funcs.items outline.counters.items outline.memory outline.count

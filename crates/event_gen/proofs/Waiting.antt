@@ -13,7 +13,7 @@ use Rattle.rv32_instr.specs.Ram.{word_at, with_word, with_words}
 use Rattle.masked_code.specs.Place.{offset_state}
 use Rattle.masked_code.specs.Masked.{FromOpening}
 use Rattle.masked_code.specs.Pieces.{saving_code, registers_from}
-use Rattle.masked_code.specs.Kernel.{IsBelow, leaving_code, masking}
+use Rattle.masked_code.specs.Kernel.{IsContextBelow, leaving_code, masking}
 use Rattle.masked_code.proofs.Resumption.{IsResumedState}
 use Rattle.masked_code.proofs.Owes.{◌▸◌, writes, loads, stores, sets_enabled, IsApart, Owes}
 use Rattle.masked_code.proofs.Words.{word_at-other, word_at-others}
@@ -110,7 +110,7 @@ module _ (offset task place own : ℕ) (c : Core) (h : MayWait offset task place
   kept_place : word_at ram place ≡ word_at c.ram place
   kept_place = subst (λ p. word_at ram p ≡ word_at c.ram p) zero_more (kept_below 0 (omega arith))
 
-  still_below : IsBelow place d
+  still_below : IsContextBelow place d
   still_below =
       let b = h.below in
       record {

@@ -11,7 +11,7 @@ use Rattle.rv32_instr.specs.Ram.{word_at, with_word, with_words}
 use Rattle.masked_code.specs.Masked.{FromOpening}
 use Rattle.masked_code.specs.Place.{offset_state}
 use Rattle.masked_code.specs.Pieces.{registers_from}
-use Rattle.masked_code.specs.Kernel.{IsBelow, IsOpenedCore}
+use Rattle.masked_code.specs.Kernel.{IsContextBelow, IsOpenedCore}
 use Rattle.block_parts.specs.ServiceCode.{IsServiceCode}
 use Rattle.block_parts.specs.Back.{CanGoBack, BackEffect, a0}
 use Rattle.event_gen.specs.ClearEvent.{mask_register}
@@ -22,7 +22,7 @@ pub record MayWait (offset task place own : ℕ) (code : List InstrKind) (core :
   pub goes_back : CanGoBack offset code core
   pub runs : word_at core.ram cur ≡ task + 1
   pub is_task : task < task_limit
-  pub below : IsBelow place core
+  pub below : IsContextBelow place core
   pub x2 : slice_index core.registers 2 ≡ memory_base + (own + context_bytes)
   pub aligned : own % 4 ≡ 0
   pub behind : idle_context ≤ own

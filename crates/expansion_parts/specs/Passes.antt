@@ -7,7 +7,7 @@ use Rattle.sloth_base.specs.Limits.{item_limit, frame_limit}
 use Rattle.expansion_parts.specs.Long.{BranchSet, size_at, place, IsBranchTo, IsNear, IsSufficient, IsInSet, AreLongBranches}
 
 -- what is asked of a body: that its words can be counted, and that its labels are in it
-pub record IsSmall (app : App) (body : Func) : Type 0 where
+pub record IsCountable (app : App) (body : Func) : Type 0 where
   pub frames : (func : ℕ) → (function app func).frame_words ≤ frame_limit
   pub items : length body.items ≤ item_limit
   pub labels : (label : ℕ) → (label_of body label).item ≤ length body.items

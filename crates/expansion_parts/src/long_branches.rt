@@ -2,7 +2,7 @@
 ghost use Rattle.std.specs.Prelude.{◌≡◌, ◌<◌, ◌↔◌, length, IfOk, IsTrue};
 ghost use Rattle.sloth_base.specs.Named.{label_of};
 ghost use Rattle.expansion_parts.specs.Long.{IsInBranchReach};
-ghost use Rattle.expansion_parts.specs.Passes.{set_in_list, IsSmall, ArePlaces, AreItemLengths, IsFarMark, IsPass, AreShortest};
+ghost use Rattle.expansion_parts.specs.Passes.{set_in_list, IsCountable, ArePlaces, AreItemLengths, IsFarMark, IsPass, AreShortest};
 
 use crate::lengths::size;
 use sloth_base::app::{App, Func, Op};
@@ -10,7 +10,7 @@ use std::alloc::{AllocError, Global};
 
 /// The words before each item and before the end.
 fn places(alloc: Global, app: &App, body: &Func, long: &[bool]) -> Result<Vec<u32>, AllocError>
-    requires small { IsSmall app.now body.now }
+    requires small { IsCountable app.now body.now }
     requires same { length long.now ≡ length body.now.items }
     ensures { IfOk result (λ places. ArePlaces app.now body.now long.now places.items) }
 {
@@ -46,7 +46,7 @@ fn reaches(from: u32, to: u32) -> bool
 
 /// Whether an item is a branch outside the set that does not reach.
 fn is_far(app: &App, body: &Func, long: &[bool], places: &[u32], index: usize) -> bool
-    requires small { IsSmall app.now body.now }
+    requires small { IsCountable app.now body.now }
     requires inside { index < length body.now.items }
     requires same { length long.now ≡ length body.now.items }
     requires at { ArePlaces app.now body.now long.now places.now }
@@ -70,7 +70,7 @@ struct Passed {
 
 /// Lengthens each short branch that does not reach.
 fn pass(alloc: Global, app: &App, body: &Func, long: &[bool]) -> Result<Passed, AllocError>
-    requires small { IsSmall app.now body.now }
+    requires small { IsCountable app.now body.now }
     requires same { length long.now ≡ length body.now.items }
     ensures { IfOk result (λ pass. IsPass app.now body.now long.now pass.long.items pass.changed) }
 {
@@ -90,7 +90,7 @@ fn pass(alloc: Global, app: &App, body: &Func, long: &[bool]) -> Result<Passed, 
 
 /// The lengths of the items that a set gives.
 fn lengths(alloc: Global, app: &App, body: &Func, long: &[bool]) -> Result<Vec<u32>, AllocError>
-    requires small { IsSmall app.now body.now }
+    requires small { IsCountable app.now body.now }
     requires same { length long.now ≡ length body.now.items }
     ensures { IfOk result (λ lengths. AreItemLengths app.now body.now (set_in_list long.now) lengths.items) }
 {
@@ -104,7 +104,7 @@ fn lengths(alloc: Global, app: &App, body: &Func, long: &[bool]) -> Result<Vec<u
 
 /// The lengths of the items of a body, with as few long branches as can be.
 pub fn shortest(alloc: Global, app: &App, body: &Func) -> Result<Vec<u32>, AllocError>
-    requires { IsSmall app.now body.now }
+    requires { IsCountable app.now body.now }
     ensures { IfOk result (λ lengths. AreShortest app.now body.now lengths.items) }
 {
     let mut long = vec![in alloc; false; body.items.items().len()]?;

@@ -30,7 +30,7 @@ use Rattle.asm_lines.specs.declared.operands.Operand.TheVariants.{Name}
 use Rattle.asm_lines.specs.declared.source_line.SourceLine.{SourceLine}
 use Rattle.asm_lines.specs.declared.source_line.SourceLine.TheVariants.{Statement}
 use Rattle.statement_forms.specs.declared.forms.Mnemonic.TheVariants as m
-use Rattle.asm_lines.specs.Faults.{is_a1, after_line, is_end_inside, FaultAt, SourceFault, TextFault, source_lines}
+use Rattle.asm_lines.specs.Faults.{is_a1, after_line, is_end_inside, FaultAt, SourceFault, SourceLinesFault, source_lines}
 use Rattle.asm_scopes.specs.declared.scope.Scope.{Scope}
 use Rattle.asm_scopes.specs.declared.scope.Kind.TheVariants as kind
 use Rattle.asm_scopes.specs.Statements.{is_label, name_of, written_name}
@@ -161,7 +161,7 @@ module _ (config : Config) (range : InRange config) (text : List ℕ) (before ap
   abbrev out : List ℕ
   out = filled_text text config app
 
-  lines_none : NoFault (TextFault text)
+  lines_none : NoFault (SourceLinesFault text)
   lines_none r f = has.no_fault r (inl f)
 
   names_none : NoFault (NameFault config (source_lines text))

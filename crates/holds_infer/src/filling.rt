@@ -5,7 +5,7 @@ ghost use Rattle.text_pieces.specs.Names.{referent};
 ghost use Rattle.least_fault.specs.Order.{NoFault};
 ghost use Rattle.asm_lines.specs.Lines.{without_returns};
 ghost use Rattle.asm_lines.specs.SourceLines.{source_line};
-ghost use Rattle.asm_lines.specs.Faults.{source_lines, TextFault};
+ghost use Rattle.asm_lines.specs.Faults.{source_lines, SourceLinesFault};
 ghost use Rattle.asm_scopes.specs.Statements.{is_label};
 ghost use Rattle.code_rules.specs.AppRange.{AppInRange};
 ghost use Rattle.code_rules.specs.WellFormed.{WellFormed};
@@ -84,7 +84,7 @@ fn labels_behind(line: &SourceLine, number: usize) -> usize
 // What the lines of a text are, in which there is no fault, so that only memory can be wanting.
 fn lines_of(alloc: Global, text: &[u8]) -> Result<List<SourceLine>, NoMemory>
     requires short { length text.now < 4294967295 }
-    requires none { NoFault (TextFault text.now) }
+    requires none { NoFault (SourceLinesFault text.now) }
     ensures { IfOk result (λ lines. lines ≡ source_lines text.now) }
 {
     match read(alloc, text) {

@@ -2,7 +2,7 @@
 ghost use Rattle.std.specs.Prelude.{◌≡◌, ◌≢◌, ◌≤◌, ◌++◌, ◌↔◌, ℕ, List as Sequence, IfOk, IfErr, IfSome, IfNone, IsTrue, Decides, Contains, length, drop};
 ghost use Rattle.image_file.specs.ImageText.{name_bytes};
 ghost use Rattle.image_file.specs.Reading.{NamesStand, IsNamesError, NameEnds};
-ghost use Rattle.sloth_base.specs.ImageRange.{AreNames, AreApart};
+ghost use Rattle.sloth_base.specs.ImageRange.{AreNames, AreNamesApart};
 ghost use Rattle.image_file.specs.Parts.{AreRightNames};
 
 use crate::fault::{ImageError, ImageFault};
@@ -70,7 +70,7 @@ fn is_among(bytes: &[u8], names: &[Name]) -> bool
 
 // Whether none of the names is one of the others.
 fn are_apart(names: &[Name], others: &[Name]) -> bool
-    ensures { Decides result (AreApart names.now others.now) }
+    ensures { Decides result (AreNamesApart names.now others.now) }
 {
     names.iter().all(|name| !is_among(name.bytes(), others))
 }

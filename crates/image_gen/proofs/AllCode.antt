@@ -26,7 +26,7 @@ use Rattle.code_rules.specs.AppRange.{IsOp, IsRegister}
 use Rattle.rv32_instr.specs.declared.InstrKind.{InstrKind}
 use Rattle.rv32_instr.specs.declared.block.Block.{Block}
 use Rattle.expansion_parts.specs.Expansion.{block_address}
-use Rattle.rv32_expand.specs.InPlace.{IsItem, item_mark, mark_kind, mark_number}
+use Rattle.rv32_expand.specs.InPlace.{IsAppItem, item_mark, mark_kind, mark_number}
 use Rattle.rv32_expand.specs.Sizes.{items_before}
 use Rattle.service_gen.specs.Block.{further_marks}
 use Rattle.block_parts.specs.Marks.{opening, back_mark}
@@ -201,7 +201,7 @@ module _ (config : Config) (app : App) (levels : Levels) (map : Map) (may : MayG
       Contains-append_right (vectors ∷ boot ∷ idle ∷ []) (starts ++ (counted ++ (served ++ own))) b
       (Contains-append_right starts (counted ++ (served ++ own)) b (Contains-append_right counted (served ++ own) b (Contains-append_right served own b c)))
 
-  has_service : (func item : ℕ) (call : Call) → IsItem app func item → operation app func item ≡ op.Serve call
+  has_service : (func item : ℕ) (call : Call) → IsAppItem app func item → operation app func item ≡ op.Serve call
       → HasBlockWith all (block_address map.places call.service call.object)
       (opening (block_address map.places call.service call.object) (code_of call.service) ∷ further_marks call.service (block_address map.places call.service call.object))
       (IsAnyServiceBlock config call.service call.object levels)
@@ -282,7 +282,7 @@ module _ (config : Config) (app : App) (levels : Levels) (map : Map) (may : MayG
   one_mark : (b : Block) (m : Mark) → b.marks ≡ m ∷ [] → InFormat m → MarksInFormat config app b
   one_mark b m e o = subst (All InFormat) (sym e) (All-cons InFormat m [] o (All-nil InFormat))
 
-  item_format : (func index : ℕ) → IsItem app func index → MarksInFormat config app (item_block app map.places func index)
+  item_format : (func index : ℕ) → IsAppItem app func index → MarksInFormat config app (item_block app map.places func index)
   item_format func index is =
       let word = may.planned.covers.items func index is in
       let few = few_items app (config, may.well_formed) func is.declared in

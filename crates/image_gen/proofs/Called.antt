@@ -21,7 +21,7 @@ use Rattle.code_rules.specs.AppRange.{IsObject, AreOperands, IsOp}
 use Rattle.code_rules.specs.WellFormed.{WellFormed}
 use Rattle.code_rules.proofs.Objects.{object_number}
 use Rattle.stack_bounds.specs.Bounds.{AreBounds}
-use Rattle.rv32_expand.specs.InPlace.{IsItem}
+use Rattle.rv32_expand.specs.InPlace.{IsAppItem}
 use Rattle.block_parts.proofs.Objects.{code_few}
 use Rattle.service_blocks.specs.Calls.{IsOfKind, IsCalledWith}
 use Rattle.mem_map.specs.Wanted.{wanted_blocks}
@@ -42,7 +42,7 @@ has_code config range object.Resource number h = object_number config range obje
 has_code config range object.Alarm number h = h
 
 -- what an item calls has code
-pub called_with : (config : Config) (app : App) → WellFormed config app → (func item : ℕ) (call : Call) → IsItem app func item
+pub called_with : (config : Config) (app : App) → WellFormed config app → (func item : ℕ) (call : Call) → IsAppItem app func item
     → operation app func item ≡ op.Serve call → IsCalledWith config call.service call.object
 called_with config app well func item call is e =
     let own = (well.in_range.bodies func no_function is.declared).items item no_item is.inside in
@@ -100,7 +100,7 @@ module _ (config : Config) (app : App) (well : WellFormed config app) where
       record { service = c.call.service; is = ap service_of code ∙ of_code c.call.service; called_with = subst (IsCalledWith config c.call.service) (sym object) has }
 
   -- what an item calls is wanted
-  pub calls : (func item : ℕ) (call : Call) → IsItem app func item → operation app func item ≡ op.Serve call
+  pub calls : (func item : ℕ) (call : Call) → IsAppItem app func item → operation app func item ≡ op.Serve call
       → (call.object < block_objects) × (get_or (wanted_blocks app) (block_number call.service call.object) false ≡ true)
   calls func item call is e =
       let small = few_of_kind config well.in_range.configuration (object_kind call.service) call.object (called_with config app well func item call is e) in

@@ -6,7 +6,7 @@ use Rattle.std.proofs.lemmas.List.{length-append}
 use Rattle.std.proofs.lemmas.List.Elements.{All-head, All-tail}
 use Rattle.std.proofs.lemmas.List.Sorted.{All-permutation, length_permutation}
 use Rattle.std.proofs.Math.ListN.{length-map}
-use Rattle.sloth_base.specs.ImageRange.{AreApart, AreFields, AreNames, InFormat, IsMark, service_limit}
+use Rattle.sloth_base.specs.ImageRange.{AreNamesApart, AreFields, AreNames, InFormat, IsMark, service_limit}
 use Rattle.sloth_base.specs.declared.app.App.{App}
 use Rattle.sloth_base.specs.declared.app.Func.{Func}
 use Rattle.sloth_base.specs.declared.config.Config.{Config}
@@ -16,7 +16,7 @@ use Rattle.sloth_base.specs.declared.image.Image.{Image}
 use Rattle.sloth_base.specs.declared.places.Levels.{Levels}
 use Rattle.sloth_region.specs.declared.map.Map.{Map}
 use Rattle.rv32_instr.specs.declared.block.Block.{Block}
-use Rattle.mem_map.specs.Sections.{IsInside, block_section, marks_of}
+use Rattle.mem_map.specs.Sections.{IsSectionInside, block_section, marks_of}
 use Rattle.sloth_link.specs.Linked.{datum_section}
 use Rattle.sloth_link.proofs.Written.{code_bytes_length, front_of}
 use Rattle.sloth_link.proofs.Standing.{all_marks}
@@ -43,7 +43,7 @@ module _ (config : Config) (app : App) (levels : Levels) (map : Map) (may : MayG
 
   marks_fit : All (IsMark (service_limit (length image.counters)) (length image.funcs) (length image.memory)) image.marks
   marks_fit =
-      let inside = front_of (IsInside h.size) block_section h.blocks (prelude.map datum_section h.symbols) h.linked.room.inside in
+      let inside = front_of (IsSectionInside h.size) block_section h.blocks (prelude.map datum_section h.symbols) h.linked.room.inside in
       let size = h.linked.linked.size_is in
       All-permutation (IsMark (service_limit (length image.counters)) (length image.funcs) (length image.memory)) (marks_of h.blocks) image.marks h.marks_are
       (all_marks (IsMark (service_limit (length image.counters)) (length image.funcs) (length image.memory)) h.blocks
@@ -83,7 +83,7 @@ module _ (config : Config) (app : App) (levels : Levels) (map : Map) (may : MayG
         functions = subst AreNames (sym functions) range.func_names;
         few_counters = omega (arith, counted, few_counters);
         counters = subst AreNames (sym counters) range.configuration.counter_names;
-        counters_apart = subst (λ names. AreApart names image.tasks) (sym counters) (subst (AreApart _) (sym tasks) range.configuration.counters_apart);
+        counters_apart = subst (λ names. AreNamesApart names image.tasks) (sym counters) (subst (AreNamesApart _) (sym tasks) range.configuration.counters_apart);
         memory_fits = omega (arith, size, small);
         whole_words = omega (arith, size, even);
         few_marks = omega (arith, moved, few, blocks);

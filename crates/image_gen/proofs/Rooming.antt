@@ -26,7 +26,7 @@ use Rattle.prologue_gen.proofs.BothKinds.{length_is}
 use Rattle.rv32_instr.specs.declared.InstrKind.{InstrKind}
 use Rattle.rv32_instr.specs.declared.block.Block.{Block}
 use Rattle.expansion_parts.specs.Expansion.{is_long, item_address}
-use Rattle.rv32_expand.specs.InPlace.{IsItem, item_mark}
+use Rattle.rv32_expand.specs.InPlace.{IsAppItem, item_mark}
 use Rattle.rv32_expand.specs.Sizes.{items_before}
 use Rattle.expansion_parts.proofs.Counts.{expanded_some}
 use Rattle.service_gen.specs.Block.{further_marks}
@@ -311,7 +311,7 @@ module _ (config : Config) (app : App) (levels : Levels) (map : Map) (may : MayG
 
   -- ---- items
 
-  item_room : (func index : ℕ) → IsItem app func index
+  item_room : (func index : ℕ) → IsAppItem app func index
       → FitsRoom (record { base = item_address map.places func index; len = code_byte_count (get_or may.planned.lengths.items (items_before app.funcs func + index) 0) }) (item_block app map.places func index)
   item_room func index is =
       let word = may.planned.covers.items func index is in
@@ -336,7 +336,7 @@ module _ (config : Config) (app : App) (levels : Levels) (map : Map) (may : MayG
           → FitsRoom (get_or (extents_of map.places.items (prelude.map code_byte_count may.planned.lengths.items)) k no_extent) (get_or (item_blocks app map.places (length app.funcs)) k none)
       one k l m same =
           let at = located app.funcs (length app.funcs) k l in
-          let is : IsItem app at.func at.index = record { declared = at.declared; inside = at.inside } in
+          let is : IsAppItem app at.func at.index = record { declared = at.declared; inside = at.inside } in
           let block : get_or (item_blocks app map.places (length app.funcs)) k none ≡ item_block app map.places at.func at.index =
           ap (λ j. get_or (item_blocks app map.places (length app.funcs)) j none) at.is ∙ block_at app map.places (length app.funcs) at.func at.index none at.declared at.inside in
           let base : item_address map.places at.func at.index ≡ get_or map.places.items k 0 =

@@ -4,7 +4,7 @@ use Rattle.sloth_base.specs.Named.{function, operation}
 use Rattle.sloth_base.specs.declared.app.App.{App}
 use Rattle.sloth_base.specs.declared.places.Places.{Places}
 use Rattle.expansion_parts.specs.Expansion.{expansion, is_long, item_address}
-use Rattle.rv32_expand.specs.InPlace.{IsItem}
+use Rattle.rv32_expand.specs.InPlace.{IsAppItem}
 use Rattle.expansion_parts.specs.Long.{size, target_of}
 use Rattle.rv32_expand.specs.Sizes.{AgreeWithSizes, AreItemSizes, IsVerified, items_before}
 use Rattle.expansion_parts.proofs.Counts.{size_is}
@@ -12,7 +12,7 @@ use Rattle.expansion_parts.proofs.Growth.{size_alike}
 use Rattle.rv32_expand.proofs.Least.{least_is_one}
 use Rattle.rv32_expand.proofs.Verified.{least_told}
 
-pub size_of_item : (app : App) → IsVerified app → (places : Places) → AgreeWithSizes app places → (sizes : List ℕ) → AreItemSizes app sizes → (func index : ℕ) → IsItem app func index
+pub size_of_item : (app : App) → IsVerified app → (places : Places) → AgreeWithSizes app places → (sizes : List ℕ) → AreItemSizes app sizes → (func index : ℕ) → IsAppItem app func index
     → length (expansion app places func index) ≡ get_or sizes (items_before app.funcs func + index) 0
 size_of_item app verified places agree sizes are func index is =
     size_is app places func (item_address places func index) (is_long places func index) (operation app func index)

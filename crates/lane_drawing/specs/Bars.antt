@@ -23,7 +23,7 @@ AreBars looks from to [] = IsEmpty looks from to
 AreBars looks from to (bar ∷ bars) = IsBar looks from to bar × AreBars looks bar.to to bars
 
 -- a bar's counts lie in those from one to below another
-pub record IsInside (from to : ℕ) (bar : Bar) : Type 0 where
+pub record IsBarInside (from to : ℕ) (bar : Bar) : Type 0 where
   pub behind : from ≤ bar.from
   pub some : bar.from < bar.to
   pub within : bar.to ≤ to

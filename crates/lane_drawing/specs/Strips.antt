@@ -39,8 +39,8 @@ pub record IsStrip (looks : ℕ → Option Look) (from count : ℕ) (strip : Lan
   pub apart : HasEndedBars count strip.shown strip.bars
 
 -- it stands at the first count, whatever is shown
-abbrev pub IsFresh : (from : ℕ) → Lane → Type 0
-IsFresh from strip = (looks : ℕ → Option Look) → IsStrip looks from from strip
+abbrev pub IsFreshStrip : (from : ℕ) → Lane → Type 0
+IsFreshStrip from strip = (looks : ℕ → Option Look) → IsStrip looks from from strip
 
 -- a strip at a count goes on with a look to the next
 abbrev pub ShowsMore : (count : ℕ) → Option Look → (old new : Lane) → Type 0

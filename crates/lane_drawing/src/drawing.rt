@@ -2,7 +2,7 @@
 ghost use Rattle.std.specs.Prelude.{◌≡◌, ◌≤◌, ◌++◌, OnOk, All, length};
 ghost use Rattle.std.specs.List.{flat_map};
 ghost use Rattle.sloth_base.specs.Limits.{name_limit};
-ghost use Rattle.lane_drawing.specs.Bars.{IsInside};
+ghost use Rattle.lane_drawing.specs.Bars.{IsBarInside};
 ghost use Rattle.lane_drawing.specs.Scale.{IsScale};
 ghost use Rattle.lane_drawing.specs.Drawing.{look_class, look_word, look_height, bar_line, lane_line, shown_arrivals, is_shown};
 ghost use Rattle.lane_drawing.specs.Arrivals.{arrival_line};
@@ -57,7 +57,7 @@ fn bar_line(scale: Scale, name: &[u8], middle: u32, bar: Bar) -> LineText
     requires scale { IsScale scale }
     requires name { length name.now ≤ name_limit }
     requires low { 12 ≤ middle }
-    requires inside { IsInside scale.from scale.to bar }
+    requires inside { IsBarInside scale.from scale.to bar }
     ensures { result ≡ bar_line scale name.now middle bar }
 {
     let left = scale.place(bar.from);
@@ -124,7 +124,7 @@ pub fn push_lane(
     requires name { length name.now ≤ name_limit }
     requires high { 12 ≤ middle }
     requires low { middle ≤ 2000 }
-    requires inside { All (IsInside scale.from scale.to) bars.now }
+    requires inside { All (IsBarInside scale.from scale.to) bars.now }
     ensures { OnOk result (text.new.items ≡ text.old.items ++ (lane_line scale name.now middle ++ flat_map (bar_line scale name.now middle) bars.now)) }
 {
     text.extend_from_slice(lane_line(scale, name, middle).bytes())?;

@@ -1,6 +1,6 @@
 //! The bars of a lane, as its counts come.
 ghost use Rattle.std.specs.Prelude.{◌≡◌, ◌++◌, OnOk, true, false};
-ghost use Rattle.lane_drawing.specs.Strips.{IsFresh, ShowsMore, last_bar};
+ghost use Rattle.lane_drawing.specs.Strips.{IsFreshStrip, ShowsMore, last_bar};
 
 use crate::bars::{Bar, Look};
 use sloth_base::memory::NoMemory;
@@ -33,7 +33,7 @@ impl Model for Strip {
 impl Strip {
     /// A lane that has shown nothing.
     pub fn new(alloc: Global, from: u32) -> Strip
-        ensures { IsFresh from result }
+        ensures { IsFreshStrip from result }
     {
         Strip {
             bars: Vec::new(alloc),

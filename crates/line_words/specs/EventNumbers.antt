@@ -19,10 +19,10 @@ pub record IsNumberOrNone (count n : ℕ) : Type 0 where
   pub names : (n < count) ⊎ (n ≡ 4294967295)
 
 -- the numbers in an event, with so many tasks, functions and counters
-abbrev pub HasNumbers : (tasks functions counters : ℕ) → Event → Type 0
-HasNumbers tasks functions counters (event.Run t function item result) =
+abbrev pub HasEventNumbers : (tasks functions counters : ℕ) → Event → Type 0
+HasEventNumbers tasks functions counters (event.Run t function item result) =
     IsNumberOrNone tasks t × IsNameNumber functions function × Has32Bits item × Has32Bits result
-HasNumbers tasks functions counters (event.Call t called status) = IsNumberOrNone tasks t × Has32Bits status
-HasNumbers tasks functions counters (event.Due c) = IsNameNumber counters c
-HasNumbers tasks functions counters (event.Tick c) = IsNumberOrNone counters c
-HasNumbers tasks functions counters e = IfSome (named_task e) (λ t. IsNumberOrNone tasks t)
+HasEventNumbers tasks functions counters (event.Call t called status) = IsNumberOrNone tasks t × Has32Bits status
+HasEventNumbers tasks functions counters (event.Due c) = IsNameNumber counters c
+HasEventNumbers tasks functions counters (event.Tick c) = IsNumberOrNone counters c
+HasEventNumbers tasks functions counters e = IfSome (named_task e) (λ t. IsNumberOrNone tasks t)

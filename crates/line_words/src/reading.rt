@@ -1,6 +1,6 @@
 //! Words of events read.
 ghost use Rattle.std.specs.Prelude.{◌≡◌, ℕ, IfSome};
-ghost use Rattle.line_words.specs.EventNumbers.{HasNumbers, IsNumberOrNone};
+ghost use Rattle.line_words.specs.EventNumbers.{HasEventNumbers, IsNumberOrNone};
 ghost use Rattle.line_words.specs.EventWords.{bare_in, single_in};
 
 use sloth_base::event::Event;
@@ -10,7 +10,7 @@ use text_pieces::bytes::same;
 #[tactic(auto, unfolding(crate::specs::EventWords::bare_in))]
 pub fn bare_in(text: &[u8]) -> Option<Event>
     ensures event { result ≡ bare_in text.now }
-    ensures numbers { (tasks functions counters : ℕ) → IfSome result (λ event. HasNumbers tasks functions counters event) }
+    ensures numbers { (tasks functions counters : ℕ) → IfSome result (λ event. HasEventNumbers tasks functions counters event) }
 {
     if same(text, b"boot") {
         return Some(Event::Boot);
@@ -28,7 +28,7 @@ pub fn bare_in(text: &[u8]) -> Option<Event>
 #[tactic(auto, unfolding(crate::specs::EventWords::single_in))]
 pub fn single_in(kind: &[u8], task: u32) -> Option<Event>
     ensures event { result ≡ single_in kind.now task }
-    ensures numbers { (tasks functions counters : ℕ) → IsNumberOrNone tasks task → IfSome result (λ event. HasNumbers tasks functions counters event) }
+    ensures numbers { (tasks functions counters : ℕ) → IsNumberOrNone tasks task → IfSome result (λ event. HasEventNumbers tasks functions counters event) }
 {
     if same(kind, b"enter") {
         return Some(Event::Enter(task));

@@ -3,7 +3,7 @@ ghost use Rattle.std.specs.Prelude.{◌≡◌, ◌<◌, ◌++◌, IfOk, IfErr, O
 ghost use Rattle.std.specs.List.{flat_map};
 ghost use Rattle.code_rules.specs.WellFormed.{WellFormed};
 ghost use Rattle.stack_bounds.specs.Bounds.{AreBounds};
-ghost use Rattle.sloth_source.specs.Texts.{ErrorIs};
+ghost use Rattle.sloth_source.specs.Texts.{SourcesErrorIs};
 ghost use Rattle.map_text.specs.Listable.{IsListable};
 ghost use Rattle.map_text.specs.MapText.{HasMap, IsMapText, map_text, need_lines, row_line};
 
@@ -96,7 +96,7 @@ pub fn map_text(alloc: Global, oil: &[u8], src: &[u8]) -> Result<Vec<u8>, BuildE
     requires oil { length oil.now < 4294967295 }
     requires src { length src.now < 4294967295 }
     ensures text { IfOk result (λ text. IsMapText oil.now src.now text.items) }
-    ensures refused { IfErr result (ErrorIs oil.now src.now) }
+    ensures refused { IfErr result (SourcesErrorIs oil.now src.now) }
 {
     let Source {
         config,

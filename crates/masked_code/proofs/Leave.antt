@@ -9,7 +9,7 @@ use Rattle.sloth_region.specs.Layout.{cur, below_word, context_bytes, context_le
 use Rattle.rv32_instr.specs.declared.InstrKind.TheVariants.{Mret}
 use Rattle.rv32_instr.specs.Ram.{word_at, with_word}
 use Rattle.masked_code.proofs.Owes.{◌▸◌, writes, loads, stores, accesses, Owes}
-use Rattle.masked_code.specs.Kernel.{HasBases, IsBelow, idle_loop_test, leaving_code}
+use Rattle.masked_code.specs.Kernel.{HasBases, IsContextBelow, idle_loop_test, leaving_code}
 use Rattle.masked_code.proofs.Resumption.{IsResumedState}
 use Rattle.masked_code.specs.Pieces.{restoring_code}
 use Rattle.masked_code.proofs.RegisterCode.{restored_registers}
@@ -29,7 +29,7 @@ context_end place inside = omega arith
 lands : (o : ℕ) → o ≤ 0x20_1000 → plus (memory_base + o) (pos 112) ≡ memory_base + (o + 4 + 4 * 27)
 lands o small = omega arith
 
-module _ (from to : ℕ) (E : List ℕ → State → State → Type 0) (start : State) (place : ℕ) (c : Core) (x1 x2 x5 : ℕ) (tail : List ℕ) (long : length tail ≡ 26) (masked : c.mie ≡ false) (previous : c.mpie ≡ true) (b : IsBelow place c) (code_behind : 1024 ≤ from) where
+module _ (from to : ℕ) (E : List ℕ → State → State → Type 0) (start : State) (place : ℕ) (c : Core) (x1 x2 x5 : ℕ) (tail : List ℕ) (long : length tail ≡ 26) (masked : c.mie ≡ false) (previous : c.mpie ≡ true) (b : IsContextBelow place c) (code_behind : 1024 ≤ from) where
   abbrev v0 : ℕ
   v0 = word_at c.ram place
 

@@ -26,7 +26,7 @@ pub record CanRun (offset : ℕ) (code : List InstrKind) (core : Core) : Type 0 
   pub placed : InPlace core.ram offset code
 
 -- the context of what runs below stands at this offset
-pub record IsBelow (place : ℕ) (core : Core) : Type 0 where
+pub record IsContextBelow (place : ℕ) (core : Core) : Type 0 where
   pub is : word_at core.ram below_word ≡ memory_base + place
   pub aligned : place % 4 ≡ 0
   pub behind : idle_context ≤ place

@@ -16,7 +16,7 @@ use Rattle.sloth_base.specs.Blocks.{block_count, block_service, block_object}
 use Rattle.sloth_base.specs.ServiceCodes.{object_kind, IsObjectNumber}
 use Rattle.sloth_base.specs.Limits.{task_limit, alarm_limit, resource_limit}
 use Rattle.code_rules.specs.AppRange.{AppInRange}
-use Rattle.rv32_expand.specs.InPlace.{IsItem}
+use Rattle.rv32_expand.specs.InPlace.{IsAppItem}
 use Rattle.rv32_expand.specs.Sizes.{AreItemSizes, items_before}
 use Rattle.expansion_parts.proofs.Counts.{size_few}
 use Rattle.rv32_expand.proofs.InRangeOf.{frame_of}
@@ -37,7 +37,7 @@ pub sizes_few : (config : Config) (app : App) (sizes : List ℕ) → AppInRange 
 sizes_few config app sizes range are = λ k d l.
     let n = are.count in
     let at = locate app.funcs k no_function (omega (arith, n, l)) in
-    let item : IsItem app at.func at.index = record { declared = at.declared; inside = at.inside } in
+    let item : IsAppItem app at.func at.index = record { declared = at.declared; inside = at.inside } in
     let zero_is = get_or_default_zero sizes k d l in
     let place = ap (λ (i : ℕ). get_or sizes i 0) at.is in
     let each = are.each at.func at.index item in

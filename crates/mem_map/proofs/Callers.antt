@@ -12,14 +12,14 @@ use Rattle.sloth_base.specs.declared.app.Op.{Op}
 use Rattle.sloth_base.specs.declared.app.Op.TheVariants as op
 use Rattle.sloth_base.specs.Named.{function, no_function, item_of, no_item, operation}
 use Rattle.sloth_base.specs.Blocks.{block_count, block_number}
-use Rattle.rv32_expand.specs.InPlace.{IsItem}
+use Rattle.rv32_expand.specs.InPlace.{IsAppItem}
 use Rattle.mem_map.specs.Wanted.{is_call_of, is_called_by, is_wanted}
 
 -- an item that calls the service with its object of a number
 pub record Caller (app : App) (number : ℕ) : Type 0 where
   pub func : ℕ
   pub item : ℕ
-  pub is_item : IsItem app func item
+  pub is_item : IsAppItem app func item
   pub call : Call
   pub is : operation app func item ≡ op.Serve call
   pub numbered : block_number call.service call.object ≡ number
@@ -66,7 +66,7 @@ caller number app is =
     }
 
 -- what an item calls is wanted
-pub called : (app : App) (func item : ℕ) (call : Call) → IsItem app func item → operation app func item ≡ op.Serve call
+pub called : (app : App) (func item : ℕ) (call : Call) → IsAppItem app func item → operation app func item ≡ op.Serve call
     → is_wanted (block_number call.service call.object) app ≡ true
 called app func item call is e =
     let number : ℕ = block_number call.service call.object in

@@ -22,7 +22,7 @@ use Rattle.sloth_base.specs.Limits.{resource_limit}
 use Rattle.code_rules.specs.AppRange.{AppInRange, AreOperands, IsOp}
 use Rattle.code_rules.proofs.Objects.{object_number}
 use Rattle.expansion_parts.specs.Expansion.{item_address, block_address, is_long}
-use Rattle.rv32_expand.specs.InPlace.{IsItem}
+use Rattle.rv32_expand.specs.InPlace.{IsAppItem}
 use Rattle.rv32_expand.specs.Sizes.{AreItemSizes, AgreeWithSizes, HasWordAddresses, IsWordAddress, items_before}
 use Rattle.expansion_parts.proofs.Counts.{size_few, size_is}
 use Rattle.rv32_expand.proofs.InRangeOf.{frame_of}
@@ -90,13 +90,13 @@ module _ (config : Config) (app : App) (sizes services : List ℕ) (places : Pla
   abbrev number : ℕ → ℕ → ℕ
   number func index = items_before app.funcs func + index
 
-  number_few : (func index : ℕ) → IsItem app func index → number func index < length sizes
+  number_few : (func index : ℕ) → IsAppItem app func index → number func index < length sizes
   number_few func index item =
       let n = are.count in
       let h = number_inside app.funcs func index item.declared item.inside in
       omega (arith, n, h)
 
-  address_is : (func index : ℕ) → IsItem app func index
+  address_is : (func index : ℕ) → IsAppItem app func index
       → item_address places func index ≡ get_or (starts items_from (map code_byte_count sizes)) (number func index) 0
   address_is func index item =
       let f = ap (λ (l : List ℕ). get_or l func 0) p.first ∙ first_is 0 app.funcs func item.declared in
@@ -126,7 +126,7 @@ module _ (config : Config) (app : App) (sizes services : List ℕ) (places : Pla
     below : item_address places func index + 1 ≤ end_of items_from (map code_byte_count sizes)
     aligned : item_address places func index % 4 ≡ 0
 
-  item_inside : (func index : ℕ) → IsItem app func index → IsInside func index
+  item_inside : (func index : ℕ) → IsAppItem app func index → IsInside func index
   item_inside func index item =
       let k : ℕ = number func index in
       let a = address_is func index item in
@@ -140,7 +140,7 @@ module _ (config : Config) (app : App) (sizes services : List ℕ) (places : Pla
       let high = s.below in
       record { above = omega (arith, a, low); below = omega (arith, a, high, one); aligned = omega (arith, a, f) }
 
-  block_inside : (func index : ℕ) (call : Call) → IsItem app func index → operation app func index ≡ op.Serve call
+  block_inside : (func index : ℕ) (call : Call) → IsAppItem app func index → operation app func index ≡ op.Serve call
       → IsWordAddress (block_address places call.service call.object) × (services_from ≤ block_address places call.service call.object)
       × (block_address places call.service call.object ≤ end_of services_from (map code_byte_count services))
   block_inside func index call item e =

@@ -12,7 +12,7 @@ use Rattle.sloth_base.proofs.Services.{of_code, object_number_few}
 use Rattle.code_rules.specs.AppRange.{AreOperands, IsOp}
 use Rattle.code_rules.specs.WellFormed.{WellFormed}
 use Rattle.code_rules.proofs.Objects.{object_number}
-use Rattle.rv32_expand.specs.InPlace.{IsItem}
+use Rattle.rv32_expand.specs.InPlace.{IsAppItem}
 use Rattle.mem_map.specs.Wanted.{IsServicePlace, is_wanted, wanted_blocks}
 use Rattle.mem_map.proofs.Callers.{caller}
 
@@ -33,7 +33,7 @@ unfolding wanted_blocks
 places_are app xs long are = fill_by_all (λ number. is_wanted number app) xs block_count false long are
 
 -- an item calls a service with an object that it may have
-has_object : (config : Config) (app : App) → WellFormed config app → (func item : ℕ) (call : Call) → IsItem app func item → operation app func item ≡ op.Serve call
+has_object : (config : Config) (app : App) → WellFormed config app → (func item : ℕ) (call : Call) → IsAppItem app func item → operation app func item ≡ op.Serve call
     → IsObjectNumber (object_kind call.service) call.object
 has_object config app well func item call is e =
     let own = (well.in_range.bodies func no_function is.declared).items item no_item is.inside in

@@ -23,8 +23,8 @@ abbrev pub block_section : Block → Section
 block_section block = record { offset = block.at - memory_base; bytes = code_bytes block.code }
 
 -- an end of the section is not behind the end of the memory
-abbrev pub IsInside : ℕ → Section → Type 0
-IsInside size section = section.offset + length section.bytes ≤ size
+abbrev pub IsSectionInside : ℕ → Section → Type 0
+IsSectionInside size section = section.offset + length section.bytes ≤ size
 
 -- a memory in which these bytes are written from an offset on
 abbrev pub with_bytes : List ℕ → ℕ → List ℕ → List ℕ

@@ -1,7 +1,7 @@
 //! Blocks of code, written into a memory.
 ghost use Rattle.std.specs.Prelude.{◌≡◌, ◌≤◌, ◌+◌, ◌*◌, length, map, All};
 ghost use Rattle.sloth_base.specs.MemoryMap.{memory_base};
-ghost use Rattle.mem_map.specs.Sections.{code_bytes, with_bytes, linked_memory, block_section, IsInside};
+ghost use Rattle.mem_map.specs.Sections.{code_bytes, with_bytes, linked_memory, block_section, IsSectionInside};
 
 use rv32_instr::{Block, Instr, encode};
 use sloth_base::memory_map::MEMORY_BASE;
@@ -34,7 +34,7 @@ fn write_code(memory: &mut [u8], at: usize, code: &[Instr])
 #[tactic(auto, using(crate::proofs::CodeBytes::code_bytes_length))]
 pub fn write_blocks(memory: &mut [u8], blocks: &[Block])
     requires above { All (λ b. memory_base ≤ b.at) blocks.now }
-    requires inside { All (λ b. IsInside (length memory.old) (block_section b)) blocks.now }
+    requires inside { All (λ b. IsSectionInside (length memory.old) (block_section b)) blocks.now }
     ensures { memory.new ≡ linked_memory memory.old (map block_section blocks.now) }
 {
     for block in blocks {

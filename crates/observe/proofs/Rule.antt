@@ -3,7 +3,7 @@ use Rattle.std.specs.Bool.{if◌then◌else◌}
 use Rattle.std.specs.List.{flat_map, AllByRecursion}
 use Rattle.std.proofs.lemmas.Bool.{not-false, not-true}
 use Rattle.sloth_base.specs.declared.step.Step.{Step}
-use Rattle.observe.specs.Pieces.{RunPiece, Outside, Stretch, pieces, cut_off_steps, is_outside, begins, steps_of, AllMasked, IsStretchStart, IsPiece, IsOpenPart, IsCut}
+use Rattle.observe.specs.Pieces.{RunPiece, Outside, Stretch, pieces, cut_off_steps, is_outside, begins, steps_of, AllMasked, IsStretchStart, IsRunPiece, IsOpenPart, IsCut}
 
 masked-push : (steps : List Step) (step : Step) → AllMasked steps → step.enabled_after ≡ false → AllMasked (steps ++ step ∷ [])
 masked-push [] step h e = (e, tt)
@@ -29,7 +29,7 @@ open-more (first ∷ more) step h o e = (o.0, (o.1.0, masked-push more step o.1.
 -- the cut of what follows the steps of an open stretch
 pub record CutFrom (opened run : List Step) (parts : List RunPiece) (rest : List Step) : Type 0 where
   pub joined : flat_map steps_of parts ++ rest ≡ opened ++ run
-  pub each : AllByRecursion IsPiece parts
+  pub each : AllByRecursion IsRunPiece parts
   pub left : IsOpenPart rest
 
 cut-outside : (opened : List Step) (step : Step) (run : List Step) (parts : List RunPiece) (rest : List Step) → is_outside opened step ≡ true → CutFrom [] run parts rest → CutFrom opened (step ∷ run) (Outside step ∷ parts) rest

@@ -68,15 +68,15 @@ abbrev pub is_unlisted : List OilObject → Place → List OilAttr → OilAttr �
 is_unlisted objects place inner attr = sets_event place && (is_inner_use (codes "EVENT") attr && is_left_out objects inner attr.value)
 
 -- O9, O10 and O12 of an attribute with this row of the table, in a block that is this place, behind these of the block
-abbrev pub InnerFault : List OilObject → Limits → Place → List OilAttr → Option Attribute → List OilAttr → OilAttr → Refusal → Type 0
-InnerFault objects limits place inner row before attr r =
+abbrev pub BlockAttributeFault : List OilObject → Limits → Place → List OilAttr → Option Attribute → List OilAttr → OilAttr → Refusal → Type 0
+BlockAttributeFault objects limits place inner row before attr r =
     OilCase (is_second 1 row before attr) attr.line O9 r
     ⊎ (OilCase (is_unlisted objects place inner attr) attr.line O10 r
     ⊎ OilCase (is_beyond limits row attr) attr.line O12 r)
 
 -- the same by the name of the attribute
 abbrev pub InsideFault : List OilObject → Limits → Place → List OilAttr → List OilAttr → OilAttr → Refusal → Type 0
-InsideFault objects limits place inner before attr r = InnerFault objects limits place inner (attribute_of place attr.name) before attr r
+InsideFault objects limits place inner before attr r = BlockAttributeFault objects limits place inner (attribute_of place attr.name) before attr r
 
 -- the same of all attributes of a block
 abbrev pub BlockFault : List OilObject → Limits → List BlockText → BlockText → Refusal → Type 0

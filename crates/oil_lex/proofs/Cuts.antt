@@ -15,7 +15,7 @@ use Rattle.sloth_base.specs.declared.refusal.BuildError.TheVariants.{Refused, Me
 use Rattle.oil_lex.specs.declared.pieces.PieceKind.{PieceKind}
 use Rattle.oil_lex.specs.declared.pieces.PieceKind.TheVariants as kind
 use Rattle.oil_lex.specs.Bytes.{class_of}
-use Rattle.oil_lex.specs.Pieces.{IsPiece, is_one_blank, is_line_comment, is_block_comment, is_word, is_decimal, is_hexadecimal, is_text, is_sign, is_slash, is_stray, is_unclosed_comment, is_unclosed_text_lf, is_unclosed_text_end, TextPiece, IsCutInto, BeginsWith}
+use Rattle.oil_lex.specs.Pieces.{IsTextPiece, is_one_blank, is_line_comment, is_block_comment, is_word, is_decimal, is_hexadecimal, is_text, is_sign, is_slash, is_stray, is_unclosed_comment, is_unclosed_text_lf, is_unclosed_text_end, TextPiece, IsCutInto, HasFront}
 use Rattle.oil_lex.specs.declared.kinds.Token.{Token}
 use Rattle.oil_lex.specs.declared.lexer.Cutter.{Cutter}
 use Rattle.oil_lex.specs.Tokens.{Lexeme, lexeme, tokens_of, lexemes_by, slice_at, tokens_by, tokens_at, FaultOf, FaultBy, meaning, line_ends, TextFault, AreTokens, AreSlices, IsNoFault}
@@ -29,7 +29,7 @@ same_piece : (p q : TextPiece) → p.kind ≡ q.kind → p.bytes ≡ q.bytes →
 same_piece p q e f = ap (λ x. record p { kind = x }) e ∙ ap (λ x. record q { bytes = x }) f
 
 -- Of one text, two pieces at the front are one.
-pub piece_one : {k j : PieceKind} {p q a b : List ℕ} → IsPiece k p a → IsPiece j q b → p ++ a ≡ q ++ b → (k ≡ j) × (p ≡ q) × (a ≡ b)
+pub piece_one : {k j : PieceKind} {p q a b : List ℕ} → IsTextPiece k p a → IsTextPiece j q b → p ++ a ≡ q ++ b → (k ≡ j) × (p ≡ q) × (a ≡ b)
 piece_one {k} {j} {p} {q} {a} {b} x y e =
     let f : (k, length p) ≡ (j, length q) = sym (front_is x) ∙ (ap front_piece e ∙ front_is y) in
     let n : length p ≡ length q = ap (λ (w : PieceKind × ℕ). w.1) f in (
@@ -38,7 +38,7 @@ piece_one {k} {j} {p} {q} {a} {b} x y e =
       sym (drop-append_seam p a) ∙ (ap (λ m. drop m (p ++ a)) n ∙ (ap (drop (length q)) e ∙ drop-append_seam q b)),
     )
 
-pub piece_some : {k : PieceKind} {p r : List ℕ} → IsPiece k p r → 0 < length p
+pub piece_some : {k : PieceKind} {p r : List ℕ} → IsTextPiece k p r → 0 < length p
 piece_some (is_one_blank c) = omega arith
 piece_some (is_line_comment a s) = omega arith
 piece_some (is_block_comment w n) = omega arith
@@ -101,7 +101,7 @@ below_lf : (rest : List ℕ) (ps : List TextPiece) → IsCutInto (10 ∷ rest) p
 unfolding class_of
 below_lf rest [] c n s f = absurd f
 below_lf rest (p ∷ ps) c n s f =
-    let blank : IsPiece kind.Blank (10 ∷ []) rest = is_one_blank refl in
+    let blank : IsTextPiece kind.Blank (10 ∷ []) rest = is_one_blank refl in
     let e = piece_one blank c.2 c.1 in
     let lf : TextPiece = record { kind = kind.Blank; bytes = 10 ∷ [] } in
     let g = subst (λ (x : TextPiece). FaultOf n (x ∷ ps) s) (sym (same_piece lf p e.0 e.1)) f in
@@ -111,7 +111,7 @@ nothing_behind : (ps : List TextPiece) → IsCutInto [] ps → (n : ℕ) (s : Re
 nothing_behind ps c n s f = subst (λ (x : List TextPiece). FaultOf n x s) (cut_end ps c) f
 
 -- What stands behind a fault stands no earlier.
-after_fault : {k : PieceKind} {p b : List ℕ} → IsPiece k p b → (n : ℕ) (r : Refusal) → FaultBy (meaning k p) n r
+after_fault : {k : PieceKind} {p b : List ℕ} → IsTextPiece k p b → (n : ℕ) (r : Refusal) → FaultBy (meaning k p) n r
     → (ps : List TextPiece) → IsCutInto b ps → (s : Refusal) → FaultOf (n + line_ends p) ps s → IsNoLater r s
 after_fault (is_one_blank c) n r f ps cut s g = absurd f
 after_fault (is_line_comment a e) n r f ps cut s g = absurd f
@@ -163,7 +163,7 @@ same_faults Nothing z n F r = (⊎_elim (λ f. absurd f) (λ f. f), inr)
 same_faults (IsToken k) z n F r = (⊎_elim (λ f. absurd f) (λ f. f), inr)
 same_faults (IsFault c) z n F r = absurd z
 
-pub goes_further : (text : Bor (List ℕ)) (n place : ℕ) (ts : List Token) (k : PieceKind × ℕ) → GoesOn text n place ts → BeginsWith (drop place text.now) k
+pub goes_further : (text : Bor (List ℕ)) (n place : ℕ) (ts : List Token) (k : PieceKind × ℕ) → GoesOn text n place ts → HasFront (drop place text.now) k
     → IsNoFault (front_meaning k (drop place text.now))
     → GoesOn text (n + line_ends (take k.1 (drop place text.now))) (place + k.1)
     (ts ++ tokens_by (front_meaning k (drop place text.now)) n (slice_at text place (take k.1 (drop place text.now))))
@@ -183,7 +183,7 @@ goes_further text n place ts k on s z = λ ps c.
           (λ x. g.0 (f.0 x), λ x. f.1 (g.1 x));
     }
 
-pub least : (text : Bor (List ℕ)) (n place : ℕ) (ts : List Token) (k : PieceKind × ℕ) → GoesOn text n place ts → BeginsWith (drop place text.now) k
+pub least : (text : Bor (List ℕ)) (n place : ℕ) (ts : List Token) (k : PieceKind × ℕ) → GoesOn text n place ts → HasFront (drop place text.now) k
     → (r : Refusal) → FaultBy (front_meaning k (drop place text.now)) n r → IsLeast (TextFault text.now) r
 least text n place ts k on s r f =
     let rest : List ℕ = drop place text.now in

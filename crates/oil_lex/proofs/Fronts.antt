@@ -13,7 +13,7 @@ use Rattle.oil_lex.specs.declared.bytes.Class.TheVariants as class
 use Rattle.oil_lex.specs.declared.pieces.PieceKind.{PieceKind}
 use Rattle.oil_lex.specs.declared.pieces.PieceKind.TheVariants as kind
 use Rattle.oil_lex.specs.Bytes.{class_of, is_word_byte, is_digit, is_hex_digit, is_quoted, is_not_lf, is_blank, is_plain_sign}
-use Rattle.oil_lex.specs.Pieces.{IsPiece, is_one_blank, is_line_comment, is_block_comment, is_word, is_decimal, is_hexadecimal, is_text, is_sign, is_slash, is_stray, is_unclosed_comment, is_unclosed_text_lf, is_unclosed_text_end, begins_hex, EachPasses, IsRunEnd, HasNoCommentEnd, BeginsWith}
+use Rattle.oil_lex.specs.Pieces.{IsTextPiece, is_one_blank, is_line_comment, is_block_comment, is_word, is_decimal, is_hexadecimal, is_text, is_sign, is_slash, is_stray, is_unclosed_comment, is_unclosed_text_lf, is_unclosed_text_end, begins_hex, EachPasses, IsRunEnd, HasNoCommentEnd, HasFront}
 use Rattle.oil_lex.specs.Front.{front_piece, piece_by, number_piece, slash_piece, text_piece, comment_piece, comment_length}
 use Rattle.oil_lex.proofs.Lengths.{run_ends, run_front, never_closes, closes_behind, open_all, comment_length_le, open_front, no_byte, either}
 
@@ -71,7 +71,7 @@ text_ends : (w : List ℕ) → EachPasses is_quoted w → text_piece (w ++ []) �
 text_ends w a = rw (text_is w [] a tt, append-nil w, get_or_past w (length w) 0 (omega arith)) refl
 
 -- Each piece is the front of the text that begins with it.
-pub front_is : {k : PieceKind} {p r : List ℕ} → IsPiece k p r → front_piece (p ++ r) ≡ (k, length p)
+pub front_is : {k : PieceKind} {p r : List ℕ} → IsTextPiece k p r → front_piece (p ++ r) ≡ (k, length p)
 unfolding piece_by number_piece slash_piece class_of is_quoted
 front_is (is_one_blank c) = rw c refl
 front_is (is_line_comment {w} {rest} a s) = let e = run_ends is_not_lf w rest a s in pair kind.LineComment _ _ (omega (arith, e))
@@ -87,7 +87,7 @@ front_is (is_unclosed_comment {w} n) = ap comment_piece (append-nil w) ∙ (comm
 front_is (is_unclosed_text_lf {w} {rest} a) = rw (text_is w (10 ∷ rest) a refl, get_or-append_seam w 10 rest 0) (pair kind.UnclosedText _ _ (omega arith))
 front_is (is_unclosed_text_end {w} a) = text_ends w a ∙ pair kind.UnclosedText _ _ (omega arith)
 
-stands : (k : PieceKind) (p r : List ℕ) (n : ℕ) → n ≡ length p → 0 < n → IsPiece k p r → BeginsWith (p ++ r) (k, n)
+stands : (k : PieceKind) (p r : List ℕ) (n : ℕ) → n ≡ length p → 0 < n → IsTextPiece k p r → HasFront (p ++ r) (k, n)
 stands k p r n e h i =
     rw (e, take-append_seam p r, drop-append_seam p r) (i, omega arith, omega (arith, length-append p r))
 
@@ -98,30 +98,30 @@ run_stands p s P f =
     subst (λ (x : List ℕ). P x (prefix_len p s)) (take-append-drop (prefix_len p s) s)
     (subst (λ (n : ℕ). P (take (prefix_len p s) s ++ drop (prefix_len p s) s) n) (length-prefix_len p s) (f _ _ r.0 r.1))
 
-word_stands : (b : ℕ) (s : List ℕ) → class_of b ≡ class.Letter → BeginsWith (b ∷ s) (kind.Word, prefix_len is_word_byte s + 1)
+word_stands : (b : ℕ) (s : List ℕ) → class_of b ≡ class.Letter → HasFront (b ∷ s) (kind.Word, prefix_len is_word_byte s + 1)
 word_stands b s c =
-    run_stands is_word_byte s (λ (x : List ℕ) (n : ℕ). BeginsWith (b ∷ x) (kind.Word, n + 1))
+    run_stands is_word_byte s (λ (x : List ℕ) (n : ℕ). HasFront (b ∷ x) (kind.Word, n + 1))
     (λ w r a e. stands kind.Word (b ∷ w) r (length w + 1) (omega arith) (omega arith) (is_word c a e))
 
-comment_stands : (s : List ℕ) → BeginsWith (47 ∷ 42 ∷ s) (comment_piece s)
+comment_stands : (s : List ℕ) → HasFront (47 ∷ 42 ∷ s) (comment_piece s)
 unfolding comment_piece
 comment_stands s = elim (cases_lt (comment_length s) (length s)) [
   | inl h ↦
       let o = open_front s h in
       let e : comment_length s + 4 ≡ length (47 ∷ 42 ∷ (o.0 ++ 42 ∷ 47 ∷ [])) = omega (arith, o.3, length-append o.0 (42 ∷ 47 ∷ [])) in
       let f : 47 ∷ 42 ∷ s ≡ (47 ∷ 42 ∷ (o.0 ++ 42 ∷ 47 ∷ [])) ++ o.1 = ap (λ x. 47 ∷ 42 ∷ x) (o.2 ∙ sym (append_assoc o.0 (42 ∷ 47 ∷ []) o.1)) in
-      rw (lt-ltb _ _ h) (subst (λ (x : List ℕ). BeginsWith x (kind.BlockComment, comment_length s + 4)) (sym f)
+      rw (lt-ltb _ _ h) (subst (λ (x : List ℕ). HasFront x (kind.BlockComment, comment_length s + 4)) (sym f)
       (stands kind.BlockComment (47 ∷ 42 ∷ (o.0 ++ 42 ∷ 47 ∷ [])) o.1 (comment_length s + 4) e (omega arith) (is_block_comment o.0 o.4)))
   | inr h ↦
       let l = comment_length_le s in
       let e : comment_length s + 2 ≡ length (47 ∷ 42 ∷ s) = omega (arith, l) in
-      rw (le-ltb _ _ h) (subst (λ (x : List ℕ). BeginsWith x (kind.UnclosedComment, comment_length s + 2)) (append-nil (47 ∷ 42 ∷ s))
+      rw (le-ltb _ _ h) (subst (λ (x : List ℕ). HasFront x (kind.UnclosedComment, comment_length s + 2)) (append-nil (47 ∷ 42 ∷ s))
       (stands kind.UnclosedComment (47 ∷ 42 ∷ s) [] (comment_length s + 2) e (omega arith) (is_unclosed_comment (open_all s (omega (arith, l))))))
 ]
 
-line_stands : (s : List ℕ) → BeginsWith (47 ∷ 47 ∷ s) (kind.LineComment, prefix_len is_not_lf s + 2)
+line_stands : (s : List ℕ) → HasFront (47 ∷ 47 ∷ s) (kind.LineComment, prefix_len is_not_lf s + 2)
 line_stands s =
-    run_stands is_not_lf s (λ (x : List ℕ) (n : ℕ). BeginsWith (47 ∷ 47 ∷ x) (kind.LineComment, n + 2))
+    run_stands is_not_lf s (λ (x : List ℕ) (n : ℕ). HasFront (47 ∷ 47 ∷ x) (kind.LineComment, n + 2))
     (λ w r a e. stands kind.LineComment (47 ∷ 47 ∷ w) r (length w + 2) (omega arith) (omega arith) (is_line_comment a e))
 
 -- what may follow quoted bytes
@@ -130,77 +130,77 @@ unfolding is_quoted
 quote_or_lf b h = ⊎_elim (λ e. inl (eqb-true b 34 e)) (λ e. inr (eqb-true b 10 e)) (either (b == 34) (b == 10) h)
 
 quoted_stands : (w r : List ℕ) → EachPasses is_quoted w → IsRunEnd is_quoted r
-    → BeginsWith (34 ∷ (w ++ r)) (cond (get_or (w ++ r) (length w) 0 == 34) (kind.Text, length w + 2) (kind.UnclosedText, length w + 1))
+    → HasFront (34 ∷ (w ++ r)) (cond (get_or (w ++ r) (length w) 0 == 34) (kind.Text, length w + 2) (kind.UnclosedText, length w + 1))
 quoted_stands w [] a s =
     rw (append-nil, get_or_past w (length w) 0 (omega arith))
-    (subst (λ (x : List ℕ). BeginsWith x (kind.UnclosedText, length w + 1)) (append-nil (34 ∷ w))
+    (subst (λ (x : List ℕ). HasFront x (kind.UnclosedText, length w + 1)) (append-nil (34 ∷ w))
     (stands kind.UnclosedText (34 ∷ w) [] (length w + 1) (omega arith) (omega arith) (is_unclosed_text_end a)))
 quoted_stands w (b ∷ r) a s = rw (get_or-append_seam w b r 0) (⊎_elim
-    (λ e. subst (λ (x : ℕ). BeginsWith (34 ∷ (w ++ x ∷ r)) (cond (x == 34) (kind.Text, length w + 2) (kind.UnclosedText, length w + 1))) (sym e)
-    (subst (λ (x : List ℕ). BeginsWith (34 ∷ x) (kind.Text, length w + 2)) (append_assoc w (34 ∷ []) r)
+    (λ e. subst (λ (x : ℕ). HasFront (34 ∷ (w ++ x ∷ r)) (cond (x == 34) (kind.Text, length w + 2) (kind.UnclosedText, length w + 1))) (sym e)
+    (subst (λ (x : List ℕ). HasFront (34 ∷ x) (kind.Text, length w + 2)) (append_assoc w (34 ∷ []) r)
     (stands kind.Text (34 ∷ (w ++ 34 ∷ [])) r (length w + 2) (omega (arith, length-append w (34 ∷ []))) (omega arith) (is_text w a))))
-    (λ e. subst (λ (x : ℕ). BeginsWith (34 ∷ (w ++ x ∷ r)) (cond (x == 34) (kind.Text, length w + 2) (kind.UnclosedText, length w + 1))) (sym e)
+    (λ e. subst (λ (x : ℕ). HasFront (34 ∷ (w ++ x ∷ r)) (cond (x == 34) (kind.Text, length w + 2) (kind.UnclosedText, length w + 1))) (sym e)
     (stands kind.UnclosedText (34 ∷ w) (10 ∷ r) (length w + 1) (omega arith) (omega arith) (is_unclosed_text_lf a)))
     (quote_or_lf b s))
 
-text_stands : (s : List ℕ) → BeginsWith (34 ∷ s) (text_piece s)
+text_stands : (s : List ℕ) → HasFront (34 ∷ s) (text_piece s)
 unfolding text_piece
 text_stands s =
-    run_stands is_quoted s (λ (x : List ℕ) (n : ℕ). BeginsWith (34 ∷ x) (cond (get_or x n 0 == 34) (kind.Text, n + 2) (kind.UnclosedText, n + 1))) quoted_stands
+    run_stands is_quoted s (λ (x : List ℕ) (n : ℕ). HasFront (34 ∷ x) (cond (get_or x n 0 == 34) (kind.Text, n + 2) (kind.UnclosedText, n + 1))) quoted_stands
 
-slash_stands : (s : List ℕ) → BeginsWith (47 ∷ s) (slash_piece (47 ∷ s))
+slash_stands : (s : List ℕ) → HasFront (47 ∷ s) (slash_piece (47 ∷ s))
 unfolding slash_piece
 slash_stands [] = (is_slash refl, omega arith, omega arith)
 slash_stands (c ∷ s) =
     let P : Bool → Bool → Type 0 = λ u v. (c == 47) ≡ u → (c == 42) ≡ v
-    → BeginsWith (47 ∷ c ∷ s) (cond u (kind.LineComment, prefix_len is_not_lf s + 2) (cond v (comment_piece s) (kind.Sign, 1))) in
+    → HasFront (47 ∷ c ∷ s) (cond u (kind.LineComment, prefix_len is_not_lf s + 2) (cond v (comment_piece s) (kind.Sign, 1))) in
     (elim (c == 47) as (λ u. P u (c == 42)) [
-      | true ↦ λ e f. subst (λ (x : ℕ). BeginsWith (47 ∷ x ∷ s) (kind.LineComment, prefix_len is_not_lf s + 2)) (sym (eqb-true c 47 e)) (line_stands s)
+      | true ↦ λ e f. subst (λ (x : ℕ). HasFront (47 ∷ x ∷ s) (kind.LineComment, prefix_len is_not_lf s + 2)) (sym (eqb-true c 47 e)) (line_stands s)
       | false ↦ elim (c == 42) as (λ v. P false v) [
-        | true ↦ λ e f. subst (λ (x : ℕ). BeginsWith (47 ∷ x ∷ s) (comment_piece s)) (sym (eqb-true c 42 f)) (comment_stands s)
+        | true ↦ λ e f. subst (λ (x : ℕ). HasFront (47 ∷ x ∷ s) (comment_piece s)) (sym (eqb-true c 42 f)) (comment_stands s)
         | false ↦ λ e f. (is_slash (rw (e, f) refl), omega arith, omega arith)
       ]
     ]) refl refl
 
 hex_stands : (x h : ℕ) (s : List ℕ) → ((x == 120) || (x == 88)) ≡ true → is_hex_digit h ≡ true
-    → BeginsWith (48 ∷ x ∷ h ∷ s) (kind.Hexadecimal, prefix_len is_hex_digit s + 3)
+    → HasFront (48 ∷ x ∷ h ∷ s) (kind.Hexadecimal, prefix_len is_hex_digit s + 3)
 hex_stands x h s q i =
-    run_stands is_hex_digit s (λ (y : List ℕ) (n : ℕ). BeginsWith (48 ∷ x ∷ h ∷ y) (kind.Hexadecimal, n + 3))
+    run_stands is_hex_digit s (λ (y : List ℕ) (n : ℕ). HasFront (48 ∷ x ∷ h ∷ y) (kind.Hexadecimal, n + 3))
     (λ w r a e. stands kind.Hexadecimal (48 ∷ x ∷ h ∷ w) r (length w + 3) (omega arith) (omega arith) (is_hexadecimal q i a e))
 
-decimal_stands : (b : ℕ) (s : List ℕ) → class_of b ≡ class.Digit → begins_hex (b ∷ s) ≡ false → BeginsWith (b ∷ s) (kind.Decimal, prefix_len is_digit s + 1)
+decimal_stands : (b : ℕ) (s : List ℕ) → class_of b ≡ class.Digit → begins_hex (b ∷ s) ≡ false → HasFront (b ∷ s) (kind.Decimal, prefix_len is_digit s + 1)
 decimal_stands b s c h =
-    (run_stands is_digit s (λ (x : List ℕ) (n : ℕ). begins_hex (b ∷ x) ≡ false → BeginsWith (b ∷ x) (kind.Decimal, n + 1))
+    (run_stands is_digit s (λ (x : List ℕ) (n : ℕ). begins_hex (b ∷ x) ≡ false → HasFront (b ∷ x) (kind.Decimal, n + 1))
     (λ w r a e f. stands kind.Decimal (b ∷ w) r (length w + 1) (omega arith) (omega arith) (is_decimal c a e f))) h
 
-hex_at : (b : ℕ) (s : List ℕ) → begins_hex (b ∷ s) ≡ true → BeginsWith (b ∷ s) (kind.Hexadecimal, prefix_len is_hex_digit (drop 2 s) + 3)
+hex_at : (b : ℕ) (s : List ℕ) → begins_hex (b ∷ s) ≡ true → HasFront (b ∷ s) (kind.Hexadecimal, prefix_len is_hex_digit (drop 2 s) + 3)
 unfolding is_hex_digit
 hex_at b [] h = absurd (no_byte (b == 48) h)
 hex_at b (x ∷ []) h = absurd (no_byte ((x == 120) || (x == 88)) (and_parts (b == 48) (((x == 120) || (x == 88)) && false) h).1)
 hex_at b (x ∷ d ∷ s) h =
     let p = and_parts (b == 48) (((x == 120) || (x == 88)) && is_hex_digit d) h in
     let q = and_parts ((x == 120) || (x == 88)) (is_hex_digit d) p.1 in
-    subst (λ (y : ℕ). BeginsWith (y ∷ x ∷ d ∷ s) (kind.Hexadecimal, prefix_len is_hex_digit s + 3)) (sym (eqb-true b 48 p.0)) (hex_stands x d s q.0 q.1)
+    subst (λ (y : ℕ). HasFront (y ∷ x ∷ d ∷ s) (kind.Hexadecimal, prefix_len is_hex_digit s + 3)) (sym (eqb-true b 48 p.0)) (hex_stands x d s q.0 q.1)
 
-number_stands : (b : ℕ) (s : List ℕ) → class_of b ≡ class.Digit → BeginsWith (b ∷ s) (number_piece (b ∷ s))
+number_stands : (b : ℕ) (s : List ℕ) → class_of b ≡ class.Digit → HasFront (b ∷ s) (number_piece (b ∷ s))
 unfolding number_piece
 number_stands b s c =
     let P : Bool → Type 0 = λ v. begins_hex (b ∷ s) ≡ v
-    → BeginsWith (b ∷ s) (cond v (kind.Hexadecimal, prefix_len is_hex_digit (drop 2 s) + 3) (kind.Decimal, prefix_len is_digit s + 1)) in
+    → HasFront (b ∷ s) (cond v (kind.Hexadecimal, prefix_len is_hex_digit (drop 2 s) + 3) (kind.Decimal, prefix_len is_digit s + 1)) in
     elim (begins_hex (b ∷ s)) as P [ true ↦ hex_at b s | false ↦ decimal_stands b s c ] refl
 
 -- Each text with a byte begins with a piece.
-pub front_stands : (t : List ℕ) → 0 < length t → BeginsWith t (front_piece t)
+pub front_stands : (t : List ℕ) → 0 < length t → HasFront t (front_piece t)
 unfolding piece_by
 front_stands [] h = absurd (omega arith)
 front_stands (b ∷ s) h =
-    let P : Class → Type 0 = λ k. class_of b ≡ k → BeginsWith (b ∷ s) (piece_by k (b ∷ s)) in
+    let P : Class → Type 0 = λ k. class_of b ≡ k → HasFront (b ∷ s) (piece_by k (b ∷ s)) in
     elim (class_of b) as P [
       | class.Blank ↦ λ c. (is_one_blank c, omega arith, omega arith)
       | class.Letter ↦ word_stands b s
       | class.Digit ↦ number_stands b s
-      | class.Quote ↦ λ c. subst (λ (x : ℕ). BeginsWith (x ∷ s) (text_piece s)) (sym (class_quote b c)) (text_stands s)
-      | class.Slash ↦ λ c. subst (λ (x : ℕ). BeginsWith (x ∷ s) (slash_piece (x ∷ s))) (sym (class_slash b c)) (slash_stands s)
+      | class.Quote ↦ λ c. subst (λ (x : ℕ). HasFront (x ∷ s) (text_piece s)) (sym (class_quote b c)) (text_stands s)
+      | class.Slash ↦ λ c. subst (λ (x : ℕ). HasFront (x ∷ s) (slash_piece (x ∷ s))) (sym (class_slash b c)) (slash_stands s)
       | class.Sign ↦ λ c. (is_sign c, omega arith, omega arith)
       | class.Other ↦ λ c. (is_stray c, omega arith, omega arith)
     ] refl

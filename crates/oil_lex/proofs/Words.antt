@@ -9,7 +9,7 @@ use Rattle.oil_lex.specs.declared.bytes.Class.TheVariants as class
 use Rattle.oil_lex.specs.declared.kinds.TokenKind.TheVariants as token
 use Rattle.oil_lex.specs.declared.pieces.PieceKind.{PieceKind}
 use Rattle.oil_lex.specs.Bytes.{class_of, is_word_byte, is_blank, is_plain_sign}
-use Rattle.oil_lex.specs.Pieces.{EachPasses, IsPiece, is_word, is_decimal, is_hexadecimal, is_text, is_sign, is_slash, TextPiece, IsCutInto}
+use Rattle.oil_lex.specs.Pieces.{EachPasses, IsTextPiece, is_word, is_decimal, is_hexadecimal, is_text, is_sign, is_slash, TextPiece, IsCutInto}
 use Rattle.oil_lex.specs.Tokens.{Lexeme, meaning, line_ends, lexemes_by, tokens_of, AreTokens}
 use Rattle.oil_lex.proofs.Fronts.{skip, took}
 
@@ -34,7 +34,7 @@ continues [] a = tt
 continues (b ∷ w) a = (a.0, continues w a.1)
 
 -- the token that a piece is
-piece_spelled : {k : PieceKind} {p r : List ℕ} → IsPiece k p r → (n : ℕ) → AllByRecursion Spelled (lexemes_by (meaning k p) n p)
+piece_spelled : {k : PieceKind} {p r : List ℕ} → IsTextPiece k p r → (n : ℕ) → AllByRecursion Spelled (lexemes_by (meaning k p) n p)
 piece_spelled (is_word {b} {w} c a s) n = (λ e. (letter_begins b c, All-from_recursion (λ x. continues_word x ≡ true) w (continues w a)), tt)
 piece_spelled (is_decimal c a s h) n = (λ e. cc, tt)
 piece_spelled (is_hexadecimal q i a s) n = (λ e. cc, tt)

@@ -4,7 +4,7 @@ use Rattle.sloth_base.specs.declared.refusal.BuildError.{BuildError}
 use Rattle.oil_lex.specs.declared.lexer.Cutter.{Cutter}
 use Rattle.oil_lex.specs.declared.pieces.Meaning.{Meaning}
 use Rattle.oil_lex.specs.declared.pieces.PieceKind.{PieceKind}
-use Rattle.oil_lex.specs.Pieces.{BeginsWith}
+use Rattle.oil_lex.specs.Pieces.{HasFront}
 use Rattle.oil_lex.specs.Tokens.{meaning, line_ends, slice_at, tokens_by, IsNoFault, RefusedBy}
 
 -- what is left of the text
@@ -18,7 +18,7 @@ front_meaning k rest = meaning k.0 (take k.1 rest)
 -- d is c with the piece at the front of the rest cut off, which is no fault
 pub record HasCut (c d : Cutter) : Type 0 where
   pub piece : PieceKind × ℕ
-  pub begins : BeginsWith (rest_of c) piece
+  pub begins : HasFront (rest_of c) piece
   pub no_fault : IsNoFault (front_meaning piece (rest_of c))
   pub text : d.text ≡ c.text
   pub place : d.place ≡ c.place + piece.1
@@ -28,5 +28,5 @@ pub record HasCut (c d : Cutter) : Type 0 where
 -- the error is want of memory, or the fault of the piece at the front of the rest
 pub record IsStopped (c : Cutter) (error : BuildError) : Type 0 where
   pub piece : PieceKind × ℕ
-  pub begins : BeginsWith (rest_of c) piece
+  pub begins : HasFront (rest_of c) piece
   pub refused : RefusedBy (front_meaning piece (rest_of c)) c.line error

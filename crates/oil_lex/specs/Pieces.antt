@@ -33,25 +33,25 @@ abbrev pub begins_comment : List ℕ → Bool
 begins_comment t = (slice_index t 0 == 47) || (slice_index t 0 == 42)
 
 -- These bytes, with the rest of the text behind them, are a piece of this kind.
-pub data IsPiece : PieceKind → List ℕ → List ℕ → Type 0 where
-  is_one_blank : {b : ℕ} {rest : List ℕ} → class_of b ≡ class.Blank → IsPiece kind.Blank (b ∷ []) rest
-  is_line_comment : {w rest : List ℕ} → EachPasses is_not_lf w → IsRunEnd is_not_lf rest → IsPiece kind.LineComment (47 ∷ 47 ∷ w) rest
-  is_block_comment : (w : List ℕ) {rest : List ℕ} → HasNoCommentEnd (w ++ 42 ∷ []) → IsPiece kind.BlockComment (47 ∷ 42 ∷ (w ++ 42 ∷ 47 ∷ [])) rest
-  is_word : {b : ℕ} {w rest : List ℕ} → class_of b ≡ class.Letter → EachPasses is_word_byte w → IsRunEnd is_word_byte rest → IsPiece kind.Word (b ∷ w) rest
+pub data IsTextPiece : PieceKind → List ℕ → List ℕ → Type 0 where
+  is_one_blank : {b : ℕ} {rest : List ℕ} → class_of b ≡ class.Blank → IsTextPiece kind.Blank (b ∷ []) rest
+  is_line_comment : {w rest : List ℕ} → EachPasses is_not_lf w → IsRunEnd is_not_lf rest → IsTextPiece kind.LineComment (47 ∷ 47 ∷ w) rest
+  is_block_comment : (w : List ℕ) {rest : List ℕ} → HasNoCommentEnd (w ++ 42 ∷ []) → IsTextPiece kind.BlockComment (47 ∷ 42 ∷ (w ++ 42 ∷ 47 ∷ [])) rest
+  is_word : {b : ℕ} {w rest : List ℕ} → class_of b ≡ class.Letter → EachPasses is_word_byte w → IsRunEnd is_word_byte rest → IsTextPiece kind.Word (b ∷ w) rest
   is_decimal : {b : ℕ} {w rest : List ℕ} → class_of b ≡ class.Digit → EachPasses is_digit w → IsRunEnd is_digit rest
-      → begins_hex (b ∷ (w ++ rest)) ≡ false → IsPiece kind.Decimal (b ∷ w) rest
+      → begins_hex (b ∷ (w ++ rest)) ≡ false → IsTextPiece kind.Decimal (b ∷ w) rest
   is_hexadecimal : {x h : ℕ} {w rest : List ℕ} → ((x == 120) || (x == 88)) ≡ true → is_hex_digit h ≡ true → EachPasses is_hex_digit w → IsRunEnd is_hex_digit rest
-      → IsPiece kind.Hexadecimal (48 ∷ x ∷ h ∷ w) rest
-  is_text : (w : List ℕ) {rest : List ℕ} → EachPasses is_quoted w → IsPiece kind.Text (34 ∷ (w ++ 34 ∷ [])) rest
-  is_sign : {b : ℕ} {rest : List ℕ} → class_of b ≡ class.Sign → IsPiece kind.Sign (b ∷ []) rest
-  is_slash : {rest : List ℕ} → begins_comment rest ≡ false → IsPiece kind.Sign (47 ∷ []) rest
+      → IsTextPiece kind.Hexadecimal (48 ∷ x ∷ h ∷ w) rest
+  is_text : (w : List ℕ) {rest : List ℕ} → EachPasses is_quoted w → IsTextPiece kind.Text (34 ∷ (w ++ 34 ∷ [])) rest
+  is_sign : {b : ℕ} {rest : List ℕ} → class_of b ≡ class.Sign → IsTextPiece kind.Sign (b ∷ []) rest
+  is_slash : {rest : List ℕ} → begins_comment rest ≡ false → IsTextPiece kind.Sign (47 ∷ []) rest
   -- a byte that begins none of these
-  is_stray : {b : ℕ} {rest : List ℕ} → class_of b ≡ class.Other → IsPiece kind.Stray (b ∷ []) rest
+  is_stray : {b : ℕ} {rest : List ℕ} → class_of b ≡ class.Other → IsTextPiece kind.Stray (b ∷ []) rest
   -- a comment that the text does not close
-  is_unclosed_comment : {w : List ℕ} → HasNoCommentEnd w → IsPiece kind.UnclosedComment (47 ∷ 42 ∷ w) []
+  is_unclosed_comment : {w : List ℕ} → HasNoCommentEnd w → IsTextPiece kind.UnclosedComment (47 ∷ 42 ∷ w) []
   -- a string whose line ends before it is closed
-  is_unclosed_text_lf : {w rest : List ℕ} → EachPasses is_quoted w → IsPiece kind.UnclosedText (34 ∷ w) (10 ∷ rest)
-  is_unclosed_text_end : {w : List ℕ} → EachPasses is_quoted w → IsPiece kind.UnclosedText (34 ∷ w) []
+  is_unclosed_text_lf : {w rest : List ℕ} → EachPasses is_quoted w → IsTextPiece kind.UnclosedText (34 ∷ w) (10 ∷ rest)
+  is_unclosed_text_end : {w : List ℕ} → EachPasses is_quoted w → IsTextPiece kind.UnclosedText (34 ∷ w) []
 
 -- a piece: its kind and its bytes
 pub record TextPiece : Type 0 where
@@ -61,8 +61,8 @@ pub record TextPiece : Type 0 where
 -- The whole text is cut into these pieces.
 abbrev pub IsCutInto : List ℕ → List TextPiece → Type 0
 IsCutInto text [] = text ≡ []
-IsCutInto text (p ∷ ps) = (behind : List ℕ) × (text ≡ p.bytes ++ behind) × IsPiece p.kind p.bytes behind × IsCutInto behind ps
+IsCutInto text (p ∷ ps) = (behind : List ℕ) × (text ≡ p.bytes ++ behind) × IsTextPiece p.kind p.bytes behind × IsCutInto behind ps
 
 -- Something stands at the front of a text: its kind, and its length.
-abbrev pub BeginsWith : List ℕ → PieceKind × ℕ → Type 0
-BeginsWith t k = IsPiece k.0 (take k.1 t) (drop k.1 t) × (0 < k.1) × (k.1 ≤ length t)
+abbrev pub HasFront : List ℕ → PieceKind × ℕ → Type 0
+HasFront t k = IsTextPiece k.0 (take k.1 t) (drop k.1 t) × (0 < k.1) × (k.1 ≤ length t)

@@ -1,7 +1,7 @@
 //! The piece at the front of a text.
 
 ghost use Rattle.std.specs.Prelude.{◌≡◌, ◌^◌, ◌<◌, length};
-ghost use Rattle.oil_lex.specs.Pieces.{BeginsWith};
+ghost use Rattle.oil_lex.specs.Pieces.{HasFront};
 ghost use Rattle.oil_lex.specs.Front.{comment_piece, text_piece, slash_piece, number_piece, front_piece};
 
 use crate::bytes::{Class, Run, begins_hex, class_of, comment_length, run_length};
@@ -92,7 +92,7 @@ fn front_piece(text: &[u8]) -> (PieceKind, usize)
 pub fn first_piece(text: &[u8]) -> (PieceKind, usize)
     requires some { 0 < length text.now }
     requires fits { length text.now < 2 ^ 32 }
-    ensures { BeginsWith text.now result }
+    ensures { HasFront text.now result }
 {
     front_piece(text)
 }

@@ -18,7 +18,7 @@ use Rattle.oil_table.specs.Objects.{is_of_kind, has_scheduler, names_of}
 use Rattle.oil_events.specs.Events.{events_of}
 use Rattle.oil_rules.specs.ObjectFaults.{is_known, is_above, is_clock_above, comes_behind}
 use Rattle.oil_model.specs.Configs.{resource_names}
-use Rattle.oil_rules.specs.TreeFaults.{InnerFault, ObjectFault}
+use Rattle.oil_rules.specs.TreeFaults.{KnownObjectFault, ObjectFault}
 use Rattle.oil_alarms.specs.AlarmFaults.{PartFault, AlarmFault}
 use Rattle.oil_alarms.specs.ModelFaults.{ModelFault}
 
@@ -49,7 +49,7 @@ count_by-limited p limit (x ∷ xs) never = subst (λ ys. count_by p ys ≤ limi
 
 module _ (tree : OilTree) (none : NoFault (ModelFault tree)) where
   abbrev pub KnownHere : ℕ → OilObject → Refusal → Type 0
-  KnownHere i d = InnerFault tree.objects (has_scheduler tree.objects) (events_of tree.objects) (take i tree.objects) (get_or tree.objects i d)
+  KnownHere i d = KnownObjectFault tree.objects (has_scheduler tree.objects) (events_of tree.objects) (take i tree.objects) (get_or tree.objects i d)
 
   object_at : (i : ℕ) (d : OilObject) → i < length tree.objects
       → NoFault (ObjectFault tree.objects (has_scheduler tree.objects) (events_of tree.objects) (take i tree.objects) (get_or tree.objects i d))

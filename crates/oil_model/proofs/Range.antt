@@ -8,7 +8,7 @@ use Rattle.sloth_base.specs.declared.config.EventDecl.{EventDecl}
 use Rattle.sloth_base.specs.declared.config.TaskDecl.{TaskDecl}
 use Rattle.sloth_base.specs.declared.config.CounterDecl.{CounterDecl}
 use Rattle.sloth_base.specs.declared.config.AlarmDecl.{AlarmDecl}
-use Rattle.sloth_base.specs.ImageRange.{IsWord, AreNames, AreApart}
+use Rattle.sloth_base.specs.ImageRange.{IsWord, AreNames, AreNamesApart}
 use Rattle.sloth_base.specs.ConfigRange.{IsTask, IsCounter, IsAlarm, InRange, scheduler_number}
 use Rattle.sloth_base.specs.Limits.{task_limit, event_limit}
 use Rattle.least_fault.specs.Order.{NoFault}
@@ -112,9 +112,9 @@ module _ (tree : OilTree) (none : NoFault (ModelFault tree)) (words : All (λ (o
     counter_names = subst AreNames (sym (counter_names (filter (is_of_kind (codes "COUNTER")) tree.objects))) (are_names tree none words (codes "COUNTER"));
     alarm_names = subst AreNames (sym (alarm_names (names_of (codes "TASK") tree.objects) (names_of (codes "COUNTER") tree.objects) (events_of tree.objects) (filter (is_of_kind (codes "ALARM")) tree.objects)))
         (are_names tree none words (codes "ALARM"));
-    counters_apart = subst (λ (names : List (List ℕ)). AreApart names (map (λ (t : TaskDecl). t.name) (config_of tree.objects).tasks))
+    counters_apart = subst (λ (names : List (List ℕ)). AreNamesApart names (map (λ (t : TaskDecl). t.name) (config_of tree.objects).tasks))
         (sym (counter_names (filter (is_of_kind (codes "COUNTER")) tree.objects)))
-        (subst (AreApart (names_of (codes "COUNTER") tree.objects))
+        (subst (AreNamesApart (names_of (codes "COUNTER") tree.objects))
         (sym (task_names (resource_names tree.objects) (events_of tree.objects) (filter (is_of_kind (codes "TASK")) tree.objects))) (counters_apart tree none));
     counters = All-kept (is_of_kind (codes "COUNTER")) declared_counter IsCounter tree.objects (is_counter tree none);
     alarms = All-kept (is_of_kind (codes "ALARM")) alarm_of (IsAlarm (config_of tree.objects)) tree.objects (is_alarm tree none);

@@ -5,7 +5,7 @@ use Rattle.std.specs.Str.{bytes_eq}
 use Rattle.std.proofs.lemmas.Bool.{cases_lt, or_parts}
 use Rattle.std.proofs.lemmas.List.{get_or-take, length-take-le, get_or_default}
 use Rattle.std.proofs.lemmas.Slice.Eq.{bytes_eq-Decides}
-use Rattle.sloth_base.specs.ImageRange.{AreApart}
+use Rattle.sloth_base.specs.ImageRange.{AreNamesApart}
 use Rattle.least_fault.specs.Order.{NoFault}
 use Rattle.oil_parse.specs.declared.tree.OilObject.{OilObject}
 use Rattle.oil_parse.specs.declared.tree.OilTree.{OilTree}
@@ -60,6 +60,6 @@ module _ (tree : OilTree) (none : NoFault (ModelFault tree)) where
           let z : true ≡ false = sym s ∙ ap (is_of_kind (codes "TASK")) here ∙ ap (λ (k : List ℕ). bytes_eq k (codes "TASK")) counter in
           cc
 
-  pub counters_apart : AreApart (names_of (codes "COUNTER") tree.objects) (names_of (codes "TASK") tree.objects)
+  pub counters_apart : AreNamesApart (names_of (codes "COUNTER") tree.objects) (names_of (codes "TASK") tree.objects)
   counters_apart = All-kept (is_of_kind (codes "COUNTER")) (λ (o : OilObject). o.name) (λ (name : List ℕ). All (λ (other : List ℕ). other ≢ name) (names_of (codes "TASK") tree.objects)) tree.objects
       (λ i d h t. All-kept (is_of_kind (codes "TASK")) (λ (o : OilObject). o.name) (λ (other : List ℕ). other ≢ (get_or tree.objects i d).name) tree.objects (apart i d h t))

@@ -14,7 +14,7 @@ use Rattle.oil_parse.specs.declared.machine.Expect.TheVariants.{Start, VersionIs
 use Rattle.oil_parse.specs.Shapes.{shape, IsWordToken}
 use Rattle.oil_parse.specs.declared.tree.OilObject.{OilObject}
 use Rattle.oil_parse.specs.declared.tree.OilTree.{OilTree}
-use Rattle.oil_parse.specs.Grammar.{IsValue, IsEnd, bare, described, IsAttrs, no_attr, attr, block, attr_of, IsObject, plain_object, block_object, IsObjects, no_object, object, IsBalanced, no_token, token_in, braces, IsSection, no_section, section, IsHead, head, IsFile, file}
+use Rattle.oil_parse.specs.Grammar.{IsValue, IsEnd, bare, described, IsAttrs, no_attr, attr, block, attr_of, IsOilObject, plain_object, block_object, IsObjects, no_object, object, IsBalanced, no_token, token_in, braces, IsImplementation, no_section, section, IsHead, head, IsFile, file}
 use Rattle.oil_parse.specs.Steps.{next, behind}
 use Rattle.oil_parse.specs.Machine.{nothing_built, PartialTree, partial_tree_after, whole_object, whole_construct}
 use Rattle.oil_parse.proofs.Steps.{step, build}
@@ -117,7 +117,7 @@ attrs_take (block {d} {n} {e} {v} {o} c us f ts bl al k w q i s a z g m) b =
 abbrev ObjectTaken : PartialTree → List Lexeme → List OilObject → Type 0
 ObjectTaken b ts os = (b' : PartialTree) × Takes Objects b ts Objects b' × (b'.objects ≡ b.objects ++ os) × (b'.cpu_line ≡ b.cpu_line)
 
-object_takes : {ts : List Lexeme} {o : OilObject} → IsObject ts o → (b : PartialTree) → ObjectTaken b ts (o ∷ [])
+object_takes : {ts : List Lexeme} {o : OilObject} → IsOilObject ts o → (b : PartialTree) → ObjectTaken b ts (o ∷ [])
 unfolding next partial_tree_after
 object_takes (plain_object {k} {n} {f} v w g) b =
     let b1 = record b { kind = k.bytes; line = k.line; attrs = []; name = n.bytes } in
@@ -154,7 +154,7 @@ balanced_takes (braces c us ts s a z m) n b =
     takes_by (Inside (suc n)) s refl (takes_then (Inside (suc n)) b (balanced_takes a (suc n) b) (takes_by (Inside n) z refl (balanced_takes m n b)))
 
 -- an optional section, and the word CPU
-section_takes : {xs : List Lexeme} → IsSection xs → (c : Lexeme) {rest : List Lexeme} (b : PartialTree) {b2 : PartialTree} {e2 : Expect} → shape c ≡ Word Cpu
+section_takes : {xs : List Lexeme} → IsImplementation xs → (c : Lexeme) {rest : List Lexeme} (b : PartialTree) {b2 : PartialTree} {e2 : Expect} → shape c ≡ Word Cpu
     → Takes CpuName (record b { cpu_line = c.line }) rest e2 b2 → Takes Body b (xs ++ c ∷ rest) e2 b2
 unfolding next partial_tree_after
 section_takes no_section c b s a = takes_by CpuName s refl a
@@ -170,7 +170,7 @@ unfolding next partial_tree_after
 head_takes (head v e x g) b = takes_by VersionIs v refl (takes_by VersionText e refl (takes_by (Ending Head) x refl (end_takes g Head b)))
 
 -- behind the word CPU
-pub cpu_takes : {hs xs : List Lexeme} → IsHead hs → IsSection xs → (c : Lexeme) {rest : List Lexeme} (b : PartialTree) {b2 : PartialTree} {e2 : Expect} → shape c ≡ Word Cpu
+pub cpu_takes : {hs xs : List Lexeme} → IsHead hs → IsImplementation xs → (c : Lexeme) {rest : List Lexeme} (b : PartialTree) {b2 : PartialTree} {e2 : Expect} → shape c ≡ Word Cpu
     → Takes CpuName (record b { cpu_line = c.line }) rest e2 b2 → Takes Start b (hs ++ (xs ++ c ∷ rest)) e2 b2
 cpu_takes h s c b k a = takes_then Body b (head_takes h b) (section_takes s c b k a)
 

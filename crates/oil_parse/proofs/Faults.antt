@@ -13,7 +13,7 @@ use Rattle.oil_parse.specs.declared.machine.Expect.{Expect}
 use Rattle.oil_parse.specs.declared.machine.Expect.TheVariants.{Start, Ending, Describing, Closing, CpuName, CpuOpen, Objects, ObjectName, ObjectTail, Attrs, AttrIs, AttrValue, AttrTail, Done}
 use Rattle.oil_parse.specs.Shapes.{shape}
 use Rattle.oil_parse.specs.declared.tree.OilTree.{OilTree}
-use Rattle.oil_parse.specs.Grammar.{IsSection, IsHead, IsFile, file}
+use Rattle.oil_parse.specs.Grammar.{IsImplementation, IsHead, IsFile, file}
 use Rattle.oil_parse.specs.Faults.{IsViable, InCpu, IsTooBig, last_line, EndFault, GrammarFault}
 use Rattle.oil_parse.specs.Steps.{next, closed_construct}
 use Rattle.oil_parse.specs.Machine.{nothing_built}
@@ -116,7 +116,7 @@ cpu_after (t ∷ rest) e h =
 abbrev up_to : List Lexeme → List Lexeme → Lexeme → List Lexeme
 up_to hs xs c = hs ++ (xs ++ c ∷ [])
 
-up_to_cpu : (hs xs : List Lexeme) (c : Lexeme) → IsHead hs → IsSection xs → shape c ≡ Word Cpu → step (Some Start) (up_to hs xs c) ≡ Some CpuName
+up_to_cpu : (hs xs : List Lexeme) (c : Lexeme) → IsHead hs → IsImplementation xs → shape c ≡ Word Cpu → step (Some Start) (up_to hs xs c) ≡ Some CpuName
 up_to_cpu hs xs c h s k =
     let w : Takes CpuName (record nothing_built { cpu_line = c.line }) [] CpuName (record nothing_built { cpu_line = c.line }) = record { leads = refl; builds = refl } in
     (cpu_takes h s c nothing_built k w).leads

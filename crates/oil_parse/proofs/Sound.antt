@@ -14,7 +14,7 @@ use Rattle.oil_parse.specs.declared.machine.Expect.TheVariants.{Start, VersionIs
 use Rattle.oil_parse.specs.Shapes.{shape, IsWordToken}
 use Rattle.oil_parse.specs.declared.tree.OilObject.{OilObject}
 use Rattle.oil_parse.specs.declared.tree.OilTree.{OilTree}
-use Rattle.oil_parse.specs.Grammar.{IsValue, IsEnd, bare, described, IsAttrs, no_attr, attr, block, attr_of, IsObject, plain_object, block_object, IsObjects, no_object, object, IsBalanced, no_token, token_in, braces, IsSection, no_section, section, head, IsFile, file}
+use Rattle.oil_parse.specs.Grammar.{IsValue, IsEnd, bare, described, IsAttrs, no_attr, attr, block, attr_of, IsOilObject, plain_object, block_object, IsObjects, no_object, object, IsBalanced, no_token, token_in, braces, IsImplementation, no_section, section, head, IsFile, file}
 use Rattle.oil_parse.specs.Steps.{next, behind, closed_construct, expectation_behind}
 use Rattle.oil_parse.proofs.Steps.{step}
 use Rattle.oil_parse.proofs.Steps.{none_done}
@@ -153,7 +153,7 @@ unfolding next
 object_name_by t ts (Word k) e h = ((k, e), h)
 object_name_by t ts _ e h = absurd (none_done ts h)
 
-one_object : (us rest : List Lexeme) (o : OilObject) (m : ℕ) → AllObjects m → length rest ≤ m → IsObject us o → Accepts Objects rest → ObjectsRead (us ++ rest)
+one_object : (us rest : List Lexeme) (o : OilObject) (m : ℕ) → AllObjects m → length rest ≤ m → IsOilObject us o → Accepts Objects rest → ObjectsRead (us ++ rest)
 one_object us rest o m ih l i h =
     let a = ih rest l h in
     (us ++ a.0, a.1, a.2, o ∷ a.3, ap (λ x. us ++ x) a.4 ∙ sym (append_assoc us a.0 (a.1 ∷ a.2)), object us a.0 i a.5, a.6, a.7)
@@ -277,7 +277,7 @@ cpu_word_read (t ∷ ts) h = cpu_word_by t ts (shape t) refl h
 
 -- an optional section, and what comes behind it
 abbrev BodyRead : List Lexeme → Type 0
-BodyRead ts = (xs : List Lexeme) × (rest : List Lexeme) × (ts ≡ xs ++ rest) × IsSection xs × CpuRead rest
+BodyRead ts = (xs : List Lexeme) × (rest : List Lexeme) × (ts ≡ xs ++ rest) × IsImplementation xs × CpuRead rest
 
 section_name_by : (t : Lexeme) (ts : List Lexeme) (x : Shape) → shape t ≡ x → step (next SectionName x) ts ≡ Some Done → IsWordToken t × Accepts SectionOpen ts
 unfolding next

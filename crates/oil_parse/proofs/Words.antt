@@ -14,7 +14,7 @@ use Rattle.oil_parse.specs.declared.tree.OilAttr.{OilAttr}
 use Rattle.oil_parse.specs.declared.tree.OilObject.{OilObject}
 use Rattle.oil_parse.specs.declared.tree.OilTree.{OilTree}
 use Rattle.oil_parse.specs.Shapes.{shape_by, sign_of, IsWordToken}
-use Rattle.oil_parse.specs.Grammar.{value_by, attr_of, IsAttrs, no_attr, attr, block, IsObject, plain_object, block_object, IsObjects, no_object, object, IsFile, file}
+use Rattle.oil_parse.specs.Grammar.{value_by, attr_of, IsAttrs, no_attr, attr, block, IsOilObject, plain_object, block_object, IsObjects, no_object, object, IsFile, file}
 use Rattle.oil_parse.specs.Text.{HasTree}
 use Rattle.oil_parse.specs.Words.{IsValueOfWord, IsAttrOfWords, IsObjectOfWords}
 
@@ -68,7 +68,7 @@ attrs_words (block {d} {n} {e} {v} {o} c us f ts bl al k w q i p b z g a) s =
       joined IsAttrOfWords bl al (attrs_words b (front_of Spelled us (c ∷ (f ++ ts)) r)) (attrs_words a (back_of Spelled f ts (back_of Spelled us (c ∷ (f ++ ts)) r).1)),
     )
 
-object_words : {ts : List Lexeme} {o : OilObject} → IsObject ts o → AllByRecursion Spelled ts → IsObjectOfWords o
+object_words : {ts : List Lexeme} {o : OilObject} → IsOilObject ts o → AllByRecursion Spelled ts → IsObjectOfWords o
 object_words (plain_object {k} {n} {f} v w g) s = record { kind = word k v s.0; name = word n w s.1.0; attrs = All-from_recursion IsAttrOfWords [] tt }
 object_words (block_object {k} {n} {o} c us f {al} v w p a z g) s =
     record { kind = word k v s.0; name = word n w s.1.0; attrs = All-from_recursion IsAttrOfWords al (attrs_words a (front_of Spelled us (c ∷ f) s.1.1.1)) }

@@ -9,7 +9,7 @@ use Rattle.oil_parse.specs.declared.machine.Shape.{Shape}
 use Rattle.oil_parse.specs.declared.machine.Shape.TheVariants.{Word, Number}
 use Rattle.oil_parse.specs.declared.tree.OilTree.{OilTree}
 use Rattle.oil_parse.specs.Shapes.{shape}
-use Rattle.oil_parse.specs.Grammar.{IsSection, IsHead, IsFile}
+use Rattle.oil_parse.specs.Grammar.{IsImplementation, IsHead, IsFile}
 
 -- Some file begins so.
 abbrev pub IsViable : List Lexeme → Type 0
@@ -17,7 +17,7 @@ IsViable ts = (more : List Lexeme) × (tree : OilTree) × IsFile (ts ++ more) tr
 
 -- The tokens go on behind the word CPU, so they have left the section IMPLEMENTATION.
 abbrev pub InCpu : List Lexeme → Type 0
-InCpu ts = (hs xs front : List Lexeme) × (c : Lexeme) × (ts ≡ hs ++ (xs ++ c ∷ front)) × IsHead hs × IsSection xs × (shape c ≡ Word Cpu)
+InCpu ts = (hs xs front : List Lexeme) × (c : Lexeme) × (ts ≡ hs ++ (xs ++ c ∷ front)) × IsHead hs × IsImplementation xs × (shape c ≡ Word Cpu)
 
 -- a number above 2^32 - 1
 abbrev pub IsTooBig : Shape → Type 0

@@ -42,17 +42,17 @@ pub data IsAttrs : ℕ → List Lexeme → List OilAttr → Type 0 where
       → IsAttrs d (n ∷ e ∷ v ∷ o ∷ (us ++ c ∷ (f ++ ts))) (attr_of d n v ∷ (bl ++ al))
 
 -- the tokens of an object, with a block or without one
-pub data IsObject : List Lexeme → OilObject → Type 0 where
+pub data IsOilObject : List Lexeme → OilObject → Type 0 where
   plain_object : {k n : Lexeme} {f : List Lexeme} → IsWordToken k → IsWordToken n → IsEnd f
-      → IsObject (k ∷ n ∷ f) (record { kind = k.bytes; name = n.bytes; line = k.line; attrs = [] })
+      → IsOilObject (k ∷ n ∷ f) (record { kind = k.bytes; name = n.bytes; line = k.line; attrs = [] })
   block_object : {k n o : Lexeme} (c : Lexeme) (us f : List Lexeme) {al : List OilAttr} → IsWordToken k → IsWordToken n → shape o ≡ Open
       → IsAttrs 0 us al → shape c ≡ Close → IsEnd f
-      → IsObject (k ∷ n ∷ o ∷ (us ++ c ∷ f)) (record { kind = k.bytes; name = n.bytes; line = k.line; attrs = al })
+      → IsOilObject (k ∷ n ∷ o ∷ (us ++ c ∷ f)) (record { kind = k.bytes; name = n.bytes; line = k.line; attrs = al })
 
 -- the tokens of objects one after the other
 pub data IsObjects : List Lexeme → List OilObject → Type 0 where
   no_object : IsObjects [] []
-  object : (ts us : List Lexeme) {o : OilObject} {os : List OilObject} → IsObject ts o → IsObjects us os → IsObjects (ts ++ us) (o ∷ os)
+  object : (ts us : List Lexeme) {o : OilObject} {os : List OilObject} → IsOilObject ts o → IsObjects us os → IsObjects (ts ++ us) (o ∷ os)
 
 -- any tokens in which `{` and `}` match
 pub data IsBalanced : List Lexeme → Type 0 where
@@ -61,11 +61,11 @@ pub data IsBalanced : List Lexeme → Type 0 where
   braces : {o : Lexeme} (c : Lexeme) (us ts : List Lexeme) → shape o ≡ Open → IsBalanced us → shape c ≡ Close → IsBalanced ts → IsBalanced (o ∷ (us ++ c ∷ ts))
 
 -- an optional section IMPLEMENTATION
-pub data IsSection : List Lexeme → Type 0 where
-  no_section : IsSection []
+pub data IsImplementation : List Lexeme → Type 0 where
+  no_section : IsImplementation []
   section : {i n o : Lexeme} (c : Lexeme) (us f : List Lexeme) → shape i ≡ Word Implementation → IsWordToken n → shape o ≡ Open
       → IsBalanced us → shape c ≡ Close → IsEnd f
-      → IsSection (i ∷ n ∷ o ∷ (us ++ c ∷ f))
+      → IsImplementation (i ∷ n ∷ o ∷ (us ++ c ∷ f))
 
 -- the tokens of the version
 pub data IsHead : List Lexeme → Type 0 where
@@ -73,6 +73,6 @@ pub data IsHead : List Lexeme → Type 0 where
 
 -- the tokens of a whole file
 pub data IsFile : List Lexeme → OilTree → Type 0 where
-  file : (c n o z : Lexeme) (hs xs us f : List Lexeme) {os : List OilObject} → IsHead hs → IsSection xs → shape c ≡ Word Cpu → IsWordToken n → shape o ≡ Open
+  file : (c n o z : Lexeme) (hs xs us f : List Lexeme) {os : List OilObject} → IsHead hs → IsImplementation xs → shape c ≡ Word Cpu → IsWordToken n → shape o ≡ Open
       → IsObjects us os → shape z ≡ Close → IsEnd f
       → IsFile (hs ++ (xs ++ (c ∷ n ∷ o ∷ (us ++ z ∷ f)))) (record { cpu_line = c.line; objects = os })

@@ -21,15 +21,15 @@ abbrev pub TaskFaults : List EventDecl → List OilObject → OilObject → Refu
 TaskFaults events front object r = (is_of_kind (codes "TASK") object ≡ true) × Somewhere (TaskFault events front) object.attrs r
 
 -- the faults of an object of a kind, and of its attributes
-abbrev pub InnerFault : List OilObject → Bool → List EventDecl → List OilObject → OilObject → Refusal → Type 0
-InnerFault objects scheduler events front object r =
+abbrev pub KnownObjectFault : List OilObject → Bool → List EventDecl → List OilObject → OilObject → Refusal → Type 0
+KnownObjectFault objects scheduler events front object r =
     KnownFault scheduler front object r
     ⊎ (Somewhere (AttributeFault objects scheduler (place_of object.kind)) object.attrs r
     ⊎ TaskFaults events front object r)
 
 -- O7, and the other faults of an object of a kind, among all these objects and behind those before it
 abbrev pub ObjectFault : List OilObject → Bool → List EventDecl → List OilObject → OilObject → Refusal → Type 0
-ObjectFault objects scheduler events front object r = KindFault object r ⊎ ((is_known object ≡ true) × InnerFault objects scheduler events front object r)
+ObjectFault objects scheduler events front object r = KindFault object r ⊎ ((is_known object ≡ true) × KnownObjectFault objects scheduler events front object r)
 
 -- no object of the kind OS
 abbrev pub lacks_os : List OilObject → Bool

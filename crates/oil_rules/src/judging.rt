@@ -4,7 +4,7 @@ ghost use Rattle.least_fault.specs.Search.{IsSearchResult, Somewhere};
 ghost use Rattle.oil_table.specs.Objects.{has_scheduler};
 ghost use Rattle.oil_events.specs.Events.{events_of};
 ghost use Rattle.oil_rules.specs.ObjectFaults.{is_known};
-ghost use Rattle.oil_rules.specs.TreeFaults.{TaskFaults, InnerFault, ObjectFault, TreeFault};
+ghost use Rattle.oil_rules.specs.TreeFaults.{TaskFaults, KnownObjectFault, ObjectFault, TreeFault};
 
 use crate::attribute_faults::attribute_faults;
 use crate::front::Front;
@@ -43,7 +43,7 @@ fn inner_fault(
     front: &Front,
     object: &OilObject,
 ) -> Result<Option<Refusal>, NoMemory>
-    ensures { IfOk result (IsSearchResult (InnerFault table.now scheduler events.now front.now object.now)) }
+    ensures { IfOk result (IsSearchResult (KnownObjectFault table.now scheduler events.now front.now object.now)) }
 {
     let known = known_fault(scheduler, front, object);
     let place = place_of(object.kind.bytes());
@@ -60,7 +60,7 @@ fn fault_of_known(
     front: &Front,
     object: &OilObject,
 ) -> Result<Option<Refusal>, NoMemory>
-    ensures { IfOk result (IsSearchResult (λ r. (is_known object.now ≡ true) × InnerFault table.now scheduler events.now front.now object.now r)) }
+    ensures { IfOk result (IsSearchResult (λ r. (is_known object.now ≡ true) × KnownObjectFault table.now scheduler events.now front.now object.now r)) }
 {
     if is_nowhere(place_of(object.kind.bytes())) {
         return Ok(None);

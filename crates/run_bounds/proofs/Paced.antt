@@ -24,7 +24,7 @@ use Rattle.sloth_base.specs.Stretches.{Boots, beginning_of, later_beginning, str
 use Rattle.sloth_base.specs.Limits.{item_counts, unseen_counts, boot_instructions}
 use Rattle.sloth_base.proofs.Stretches.{begins_later, within_longest}
 use Rattle.rv32_machine.specs.Coherent.{AreCoherent}
-use Rattle.observe.specs.Pieces.{RunPiece, Outside, Stretch, steps_of, IsPiece}
+use Rattle.observe.specs.Pieces.{RunPiece, Outside, Stretch, steps_of, IsRunPiece}
 use Rattle.observe.specs.Observe.{View, NO_TASK, NO_COUNTER, running_task, service_event, marked_event, unentered_event, stamp, admission, is_early, first_masked_moment, last_of, stretch_event, later_event, entry_event, stretch_events, events_of_kind, outside_events, mark_at, piece_events}
 use Rattle.sim_induction.specs.Short.{AreShort, IsShortPiece, passed_count, passed_length, HasShortGaps}
 use Rattle.sim_induction.proofs.Shown.{stretch_long}
@@ -263,7 +263,7 @@ module _ (config : Config) (view : View) (arrivals : List Arrival) where
       }
 
   pub paces : (parts : List RunPiece) (rest : List Step) (at before count : ℕ) (enabled : Bool) → AreCoherent count enabled (flat_map steps_of parts ++ rest)
-      → AllByRecursion IsPiece parts → AllByRecursion (IsShortPiece config) parts → HasShortGaps view before parts → count ≤ at + 1 + before → before ≤ unseen_counts
+      → AllByRecursion IsRunPiece parts → AllByRecursion (IsShortPiece config) parts → HasShortGaps view before parts → count ≤ at + 1 + before → before ≤ unseen_counts
       → Paces at parts count rest
   paces [] rest at before count enabled c each short gaps near few = record {
     to = at;

@@ -11,7 +11,7 @@ use Rattle.sloth_base.specs.declared.places.Places.{Places}
 use Rattle.sloth_base.specs.Named.{item_of}
 use Rattle.expansion_parts.specs.Expansion.{item_address, is_long, expansion}
 use Rattle.sloth_base.specs.Named.{operation}
-use Rattle.rv32_expand.specs.InPlace.{IsItem}
+use Rattle.rv32_expand.specs.InPlace.{IsAppItem}
 use Rattle.expansion_parts.specs.Long.{BranchSet, size, size_at, place, target_of, IsBranchTo, IsInBranchReach, AreLongBranches}
 use Rattle.rv32_expand.specs.Sizes.{AgreeWithSizes}
 use Rattle.expansion_parts.proofs.Counts.{size_is}
@@ -77,7 +77,7 @@ module _ (app : App) (places : Places) (agree : AgreeWithSizes app places) (func
   abbrev pub long : BranchSet
   long = agree.are_sizes.long func
 
-  item : (i : ℕ) → i < length body.items → IsItem app func i
+  item : (i : ℕ) → i < length body.items → IsAppItem app func i
   item i h = record { declared = declared; inside = h }
 
   -- the next item

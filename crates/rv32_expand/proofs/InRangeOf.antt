@@ -10,7 +10,7 @@ use Rattle.sloth_base.specs.declared.app.Label.{Label}
 use Rattle.sloth_base.specs.Named.{label_of, no_label}
 use Rattle.sloth_base.specs.Limits.{frame_limit}
 use Rattle.code_rules.specs.AppRange.{IsTaskCode}
-use Rattle.expansion_parts.specs.Passes.{IsSmall}
+use Rattle.expansion_parts.specs.Passes.{IsCountable}
 
 -- a frame has at most 32 words
 pub frame_of : (app : App) → IsTaskCode app → (func : ℕ) → (function app func).frame_words ≤ frame_limit
@@ -27,7 +27,7 @@ label_in body inside k =
     (cases_lt k (length body.labels))
 
 -- the words of each body can be counted, and its labels are in it
-pub small : (app : App) (code : IsTaskCode app) (func : ℕ) (d : Func) → func < length app.funcs → IsSmall app (get_or app.funcs func d)
+pub small : (app : App) (code : IsTaskCode app) (func : ℕ) (d : Func) → func < length app.funcs → IsCountable app (get_or app.funcs func d)
 small app code func d h =
     let b = code.1.bodies func d h in
     record {

@@ -3,7 +3,7 @@ use Rattle.std.proofs.Common.{◌≡◌, ◌∙◌, ℕ, ◌<◌, length, get_or
 use Rattle.std.proofs.lemmas.List.{ext_get_or}
 use Rattle.std.specs.Cmp.{both_ways}
 use Rattle.sloth_base.specs.Named.{function, no_function}
-use Rattle.rv32_expand.specs.InPlace.{IsItem}
+use Rattle.rv32_expand.specs.InPlace.{IsAppItem}
 use Rattle.rv32_expand.specs.ItemLengths.{LeastIsOne, SizesAreOne}
 use Rattle.rv32_expand.proofs.Agreeing.{size_same}
 use Rattle.rv32_expand.proofs.Locating.{locate}
@@ -20,7 +20,7 @@ sizes_are_one app xs ys p q = ext_get_or 0 xs ys (p.count ∙ sym q.count) same
     same k h =
         let c = p.count in
         let at = locate app.funcs k no_function (omega (arith, c, h)) in
-        let item : IsItem app at.func at.index = record { declared = at.declared; inside = at.inside } in
+        let item : IsAppItem app at.func at.index = record { declared = at.declared; inside = at.inside } in
         ap (λ (n : ℕ). get_or xs n 0) at.is ∙ p.each at.func at.index item
         ∙ size_same app (function app at.func) (p.long at.func) (q.long at.func)
         (λ i t g. least_is_one app (function app at.func) (p.long at.func) (q.long at.func) (p.least at.func at.declared) (q.least at.func at.declared) i t g) at.index at.inside

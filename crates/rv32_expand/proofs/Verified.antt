@@ -22,7 +22,7 @@ use Rattle.expansion_parts.specs.Expansion.{item_address, symbol_address, block_
 use Rattle.sloth_base.specs.Named.{operation}
 use Rattle.sloth_base.specs.Limits.{mask_limit, frame_limit}
 use Rattle.rv32_expand.specs.NumberRange.{HasBranchRoom, HasNumbersInRange}
-use Rattle.rv32_expand.specs.InPlace.{IsItem}
+use Rattle.rv32_expand.specs.InPlace.{IsAppItem}
 use Rattle.expansion_parts.specs.Long.{target_of, IsBranchTo, AreLongBranches, IsInBranchReach}
 use Rattle.rv32_expand.specs.ItemLengths.{ShortBranchesReach}
 use Rattle.rv32_expand.specs.Sizes.{AgreeWithSizes, HasWordAddresses, IsVerified, IsWordAddress}
@@ -81,7 +81,7 @@ test_reaches a b h k r = let x = r.0 in let y = r.1 in ((omega (arith, ints), om
 own : (r : ℕ) → IsRegister r → r < 32
 own r h = ⊎_elim (λ e. omega (arith, e)) (λ k. let l = k.1 in omega arith) h
 
-module _ (config : Config) (app : App) (well : WellFormed config app) (func index : ℕ) (item : IsItem app func index) where
+module _ (config : Config) (app : App) (well : WellFormed config app) (func index : ℕ) (item : IsAppItem app func index) where
   abbrev body : Func
   body = function app func
 
@@ -92,7 +92,7 @@ module _ (config : Config) (app : App) (well : WellFormed config app) (func inde
   is_op = let b = well.in_range.bodies func no_function item.declared in b.items index no_item item.inside
 
   -- a label to which an item goes stands before an item
-  pub goes_inside : (k : ℕ) → way (operation app func index) ≡ Some k → IsItem app func (label_of body k).item
+  pub goes_inside : (k : ℕ) → way (operation app func index) ≡ Some k → IsAppItem app func (label_of body k).item
   goes_inside k e = record {
     declared = item.declared;
     inside =
@@ -102,7 +102,7 @@ module _ (config : Config) (app : App) (well : WellFormed config app) (func inde
   }
 
   -- an item that goes on has one behind it
-  pub falls_inside : is_followed (operation app func index) ≡ true → IsItem app func (index + 1)
+  pub falls_inside : is_followed (operation app func index) ≡ true → IsAppItem app func (index + 1)
   falls_inside e = record {
     declared = item.declared;
     inside =
@@ -120,7 +120,7 @@ module _ (config : Config) (app : App) (well : WellFormed config app) (func inde
   mask_small mask P n = ⊎_elim (λ (h : mask_limit < mask). absurd (n (inl h))) (λ h. h) (cases_lt mask_limit mask)
 
 -- a body has a first item
-pub has_first : (config : Config) (app : App) → WellFormed config app → (func : ℕ) → func < length app.funcs → IsItem app func 0
+pub has_first : (config : Config) (app : App) → WellFormed config app → (func : ℕ) → func < length app.funcs → IsAppItem app func 0
 has_first config app well func h = record {
   declared = h;
   inside =
@@ -130,7 +130,7 @@ has_first config app well func h = record {
 }
 
 module _ (config : Config) (app : App) (well : WellFormed config app) (places : Places) (covers : HasWordAddresses app places) (agree : AgreeWithSizes app places)
-    (func index : ℕ) (item : IsItem app func index) where
+    (func index : ℕ) (item : IsAppItem app func index) where
   abbrev address : ℕ
   address = item_address places func index
 
@@ -140,14 +140,14 @@ module _ (config : Config) (app : App) (well : WellFormed config app) (places : 
   near : (n : ℕ) → n < length (expansion app places func index) → (covers.low ≤ address + 4 * n) × (address + 4 * n < covers.low + 0x10_0000)
   near n h = let i = covers.items_near func index item in (omega (arith, i.0), omega (arith, i.1))
 
-  item_near : (f i : ℕ) → IsItem app f i → (covers.low ≤ item_address places f i) × (item_address places f i < covers.low + 0x10_0000)
+  item_near : (f i : ℕ) → IsAppItem app f i → (covers.low ≤ item_address places f i) × (item_address places f i < covers.low + 0x10_0000)
   item_near f i h =
       let n = covers.items_near f i h in
       let s = expanded_some app places f (item_address places f i) (is_long places f i) (operation app f i) in
       (n.0, omega (arith, n.1, s))
 
   -- a jump from an instruction of the item to another item
-  to_item : (n f i : ℕ) → n < length (expansion app places func index) → IsItem app f i → IsEven 21 (distance (address + 4 * n) (item_address places f i))
+  to_item : (n f i : ℕ) → n < length (expansion app places func index) → IsAppItem app f i → IsEven 21 (distance (address + 4 * n) (item_address places f i))
   to_item n f i h k =
       let a = near n h in
       let b = item_near f i k in
@@ -168,7 +168,7 @@ module _ (config : Config) (app : App) (well : WellFormed config app) (places : 
   low_enough = let w = here in omega (arith, w.1)
 
   -- a branch: its label's item, and whether it is long
-  room : (target : ℕ) → IsBranchTo (function app func) index target → IsItem app func target → IsItem app func (index + 1) → (x : Bool) → is_long places func index ≡ x
+  room : (target : ℕ) → IsBranchTo (function app func) index target → IsAppItem app func target → IsAppItem app func (index + 1) → (x : Bool) → is_long places func index ≡ x
       → HasBranchRoom x address (item_address places func target)
   room target g t n true e = let w = here in omega (arith, w.1)
   room target g t n false e =
@@ -216,14 +216,14 @@ module _ (config : Config) (app : App) (well : WellFormed config app) (places : 
       (low_enough, to_block n call is (omega (arith, l)))
 
 -- each item's numbers have room where it stands
-pub items_fit : (app : App) → IsVerified app → (places : Places) → HasWordAddresses app places → AgreeWithSizes app places → (func index : ℕ) → IsItem app func index
+pub items_fit : (app : App) → IsVerified app → (places : Places) → HasWordAddresses app places → AgreeWithSizes app places → (func index : ℕ) → IsAppItem app func index
     → HasNumbersInRange app places func (item_address places func index) (is_long places func index) (operation app func index)
 items_fit app (config, well) places covers agree func index item =
     fits config app well places covers agree func index item (operation app func index) refl (is_op config app well func index item)
     (λ h. unbroken config app well func index item code.V2 (IsBreach.is_access_past h)) (λ h. unbroken config app well func index item code.V4 (IsBreach.is_mask_past h))
 
 -- the same of what code computes
-pub fit_here : (app : App) → IsVerified app → (places : Places) → HasWordAddresses app places → AgreeWithSizes app places → (func index : ℕ) → IsItem app func index
+pub fit_here : (app : App) → IsVerified app → (places : Places) → HasWordAddresses app places → AgreeWithSizes app places → (func index : ℕ) → IsAppItem app func index
     → (at : ℕ) → at ≡ item_address places func index → (long : Bool) → long ≡ is_long places func index → (o : Op) → o ≡ operation app func index
     → HasNumbersInRange app places func at long o
 fit_here app verified places covers agree func index item at a long l o e =
@@ -245,7 +245,7 @@ least_told app (config, well) places agree func h =
 -- a short branch reaches its item
 pub short_reaches : ShortBranchesReach
 short_reaches app (config, well) places agree func index target h g e =
-    let item : IsItem app func index = record { declared = h; inside = g.inside } in
+    let item : IsAppItem app func index = record { declared = h; inside = g.inside } in
     let b = branch_of (function app func) (operation app func index) target g.goes in
     let t = goes_inside config app well func index item b.label b.way_is in
     let n = falls_inside config app well func index item b.goes in

@@ -64,7 +64,7 @@ CodeAt memory address [] = Unit {0}
 CodeAt memory address (i ∷ rest) = (word_at memory (address - memory_base) ≡ Encode i) × CodeAt memory (address + 4) rest
 
 -- an item of the task code
-pub record IsItem (app : App) (func index : ℕ) : Type 0 where
+pub record IsAppItem (app : App) (func index : ℕ) : Type 0 where
   pub declared : func < length app.funcs
   pub inside : index < length (function app func).items
 
@@ -85,15 +85,15 @@ IsBodyName app task name = (func : ℕ) × (func < length app.funcs) × ((functi
 -- The image has the name of each function and of each task, and no other.
 pub record ItemsInPlace (image : Image) (config : Config) (app : App) : Type 0 where
   pub places : Places
-  pub code : (func index : ℕ) → IsItem app func index
+  pub code : (func index : ℕ) → IsAppItem app func index
       → CodeAt image.memory (item_address places func index) (expansion app places func index)
-  pub inside : (func index : ℕ) → IsItem app func index
+  pub inside : (func index : ℕ) → IsAppItem app func index
       → (memory_base < item_address places func index + 1) × (last_address app places func index + 4 < memory_base + length image.memory + 1)
-  pub adjacent : (func index : ℕ) → IsItem app func index → IsItem app func (index + 1)
+  pub adjacent : (func index : ℕ) → IsAppItem app func index → IsAppItem app func (index + 1)
       → item_address places func (index + 1) ≡ item_address places func index + 4 * length (expansion app places func index)
   pub least : (func : ℕ) → func < length app.funcs → AreLongBranches app (function app func) (is_long places func)
-  pub marked : (func index : ℕ) → IsItem app func index → Contains image.marks (item_mark app places func index)
-  pub only : All (λ mark. IsOfItem mark.kind (IsItem app mark.b mark.c × (mark ≡ item_mark app places mark.b mark.c))) image.marks
+  pub marked : (func index : ℕ) → IsAppItem app func index → Contains image.marks (item_mark app places func index)
+  pub only : All (λ mark. IsOfItem mark.kind (IsAppItem app mark.b mark.c × (mark ≡ item_mark app places mark.b mark.c))) image.marks
   pub functions : image.funcs ≡ map (λ f. f.name) app.funcs
   pub tasks : image.tasks ≡ map (λ d. d.name) config.tasks
   pub bodies : (task : ℕ) → task < length image.tasks → IsBodyName app task (get_or image.tasks task [])

@@ -11,7 +11,7 @@ use Rattle.rv32_instr.specs.Range.{AreInRange}
 use Rattle.rv32_instr.specs.declared.InstrKind.{InstrKind}
 use Rattle.rv32_instr.specs.declared.InstrKind.TheVariants.{Lui, Auipc, Jal, Jalr, Beq, Bne, Blt, Bge, Bltu, Bgeu, Lb, Lh, Lw, Lbu, Lhu, Sb, Sh, Sw, Addi, Slti, Sltiu, Xori, Ori, Andi, Slli, Srli, Srai, Add, Sub, Sll, Slt, Sltu, Xor, Srl, Sra, Or, And, Fence, Csrrw, Csrrs, Csrrc, Csrrwi, Csrrsi, Csrrci, Ecall, Ebreak, Mret}
 use Rattle.expansion_parts.specs.Expansion.{item_address, is_long, operation_code, expansion}
-use Rattle.rv32_expand.specs.InPlace.{IsItem, result_register}
+use Rattle.rv32_expand.specs.InPlace.{IsAppItem, result_register}
 use Rattle.expansion_parts.specs.Long.{BranchSet, size, IsBranchTo, IsInBranchReach, AreLongBranches}
 use Rattle.rv32_expand.specs.Sizes.{AreItemSizes, AgreeWithSizes, HasWordAddresses, IsVerified}
 
@@ -45,7 +45,7 @@ LeastAreLong = (app : App) → IsVerified app → (places : Places) → AgreeWit
 -- each item stands behind the instructions of the one before it
 abbrev pub ItemsAreAdjacent : Type 0
 ItemsAreAdjacent = (app : App) → IsVerified app → (places : Places) → AgreeWithSizes app places
-    → (func index : ℕ) → IsItem app func index → IsItem app func (index + 1)
+    → (func index : ℕ) → IsAppItem app func index → IsAppItem app func (index + 1)
     → item_address places func (index + 1) ≡ item_address places func index + 4 * length (expansion app places func index)
 
 -- a short branch reaches
@@ -59,7 +59,7 @@ ShortBranchesReach = (app : App) → IsVerified app → (places : Places) → Ag
 -- each has a word
 abbrev pub InstructionsAreInRange : Type 0
 InstructionsAreInRange = (app : App) → IsVerified app → (places : Places) → HasWordAddresses app places → AgreeWithSizes app places
-    → (func index : ℕ) → IsItem app func index → AreInRange (expansion app places func index)
+    → (func index : ℕ) → IsAppItem app func index → AreInRange (expansion app places func index)
 
 -- the register that an instruction writes or stores; of a branch and of one without registers x0
 abbrev pub register_of : InstrKind → ℕ

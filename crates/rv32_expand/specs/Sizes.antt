@@ -11,7 +11,7 @@ use Rattle.code_rules.specs.WellFormed.{WellFormed}
 use Rattle.expansion_parts.specs.Expansion.{item_address, symbol_address, block_address, expansion}
 use Rattle.sloth_base.specs.Named.{operation}
 use Rattle.sloth_base.specs.MemoryMap.{memory_base, memory_end}
-use Rattle.rv32_expand.specs.InPlace.{IsItem}
+use Rattle.rv32_expand.specs.InPlace.{IsAppItem}
 use Rattle.expansion_parts.specs.Long.{BranchSet, size_at, AreLongBranches}
 
 -- how many items stand before those of a function
@@ -25,14 +25,14 @@ pub record AreItemSizes (app : App) (sizes : List ℕ) : Type 0 where
   pub long : ℕ → BranchSet
   pub least : (func : ℕ) → func < length app.funcs → AreLongBranches app (function app func) (long func)
   pub count : length sizes ≡ items_before app.funcs (length app.funcs)
-  pub each : (func index : ℕ) → IsItem app func index
+  pub each : (func index : ℕ) → IsAppItem app func index
       → get_or sizes (items_before app.funcs func + index) 0 ≡ size_at app (function app func) (long func) index
 
 -- each item of a body stands behind the one before it, whose length is that of `sizes`
 pub record AgreeWithSizes (app : App) (places : Places) : Type 0 where
   pub sizes : List ℕ
   pub are_sizes : AreItemSizes app sizes
-  pub adjacent : (func index : ℕ) → IsItem app func index → IsItem app func (index + 1)
+  pub adjacent : (func index : ℕ) → IsAppItem app func index → IsAppItem app func (index + 1)
       → item_address places func (index + 1) ≡ item_address places func index + 4 * get_or sizes (items_before app.funcs func + index) 0
 
 -- task code that keeps the rules of some configuration
@@ -47,11 +47,11 @@ IsWordAddress address = (memory_base ≤ address) × (address < memory_end) × (
 -- stands in less than 1 MiB from `low` on.
 pub record HasWordAddresses (app : App) (places : Places) : Type 0 where
   pub low : ℕ
-  pub items : (func index : ℕ) → IsItem app func index → IsWordAddress (item_address places func index)
+  pub items : (func index : ℕ) → IsAppItem app func index → IsWordAddress (item_address places func index)
   pub symbols : (symbol : ℕ) → symbol < length app.symbols → IsWordAddress (symbol_address places symbol)
-  pub blocks : (func index : ℕ) (call : Call) → IsItem app func index → operation app func index ≡ op.Serve call
+  pub blocks : (func index : ℕ) (call : Call) → IsAppItem app func index → operation app func index ≡ op.Serve call
       → IsWordAddress (block_address places call.service call.object)
-  pub items_near : (func index : ℕ) → IsItem app func index
+  pub items_near : (func index : ℕ) → IsAppItem app func index
       → (low ≤ item_address places func index) × (item_address places func index + 4 * length (expansion app places func index) ≤ low + 0x10_0000)
-  pub blocks_near : (func index : ℕ) (call : Call) → IsItem app func index → operation app func index ≡ op.Serve call
+  pub blocks_near : (func index : ℕ) (call : Call) → IsAppItem app func index → operation app func index ≡ op.Serve call
       → (low ≤ block_address places call.service call.object) × (block_address places call.service call.object < low + 0x10_0000)

@@ -5,7 +5,7 @@ ghost use Rattle.sloth_base.specs.Named.{item_of};
 ghost use Rattle.sloth_base.specs.Limits.{item_limit};
 ghost use Rattle.rv32_expand.specs.Code.{IsCode};
 ghost use Rattle.expansion_parts.specs.Expansion.{item_address, is_long, expansion};
-ghost use Rattle.rv32_expand.specs.InPlace.{IsItem};
+ghost use Rattle.rv32_expand.specs.InPlace.{IsAppItem};
 ghost use Rattle.rv32_expand.specs.Sizes.{AgreeWithSizes, HasWordAddresses, IsVerified};
 
 use crate::addresses::item_address;
@@ -26,7 +26,7 @@ fn is_long(places: &Places, func: u32, index: u32) -> bool
 /// The instructions of an item of a function, where it stands.
 pub fn expand(item: &Item, func: u32, index: u32, app: &App, places: &Places) -> Expansion
     requires verified { IsVerified app.now }
-    requires is_item { IsItem app.now func index }
+    requires is_item { IsAppItem app.now func index }
     requires is { item.now ≡ item_of (function app.now func) index }
     requires covers { HasWordAddresses app.now places.now }
     requires agree { AgreeWithSizes app.now places.now }

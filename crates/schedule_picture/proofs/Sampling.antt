@@ -20,8 +20,8 @@ use Rattle.run_samples.proofs.OneSample.{samples-more}
 use Rattle.lane_drawing.specs.declared.bars.Bar.{Bar}
 use Rattle.lane_drawing.specs.declared.bars.Look.{Look}
 use Rattle.lane_drawing.specs.declared.scale.Scale.{Scale}
-use Rattle.lane_drawing.specs.Bars.{AreBars, IsInside}
-use Rattle.lane_drawing.specs.Strips.{Lane, IsStrip, IsFresh, ShowsMore, empty_lane, last_bar}
+use Rattle.lane_drawing.specs.Bars.{AreBars, IsBarInside}
+use Rattle.lane_drawing.specs.Strips.{Lane, IsStrip, IsFreshStrip, ShowsMore, empty_lane, last_bar}
 use Rattle.lane_drawing.proofs.Growing.{same_strip}
 use Rattle.schedule_picture.specs.Lanes.{HaveChanged}
 use Rattle.schedule_picture.specs.LaneLooks.{lane_look, look_at, no_sample}
@@ -83,7 +83,7 @@ module _ (image : Image) (A : List Arrival) where
   -- ---- lanes
 
   pub shown_none : (from : ℕ) (s : Sampler) (strips : List Lane) → HasGivenFirst image A from s → length strips ≡ length image.tasks + 1
-      → ((lane : ℕ) → lane < length image.tasks + 1 → IsFresh from (get_or strips lane empty_lane)) → HasShown image A from from s strips
+      → ((lane : ℕ) → lane < length image.tasks + 1 → IsFreshStrip from (get_or strips lane empty_lane)) → HasShown image A from from s strips
   shown_none from s strips h lanes fresh = record {
     samples = h.samples;
     counted = h.counted;
@@ -173,12 +173,12 @@ module _ (image : Image) (A : List Arrival) where
 
 -- ---- bars within the counts
 
-inside : (looks : ℕ → Option Look) (first from to : ℕ) (bars : List Bar) → first ≤ from → AreBars looks from to bars → AllByRecursion (IsInside first to) bars
+inside : (looks : ℕ → Option Look) (first from to : ℕ) (bars : List Bar) → first ≤ from → AreBars looks from to bars → AllByRecursion (IsBarInside first to) bars
 inside looks first from to [] h are = tt
 inside looks first from to (bar ∷ bars) h are =
     let behind = are.0.behind in
     let some = are.0.some in
     (record { behind = omega (arith, h, behind); some = some; within = are.0.within }, inside looks first bar.to to bars (omega (arith, h, behind, some)) are.1)
 
-pub all_inside : (looks : ℕ → Option Look) (from to : ℕ) (bars : List Bar) → AreBars looks from to bars → All (IsInside from to) bars
-all_inside looks from to bars are = All-from_recursion (IsInside from to) bars (inside looks from from to bars (omega arith) are)
+pub all_inside : (looks : ℕ → Option Look) (from to : ℕ) (bars : List Bar) → AreBars looks from to bars → All (IsBarInside from to) bars
+all_inside looks from to bars are = All-from_recursion (IsBarInside from to) bars (inside looks from from to bars (omega arith) are)

@@ -1,7 +1,7 @@
 -- What a picture's text is made of.
 use Rattle.std.specs.Prelude.{ℕ, ◌≡◌, ◌≤◌, ◌+◌, All, length, get_or}
 use Rattle.sloth_base.specs.ImageRange.{InFormat}
-use Rattle.lane_drawing.specs.Bars.{IsInside}
+use Rattle.lane_drawing.specs.Bars.{IsBarInside}
 use Rattle.lane_drawing.specs.Scale.{IsScale}
 use Rattle.lane_drawing.specs.Strips.{empty_lane}
 use Rattle.schedule_picture.specs.declared.text.Drawn.{Drawn}
@@ -23,4 +23,4 @@ pub record IsDrawable (drawn : Drawn) : Type 0 where
   pub scale : IsScale drawn.scale
   pub lanes : length drawn.strips.now ≡ length drawn.image.now.tasks + 1
   pub inside : (lane : ℕ) → lane ≤ length drawn.image.now.tasks
-      → All (IsInside drawn.scale.from drawn.scale.to) (get_or drawn.strips.now lane empty_lane).bars
+      → All (IsBarInside drawn.scale.from drawn.scale.to) (get_or drawn.strips.now lane empty_lane).bars

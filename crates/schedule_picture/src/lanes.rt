@@ -1,7 +1,7 @@
 //! The lanes of a picture, as the counts of a run come.
 ghost use Rattle.std.specs.Prelude.{ℕ, ◌≡◌, ◌≤◌, ◌<◌, ◌+◌, ◌++◌, OnOk, IfOk, length, get_or};
 ghost use Rattle.sloth_base.specs.Limits.{task_limit};
-ghost use Rattle.lane_drawing.specs.Strips.{empty_lane, last_bar, ShowsMore, IsFresh};
+ghost use Rattle.lane_drawing.specs.Strips.{empty_lane, last_bar, ShowsMore, IsFreshStrip};
 ghost use Rattle.schedule_picture.specs.Lanes.{HaveChanged};
 ghost use Rattle.schedule_picture.specs.LaneLooks.{lane_look};
 
@@ -15,7 +15,7 @@ use std::alloc::Global;
 pub fn empty_strips(alloc: Global, tasks: usize, from: u32) -> Result<Vec<Strip>, NoMemory>
     requires { tasks ≤ task_limit }
     ensures lanes { IfOk result (λ strips. length strips.items ≡ tasks + 1) }
-    ensures fresh { IfOk result (λ strips. (lane : ℕ) → lane < tasks + 1 → IsFresh from (get_or strips.items lane empty_lane)) }
+    ensures fresh { IfOk result (λ strips. (lane : ℕ) → lane < tasks + 1 → IsFreshStrip from (get_or strips.items lane empty_lane)) }
 {
     let mut strips = Vec::new(alloc);
     for _ in 0..tasks + 1 {

@@ -5,7 +5,7 @@ ghost use Rattle.sloth_base.specs.Arrivals.{AreArrivals};
 ghost use Rattle.sloth_base.specs.Owners.{owners_named};
 ghost use Rattle.sloth_base.specs.Limits.{task_limit, count_limit, picture_limit};
 ghost use Rattle.run_samples.specs.Samples.{IsSampling, sampled_image, sampled_arrivals, sampled_count};
-ghost use Rattle.lane_drawing.specs.Strips.{IsFresh, empty_lane};
+ghost use Rattle.lane_drawing.specs.Strips.{IsFreshStrip, empty_lane};
 ghost use Rattle.schedule_picture.specs.Samples.{HasGivenFirst, HasBars, StopsBefore};
 ghost use Rattle.schedule_picture.specs.Picture.{IsPicture, IsPictureOf};
 
@@ -55,7 +55,7 @@ fn show_all(
     requires tasks { tasks ≡ length (sampled_image sampler.old).tasks }
     requires few_tasks { tasks ≤ task_limit }
     requires lanes { length strips.old.items ≡ tasks + 1 }
-    requires fresh { (lane : ℕ) → lane < tasks + 1 → IsFresh from (get_or strips.old.items lane empty_lane) }
+    requires fresh { (lane : ℕ) → lane < tasks + 1 → IsFreshStrip from (get_or strips.old.items lane empty_lane) }
     requires ordered { from ≤ to }
     requires few { to ≤ count_limit }
     ensures stops { IfOk result (λ end. IfSome end (StopsBefore (sampled_image sampler.old) (sampled_arrivals sampler.old) to)) }

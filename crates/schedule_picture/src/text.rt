@@ -2,7 +2,7 @@
 ghost use Rattle.std.specs.Prelude.{◌≡◌, ◌≤◌, ◌<◌, ◌+◌, ◌*◌, ◌++◌, IfOk, OnOk, All, length};
 ghost use Rattle.sloth_base.specs.ImageRange.{InFormat};
 ghost use Rattle.sloth_base.specs.Limits.{task_limit, name_limit, picture_limit, count_limit};
-ghost use Rattle.lane_drawing.specs.Bars.{IsInside};
+ghost use Rattle.lane_drawing.specs.Bars.{IsBarInside};
 ghost use Rattle.lane_drawing.specs.Drawing.{is_above};
 ghost use Rattle.lane_drawing.specs.Scale.{IsScale};
 ghost use Rattle.schedule_picture.specs.Drawn.{IsDrawable, drawing_of};
@@ -98,7 +98,7 @@ fn lane_bars<'a>(drawn: &Drawn<'a>, lane: usize) -> &'a [Bar]
     requires drawable { IsDrawable drawn.now }
     requires lane { lane ≤ length drawn.now.image.now.tasks }
     ensures bars { result.now ≡ (drawing_of drawn.now).bars lane }
-    ensures inside { All (IsInside drawn.now.scale.from drawn.now.scale.to) result.now }
+    ensures inside { All (IsBarInside drawn.now.scale.from drawn.now.scale.to) result.now }
 {
     drawn.strips[lane].bars()
 }

@@ -8,7 +8,7 @@ use Rattle.sloth_base.specs.Limits.{size_limit}
 use Rattle.code_rules.specs.Code.{is_in}
 use Rattle.section_sizes.specs.declared.graph.Ways.{Ways}
 use Rattle.section_sizes.specs.Graph.{ways_of, HasWay, IsOrder}
-use Rattle.section_sizes.specs.Trails.{AreSizes, IsSmall, IsLongest, along, longest_from}
+use Rattle.section_sizes.specs.Trails.{AreSizes, AreSizesInLimit, IsLongest, along, longest_from}
 use Rattle.section_sizes.proofs.Diving.{front_or_end}
 use Rattle.section_sizes.proofs.Lengths.{is_longest}
 
@@ -48,7 +48,7 @@ module _ (ways : List Ways) (steps ends order : List ℕ) (o : IsOrder ways orde
   -- what holds behind one more node
   pub record Turned (table : List ℕ) (k : ℕ) : Type 0 where
     pub count : length table ≡ length ways
-    pub small : IsSmall table
+    pub small : AreSizesInLimit table
     pub known : Known table k
 
   pub way_known : (table : List ℕ) (k j : ℕ) → length table ≡ length ways → k < length order → HasWay ways (get_or order k 0) j → j < length table
@@ -66,7 +66,7 @@ module _ (ways : List Ways) (steps ends order : List ℕ) (o : IsOrder ways orde
           by true b c f h = refl
           by false b c f h = f h
 
-  pub turned : (table : List ℕ) (k r : ℕ) → length table ≡ length ways → IsSmall table → Known table k → k < length order
+  pub turned : (table : List ℕ) (k r : ℕ) → length table ≡ length ways → AreSizesInLimit table → Known table k → k < length order
       → r ≡ longest_from ways table steps ends (get_or order k 0) → Turned (set table (get_or order k 0) r) (k + 1)
   turned table k r count small known lt is = record {
     count = length-set table x r ∙ count;

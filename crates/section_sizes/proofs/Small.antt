@@ -10,7 +10,7 @@ use Rattle.sloth_base.specs.Limits.{size_limit}
 use Rattle.raised_sections.specs.Sections.{is_counted}
 use Rattle.section_sizes.specs.declared.graph.Ways.{Ways}
 use Rattle.bound_rules.specs.declared.sizes.Summary.{Summary}
-use Rattle.section_sizes.specs.Trails.{AreSizes, IsSmall, IsLongest}
+use Rattle.section_sizes.specs.Trails.{AreSizes, AreSizesInLimit, IsLongest}
 use Rattle.section_sizes.specs.Computed.{count, going_size, ending_size, leaving_size, is_return}
 use Rattle.section_sizes.specs.Known.{IsGreatestPart}
 
@@ -33,7 +33,7 @@ if_small true n le = le
 if_small false n le = omega arith
 
 -- a table with small entries
-table_small : (table : List ℕ) (n : ℕ) (size : ℕ → ℕ) → length table ≡ n → ((i : ℕ) → i < n → get_or table i 0 ≡ size i) → ((i : ℕ) → size i ≤ size_limit) → IsSmall table
+table_small : (table : List ℕ) (n : ℕ) (size : ℕ → ℕ) → length table ≡ n → ((i : ℕ) → i < n → get_or table i 0 ≡ size i) → ((i : ℕ) → size i ≤ size_limit) → AreSizesInLimit table
 table_small table n size count are small i = ⊎_elim
     (λ lt. let e = are i lt in let le = small i in omega (arith, e, le))
     (λ le. let e = get_or_past table i 0 (omega (arith, le, count)) in omega (arith, e))
@@ -63,7 +63,7 @@ module _ (f : Func) (ways : List Ways) (ways_count : length ways ≡ length f.it
 
 -- the longest trails
 pub longest_small : (ways : List Ways) (steps ends table : List ℕ) → length table ≡ length ways
-    → ((i : ℕ) → i < length ways → IsLongest ways steps ends i (get_or table i 0)) → IsSmall table
+    → ((i : ℕ) → i < length ways → IsLongest ways steps ends i (get_or table i 0)) → AreSizesInLimit table
 longest_small ways steps ends table count is i = by (cases_eq (get_or table i 0) 0) (cases_lt i (length ways))
   where
     by : (get_or table i 0 ≡ 0) ⊎ (get_or table i 0 ≡ 0 → ⊥) → (i < length ways) ⊎ (length ways ≤ i) → get_or table i 0 ≤ size_limit

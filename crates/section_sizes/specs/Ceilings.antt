@@ -4,5 +4,5 @@ use Rattle.sloth_base.specs.declared.config.Config.{Config}
 use Rattle.osek_scheduler.specs.Priority.{ceiling}
 
 -- each entry is the ceiling of its resource
-abbrev pub AreCeilings : Config → List ℕ → Type 0
-AreCeilings config table = (r : ℕ) → r < length table → get_or table r 0 ≡ ceiling config r
+abbrev pub AreResourceCeilings : Config → List ℕ → Type 0
+AreResourceCeilings config table = (r : ℕ) → r < length table → get_or table r 0 ≡ ceiling config r

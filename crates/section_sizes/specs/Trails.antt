@@ -32,8 +32,8 @@ pub record AreSizes (ways : List Ways) (steps ends : List ℕ) : Type 0 where
   pub ends_small : (i : ℕ) → get_or ends i 0 ≤ size_limit
 
 -- no size of a table is above the greatest that is counted
-abbrev pub IsSmall : List ℕ → Type 0
-IsSmall table = (i : ℕ) → get_or table i 0 ≤ size_limit
+abbrev pub AreSizesInLimit : List ℕ → Type 0
+AreSizesInLimit table = (i : ℕ) → get_or table i 0 ≤ size_limit
 
 -- the size of the longest trail from a node, or 0 where there is none
 pub record IsLongest (ways : List Ways) (steps ends : List ℕ) (i size : ℕ) : Type 0 where

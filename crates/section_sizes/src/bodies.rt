@@ -7,7 +7,7 @@ ghost use Rattle.section_sizes.specs.Graph.{HasMark};
 ghost use Rattle.section_sizes.specs.Parts.{ReachesItem, CanReturn};
 ghost use Rattle.section_sizes.specs.CallOrder.{IsCallOrder};
 ghost use Rattle.section_sizes.specs.Computed.{returns_of, is_return};
-ghost use Rattle.section_sizes.specs.Ceilings.{AreCeilings};
+ghost use Rattle.section_sizes.specs.Ceilings.{AreResourceCeilings};
 ghost use Rattle.section_sizes.specs.Known.{IsKnownBody, AreKnownBodies, KnowsReturns};
 
 use crate::ceilings::{ceilings, ceilings_before};
@@ -134,7 +134,7 @@ fn known_body(
     number: usize,
 ) -> Result<Body, NoMemory>
     requires well_formed { WellFormed config.now app.now }
-    requires table { AreCeilings config.now table.now }
+    requires table { AreResourceCeilings config.now table.now }
     requires returns { KnowsReturns app.now number returns.now }
     requires known { number < length app.now.funcs }
     ensures { IfOk result (IsKnownBody config.now app.now number) }

@@ -3,7 +3,7 @@ ghost use Rattle.std.specs.Prelude.{◌≡◌, ◌≤◌, ◌<◌, ◌+◌, ℕ,
 ghost use Rattle.code_rules.specs.Code.{held_list_at};
 ghost use Rattle.osek_scheduler.specs.Priority.{greatest, ceiling};
 ghost use Rattle.body_faults.specs.Labels.{last_label_below, ArePlaced};
-ghost use Rattle.section_sizes.specs.Ceilings.{AreCeilings};
+ghost use Rattle.section_sizes.specs.Ceilings.{AreResourceCeilings};
 
 use body_faults::held_resources::{held_after, held_at_label};
 use body_faults::labels::last_labels;
@@ -17,7 +17,7 @@ use text_pieces::growth::push;
 
 /// The ceilings of the resources 0 to 32.
 pub fn ceilings(alloc: Global, config: &Config) -> Result<Vec<u32>, NoMemory>
-    ensures { IfOk result (λ table. AreCeilings config.now table.items) }
+    ensures { IfOk result (λ table. AreResourceCeilings config.now table.items) }
 {
     let mut table = Vec::new(alloc);
     for resource in 0..RES_SCHEDULER + 1 {
@@ -28,7 +28,7 @@ pub fn ceilings(alloc: Global, config: &Config) -> Result<Vec<u32>, NoMemory>
 
 /// The ceiling of a resource by the table, where it has it.
 fn ceiling_by(config: &Config, table: &[u32], resource: u32) -> u32
-    requires { AreCeilings config.now table.now }
+    requires { AreResourceCeilings config.now table.now }
     ensures { result ≡ ceiling config.now resource }
 {
     match table.get(resource as usize) {
@@ -38,7 +38,7 @@ fn ceiling_by(config: &Config, table: &[u32], resource: u32) -> u32
 }
 
 fn greatest_ceiling(config: &Config, table: &[u32], held: &[u32]) -> u32
-    requires { AreCeilings config.now table.now }
+    requires { AreResourceCeilings config.now table.now }
     ensures { result ≡ greatest (map (ceiling config.now) held.now) }
 {
     let mut top = 0;
@@ -56,7 +56,7 @@ fn ceilings_at(
     func: &Func,
     last: &[Option<usize>],
 ) -> Result<Vec<u32>, NoMemory>
-    requires table { AreCeilings config.now table.now }
+    requires table { AreResourceCeilings config.now table.now }
     requires count { length last.now ≡ length func.now.items + 1 }
     requires lasts { (place : ℕ) → place ≤ length func.now.items → get_or last.now place None ≡ last_label_below func.now.labels place (length func.now.labels) }
     ensures count { IfOk result (λ ceilings. length ceilings.items ≡ length func.now.items) }
@@ -80,7 +80,7 @@ pub fn ceilings_before(
     table: &[u32],
     func: &Func,
 ) -> Result<Vec<u32>, NoMemory>
-    requires table { AreCeilings config.now table.now }
+    requires table { AreResourceCeilings config.now table.now }
     requires placed { ArePlaced func.now }
     ensures count { IfOk result (λ ceilings. length ceilings.items ≡ length func.now.items) }
     ensures exact { IfOk result (λ ceilings. (i : ℕ) → i < length func.now.items

@@ -2,7 +2,7 @@
 ghost use Rattle.std.specs.Prelude.{◌≡◌, ℕ, ◌+◌, ◌<◌, ◌≤◌, length, get_or, min, max, Some, IfOk};
 ghost use Rattle.sloth_base.specs.Limits.{size_limit};
 ghost use Rattle.section_sizes.specs.Graph.{HasWay, IsOrder};
-ghost use Rattle.section_sizes.specs.Trails.{along, longest_from, AreSizes, IsSmall, IsLongest};
+ghost use Rattle.section_sizes.specs.Trails.{along, longest_from, AreSizes, AreSizesInLimit, IsLongest};
 
 use crate::graph::Ways;
 use sloth_base::limits::SIZE_LIMIT;
@@ -29,7 +29,7 @@ fn larger(one: u32, other: u32) -> u32
 /// The longest trail that goes on along this way, 0 where there is none.
 fn along(table: &[u32], step: u32, way: Option<usize>) -> u32
     requires inside { (j : ℕ) → way ≡ Some j → j < length table.now }
-    requires small { IsSmall table.now }
+    requires small { AreSizesInLimit table.now }
     requires step_small { step ≤ size_limit }
     ensures { result ≡ along table.now step way }
 {
@@ -47,7 +47,7 @@ fn along(table: &[u32], step: u32, way: Option<usize>) -> u32
 
 fn longest_from(ways: &[Ways], table: &[u32], steps: &[u32], ends: &[u32], node: usize) -> u32
     requires inside { (j : ℕ) → HasWay ways.now node j → j < length table.now }
-    requires small { IsSmall table.now }
+    requires small { AreSizesInLimit table.now }
     requires sizes { AreSizes ways.now steps.now ends.now }
     requires known { node < length ways.now }
     ensures { result ≡ longest_from ways.now table.now steps.now ends.now node }

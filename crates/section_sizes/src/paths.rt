@@ -3,7 +3,7 @@ ghost use Rattle.std.specs.Prelude.{◌≡◌, ◌<◌, ℕ, length, get_or, IfO
 ghost use Rattle.sloth_base.specs.Named.{item_of};
 ghost use Rattle.section_sizes.specs.Graph.{IsOrder};
 ghost use Rattle.body_faults.specs.Ways.{HasBodyLabel};
-ghost use Rattle.section_sizes.specs.Trails.{IsSmall};
+ghost use Rattle.section_sizes.specs.Trails.{AreSizesInLimit};
 ghost use Rattle.section_sizes.specs.Computed.{going_size};
 ghost use Rattle.bound_rules.specs.Summaries.{AreCountedUp};
 ghost use Rattle.section_sizes.specs.Lists.{AreEndingTrails, AreLeavingTrails, ArePaths, AreTrailSizes};
@@ -71,7 +71,7 @@ fn ending_trails(
     requires steps { (i : ℕ) → i < length func.now.items → get_or steps.now i 0 ≡ going_size whole.now (item_of func.now i).op }
     requires whole { AreCountedUp whole.now }
     ensures trails { IfOk result (λ on. AreEndingTrails func.now whole.now paths.now steps.now on.items) }
-    ensures small { IfOk result (λ on. IsSmall on.items) }
+    ensures small { IfOk result (λ on. AreSizesInLimit on.items) }
 {
     let ends = ending_sizes(alloc, func, paths.alive.items(), whole)?;
     longest(alloc, paths.ways.items(), order, steps, &ends)
@@ -91,7 +91,7 @@ fn leaving_trails(
     requires steps_count { length steps.now ≡ length func.now.items }
     requires steps { (i : ℕ) → i < length func.now.items → get_or steps.now i 0 ≡ going_size whole.now (item_of func.now i).op }
     ensures trails { IfOk result (λ back. AreLeavingTrails func.now paths.now steps.now back.items) }
-    ensures small { IfOk result (λ back. IsSmall back.items) }
+    ensures small { IfOk result (λ back. AreSizesInLimit back.items) }
 {
     let leaves = leaving_sizes(alloc, func, paths.alive.items())?;
     longest(alloc, paths.ways.items(), order, steps, &leaves)
@@ -109,7 +109,7 @@ pub fn trail_sizes(
     requires count { length paths.now.ways ≡ length func.now.items }
     requires whole { AreCountedUp whole.now }
     ensures trails { IfOk result (AreTrailSizes func.now whole.now paths.now order.now) }
-    ensures small { IfOk result (λ sizes. IsSmall sizes.on × IsSmall sizes.back) }
+    ensures small { IfOk result (λ sizes. AreSizesInLimit sizes.on × AreSizesInLimit sizes.back) }
 {
     let steps = going_sizes(alloc, func, whole)?;
     let on = ending_trails(alloc, func, whole, paths, order, &steps)?;

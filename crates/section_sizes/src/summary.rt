@@ -4,7 +4,7 @@ ghost use Rattle.sloth_base.specs.Named.{item_of, function};
 ghost use Rattle.sloth_base.specs.Limits.{size_limit};
 ghost use Rattle.code_rules.specs.WellFormed.{WellFormed};
 ghost use Rattle.code_rules.specs.Code.{HasCall};
-ghost use Rattle.section_sizes.specs.Trails.{IsSmall};
+ghost use Rattle.section_sizes.specs.Trails.{AreSizesInLimit};
 ghost use Rattle.section_sizes.specs.Computed.{known_body_of, endless_call, calls_endless, called_most, most_of, joined_both, called_out, out_of, summary_by};
 ghost use Rattle.bound_rules.specs.Summaries.{summary_of, IsCountedUp, AreCountedUp};
 ghost use Rattle.section_sizes.specs.Known.{IsKnownBody, IsSummary};
@@ -76,7 +76,7 @@ fn called_most(
     requires inside { number < length func.now.items }
     requires whole_small { AreCountedUp whole.now }
     requires own_small { AreCountedUp own.now }
-    requires on_small { IsSmall on.now }
+    requires on_small { AreSizesInLimit on.now }
     ensures { result ≡ called_most (known_body_of func.now body.now level whole.now own.now) on.now number (item_of func.now number).op }
 {
     match func.items.items()[number].op {
@@ -105,7 +105,7 @@ fn most_of(
 ) -> u32
     requires whole_small { AreCountedUp whole.now }
     requires own_small { AreCountedUp own.now }
-    requires on_small { IsSmall on.now }
+    requires on_small { AreSizesInLimit on.now }
     ensures { result ≡ most_of (known_body_of func.now body.now level whole.now own.now) on.now }
 {
     let mut most = 0;
@@ -142,7 +142,7 @@ fn called_out(
     requires inside { number < length func.now.items }
     requires whole_small { AreCountedUp whole.now }
     requires own_small { AreCountedUp own.now }
-    requires back_small { IsSmall back.now }
+    requires back_small { AreSizesInLimit back.now }
     ensures { result ≡ called_out (known_body_of func.now body.now level whole.now own.now) back.now number (item_of func.now number).op }
 {
     match func.items.items()[number].op {
@@ -169,7 +169,7 @@ fn out_of(
 ) -> u32
     requires whole_small { AreCountedUp whole.now }
     requires own_small { AreCountedUp own.now }
-    requires back_small { IsSmall back.now }
+    requires back_small { AreSizesInLimit back.now }
     ensures { result ≡ out_of (known_body_of func.now body.now level whole.now own.now) back.now }
 {
     let mut out = 0;
@@ -191,8 +191,8 @@ fn summary_by(
 ) -> Summary
     requires whole_small { AreCountedUp whole.now }
     requires own_small { AreCountedUp own.now }
-    requires on_small { IsSmall sizes.now.on }
-    requires back_small { IsSmall sizes.now.back }
+    requires on_small { AreSizesInLimit sizes.now.on }
+    requires back_small { AreSizesInLimit sizes.now.back }
     ensures { result ≡ summary_by (known_body_of func.now body.now level whole.now own.now) sizes.now.on sizes.now.back }
 {
     let (on, back) = (sizes.on.items(), sizes.back.items());

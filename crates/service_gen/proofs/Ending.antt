@@ -9,7 +9,7 @@ use Rattle.sloth_region.specs.Layout.{cur, active, events, below_word, idle_cont
 use Rattle.rv32_instr.specs.declared.InstrKind.{InstrKind}
 use Rattle.rv32_instr.specs.Ram.{word_at, with_word}
 use Rattle.masked_code.proofs.Owes.{◌▸◌, writes, loads, stores, clears, AreOfLine, Owes}
-use Rattle.masked_code.specs.Kernel.{IsBelow}
+use Rattle.masked_code.specs.Kernel.{IsContextBelow}
 use Rattle.masked_code.proofs.Resumption.{IsResumedState}
 use Rattle.masked_code.proofs.Words.{word_at-other}
 use Rattle.masked_code.proofs.Leave.{behind}
@@ -37,7 +37,7 @@ module _ (from to own : ℕ) (E : List ℕ → State → State → Type 0) (star
       ▸ go lines only
 
 -- what runs below is as it was
-pub ended_below : (c d : Core) (own place : ℕ) → own < task_limit → d.ram ≡ ended_ram c.ram own → IsBelow place c → IsBelow place d
+pub ended_below : (c d : Core) (own place : ℕ) → own < task_limit → d.ram ≡ ended_ram c.ram own → IsContextBelow place c → IsContextBelow place d
 ended_below c d own place small e b =
     let past = b.behind in
     let kept : (p : ℕ) → below_word ≤ p → word_at d.ram p ≡ word_at c.ram p = λ p far. ap (λ r. word_at r p) e ∙ ended_kept c.ram own p small far in

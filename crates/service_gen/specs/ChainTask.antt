@@ -10,7 +10,7 @@ use Rattle.rv32_instr.specs.declared.InstrKind.{InstrKind}
 use Rattle.rv32_instr.specs.Ram.{word_at}
 use Rattle.masked_code.specs.Masked.{FromOpening}
 use Rattle.masked_code.specs.Place.{offset_state}
-use Rattle.masked_code.specs.Kernel.{IsBelow}
+use Rattle.masked_code.specs.Kernel.{IsContextBelow}
 use Rattle.block_parts.specs.ServiceCode.{IsServiceCode}
 use Rattle.block_parts.specs.Back.{CanGoBack, BackEffect, a0}
 use Rattle.block_parts.specs.SuspensionTest.{IsFoundSuspended}
@@ -22,7 +22,7 @@ pub record MayChain (offset task own place : ℕ) (code : List InstrKind) (core 
   pub runs : word_at core.ram cur ≡ own + 1
   pub is_own : own < task_limit
   pub is_task : task < task_limit
-  pub below : IsBelow place core
+  pub below : IsContextBelow place core
   pub active_bit : word_at core.ram (active task) < 2
   pub pending_bit : slice_index core.pending task < 2
   pub enabled_bit : slice_index core.enabled task < 2

@@ -9,7 +9,7 @@ use Rattle.rv32_instr.specs.declared.InstrKind.{InstrKind}
 use Rattle.rv32_instr.specs.Ram.{word_at, with_word}
 use Rattle.masked_code.specs.Masked.{FromOpening}
 use Rattle.masked_code.specs.Place.{offset_state}
-use Rattle.masked_code.specs.Kernel.{CanRun, HasBases, IsBelow, IsOpenedCore}
+use Rattle.masked_code.specs.Kernel.{CanRun, HasBases, IsContextBelow, IsOpenedCore}
 use Rattle.block_parts.specs.ServiceCode.{IsServiceCode}
 
 -- the code stands at an offset, this task runs, and the context of what runs below it stands at `place`
@@ -19,7 +19,7 @@ pub record MayTerminate (offset task place : ℕ) (code : List InstrKind) (core 
   pub bases : HasBases core.registers
   pub runs : word_at core.ram cur ≡ task + 1
   pub is_task : task < task_limit
-  pub below : IsBelow place core
+  pub below : IsContextBelow place core
 
 -- the bytes with the task's Active word and its events zero
 abbrev pub ended_ram : List ℕ → ℕ → List ℕ

@@ -9,7 +9,7 @@ use Rattle.sloth_region.specs.Layout.{idle_context}
 use Rattle.sim_relation.specs.Build.{Build, HasFittingPlaces}
 use Rattle.sim_relation.specs.Position.{thread_of}
 use Rattle.sim_relation.specs.Context.{RunsFirst}
-use Rattle.sim_relation.specs.Stands.{AreApart}
+use Rattle.sim_relation.specs.Stands.{AreStacksApart}
 use Rattle.sim_relation.proofs.Contexts.{context_below}
 use Rattle.sim_relation.proofs.Tops.{is_in-head}
 
@@ -44,7 +44,7 @@ words_small x y z w p q r s (suc (suc (suc (suc j)))) = omega arith
 -- apart from the part of a task that is apart from those of the Active tasks
 pub stored_apart : (b : Build) (state : State) (s : System) (stack : List ℕ) (place u : ℕ) → HasFittingPlaces b
     → slice_index state.core.registers 2 ≡ memory_base + (place + 128) → RunsFirst b state s stack → 1024 ≤ b.low u
-    → ((v : ℕ) → is_in v stack ≡ true → AreApart b u v) → (b.top u ≤ place) ⊎ (place + 128 ≤ b.low u)
+    → ((v : ℕ) → is_in v stack ≡ true → AreStacksApart b u v) → (b.top u ≤ place) ⊎ (place + 128 ≤ b.low u)
 stored_apart b state s [] place u fits x k low apart = let y = k.x2 in inr (omega arith)
 stored_apart b state s (a ∷ stack) place u fits x k low apart =
     let p = k.context.x2 in

@@ -11,7 +11,7 @@ use Rattle.prologue_gen.specs.Fresh.{EntryEffect}
 use Rattle.prologue_gen.specs.Resuming.{ResumeEffect}
 use Rattle.prologue_gen.specs.Places.{IsPrologueCode}
 use Rattle.sim_relation.specs.Build.{Build, start_level}
-use Rattle.sim_relation.specs.Stands.{IsAlive, AreApart}
+use Rattle.sim_relation.specs.Stands.{IsAlive, AreStacksApart}
 
 -- the words of the frame of a task's body
 abbrev pub body_frame_words : Build → ℕ → ℕ
@@ -36,4 +36,4 @@ IsEntryBuilt b t code =
 
 -- its part of the stacks is apart from those of the tasks that have something on theirs
 abbrev pub StandsAlone : Build → System → ℕ → Type 0
-StandsAlone b s t = (u : ℕ) → u < length b.config.tasks → u ≢ t → IsAlive (task s u) → AreApart b t u
+StandsAlone b s t = (u : ℕ) → u < length b.config.tasks → u ≢ t → IsAlive (task s u) → AreStacksApart b t u

@@ -13,7 +13,7 @@ use Rattle.rv32_instr.specs.Range.{InRange}
 use Rattle.masked_code.proofs.Routines.{in_place}
 use Rattle.sim_relation.specs.Build.{Build, HasFittingPlaces, IsElsewhere}
 use Rattle.sim_relation.specs.Placed.{IsPlaced}
-use Rattle.sim_relation.specs.Stands.{AreApart}
+use Rattle.sim_relation.specs.Stands.{AreStacksApart}
 use Rattle.sloth_link.specs.Linked.{BlockStands}
 use Rattle.mem_map.specs.Zones.{HasZones, code_zone, data_zone, all_stacks}
 use Rattle.mem_map.specs.StackParts.{no_extent}
@@ -107,7 +107,7 @@ module _ (config : Config) (app : App) (map : Map) (bounds : Bounds) (back : ℕ
     room = λ t l func outer called. let s = part_inside parts t l in let enough = calls t l func outer called in let c = code_to in let f = code_from in omega (arith, enough, s.0, c, f);
   }
 
-  pub stacks_apart : HasStacks config app bounds map → (t u : ℕ) → t < length config.tasks → u < length config.tasks → u ≢ t → MayMeet config app t u → AreApart b t u
+  pub stacks_apart : HasStacks config app bounds map → (t u : ℕ) → t < length config.tasks → u < length config.tasks → u ≢ t → MayMeet config app t u → AreStacksApart b t u
   stacks_apart s t u l m ne may =
       ⊎_elim
       (λ (x : top_of map t + bytes_of bounds u ≤ top_of map u). inl (omega (arith, x)))

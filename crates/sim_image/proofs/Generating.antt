@@ -25,7 +25,7 @@ use Rattle.sloth_region.specs.declared.map.Map.{Map}
 use Rattle.rv32_instr.specs.declared.block.Block.{Block}
 use Rattle.rv32_instr.specs.Range.{InRange}
 use Rattle.expansion_parts.specs.Expansion.{expansion, item_address, block_address}
-use Rattle.rv32_expand.specs.InPlace.{IsItem, ItemsInPlace, item_mark, mark_kind}
+use Rattle.rv32_expand.specs.InPlace.{IsAppItem, ItemsInPlace, item_mark, mark_kind}
 use Rattle.rv32_expand.proofs.InRangeOf.{frame_of}
 use Rattle.rv32_expand.proofs.Verified.{has_first}
 use Rattle.osek_valid.proofs.Stacks.{body_is}
@@ -41,14 +41,14 @@ use Rattle.sim_relation.specs.Build.{Build}
 use Rattle.sim_relation.specs.Placed.{IsPlaced}
 use Rattle.sim_entries.specs.Generated.{HasOneBody}
 use Rattle.sim_items.specs.Outside.{HasIdle}
-use Rattle.sim_laws.specs.Kernel.{IsServiceItem, IsKnown}
-use Rattle.sim_laws.specs.Kernel.IsKnown.{serves as known_serves}
+use Rattle.sim_laws.specs.Kernel.{IsServiceItem, IsKnownItem}
+use Rattle.sim_laws.specs.Kernel.IsKnownItem.{serves as known_serves}
 use Rattle.sim_laws.specs.Generated.{HasPrologue, HasTick, IsGenerated}
 use Rattle.sim_laws.specs.Items.{HasItems}
 use Rattle.sim_laws.proofs.Items.{marks_found, item_stands}
 use Rattle.sim_laws.proofs.Known.{item_known}
 use Rattle.sloth_link.specs.declared.datum.Datum.{Datum}
-use Rattle.mem_map.specs.Sections.{marks_of, code_bytes, block_section, IsInside}
+use Rattle.mem_map.specs.Sections.{marks_of, code_bytes, block_section, IsSectionInside}
 use Rattle.sloth_link.specs.Linked.{datum_section}
 use Rattle.sloth_link.proofs.Written.{code_bytes_length, front_of}
 use Rattle.mem_map.specs.Zones.{code_zone}
@@ -56,7 +56,7 @@ use Rattle.sloth_base.specs.declared.places.Bounds.{Bounds}
 use Rattle.sloth_base.specs.MemoryMap.{vectors_base, memory_base}
 use Rattle.sim_image.specs.Zones.{build_of, HasFewAlarms, IsInCode}
 use Rattle.sloth_link.specs.Items.{item_block}
-use Rattle.sloth_link.specs.Standing.{ItemsStand}
+use Rattle.sloth_link.specs.Standing.{HasItemsInPlace}
 use Rattle.sim_image.specs.Generated.{HasBlockWith, IsBuiltBy, BuiltIsGenerated, BuiltIsInPlace}
 use Rattle.sim_image.proofs.Apart.{blocks_apart}
 use Rattle.sim_image.proofs.Fitting.{here, zones_fit, stacks_are_apart, parts_nested, blocks_are_placed, code_from, code_to, part_inside}
@@ -163,23 +163,23 @@ module _ (config : Config) (app : App) (levels : Levels) (map : Map) (bounds : B
       let c = code_to config app map bounds back image.memory g.linked.zones in
       omega (arith, s, f, c)
 
-  item_of : (func item : ℕ) → item < length (function app func).items → IsItem app func item
+  item_of : (func item : ℕ) → item < length (function app func).items → IsAppItem app func item
   item_of func item l = record { declared = is_declared app.funcs func item l; inside = l }
 
-  pub stand : ItemsStand app map.places image.memory image.marks
+  pub stand : HasItemsInPlace app map.places image.memory image.marks
   stand =
       items_stand app map.places size blocks image.memory image.marks g.has_items.items g.has_items.own g.linked.room.blocks_above
-      (front_of (IsInside size) block_section blocks (prelude.map datum_section symbols) g.linked.room.inside)
+      (front_of (IsSectionInside size) block_section blocks (prelude.map datum_section symbols) g.linked.room.inside)
       g.linked.linked.size_is g.linked.code g.marks
 
   abbrev pub in_place : ItemsInPlace image config app
   in_place = items_are_placed image config app map.places g.has_items.well_formed g.has_items.agree stand g.names
 
-  range : (func item : ℕ) → IsItem app func item → All InRange (expansion app map.places func item)
+  range : (func item : ℕ) → IsAppItem app func item → All InRange (expansion app map.places func item)
   range func item is = All-contains (λ (x : Block). All InRange x.code) blocks (item_block app map.places func item) g.linked.in_range (g.has_items.items func item is)
 
   -- no mark stands inside an expansion but at its last instruction
-  unmarked : (func item i : ℕ) → IsItem app func item → i + 1 < length (expansion app map.places func item)
+  unmarked : (func item i : ℕ) → IsAppItem app func item → i + 1 < length (expansion app map.places func item)
       → All (λ (mark : Mark). mark.address ≢ item_address map.places func item + 4 * i) image.marks
   unmarked func item i is inner =
       All-permutation (λ (mark : Mark). mark.address ≢ item_address map.places func item + 4 * i) (marks_of blocks) image.marks g.marks
@@ -203,7 +203,7 @@ module _ (config : Config) (app : App) (levels : Levels) (map : Map) (bounds : B
   }
 
   -- the block of a service that is called, apart from the call
-  module _ (func item : ℕ) (is : IsItem app func item) (call : Call) (e : operation app func item ≡ op.Serve call) where
+  module _ (func item : ℕ) (is : IsAppItem app func item) (call : Call) (e : operation app func item ≡ op.Serve call) where
     h : HasBlockWith blocks (block_address map.places call.service call.object) (opening (block_address map.places call.service call.object) (code_of call.service)
         ∷ further_marks call.service (block_address map.places call.service call.object)) (IsAnyServiceBlock config call.service call.object levels)
     h = g.has_code.services func item call is e
@@ -317,7 +317,7 @@ module _ (config : Config) (app : App) (levels : Levels) (map : Map) (bounds : B
             is_back = refl;
           }
 
-  operations : (func item : ℕ) → IsItem app func item → IsKnown b (view_of_image image) func item
+  operations : (func item : ℕ) → IsAppItem app func item → IsKnownItem b (view_of_image image) func item
   operations func item is =
       item_known b (view_of_image image) func item g.has_items.well_formed is.declared is.inside
       (λ call e. known_serves (item_serves func item is call e))

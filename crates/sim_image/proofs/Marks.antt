@@ -8,13 +8,13 @@ use Rattle.std.proofs.lemmas.List.Elements.{All-nil, All-cons}
 use Rattle.sloth_base.specs.declared.image.Mark.{Mark}
 use Rattle.sloth_base.specs.MemoryMap.{memory_base}
 use Rattle.rv32_instr.specs.declared.block.Block.{Block}
-use Rattle.sloth_link.specs.Linked.{AreApart}
+use Rattle.sloth_link.specs.Linked.{AreSectionsApart}
 use Rattle.mem_map.specs.Sections.{Section, block_section, code_bytes}
 use Rattle.sloth_link.proofs.Written.{code_bytes_length}
 use Rattle.sim_image.specs.Rooms.{HasOwnMarks}
 use Rattle.sim_image.proofs.Apart.{apart_at}
 
-module _ (blocks : List Block) (rest : List Section) (own : Block) (mark : Mark) (i : ℕ) (apart : AllPairs AreApart (prelude.map block_section blocks ++ rest))
+module _ (blocks : List Block) (rest : List Section) (own : Block) (mark : Mark) (i : ℕ) (apart : AllPairs AreSectionsApart (prelude.map block_section blocks ++ rest))
     (above : All (λ (b : Block). memory_base ≤ b.at) blocks) (marks : All HasOwnMarks blocks) (among : Contains blocks own) (only : own.marks ≡ mark ∷ [])
     (last : mark.address ≡ own.at + 4 * (length own.code - 1)) (inner : i + 1 < length own.code) where
   abbrev Elsewhere : Mark → Type 0

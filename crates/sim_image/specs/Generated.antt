@@ -21,7 +21,7 @@ use Rattle.sloth_base.specs.declared.places.Bounds.{Bounds}
 use Rattle.rv32_instr.specs.declared.InstrKind.{InstrKind}
 use Rattle.rv32_instr.specs.declared.block.Block.{Block}
 use Rattle.expansion_parts.specs.Expansion.{block_address}
-use Rattle.rv32_expand.specs.InPlace.{IsItem, ItemsInPlace}
+use Rattle.rv32_expand.specs.InPlace.{IsAppItem, ItemsInPlace}
 use Rattle.rv32_expand.specs.Sizes.{AgreeWithSizes}
 use Rattle.prio_levels.specs.Levels.{AreLevels}
 use Rattle.vector_gen.specs.Boot.{IsBootCode}
@@ -59,7 +59,7 @@ pub record HasCode (config : Config) (app : App) (levels : Levels) (map : Map) (
   pub prologues : (t : ℕ) → t < length config.tasks → HasBlockWith blocks (slice_index map.handlers t) [] (IsTaskPrologue t config app levels map)
   pub ticks : (c : ℕ) → c < length config.counters → HasBlockWith blocks (slice_index map.handlers (counter_line c)) [] (IsTick config c)
   -- the code of each service that an item calls
-  pub services : (func item : ℕ) (call : Call) → IsItem app func item → operation app func item ≡ op.Serve call
+  pub services : (func item : ℕ) (call : Call) → IsAppItem app func item → operation app func item ≡ op.Serve call
       → HasBlockWith blocks (block_address map.places call.service call.object)
       (opening (block_address map.places call.service call.object) (code_of call.service)
       ∷ further_marks call.service (block_address map.places call.service call.object)) (IsAnyServiceBlock config call.service call.object levels)
@@ -86,7 +86,7 @@ pub record IsBuiltBy (config : Config) (app : App) (levels : Levels) (map : Map)
   pub bytes : AreBelow 256 image.memory
   pub back_aligned : back % 4 ≡ 0
   -- the way back from Schedule stands in its block
-  pub back_is : (func item : ℕ) (call : Call) → IsItem app func item → operation app func item ≡ op.Serve call → call.service ≡ service.Schedule
+  pub back_is : (func item : ℕ) (call : Call) → IsAppItem app func item → operation app func item ≡ op.Serve call → call.service ≡ service.Schedule
       → back ≡ block_address map.places call.service call.object + way_back
 
 -- so it is generated

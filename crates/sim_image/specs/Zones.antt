@@ -16,7 +16,7 @@ use Rattle.sloth_base.specs.Limits.{counter_limit, alarm_limit}
 use Rattle.stack_bounds.specs.Bounds.{MayMeet, bytes_of}
 use Rattle.sim_relation.specs.Build.{Build, HasFittingPlaces, frame_bytes}
 use Rattle.sim_relation.specs.Placed.{IsPlaced}
-use Rattle.sim_relation.specs.Stands.{AreApart}
+use Rattle.sim_relation.specs.Stands.{AreStacksApart}
 use Rattle.mem_map.specs.Zones.{HasZones, code_zone, data_zone}
 use Rattle.mem_map.specs.Stacks.{HasStacks, top_of}
 use Rattle.sloth_link.specs.Linked.{BlockStands}
@@ -70,7 +70,7 @@ ZonesFit = (config : Config) (app : App) (map : Map) (bounds : Bounds) (back : �
 abbrev pub StacksAreApart : Type 0
 StacksAreApart = (config : Config) (app : App) (map : Map) (bounds : Bounds) (back : ℕ) (memory : List ℕ) → HasZones map config
     → HasStacks config app bounds map
-    → (t u : ℕ) → t < length config.tasks → u < length config.tasks → u ≢ t → MayMeet config app t u → AreApart (build_of config app map bounds back memory) t u
+    → (t u : ℕ) → t < length config.tasks → u < length config.tasks → u ≢ t → MayMeet config app t u → AreStacksApart (build_of config app map bounds back memory) t u
 
 -- every block of a list that is linked is placed
 abbrev pub BlocksArePlaced : Type 0

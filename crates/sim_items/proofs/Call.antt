@@ -31,7 +31,7 @@ use Rattle.osek_valid.specs.Valid.{AreCalls, IsCalledFrom}
 use Rattle.code_rules.specs.Code.{IsCalledBy}
 use Rattle.sim_relation.specs.Build.{Build}
 use Rattle.sim_relation.specs.Position.{IsPosition, IsCalling, AreWords, AreOuterFrames, AreFrames, HasScratch, return_address, called_words, thread_of}
-use Rattle.sim_relation.specs.Stands.{Stands, IsActive}
+use Rattle.sim_relation.specs.Stands.{Stands, IsActiveTask}
 use Rattle.sim_relation.proofs.Framing.{frames_kept, frames_below}
 use Rattle.sim_relation.proofs.Machines.{kept_machine}
 use Rattle.sim_relation.proofs.Placed.{active_by_word}
@@ -95,7 +95,7 @@ module _ (b : Build) (view : View) (arrivals : List Arrival) (count : ℕ) (stat
   abbrev address : ℕ
   address = item_address b.places item.frame.func item.frame.item
 
-  active : IsActive b s1 t
+  active : IsActiveTask b s1 t
   active = active_by_word b n s1 t now item.current
 
   room : b.low t + context_bytes + (4 + 4 * words) ≤ item.place
@@ -208,7 +208,7 @@ module _ (b : Build) (view : View) (arrivals : List Arrival) (count : ℕ) (stat
   abbrev to : ℕ
   to = item_address b.places c.callee 0
 
-  is_active : IsActive b s2 t
+  is_active : IsActiveTask b s2 t
   is_active = active_by_word b m s2 t stands item.current
 
   count_is : length (expansion b.app b.places item.frame.func item.frame.item) ≡ 4 + size

@@ -30,7 +30,7 @@ use Rattle.osek_scheduler.specs.Meaning as meaning
 use Rattle.sim_relation.specs.Build.{Build, HasFittingPlaces}
 use Rattle.sim_relation.specs.Position.{HasAddress, HasScratch, AreFrames, thread_of}
 use Rattle.sim_relation.specs.DataStands.{DataStands}
-use Rattle.sim_relation.specs.Stands.{Stands, IsActive}
+use Rattle.sim_relation.specs.Stands.{Stands, IsActiveTask}
 use Rattle.sim_relation.proofs.Framing.{frames_kept, outer_below}
 use Rattle.sim_relation.proofs.Placed.{active_by_word}
 use Rattle.sim_items.specs.Place.{AtItem, IsAccess, IsStraight, HasNumbers}
@@ -85,7 +85,7 @@ module _ (b : Build) (state : State) (s : System) (t : ℕ) (fits : HasFittingPl
   abbrev expansion_of : Op → List InstrKind
   expansion_of o = operation_code b.app b.places frame.func (item_address b.places frame.func frame.item) long o
 
-  active : IsActive b s t
+  active : IsActiveTask b s t
   active = active_by_word b state s t k at.current
 
   agree : (r : ℕ) → IsRegister r → slice_index x r ≡ register own.registers r

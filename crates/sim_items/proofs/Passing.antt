@@ -18,7 +18,7 @@ use Rattle.sim_induction.proofs.Passing.{not_suspended, kept_admits}
 use Rattle.sim_relation.specs.Build.{Build}
 use Rattle.sim_relation.specs.Position.{IsPosition, thread_of}
 use Rattle.sim_relation.specs.Context.{RunsFirst, RunsTask}
-use Rattle.sim_relation.specs.Stands.{Stands, IsActive}
+use Rattle.sim_relation.specs.Stands.{Stands, IsActiveTask}
 use Rattle.sim_relation.specs.Moves.{moved_system, TaskStep, SameMachine}
 use Rattle.sim_relation.proofs.Arrive.{stands_fresh}
 use Rattle.sim_relation.proofs.Contexts.{data_kept}
@@ -89,7 +89,7 @@ module _ (b : Build) (view : View) (arrivals : List Arrival) (count : ℕ) (stat
   run : RunsTask b n s1 t found.0
   run = subst (RunsFirst b n s1) found.1 now.running
 
-  here_now : IsActive b s1 t
+  here_now : IsActiveTask b s1 t
   here_now = active_by_word b n s1 t now current
 
   module _ (next : State) (passes : Passes b n next s1 t) where

@@ -25,7 +25,7 @@ use Rattle.osek_scheduler.specs.State.{Frame, System, task}
 use Rattle.osek_scheduler.specs.Meaning.{meaning, going_on_frame}
 use Rattle.sim_relation.specs.Build.{Build}
 use Rattle.sim_relation.specs.Position.{IsReturning, HasScratch, AreOuterFrames, AreFrames, return_address, called_words, thread_of}
-use Rattle.sim_relation.specs.Stands.{Stands, IsActive}
+use Rattle.sim_relation.specs.Stands.{Stands, IsActiveTask}
 use Rattle.sim_relation.proofs.Framing.{outer_below}
 use Rattle.sim_relation.proofs.Placed.{active_by_word}
 use Rattle.sim_items.specs.Place.{AtItem, InReturn, IsReturn}
@@ -91,7 +91,7 @@ module _ (b : Build) (view : View) (arrivals : List Arrival) (count : ℕ) (stat
   abbrev address : ℕ
   address = item_address b.places item.frame.func item.frame.item
 
-  active : IsActive b s1 t
+  active : IsActiveTask b s1 t
   active = active_by_word b n s1 t now item.current
 
   expands : expansion b.app b.places item.frame.func item.frame.item ≡ loads_link words ∷ raises words ∷ goes_back ∷ []
@@ -194,7 +194,7 @@ module _ (b : Build) (view : View) (arrivals : List Arrival) (count : ℕ) (stat
   abbrev from : ℕ
   from = item_address b.places item.frame.func item.frame.item
 
-  is_active : IsActive b s2 t
+  is_active : IsActiveTask b s2 t
   is_active = active_by_word b m s2 t stands item.current
 
   expansion_is : expansion b.app b.places item.frame.func item.frame.item ≡ loads_link size ∷ raises size ∷ goes_back ∷ []

@@ -11,7 +11,7 @@ use Rattle.expansion_parts.specs.Expansion.{symbol_address}
 use Rattle.osek_scheduler.specs.Meaning.{loaded_word, bytes_after_store, accessed_bytes}
 use Rattle.sim_relation.specs.Build.{Build, HasFittingPlaces}
 use Rattle.sim_relation.specs.DataStands.{DataStands, ByteStands}
-use Rattle.sim_items.specs.Place.{IsAccess, HasSizes}
+use Rattle.sim_items.specs.Place.{IsAccess, HasSymbolSizes}
 use Rattle.sim_items.proofs.Access.{IsPlaceOf}
 use Rattle.sim_items.proofs.Bytes.{with_bytes, length-with_bytes, low_bytes, length-low_bytes, get_or-with_bytes, both_written, stored_bytes, number_at, number_of_part, number_agrees}
 
@@ -29,7 +29,7 @@ aligned_sum width.Word p o h l = omega arith
 aligned_sum width.ByteU p o h l = omega arith
 aligned_sum width.HalfU p o h l = omega arith
 
-module _ (b : Build) (fits : HasFittingPlaces b) (ram : List ℕ) (symbols : List (List ℕ)) (stands : DataStands b ram symbols) (sizes : HasSizes b.app symbols)
+module _ (b : Build) (fits : HasFittingPlaces b) (ram : List ℕ) (symbols : List (List ℕ)) (stands : DataStands b ram symbols) (sizes : HasSymbolSizes b.app symbols)
     (w : Width) (y offset : ℕ) (access : IsAccess b.app w y offset) where
   abbrev pub bytes : List ℕ
   bytes = get_or symbols y []

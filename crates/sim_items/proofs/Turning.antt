@@ -17,7 +17,7 @@ use Rattle.sim_relation.specs.Build.{Build, HasFittingPlaces}
 use Rattle.sim_relation.specs.Context.{IsContext}
 use Rattle.sim_relation.specs.Moves.{moved_system, TaskStep}
 use Rattle.sim_relation.specs.Position.{AreFrames, thread_of}
-use Rattle.sim_relation.specs.Stands.{Stands, IsActive}
+use Rattle.sim_relation.specs.Stands.{Stands, IsActiveTask}
 use Rattle.sim_relation.proofs.AtItem.{position_first}
 use Rattle.sim_relation.proofs.Machines.{kept_machine}
 use Rattle.sim_relation.proofs.Placed.{first_by_word, active_by_word}
@@ -33,7 +33,7 @@ module _ (b : Build) (state : State) (s : System) (t : ℕ) (fits : HasFittingPl
   abbrev this : Op
   this = operation b.app frame.func frame.item
 
-  active : IsActive b s t
+  active : IsActiveTask b s t
   active = active_by_word b state s t k current
 
   -- the frames that it leaves, with x2 where it stands

@@ -156,10 +156,10 @@ pub record IsReturn (b : Build) (view : View) (func item : ℕ) (caller : Frame)
   pub next : ItemStands b view caller.func (caller.item + 1)
 
 -- each symbol has as many bytes as the task code says
-abbrev pub HasSizes : App → List (List ℕ) → Type 0
-HasSizes app symbols = (y : ℕ) → length (get_or symbols y []) ≡ symbol_size app y
+abbrev pub HasSymbolSizes : App → List (List ℕ) → Type 0
+HasSymbolSizes app symbols = (y : ℕ) → length (get_or symbols y []) ≡ symbol_size app y
 
 -- what items need of the numbers: registers hold words, and symbols have their bytes
 pub record HasNumbers (b : Build) (state : State) (s : System) : Type 0 where
   pub words : AreBelow 4294967296 state.core.registers
-  pub sizes : HasSizes b.app s.symbols
+  pub sizes : HasSymbolSizes b.app s.symbols

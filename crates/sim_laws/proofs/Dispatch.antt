@@ -27,7 +27,7 @@ use Rattle.sim_induction.proofs.StretchPiece.{stretch_advances}
 use Rattle.sim_relation.specs.Build.{Build}
 use Rattle.sim_relation.specs.Position.{IsPosition, IsStanding, IsOwing, InExpansion, AtBlock, IsCalling, IsReturning, thread_of}
 use Rattle.sim_relation.specs.Context.{RunsFirst, RunsIdle, RunsTask}
-use Rattle.sim_relation.specs.Stands.{Stands, AreActive, IsActive}
+use Rattle.sim_relation.specs.Stands.{Stands, AreActive, IsActiveTask}
 use Rattle.sim_relation.proofs.Arrive.{stands_arrived}
 use Rattle.sim_relation.proofs.Choice.{taken_cases, taken_ready}
 use Rattle.sim_relation.proofs.Framing.{position_elim}
@@ -56,8 +56,8 @@ use Rattle.sim_ticks.specs.AlarmSteps.{OpensAlarm}
 use Rattle.sim_ticks.proofs.AlarmStretches.{relative_stretches, absolute_stretches, cancel_stretches, told_stretches}
 use Rattle.sim_ticks.proofs.TickRoute.{tick_advances}
 use Rattle.sim_laws.specs.Bounded.{IsBounded}
-use Rattle.sim_laws.specs.Kernel.{Kernel, IsServiceItem, IsComputingItem, IsCallItem, IsKnown}
-use Rattle.sim_laws.specs.Kernel.IsKnown.{computes, flows, invokes, returns, serves}
+use Rattle.sim_laws.specs.Kernel.{Kernel, IsServiceItem, IsComputingItem, IsCallItem, IsKnownItem}
+use Rattle.sim_laws.specs.Kernel.IsKnownItem.{computes, flows, invokes, returns, serves}
 use Rattle.sim_laws.specs.Steady.{IsSteady}
 use Rattle.sim_laws.proofs.Masks.{call_jumps, is_word}
 use Rattle.sim_laws.proofs.Meeting.{meets}
@@ -183,7 +183,7 @@ module _ (b : Build) (image : Image) (kernel : Kernel b image) where
         abbrev run : RunsTask b n s1 t below
         run = subst (RunsFirst b n s1) stack_is k.running
 
-        active : IsActive b s1 t
+        active : IsActiveTask b s1 t
         active = falling_head b s1 t below (subst (AreActive b s1) stack_is k.active).falling
 
         abbrev p : IsPosition b n.core.ram t (task s1 t) (thread_of n) run.place
@@ -199,7 +199,7 @@ module _ (b : Build) (image : Image) (kernel : Kernel b image) where
         chain : AreCalls b.app t (p.frame ∷ p.outer)
         chain = subst (AreCalls b.app t) p.frames (steady.valid.each t active.declared).calls
 
-        known : IsKnown b view p.frame.func p.frame.item
+        known : IsKnownItem b view p.frame.func p.frame.item
         known = kernel.operations p.frame.func p.frame.item p.inside
 
         module _ (q : IsStanding b n.core.ram (b.top t) (task s1 t) p.frame p.outer (thread_of n) run.place) where
@@ -260,7 +260,7 @@ module _ (b : Build) (image : Image) (kernel : Kernel b image) where
               (λ (j : JumpsWithMask b p.frame.func p.frame.item). outside (masked_outside b view arrivals count state s here t (at_item e) placed j))
               (call_jumps b view p.frame.func p.frame.item h (mask_small h.call h.is))
 
-          in_item : InExpansion b (task s1 t) p.frame (thread_of n) → IsKnown b view p.frame.func p.frame.item → Goes
+          in_item : InExpansion b (task s1 t) p.frame (thread_of n) → IsKnownItem b view p.frame.func p.frame.item → Goes
           in_item e (computes h) = item_goes e h
           in_item e (flows h) = outside (flow_outside b view arrivals count state s here t (at_item e) h.flow (kernel.items p.frame.func))
           in_item e (invokes h) = call_goes e h
@@ -403,7 +403,7 @@ module _ (b : Build) (image : Image) (kernel : Kernel b image) where
             served levels are service.GetAlarm is block =
                 stretch (told_stretches b view arrivals count state s t kernel.fits setting after_boot stands (opens_alarm service.GetAlarm is refl block))
 
-          at_block : AtBlock b p.frame (thread_of n) → IsKnown b view p.frame.func p.frame.item → Goes
+          at_block : AtBlock b p.frame (thread_of n) → IsKnownItem b view p.frame.func p.frame.item → Goes
           at_block a (computes h) = absurd (subst (IsStraight b.app p.frame.func) a.is h.straight)
           at_block a (flows h) = absurd (subst (IsFlow b.app p.frame.func p.frame.item) a.is h.flow)
           at_block a (invokes h) = let e : op.Invoke h.callee ≡ op.Serve a.call = sym h.is ∙ a.is in cc

@@ -12,7 +12,7 @@ use Rattle.rv32_instr.specs.declared.InstrKind.{InstrKind}
 use Rattle.rv32_instr.specs.Ram.{word_at}
 use Rattle.rv32_instr.specs.Range.{InRange}
 use Rattle.expansion_parts.specs.Expansion.{item_address, expansion}
-use Rattle.rv32_expand.specs.InPlace.{IsItem, CodeAt, item_mark, last_address}
+use Rattle.rv32_expand.specs.InPlace.{IsAppItem, CodeAt, item_mark, last_address}
 use Rattle.observe.specs.Observe.{mark_at, view_of_image}
 use Rattle.sloth_base.specs.ImageRange.{AreAscending}
 use Rattle.sloth_base.specs.MemoryMap.{memory_bytes, memory_base}
@@ -84,11 +84,11 @@ in_image b image address (kind ∷ code) same size low high is_code range h =
 record InImage (b : Build) (image : Image) (places : Places) (func item : ℕ) : Type 0 where
   code : CodeAt image.memory (item_address places func item) (expansion b.app places func item)
   inside : (memory_base < item_address places func item + 1) × (last_address b.app places func item + 4 < memory_base + length image.memory + 1)
-  adjacent : IsItem b.app func (item + 1) → item_address places func (item + 1) ≡ item_address places func item + 4 * length (expansion b.app places func item)
+  adjacent : IsAppItem b.app func (item + 1) → item_address places func (item + 1) ≡ item_address places func item + 4 * length (expansion b.app places func item)
   marked : Contains image.marks (item_mark b.app places func item)
 
 -- each item stands, with its mark on its last instruction
-pub item_stands : (b : Build) (image : Image) (func item : ℕ) → HasItems b image → IsItem b.app func item → All InRange (expansion b.app b.places func item)
+pub item_stands : (b : Build) (image : Image) (func item : ℕ) → HasItems b image → IsAppItem b.app func item → All InRange (expansion b.app b.places func item)
     → ItemStands b (view_of_image image) func item
 item_stands b image func item h is range =
     let g = h.in_place in

@@ -19,11 +19,11 @@ use Rattle.osek_valid.proofs.Facts.{Facts, facts}
 use Rattle.osek_valid.proofs.Held.{falls_inside, jumps_inside}
 use Rattle.sim_relation.specs.Build.{Build}
 use Rattle.sim_items.specs.Place.{IsAccess, IsMasked, IsStraight, IsFlow}
-use Rattle.sim_laws.specs.Kernel.{IsKnown}
-use Rattle.sim_laws.specs.Kernel.IsKnown.{computes, flows, invokes, returns}
+use Rattle.sim_laws.specs.Kernel.{IsKnownItem}
+use Rattle.sim_laws.specs.Kernel.IsKnownItem.{computes, flows, invokes, returns}
 
 module _ (b : Build) (view : View) (func item : ℕ) (w : WellFormed b.config b.app) (known : func < length b.app.funcs) (inside : item < length (function b.app func).items)
-    (services : (call : Call) → operation b.app func item ≡ op.Serve call → IsKnown b view func item) where
+    (services : (call : Call) → operation b.app func item ≡ op.Serve call → IsKnownItem b view func item) where
   rules : Facts b.config b.app
   rules = facts b.config b.app w
 
@@ -45,10 +45,10 @@ module _ (b : Build) (view : View) (func item : ℕ) (w : WellFormed b.config b.
     more : is_followed o ≡ true → item + 1 < length (function b.app func).items
     more = falls_inside b.config b.app rules func item o at
 
-    straight : IsStraight b.app func o → is_followed o ≡ true → IsKnown b view func item
+    straight : IsStraight b.app func o → is_followed o ≡ true → IsKnownItem b view func item
     straight h e = computes (record { straight = subst (IsStraight b.app func) (sym is) h; more = more e })
 
-    flow : IsFlow b.app func item o → IsKnown b view func item
+    flow : IsFlow b.app func item o → IsKnownItem b view func item
     flow h = flows (record { flow = subst (IsFlow b.app func item) (sym is) h })
 
   multiple : (n : ℕ) → ¬ (n ≢ 0) → n ≡ 0
@@ -71,7 +71,7 @@ module _ (b : Build) (view : View) (func item : ℕ) (w : WellFormed b.config b.
   masked_access : (width : Width) (y mask : ℕ) → mask + size_of width ≤ symbol_size b.app y → ¬ (mask % size_of width ≢ 0) → ¬ (mask_limit < mask) → IsMasked b.app width y mask
   masked_access width y mask l e f = record { inside = l; aligned = multiple (mask % size_of width) e; few = few mask f }
 
-  by_kind : (o : Op) → operation b.app func item ≡ o → IsKnown b view func item
+  by_kind : (o : Op) → operation b.app func item ≡ o → IsKnownItem b view func item
   by_kind (op.Alu kind rd rs1 rs2) e = straight (op.Alu kind rd rs1 rs2) e (says (op.Alu kind rd rs1 rs2) e) refl
   by_kind (op.AluImm kind rd rs1 z) e = straight (op.AluImm kind rd rs1 z) e (says (op.AluImm kind rd rs1 z) e) refl
   by_kind (op.Lui rd n) e = let h = says (op.Lui rd n) e in let l = h.1 in straight (op.Lui rd n) e (h.0, omega arith) refl
@@ -111,5 +111,5 @@ module _ (b : Build) (view : View) (func item : ℕ) (w : WellFormed b.config b.
   by_kind op.Return e = returns (record { is = e })
   by_kind (op.Serve call) e = services call e
 
-  pub item_known : IsKnown b view func item
+  pub item_known : IsKnownItem b view func item
   item_known = by_kind (operation b.app func item) refl

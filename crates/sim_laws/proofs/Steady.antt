@@ -24,7 +24,7 @@ use Rattle.osek_valid.proofs.Going.{running}
 use Rattle.shared_stacks.proofs.Owing.{step_owes, opening_owes}
 use Rattle.osek_valid.proofs.Stacks.{in_body_alone, outer_free}
 use Rattle.osek_valid.proofs.Steps.{opening_valid, step_valid}
-use Rattle.sim_items.specs.Place.{HasSizes}
+use Rattle.sim_items.specs.Place.{HasSymbolSizes}
 use Rattle.sim_laws.specs.Steady.{IsSteady}
 
 clash : {X : Type 0} → true ≡ false → X
@@ -33,7 +33,7 @@ clash e = cc
 -- ---- what a valid system has
 
 -- the symbols have their bytes
-pub valid_sizes : (config : Config) (app : App) (s : System) → IsValid config app s → HasSizes app s.symbols
+pub valid_sizes : (config : Config) (app : App) (s : System) → IsValid config app s → HasSymbolSizes app s.symbols
 valid_sizes config app s v y =
     sym (get_or-map length s.symbols y []) ∙ ap (λ (l : List ℕ). get_or l y 0) v.sizes ∙ get_or-map (λ (x : Symbol). length x.bytes) app.symbols y no_symbol
 

@@ -20,14 +20,14 @@ use Rattle.prologue_gen.specs.Places.{IsTaskPrologue}
 use Rattle.sim_relation.specs.Bounds.{AreBelow}
 use Rattle.sim_relation.specs.Build.{Build, HasFittingPlaces}
 use Rattle.sim_relation.specs.Placed.{IsPlaced}
-use Rattle.sim_relation.specs.Stands.{AreApart}
+use Rattle.sim_relation.specs.Stands.{AreStacksApart}
 use Rattle.sim_entries.specs.Boot.{IsImage}
 use Rattle.sim_entries.specs.Entries.{body_frame_words}
 use Rattle.sim_entries.specs.Generated.{HasOneBody}
 use Rattle.sim_items.specs.Place.{ItemStands}
 use Rattle.sim_items.specs.Outside.{HasIdle}
 use Rattle.sim_ticks.specs.TickSteps.{IsTick}
-use Rattle.sim_laws.specs.Kernel.{Kernel, IsKnown, WayBackStands}
+use Rattle.sim_laws.specs.Kernel.{Kernel, IsKnownItem, WayBackStands}
 use Rattle.sim_laws.specs.Nested.{HasNestedParts}
 
 -- the prologue of a task stands where the map has the handler of its line
@@ -70,10 +70,10 @@ pub record IsGenerated (b : Build) (image : Image) (levels : Levels) (map : Map)
   pub idle : HasIdle b (view_of_image image)
   pub prologues : (t : ℕ) → t < length b.config.tasks → HasPrologue b levels map t
   pub ticks : (c : ℕ) → c < length b.config.counters → HasTick b map c
-  pub stacks : (t u : ℕ) → t < length b.config.tasks → u < length b.config.tasks → u ≢ t → MayMeet b.config b.app t u → AreApart b t u
+  pub stacks : (t u : ℕ) → t < length b.config.tasks → u < length b.config.tasks → u ≢ t → MayMeet b.config b.app t u → AreStacksApart b t u
   pub nested : HasNestedParts b
   pub items : (func item : ℕ) → item < length (function b.app func).items → ItemStands b (view_of_image image) func item
-  pub operations : (func item : ℕ) → item < length (function b.app func).items → IsKnown b (view_of_image image) func item
+  pub operations : (func item : ℕ) → item < length (function b.app func).items → IsKnownItem b (view_of_image image) func item
   pub way_back : WayBackStands b (view_of_image image)
 
 -- What is generated so is a kernel in place.

@@ -17,7 +17,7 @@ use Rattle.observe.specs.Observe.{View, view_of_image}
 use Rattle.sim_induction.specs.Sound.{Sound}
 use Rattle.sim_relation.specs.Bounds.{AreBelow}
 use Rattle.sim_relation.specs.Build.{Build, HasFittingPlaces}
-use Rattle.sim_relation.specs.Stands.{AreApart}
+use Rattle.sim_relation.specs.Stands.{AreStacksApart}
 use Rattle.sim_entries.specs.Boot.{IsImage}
 use Rattle.sim_entries.specs.Codes.{BootStands, PrologueStands}
 use Rattle.sim_items.specs.Place.{ItemStands, IsStraight, IsFlow}
@@ -56,12 +56,12 @@ pub record IsServiceItem (b : Build) (view : View) (func item : ℕ) : Type 0 wh
       ⊎ (item_address b.places func item + 4 * length (expansion b.app b.places func item) ≤ memory_base + block.offset)
 
 -- an item is of one of these kinds
-pub data IsKnown (b : Build) (view : View) (func item : ℕ) : Type 0 where
-  computes : IsComputingItem b func item → IsKnown b view func item
-  flows : IsFlowItem b func item → IsKnown b view func item
-  invokes : IsCallItem b func item → IsKnown b view func item
-  returns : IsReturnItem b func item → IsKnown b view func item
-  serves : IsServiceItem b view func item → IsKnown b view func item
+pub data IsKnownItem (b : Build) (view : View) (func item : ℕ) : Type 0 where
+  computes : IsComputingItem b func item → IsKnownItem b view func item
+  flows : IsFlowItem b func item → IsKnownItem b view func item
+  invokes : IsCallItem b func item → IsKnownItem b view func item
+  returns : IsReturnItem b func item → IsKnownItem b view func item
+  serves : IsServiceItem b view func item → IsKnownItem b view func item
 
 -- where an item calls Schedule, the way back stands in the block for its object
 abbrev pub WayBackStands : Build → View → Type 0
@@ -82,10 +82,10 @@ pub record Kernel (b : Build) (image : Image) : Type 0 where
   pub prologues : (t : ℕ) → t < length b.config.tasks → PrologueStands b t
   pub ticks : (c : ℕ) → c < length b.config.counters → TickStands b c
   -- the parts of tasks that may have something there at once
-  pub stacks : (t u : ℕ) → t < length b.config.tasks → u < length b.config.tasks → u ≢ t → MayMeet b.config b.app t u → AreApart b t u
+  pub stacks : (t u : ℕ) → t < length b.config.tasks → u < length b.config.tasks → u ≢ t → MayMeet b.config b.app t u → AreStacksApart b t u
   pub nested : HasNestedParts b
   pub items : (func item : ℕ) → item < length (function b.app func).items → ItemStands b (view_of_image image) func item
-  pub operations : (func item : ℕ) → item < length (function b.app func).items → IsKnown b (view_of_image image) func item
+  pub operations : (func item : ℕ) → item < length (function b.app func).items → IsKnownItem b (view_of_image image) func item
   pub way_back : WayBackStands b (view_of_image image)
 
 -- Every run of such an image, whatever lines arrive, is one of the abstract scheduler.

@@ -5,7 +5,7 @@ use Rattle.sloth_base.specs.MemoryMap.{memory_bytes}
 use Rattle.sloth_region.specs.Layout.{idle_context, context_bytes}
 use Rattle.rv32_instr.specs.Ram.{word_at}
 use Rattle.expansion_parts.specs.Expansion.{item_address}
-use Rattle.masked_code.specs.Kernel.{IsBelow}
+use Rattle.masked_code.specs.Kernel.{IsContextBelow}
 use Rattle.osek_scheduler.specs.State.{Task, System, task}
 use Rattle.sim_induction.specs.Mirror.{priority_of}
 use Rattle.sim_relation.specs.Build.{Build, HasFittingPlaces}
@@ -71,7 +71,7 @@ chain_starts b ram s (t ∷ below) place fits f k =
 
 -- the running task's service finds the context of what runs below it
 pub is_below : (b : Build) (state : State) (s : System) (t : ℕ) (below : List ℕ) → HasFittingPlaces b → AreActive b s (t ∷ below) → (run : RunsTask b state s t below)
-    → IsBelow run.next state.core
+    → IsContextBelow run.next state.core
 is_below b state s t below fits a run =
     let c = chain_starts b state.core.ram s below run.next fits (falling_tail b s t below a.falling) run.chain in
     record { is = run.link; aligned = c.aligned; behind = c.behind; inside = c.inside; returns = c.returns; level = c.level }

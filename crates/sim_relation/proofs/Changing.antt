@@ -18,7 +18,7 @@ use Rattle.sim_relation.specs.Build.{Build, HasFittingPlaces}
 use Rattle.sim_relation.specs.Position.{Thread, thread_of, thread_at}
 use Rattle.sim_relation.specs.Context.{IsContext, IsSaved, IsContextChain, RunsFirst, HasOwnContext}
 use Rattle.sim_relation.specs.ServiceWords.{AreServiceWords, base_priority}
-use Rattle.sim_relation.specs.Stands.{Stands, IsActive, AreFalling}
+use Rattle.sim_relation.specs.Stands.{Stands, IsActiveTask, AreFalling}
 use Rattle.sim_relation.specs.Framing.{AreSameBytes}
 use Rattle.sim_relation.proofs.Alike.{SamePart}
 use Rattle.sim_relation.specs.Changes.{changed_task, system_with_task_state, TaskChange}
@@ -75,7 +75,7 @@ chain_like : (b : Build) (ram : List ℕ) (s next : System) → ((u : ℕ) → I
 chain_like b ram s next l [] place k = k
 chain_like b ram s next l (t ∷ below) place k = (saved_like b ram s next t place (l t) k.0, (k.1.0, k.1.1, chain_like b ram s next l below k.1.0 k.1.2))
 
-active_like : (b : Build) (s next : System) (t : ℕ) → IsLike (task s t) (task next t) → IsActive b s t → IsActive b next t
+active_like : (b : Build) (s next : System) (t : ℕ) → IsLike (task s t) (task next t) → IsActiveTask b s t → IsActiveTask b next t
 active_like b s next t l a = record { declared = a.declared; active = like_still (task s t) (task next t) l a.active }
 
 falling_like : (b : Build) (s next : System) → ((u : ℕ) → IsLike (task s u) (task next u)) → (stack : List ℕ) → AreFalling b s stack → AreFalling b next stack

@@ -2,7 +2,7 @@
 use Rattle.std.proofs.Common.{◌≡◌, ℕ, List, [], ◌∷◌, refl, ap, ◌∙◌, subst}
 use Rattle.std.proofs.lemmas.Bool.{false≢true}
 use Rattle.sloth_base.specs.Machine.{State}
-use Rattle.masked_code.specs.Kernel.{IsBelow}
+use Rattle.masked_code.specs.Kernel.{IsContextBelow}
 use Rattle.osek_scheduler.specs.State.{Task, System, with_task}
 use Rattle.osek_scheduler.specs.Steps.{settled_state}
 use Rattle.sim_induction.specs.Mirror.{IsRunningTask}
@@ -43,5 +43,5 @@ module _ (b : Build) (state : State) (s : System) (t : ℕ) (fits : HasFittingPl
   runs_task = subst (RunsFirst b state s) first_of.1 k.running
 
   -- the context of what runs below it
-  pub below_found : (place : ℕ) × IsBelow place state.core
+  pub below_found : (place : ℕ) × IsContextBelow place state.core
   below_found = (runs_task.next, is_below b state s t first_of.0 fits (subst (AreActive b s) first_of.1 k.active) runs_task)

@@ -9,7 +9,7 @@ use Rattle.code_rules.specs.Code.{is_in}
 use Rattle.osek_scheduler.specs.Priority.{greatest, highest_priority, ceiling, current_priority}
 use Rattle.sim_induction.specs.Mirror.{priority_of}
 use Rattle.sim_relation.specs.Build.{Build}
-use Rattle.sim_relation.specs.Stands.{IsActive, AreFalling}
+use Rattle.sim_relation.specs.Stands.{IsActiveTask, AreFalling}
 use Rattle.sim_relation.proofs.Tops.{is_in-head}
 
 greatest_holds : (ds : List TaskDecl) (t : ℕ) → (get_or ds t undeclared_task).priority ≤ greatest (map (λ (d : TaskDecl). d.priority) ds)
@@ -31,7 +31,7 @@ start_priority config t own h r =
     ∙ by_scheduling p (highest_priority config) (greatest_holds config.tasks t) (declaration config t).non
 
 -- a task of higher priority may go on top of the stack
-pub falling_cons : (b : Build) (s : System) (t : ℕ) (stack : List ℕ) → IsActive b s t
+pub falling_cons : (b : Build) (s : System) (t : ℕ) (stack : List ℕ) → IsActiveTask b s t
     → ((u : ℕ) → is_in u stack ≡ true → priority_of b.config s u < (declaration b.config t).priority) → AreFalling b s stack → AreFalling b s (t ∷ stack)
 falling_cons b s t [] a h f = a
 falling_cons b s t (u ∷ below) a h f = (a, h u (is_in-head u below), f)

@@ -9,7 +9,7 @@ use Rattle.osek_scheduler.specs.Priority.{is_active}
 use Rattle.osek_scheduler.specs.Steps.{settled_state}
 use Rattle.sim_relation.specs.Build.{Build, HasFittingPlaces}
 use Rattle.sim_relation.specs.Context.{IsContextChain, RunsFirst, RunsTask}
-use Rattle.sim_relation.specs.Stands.{Stands, IsActive, AreActive}
+use Rattle.sim_relation.specs.Stands.{Stands, IsActiveTask, AreActive}
 use Rattle.sim_relation.proofs.Alike.{SamePart}
 use Rattle.sim_relation.specs.Moves.{TaskLeave}
 use Rattle.sim_relation.proofs.ClockKept.{clock_named}
@@ -30,7 +30,7 @@ module _ (b : Build) (old now : State) (s : System) (k : Stands b old s) (fits :
   run : RunsTask b old s t below
   run = subst (RunsFirst b old s) stack_is k.running
 
-  here : IsActive b s t
+  here : IsActiveTask b s t
   here = falling_head b s t below stack.falling
 
   part : (u : ℕ) → is_in u below ≡ true → SamePart b old.core.ram now.core.ram s next u

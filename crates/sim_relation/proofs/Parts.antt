@@ -18,7 +18,7 @@ use Rattle.sim_relation.specs.Build.{Build}
 use Rattle.sim_relation.specs.Position.{thread_of}
 use Rattle.sim_relation.specs.Context.{RunsFirst, IsRested, HasOwnContext}
 use Rattle.sim_relation.specs.ServiceWords.{AreServiceWords, AreHeldWords, IsWaitWord, base_priority}
-use Rattle.sim_relation.specs.Stands.{IsActive, AreFalling, AreLineBytes}
+use Rattle.sim_relation.specs.Stands.{IsActiveTask, AreFalling, AreLineBytes}
 use Rattle.sim_relation.specs.Framing.{AreSameBytes}
 use Rattle.sim_relation.proofs.Alike.{SamePart}
 use Rattle.std.specs.List.{AllByRecursion}
@@ -64,7 +64,7 @@ line_active (mode.Waiting w) p a e h = cc
 
 -- ---- the stack
 
-active_kept : (b : Build) (s next : System) (t : ℕ) → task next t ≡ task s t → IsActive b s t → IsActive b next t
+active_kept : (b : Build) (s next : System) (t : ℕ) → task next t ≡ task s t → IsActiveTask b s t → IsActiveTask b next t
 active_kept b s next t e f = record { declared = f.declared; active = ap (λ v. v.state) e ∙ f.active }
 
 -- priorities fall along the stack where its tasks are as before

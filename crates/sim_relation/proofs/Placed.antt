@@ -12,7 +12,7 @@ use Rattle.osek_scheduler.specs.State.{System}
 use Rattle.sim_relation.specs.Build.{Build, HasFittingPlaces}
 use Rattle.sim_relation.specs.Context.{RunsFirst}
 use Rattle.sim_relation.specs.Placed.{IsPlaced}
-use Rattle.sim_relation.specs.Stands.{Stands, IsActive, AreActive}
+use Rattle.sim_relation.specs.Stands.{Stands, IsActiveTask, AreActive}
 use Rattle.sim_relation.proofs.Tops.{falling_head}
 
 -- code in place stands where its bytes are the same
@@ -40,7 +40,7 @@ first_by_word b state s t [] run h = let a = run.current in absurd (omega arith)
 first_by_word b state s t (u ∷ below) run h = let a = run.current in let e : u ≡ t = omega arith in (below, ap (λ v. v ∷ below) e)
 
 -- it is Active
-pub active_by_word : (b : Build) (state : State) (s : System) (t : ℕ) → Stands b state s → word_at state.core.ram cur ≡ t + 1 → IsActive b s t
+pub active_by_word : (b : Build) (state : State) (s : System) (t : ℕ) → Stands b state s → word_at state.core.ram cur ≡ t + 1 → IsActiveTask b s t
 active_by_word b state s t k h =
     let f = first_by_word b state s t k.stack k.running h in
     falling_head b s t f.0 (subst (AreActive b s) f.1 k.active).falling

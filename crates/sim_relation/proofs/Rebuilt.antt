@@ -15,7 +15,7 @@ use Rattle.sim_relation.specs.Context.{RunsFirst}
 use Rattle.sim_relation.specs.ServiceWords.{AreServiceWords}
 use Rattle.sim_relation.specs.ClockStands.{ClockStands}
 use Rattle.sim_relation.specs.DataStands.{DataStands}
-use Rattle.sim_relation.specs.Stands.{Stands, AreFalling, AreActive, AreLineBytes, IsAlive, AreApart, IsTidyTask, IsFixed}
+use Rattle.sim_relation.specs.Stands.{Stands, AreFalling, AreActive, AreLineBytes, IsAlive, AreStacksApart, IsTidyTask, IsFixed}
 use Rattle.sim_relation.specs.Framing.{AreSameBytes, AreOtherWordsSame}
 use Rattle.sim_relation.proofs.Alike.{SamePart}
 use Rattle.sim_relation.specs.Moves.{changed_system, moved_system, WholeMachine, AreOthersSame}
@@ -73,7 +73,7 @@ pub record Rebuilds (b : Build) (old now : State) (s : System) (t : ℕ) (own : 
   pub other_words : (u : ℕ) → u < length b.config.tasks → u ≢ t → AreServiceWords b now.core.ram u (task s u)
   pub clock : ClockStands b.config now.core.ram s.clock
   pub data_stands : DataStands b now.core.ram symbols
-  pub apart : (u : ℕ) → u < length b.config.tasks → u ≢ t → IsAlive (task s u) → IsAlive own → AreApart b t u
+  pub apart : (u : ℕ) → u < length b.config.tasks → u ≢ t → IsAlive (task s u) → IsAlive own → AreStacksApart b t u
   -- the task
   pub tidy : IsTidyTask own
 
@@ -95,7 +95,7 @@ fixed_kept b old now m code f = record {
   code = λ i x. code i x ∙ f.code i x;
 }
 
-swapped : (b : Build) (t u : ℕ) → AreApart b t u → AreApart b u t
+swapped : (b : Build) (t u : ℕ) → AreStacksApart b t u → AreStacksApart b u t
 swapped b t u h = ⊎_elim (λ (y : b.top t ≤ b.low u). inr y) (λ (y : b.top u ≤ b.low t). inl y) h
 
 module _ (b : Build) (old now : State) (s : System) (k : Stands b old s) (t : ℕ) (own : Task) (symbols : List (List ℕ)) (fresh stack : List ℕ)
@@ -109,10 +109,10 @@ module _ (b : Build) (old now : State) (s : System) (k : Stands b old s) (t : �
   was_alive : (u : ℕ) → u ≢ t → IsAlive (task next u) → IsAlive (task s u)
   was_alive u n a = subst IsAlive (other_task s t u own n) a
 
-  apart : (x u : ℕ) → x < length b.config.tasks → u < length b.config.tasks → x ≢ u → IsAlive (task next x) → IsAlive (task next u) → AreApart b x u
-  apart = by_task (λ x v. (u : ℕ) → x < length b.config.tasks → u < length b.config.tasks → x ≢ u → IsAlive v → IsAlive (task next u) → AreApart b x u) s t own here
+  apart : (x u : ℕ) → x < length b.config.tasks → u < length b.config.tasks → x ≢ u → IsAlive (task next x) → IsAlive (task next u) → AreStacksApart b x u
+  apart = by_task (λ x v. (u : ℕ) → x < length b.config.tasks → u < length b.config.tasks → x ≢ u → IsAlive v → IsAlive (task next u) → AreStacksApart b x u) s t own here
       (λ u h l n a c. r.apart u l (λ z. n (sym z)) (was_alive u (λ z. n (sym z)) c) a)
-      (λ x m u h l n a. by_task (λ u v. u < length b.config.tasks → x ≢ u → IsAlive v → AreApart b x u) s t own here
+      (λ x m u h l n a. by_task (λ u v. u < length b.config.tasks → x ≢ u → IsAlive v → AreStacksApart b x u) s t own here
       (λ i z c. swapped b t x (r.apart x h m a c))
       (λ v o i z c. k.apart x v h i z a c) u l n)
 

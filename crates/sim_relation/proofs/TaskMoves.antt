@@ -11,7 +11,7 @@ use Rattle.sloth_base.specs.PriorityLevels.{level_of}
 use Rattle.sim_relation.specs.Build.{Build}
 use Rattle.sim_relation.specs.Position.{thread_of}
 use Rattle.sim_relation.specs.Context.{IsContext, RunsFirst, RunsTask}
-use Rattle.sim_relation.specs.Stands.{Stands, IsActive, AreFalling, AreActive, AreLineBytes}
+use Rattle.sim_relation.specs.Stands.{Stands, IsActiveTask, AreFalling, AreActive, AreLineBytes}
 use Rattle.sim_relation.proofs.Alike.{SamePart}
 use Rattle.sim_relation.specs.Moves.{moved_system, TaskMove}
 use Rattle.sim_relation.proofs.Contexts.{chain_kept}
@@ -39,7 +39,7 @@ module _ (b : Build) (old now : State) (s : System) (k : Stands b old s) (t : â„
   run : RunsTask b old s t below
   run = subst (RunsFirst b old s) stack_is k.running
 
-  here : IsActive b s t
+  here : IsActiveTask b s t
   here = falling_head b s t below stack.falling
 
   here_now : t < length s.tasks

@@ -14,7 +14,7 @@ use Rattle.sloth_base.specs.PriorityLevels.{level_of}
 use Rattle.sim_relation.specs.Build.{Build, HasFittingPlaces}
 use Rattle.sim_relation.specs.Context.{RunsFirst, RunsTask, HasOwnContext}
 use Rattle.sim_relation.specs.ServiceWords.{AreServiceWords, AreHeldWords, IsWaitWord, active_word}
-use Rattle.sim_relation.specs.Stands.{Stands, IsActive, AreActive, IsTidyTask}
+use Rattle.sim_relation.specs.Stands.{Stands, IsActiveTask, AreActive, IsTidyTask}
 use Rattle.sim_relation.specs.Moves.{moved_system, TaskMove, TaskStep}
 use Rattle.sim_relation.proofs.ClockKept.{clock_low}
 use Rattle.sim_relation.proofs.Framing.{word_kept}
@@ -46,7 +46,7 @@ module _ (b : Build) (old now : State) (s : System) (k : Stands b old s) (fits :
   run : RunsTask b old s t below
   run = subst (RunsFirst b old s) stack_is k.running
 
-  here : IsActive b s t
+  here : IsActiveTask b s t
   here = falling_head b s t below stack.falling
 
   low_word : (place : ℕ) → place + 4 ≤ 1024 → word_at now.core.ram place ≡ word_at old.core.ram place

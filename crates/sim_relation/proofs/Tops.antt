@@ -9,7 +9,7 @@ use Rattle.osek_scheduler.specs.Priority.{rank, is_active, IsTop, NoTicks}
 use Rattle.code_rules.specs.Code.{is_in}
 use Rattle.sim_induction.specs.Mirror.{priority_of}
 use Rattle.sim_relation.specs.Build.{Build}
-use Rattle.sim_relation.specs.Stands.{IsActive, AreFalling, AreActive}
+use Rattle.sim_relation.specs.Stands.{IsActiveTask, AreFalling, AreActive}
 
 -- a task's current priority is at least its own
 pub static_le : (config : Config) (s : System) (t : ℕ) → (declaration config t).priority ≤ priority_of config s t
@@ -37,7 +37,7 @@ falling_tail b s t [] f = tt
 falling_tail b s t (u ∷ below) f = f.2
 
 -- the first of the stack is Active
-pub falling_head : (b : Build) (s : System) (t : ℕ) (below : List ℕ) → AreFalling b s (t ∷ below) → IsActive b s t
+pub falling_head : (b : Build) (s : System) (t : ℕ) (below : List ℕ) → AreFalling b s (t ∷ below) → IsActiveTask b s t
 falling_head b s t [] f = f
 falling_head b s t (u ∷ below) f = f.0
 
@@ -81,11 +81,11 @@ below_other b s t below f u h e =
     let a = not_below b s t below f in let c : is_in t below ≡ true = subst (λ v. is_in v below ≡ true) e h in cc
 
 -- each task of the stack is Active
-pub falling_active : (b : Build) (s : System) (stack : List ℕ) → AreFalling b s stack → (u : ℕ) → is_in u stack ≡ true → IsActive b s u
+pub falling_active : (b : Build) (s : System) (stack : List ℕ) → AreFalling b s stack → (u : ℕ) → is_in u stack ≡ true → IsActiveTask b s u
 falling_active b s [] f u h = cc
 falling_active b s (t ∷ below) f u h =
     ⊎_elim
-    (λ (e : eqb t u ≡ true). subst (IsActive b s) (eqb-true t u e) (falling_head b s t below f))
+    (λ (e : eqb t u ≡ true). subst (IsActiveTask b s) (eqb-true t u e) (falling_head b s t below f))
     (λ (k : is_in u below ≡ true). falling_active b s below (falling_tail b s t below f) u k)
     (or_cases (eqb t u) (is_in u below) h)
 

@@ -11,7 +11,7 @@ use Rattle.sim_relation.specs.Build.{Build, start_level}
 use Rattle.sim_relation.specs.Position.{thread_of}
 use Rattle.sim_relation.specs.Context.{IsContext}
 use Rattle.masked_code.specs.Kernel.{HasBases}
-use Rattle.sim_relation.specs.Stands.{IsAlive, AreApart}
+use Rattle.sim_relation.specs.Stands.{IsAlive, AreStacksApart}
 
 -- The RAM: the context of what was preempted, at `place`, the words of the entry, and the task's own stack as it likes; all
 -- else stays. `old` is the state before the line was taken.
@@ -56,6 +56,6 @@ pub record TaskEntry (b : Build) (old now : State) (s : System) (t : ℕ) (own :
   pub registers : length own.registers ≡ 25
   pub x2 : slice_index old.core.registers 2 ≡ memory_base + (place + context_bytes)
   -- its part of the stacks is apart from those of the tasks that have something there
-  pub apart : (u : ℕ) → u < length b.config.tasks → u ≢ t → IsAlive (task s u) → AreApart b t u
+  pub apart : (u : ℕ) → u < length b.config.tasks → u ≢ t → IsAlive (task s u) → AreStacksApart b t u
   pub frame : ℕ
   pub context : IsContext b now.core.ram t own (thread_of now) frame

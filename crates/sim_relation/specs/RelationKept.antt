@@ -8,7 +8,7 @@ use Rattle.sloth_base.specs.Limits.{task_limit}
 use Rattle.sloth_base.specs.MemoryMap.{line_count}
 use Rattle.osek_scheduler.specs.declared.state.TaskState.{TaskState}
 use Rattle.osek_scheduler.specs.declared.state.TaskState.TheVariants as mode
-use Rattle.masked_code.specs.Kernel.{IsBelow}
+use Rattle.masked_code.specs.Kernel.{IsContextBelow}
 use Rattle.osek_scheduler.specs.State.{Task, System, task, with_task}
 use Rattle.osek_scheduler.specs.Priority.{IsTop, IsDue, NoTicks, IsNextTick}
 use Rattle.osek_scheduler.specs.Steps.{settled_state}
@@ -85,7 +85,7 @@ EntriesKeep = (b : Build) (old now : State) (s : System) (t : ℕ) (own : Task) 
 -- the context of what runs below it is where a routine looks for it
 abbrev pub BelowIsFound : Type 0
 BelowIsFound = (b : Build) (state : State) (s : System) (t : ℕ) → HasFittingPlaces b → Stands b state s → IsRunningTask b.config s t
-    → (place : ℕ) × IsBelow place state.core
+    → (place : ℕ) × IsContextBelow place state.core
 
 -- it stands where boot has started the system
 abbrev pub StartsStand : Type 0

@@ -42,15 +42,15 @@ pub record LinesStand (b : Build) (core : Core) (s : System) : Type 0 where
 -- ---- the Active tasks
 
 -- a task of the configuration is Active
-pub record IsActive (b : Build) (s : System) (t : ℕ) : Type 0 where
+pub record IsActiveTask (b : Build) (s : System) (t : ℕ) : Type 0 where
   pub declared : t < length b.config.tasks
   pub active : (task s t).state ≡ mode.Active
 
 -- each has a current priority below the static one of the task above it
 abbrev pub AreFalling : Build → System → List ℕ → Type 0
 AreFalling b s [] = Unit {0}
-AreFalling b s (t ∷ []) = IsActive b s t
-AreFalling b s (t ∷ u ∷ below) = IsActive b s t × (priority_of b.config s u < (declaration b.config t).priority) × AreFalling b s (u ∷ below)
+AreFalling b s (t ∷ []) = IsActiveTask b s t
+AreFalling b s (t ∷ u ∷ below) = IsActiveTask b s t × (priority_of b.config s u < (declaration b.config t).priority) × AreFalling b s (u ∷ below)
 
 -- these are the Active tasks, the running one first
 pub record AreActive (b : Build) (s : System) (stack : List ℕ) : Type 0 where
@@ -64,13 +64,13 @@ abbrev pub IsAlive : Task → Type 0
 IsAlive own = (own.state ≡ mode.Active) ⊎ (own.frames ≢ [])
 
 -- the stacks of two tasks share no byte
-abbrev pub AreApart : Build → (t u : ℕ) → Type 0
-AreApart b t u = (b.top t ≤ b.low u) ⊎ (b.top u ≤ b.low t)
+abbrev pub AreStacksApart : Build → (t u : ℕ) → Type 0
+AreStacksApart b t u = (b.top t ≤ b.low u) ⊎ (b.top u ≤ b.low t)
 
 -- those of two tasks with something on them are apart
 abbrev pub StacksApart : Build → System → Type 0
 StacksApart b s =
-    (t u : ℕ) → t < length b.config.tasks → u < length b.config.tasks → t ≢ u → IsAlive (task s t) → IsAlive (task s u) → AreApart b t u
+    (t u : ℕ) → t < length b.config.tasks → u < length b.config.tasks → t ≢ u → IsAlive (task s t) → IsAlive (task s u) → AreStacksApart b t u
 
 -- ---- what holds of the abstract state alone
 

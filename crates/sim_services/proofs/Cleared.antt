@@ -18,7 +18,7 @@ use Rattle.osek_scheduler.proofs.ServiceStates.{answered_state}
 use Rattle.osek_scheduler.specs.Steps.{settled_state}
 use Rattle.sim_relation.specs.Build.{Build, HasFittingPlaces}
 use Rattle.sim_relation.specs.Changes.{system_with_task_state}
-use Rattle.sim_relation.specs.Stands.{Stands, IsActive}
+use Rattle.sim_relation.specs.Stands.{Stands, IsActiveTask}
 use Rattle.sim_relation.proofs.Parts.{this_task}
 use Rattle.sim_services.specs.ServiceSteps.{MayGoOn}
 use Rattle.sim_services.specs.Served.{IsServed, IsServiceAnswer}
@@ -39,7 +39,7 @@ module _ (b : Build) (state : State) (s : System) (t : ℕ) (own : Task) (object
   mask_is : slice_index state.core.registers mask_register ≡ mask
   mask_is = is.opening.block.mask (subst (λ v. length (mask_of v mask) ≡ 2) (sym is.opening.calls) refl)
 
-  here : IsActive b s t
+  here : IsActiveTask b s t
   here = active b state s t own service.ClearEvent is fits
 
   abbrev now : ℕ

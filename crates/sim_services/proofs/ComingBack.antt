@@ -12,7 +12,7 @@ use Rattle.sim_relation.specs.Context.{RunsTask, RunsFirst}
 use Rattle.sim_relation.specs.Moves.{moved_system}
 use Rattle.sim_relation.specs.Position.{AreFrames, IsPosition, IsOwing, Thread, thread_of}
 use Rattle.sim_relation.specs.ServiceWords.{AreHeldWords, base_priority}
-use Rattle.sim_relation.specs.Stands.{Stands, IsActive}
+use Rattle.sim_relation.specs.Stands.{Stands, IsActiveTask}
 use Rattle.sim_relation.proofs.AtItem.{position_first}
 use Rattle.sim_relation.proofs.Framing.{position_elim}
 use Rattle.sim_relation.proofs.Fresh.{start_priority}
@@ -41,7 +41,7 @@ module _ (b : Build) (state : State) (s : System) (t : ℕ) (touched : List ℕ)
   abbrev own_now : Task
   own_now = record own { owed = false; raised = (declaration b.config t).non }
 
-  here : IsActive b s t
+  here : IsActiveTask b s t
   here = active_by_word b state s t k may.current
 
   at_ram : (P : List ℕ → Type 0) → P state.core.ram → P end.core.ram

@@ -17,7 +17,7 @@ use Rattle.osek_scheduler.specs.Steps.{settled_state}
 use Rattle.sim_induction.proofs.Passing.{not_suspended}
 use Rattle.sim_relation.specs.Build.{Build, HasFittingPlaces}
 use Rattle.sim_relation.specs.ServiceWords.{AreServiceWords, AreHeldWords, base_priority}
-use Rattle.sim_relation.specs.Stands.{Stands, IsActive, AreActive, AreLineBytes}
+use Rattle.sim_relation.specs.Stands.{Stands, IsActiveTask, AreActive, AreLineBytes}
 use Rattle.sim_relation.specs.Moves.{TaskLeave}
 use Rattle.sim_relation.proofs.Machines.{left_whole}
 use Rattle.sim_relation.proofs.Parts.{this_task, line_active}
@@ -54,7 +54,7 @@ module _ (b : Build) (state : State) (s : System) (t : ℕ) (called : Task) (ser
     stack : AreActive b s (t ∷ below)
     stack = subst (AreActive b s) stack_is k.active
 
-    here : IsActive b s t
+    here : IsActiveTask b s t
     here = falling_head b s t below stack.falling
 
     few30 : t < task_limit
@@ -128,7 +128,7 @@ module _ (b : Build) (state : State) (s : System) (t : ℕ) (called : Task) (ser
   pub ended_stands : Stands b end next
   ended_stands = let f = first_by_word b state s t k.stack k.running opening.current in stands_behind f.0 f.1
 
-  active : IsActive b s t
+  active : IsActiveTask b s t
   active = active_by_word b state s t k opening.current
 
   pub inside : t < length s.tasks

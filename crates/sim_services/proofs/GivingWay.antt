@@ -22,7 +22,7 @@ use Rattle.sim_relation.specs.Context.{RunsTask}
 use Rattle.sim_relation.specs.Moves.{moved_system}
 use Rattle.sim_relation.specs.Position.{AreFrames, IsPosition, thread_of}
 use Rattle.sim_relation.specs.ServiceWords.{AreHeldWords, base_priority}
-use Rattle.sim_relation.specs.Stands.{Stands, IsActive}
+use Rattle.sim_relation.specs.Stands.{Stands, IsActiveTask}
 use Rattle.sim_relation.proofs.Fresh.{start_priority}
 use Rattle.sim_services.specs.Opening.{AtOpening}
 use Rattle.sim_services.specs.Served.{IsServed, IsServiceAnswer}
@@ -57,7 +57,7 @@ module _ (b : Build) (state : State) (s : System) (t : ℕ) (called : Task) (obj
   abbrev own_now : Task
   own_now = record (answered_task E_OK own) { raised = false; owed = true }
 
-  here : IsActive b s t
+  here : IsActiveTask b s t
   here = active b state s t called service.Schedule is fits
 
   holds_nothing : own.held ≡ []

@@ -24,7 +24,7 @@ use Rattle.sim_relation.specs.Context.{RunsTask, RunsFirst}
 use Rattle.sim_relation.specs.DataStands.{DataStands}
 use Rattle.sim_relation.specs.Moves.{moved_system, TaskStep}
 use Rattle.sim_relation.specs.Position.{AreFrames, IsPosition, thread_of}
-use Rattle.sim_relation.specs.Stands.{Stands, IsActive}
+use Rattle.sim_relation.specs.Stands.{Stands, IsActiveTask}
 use Rattle.sim_relation.proofs.AtItem.{position_first}
 use Rattle.sim_relation.proofs.Framing.{position_elim}
 use Rattle.sim_relation.proofs.Machines.{left_same}
@@ -53,7 +53,7 @@ module _ (b : Build) (state : State) (s : System) (t : ℕ) (called : Task) (ser
   pub free : own.owed ≡ false
   free = ap (λ (o : Task). o.owed) is.own_is ∙ opening.free
 
-  pub active : IsActive b s t
+  pub active : IsActiveTask b s t
   active = active_by_word b state s t k opening.current
 
   -- the task's frames stand on its stack

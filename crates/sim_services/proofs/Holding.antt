@@ -25,7 +25,7 @@ use Rattle.osek_valid.proofs.Stacks.{is_in-append, in-without_last}
 use Rattle.sim_relation.specs.Build.{Build, HasFittingPlaces}
 use Rattle.sim_relation.specs.Context.{RunsTask, RunsFirst}
 use Rattle.sim_relation.specs.ServiceWords.{AreHeldWords, base_priority}
-use Rattle.sim_relation.specs.Stands.{Stands, AreActive, IsActive}
+use Rattle.sim_relation.specs.Stands.{Stands, AreActive, IsActiveTask}
 use Rattle.sim_relation.proofs.Levels.{level_of-few}
 use Rattle.sim_relation.proofs.Parts.{held_kept, word_other}
 use Rattle.sim_relation.proofs.Placed.{first_by_word}
@@ -99,7 +99,7 @@ module _ (b : Build) (state : State) (s : System) (t : ℕ) (called : Task) (obj
   abbrev base : ℕ
   base = base_priority b t own
 
-  here : IsActive b s t
+  here : IsActiveTask b s t
   here = active b state s t called service.GetResource is fits
 
   not_yet : is_in object own.held ≡ false
@@ -200,7 +200,7 @@ module _ (b : Build) (state : State) (s : System) (t : ℕ) (called : Task) (obj
   abbrev released : Task
   released = record (answered_task E_OK releasing) { held = without_last releasing.held }
 
-  releaser : IsActive b s t
+  releaser : IsActiveTask b s t
   releaser = active b state s t called service.ReleaseResource release_is fits
 
   pop : Popped b state.core.ram (base_priority b t releasing) releasing.held object

@@ -20,7 +20,7 @@ use Rattle.sim_relation.specs.Context.{RunsTask, RunsFirst}
 use Rattle.sim_relation.specs.Moves.{moved_system, TaskMove}
 use Rattle.sim_relation.specs.Position.{AreFrames, IsPosition, thread_of}
 use Rattle.sim_relation.specs.ServiceWords.{AreServiceWords, AreHeldWords, IsWaitWord, active_word, base_priority}
-use Rattle.sim_relation.specs.Stands.{Stands, IsActive}
+use Rattle.sim_relation.specs.Stands.{Stands, IsActiveTask}
 use Rattle.sim_relation.proofs.AtItem.{position_first}
 use Rattle.sim_relation.proofs.ClockKept.{clock_kept}
 use Rattle.sim_relation.proofs.Contexts.{data_kept}
@@ -53,7 +53,7 @@ pub record AtOtherLevel (b : Build) (state : State) (s : System) (t resource : �
 
 module _ (b : Build) (state : State) (s : System) (k : Stands b state s) (fits : HasFittingPlaces b) (t : ℕ) (current : word_at state.core.ram cur ≡ t + 1)
     (resource : ℕ) (own : Task) (level : ℕ) (ram : List ℕ) (end : State) (h : AtOtherLevel b state s t resource own level ram end) where
-  here : IsActive b s t
+  here : IsActiveTask b s t
   here = active_by_word b state s t k current
 
   abbrev old : List ℕ

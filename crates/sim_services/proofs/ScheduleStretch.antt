@@ -35,7 +35,7 @@ use Rattle.sim_relation.specs.Build.{Build, HasFittingPlaces}
 use Rattle.sim_relation.specs.Context.{RunsTask, RunsFirst}
 use Rattle.sim_relation.specs.Placed.{setting_of}
 use Rattle.sim_relation.specs.Position.{IsOwing, IsPosition, thread_of}
-use Rattle.sim_relation.specs.Stands.{Stands, IsActive}
+use Rattle.sim_relation.specs.Stands.{Stands, IsActiveTask}
 use Rattle.sim_relation.proofs.Arrive.{stands_arrived}
 use Rattle.sim_relation.proofs.Choice.{running_top}
 use Rattle.sim_relation.proofs.Levels.{level_of-few}
@@ -96,7 +96,7 @@ module _ (b : Build) (view : View) (arrivals : List Arrival) (count : ℕ) (stat
   there : Stands b n s1
   there = stands_arrived b (lines_at arrivals count) state s fits.few_tasks (all_owned count) stands
 
-  here : IsActive b s1 t
+  here : IsActiveTask b s1 t
   here = active_by_word b n s1 t there opens.current
 
   none : line_to_take n ≡ None

@@ -35,7 +35,7 @@ use Rattle.sim_induction.proofs.Traces.{lines_trace, early_touched}
 use Rattle.sim_relation.specs.Build.{Build, HasFittingPlaces}
 use Rattle.sim_relation.specs.Context.{RunsTask, RunsFirst}
 use Rattle.sim_relation.specs.Placed.{setting_of}
-use Rattle.sim_relation.specs.Stands.{Stands, IsActive, AreActive}
+use Rattle.sim_relation.specs.Stands.{Stands, IsActiveTask, AreActive}
 use Rattle.sim_relation.proofs.Arrive.{stands_arrived}
 use Rattle.sim_relation.proofs.Below.{is_below}
 use Rattle.sim_relation.proofs.Choice.{running_top}
@@ -110,7 +110,7 @@ module _ (b : Build) (view : View) (arrivals : List Arrival) (count : ℕ) (stat
     run : RunsTask b n s1 t below
     run = subst (RunsFirst b n s1) stack_is k.running
 
-    here : IsActive b s1 t
+    here : IsActiveTask b s1 t
     here = falling_head b s1 t below active.falling
 
     top : IsTop b.config s1 [] t

@@ -26,7 +26,7 @@ use Rattle.sim_relation.specs.Build.{Build, HasFittingPlaces}
 use Rattle.sim_relation.specs.Position.{AreFrames, thread_of}
 use Rattle.sim_relation.specs.Context.{RunsTask, RunsFirst, IsRested, HasOwnContext}
 use Rattle.sim_relation.specs.ServiceWords.{AreServiceWords, AreHeldWords, base_priority}
-use Rattle.sim_relation.specs.Stands.{Stands, IsActive, AreLineBytes}
+use Rattle.sim_relation.specs.Stands.{Stands, IsActiveTask, AreLineBytes}
 use Rattle.sim_relation.specs.Moves.{TaskLeave}
 use Rattle.sim_relation.proofs.Contexts.{context_below}
 use Rattle.sim_relation.proofs.Framing.{frames_kept}
@@ -65,7 +65,7 @@ module _ (b : Build) (state : State) (s : System) (t : ℕ) (own : Task) (object
   mask_is : slice_index state.core.registers mask_register ≡ mask
   mask_is = opening.block.mask (subst (λ v. length (mask_of v mask) ≡ 2) (sym opening.calls) refl)
 
-  here : IsActive b s t
+  here : IsActiveTask b s t
   here = active b state s t own service.WaitEvent is fits
 
   set_is : set_of t state.core ≡ bit_and (task s t).events mask

@@ -7,7 +7,7 @@ use Rattle.sloth_base.specs.declared.config.Action.{Action}
 use Rattle.sloth_base.specs.declared.config.Action.TheVariants as action
 use Rattle.sloth_base.specs.declared.config.AlarmDecl.{AlarmDecl}
 use Rattle.sloth_base.specs.declared.config.Config.{Config}
-use Rattle.sloth_base.specs.ImageRange.{AreNames, AreApart}
+use Rattle.sloth_base.specs.ImageRange.{AreNames, AreNamesApart}
 use Rattle.sloth_base.specs.Named.{declaration, counter_declaration}
 use Rattle.sloth_base.specs.Limits.{task_limit, counter_limit, alarm_limit, resource_limit, event_limit, priority_limit, tick_limit}
 
@@ -80,6 +80,6 @@ pub record InRange (config : Config) : Type 0 where
   pub counter_names : AreNames (map (λ c. c.name) config.counters)
   pub alarm_names : AreNames (map (λ a. a.name) config.alarms)
   -- no counter has a task's name
-  pub counters_apart : AreApart (map (λ c. c.name) config.counters) (map (λ t. t.name) config.tasks)
+  pub counters_apart : AreNamesApart (map (λ c. c.name) config.counters) (map (λ t. t.name) config.tasks)
   pub counters : All IsCounter config.counters
   pub alarms : All (IsAlarm config) config.alarms

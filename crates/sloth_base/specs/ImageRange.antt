@@ -34,8 +34,8 @@ pub record AreNames (names : List (List ℕ)) : Type 0 where
   pub distinct : AllPairs (λ one other. one ≢ other) names
 
 -- none of the names is one of the others
-abbrev pub AreApart : List (List ℕ) → List (List ℕ) → Type 0
-AreApart names others = All (λ name. All (λ other. other ≢ name) others) names
+abbrev pub AreNamesApart : List (List ℕ) → List (List ℕ) → Type 0
+AreNamesApart names others = All (λ name. All (λ other. other ≢ name) others) names
 
 -- how many services the marks of an image with so many counters may name: those on alarms need a counter
 abbrev pub service_limit : ℕ → ℕ
@@ -69,7 +69,7 @@ pub record InFormat (image : Image) : Type 0 where
   pub functions : AreNames image.funcs
   pub counters : AreNames image.counters
   -- no counter has a task's name
-  pub counters_apart : AreApart image.counters image.tasks
+  pub counters_apart : AreNamesApart image.counters image.tasks
   pub memory_fits : length image.memory ≤ memory_bytes
   pub whole_words : length image.memory % 4 ≡ 0
   pub few_marks : length image.marks ≤ mark_limit

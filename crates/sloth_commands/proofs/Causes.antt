@@ -15,7 +15,7 @@ use Rattle.sloth_io.specs.Slots.{is_space_for}
 use Rattle.image_file.specs.ImageText.{image_bytes}
 use Rattle.sloth_source.specs.Texts.{AreAccepted}
 use Rattle.command_line.specs.Command.{Command, Building, Builds, Executes, Lists, Samples, Uses, IsCommand, IsInLimit}
-use Rattle.trace_check.specs.Inputs.{AreRead}
+use Rattle.trace_check.specs.Inputs.{AreArrivalsOf}
 use Rattle.command_line.specs.LastLine.{refusal_line, no_image_line}
 use Rattle.tool_answers.specs.declared.status.Status.{Status}
 use Rattle.tool_answers.specs.declared.status.Status.TheVariants as status
@@ -61,7 +61,7 @@ pub record IsBuilt (old mid : Files) (c : Building) (image : Image) (arrivals : 
   pub kept : KeepsFiles old mid
 
 pub built-of : (old mid : Files) (c : Building) (config : Config) (app : App) (image : Image) (arrivals : List Arrival) (oil src arr : List ℕ)
-    → AreInputs old c oil src arr → AreAccepted oil src config app → AreRead (task_names config) (counter_names config) arr arrivals → AreArrivals (owners_in config) arrivals
+    → AreInputs old c oil src arr → AreAccepted oil src config app → AreArrivalsOf (task_names config) (counter_names config) arr arrivals → AreArrivals (owners_in config) arrivals
     → IsBuiltImage config app image → IsInLimit c.run → KeepsFiles old mid → IsBuilt old mid c image arrivals
 built-of old mid c config app image arrivals oil src arr inputs accepted read in_range is_image in_limit kept = record {
   config = config;

@@ -19,7 +19,7 @@ use Rattle.sloth_source.proofs.Unique.{one_meaning}
 use Rattle.command_line.specs.LastLine.{refusal_line}
 use Rattle.command_line.specs.Command.{Command, Building, Run, Builds, Uses, IsCommand, IsNoTool, NoCommand}
 use Rattle.command_line.specs.Tools.{ToolUse}
-use Rattle.trace_check.specs.Inputs.{AreRead}
+use Rattle.trace_check.specs.Inputs.{AreArrivalsOf}
 use Rattle.sloth_commands.specs.ImageFiles.{IsNoImage}
 use Rattle.tool_answers.specs.declared.status.Status.{Status}
 use Rattle.tool_answers.specs.declared.status.Status.TheVariants as status
@@ -209,7 +209,7 @@ stands wanted answer words old new text w q (inr p) = absurd (no-broken-put old.
 
 -- the inputs have one meaning
 one-app : (old : Files) (c : Building) (oil src arr : List ℕ) (config other : Config) (app another : App) (arrivals others : List Arrival)
-    → AreThere old c oil src arr → AreAccepted oil src config app → AreRead (task_names config) (counter_names config) arr arrivals → IsAccepted old c other another others
+    → AreThere old c oil src arr → AreAccepted oil src config app → AreArrivalsOf (task_names config) (counter_names config) arr arrivals → IsAccepted old c other another others
     → (other ≡ config) × (another ≡ app) × (others ≡ arrivals)
 one-app old c oil src arr config other app another arrivals others there h read g =
     let i = g.inputs in
@@ -229,7 +229,7 @@ image-of config other app another image same h =
     subst (λ x. IsBuiltImage config x image) same.1 (subst (λ x. IsBuiltImage x another image) same.0 h)
 
 module _ (old new : World) (c : Building) (oil src arr : List ℕ) (config : Config) (app : App) (arrivals : List Arrival)
-    (there : AreThere old.files c oil src arr) (h : AreAccepted oil src config app) (read : AreRead (task_names config) (counter_names config) arr arrivals)
+    (there : AreThere old.files c oil src arr) (h : AreAccepted oil src config app) (read : AreArrivalsOf (task_names config) (counter_names config) arr arrivals)
     (works : CallsWork c config app arrivals old new) where
   complete-by : (wanted answer : Status) (words : List (List ℕ)) (text : List ℕ) → IsRequired wanted words old.files new.files text
       → IsPutAnswer wanted answer old.sink new.sink text → IsCommand words (Builds c)

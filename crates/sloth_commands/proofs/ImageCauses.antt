@@ -12,7 +12,7 @@ use Rattle.sloth_io.proofs.Gains.{gains-gains, gains-nil, part-behind}
 use Rattle.image_file.specs.ImageText.{ImageText}
 use Rattle.trace_text.specs.Listing.{listing}
 use Rattle.command_line.specs.Command.{Execution, Executes, Lists}
-use Rattle.trace_check.specs.Inputs.{AreRead}
+use Rattle.trace_check.specs.Inputs.{AreArrivalsOf}
 use Rattle.sloth_commands.specs.ImageFiles.{AreExecInputs, IsRunnable, IsExecuted, IsListed, exec_text}
 use Rattle.sloth_commands.specs.ImageAnswers.{end_status}
 use Rattle.sloth_runner.specs.Runner.{run_end}
@@ -84,7 +84,7 @@ exec-failed (failure.NotAnImage fault) old new sink out e image arrivals is stay
 exec-failed failure.WriteFile old new sink out e image arrivals is stay h = absurd h
 
 pub runnable : (old : Files) (e : Execution) (image : Image) (arrivals : List Arrival) (file arr : List ℕ) → AreExecInputs old e file arr → ImageText file image
-    → AreRead image.tasks image.counters arr arrivals → AreArrivals (owners_named image) arrivals → IsRunnable old e image arrivals
+    → AreArrivalsOf image.tasks image.counters arr arrivals → AreArrivals (owners_named image) arrivals → IsRunnable old e image arrivals
 runnable old e image arrivals file arr inputs is read in_range =
     record { file = file; arr = arr; inputs = inputs; is_image = is; read = read; in_range = in_range }
 

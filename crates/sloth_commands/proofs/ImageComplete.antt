@@ -26,7 +26,7 @@ use Rattle.tool_answers.specs.Statuses.{tool_status}
 use Rattle.sloth_commands.specs.ToolFiles.{IsToolAnswer, ReadsImageFirst}
 use Rattle.sloth_commands.proofs.ToolReads.{told-inputs, none-unread as no-tool-unread}
 use Rattle.sloth_commands.proofs.ToolComplete.{AnswersAs, tool-image}
-use Rattle.trace_check.specs.Inputs.{AreRead}
+use Rattle.trace_check.specs.Inputs.{AreArrivalsOf}
 use Rattle.sloth_commands.specs.ImageFiles.{AreExecInputs, ReadsImageFile, IsRunnable, IsExecuted, IsNoImage, exec_text}
 use Rattle.sloth_commands.specs.ImageAnswers.{end_status, LinesWork, IsNoImageAnswer, IsImageFaultAnswer, HasImageFaultAnswer, HasNoImageAnswer, HasExecRefusedAnswer, HasExecutedAnswer, HasListedAnswer}
 use Rattle.command_line.specs.LastLine.{no_image_line, refusal_line}
@@ -204,7 +204,7 @@ tells-no-image words old new answer h c is tells file i works none =
 
 -- the inputs that are told have one image and one list of arrivals
 one-image : (old : Files) (e : Execution) (file arr : List ℕ) (image other : Image) (arrivals others : List Arrival) → IsTrue old.tells → AreExecInputs old e file arr
-    → ImageText file image → AreRead image.tasks image.counters arr arrivals → IsRunnable old e other others → (other ≡ image) × (others ≡ arrivals)
+    → ImageText file image → AreArrivalsOf image.tasks image.counters arr arrivals → IsRunnable old e other others → (other ≡ image) × (others ≡ arrivals)
 one-image old e file arr image other arrivals others tells i is read a =
     let file_is : a.file ≡ file = told old e.img a.file file tells a.inputs.image_file.read i.image_file.read in
     let arr_is : a.arr ≡ arr = told old e.arr a.arr arr tells a.inputs.arrivals_file.read i.arrivals_file.read in
@@ -222,7 +222,7 @@ same-text image other arrivals others n same = ap (λ (x : Image). exec_text x o
 module _ (words : List (List ℕ)) (old new : World) (answer : Status) (e : Execution) (file arr : List ℕ) (image : Image) (is : IsCommand words (Executes e))
     (tells : IsTrue old.files.tells) (i : AreExecInputs old.files e file arr) (is_image : ImageText file image) where
   -- a run of the image, whole or not, is the one that is wanted
-  ended-by : (end : RunEnd) (arrivals : List Arrival) (text : List ℕ) → AreRead image.tasks image.counters arr arrivals → PutsWork old.sink new.sink (exec_text image arrivals e.n)
+  ended-by : (end : RunEnd) (arrivals : List Arrival) (text : List ℕ) → AreArrivalsOf image.tasks image.counters arr arrivals → PutsWork old.sink new.sink (exec_text image arrivals e.n)
       → IsExecuted old.files e end text → IsRequired (end_status end) words old.files new.files text → IsPutAnswer (end_status end) answer old.sink new.sink text
       → IsFullAnswer (end_status (run_end image arrivals e.n)) words old new answer
   ended-by end arrivals text read lines d q p =
@@ -238,7 +238,7 @@ module _ (words : List (List ℕ)) (old new : World) (answer : Status) (e : Exec
       let same : n.file ≡ file = told-file old.files (Executes e) n.file file tells n.inputs (arr, i) in
       none_is_both file image fault is_image (subst (IsFirstImageFault fault) same n.faulty)
 
-  executed-by : (wanted : Status) (arrivals : List Arrival) (text : List ℕ) → AreRead image.tasks image.counters arr arrivals → LinesWork old new (exec_text image arrivals e.n)
+  executed-by : (wanted : Status) (arrivals : List Arrival) (text : List ℕ) → AreArrivalsOf image.tasks image.counters arr arrivals → LinesWork old new (exec_text image arrivals e.n)
       → IsRequired wanted words old.files new.files text → IsPutAnswer wanted answer old.sink new.sink text
       → IsFullAnswer (end_status (run_end image arrivals e.n)) words old new answer ⊎ IsFullAnswer status.NoMemory words old new answer
   executed-by status.Done arrivals text read works q p =

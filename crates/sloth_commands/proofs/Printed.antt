@@ -20,7 +20,7 @@ use Rattle.osek_scheduler.specs.State.{System, opening}
 use Rattle.osek_scheduler.specs.Steps.{OsekStep}
 use Rattle.osek_scheduler.specs.Runs.{AreStepsBehind}
 use Rattle.sim_induction.specs.Sound.{events_of}
-use Rattle.line_words.specs.EventNumbers.{Has32Bits, HasNumbers, IsNumberOrNone, IsNameNumber}
+use Rattle.line_words.specs.EventNumbers.{Has32Bits, HasEventNumbers, IsNumberOrNone, IsNameNumber}
 use Rattle.trace_text.specs.Texts.{lines_with}
 use Rattle.trace_text.specs.declared.printing.Form.TheVariants as form
 use Rattle.walked_events.specs.TraceText.{HasLine}
@@ -73,7 +73,7 @@ module _ (config : Config) (app : App) (in_range : AppInRange config app) where
       omega (arith, inside, within, same, few)
 
   -- the numbers of an event that is a step
-  numbers_of : (e : Event) (s next : System) → OsekStep config app e s next → HasValue e → HasNumbers (length (task_names config)) (length (function_names app)) (length (counter_names config)) e
+  numbers_of : (e : Event) (s next : System) → OsekStep config app e s next → HasValue e → HasEventNumbers (length (task_names config)) (length (function_names app)) (length (counter_names config)) e
   numbers_of (event.Run t f item result) s next step value =
       let at = step.1.at in
       let P : ℕ → ℕ → Type 0 = λ g i. i < length (function app g).items in

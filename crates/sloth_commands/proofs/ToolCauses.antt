@@ -16,7 +16,7 @@ use Rattle.tool_commands.proofs.OneAnswer.{no-image, reads-one}
 use Rattle.sloth_commands.specs.ImageFiles.{IsNoImage}
 use Rattle.tool_answers.specs.Statuses.{tool_status}
 use Rattle.sloth_commands.specs.ToolFiles.{AreToolInputs, IsToolAnswer, ReadsImageFirst}
-use Rattle.sloth_commands.specs.Top.{World, world, FilesAfter, IsOutput, IsToolEnd, IsUnwrittenOutput, IsRequired, IsTextTaken}
+use Rattle.sloth_commands.specs.Top.{World, world, FilesAfter, IsOutputWritten, IsToolEnd, IsUnwrittenOutput, IsRequired, IsTextTaken}
 use Rattle.sloth_commands.specs.Failures.{IsTellFailure, IsCommandFailure, IsPerformed}
 use Rattle.tool_answers.specs.declared.status.Status.{Status}
 use Rattle.sloth_commands.specs.declared.failure.Failure.{Failure}
@@ -62,7 +62,7 @@ end-required s words u old new text is h =
 
 -- ---- behind the reads
 
-output-kept : (old mid new : Files) (output : Option (List ℕ)) (bytes : List ℕ) → KeepsFiles old mid → IsOutput mid new output bytes → IsOutput old new output bytes
+output-kept : (old mid new : Files) (output : Option (List ℕ)) (bytes : List ℕ) → KeepsFiles old mid → IsOutputWritten mid new output bytes → IsOutputWritten old new output bytes
 output-kept old mid new None bytes kept h = λ name. h name ∙ kept.holds name
 output-kept old mid new (Some name) bytes kept h = (h.0, λ other differs. h.1 other differs ∙ kept.holds other)
 

@@ -18,7 +18,7 @@ use Rattle.tool_commands.proofs.OneAnswer.{HasImage, image-or-fault, no-image, o
 use Rattle.sloth_commands.specs.ImageFiles.{IsNoImage}
 use Rattle.tool_answers.specs.Statuses.{tool_status}
 use Rattle.sloth_commands.specs.ToolFiles.{AreToolInputs, IsToolAnswer, ReadsImageFirst}
-use Rattle.sloth_commands.specs.ToolAnswers.{IsTold, IsToolStatus, OutputWorks, ToolWorks, HasToolAnswer, HasToolDoneAnswer}
+use Rattle.sloth_commands.specs.ToolAnswers.{IsToolTold, IsToolStatus, OutputWorks, ToolWorks, HasToolAnswer, HasToolDoneAnswer}
 use Rattle.sloth_commands.specs.Top.{World, IsFailedRead, IsLongRead, FilesAfter, IsUnwrittenOutput, IsRequired, IsPutAnswer, IsTextTaken, IsTextBrokenOff, IsFullAnswer, IsTopAnswer}
 use Rattle.sloth_commands.specs.Top.{IsCommandDone, IsCommandRefused, IsCommandUnwritten, IsCommandStopped, ReadsWork}
 use Rattle.tool_answers.specs.declared.status.Status.{Status}
@@ -64,7 +64,7 @@ IsUnwrittenFor tool_answer.NoHolds output old new = ⊥
 
 -- what a failed write leaves to be said
 data Told (words : List (List ℕ)) (a : ToolAnswer) (output : Option (List ℕ)) (old new : World) (answer : Status) : Type 0 where
-  Whole : IsTold a output old new answer → Told words a output old new answer
+  Whole : IsToolTold a output old new answer → Told words a output old new answer
   Wanting : IsFullAnswer status.NoMemory words old new answer → Told words a output old new answer
   Unwritten : answer ≡ status.WriteFault → IsUnwrittenFor a output old.files new.files → Told words a output old new answer
   Broke : answer ≡ status.WriteFault → IsTextBrokenOff old.sink new.sink (tool_text a) → Told words a output old new answer
@@ -185,7 +185,7 @@ answers-tool words a output old new answer (Broke is h) = inr (inr (inr (is, cou
 answers-tool words a output old new answer (BrokeWanting is h) = inr (inr (inr (is, counted-put old.sink new.sink (codes "no memory\n") h)))
 
 answers-done : (words : List (List ℕ)) (a : ToolAnswer) (output : Option (List ℕ)) (old new : World) (answer : Status) → ToolWorks a output old new
-    → Told words a output old new answer → IsTold a output old new answer ⊎ IsFullAnswer status.NoMemory words old new answer
+    → Told words a output old new answer → IsToolTold a output old new answer ⊎ IsFullAnswer status.NoMemory words old new answer
 answers-done words a output old new answer works (Whole h) = inl h
 answers-done words a output old new answer works (Wanting h) = inr h
 answers-done words a output old new answer works (Unwritten is h) = absurd (not-unwritten a output old.files new.files works.write h)

@@ -10,7 +10,7 @@ use Rattle.image_file.specs.declared.fault.ImageFault.{ImageFault}
 use Rattle.trace_text.specs.ArrivalsText.{ArrivalsFault}
 use Rattle.trace_text.specs.Listing.{listing}
 use Rattle.command_line.specs.Command.{Command, Execution, Executes, Lists, IsCommand}
-use Rattle.trace_check.specs.Inputs.{AreRead}
+use Rattle.trace_check.specs.Inputs.{AreArrivalsOf}
 use Rattle.sloth_commands.specs.FileInputs.{IsInput}
 use Rattle.sloth_commands.specs.ImageFiles.{AreExecInputs, ReadsImageFile, exec_text}
 use Rattle.command_line.specs.LastLine.{no_image_line}
@@ -64,7 +64,7 @@ HasExecRefusedAnswer words old new answer =
 abbrev pub HasExecutedAnswer : List (List ℕ) → World → World → Status → Type 0
 HasExecutedAnswer words old new answer =
     (e : Execution) → IsCommand words (Executes e) → IsTrue old.files.tells → (file arr : List ℕ) → AreExecInputs old.files e file arr
-    → (image : Image) → ImageText file image → (arrivals : List Arrival) → AreRead image.tasks image.counters arr arrivals
+    → (image : Image) → ImageText file image → (arrivals : List Arrival) → AreArrivalsOf image.tasks image.counters arr arrivals
     → LinesWork old new (exec_text image arrivals e.n)
     → IsFullAnswer (end_status (run_end image arrivals e.n)) words old new answer ⊎ IsFullAnswer status.NoMemory words old new answer
 

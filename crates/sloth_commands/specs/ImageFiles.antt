@@ -14,7 +14,7 @@ use Rattle.trace_text.specs.ArrivalsText.{ArrivalsFault}
 use Rattle.trace_text.specs.Listing.{listing}
 use Rattle.trace_text.specs.declared.printing.Form.TheVariants as form
 use Rattle.command_line.specs.Command.{Command, Execution, Builds, Executes, Lists, Samples, Uses}
-use Rattle.trace_check.specs.Inputs.{AreRead}
+use Rattle.trace_check.specs.Inputs.{AreArrivalsOf}
 use Rattle.sloth_commands.specs.FileInputs.{IsInput}
 use Rattle.sloth_commands.specs.ToolFiles.{ReadsImageFirst}
 use Rattle.command_line.specs.StopLine.{stopped_line}
@@ -45,7 +45,7 @@ pub record IsRunnable (old : Files) (e : Execution) (image : Image) (arrivals : 
   pub arr : List ℕ
   pub inputs : AreExecInputs old e file arr
   pub is_image : ImageText file image
-  pub read : AreRead image.tasks image.counters arr arrivals
+  pub read : AreArrivalsOf image.tasks image.counters arr arrivals
   -- so the machine has their lines
   pub in_range : AreArrivals (owners_named image) arrivals
 

@@ -15,7 +15,7 @@ use Rattle.tool_answers.specs.declared.status.Status.{Status}
 use Rattle.tool_answers.specs.declared.status.Status.TheVariants as status
 
 -- this is the tool's answer: its status, its text whole, and what it leaves in the files
-pub record IsTold (a : ToolAnswer) (output : Option (List ℕ)) (old new : World) (answer : Status) : Type 0 where
+pub record IsToolTold (a : ToolAnswer) (output : Option (List ℕ)) (old new : World) (answer : Status) : Type 0 where
   pub status_is : answer ≡ tool_status a
   pub text : IsTextTaken old.sink new.sink (tool_text a)
   pub files : FilesAfter a old.files new.files output
@@ -27,7 +27,7 @@ IsNotWritten old new answer = (answer ≡ status.WriteFault) × Rose old.files.f
 -- this answer, unless memory was wanting, the tool's file was not written or the text could not be put
 abbrev pub IsToolStatus : List (List ℕ) → ToolAnswer → Option (List ℕ) → World → World → Status → Type 0
 IsToolStatus words a output old new answer =
-    IsTold a output old new answer ⊎ (IsFullAnswer status.NoMemory words old new answer ⊎ (IsNotWritten old new answer ⊎ IsBrokenOff old new answer))
+    IsToolTold a output old new answer ⊎ (IsFullAnswer status.NoMemory words old new answer ⊎ (IsNotWritten old new answer ⊎ IsBrokenOff old new answer))
 
 -- no write of the file of a tool that was done failed, or none is to fail
 abbrev pub OutputWorks : ToolAnswer → Option (List ℕ) → Files → Files → Type 0
@@ -52,4 +52,4 @@ abbrev pub HasToolDoneAnswer : List (List ℕ) → World → World → Status �
 HasToolDoneAnswer words old new answer =
     (u : ToolUse) → IsCommand words (Uses u) → IsTrue old.files.tells → (inputs : List (List ℕ)) → AreToolInputs old.files u.inputs inputs
     → (a : ToolAnswer) → IsAnswer u.tool u.counts inputs a → ToolWorks a u.output old new
-    → IsTold a u.output old new answer ⊎ IsFullAnswer status.NoMemory words old new answer
+    → IsToolTold a u.output old new answer ⊎ IsFullAnswer status.NoMemory words old new answer

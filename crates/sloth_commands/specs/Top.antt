@@ -34,7 +34,7 @@ use Rattle.tool_answers.specs.declared.answer.Outcome.{Outcome}
 use Rattle.tool_answers.specs.declared.answer.TraceFault.{TraceFault}
 use Rattle.trace_check.specs.Inputs.{IsRefusal}
 use Rattle.sloth_base.specs.DeclaredNames.{task_names, counter_names}
-use Rattle.trace_check.specs.Inputs.{AreRead}
+use Rattle.trace_check.specs.Inputs.{AreArrivalsOf}
 use Rattle.tool_answers.specs.Statuses.{tool_status}
 use Rattle.sloth_commands.specs.ToolFiles.{IsToolAnswer}
 use Rattle.sloth_commands.specs.ImageFiles.{IsExecuted, IsExecRefused, IsListed, IsNoImage}
@@ -122,7 +122,7 @@ pub record IsAccepted (old : Files) (c : Building) (config : Config) (app : App)
   pub arr : List ℕ
   pub inputs : AreInputs old c oil src arr
   pub accepted : AreAccepted oil src config app
-  pub read : AreRead (task_names config) (counter_names config) arr arrivals
+  pub read : AreArrivalsOf (task_names config) (counter_names config) arr arrivals
   -- so they are among those of which an image is sound
   pub in_range : AreArrivals (owners_in config) arrivals
 
@@ -234,13 +234,13 @@ pub record IsUnwrittenSample (old new : Files) (seed : ℕ) (img : List ℕ) : T
   pub others : KeepsOthers old new img
 
 -- the file of a tool, if it writes one, holds these bytes, and no other file has changed
-abbrev pub IsOutput : Files → Files → Option (List ℕ) → List ℕ → Type 0
-IsOutput old new None bytes = AreFilesSame old new
-IsOutput old new (Some name) bytes = IsWritten old new name bytes
+abbrev pub IsOutputWritten : Files → Files → Option (List ℕ) → List ℕ → Type 0
+IsOutputWritten old new None bytes = AreFilesSame old new
+IsOutputWritten old new (Some name) bytes = IsWritten old new name bytes
 
 -- what the files hold behind the answer of a tool: only one that was done writes a file
 abbrev pub FilesAfter : ToolAnswer → Files → Files → Option (List ℕ) → Type 0
-FilesAfter (tool_answer.Done outcome) old new output = IsOutput old new output outcome.file
+FilesAfter (tool_answer.Done outcome) old new output = IsOutputWritten old new output outcome.file
 FilesAfter (tool_answer.Refused refusal) old new output = AreFilesSame old new
 FilesAfter (tool_answer.Stopped pc stop) old new output = AreFilesSame old new
 FilesAfter (tool_answer.NotAnImage fault) old new output = AreFilesSame old new
@@ -412,5 +412,5 @@ HasRefusalAnswer words old new answer =
 abbrev pub IsComplete : List (List ℕ) → World → World → Status → Type 0
 IsComplete words old new answer =
     (c : Building) → IsCommand words (Builds c) → (oil src arr : List ℕ) → AreThere old.files c oil src arr
-    → (config : Config) (app : App) → AreAccepted oil src config app → (arrivals : List Arrival) → AreRead (task_names config) (counter_names config) arr arrivals
+    → (config : Config) (app : App) → AreAccepted oil src config app → (arrivals : List Arrival) → AreArrivalsOf (task_names config) (counter_names config) arr arrivals
     → CallsWork c config app arrivals old new → IsFullAnswer status.Done words old new answer ⊎ IsFullAnswer status.NoMemory words old new answer

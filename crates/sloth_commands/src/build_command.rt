@@ -9,7 +9,7 @@ ghost use Rattle.image_file.specs.ImageText.{image_bytes};
 ghost use Rattle.sloth_source.specs.Texts.{AreAccepted};
 ghost use Rattle.command_line.specs.Command.{Builds, IsInLimit};
 ghost use Rattle.command_line.specs.Words.{building_of, run_of};
-ghost use Rattle.trace_check.specs.Inputs.{AreRead};
+ghost use Rattle.trace_check.specs.Inputs.{AreArrivalsOf};
 ghost use Rattle.command_line.specs.LastLine.{built_line};
 ghost use Rattle.sloth_runner.specs.Runner.{IsFresh, image_of, given_arrivals, run_text};
 ghost use Rattle.sloth_commands.specs.Top.{world, arrivals_named, inputs_of, AreInputs, HoldsArrivals, IsBuiltImage, IsWritten, done_text, IsTextTaken};
@@ -89,7 +89,7 @@ pub fn judge(alloc: Global, inputs: &Inputs) -> Result<Judged, Failure>
     ensures accepted { IfOk result (λ judged. AreAccepted inputs.now.oil.items inputs.now.src.items judged.built.config judged.built.app) }
     ensures image { IfOk result (λ judged. IsBuiltImage judged.built.config judged.built.app judged.built.image) }
     ensures read { IfOk result (λ judged.
-        AreRead (task_names judged.built.config) (counter_names judged.built.config) inputs.now.arr.items judged.arrivals.items) }
+        AreArrivalsOf (task_names judged.built.config) (counter_names judged.built.config) inputs.now.arr.items judged.arrivals.items) }
     ensures in_range { IfOk result (λ judged. AreArrivals (owners_in judged.built.config) judged.arrivals.items) }
     ensures err { IfErr result (λ failure. IsJudgeFailure failure inputs.now.oil.items inputs.now.src.items inputs.now.arr.items) }
 {

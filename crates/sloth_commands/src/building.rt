@@ -1,6 +1,6 @@
 //! Builds an image, with what holds of each of its runs.
 ghost use Rattle.std.specs.Prelude.{◌≡◌, ◌<◌, IfOk, IfErr, length};
-ghost use Rattle.sloth_source.specs.Texts.{AreAccepted, ErrorIs};
+ghost use Rattle.sloth_source.specs.Texts.{AreAccepted, SourcesErrorIs};
 ghost use Rattle.sloth_base.specs.DeclaredNames.{task_names, counter_names};
 ghost use Rattle.sloth_commands.specs.Top.{IsBuiltImage};
 
@@ -16,7 +16,7 @@ pub fn build_image(alloc: Global, oil: &[u8], src: &[u8]) -> Result<Built, Build
     ensures image { IfOk result (λ built. IsBuiltImage built.config built.app built.image) }
     ensures names { IfOk result (λ built. built.image.tasks ≡ task_names built.config) }
     ensures counters { IfOk result (λ built. built.image.counters ≡ counter_names built.config) }
-    ensures refused { IfErr result (ErrorIs oil.now src.now) }
+    ensures refused { IfErr result (SourcesErrorIs oil.now src.now) }
 {
     let built = build(alloc, oil, src)?;
     Ok(built)

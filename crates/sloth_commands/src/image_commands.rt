@@ -9,7 +9,7 @@ ghost use Rattle.sloth_io.specs.Store.{KeepsFiles};
 ghost use Rattle.image_file.specs.ImageText.{ImageText};
 ghost use Rattle.command_line.specs.Command.{Executes, Lists};
 ghost use Rattle.command_line.specs.Words.{execution_of};
-ghost use Rattle.trace_check.specs.Inputs.{AreRead};
+ghost use Rattle.trace_check.specs.Inputs.{AreArrivalsOf};
 ghost use Rattle.sloth_commands.specs.ImageFiles.{AreExecInputs, end_line, exec_text};
 ghost use Rattle.sloth_commands.specs.ImageAnswers.{end_status};
 ghost use Rattle.sloth_runner.specs.Runner.{IsFresh, image_of, given_arrivals, run_end};
@@ -58,7 +58,7 @@ fn read_inputs<F: Store>(alloc: Global, files: &mut F, e: &ExecWords) -> Result<
 fn load(alloc: Global, inputs: ExecInputs) -> Result<RunInputs, Failure>
     requires { length inputs.arr.items ≤ file_limit }
     ensures image { IfOk result (λ loaded. ImageText inputs.file.items loaded.image) }
-    ensures read { IfOk result (λ loaded. AreRead loaded.image.tasks loaded.image.counters inputs.arr.items loaded.arrivals.items) }
+    ensures read { IfOk result (λ loaded. AreArrivalsOf loaded.image.tasks loaded.image.counters inputs.arr.items loaded.arrivals.items) }
     ensures in_range { IfOk result (λ loaded. AreArrivals (owners_named loaded.image) loaded.arrivals.items) }
     ensures err { IfErr result (λ failure. IsLoadFailure failure inputs.file.items inputs.arr.items) }
 {

@@ -9,7 +9,7 @@ ghost use Rattle.tool_commands.specs.Lines.{tool_text};
 ghost use Rattle.tool_answers.specs.declared.answer.ToolAnswer.TheVariants as tool_answer;
 ghost use Rattle.tool_answers.specs.Statuses.{tool_status};
 ghost use Rattle.sloth_commands.specs.ToolFiles.{AreToolInputs};
-ghost use Rattle.sloth_commands.specs.Top.{world, IsTextTaken, FilesAfter, IsOutput};
+ghost use Rattle.sloth_commands.specs.Top.{world, IsTextTaken, FilesAfter, IsOutputWritten};
 ghost use Rattle.sloth_commands.specs.Failures.{IsReadFailure, IsOutputFailure, IsLineFailure, IsTellFailure, IsCommandFailure, IsPerformed};
 
 use crate::failure::Failure;
@@ -45,7 +45,7 @@ fn fetch_all<F: Store>(
 
 // Writes the file of a tool that was done, if it writes one.
 fn write_output<F: Store>(files: &mut F, words: &ToolWords, bytes: &[u8]) -> Result<(), Failure>
-    ensures ok { OnOk result (IsOutput (F.seen files.old) (F.seen files.new) (use_of words.now).output bytes.now) }
+    ensures ok { OnOk result (IsOutputWritten (F.seen files.old) (F.seen files.new) (use_of words.now).output bytes.now) }
     ensures err { IfErr result (λ failure.
         IsOutputFailure failure (F.seen files.old) (F.seen files.new) (use_of words.now).output bytes.now) }
 {
@@ -87,7 +87,7 @@ fn tell_outcome<F: Store, S: Sink>(
     words: &ToolWords,
     outcome: &Outcome,
 ) -> Result<(), Failure>
-    ensures files { OnOk result (IsOutput (F.seen files.old) (F.seen files.new) (use_of words.now).output outcome.now.file) }
+    ensures files { OnOk result (IsOutputWritten (F.seen files.old) (F.seen files.new) (use_of words.now).output outcome.now.file) }
     ensures text { OnOk result (IsTextTaken (S.seen out.old) (S.seen out.new) outcome.now.text) }
     ensures err { IfErr result (λ failure. IsTellFailure failure (tool_answer.Done outcome.now)
         (world (F.seen files.old) (S.seen out.old)) (world (F.seen files.new) (S.seen out.new)) (use_of words.now).output) }

@@ -50,7 +50,7 @@ bytes_after_call sink piece =
     let part = part_of (next_limit sink) piece in if has_space sink part then taken_by sink ++ part else taken_by sink
 
 -- a sink of this space with these failing calls, which was not yet called
-pub record IsFresh (space : ℕ) (fails : List (ℕ × ℕ)) (sink : MemSink) : Type 0 where
+pub record IsFreshSink (space : ℕ) (fails : List (ℕ × ℕ)) (sink : MemSink) : Type 0 where
   pub taken : taken_by sink ≡ []
   pub space_reserved : sink.buffer.space ≡ space
   pub failing_calls : sink.fails.items ≡ fails
@@ -58,7 +58,7 @@ pub record IsFresh (space : ℕ) (fails : List (ℕ × ℕ)) (sink : MemSink) : 
   pub faults : sink.faults ≡ 0
 
 -- one call was counted
-pub record IsCalled (old new : MemSink) : Type 0 where
+pub record IsSinkCalled (old new : MemSink) : Type 0 where
   pub space_reserved : new.buffer.space ≡ old.buffer.space
   pub failing_calls : new.fails.items ≡ old.fails.items
   pub calls : new.calls ≡ next_call old.calls

@@ -58,7 +58,7 @@ shown_files store = record {
 }
 
 -- a store of these files with these failing calls, which was not yet called
-pub record IsFresh (files : List MemFile) (fails : List ℕ) (store : MemStore) : Type 0 where
+pub record IsFreshStore (files : List MemFile) (fails : List ℕ) (store : MemStore) : Type 0 where
   pub files_told : files_of store ≡ files
   pub failing_calls : store.fails.items ≡ fails
   pub calls : store.calls ≡ 0
@@ -67,6 +67,6 @@ pub record IsFresh (files : List MemFile) (fails : List ℕ) (store : MemStore) 
   pub failed_writes : store.failed_writes ≡ 0
 
 -- one call was counted
-pub record IsCalled (old new : MemStore) : Type 0 where
+pub record IsStoreCalled (old new : MemStore) : Type 0 where
   pub failing_calls : new.fails.items ≡ old.fails.items
   pub calls : new.calls ≡ next_call old.calls

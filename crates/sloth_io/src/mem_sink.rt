@@ -1,7 +1,7 @@
 //! A sink in memory.
 ghost use Rattle.std.specs.Prelude.{◌≡◌, ◌≤◌, IfOk, OnErr, OnOk, is_ok, is_err};
 ghost use Rattle.sloth_io.specs.Counts.{count_after_call};
-ghost use Rattle.sloth_io.specs.MemSink.{IsCalled, IsFresh, limit_of, shown_output, taken_by, bytes_after_call, is_next_piece_taken};
+ghost use Rattle.sloth_io.specs.MemSink.{IsSinkCalled, IsFreshSink, limit_of, shown_output, taken_by, bytes_after_call, is_next_piece_taken};
 ghost use Rattle.sloth_io.specs.Sink.{output_with, GainsPart};
 
 use crate::buffer::Buffer;
@@ -34,7 +34,7 @@ fn limit_at(fails: &[(u32, u32)], call: u32) -> Option<u32>
 impl MemSink {
     /// An empty sink with space for so many bytes.
     pub fn new(alloc: Global, space: u32, fails: &[(u32, u32)]) -> Result<MemSink, NoMemory>
-        ensures { IfOk result (IsFresh space fails.now) }
+        ensures { IfOk result (IsFreshSink space fails.now) }
     {
         let buffer = Buffer::new(alloc, space)?;
         let fails = Vec::from_slice(alloc, fails)?;
@@ -66,7 +66,7 @@ impl Sink for MemSink {
         ensures done { is_ok result ≡ is_next_piece_taken self.old piece.now }
         ensures taken { taken_by self.new ≡ bytes_after_call self.old piece.now }
         ensures faults { self.new.faults ≡ count_after_call (is_err result) self.old.faults }
-        ensures called { IsCalled self.old self.new }
+        ensures called { IsSinkCalled self.old self.new }
     {
         self.calls = self.calls.saturating_add(1);
         let limit = limit_at(self.fails.as_slice(), self.calls);

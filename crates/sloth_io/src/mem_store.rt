@@ -4,7 +4,7 @@ ghost use Rattle.std.specs.Prelude.{OnErr, OnOk, IfOk, IfSome, IfNone, IsOkUnles
 ghost use Rattle.std.specs.List.{AllPairs};
 ghost use Rattle.sloth_io.specs.Counts.{count_after_call, next_call};
 ghost use Rattle.sloth_io.specs.Slots.{bytes_named, files_with};
-ghost use Rattle.sloth_io.specs.MemStore.{IsFresh, is_next_call_failed, files_of, IsCalled};
+ghost use Rattle.sloth_io.specs.MemStore.{IsFreshStore, is_next_call_failed, files_of, IsStoreCalled};
 ghost use Rattle.sloth_io.specs.MemStore.{is_too_long, read_fault, shown_files, is_next_write_done};
 ghost use Rattle.sloth_io.specs.Store.{IsAppended, IsMissing, IsTooLong, IsUnwritten, Holds, KeepsOthers, KeepsFiles, KeepsReads};
 
@@ -31,7 +31,7 @@ impl MemStore {
     pub fn new(alloc: Global, files: &[MemFile], fails: &[u32]) -> Result<MemStore, NoMemory>
         requires distinct { AllPairs (λ one other. one.name ≢ other.name) files.now }
         requires within { All (λ file. length file.bytes ≤ file.space) files.now }
-        ensures { IfOk result (IsFresh files.now fails.now) }
+        ensures { IfOk result (IsFreshStore files.now fails.now) }
     {
         let fails = Vec::from_slice(alloc, fails)?;
         let slots = slots_of(alloc, files)?;
@@ -82,7 +82,7 @@ impl Store for MemStore {
         ensures counted_failed { self.new.failed_reads ≡ count_after_call (is_next_call_failed self.old) self.old.failed_reads }
         ensures counted_overlong { self.new.overlong_reads ≡
             count_after_call (is_too_long (read_fault self.old name.now limit)) self.old.overlong_reads }
-        ensures called { IsCalled self.old self.new }
+        ensures called { IsStoreCalled self.old self.new }
         ensures files { files_of self.new ≡ files_of self.old }
     {
         if self.call() {
@@ -113,7 +113,7 @@ impl Store for MemStore {
         // It fails exactly at the calls that are to fail, and where there is no file with space for the bytes.
         ensures done { is_ok result ≡ is_next_write_done self.old name.now (length bytes.now) }
         ensures counted_failed { self.new.failed_writes ≡ count_after_call (is_err result) self.old.failed_writes }
-        ensures called { IsCalled self.old self.new }
+        ensures called { IsStoreCalled self.old self.new }
         ensures files { files_of self.new ≡
             (if is_ok result then files_with name.now bytes.now (files_of self.old) else files_of self.old) }
     {

@@ -9,8 +9,8 @@ use Rattle.sloth_base.specs.MemoryMap.{memory_base, vectors_base}
 use Rattle.rv32_instr.specs.declared.block.Block.{Block}
 use Rattle.sloth_link.specs.declared.datum.Datum.{Datum}
 use Rattle.sloth_link.specs.Symbols.{alarm_bytes, alarm_data}
-use Rattle.mem_map.specs.Sections.{Section, IsInside, block_section}
-use Rattle.sloth_link.specs.Linked.{AreApart, HaveRoom, sections_of, datum_section}
+use Rattle.mem_map.specs.Sections.{Section, IsSectionInside, block_section}
+use Rattle.sloth_link.specs.Linked.{AreSectionsApart, HaveRoom, sections_of, datum_section}
 use Rattle.sloth_link.proofs.Joined.{front, back}
 
 -- the sections of alarms
@@ -33,27 +33,27 @@ between first (alarm ∷ later) =
 
 -- and apart from one another, and from sections behind the service words
 alarms_apart : (first : ℕ) (alarms : List AlarmDecl) (others : List Section) → first + length alarms ≤ alarm_limit → All (λ s. 1024 ≤ s.offset) others
-    → AllPairs AreApart others → AllPairs AreApart (alarm_sections first alarms ++ others)
+    → AllPairs AreSectionsApart others → AllPairs AreSectionsApart (alarm_sections first alarms ++ others)
 alarms_apart first [] others few behind apart = apart
 alarms_apart first (alarm ∷ later) others few behind apart =
     let eight : length (alarm_bytes alarm) ≡ 8 = refl in
     let rest = between (first + 1) later in
     let own : Section = datum_section (record { at = memory_base + (372 + 8 * first); bytes = alarm_bytes alarm }) in
-    AllPairs-cons AreApart own (alarm_sections (first + 1) later ++ others)
-    (All-append (AreApart own) (alarm_sections (first + 1) later) others
+    AllPairs-cons AreSectionsApart own (alarm_sections (first + 1) later ++ others)
+    (All-append (AreSectionsApart own) (alarm_sections (first + 1) later) others
     (λ k d l. let r = (rest k d l).0 in inl (omega (arith, r, eight)))
     (λ k d l. let b = behind k d l in inl (omega (arith, b, eight, few))))
     (alarms_apart (first + 1) later others (omega (arith, few)) behind apart)
 
 -- sections put in between
-put_between : (xs ys zs : List Section) → AllPairs AreApart (xs ++ zs) → AllPairs AreApart (ys ++ zs) → All (λ x. All (AreApart x) ys) xs
-    → AllPairs AreApart (xs ++ (ys ++ zs))
+put_between : (xs ys zs : List Section) → AllPairs AreSectionsApart (xs ++ zs) → AllPairs AreSectionsApart (ys ++ zs) → All (λ x. All (AreSectionsApart x) ys) xs
+    → AllPairs AreSectionsApart (xs ++ (ys ++ zs))
 put_between [] ys zs p q h = q
 put_between (x ∷ xs) ys zs p q h =
-    let later : All (AreApart x) (xs ++ zs) = λ k d l. p 0 (suc k) d (omega arith) (omega (arith, l)) in
-    AllPairs-cons AreApart x (xs ++ (ys ++ zs))
-    (All-append (AreApart x) xs (ys ++ zs) (front (AreApart x) xs zs later)
-    (All-append (AreApart x) ys zs (h 0 x (omega arith)) (back (AreApart x) xs zs later)))
+    let later : All (AreSectionsApart x) (xs ++ zs) = λ k d l. p 0 (suc k) d (omega arith) (omega (arith, l)) in
+    AllPairs-cons AreSectionsApart x (xs ++ (ys ++ zs))
+    (All-append (AreSectionsApart x) xs (ys ++ zs) (front (AreSectionsApart x) xs zs later)
+    (All-append (AreSectionsApart x) ys zs (h 0 x (omega arith)) (back (AreSectionsApart x) xs zs later)))
     (put_between xs ys zs (λ i j d l m. p (suc i) (suc j) d (omega (arith, l)) (omega (arith, m))) q (λ k d l. h (suc k) d (omega (arith, l))))
 
 sections_behind : {X : Type 0} (f : X → Section) (address : X → ℕ) → ((x : X) → (f x).offset ≡ address x - memory_base) → (xs : List X)
@@ -84,18 +84,18 @@ alarms_have_room size blocks symbols alarms few large blocks_behind symbols_behi
     let low = between 0 alarms in
     let first_behind = sections_behind block_section (λ (b : Block). b.at) (λ b. refl) blocks blocks_behind in
     let last_behind = sections_behind datum_section (λ (d : Datum). d.at) (λ d. refl) symbols symbols_behind in
-    let last_apart : AllPairs AreApart zs = back_pairs xs zs room.apart in
+    let last_apart : AllPairs AreSectionsApart zs = back_pairs xs zs room.apart in
     record {
       blocks_above = room.blocks_above;
       symbols_above = All-append (λ (d : Datum). memory_base ≤ d.at) (alarm_data 0 alarms) symbols (alarms_above 0 alarms) room.symbols_above;
-      inside = subst (All (IsInside size)) all
-          (All-append (IsInside size) xs (ys ++ zs) (front (IsInside size) xs zs room.inside)
-          (All-append (IsInside size) ys zs (λ k d l. let r = (low k d l).1 in omega (arith, r, few, large)) (back (IsInside size) xs zs room.inside)));
-      apart = subst (AllPairs AreApart) all
+      inside = subst (All (IsSectionInside size)) all
+          (All-append (IsSectionInside size) xs (ys ++ zs) (front (IsSectionInside size) xs zs room.inside)
+          (All-append (IsSectionInside size) ys zs (λ k d l. let r = (low k d l).1 in omega (arith, r, few, large)) (back (IsSectionInside size) xs zs room.inside)));
+      apart = subst (AllPairs AreSectionsApart) all
           (put_between xs ys zs room.apart (alarms_apart 0 alarms zs (omega (arith, few)) last_behind last_apart)
           (λ k d l. λ i e m. let f = first_behind k d l in let r = (low i e m).1 in inr (omega (arith, f, r, few))));
     }
   where
-    back_pairs : (xs zs : List Section) → AllPairs AreApart (xs ++ zs) → AllPairs AreApart zs
+    back_pairs : (xs zs : List Section) → AllPairs AreSectionsApart (xs ++ zs) → AllPairs AreSectionsApart zs
     back_pairs [] zs p = p
     back_pairs (x ∷ xs) zs p = back_pairs xs zs (λ i j d l m. p (suc i) (suc j) d (omega (arith, l)) (omega (arith, m)))

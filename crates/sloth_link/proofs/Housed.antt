@@ -6,8 +6,8 @@ use Rattle.std.proofs.lemmas.List.Kept.{AllPairs-cons}
 use Rattle.sloth_base.specs.MemoryMap.{memory_base}
 use Rattle.sloth_region.specs.declared.extent.Extent.{Extent}
 use Rattle.sloth_region.specs.Region.{FollowWithin}
-use Rattle.mem_map.specs.Sections.{Section, IsInside, block_section}
-use Rattle.sloth_link.specs.Linked.{AreApart, sections_of, datum_section}
+use Rattle.mem_map.specs.Sections.{Section, IsSectionInside, block_section}
+use Rattle.sloth_link.specs.Linked.{AreSectionsApart, sections_of, datum_section}
 use Rattle.sloth_link.specs.Room.{RoomFollows, AreIn}
 
 -- one list of extents behind another
@@ -20,31 +20,31 @@ follow_le : (from end : ℕ) (xs : List Extent) → FollowWithin from end xs →
 follow_le from end [] f = f
 follow_le from end (x ∷ xs) f = let le = follow_le (x.base + x.len) end xs f.2 in omega (arith, le, f.0)
 
-behind : (from end : ℕ) (p : Section) (extents : List Extent) (sections : List Section) → memory_base + p.offset + length p.bytes ≤ from → FollowWithin from end extents → AreIn extents sections → All (AreApart p) sections
+behind : (from end : ℕ) (p : Section) (extents : List Extent) (sections : List Section) → memory_base + p.offset + length p.bytes ≤ from → FollowWithin from end extents → AreIn extents sections → All (AreSectionsApart p) sections
 behind from end p [] [] le f z = λ k d l. absurd (omega arith)
 behind from end p [] (q ∷ sections) le f z = absurd z
 behind from end p (e ∷ extents) [] le f z = absurd z
 behind from end p (e ∷ extents) (q ∷ sections) le f z =
     let low = z.0.0 in
-    All-cons (AreApart p) q sections (inl (omega (arith, le, low, f.0))) (behind (e.base + e.len) end p extents sections (omega (arith, le, f.0)) f.2 z.1)
+    All-cons (AreSectionsApart p) q sections (inl (omega (arith, le, low, f.0))) (behind (e.base + e.len) end p extents sections (omega (arith, le, f.0)) f.2 z.1)
 
 -- no two of them share a byte
-pub sections_apart : (from end : ℕ) (extents : List Extent) (sections : List Section) → FollowWithin from end extents → AreIn extents sections → AllPairs AreApart sections
+pub sections_apart : (from end : ℕ) (extents : List Extent) (sections : List Section) → FollowWithin from end extents → AreIn extents sections → AllPairs AreSectionsApart sections
 sections_apart from end [] [] f z = λ i j d l m. absurd (omega arith)
 sections_apart from end [] (q ∷ sections) f z = absurd z
 sections_apart from end (e ∷ extents) [] f z = absurd z
 sections_apart from end (e ∷ extents) (q ∷ sections) f z =
-    AllPairs-cons AreApart q sections (behind (e.base + e.len) end q extents sections z.0.1 f.2 z.1) (sections_apart (e.base + e.len) end extents sections f.2 z.1)
+    AllPairs-cons AreSectionsApart q sections (behind (e.base + e.len) end q extents sections z.0.1 f.2 z.1) (sections_apart (e.base + e.len) end extents sections f.2 z.1)
 
 -- and all are inside the memory
-pub sections_inside : (size from end : ℕ) (extents : List Extent) (sections : List Section) → end ≤ memory_base + size → FollowWithin from end extents → AreIn extents sections → All (IsInside size) sections
+pub sections_inside : (size from end : ℕ) (extents : List Extent) (sections : List Section) → end ≤ memory_base + size → FollowWithin from end extents → AreIn extents sections → All (IsSectionInside size) sections
 sections_inside size from end [] [] h f z = λ k d l. absurd (omega arith)
 sections_inside size from end [] (q ∷ sections) h f z = absurd z
 sections_inside size from end (e ∷ extents) [] h f z = absurd z
 sections_inside size from end (e ∷ extents) (q ∷ sections) h f z =
     let le = follow_le (e.base + e.len) end extents f.2 in
     let high = z.0.1 in
-    All-cons (IsInside size) q sections (omega (arith, le, high, h)) (sections_inside size (e.base + e.len) end extents sections h f.2 z.1)
+    All-cons (IsSectionInside size) q sections (omega (arith, le, high, h)) (sections_inside size (e.base + e.len) end extents sections h f.2 z.1)
 
 -- one list of sections behind another
 pub housed_join : (xs ys : List Extent) (ps qs : List Section) → AreIn xs ps → AreIn ys qs → AreIn (xs ++ ys) (ps ++ qs)

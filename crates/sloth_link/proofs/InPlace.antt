@@ -15,7 +15,7 @@ use Rattle.sloth_link.specs.Items.{MarksAreOfItems, item_block, item_blocks}
 use Rattle.sloth_link.specs.Linked.{AreLinked, BlockStands, sections_of}
 use Rattle.mem_map.specs.Sections.{marks_of}
 use Rattle.sloth_base.specs.DeclaredNames.{task_names, function_names}
-use Rattle.sloth_link.specs.Standing.{ItemsStand}
+use Rattle.sloth_link.specs.Standing.{HasItemsInPlace}
 use Rattle.sloth_link.proofs.ItemBlocks.{item_among, items_own}
 use Rattle.sloth_link.proofs.Placing.{items_are_placed}
 use Rattle.sloth_link.proofs.Standing.{items_stand}
@@ -27,7 +27,7 @@ module _ (config : Config) (app : App) (map : Map) (blocks : List Block) (may : 
 
   -- each item's code stands at its address, and its mark is there
   pub stand : (memory : List ℕ) (marks : List Mark) → AreLinked (memory_size map) (sections_of (all_blocks app map blocks) (all_data config app map)) memory
-      → All (BlockStands memory) (all_blocks app map blocks) → IsPermutation (marks_of (all_blocks app map blocks)) marks → ItemsStand app map.places memory marks
+      → All (BlockStands memory) (all_blocks app map blocks) → IsPermutation (marks_of (all_blocks app map blocks)) marks → HasItemsInPlace app map.places memory marks
   stand memory marks linked code moved =
       items_stand app map.places (memory_size map) (all_blocks app map blocks) memory marks
       (λ func index is. Contains-append_right blocks own (item_block app map.places func index) (item_among app map.places func index is))
@@ -35,7 +35,7 @@ module _ (config : Config) (app : App) (map : Map) (blocks : List Block) (may : 
       may.room.blocks_above (blocks_inside (memory_size map) (all_blocks app map blocks) (symbol_data app map) may.room) linked.size_is code moved
 
   -- an image with these marks and names has its items in place
-  pub in_place : (image : Image) → ItemsStand app map.places image.memory image.marks → image.tasks ≡ task_names config → image.funcs ≡ function_names app
+  pub in_place : (image : Image) → HasItemsInPlace app map.places image.memory image.marks → image.tasks ≡ task_names config → image.funcs ≡ function_names app
       → ItemsInPlace image config app
   in_place image stands tasks functions =
       items_are_placed image config app map.places may.well_formed may.agree stands (record { functions = functions; tasks = tasks; bodies = may.named })

@@ -8,7 +8,7 @@ use Rattle.sloth_base.specs.declared.image.MarkKind.{MarkKind}
 use Rattle.sloth_base.specs.declared.image.MarkKind.TheVariants as kind
 use Rattle.sloth_base.specs.declared.places.Places.{Places}
 use Rattle.rv32_instr.specs.declared.block.Block.{Block}
-use Rattle.rv32_expand.specs.InPlace.{IsItem, IsOfItem, item_mark}
+use Rattle.rv32_expand.specs.InPlace.{IsAppItem, IsOfItem, item_mark}
 use Rattle.rv32_expand.specs.Sizes.{items_before}
 use Rattle.sloth_link.specs.Items.{IsOwnMark, MarksAreOfItems, item_block, item_blocks}
 use Rattle.sloth_link.proofs.Counting.{Located, located, before_within, block_at, length_blocks}
@@ -25,7 +25,7 @@ no_block = record { at = 0; code = []; marks = [] }
 
 module _ (app : App) (places : Places) where
   -- an item's block is one of them
-  pub item_among : (func index : ℕ) → IsItem app func index → Contains (item_blocks app places (length app.funcs)) (item_block app places func index)
+  pub item_among : (func index : ℕ) → IsAppItem app func index → Contains (item_blocks app places (length app.funcs)) (item_block app places func index)
   item_among func index is =
       let long = length_blocks app places (length app.funcs) in
       let within = before_within app.funcs (length app.funcs) func index is.declared is.inside in
@@ -41,9 +41,9 @@ module _ (app : App) (places : Places) where
   items_own = λ k d l.
       let long = length_blocks app places (length app.funcs) in
       let at : Located app.funcs (length app.funcs) k = located app.funcs (length app.funcs) k (omega (arith, l, long)) in
-      let is : IsItem app at.func at.index = record { declared = at.declared; inside = at.inside } in
+      let is : IsAppItem app at.func at.index = record { declared = at.declared; inside = at.inside } in
       let block : get_or (item_blocks app places (length app.funcs)) k d ≡ item_block app places at.func at.index =
       ap (λ j. get_or (item_blocks app places (length app.funcs)) j d) at.is ∙ block_at app places (length app.funcs) at.func at.index d at.declared at.inside in
       let m : Mark = item_mark app places at.func at.index in
       subst (MarksAreOfItems app places) (sym block)
-      (with_one (item_block app places at.func at.index) m refl (of_fact m.kind (IsItem app m.b m.c × (m ≡ item_mark app places m.b m.c)) (is, refl)))
+      (with_one (item_block app places at.func at.index) m refl (of_fact m.kind (IsAppItem app m.b m.c × (m ≡ item_mark app places m.b m.c)) (is, refl)))

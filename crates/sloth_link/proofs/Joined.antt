@@ -4,7 +4,7 @@ use Rattle.std.specs.Prelude.{All, map}
 use Rattle.std.proofs.lemmas.List.Elements.{All-cons, All-head, All-tail}
 use Rattle.rv32_instr.specs.declared.block.Block.{Block}
 use Rattle.sloth_link.specs.declared.datum.Datum.{Datum}
-use Rattle.mem_map.specs.Sections.{Section, IsInside, block_section, linked_memory}
+use Rattle.mem_map.specs.Sections.{Section, IsSectionInside, block_section, linked_memory}
 use Rattle.sloth_link.specs.Linked.{HaveRoom, datum_section, sections_of}
 use Rattle.sloth_link.proofs.Written.{linked_append}
 use Rattle.sloth_link.proofs.WrittenMemory.{blocks_inside}
@@ -32,12 +32,12 @@ written_in_turn xs ys symbols memory =
     ∙ sym (linked_append (map block_section (xs ++ ys)) (map datum_section symbols) memory)
 
 -- the blocks of each list lie inside the memory
-pub front_inside : (size : ℕ) (xs ys : List Block) (symbols : List Datum) → HaveRoom size (xs ++ ys) symbols → All (λ b. IsInside size (block_section b)) xs
-front_inside size xs ys symbols room = front (λ (b : Block). IsInside size (block_section b)) xs ys (blocks_inside size (xs ++ ys) symbols room)
+pub front_inside : (size : ℕ) (xs ys : List Block) (symbols : List Datum) → HaveRoom size (xs ++ ys) symbols → All (λ b. IsSectionInside size (block_section b)) xs
+front_inside size xs ys symbols room = front (λ (b : Block). IsSectionInside size (block_section b)) xs ys (blocks_inside size (xs ++ ys) symbols room)
 
 -- and those of the second list
 pub back_inside : (size n : ℕ) (xs ys : List Block) (symbols : List Datum) → HaveRoom size (xs ++ ys) symbols → n ≡ size
-    → All (λ b. IsInside n (block_section b)) ys
+    → All (λ b. IsSectionInside n (block_section b)) ys
 back_inside size n xs ys symbols room e = λ k d l.
-    let h = back (λ (b : Block). IsInside size (block_section b)) xs ys (blocks_inside size (xs ++ ys) symbols room) k d l in
+    let h = back (λ (b : Block). IsSectionInside size (block_section b)) xs ys (blocks_inside size (xs ++ ys) symbols room) k d l in
     omega (arith, h, e)

@@ -16,14 +16,14 @@ use Rattle.sloth_base.specs.declared.app.App.{App}
 use Rattle.sloth_base.specs.declared.config.Config.{Config}
 use Rattle.sloth_base.specs.declared.image.Image.{Image}
 use Rattle.sloth_base.specs.declared.places.Places.{Places}
-use Rattle.sloth_link.specs.Standing.{ItemsStand, HasNames}
+use Rattle.sloth_link.specs.Standing.{HasItemsInPlace, HasNames}
 
 abbrev name_of : TaskDecl → List ℕ
 name_of d = d.name
 
 -- items that stand, at addresses that agree with their lengths, are in place in an image that has the names
 abbrev pub items_are_placed : (image : Image) (config : Config) (app : App) (places : Places) → WellFormed config app → AgreeWithSizes app places
-    → ItemsStand app places image.memory image.marks → HasNames image config app → ItemsInPlace image config app
+    → HasItemsInPlace app places image.memory image.marks → HasNames image config app → ItemsInPlace image config app
 items_are_placed image config app places well agree stand names = record {
   places = places;
   code = stand.code;

@@ -15,10 +15,10 @@ use Rattle.rv32_instr.specs.Ram.{word_at}
 use Rattle.expansion_parts.specs.Expansion.{expansion, item_address}
 use Rattle.rv32_expand.specs.InPlace.{CodeAt, item_mark}
 use Rattle.sloth_link.specs.Linked.{BlockStands}
-use Rattle.mem_map.specs.Sections.{marks_of, block_section, IsInside}
+use Rattle.mem_map.specs.Sections.{marks_of, block_section, IsSectionInside}
 use Rattle.sloth_link.proofs.Written.{code_bytes_length}
 use Rattle.sloth_link.specs.Items.{item_block, HaveItems, IsOwnMark, MarksAreOfItems}
-use Rattle.sloth_link.specs.Standing.{ItemsStand}
+use Rattle.sloth_link.specs.Standing.{HasItemsInPlace}
 
 code_at : (code : List InstrKind) (memory : List ℕ) (address offset : ℕ) → address ≡ memory_base + offset → AreWritten memory offset code → CodeAt memory address code
 code_at [] memory address offset e w = tt
@@ -42,10 +42,10 @@ all_marks P (b ∷ blocks) h = All-append P b.marks (marks_of blocks) (All-head 
 -- items that were linked, each as a block of its own, stand
 pub items_stand : (app : App) (places : Places) (size : ℕ) (blocks : List Block) (memory : List ℕ) (marks : List Mark)
     → HaveItems app places blocks → All (MarksAreOfItems app places) blocks → All (λ b. memory_base ≤ b.at) blocks
-    → All (λ b. IsInside size (block_section b)) blocks → length memory ≡ size → All (BlockStands memory) blocks
-    → IsPermutation (marks_of blocks) marks → ItemsStand app places memory marks
+    → All (λ b. IsSectionInside size (block_section b)) blocks → length memory ≡ size → All (BlockStands memory) blocks
+    → IsPermutation (marks_of blocks) marks → HasItemsInPlace app places memory marks
 items_stand app places size blocks memory marks items of above inside n code moved =
-    let Inside : Block → Type 0 = λ x. IsInside size (block_section x) in
+    let Inside : Block → Type 0 = λ x. IsSectionInside size (block_section x) in
     let Above : Block → Type 0 = λ x. memory_base ≤ x.at in
     record {
       code = λ func index is.

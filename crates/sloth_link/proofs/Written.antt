@@ -4,8 +4,8 @@ use Rattle.std.specs.Prelude.{All, AllPairs, set, map, replicate, slice_index}
 use Rattle.std.proofs.lemmas.List.{length-set, length-replicate, get_or-set_same, get_or-set_other}
 use Rattle.std.proofs.lemmas.List.Elements.{All-cons, All-head, All-tail}
 pub use Rattle.mem_map.proofs.CodeBytes.{code_bytes_length}
-use Rattle.mem_map.specs.Sections.{Section, with_bytes, linked_memory, IsInside}
-use Rattle.sloth_link.specs.Linked.{HasSectionBytes, IsOutsideSection, AreApart, AreLinked}
+use Rattle.mem_map.specs.Sections.{Section, with_bytes, linked_memory, IsSectionInside}
+use Rattle.sloth_link.specs.Linked.{HasSectionBytes, IsOutsideSection, AreSectionsApart, AreLinked}
 
 -- ---- bytes
 
@@ -54,25 +54,25 @@ untouched (p ∷ sections) memory i h =
     untouched sections (with_bytes memory p.offset p.bytes) i (All-tail (IsOutsideSection i) p sections h)
     ∙ other_byte p.bytes memory p.offset i (All-head (IsOutsideSection i) p sections h)
 
-misses : (p q : Section) (k : ℕ) → k < length p.bytes → AreApart p q → IsOutsideSection (p.offset + k) q
+misses : (p q : Section) (k : ℕ) → k < length p.bytes → AreSectionsApart p q → IsOutsideSection (p.offset + k) q
 misses p q k l (inl x) = inl (omega arith)
 misses p q k l (inr x) = inr (omega arith)
 
-later : (p : Section) (sections : List Section) → AllPairs AreApart (p ∷ sections) → All (AreApart p) sections
+later : (p : Section) (sections : List Section) → AllPairs AreSectionsApart (p ∷ sections) → All (AreSectionsApart p) sections
 later p sections h = λ k d l. h 0 (suc k) d (omega arith) (omega arith)
 
-rest : (p : Section) (sections : List Section) → AllPairs AreApart (p ∷ sections) → AllPairs AreApart sections
+rest : (p : Section) (sections : List Section) → AllPairs AreSectionsApart (p ∷ sections) → AllPairs AreSectionsApart sections
 rest p sections h = λ i j d l m. h (suc i) (suc j) d (omega arith) (omega arith)
 
 -- sections that are apart all hold their bytes at the end
-pub all_hold : (sections : List Section) (memory : List ℕ) → All (IsInside (length memory)) sections → AllPairs AreApart sections → All (HasSectionBytes (linked_memory memory sections)) sections
+pub all_hold : (sections : List Section) (memory : List ℕ) → All (IsSectionInside (length memory)) sections → AllPairs AreSectionsApart sections → All (HasSectionBytes (linked_memory memory sections)) sections
 all_hold [] memory inside apart = λ k d l. absurd (omega arith)
 all_hold (p ∷ sections) memory inside apart =
     let first = with_bytes memory p.offset p.bytes in
     let n = length-with_bytes p.bytes memory p.offset in
     All-cons (HasSectionBytes (linked_memory first sections)) p sections
-    (λ k l. untouched sections first (p.offset + k) (λ j d m. misses p _ k l (later p sections apart j d m)) ∙ own_byte p.bytes memory p.offset k l (All-head (IsInside (length memory)) p sections inside))
-    (all_hold sections first (λ j d m. let h = All-tail (IsInside (length memory)) p sections inside j d m in omega (arith, n, h)) (rest p sections apart))
+    (λ k l. untouched sections first (p.offset + k) (λ j d m. misses p _ k l (later p sections apart j d m)) ∙ own_byte p.bytes memory p.offset k l (All-head (IsSectionInside (length memory)) p sections inside))
+    (all_hold sections first (λ j d m. let h = All-tail (IsSectionInside (length memory)) p sections inside j d m in omega (arith, n, h)) (rest p sections apart))
 
 zero_at : (n i : ℕ) → slice_index (replicate n 0) i ≡ 0
 zero_at zero zero = refl
@@ -81,7 +81,7 @@ zero_at (suc n) zero = refl
 zero_at (suc n) (suc i) = zero_at n i
 
 -- written into zeros they are linked: all else is zero
-pub are_linked : (size : ℕ) (sections : List Section) → All (IsInside size) sections → AllPairs AreApart sections → AreLinked size sections (linked_memory (replicate size 0) sections)
+pub are_linked : (size : ℕ) (sections : List Section) → All (IsSectionInside size) sections → AllPairs AreSectionsApart sections → AreLinked size sections (linked_memory (replicate size 0) sections)
 are_linked size sections inside apart =
     let n = length-replicate {A = ℕ} size 0 in
     record {

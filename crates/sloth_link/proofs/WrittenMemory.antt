@@ -4,7 +4,7 @@ use Rattle.std.specs.Prelude.{All, replicate, take, drop, map}
 use Rattle.std.proofs.lemmas.List.{length-replicate, take_at}
 use Rattle.rv32_instr.specs.declared.block.Block.{Block}
 use Rattle.sloth_link.specs.declared.datum.Datum.{Datum}
-use Rattle.mem_map.specs.Sections.{Section, linked_memory, block_section, IsInside}
+use Rattle.mem_map.specs.Sections.{Section, linked_memory, block_section, IsSectionInside}
 use Rattle.sloth_link.specs.Linked.{HaveRoom, AreLinked, sections_of, datum_section}
 use Rattle.sloth_link.proofs.Written.{are_linked, length-linked, front_of, back_of, each_of}
 
@@ -19,11 +19,11 @@ is_linked size blocks symbols zeros old new n room z s o e =
     subst P (sym (take_at new (drop (length new) zeros) n long ∙ is)) (are_linked size all room.inside room.apart)
 
 -- the blocks are inside
-pub blocks_inside : (size : ℕ) (blocks : List Block) (symbols : List Datum) → HaveRoom size blocks symbols → All (λ b. IsInside size (block_section b)) blocks
-blocks_inside size blocks symbols room = front_of (IsInside size) block_section blocks (map datum_section symbols) room.inside
+pub blocks_inside : (size : ℕ) (blocks : List Block) (symbols : List Datum) → HaveRoom size blocks symbols → All (λ b. IsSectionInside size (block_section b)) blocks
+blocks_inside size blocks symbols room = front_of (IsSectionInside size) block_section blocks (map datum_section symbols) room.inside
 
 -- and so are the symbols
-pub symbols_inside : (size n : ℕ) (blocks : List Block) (symbols : List Datum) → HaveRoom size blocks symbols → n ≡ size → All (λ d. IsInside n (datum_section d)) symbols
+pub symbols_inside : (size n : ℕ) (blocks : List Block) (symbols : List Datum) → HaveRoom size blocks symbols → n ≡ size → All (λ d. IsSectionInside n (datum_section d)) symbols
 symbols_inside size n blocks symbols room e = λ k d l.
-    let h = each_of (IsInside size) datum_section symbols (back_of (IsInside size) (map block_section blocks) (map datum_section symbols) room.inside) k d l in
+    let h = each_of (IsSectionInside size) datum_section symbols (back_of (IsSectionInside size) (map block_section blocks) (map datum_section symbols) room.inside) k d l in
     omega (arith, h, e)

@@ -17,7 +17,7 @@ use Rattle.sloth_link.specs.declared.datum.Datum.{Datum}
 use Rattle.sloth_link.specs.Items.{MarksAreOfItems, item_blocks}
 use Rattle.sloth_link.specs.Linked.{AreLinked, BlockStands, HaveRoom, HasSectionBytes, datum_section, sections_of}
 use Rattle.mem_map.specs.Sections.{HaveOwnAddresses, addresses, marks_of}
-use Rattle.sloth_link.specs.Standing.{ItemsStand}
+use Rattle.sloth_link.specs.Standing.{HasItemsInPlace}
 use Rattle.sloth_link.specs.Symbols.{alarm_data, data_of}
 
 -- the blocks of routines, and behind them the items, each as a block of its own at its address in the map
@@ -58,7 +58,7 @@ pub record MayLink (config : Config) (app : App) (map : Map) (blocks : List Bloc
 
 -- What is linked of them: a memory in which all blocks and data stand, with zeros elsewhere, and the marks of all blocks by rising addresses.
 pub record HasMemory (config : Config) (app : App) (map : Map) (blocks : List Block) (memory : List ℕ) (marks : List Mark) : Type 0 where
-  pub stand : ItemsStand app map.places memory marks
+  pub stand : HasItemsInPlace app map.places memory marks
   pub range : All (λ b. All InRange b.code) (all_blocks app map blocks)
   pub code : All (BlockStands memory) (all_blocks app map blocks)
   pub data_stands : All (λ d. HasSectionBytes memory (datum_section d)) (all_data config app map)

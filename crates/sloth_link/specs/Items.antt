@@ -7,7 +7,7 @@ use Rattle.sloth_base.specs.declared.image.Mark.{Mark}
 use Rattle.sloth_base.specs.declared.places.Places.{Places}
 use Rattle.rv32_instr.specs.declared.block.Block.{Block}
 use Rattle.expansion_parts.specs.Expansion.{expansion, item_address}
-use Rattle.rv32_expand.specs.InPlace.{IsItem, IsOfItem, item_mark}
+use Rattle.rv32_expand.specs.InPlace.{IsAppItem, IsOfItem, item_mark}
 
 -- an item is a block of its own
 abbrev pub item_block : App → Places → ℕ → ℕ → Block
@@ -31,11 +31,11 @@ item_blocks app places funcs = flat_map (items_of app places) (range_with_len 0 
 
 -- each item is one of the blocks
 abbrev pub HaveItems : App → Places → List Block → Type 0
-HaveItems app places blocks = (func index : ℕ) → IsItem app func index → Contains blocks (item_block app places func index)
+HaveItems app places blocks = (func index : ℕ) → IsAppItem app func index → Contains blocks (item_block app places func index)
 
 -- where a mark is one of items, it is the mark of an item of the task code
 abbrev pub IsOwnMark : App → Places → Mark → Type 0
-IsOwnMark app places mark = IsOfItem mark.kind (IsItem app mark.b mark.c × (mark ≡ item_mark app places mark.b mark.c))
+IsOwnMark app places mark = IsOfItem mark.kind (IsAppItem app mark.b mark.c × (mark ≡ item_mark app places mark.b mark.c))
 
 -- so is each mark of a block
 abbrev pub MarksAreOfItems : App → Places → Block → Type 0

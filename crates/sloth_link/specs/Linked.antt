@@ -3,7 +3,7 @@ use Rattle.std.specs.Prelude.{ℕ, ◌+◌, ◌-◌, ◌<◌, ◌≤◌, ◌≡�
 use Rattle.sloth_base.specs.MemoryMap.{memory_base}
 use Rattle.rv32_instr.specs.declared.block.Block.{Block}
 use Rattle.masked_code.specs.Place.{AreWritten}
-use Rattle.mem_map.specs.Sections.{Section, block_section, IsInside}
+use Rattle.mem_map.specs.Sections.{Section, block_section, IsSectionInside}
 use Rattle.sloth_link.specs.declared.datum.Datum.{Datum}
 
 -- the bytes of a symbol, or of the words of an alarm
@@ -15,8 +15,8 @@ abbrev pub sections_of : List Block → List Datum → List Section
 sections_of blocks symbols = map block_section blocks ++ map datum_section symbols
 
 -- no byte is of both
-abbrev pub AreApart : Section → Section → Type 0
-AreApart a b = (a.offset + length a.bytes ≤ b.offset) ⊎ (b.offset + length b.bytes ≤ a.offset)
+abbrev pub AreSectionsApart : Section → Section → Type 0
+AreSectionsApart a b = (a.offset + length a.bytes ≤ b.offset) ⊎ (b.offset + length b.bytes ≤ a.offset)
 
 -- the section's bytes stand in this memory
 abbrev pub HasSectionBytes : List ℕ → Section → Type 0
@@ -40,5 +40,5 @@ BlockStands memory block = AreWritten memory (block.at - memory_base) block.code
 pub record HaveRoom (size : ℕ) (blocks : List Block) (symbols : List Datum) : Type 0 where
   pub blocks_above : All (λ b. memory_base ≤ b.at) blocks
   pub symbols_above : All (λ d. memory_base ≤ d.at) symbols
-  pub inside : All (IsInside size) (sections_of blocks symbols)
-  pub apart : AllPairs AreApart (sections_of blocks symbols)
+  pub inside : All (IsSectionInside size) (sections_of blocks symbols)
+  pub apart : AllPairs AreSectionsApart (sections_of blocks symbols)

@@ -8,15 +8,15 @@ use Rattle.sloth_base.specs.declared.image.Mark.{Mark}
 use Rattle.sloth_base.specs.declared.places.Places.{Places}
 use Rattle.sloth_base.specs.MemoryMap.{memory_base}
 use Rattle.expansion_parts.specs.Expansion.{expansion, item_address}
-use Rattle.rv32_expand.specs.InPlace.{CodeAt, IsItem, IsBodyName, item_mark}
+use Rattle.rv32_expand.specs.InPlace.{CodeAt, IsAppItem, IsBodyName, item_mark}
 use Rattle.sloth_link.specs.Items.{IsOwnMark}
 
 -- the items stand in a memory by the addresses of the places, each with its mark, and no other item has one
-pub record ItemsStand (app : App) (places : Places) (memory : List ℕ) (marks : List Mark) : Type 0 where
-  pub code : (func index : ℕ) → IsItem app func index → CodeAt memory (item_address places func index) (expansion app places func index)
-  pub inside : (func index : ℕ) → IsItem app func index → (memory_base ≤ item_address places func index)
+pub record HasItemsInPlace (app : App) (places : Places) (memory : List ℕ) (marks : List Mark) : Type 0 where
+  pub code : (func index : ℕ) → IsAppItem app func index → CodeAt memory (item_address places func index) (expansion app places func index)
+  pub inside : (func index : ℕ) → IsAppItem app func index → (memory_base ≤ item_address places func index)
       × (item_address places func index + 4 * length (expansion app places func index) ≤ memory_base + length memory)
-  pub marked : (func index : ℕ) → IsItem app func index → Contains marks (item_mark app places func index)
+  pub marked : (func index : ℕ) → IsAppItem app func index → Contains marks (item_mark app places func index)
   pub only : All (IsOwnMark app places) marks
 
 -- an image has the names of the functions and of the tasks, of which each has the name of its body

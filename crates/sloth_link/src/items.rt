@@ -2,7 +2,7 @@
 ghost use Rattle.std.specs.Prelude.{◌≡◌, ◌<◌, IfOk, length};
 ghost use Rattle.sloth_base.specs.Named.{function, item_of};
 ghost use Rattle.sloth_base.specs.Limits.{body_limit};
-ghost use Rattle.rv32_expand.specs.InPlace.{IsItem};
+ghost use Rattle.rv32_expand.specs.InPlace.{IsAppItem};
 ghost use Rattle.rv32_expand.specs.Sizes.{AgreeWithSizes, HasWordAddresses, IsVerified};
 ghost use Rattle.sloth_link.specs.Items.{item_block, items_of, item_blocks};
 
@@ -31,7 +31,7 @@ fn one(
 ) -> Result<Block, NoMemory>
     requires verified { IsVerified app.now }
     requires few { func < body_limit }
-    requires is_item { IsItem app.now func index }
+    requires is_item { IsAppItem app.now func index }
     requires is { item.now ≡ item_of (function app.now func) index }
     requires covers { HasWordAddresses app.now places.now }
     requires agree { AgreeWithSizes app.now places.now }

@@ -11,7 +11,7 @@ ghost use Rattle.sloth_link.specs.Image.{MayLink, HasMemory, all_blocks, all_dat
 ghost use Rattle.mem_map.specs.Sections.{marks_of, HaveOwnAddresses, addresses, linked_memory};
 ghost use Rattle.sloth_link.specs.Linked.{HaveRoom, AreLinked, sections_of, BlockStands, datum_section, HasSectionBytes};
 ghost use Rattle.sloth_base.specs.DeclaredNames.{task_names, counter_names, function_names};
-ghost use Rattle.sloth_link.specs.Standing.{ItemsStand};
+ghost use Rattle.sloth_link.specs.Standing.{HasItemsInPlace};
 
 use crate::alarms::alarms;
 use crate::datum::Datum;
@@ -178,7 +178,7 @@ pub fn link(
 ) -> Result<Image, NoMemory>
     requires { MayLink config.now app.now map.now blocks.now }
     ensures items { IfOk result (λ image. ItemsInPlace image config.now app.now) }
-    ensures stand { IfOk result (λ image. ItemsStand app.now map.now.places image.memory image.marks) }
+    ensures stand { IfOk result (λ image. HasItemsInPlace app.now map.now.places image.memory image.marks) }
     ensures range { IfOk result (λ image. All (λ b. All InRange b.code) (all_blocks app.now map.now blocks.now)) }
     ensures code { IfOk result (λ image. All (BlockStands image.memory) (all_blocks app.now map.now blocks.now)) }
     ensures data_stands { IfOk result (λ image. All (λ d. HasSectionBytes image.memory (datum_section d)) (all_data config.now app.now map.now)) }

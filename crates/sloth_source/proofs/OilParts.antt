@@ -19,7 +19,7 @@ use Rattle.oil_events.specs.Events.{events_of, BitFault}
 use Rattle.oil_rules.specs.ObjectFaults.{KnownFault}
 use Rattle.oil_rules.specs.AttributeFaults.{AttributeFault}
 use Rattle.oil_rules.specs.TaskFaults.{TaskFault}
-use Rattle.oil_rules.specs.TreeFaults.{InnerFault, ObjectFault, TreeFault}
+use Rattle.oil_rules.specs.TreeFaults.{KnownObjectFault, ObjectFault, TreeFault}
 use Rattle.oil_table.specs.declared.table.Place.{Place}
 use Rattle.oil_table.specs.declared.table.Place.TheVariants.{Alarm}
 use Rattle.oil_table.specs.Table.{place_of, block_place}
@@ -72,7 +72,7 @@ of_task events front before attr r (inl h) = of_case _ _ _ r h
 of_task events front before attr r (inr h) = of_case _ _ _ r h
 
 of_inner : (objects : List OilObject) (scheduler : Bool) (events : List EventDecl) (front : List OilObject) (object : OilObject) (r : Refusal)
-    → InnerFault objects scheduler events front object r → r.part ≡ Oil
+    → KnownObjectFault objects scheduler events front object r → r.part ≡ Oil
 of_inner objects scheduler events front object r (inl h) = of_known scheduler front object r h
 of_inner objects scheduler events front object r (inr (inl h)) =
     of_some Oil (AttributeFault objects scheduler (place_of object.kind)) (of_attribute objects scheduler object.kind) [] object.attrs r h

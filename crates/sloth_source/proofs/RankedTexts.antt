@@ -10,7 +10,7 @@ use Rattle.code_rules.specs.WellFormed.{CycleFault, RuleFault}
 use Rattle.asm_parse.specs.AppTexts.{SourceTextFault}
 use Rattle.sloth_source.specs.OilText.{OilText, OilErrorIs}
 use Rattle.sloth_source.specs.SourceText.{HasApp, SourceRefusal}
-use Rattle.sloth_source.specs.Texts.{FirstRefusal, ErrorIs as TextsErrorIs}
+use Rattle.sloth_source.specs.Texts.{FirstRefusal, SourcesErrorIs as TextsErrorIs}
 use Rattle.sloth_source.specs.RankedTexts.{HasRanks, EarlySourceRefusal, EarlyRefusal, EarlySourceErrorIs, EarlyErrorIs}
 use Rattle.sloth_source.proofs.Readings.{one_configuration}
 use Rattle.sloth_source.proofs.Unique.{declared, never_ranked}

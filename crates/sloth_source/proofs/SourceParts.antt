@@ -6,11 +6,11 @@ use Rattle.sloth_base.specs.declared.refusal.Refusal.{Refusal}
 use Rattle.sloth_base.specs.declared.refusal.Part.TheVariants.{Src}
 use Rattle.sloth_base.specs.declared.refusal.Code.{Code}
 use Rattle.asm_lines.specs.declared.source_line.SourceLine.{SourceLine}
-use Rattle.asm_lines.specs.Faults.{SourceCase, LineFault, FaultAt, TextFault, source_lines}
+use Rattle.asm_lines.specs.Faults.{SourceCase, LineFault, FaultAt, SourceLinesFault, source_lines}
 use Rattle.asm_scopes.specs.declared.scope.Scope.{Scope}
 use Rattle.asm_scopes.specs.Bodies.{BodyText, bodies_of}
 use Rattle.asm_scopes.specs.Scopes.{scope_of}
-use Rattle.asm_names.specs.NameFaults.{DataFault, LineFault as NamedLineFault, BodyFault, NameFault}
+use Rattle.asm_names.specs.NameFaults.{DataFault, LineNameFault as NamedLineFault, BodyNameFault, NameFault}
 use Rattle.asm_parse.specs.AppTexts.{SourceTextFault}
 use Rattle.code_rules.specs.WellFormed.{CycleFault, RuleFault, BodyFault as RuleBodyFault}
 use Rattle.code_rules.specs.WellFormed.CycleFault.{on_cycle}
@@ -26,7 +26,7 @@ of_line inside n s r (inr (inl h)) = of_case _ _ _ r h
 of_line inside n s r (inr (inr (inl h))) = of_case _ _ _ r h
 of_line inside n s r (inr (inr (inr h))) = of_case _ _ _ r h
 
-of_lines : (text : List ℕ) (r : Refusal) → TextFault text r → r.part ≡ Src
+of_lines : (text : List ℕ) (r : Refusal) → SourceLinesFault text r → r.part ≡ Src
 of_lines text r (inl h) = of_some Src FaultAt (λ front s q g. of_line _ _ s q g) [] (source_lines text) r h
 of_lines text r (inr h) = of_case _ _ _ r h
 
@@ -39,7 +39,7 @@ of_inner : (scope : Scope) (labels : List (List ℕ)) (items n : ℕ) (front : L
 of_inner scope labels items n front l r (inl h) = of_case _ _ _ r h
 of_inner scope labels items n front l r (inr h) = of_case _ _ _ r h
 
-of_body : (scope : Scope) (front : List BodyText) (body : BodyText) (r : Refusal) → BodyFault scope front body r → r.part ≡ Src
+of_body : (scope : Scope) (front : List BodyText) (body : BodyText) (r : Refusal) → BodyNameFault scope front body r → r.part ≡ Src
 of_body scope front body r (inl (inl h)) = of_case _ _ _ r h
 of_body scope front body r (inl (inr (inl h))) = of_case _ _ _ r h
 of_body scope front body r (inl (inr (inr h))) = of_case _ _ _ r h
@@ -47,7 +47,7 @@ of_body scope front body r (inr h) = of_some Src (NamedLineFault scope _ _ body.
 
 of_names : (config : Config) (ls : List SourceLine) (r : Refusal) → NameFault config ls r → r.part ≡ Src
 of_names config ls r (inl h) = of_some Src DataFault of_data [] ls r h
-of_names config ls r (inr (inl h)) = of_some Src (BodyFault (scope_of config ls (bodies_of ls))) (of_body (scope_of config ls (bodies_of ls))) [] (bodies_of ls) r h
+of_names config ls r (inr (inl h)) = of_some Src (BodyNameFault (scope_of config ls (bodies_of ls))) (of_body (scope_of config ls (bodies_of ls))) [] (bodies_of ls) r h
 of_names config ls r (inr (inr h)) = of_case _ _ _ r h
 
 pub of_source : (config : Config) (text : List ℕ) (r : Refusal) → SourceTextFault config text r → r.part ≡ Src

@@ -24,6 +24,6 @@ abbrev pub FirstRefusal : List ℕ → List ℕ → Refusal → Type 0
 FirstRefusal oil src refusal = OilRefusal oil refusal ⊎ HasSourceRefusal oil src refusal
 
 -- why the texts were not read: want of memory, or the refusal
-abbrev pub ErrorIs : List ℕ → List ℕ → BuildError → Type 0
-ErrorIs oil src (error.Refused refusal) = FirstRefusal oil src refusal
-ErrorIs oil src error.Memory = Unit {0}
+abbrev pub SourcesErrorIs : List ℕ → List ℕ → BuildError → Type 0
+SourcesErrorIs oil src (error.Refused refusal) = FirstRefusal oil src refusal
+SourcesErrorIs oil src error.Memory = Unit {0}

@@ -3,7 +3,7 @@ ghost use Rattle.std.specs.Prelude.{◌<◌, IfOk, IfErr, length};
 ghost use Rattle.code_rules.specs.WellFormed.{WellFormed};
 ghost use Rattle.stack_bounds.specs.Bounds.{AreBounds};
 ghost use Rattle.sloth_source.specs.SourceText.{BodiesAreNamed};
-ghost use Rattle.sloth_source.specs.Texts.{AreAccepted, ErrorIs};
+ghost use Rattle.sloth_source.specs.Texts.{AreAccepted, SourcesErrorIs};
 
 use crate::ranked_texts::{Ranked, read_ranked};
 use sloth_base::app::App;
@@ -30,7 +30,7 @@ pub fn read(alloc: Global, oil: &[u8], src: &[u8]) -> Result<Source, BuildError>
     ensures well_formed { IfOk result (λ source. WellFormed source.config source.app) }
     ensures named { IfOk result (λ source. BodiesAreNamed source.config source.app) }
     ensures bounds { IfOk result (λ source. AreBounds source.config source.app source.bounds) }
-    ensures refused { IfErr result (ErrorIs oil.now src.now) }
+    ensures refused { IfErr result (SourcesErrorIs oil.now src.now) }
 {
     let Ranked { config, app, ranks } = read_ranked(alloc, oil, src)?;
     let bounds = bounds_of(alloc, &config, &app, &ranks)?;

@@ -11,7 +11,7 @@ use Rattle.sloth_base.specs.Options.{is_number}
 use Rattle.sloth_base.specs.Named.{function, body_of, no_function, no_item, IsBodyOf}
 use Rattle.code_rules.specs.AppRange.{AppInRange, IsOp}
 use Rattle.code_rules.specs.WellFormed.{WellFormed}
-use Rattle.call_graph.specs.Tables.{IsKnown, AreCallable, HasBody}
+use Rattle.call_graph.specs.Tables.{IsKnownCall, AreCallable, HasTaskBody}
 
 some_number : (t : ℕ) (o : Option ℕ) → is_number t o ≡ true → o ≡ Some t
 some_number t None e = absurd (true≢false (sym e))
@@ -41,10 +41,10 @@ module _ (config : Config) (app : App) (in_range : AppInRange config app) where
   pub has_body : (t : ℕ) → t < length config.tasks → IsBodyOf app t (body_of app.funcs t)
   has_body t declared = let b = in_range.tasks.body t declared in found app.funcs t b.0 b.1.0 b.1.1
 
-  pub bodies : (t : ℕ) → t < length config.tasks → HasBody app.funcs t
+  pub bodies : (t : ℕ) → t < length config.tasks → HasTaskBody app.funcs t
   bodies t declared = let b = has_body t declared in (body_of app.funcs t, b.0, b.1)
 
-  known : (f : ℕ) (o : Op) → IsOp config app (function app f) o → IsKnown app.funcs o
+  known : (f : ℕ) (o : Op) → IsOp config app (function app f) o → IsKnownCall app.funcs o
   known f (op.Invoke g) h = h.0
   known f _ h = tt
 
@@ -57,6 +57,6 @@ module _ (config : Config) (app : App) (in_range : AppInRange config app) where
 
 -- as the lists that the functions take
 pub bodies_of : (config : Config) (app : App) (tasks : List TaskDecl) (funcs : List Func) → WellFormed config app → tasks ≡ config.tasks → funcs ≡ app.funcs
-    → (t : ℕ) → t < length tasks → HasBody funcs t
+    → (t : ℕ) → t < length tasks → HasTaskBody funcs t
 bodies_of config app tasks funcs w e f t l =
-    subst (λ (x : List Func). HasBody x t) (sym f) (bodies config app w.in_range t (subst (λ (x : List TaskDecl). t < length x) e l))
+    subst (λ (x : List Func). HasTaskBody x t) (sym f) (bodies config app w.in_range t (subst (λ (x : List TaskDecl). t < length x) e l))

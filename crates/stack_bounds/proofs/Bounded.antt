@@ -10,7 +10,7 @@ use Rattle.sloth_base.specs.Named.{declaration, function, body_of}
 use Rattle.code_rules.specs.WellFormed.{WellFormed}
 use Rattle.call_graph.specs.declared.ranking.Ranks.{Ranks}
 use Rattle.call_graph.specs.Ranks.{RanksOf}
-use Rattle.stack_bounds.specs.Bounds.{total, IsGreatest, context_bytes, frame_bytes, call_bytes, CallsInTurn, used_bytes, AreBounds, HaveRoom, IsLength}
+use Rattle.stack_bounds.specs.Bounds.{total, IsGreatest, context_bytes, frame_bytes, call_bytes, CallsInTurn, used_bytes, AreBounds, HaveStackRoom, IsLength}
 use Rattle.call_graph.specs.Tables.{table_entry, IsTable, task_bytes, gives_way, most_stacked, task_at}
 use Rattle.stack_bounds.proofs.Bodies.{has_body, callable}
 use Rattle.stack_bounds.proofs.Chains.{greatest, greatest_small, inwards, words}
@@ -98,7 +98,7 @@ module _ (config : Config) (app : App) (ranks : Ranks) (table : List ℕ) (yield
     yielding_are = h.yielding_are;
   }
 
-  room : (shared : ℕ) → HaveRoom config app (record { bytes = bytes; shared = shared })
+  room : (shared : ℕ) → HaveStackRoom config app (record { bytes = bytes; shared = shared })
   room shared t f callers declared called =
       let whole = inwards app t f callers [] called tt in
       let most = (greatest_bytes t declared).none_greater whole.0 whole.1 in

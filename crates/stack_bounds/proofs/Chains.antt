@@ -10,7 +10,7 @@ use Rattle.code_rules.specs.Code.{HasCall, IsCalledBy}
 use Rattle.call_graph.specs.declared.ranking.Ranks.{Ranks}
 use Rattle.call_graph.specs.Ranks.{RanksOf}
 use Rattle.stack_bounds.specs.Bounds.{total, frame_bytes, call_bytes, CallsInTurn, IsGreatest}
-use Rattle.call_graph.specs.Tables.{sum_below, bytes_called, calls_to_depth, IsKnown, AreCallable}
+use Rattle.call_graph.specs.Tables.{sum_below, bytes_called, calls_to_depth, IsKnownCall, AreCallable}
 use Rattle.stack_bounds.proofs.Below.{max_below-at, max_below-some, sum_below-gain, sum_below-le}
 
 called_is : (further : ℕ → ℕ) (app : App) (o : Op) → (bytes_called app.funcs further o ≡ 0) ⊎ ((g : ℕ) × (o ≡ op.Invoke g))
@@ -44,7 +44,7 @@ module _ (app : App) (callable : AreCallable app.funcs) where
   -- ---- to a depth
 
   callee_known : (f g : ℕ) → HasCall app f g → g < length app.funcs
-  callee_known f g calls = subst (IsKnown app.funcs) calls.1.is (callable.callees f calls.0 calls.1.known calls.1.inside)
+  callee_known f g calls = subst (IsKnownCall app.funcs) calls.1.is (callable.callees f calls.0 calls.1.known calls.1.inside)
 
   chain_le : (depth f : ℕ) (chain : List ℕ) → length chain ≤ depth → CallsInTurn app f chain → total (call_bytes app) chain ≤ calls_to_depth app.funcs depth f
   chain_le depth f [] l calls = omega arith

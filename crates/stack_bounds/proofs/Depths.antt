@@ -7,17 +7,17 @@ use Rattle.sloth_base.specs.declared.app.Op.{Op}
 use Rattle.sloth_base.specs.declared.app.Op.TheVariants as op
 use Rattle.sloth_base.specs.Named.{no_item}
 use Rattle.sloth_base.specs.Limits.{body_limit, frame_limit}
-use Rattle.call_graph.specs.Tables.{func_of, bytes_called, most_called, calls_to_depth, table_entry, IsTable, IsKnown, IsSmall, AreCallable}
+use Rattle.call_graph.specs.Tables.{func_of, bytes_called, most_called, calls_to_depth, table_entry, IsTable, IsKnownCall, IsTableInLimit, AreCallable}
 use Rattle.stack_bounds.proofs.Below.{max_below-le, max_below-same}
 
 module _ (funcs : List Func) where
   called_le : (further : ℕ → ℕ) (bound : ℕ) → ((f : ℕ) → f < length funcs → (func_of funcs f).frame_words ≤ frame_limit) → ((f : ℕ) → f < length funcs → further f ≤ bound)
-      → (o : Op) → IsKnown funcs o → bytes_called funcs further o ≤ 132 + bound
+      → (o : Op) → IsKnownCall funcs o → bytes_called funcs further o ≤ 132 + bound
   called_le further bound frames h (op.Invoke g) known = let w = frames g known in let m = h g known in omega (arith, w, m)
   called_le further bound frames h _ known = omega arith
 
   called_same : (one other : ℕ → ℕ) → ((f : ℕ) → f < length funcs → one f ≡ other f)
-      → (o : Op) → IsKnown funcs o → bytes_called funcs one o ≡ bytes_called funcs other o
+      → (o : Op) → IsKnownCall funcs o → bytes_called funcs one o ≡ bytes_called funcs other o
   called_same one other h (op.Invoke g) known = ap (λ (x : ℕ). 4 + 4 * (func_of funcs g).frame_words + x) (h g known)
   called_same one other h _ known = refl
 
@@ -30,7 +30,7 @@ module _ (funcs : List Func) where
       (get_or (func_of funcs f).items i no_item).op (callable.callees f i l inside)) in
       omega (arith, bound)
 
-  pub table_small : (depth : ℕ) (table : List ℕ) → AreCallable funcs → depth ≤ body_limit → IsTable funcs depth table → IsSmall funcs table
+  pub table_small : (depth : ℕ) (table : List ℕ) → AreCallable funcs → depth ≤ body_limit → IsTable funcs depth table → IsTableInLimit funcs table
   table_small depth table callable few is = record {
     count = is.count;
     small = λ f. ⊎_elim

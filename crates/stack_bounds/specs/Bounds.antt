@@ -77,8 +77,8 @@ stacked_bytes bounds tasks = total (λ t. get_or bounds.bytes t 0) tasks
 -- ---- bounds
 
 -- no task needs more than its bytes: the frame of the function that it is in, a return address and a frame for each caller, and a context
-abbrev pub HaveRoom : Config → App → Bounds → Type 0
-HaveRoom config app bounds = (t f : ℕ) (callers : List ℕ) → t < length config.tasks → IsCalledBy app t f callers
+abbrev pub HaveStackRoom : Config → App → Bounds → Type 0
+HaveStackRoom config app bounds = (t f : ℕ) (callers : List ℕ) → t < length config.tasks → IsCalledBy app t f callers
     → context_bytes + frame_bytes app f + total (call_bytes app) callers ≤ get_or bounds.bytes t 0
 
 -- whole words, and at most those of 63 calls with a body and a context
@@ -91,7 +91,7 @@ pub record AreBounds (config : Config) (app : App) (bounds : Bounds) : Type 0 wh
   pub bytes : (t body : ℕ) → IsBodyOf app t body → IsGreatest (CallsInTurn app body) (used_bytes app body) (get_or bounds.bytes t 0)
   pub shared : IsGreatest (AreStacked config app) (stacked_bytes bounds) bounds.shared
   pub lengths : All IsLength bounds.bytes
-  pub room : HaveRoom config app bounds
+  pub room : HaveStackRoom config app bounds
 
 -- ---- parts of the shared stack
 

@@ -1,7 +1,7 @@
 //! The most bytes that each function's calls need.
 ghost use Rattle.std.specs.Prelude.{◌≡◌, ℕ, ◌<◌, max, length, get_or, IfOk};
 ghost use Rattle.sloth_base.specs.Named.{no_item};
-ghost use Rattle.call_graph.specs.Tables.{most_called, table_entry, func_of, IsTable, IsKnown, IsSmall, AreCallable};
+ghost use Rattle.call_graph.specs.Tables.{most_called, table_entry, func_of, IsTable, IsKnownCall, IsTableInLimit, AreCallable};
 
 use call_graph::called_bytes::bytes_called;
 use sloth_base::app::{Func, Item};
@@ -18,9 +18,9 @@ pub fn larger(one: u32, other: u32) -> u32
 
 /// The most bytes of calls by one of these items.
 fn most_called(funcs: &[Func], table: &[u32], items: &[Item]) -> u32
-    requires known { (i : ℕ) → i < length items.now → IsKnown funcs.now (get_or items.now i no_item).op }
+    requires known { (i : ℕ) → i < length items.now → IsKnownCall funcs.now (get_or items.now i no_item).op }
     requires frames { AreCallable funcs.now }
-    requires small { IsSmall funcs.now table.now }
+    requires small { IsTableInLimit funcs.now table.now }
     ensures { result ≡ most_called funcs.now (table_entry table.now) items.now }
 {
     let mut most = 0;
@@ -33,7 +33,7 @@ fn most_called(funcs: &[Func], table: &[u32], items: &[Item]) -> u32
 /// The table of calls that are one deeper.
 fn deeper(alloc: Global, funcs: &[Func], table: &[u32]) -> Result<Vec<u32>, NoMemory>
     requires frames { AreCallable funcs.now }
-    requires small { IsSmall funcs.now table.now }
+    requires small { IsTableInLimit funcs.now table.now }
     ensures count { IfOk result (λ next. length next.items ≡ length funcs.now) }
     ensures calls { IfOk result (λ next. (f : ℕ) → f < length funcs.now
         → table_entry next.items f ≡ most_called funcs.now (table_entry table.now) (func_of funcs.now f).items) }

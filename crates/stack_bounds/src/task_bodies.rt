@@ -2,7 +2,7 @@
 ghost use Rattle.std.specs.Prelude.{◌≡◌, ◌<◌, length};
 ghost use Rattle.sloth_base.specs.Options.{is_number};
 ghost use Rattle.sloth_base.specs.Named.{body_of};
-ghost use Rattle.call_graph.specs.Tables.{HasBody};
+ghost use Rattle.call_graph.specs.Tables.{HasTaskBody};
 
 use sloth_base::app::Func;
 
@@ -17,7 +17,7 @@ fn belongs_to(func: &Func, task: usize) -> bool
 
 /// The number of the task's body. There is one.
 pub fn body_of(funcs: &[Func], task: usize) -> usize
-    requires { HasBody funcs.now task }
+    requires { HasTaskBody funcs.now task }
     ensures is { result ≡ body_of funcs.now task }
     ensures known { result < length funcs.now }
 {

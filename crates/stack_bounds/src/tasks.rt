@@ -1,7 +1,7 @@
 //! What each task needs for itself, and which tasks may be preempted.
 ghost use Rattle.std.specs.Prelude.{◌≡◌, ℕ, ◌<◌, false, length, get_or, IfOk};
 ghost use Rattle.sloth_base.specs.Named.{body_of};
-ghost use Rattle.call_graph.specs.Tables.{AreCallable, HasBody, IsSmall, task_at, task_bytes, gives_way};
+ghost use Rattle.call_graph.specs.Tables.{AreCallable, HasTaskBody, IsTableInLimit, task_at, task_bytes, gives_way};
 
 use crate::task_bodies::body_of;
 use sloth_base::app::Func;
@@ -21,8 +21,8 @@ pub fn bytes_of_tasks(
     count: usize,
 ) -> Result<Vec<u32>, NoMemory>
     requires frames { AreCallable funcs.now }
-    requires small { IsSmall funcs.now table.now }
-    requires bodies { (t : ℕ) → t < count → HasBody funcs.now t }
+    requires small { IsTableInLimit funcs.now table.now }
+    requires bodies { (t : ℕ) → t < count → HasTaskBody funcs.now t }
     ensures count { IfOk result (λ bytes. length bytes.items ≡ count) }
     ensures bytes { IfOk result (λ bytes. (t : ℕ) → t < count → get_or bytes.items t 0 ≡ task_bytes funcs.now table.now t) }
 {
@@ -50,7 +50,7 @@ pub fn yielding_tasks(
     funcs: &[Func],
     pauses: &[bool],
 ) -> Result<Vec<bool>, NoMemory>
-    requires bodies { (t : ℕ) → t < length tasks.now → HasBody funcs.now t }
+    requires bodies { (t : ℕ) → t < length tasks.now → HasTaskBody funcs.now t }
     requires same { length pauses.now ≡ length funcs.now }
     ensures count { IfOk result (λ yielding. length yielding.items ≡ length tasks.now) }
     ensures yielding { IfOk result (λ yielding. (t : ℕ) → t < length tasks.now

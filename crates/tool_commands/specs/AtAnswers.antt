@@ -33,15 +33,15 @@ pub record IsStatesAnswer (img arr : List ℕ) (k : ℕ) (shown : ToolAnswer) : 
   pub answer_is : shown ≡ states_answer image sight
 
 -- the first file is that of an image, and this is the least fault of the arrivals
-abbrev pub IsRefused : (img arr : List ℕ) → Refusal → Type 0
-IsRefused img arr refusal = (image : Image) × ImageText img image × IsLeast (ArrivalsFault image.tasks image.counters arr) refusal
+abbrev pub IsAtRefused : (img arr : List ℕ) → Refusal → Type 0
+IsAtRefused img arr refusal = (image : Image) × ImageText img image × IsLeast (ArrivalsFault image.tasks image.counters arr) refusal
 
 -- `at`: what the run shows of the tasks, or where and why it stops; or the first fault of the image file, or the least of the arrivals
 abbrev pub IsAtAnswer : (img arr : List ℕ) (k : ℕ) → ToolAnswer → Type 0
 IsAtAnswer img arr k (answer.Done outcome) = IsStatesAnswer img arr k (answer.Done outcome)
 IsAtAnswer img arr k (answer.Stopped pc stop) = IsStatesAnswer img arr k (answer.Stopped pc stop)
 IsAtAnswer img arr k (answer.NotAnImage fault) = IsFirstImageFault fault img
-IsAtAnswer img arr k (answer.Refused refusal) = IsRefused img arr refusal
+IsAtAnswer img arr k (answer.Refused refusal) = IsAtRefused img arr refusal
 IsAtAnswer img arr k (answer.NotAnElf fault) = ⊥
 IsAtAnswer img arr k (answer.BadTrace fault) = ⊥
 IsAtAnswer img arr k answer.NoHolds = ⊥

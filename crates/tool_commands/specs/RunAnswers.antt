@@ -14,7 +14,7 @@ use Rattle.rv32_instr.specs.declared.stop.Stop.{Stop}
 use Rattle.trace_text.specs.ArrivalsText.{ArrivalsFault, arrivals_in}
 use Rattle.sloth_runner.specs.Runner.{run_end}
 use Rattle.sloth_runner.specs.declared.runner.RunEnd.TheVariants as ends
-use Rattle.tool_commands.specs.AtAnswers.{IsRefused}
+use Rattle.tool_commands.specs.AtAnswers.{IsAtRefused}
 use Rattle.tool_commands.specs.Lines.{written_line}
 use Rattle.tool_commands.specs.declared.run_inputs.Unread.{Unread}
 use Rattle.tool_commands.specs.declared.run_inputs.Unread.TheVariants as unread
@@ -31,7 +31,7 @@ pub record AreRunInputs (img arr : List ℕ) (image : Image) (arrivals : List Ar
 -- why they are not
 abbrev pub AreUnread : (img arr : List ℕ) → Unread → Type 0
 AreUnread img arr (unread.NotAnImage fault) = IsFirstImageFault fault img
-AreUnread img arr (unread.Refused refusal) = IsRefused img arr refusal
+AreUnread img arr (unread.Refused refusal) = IsAtRefused img arr refusal
 AreUnread img arr unread.NoMemory = Unit {0}
 
 -- why reading the image ended so
@@ -64,7 +64,7 @@ abbrev pub IsRunAnswer : (Shows : Image → List Arrival → List ℕ → Type 0
 IsRunAnswer Shows img arr n (answer.Done outcome) = IsDrawn Shows img arr outcome
 IsRunAnswer Shows img arr n (answer.Stopped pc stop) = IsHalted img arr n pc stop
 IsRunAnswer Shows img arr n (answer.NotAnImage fault) = IsFirstImageFault fault img
-IsRunAnswer Shows img arr n (answer.Refused refusal) = IsRefused img arr refusal
+IsRunAnswer Shows img arr n (answer.Refused refusal) = IsAtRefused img arr refusal
 IsRunAnswer Shows img arr n (answer.NotAnElf fault) = ⊥
 IsRunAnswer Shows img arr n (answer.BadTrace fault) = ⊥
 IsRunAnswer Shows img arr n answer.NoHolds = ⊥

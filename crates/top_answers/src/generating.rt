@@ -3,7 +3,7 @@ ghost use Rattle.std.specs.Prelude.{◌≡◌, ◌<◌, length};
 ghost use Rattle.sloth_base.specs.ConfigRange.{InRange};
 ghost use Rattle.sloth_base.specs.Named.{function, item_of};
 ghost use Rattle.code_rules.specs.AppRange.{IsTaskCode};
-ghost use Rattle.rv32_expand.specs.InPlace.{IsItem};
+ghost use Rattle.rv32_expand.specs.InPlace.{IsAppItem};
 ghost use Rattle.rv32_expand.specs.Sizes.{AgreeWithSizes, HasWordAddresses, IsVerified};
 ghost use Rattle.sloth_link.specs.Image.{MayLink};
 ghost use Rattle.image_gen.specs.Gathered.{MayBuild, MayGenerate};
@@ -41,7 +41,7 @@ fn list_item(
 ) -> anyhow::Result<()>
     requires in_range { IsTaskCode app.now }
     requires verified { IsVerified app.now }
-    requires is_item { IsItem app.now 0 index }
+    requires is_item { IsAppItem app.now 0 index }
     requires is { item.now ≡ item_of (function app.now 0) index }
     requires covers { HasWordAddresses app.now places.now }
     requires agree { AgreeWithSizes app.now places.now }

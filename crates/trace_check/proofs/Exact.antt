@@ -3,7 +3,7 @@ use Rattle.std.proofs.Common.{◌≡◌, ℕ, zero, suc, ◌-◌, ◌<◌, ◌�
 use Rattle.std.specs.Prelude.{◌↔◌, Result, Ok, Err, IfOk}
 use Rattle.std.proofs.lemmas.Bool.{cases_order}
 use Rattle.std.proofs.lemmas.List.{take-append-drop}
-use Rattle.sloth_base.specs.ImageRange.{AreApart, AreNames}
+use Rattle.sloth_base.specs.ImageRange.{AreNamesApart, AreNames}
 use Rattle.sloth_base.specs.declared.config.Config.{Config}
 use Rattle.sloth_base.specs.declared.app.App.{App}
 use Rattle.sloth_base.specs.declared.event.Arrival.{Arrival}
@@ -52,7 +52,7 @@ module _ (config : Config) (app : App) (events : List Stamped) where
 -- ---- all verdicts
 
 module _ (config : Config) (app : App) (arrivals : List Arrival) (text : List ℕ) (n : ℕ) (tasks : AreNames (task_names config)) (funcs : AreNames (function_names app)) (counters : AreNames (counter_names config))
-    (apart : AreApart (counter_names config) (task_names config)) where
+    (apart : AreNamesApart (counter_names config) (task_names config)) where
   abbrev ShowsThese : List Stamped → Type 0
   ShowsThese events = IsEventText (task_names config) (function_names app) (counter_names config) events text
 

@@ -18,8 +18,8 @@ use Rattle.sloth_base.specs.Owners.{IsOwned, owners_in}
 use Rattle.sloth_base.specs.Limits.{counter_limit}
 use Rattle.sloth_base.proofs.Owners.{IsCounterLine, owned_cases}
 use Rattle.osek_scheduler.specs.InTime.{InTime}
-use Rattle.line_words.specs.EventNumbers.{HasNumbers}
-use Rattle.trace_time.specs.Counts.{AreSmall, IsSmall}
+use Rattle.line_words.specs.EventNumbers.{HasEventNumbers}
+use Rattle.trace_time.specs.Counts.{AreLinesInRange, IsLineInRange}
 use Rattle.walked_events.specs.TraceText.{HasNoFirstLine, HasLine, IsFirstBad, IsEventText}
 use Rattle.sloth_base.specs.DeclaredNames.{AreNamesOf, task_names, counter_names, function_names}
 use Rattle.sloth_base.specs.declared.declared_names.DeclaredNames.{DeclaredNames}
@@ -28,13 +28,13 @@ use Rattle.walked_events.specs.Walk.{HasStrayAt, IsWalked, IsWalkOrStray, Walk}
 use Rattle.walked_events.proofs.TraceText.{reads_all}
 
 -- the admissions of events that have lines are of numbers of 32 bits
-line_small : (tasks functions counters : ℕ) → counters ≤ counter_limit → (e : Event) → HasNumbers tasks functions counters e → IsSmall (admitted_line e)
+line_small : (tasks functions counters : ℕ) → counters ≤ counter_limit → (e : Event) → HasEventNumbers tasks functions counters e → IsLineInRange (admitted_line e)
 line_small tasks functions counters few (event.Admit t) h = h.word
 line_small tasks functions counters few (event.Due c) h = let inside = h.inside in omega (arith, inside, few)
 line_small tasks functions counters few e h = tt
 
 pub lines_small : (tasks functions counters : List (List ℕ)) → length counters ≤ counter_limit → (events : List Stamped) → All (HasLine tasks functions counters) events
-    → AreSmall events
+    → AreLinesInRange events
 lines_small tasks functions counters few events h k d l =
     line_small (length tasks) (length functions) (length counters) few (get_or events k d).event (h k d l).numbers
 

@@ -10,7 +10,7 @@ use Rattle.sloth_source.specs.Texts.{AreAccepted}
 use Rattle.sloth_source.proofs.Least.{one_least, of_some}
 use Rattle.sloth_source.proofs.Refusals.{one_refusal}
 use Rattle.sloth_source.proofs.Unique.{one_meaning, never_both}
-use Rattle.trace_text.specs.ArrivalsText.{ArrivalsFault, FaultAt, LineFault, arrivals_of}
+use Rattle.trace_text.specs.ArrivalsText.{ArrivalsFault, ArrivalFaultAt, ArrivalLineFault, arrivals_of}
 use Rattle.trace_check.specs.Inputs.{IsRefusal}
 use Rattle.sloth_base.specs.DeclaredNames.{task_names, counter_names}
 
@@ -23,7 +23,7 @@ not-refused oil src arr config app r h none (inr other) =
     none r (subst (λ (c : Config). ArrivalsFault (task_names c) (counter_names c) arr r) same.0 other.least.is_fault)
 
 -- a fault of arrivals is one of their text
-part-is : (tasks counters : List (List ℕ)) (before : List Arrival) (n : ℕ) (line : List ℕ) (r : Refusal) → LineFault tasks counters before n line r → r.part ≡ Arr
+part-is : (tasks counters : List (List ℕ)) (before : List Arrival) (n : ℕ) (line : List ℕ) (r : Refusal) → ArrivalLineFault tasks counters before n line r → r.part ≡ Arr
 part-is tasks counters before n line r (inl f) = ap (λ (x : Refusal). x.part) f.1
 part-is tasks counters before n line r (inr (inl f)) = ap (λ (x : Refusal). x.part) f.1
 part-is tasks counters before n line r (inr (inr (inl f))) = ap (λ (x : Refusal). x.part) f.1
@@ -31,7 +31,7 @@ part-is tasks counters before n line r (inr (inr (inr f))) = ap (λ (x : Refusal
 
 pub of-arrivals : (tasks counters : List (List ℕ)) (text : List ℕ) (r : Refusal) → ArrivalsFault tasks counters text r → r.part ≡ Arr
 of-arrivals tasks counters text r h =
-    of_some Arr (FaultAt tasks counters) (λ front line s f. part-is tasks counters (arrivals_of tasks counters front) (length front + 1) line s f) [] _ r h
+    of_some Arr (ArrivalFaultAt tasks counters) (λ front line s f. part-is tasks counters (arrivals_of tasks counters front) (length front + 1) line s f) [] _ r h
 
 -- the inputs that are told are refused in one way
 pub one-way : (oil src arr : List ℕ) (r s : Refusal) → IsRefusal oil src arr r → IsRefusal oil src arr s → r ≡ s

@@ -12,7 +12,7 @@ use Rattle.trace_text.specs.ArrivalsText.{ArrivalsFault, arrivals_in}
 use Rattle.sloth_base.specs.DeclaredNames.{task_names, counter_names}
 
 -- with these names of tasks and of counters the arrivals are read without a fault, and these are they
-pub record AreRead (names counters : List (List ℕ)) (arr : List ℕ) (arrivals : List Arrival) : Type 0 where
+pub record AreArrivalsOf (names counters : List (List ℕ)) (arr : List ℕ) (arrivals : List Arrival) : Type 0 where
   pub no_fault : NoFault (ArrivalsFault names counters arr)
   pub arrivals_are : arrivals ≡ arrivals_in names counters arr
 

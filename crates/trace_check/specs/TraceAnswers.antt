@@ -7,7 +7,7 @@ use Rattle.code_rules.specs.WellFormed.{WellFormed}
 use Rattle.sloth_source.specs.Texts.{AreAccepted}
 use Rattle.trace_check.specs.Answer.{IsVerdict}
 use Rattle.trace_check.specs.declared.verdict.Verdict.{Verdict}
-use Rattle.trace_check.specs.Inputs.{AreRead, IsRefusal}
+use Rattle.trace_check.specs.Inputs.{AreArrivalsOf, IsRefusal}
 use Rattle.sloth_base.specs.DeclaredNames.{task_names, counter_names}
 use Rattle.trace_check.specs.declared.answer.TraceAnswer.{TraceAnswer}
 use Rattle.trace_check.specs.declared.answer.TraceAnswer.TheVariants as answer
@@ -19,7 +19,7 @@ pub record IsJudged (oil src arr trace : List ℕ) (n : ℕ) (verdict : Verdict)
   pub accepted : AreAccepted oil src config app
   pub well_formed : WellFormed config app
   pub arrivals : List Arrival
-  pub read : AreRead (task_names config) (counter_names config) arr arrivals
+  pub read : AreArrivalsOf (task_names config) (counter_names config) arr arrivals
   pub is : IsVerdict config app arrivals trace n verdict
 
 -- the inputs are refused so, or the text has this verdict

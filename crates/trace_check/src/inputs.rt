@@ -4,7 +4,7 @@ ghost use Rattle.sloth_base.specs.Arrivals.{AreArrivals};
 ghost use Rattle.sloth_base.specs.Owners.{owners_in};
 ghost use Rattle.code_rules.specs.WellFormed.{WellFormed};
 ghost use Rattle.sloth_source.specs.Texts.{AreAccepted};
-ghost use Rattle.trace_check.specs.Inputs.{AreRead, InputsErrorIs};
+ghost use Rattle.trace_check.specs.Inputs.{AreArrivalsOf, InputsErrorIs};
 ghost use Rattle.sloth_base.specs.DeclaredNames.{task_names, counter_names};
 
 use sloth_base::app::App;
@@ -31,7 +31,7 @@ pub fn read_inputs(alloc: Global, oil: &[u8], src: &[u8], arr: &[u8]) -> Result<
     requires arr { length arr.now < 4294967295 }
     ensures accepted { IfOk result (λ inputs. AreAccepted oil.now src.now inputs.config inputs.app) }
     ensures well_formed { IfOk result (λ inputs. WellFormed inputs.config inputs.app) }
-    ensures read { IfOk result (λ inputs. AreRead (task_names inputs.config) (counter_names inputs.config) arr.now inputs.arrivals.items) }
+    ensures read { IfOk result (λ inputs. AreArrivalsOf (task_names inputs.config) (counter_names inputs.config) arr.now inputs.arrivals.items) }
     ensures in_range { IfOk result (λ inputs. AreArrivals (owners_in inputs.config) inputs.arrivals.items) }
     ensures refused { IfErr result (InputsErrorIs oil.now src.now arr.now) }
 {

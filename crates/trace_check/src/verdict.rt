@@ -1,7 +1,7 @@
 //! The verdict on a text.
 ghost use Rattle.std.specs.Prelude.{◌≡◌, ◌<◌, ◌↔◌, IfOk, IfSome, IfNone, All, length};
 ghost use Rattle.sloth_base.specs.Arrivals.{AreArrivals, AreRisingMoments};
-ghost use Rattle.sloth_base.specs.ImageRange.{AreApart, AreNames};
+ghost use Rattle.sloth_base.specs.ImageRange.{AreNamesApart, AreNames};
 ghost use Rattle.sloth_base.specs.Owners.{owners_in};
 ghost use Rattle.sloth_base.specs.declared.app.App.{App as AnyApp};
 ghost use Rattle.sloth_base.specs.declared.config.Config.{Config as AnyConfig};
@@ -40,7 +40,7 @@ fn next_event(names: &DeclaredNames, text: &[u8]) -> Option<Stamped>
     requires tasks { AreNames names.now.tasks }
     requires funcs { AreNames names.now.funcs }
     requires counters { AreNames names.now.counters }
-    requires apart { AreApart names.now.counters names.now.tasks }
+    requires apart { AreNamesApart names.now.counters names.now.tasks }
     ensures some { IfSome result (λ e. HasFirstLine names.now.tasks names.now.funcs names.now.counters text.now e) }
     ensures none { IfNone result (HasNoFirstLine names.now.tasks names.now.funcs names.now.counters text.now) }
 {
@@ -63,7 +63,7 @@ fn judge_lines(
     requires tasks { AreNames names.now.tasks }
     requires funcs { AreNames names.now.funcs }
     requires counters { AreNames names.now.counters }
-    requires apart { AreApart names.now.counters names.now.tasks }
+    requires apart { AreNamesApart names.now.counters names.now.tasks }
     requires rising { AreRisingMoments 1 timing.old.arrivals }
     requires lines { All (λ a. a.line < 4294967296) timing.old.arrivals }
     requires short { length text.now < 4294967295 }

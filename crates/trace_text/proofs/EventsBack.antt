@@ -3,13 +3,13 @@ use Rattle.std.proofs.Common.{◌≡◌, ◌≢◌, ◌∙◌, ℕ, zero, suc, �
 use Rattle.std.specs.Prelude.{if◌then◌else◌, decimal, codes, bytes_eq, position}
 use Rattle.std.proofs.lemmas.Option.{none-some, same_Some}
 use Rattle.std.proofs.lemmas.Slice.Eq.{bytes_eq-Decides}
-use Rattle.sloth_base.specs.ImageRange.{AreApart, AreNames}
+use Rattle.sloth_base.specs.ImageRange.{AreNamesApart, AreNames}
 use Rattle.sloth_base.specs.declared.event.Event.{Event}
 use Rattle.sloth_base.specs.declared.event.Event.TheVariants as event
 use Rattle.sloth_base.specs.declared.event.Stamped.{Stamped}
 use Rattle.text_pieces.specs.Bytes.{is_byte_of}
 use Rattle.text_pieces.proofs.Places.{further, position-cons}
-use Rattle.line_words.specs.EventNumbers.{IsNameNumber, IsNumberOrNone, HasNumbers, Has32Bits}
+use Rattle.line_words.specs.EventNumbers.{IsNameNumber, IsNumberOrNone, HasEventNumbers, Has32Bits}
 use Rattle.trace_text.specs.EventLines.{IsLineOf, counted_line}
 use Rattle.trace_text.specs.EventsRead.{◌>>=◌, first_word, other_words, number, place, place_or_none, more_in, is_single, admission_of, admit_in, tick_in, named_in, event_in, stamped_in, word_of}
 use Rattle.line_words.specs.EventWords.{name_of, event_text, single_in, bare_in}
@@ -28,7 +28,7 @@ not_among (x ∷ names) w h = position-cons (bytes_eq w) x names ∙ by (bytes_e
 -- ---- events
 
 module _ (tasks functions counters : List (List ℕ)) (named : AreNames tasks) (known : AreNames functions) (counted : AreNames counters)
-    (apart : AreApart counters tasks) where
+    (apart : AreNamesApart counters tasks) where
   -- a name that no task has is not read as a task's number
   no_task : (c : ℕ) → IsNameNumber (length counters) c → place_or_none tasks (name_of counters c) ≡ None
   unfolding place_or_none place
@@ -50,7 +50,7 @@ module _ (tasks functions counters : List (List ℕ)) (named : AreNames tasks) (
   unfolding tick_in
   tick_back c h = one_after (place_or_none counters (name_of counters c)) (λ k. Some (event.Tick k)) c (number_or_none_back counters counted c h)
 
-  event_back : (e : Event) → HasNumbers (length tasks) (length functions) (length counters) e
+  event_back : (e : Event) → HasEventNumbers (length tasks) (length functions) (length counters) e
       → event_in tasks functions counters (event_text tasks functions counters e) ≡ Some e
   unfolding event_in bare_in named_in is_single single_in more_in is_byte_of
   event_back event.Boot h = refl
@@ -102,7 +102,7 @@ module _ (tasks functions counters : List (List ℕ)) (named : AreNames tasks) (
   )
 
   pub reread : (text line : List ℕ) (found : Stamped) → Some found ≡ stamped_in tasks functions counters text → line ≡ counted_line tasks functions counters found
-      → bytes_eq line text ≡ true → Has32Bits found.stamp.from → Has32Bits found.stamp.at → HasNumbers (length tasks) (length functions) (length counters) found.event
+      → bytes_eq line text ≡ true → Has32Bits found.stamp.from → Has32Bits found.stamp.at → HasEventNumbers (length tasks) (length functions) (length counters) found.event
       → IsReading text (Some found)
   reread text line found s l t p q n e = (
     λ h.

@@ -19,7 +19,7 @@ use Rattle.sloth_base.specs.Limits.{count_limit, arrival_limit}
 use Rattle.sloth_base.proofs.Owners.{task_owned}
 use Rattle.least_fault.specs.Order.{NoFault}
 use Rattle.least_fault.proofs.Nowhere.{case_false}
-use Rattle.trace_text.specs.ArrivalsText.{is_arrival, moment_of, line_of_either, named_among, named_line, name_text, arrival_of, last_moment, is_outside, is_t2, is_t3, is_t4, LineFault, owners_read}
+use Rattle.trace_text.specs.ArrivalsText.{is_arrival, moment_of, line_of_either, named_among, named_line, name_text, arrival_of, last_moment, is_outside, is_t2, is_t3, is_t4, ArrivalLineFault, owners_read}
 
 last-at : (none : ℕ) (xs : List Arrival) (k : ℕ) (d : Arrival) → length xs ≡ suc k → (slice_index_or xs k d).at ≡ last_moment none xs
 last-at none [] k d h = absurd (omega (arith, h))
@@ -91,7 +91,7 @@ some-of : (o : Option ℕ) → not (is_some o) ≡ false → (i : ℕ) × (o ≡
 some-of None h = cc
 some-of (Some i) h = (i, refl)
 
-module _ (tasks counters : List (List ℕ)) (before : List Arrival) (n : ℕ) (line : List ℕ) (none : NoFault (LineFault tasks counters before n line)) (is : is_arrival line ≡ true) where
+module _ (tasks counters : List (List ℕ)) (before : List Arrival) (n : ℕ) (line : List ℕ) (none : NoFault (ArrivalLineFault tasks counters before n line)) (is : is_arrival line ≡ true) where
   is-in : (nat_le arrival_limit (length before) ≡ false) × (nat_lt (moment_of line) 1 ≡ false) × (nat_lt count_limit (moment_of line) ≡ false)
   is-in =
       let t4 = case_false Arr (is_t4 before line) n T4 (λ r f. none r (inr (inr (inr f)))) in

@@ -14,7 +14,7 @@ use Rattle.sloth_base.specs.declared.refusal.BuildError.TheVariants.{Refused, Me
 use Rattle.least_fault.specs.Order.{IsLeast, NoFault, ErrorIs}
 use Rattle.least_fault.specs.Search.{SomeFrom, merge, lesser}
 use Rattle.least_fault.proofs.Kept.{Loop, loop_more}
-use Rattle.trace_text.specs.ArrivalsText.{is_arrival, arrival_of, arrivals_of, LineFault, FaultAt, LinesFault}
+use Rattle.trace_text.specs.ArrivalsText.{is_arrival, arrival_of, arrivals_of, ArrivalLineFault, ArrivalFaultAt, LinesFault}
 
 arrivals-append : (tasks counters xs ys : List (List ℕ)) → arrivals_of tasks counters (xs ++ ys) ≡ arrivals_of tasks counters xs ++ arrivals_of tasks counters ys
 arrivals-append tasks counters xs ys =
@@ -28,13 +28,13 @@ arrivals-more tasks counters ls i line h e =
     sym (ap (arrivals_of tasks counters) t ∙ arrivals-append tasks counters (take i ls) (line ∷ []))
 
 -- the line of a fault is that where it stands
-line-is : (tasks counters : List (List ℕ)) (before : List Arrival) (n : ℕ) (line : List ℕ) (r : Refusal) → LineFault tasks counters before n line r → r.line ≡ n
+line-is : (tasks counters : List (List ℕ)) (before : List Arrival) (n : ℕ) (line : List ℕ) (r : Refusal) → ArrivalLineFault tasks counters before n line r → r.line ≡ n
 line-is tasks counters before n line r (inl f) = ap (λ (x : Refusal). x.line) f.1
 line-is tasks counters before n line r (inr (inl f)) = ap (λ (x : Refusal). x.line) f.1
 line-is tasks counters before n line r (inr (inr (inl f))) = ap (λ (x : Refusal). x.line) f.1
 line-is tasks counters before n line r (inr (inr (inr f))) = ap (λ (x : Refusal). x.line) f.1
 
-later : (tasks counters front ls : List (List ℕ)) (r : Refusal) → SomeFrom (FaultAt tasks counters) front ls r → length front < r.line
+later : (tasks counters front ls : List (List ℕ)) (r : Refusal) → SomeFrom (ArrivalFaultAt tasks counters) front ls r → length front < r.line
 later tasks counters front [] r h = absurd h
 later tasks counters front (line ∷ ls) r (inl f) = let e = line-is tasks counters (arrivals_of tasks counters front) (length front + 1) line r f in omega (arith, e)
 later tasks counters front (line ∷ ls) r (inr f) =
@@ -43,10 +43,10 @@ later tasks counters front (line ∷ ls) r (inr f) =
 
 -- the least fault of the first line that has one is that of all
 pub first-fault : (tasks counters ls : List (List ℕ)) (i : ℕ) (line : List ℕ) (r : Refusal) → i < length ls → line ≡ get_or ls i line
-    → IsLeast (FaultAt tasks counters (take i ls) line) r → Loop (FaultAt tasks counters) ls i None → IsLeast (LinesFault tasks counters ls) r
+    → IsLeast (ArrivalFaultAt tasks counters (take i ls) line) r → Loop (ArrivalFaultAt tasks counters) ls i None → IsLeast (LinesFault tasks counters ls) r
 unfolding merge lesser
 first-fault tasks counters ls i line r h e least loop =
-    let more = loop_more (FaultAt tasks counters) ls i line None (Some r) (Some r) h e least refl loop in
+    let more = loop_more (ArrivalFaultAt tasks counters) ls i line None (Some r) (Some r) h e least refl loop in
     let here = line-is tasks counters (arrivals_of tasks counters (take i ls)) (length (take i ls) + 1) line r least.is_fault in
     let before : length (take i ls) ≡ i = length-take-le i ls (omega (arith, h)) in
     let one_more : length (take (i + 1) ls) ≡ i + 1 = length-take-le (i + 1) ls (omega (arith, h)) in
@@ -60,10 +60,10 @@ pub record IsNext (tasks counters ls : List (List ℕ)) (i : ℕ) (before : List
   pub inside : i < length ls
   pub line_is : line ≡ get_or ls i line
   pub behind : before ≡ arrivals_of tasks counters (take i ls)
-  pub sound : Loop (FaultAt tasks counters) ls i None
+  pub sound : Loop (ArrivalFaultAt tasks counters) ls i None
 
 pub next-of : (tasks counters : List (List ℕ)) (parts : List (Bor (List ℕ))) (i : ℕ) (before : List Arrival) (d : Bor (List ℕ)) → i < length parts
-    → before ≡ arrivals_of tasks counters (take i (map referent parts)) → Loop (FaultAt tasks counters) (map referent parts) i None
+    → before ≡ arrivals_of tasks counters (take i (map referent parts)) → Loop (ArrivalFaultAt tasks counters) (map referent parts) i None
     → IsNext tasks counters (map referent parts) i before (get_or parts i d).now
 next-of tasks counters parts i before d h behind sound = record {
   inside = omega (arith, h, length-map parts referent);
@@ -74,23 +74,23 @@ next-of tasks counters parts i before d h behind sound = record {
 
 -- a fact of the faults of a line, in the words of all lines
 in-place : (Fact : (Refusal → Type 0) → Type 0) (tasks counters ls : List (List ℕ)) (i : ℕ) (before : List Arrival) (line : List ℕ) → IsNext tasks counters ls i before line
-    → Fact (LineFault tasks counters before (i + 1) line) → Fact (FaultAt tasks counters (take i ls) line)
+    → Fact (ArrivalLineFault tasks counters before (i + 1) line) → Fact (ArrivalFaultAt tasks counters (take i ls) line)
 in-place Fact tasks counters ls i before line next h =
     let inside = next.inside in
     let place : i ≡ length (take i ls) = sym (length-take-le i ls (omega (arith, inside))) in
-    subst (λ (xs : List Arrival). Fact (LineFault tasks counters xs (length (take i ls) + 1) line)) next.behind
-    (subst (λ (k : ℕ). Fact (LineFault tasks counters before (k + 1) line)) place h)
+    subst (λ (xs : List Arrival). Fact (ArrivalLineFault tasks counters xs (length (take i ls) + 1) line)) next.behind
+    (subst (λ (k : ℕ). Fact (ArrivalLineFault tasks counters before (k + 1) line)) place h)
 
 -- a line without a fault
 pub one-sound : (tasks counters ls : List (List ℕ)) (i : ℕ) (before : List Arrival) (line : List ℕ) → IsNext tasks counters ls i before line
-    → NoFault (LineFault tasks counters before (i + 1) line) → Loop (FaultAt tasks counters) ls (i + 1) None
+    → NoFault (ArrivalLineFault tasks counters before (i + 1) line) → Loop (ArrivalFaultAt tasks counters) ls (i + 1) None
 unfolding merge
 one-sound tasks counters ls i before line next h =
-    loop_more (FaultAt tasks counters) ls i line None None None next.inside next.line_is (in-place NoFault tasks counters ls i before line next h) refl next.sound
+    loop_more (ArrivalFaultAt tasks counters) ls i line None None None next.inside next.line_is (in-place NoFault tasks counters ls i before line next h) refl next.sound
 
 -- the error of a line is that of all lines
 pub first-error : (tasks counters ls : List (List ℕ)) (i : ℕ) (before : List Arrival) (line : List ℕ) (e : BuildError) → IsNext tasks counters ls i before line
-    → ErrorIs (LineFault tasks counters before (i + 1) line) e → ErrorIs (LinesFault tasks counters ls) e
+    → ErrorIs (ArrivalLineFault tasks counters before (i + 1) line) e → ErrorIs (LinesFault tasks counters ls) e
 first-error tasks counters ls i before line Memory next h = tt
 first-error tasks counters ls i before line (Refused r) next h =
     first-fault tasks counters ls i line r next.inside next.line_is (in-place (λ F. IsLeast F r) tasks counters ls i before line next h) next.sound

@@ -16,7 +16,7 @@ use Rattle.sloth_base.specs.declared.service.Service.TheVariants as service
 use Rattle.text_pieces.specs.Bytes.{is_byte_of}
 use Rattle.text_pieces.proofs.Places.{position_at}
 use Rattle.asm_lines.proofs.Cuts.{lacks, has_in, before_is, behind_is}
-use Rattle.line_words.specs.EventNumbers.{IsNameNumber, IsNumberOrNone, HasNumbers}
+use Rattle.line_words.specs.EventNumbers.{IsNameNumber, IsNumberOrNone, HasEventNumbers}
 use Rattle.trace_text.specs.EventsRead.{◌>>=◌, first_word, other_words, number, place, place_or_none, run_in, call_in, left_in, more_in, is_single, of_task, admission_of, admit_in, named_in, event_in, word_of}
 use Rattle.sloth_base.specs.ServiceCodes.{service_named}
 use Rattle.sloth_base.specs.Events.{named_task}
@@ -179,7 +179,7 @@ module _ (tasks functions counters : List (List ℕ)) (named : AreNames tasks) (
   unfolding admit_in
   admit_back t h = ap (λ o. admission_of o (place counters (name_of tasks t))) (number_or_none_back tasks named t h)
 
-  pub task_back : (e : Event) → HasNumbers (length tasks) (length functions) (length counters) e → is_some (named_task e) ≡ true
+  pub task_back : (e : Event) → HasEventNumbers (length tasks) (length functions) (length counters) e → is_some (named_task e) ≡ true
       → event_in tasks functions counters (event_text tasks functions counters e) ≡ Some e
   unfolding event_in bare_in named_in is_single single_in more_in is_byte_of
   task_back (event.Admit t) h named_one = cut_there (codes "admit") (name_of tasks t) refl ∙ admit_back t h

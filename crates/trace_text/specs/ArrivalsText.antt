@@ -100,18 +100,18 @@ abbrev pub is_t4 : List Arrival → List ℕ → Bool
 is_t4 before line = is_arrival line && (nat_le arrival_limit (length before) || is_outside line)
 
 -- r is a fault of a line of this number, which these arrivals stand before
-abbrev pub LineFault : (tasks counters : List (List ℕ)) → List Arrival → ℕ → List ℕ → Refusal → Type 0
-LineFault tasks counters before number line r =
+abbrev pub ArrivalLineFault : (tasks counters : List (List ℕ)) → List Arrival → ℕ → List ℕ → Refusal → Type 0
+ArrivalLineFault tasks counters before number line r =
     CaseOf Arr (is_t1 line) number code.T1 r ⊎ (CaseOf Arr (is_t2 tasks counters line) number code.T2 r
     ⊎ (CaseOf Arr (is_t3 before line) number code.T3 r ⊎ CaseOf Arr (is_t4 before line) number code.T4 r))
 
 -- r is a fault of a line, which these lines stand before
-abbrev pub FaultAt : (tasks counters : List (List ℕ)) → List (List ℕ) → List ℕ → Refusal → Type 0
-FaultAt tasks counters front line r = LineFault tasks counters (arrivals_of tasks counters front) (length front + 1) line r
+abbrev pub ArrivalFaultAt : (tasks counters : List (List ℕ)) → List (List ℕ) → List ℕ → Refusal → Type 0
+ArrivalFaultAt tasks counters front line r = ArrivalLineFault tasks counters (arrivals_of tasks counters front) (length front + 1) line r
 
 -- r is a fault of some of these lines
 abbrev pub LinesFault : (tasks counters : List (List ℕ)) → List (List ℕ) → Refusal → Type 0
-LinesFault tasks counters ls r = Somewhere (FaultAt tasks counters) ls r
+LinesFault tasks counters ls r = Somewhere (ArrivalFaultAt tasks counters) ls r
 
 -- r is a fault of an arrivals text, with the names of the tasks and of the counters
 abbrev pub ArrivalsFault : (tasks counters : List (List ℕ)) → List ℕ → Refusal → Type 0

@@ -1,7 +1,7 @@
 -- The events that counted lines show.
 use Rattle.std.specs.Prelude.{◌≡◌, ℕ, List, length}
 use Rattle.sloth_base.specs.declared.event.Stamped.{Stamped}
-use Rattle.line_words.specs.EventNumbers.{Has32Bits, HasNumbers}
+use Rattle.line_words.specs.EventNumbers.{Has32Bits, HasEventNumbers}
 use Rattle.trace_text.specs.Lines.{line_with}
 use Rattle.trace_text.specs.declared.printing.Form.TheVariants as form
 
@@ -13,5 +13,5 @@ counted_line tasks functions counters e = line_with tasks functions counters for
 pub record IsLineOf (tasks functions counters : List (List ℕ)) (e : Stamped) (text : List ℕ) : Type 0 where
   pub from : Has32Bits e.stamp.from
   pub at : Has32Bits e.stamp.at
-  pub numbers : HasNumbers (length tasks) (length functions) (length counters) e.event
+  pub numbers : HasEventNumbers (length tasks) (length functions) (length counters) e.event
   pub prints : text ≡ counted_line tasks functions counters e

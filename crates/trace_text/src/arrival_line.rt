@@ -6,7 +6,7 @@ ghost use Rattle.sloth_base.specs.Limits.{count_limit};
 ghost use Rattle.least_fault.specs.Search.{IsSearchResult};
 ghost use Rattle.text_pieces.specs.Digits.{capped_value};
 ghost use Rattle.trace_text.specs.ArrivalsText.{is_comment, are_digits, is_arrival, moment_of, named_among, named_line, arrival_of};
-ghost use Rattle.trace_text.specs.ArrivalsText.{last_moment, is_outside, is_t1, is_t2, is_t3, is_t4, LineFault};
+ghost use Rattle.trace_text.specs.ArrivalsText.{last_moment, is_outside, is_t1, is_t2, is_t3, is_t4, ArrivalLineFault};
 
 use least_fault::{fault_if, merge};
 use sloth_base::event::Arrival;
@@ -165,7 +165,7 @@ pub fn line_fault(
     line: &[u8],
 ) -> Option<Refusal>
     requires { last_moment 0 before.now ≤ count_limit }
-    ensures { IsSearchResult (LineFault tasks.now counters.now before.now number line.now) result }
+    ensures { IsSearchResult (ArrivalLineFault tasks.now counters.now before.now number line.now) result }
 {
     let t1 = fault_if(is_t1(line), Part::Arr, number, Code::T1);
     let t2 = fault_if(is_t2(tasks, counters, line), Part::Arr, number, Code::T2);

@@ -4,7 +4,7 @@ ghost use Rattle.sloth_base.specs.Arrivals.{AreArrivals};
 ghost use Rattle.least_fault.specs.Order.{ErrorIs, NoFault};
 ghost use Rattle.text_pieces.specs.Names.{referent};
 ghost use Rattle.asm_lines.specs.Lines.{lines, without_returns};
-ghost use Rattle.trace_text.specs.ArrivalsText.{arrivals_of, arrivals_in, owners_read, LineFault, LinesFault, ArrivalsFault};
+ghost use Rattle.trace_text.specs.ArrivalsText.{arrivals_of, arrivals_in, owners_read, ArrivalLineFault, LinesFault, ArrivalsFault};
 
 use crate::arrival_line::{arrival_of, is_arrival, line_fault};
 use asm_lines::cutting::{line_of, split};
@@ -48,8 +48,8 @@ fn read_line(
     requires { AreArrivals (owners_read tasks.now counters.now) read.old.items }
     ensures read { OnOk result (read.new.items ≡ read.old.items ++ arrivals_of tasks.now counters.now (line.now ∷ [])) }
     ensures in_range { OnOk result (AreArrivals (owners_read tasks.now counters.now) read.new.items) }
-    ensures none { OnOk result (NoFault (LineFault tasks.now counters.now read.old.items number line.now)) }
-    ensures refused { IfErr result (λ error. ErrorIs (LineFault tasks.now counters.now read.old.items number line.now) error) }
+    ensures none { OnOk result (NoFault (ArrivalLineFault tasks.now counters.now read.old.items number line.now)) }
+    ensures refused { IfErr result (λ error. ErrorIs (ArrivalLineFault tasks.now counters.now read.old.items number line.now) error) }
 {
     if let Some(fault) = line_fault(tasks, counters, read.as_slice(), number, line) {
         return Err(BuildError::Refused(fault));

@@ -1,8 +1,8 @@
 //! Reading event lines.
 ghost use Rattle.std.specs.Prelude.{◌≡◌, ℕ, ◌↔◌, Some, IfSome, length};
-ghost use Rattle.sloth_base.specs.ImageRange.{AreNames, AreApart};
+ghost use Rattle.sloth_base.specs.ImageRange.{AreNames, AreNamesApart};
 ghost use Rattle.sloth_base.specs.declared.event.Stamped.{Stamped as AnyEvent};
-ghost use Rattle.line_words.specs.EventNumbers.{HasNumbers, IsNameNumber, IsNumberOrNone, Has32Bits};
+ghost use Rattle.line_words.specs.EventNumbers.{HasEventNumbers, IsNameNumber, IsNumberOrNone, Has32Bits};
 ghost use Rattle.trace_text.specs.EventLines.{IsLineOf, counted_line};
 ghost use Rattle.trace_text.specs.EventsRead.{admit_in, call_in, event_in, is_single, left_in, more_in, named_in, number, of_task, place};
 ghost use Rattle.trace_text.specs.EventsRead.{place_or_none, run_in, stamped_in, tick_in};
@@ -66,7 +66,7 @@ fn place_or_none(names: &[Name], word: &[u8]) -> Option<u32>
 #[tactic(auto, unfolding(crate::specs::EventsRead::run_in))]
 fn run_in(task: u32, functions: &[Name], text: &[u8]) -> Option<Event>
     ensures event { result ≡ run_in task functions.now text.now }
-    ensures numbers { (tasks counters : ℕ) → IsNumberOrNone tasks task → IfSome result (λ event. HasNumbers tasks (length functions.now) counters event) }
+    ensures numbers { (tasks counters : ℕ) → IsNumberOrNone tasks task → IfSome result (λ event. HasEventNumbers tasks (length functions.now) counters event) }
 {
     let func = place(functions, before(text, b' '))?;
     let others = behind(text, b' ');
@@ -84,7 +84,7 @@ fn run_in(task: u32, functions: &[Name], text: &[u8]) -> Option<Event>
 #[tactic(auto, unfolding(crate::specs::EventsRead::call_in))]
 fn call_in(task: u32, text: &[u8]) -> Option<Event>
     ensures event { result ≡ call_in task text.now }
-    ensures numbers { (tasks functions counters : ℕ) → IsNumberOrNone tasks task → IfSome result (λ event. HasNumbers tasks functions counters event) }
+    ensures numbers { (tasks functions counters : ℕ) → IsNumberOrNone tasks task → IfSome result (λ event. HasEventNumbers tasks functions counters event) }
 {
     let service = service_named(before(text, b' '))?;
     let status = number(behind(text, b' '))?;
@@ -99,7 +99,7 @@ fn call_in(task: u32, text: &[u8]) -> Option<Event>
 #[tactic(auto, unfolding(crate::specs::EventsRead::left_in))]
 fn left_in(task: u32, text: &[u8]) -> Option<Event>
     ensures event { result ≡ left_in task text.now }
-    ensures numbers { (tasks functions counters : ℕ) → IsNumberOrNone tasks task → IfSome result (λ event. HasNumbers tasks functions counters event) }
+    ensures numbers { (tasks functions counters : ℕ) → IsNumberOrNone tasks task → IfSome result (λ event. HasEventNumbers tasks functions counters event) }
 {
     let service = service_named(text)?;
     Some(Event::Left { task, service })
@@ -109,7 +109,7 @@ fn left_in(task: u32, text: &[u8]) -> Option<Event>
 #[tactic(auto, unfolding(crate::specs::EventsRead::more_in))]
 fn more_in(kind: &[u8], task: u32, functions: &[Name], text: &[u8]) -> Option<Event>
     ensures event { result ≡ more_in kind.now task functions.now text.now }
-    ensures numbers { (tasks counters : ℕ) → IsNumberOrNone tasks task → IfSome result (λ event. HasNumbers tasks (length functions.now) counters event) }
+    ensures numbers { (tasks counters : ℕ) → IsNumberOrNone tasks task → IfSome result (λ event. HasEventNumbers tasks (length functions.now) counters event) }
 {
     if same(kind, b"run") {
         return run_in(task, functions, text);
@@ -135,7 +135,7 @@ fn is_single(kind: &[u8]) -> bool
 #[tactic(auto, unfolding(crate::specs::EventsRead::of_task))]
 fn of_task(tasks: &[Name], functions: &[Name], kind: &[u8], text: &[u8]) -> Option<Event>
     ensures event { result ≡ of_task tasks.now functions.now kind.now text.now }
-    ensures numbers { (counters : ℕ) → IfSome result (λ event. HasNumbers (length tasks.now) (length functions.now) counters event) }
+    ensures numbers { (counters : ℕ) → IfSome result (λ event. HasEventNumbers (length tasks.now) (length functions.now) counters event) }
 {
     if is_single(kind) {
         let task = place_or_none(tasks, text)?;
@@ -149,7 +149,7 @@ fn of_task(tasks: &[Name], functions: &[Name], kind: &[u8], text: &[u8]) -> Opti
 #[tactic(auto, unfolding(crate::specs::EventsRead::admit_in))]
 fn admit_in(tasks: &[Name], counters: &[Name], text: &[u8]) -> Option<Event>
     ensures event { result ≡ admit_in tasks.now counters.now text.now }
-    ensures numbers { (functions : ℕ) → IfSome result (λ event. HasNumbers (length tasks.now) functions (length counters.now) event) }
+    ensures numbers { (functions : ℕ) → IfSome result (λ event. HasEventNumbers (length tasks.now) functions (length counters.now) event) }
 {
     if let Some(task) = place_or_none(tasks, text) {
         return Some(Event::Admit(task));
@@ -162,7 +162,7 @@ fn admit_in(tasks: &[Name], counters: &[Name], text: &[u8]) -> Option<Event>
 #[tactic(auto, unfolding(crate::specs::EventsRead::tick_in))]
 fn tick_in(counters: &[Name], text: &[u8]) -> Option<Event>
     ensures event { result ≡ tick_in counters.now text.now }
-    ensures numbers { (tasks functions : ℕ) → IfSome result (λ event. HasNumbers tasks functions (length counters.now) event) }
+    ensures numbers { (tasks functions : ℕ) → IfSome result (λ event. HasEventNumbers tasks functions (length counters.now) event) }
 {
     let counter = place_or_none(counters, text)?;
     Some(Event::Tick(counter))
@@ -178,7 +178,7 @@ fn named_in(
     text: &[u8],
 ) -> Option<Event>
     ensures event { result ≡ named_in tasks.now functions.now counters.now kind.now text.now }
-    ensures numbers { IfSome result (λ event. HasNumbers (length tasks.now) (length functions.now) (length counters.now) event) }
+    ensures numbers { IfSome result (λ event. HasEventNumbers (length tasks.now) (length functions.now) (length counters.now) event) }
 {
     if same(kind, b"admit") {
         return admit_in(tasks, counters, text);
@@ -193,7 +193,7 @@ fn named_in(
 #[tactic(auto, unfolding(crate::specs::EventsRead::event_in))]
 fn event_in(tasks: &[Name], functions: &[Name], counters: &[Name], text: &[u8]) -> Option<Event>
     ensures event { result ≡ event_in tasks.now functions.now counters.now text.now }
-    ensures numbers { IfSome result (λ event. HasNumbers (length tasks.now) (length functions.now) (length counters.now) event) }
+    ensures numbers { IfSome result (λ event. HasEventNumbers (length tasks.now) (length functions.now) (length counters.now) event) }
 {
     if let Some(event) = bare_in(text) {
         return Some(event);
@@ -213,7 +213,7 @@ fn stamped_in(tasks: &[Name], functions: &[Name], counters: &[Name], text: &[u8]
     ensures event { result ≡ stamped_in tasks.now functions.now counters.now text.now }
     ensures from { IfSome result (λ e. Has32Bits e.stamp.from) }
     ensures at { IfSome result (λ e. Has32Bits e.stamp.at) }
-    ensures numbers { IfSome result (λ e. HasNumbers (length tasks.now) (length functions.now) (length counters.now) e.event) }
+    ensures numbers { IfSome result (λ e. HasEventNumbers (length tasks.now) (length functions.now) (length counters.now) e.event) }
 {
     let from = number(before(text, b' '))?;
     let others = behind(text, b' ');
@@ -244,7 +244,7 @@ pub fn read_line(text: &[u8], tasks: &[Name], funcs: &[Name], counters: &[Name])
     requires tasks { AreNames tasks.now }
     requires funcs { AreNames funcs.now }
     requires counters { AreNames counters.now }
-    requires apart { AreApart counters.now tasks.now }
+    requires apart { AreNamesApart counters.now tasks.now }
     ensures { (event : AnyEvent) → (result ≡ Some event) ↔ IsLineOf tasks.now funcs.now counters.now event text.now }
 {
     let Some(event) = stamped_in(tasks, funcs, counters, text) else {

@@ -15,7 +15,7 @@ use Rattle.sloth_base.specs.Events.{admitted_line}
 use Rattle.osek_scheduler.specs.InTime.{InTime, AreAllAdmitted, AreLeftOut, others, longest_cut_off_stretch}
 use Rattle.trace_time.specs.Scan.{Scan, scan_start, scan_after_events}
 use Rattle.trace_time.proofs.ScanOrder.{MayFollow, IsBehindScan}
-use Rattle.trace_time.specs.Counts.{AreSmall, SameCounts, admit_numbers, arrival_number, may_leave, last_moment, times}
+use Rattle.trace_time.specs.Counts.{AreLinesInRange, SameCounts, admit_numbers, arrival_number, may_leave, last_moment, times}
 use Rattle.trace_time.proofs.Endings.{Ending}
 use Rattle.trace_time.specs.Timed.{KeptPass, is_late, NeverInTime, TimedBy}
 use Rattle.trace_time.proofs.Counts.{counts_permuted, same_rising, rises}
@@ -51,7 +51,7 @@ scan_is config n arrivals events h =
       keeps = keeps_from_order arrivals events h.in_order;
     })
 
-module _ (config : Config) (n : ℕ) (arrivals : List Arrival) (events : List Stamped) (small : AreSmall events) (lines : All (λ a. a.line < 4294967296) arrivals) (rising : AreRisingMoments 1 arrivals) where
+module _ (config : Config) (n : ℕ) (arrivals : List Arrival) (events : List Stamped) (small : AreLinesInRange events) (lines : All (λ a. a.line < 4294967296) arrivals) (rising : AreRisingMoments 1 arrivals) where
   abbrev count : ℕ
   count = length (admit_numbers events)
 
@@ -88,7 +88,7 @@ module _ (config : Config) (n : ℕ) (arrivals : List Arrival) (events : List St
 
 -- ---- the three answers
 
-module _ (kept : KeptPass) (rising : AreRisingMoments 1 kept.arrivals) (lines : All (λ a. a.line < 4294967296) kept.arrivals) (events : List Stamped) (small : AreSmall events) (timed : TimedBy events kept) where
+module _ (kept : KeptPass) (rising : AreRisingMoments 1 kept.arrivals) (lines : All (λ a. a.line < 4294967296) kept.arrivals) (events : List Stamped) (small : AreLinesInRange events) (timed : TimedBy events kept) where
   abbrev IsInTime : Type 0
   IsInTime = InTime kept.config kept.n kept.arrivals events
 

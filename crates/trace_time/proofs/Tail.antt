@@ -13,7 +13,7 @@ use Rattle.sloth_base.specs.declared.event.Arrival.{Arrival}
 use Rattle.sloth_base.specs.declared.event.Stamped.{Stamped}
 use Rattle.sloth_base.specs.Events.{admitted_line}
 use Rattle.osek_scheduler.specs.InTime.{admits_at, arrivals_at, AreAllAdmitted, AreLeftOut, IsStamped, longest_cut_off_stretch, others}
-use Rattle.trace_time.specs.Counts.{number_at, arrival_number, with_admit, admit_numbers, times, SameCounts, last_moment, may_leave, IsSmall, AreSmall}
+use Rattle.trace_time.specs.Counts.{number_at, arrival_number, with_admit, admit_numbers, times, SameCounts, last_moment, may_leave, IsLineInRange, AreLinesInRange}
 use Rattle.trace_time.proofs.Endings.{Ending}
 use Rattle.trace_time.proofs.Counts.{same_length}
 
@@ -41,14 +41,14 @@ test_is k t a u p q = by (cases_eq (number_at a u) (number_at k t))
         neither (inr x) y = ap (λ b. b && (a == k)) (ne_eqb u t x)
 
 module _ (k t : ℕ) (small : t < 4294967296) where
-  pub admits_counted : (events : List Stamped) → AreSmall events → admits_at k t events ≡ times (number_at k t) (admit_numbers events)
+  pub admits_counted : (events : List Stamped) → AreLinesInRange events → admits_at k t events ≡ times (number_at k t) (admit_numbers events)
   admits_counted [] h = refl
   admits_counted (e ∷ events) h =
       sum_by-cons (λ (x : Stamped). cond (is_number t (admitted_line x.event) && (x.stamp.at == k)) 1 0) e events
-      ∙ (ap (λ n. cond (is_number t (admitted_line e.event) && (e.stamp.at == k)) 1 0 + n) (admits_counted events (All-tail (λ (x : Stamped). IsSmall (admitted_line x.event)) e events h))
-      ∙ by (admitted_line e.event) (All-head (λ (x : Stamped). IsSmall (admitted_line x.event)) e events h))
+      ∙ (ap (λ n. cond (is_number t (admitted_line e.event) && (e.stamp.at == k)) 1 0 + n) (admits_counted events (All-tail (λ (x : Stamped). IsLineInRange (admitted_line x.event)) e events h))
+      ∙ by (admitted_line e.event) (All-head (λ (x : Stamped). IsLineInRange (admitted_line x.event)) e events h))
     where
-      by : (o : Option ℕ) → IsSmall o → cond (is_number t o && (e.stamp.at == k)) 1 0 + times (number_at k t) (admit_numbers events)
+      by : (o : Option ℕ) → IsLineInRange o → cond (is_number t o && (e.stamp.at == k)) 1 0 + times (number_at k t) (admit_numbers events)
           ≡ times (number_at k t) (with_admit o e.stamp.at (admit_numbers events))
       by (Some u) s = ap (λ b. cond b 1 0 + times (number_at k t) (admit_numbers events)) (sym (test_is k t e.stamp.at u small s))
       by None s = omega arith
@@ -62,14 +62,14 @@ module _ (k t : ℕ) (small : t < 4294967296) where
 
 -- a number that no 32 bits hold counts nowhere
 module _ (k t : ℕ) (great : 4294967296 ≤ t) where
-  pub no_admits : (events : List Stamped) → AreSmall events → admits_at k t events ≡ 0
+  pub no_admits : (events : List Stamped) → AreLinesInRange events → admits_at k t events ≡ 0
   no_admits [] h = refl
   no_admits (e ∷ events) h =
       sum_by-cons (λ (x : Stamped). cond (is_number t (admitted_line x.event) && (x.stamp.at == k)) 1 0) e events
-      ∙ (ap (λ n. cond (is_number t (admitted_line e.event) && (e.stamp.at == k)) 1 0 + n) (no_admits events (All-tail (λ (x : Stamped). IsSmall (admitted_line x.event)) e events h))
-      ∙ by (admitted_line e.event) (All-head (λ (x : Stamped). IsSmall (admitted_line x.event)) e events h))
+      ∙ (ap (λ n. cond (is_number t (admitted_line e.event) && (e.stamp.at == k)) 1 0 + n) (no_admits events (All-tail (λ (x : Stamped). IsLineInRange (admitted_line x.event)) e events h))
+      ∙ by (admitted_line e.event) (All-head (λ (x : Stamped). IsLineInRange (admitted_line x.event)) e events h))
     where
-      by : (o : Option ℕ) → IsSmall o → cond (is_number t o && (e.stamp.at == k)) 1 0 + 0 ≡ 0
+      by : (o : Option ℕ) → IsLineInRange o → cond (is_number t o && (e.stamp.at == k)) 1 0 + 0 ≡ 0
       by (Some u) s = ap (λ b. cond (b && (e.stamp.at == k)) 1 0 + 0) (ne_eqb u t (λ same. omega (arith, same, s, great)))
       by None s = refl
 
@@ -188,7 +188,7 @@ same_from_keys xs ys h x =
     let P : ℕ → Type 0 = λ v. times v xs ≡ times v ys in
     subst P is (h (x / 4294967296) (x % 4294967296) (omega arith))
 
-module _ (config : Config) (arrivals : List Arrival) (events : List Stamped) (small : AreSmall events) (lines : All (λ a. a.line < 4294967296) arrivals) where
+module _ (config : Config) (arrivals : List Arrival) (events : List Stamped) (small : AreLinesInRange events) (lines : All (λ a. a.line < 4294967296) arrivals) where
   abbrev SameAt : List Arrival → Type 0
   SameAt front = (k t : ℕ) → admits_at k t events ≡ arrivals_at k t front
 

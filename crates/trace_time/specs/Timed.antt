@@ -9,7 +9,7 @@ use Rattle.trace_time.specs.Scan.{Scan, scan_start, scan_after_events}
 use Rattle.trace_time.specs.Counts.{admit_numbers}
 
 -- the configuration has no more counters and alarms than one in range
-pub record HasFewAlarms (config : Config) : Type 0 where
+pub record HasFewClocks (config : Config) : Type 0 where
   pub counters : length config.counters ≤ counter_limit
   pub alarms : length config.alarms ≤ alarm_limit
 

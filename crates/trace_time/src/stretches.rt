@@ -3,7 +3,7 @@ ghost use Rattle.std.specs.Prelude.{◌≡◌, ◌≤◌, length};
 ghost use Rattle.sloth_base.specs.Named.{alarms_of, most_alarms};
 ghost use Rattle.sloth_base.specs.Stretches.{Boots, longest_stretch, stretch_limit};
 ghost use Rattle.sloth_base.specs.Limits.{counter_limit};
-ghost use Rattle.trace_time.specs.Timed.{HasFewAlarms};
+ghost use Rattle.trace_time.specs.Timed.{HasFewClocks};
 
 use sloth_base::config::Config;
 use sloth_base::limits::{ALARM_INSTRUCTIONS, BOOT_INSTRUCTIONS, STRETCH_INSTRUCTIONS};
@@ -44,7 +44,7 @@ fn most_alarms(config: &Config) -> usize
 
 /// The most instructions of any stretch behind boot.
 pub fn longest_stretch(config: &Config) -> u32
-    requires { HasFewAlarms config.now }
+    requires { HasFewClocks config.now }
     ensures { result ≡ longest_stretch config.now }
 {
     STRETCH_INSTRUCTIONS + ALARM_INSTRUCTIONS * most_alarms(config) as u32

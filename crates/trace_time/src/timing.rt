@@ -6,8 +6,8 @@ ghost use Rattle.sloth_base.specs.declared.event.Stamped.{Stamped as AnyEvent};
 ghost use Rattle.sloth_base.specs.Events.{is_boot};
 ghost use Rattle.sloth_base.specs.Stretches.{longest_stretch};
 ghost use Rattle.osek_scheduler.specs.InTime.{InTime};
-ghost use Rattle.trace_time.specs.Counts.{AreSmall};
-ghost use Rattle.trace_time.specs.Timed.{HasFewAlarms, TimedBy, is_late};
+ghost use Rattle.trace_time.specs.Counts.{AreLinesInRange};
+ghost use Rattle.trace_time.specs.Timed.{HasFewClocks, TimedBy, is_late};
 
 use crate::numbers::{are_admits_of, last_moment, may_leave, push_number};
 use crate::pass::Pass;
@@ -34,7 +34,7 @@ pub struct Timing<'a> {
 }
 
 impl<'a> Model for Timing<'a> {
-    ghost use Rattle.trace_time.specs.Timed.{HasFewAlarms, KeptPass};
+    ghost use Rattle.trace_time.specs.Timed.{HasFewClocks, KeptPass};
 
     ghost Value = { KeptPass };
 
@@ -48,12 +48,12 @@ impl<'a> Model for Timing<'a> {
       stopped = t.stopped;
     } };
 
-    ghost invariant = { λ t. HasFewAlarms t.config.now };
+    ghost invariant = { λ t. HasFewClocks t.config.now };
 }
 
 // How long a stretch is that the end may cut off, behind one event more.
 fn most_behind(config: &Config, event: &Event, most: u32) -> u32
-    requires { HasFewAlarms config.now }
+    requires { HasFewClocks config.now }
     ensures { result ≡ cond (is_boot event.now) (longest_stretch config.now) most }
 {
     match *event {
@@ -65,7 +65,7 @@ fn most_behind(config: &Config, event: &Event, most: u32) -> u32
 impl<'a> Timing<'a> {
     /// Before the first event of a run of n instructions.
     pub fn new(alloc: Global, config: &'a Config, n: u32, arrivals: &'a [Arrival]) -> Timing<'a>
-        requires { HasFewAlarms config.now }
+        requires { HasFewClocks config.now }
         ensures timed { TimedBy [] result }
         ensures config { result.config ≡ config.now }
         ensures n { result.n ≡ n }
@@ -112,7 +112,7 @@ impl<'a> Timing<'a> {
     pub fn in_time(&mut self, alloc: Global) -> Result<bool, NoMemory>
         requires rising { AreRisingMoments 1 self.old.arrivals }
         requires lines { All (λ a. a.line < 4294967296) self.old.arrivals }
-        ensures { IfOk result (λ b. (events : List AnyEvent) → AreSmall events → TimedBy events self.old
+        ensures { IfOk result (λ b. (events : List AnyEvent) → AreLinesInRange events → TimedBy events self.old
             → Decides b (InTime self.old.config self.old.n self.old.arrivals events)) }
     {
         if self.is_late() {

@@ -12,7 +12,7 @@ use Rattle.sloth_base.specs.declared.service.Service.{Service}
 use Rattle.sloth_base.specs.declared.service.Service.TheVariants as service
 use Rattle.text_pieces.specs.Bytes.{is_byte_of}
 use Rattle.asm_lines.proofs.Cuts.{lacks, has_in}
-use Rattle.line_words.specs.EventNumbers.{HasNumbers}
+use Rattle.line_words.specs.EventNumbers.{HasEventNumbers}
 use Rattle.sloth_base.specs.ServiceCodes.{service_name}
 use Rattle.sloth_base.specs.Events.{named_task}
 use Rattle.line_words.specs.EventWords.{name_of, event_text}
@@ -65,7 +65,7 @@ pub and : (a b : List ℕ) → is_byte_of 10 a ≡ false → is_byte_of 10 b ≡
 and a b p q = has_in 10 a b p q
 
 module _ (tasks functions counters : List (List ℕ)) (named : AreNames tasks) (called : AreNames functions) where
-  pub task_lacks : (e : Event) → HasNumbers (length tasks) (length functions) (length counters) e → is_some (named_task e) ≡ true
+  pub task_lacks : (e : Event) → HasEventNumbers (length tasks) (length functions) (length counters) e → is_some (named_task e) ≡ true
       → is_byte_of 10 (event_text tasks functions counters e) ≡ false
   task_lacks (event.Admit t) h named_one = and (codes "admit ") (name_of tasks t) fixed.admit (named_lacks tasks named t)
   task_lacks (event.Enter t) h named_one = and (codes "enter ") (name_of tasks t) fixed.enter (named_lacks tasks named t)

@@ -6,14 +6,14 @@ use Rattle.std.proofs.lemmas.Bool.{eqb-true, false≢true}
 use Rattle.std.proofs.lemmas.List.Elements.{All-cons, All-head, All-tail}
 use Rattle.std.specs.List.{list_any}
 use Rattle.std.proofs.lemmas.Option.{same_Some}
-use Rattle.sloth_base.specs.ImageRange.{AreApart, AreNames}
+use Rattle.sloth_base.specs.ImageRange.{AreNamesApart, AreNames}
 use Rattle.sloth_base.specs.declared.event.Event.{Event}
 use Rattle.sloth_base.specs.declared.event.Event.TheVariants as event
 use Rattle.sloth_base.specs.declared.event.Stamped.{Stamped}
 use Rattle.text_pieces.specs.Bytes.{is_byte_of}
 use Rattle.asm_lines.specs.Operands.{before, behind}
 use Rattle.asm_lines.proofs.Cuts.{has_here, before_is, behind_is}
-use Rattle.line_words.specs.EventNumbers.{HasNumbers}
+use Rattle.line_words.specs.EventNumbers.{HasEventNumbers}
 use Rattle.trace_text.specs.EventLines.{IsLineOf, counted_line}
 use Rattle.line_words.specs.EventWords.{name_of, event_text}
 use Rattle.trace_text.proofs.EventsBack.{stamped_back}
@@ -21,10 +21,10 @@ use Rattle.walked_events.specs.TraceText.{text_of, HasLine, IsEventText, IsFirst
 use Rattle.walked_events.proofs.OneLine.{number_lacks, fixed, named_lacks, and, task_lacks}
 use Rattle.walked_events.proofs.ReadEvents.{HasRead}
 
-module _ (tasks functions counters : List (List ℕ)) (named : AreNames tasks) (called : AreNames functions) (counted : AreNames counters) (apart : AreApart counters tasks) where
+module _ (tasks functions counters : List (List ℕ)) (named : AreNames tasks) (called : AreNames functions) (counted : AreNames counters) (apart : AreNamesApart counters tasks) where
   -- ---- no LF stands in a line
 
-  event_lacks : (e : Event) → HasNumbers (length tasks) (length functions) (length counters) e → is_byte_of 10 (event_text tasks functions counters e) ≡ false
+  event_lacks : (e : Event) → HasEventNumbers (length tasks) (length functions) (length counters) e → is_byte_of 10 (event_text tasks functions counters e) ≡ false
   event_lacks event.Boot h = fixed.boot
   event_lacks (event.Due c) h = and (codes "admit ") (name_of counters c) fixed.admit (named_lacks counters counted c)
   event_lacks (event.Tick c) h = and (codes "tick ") (name_of counters c) fixed.tick (named_lacks counters counted c)
@@ -217,7 +217,7 @@ module _ (tasks functions counters : List (List ℕ)) (text : List ℕ) where
 
 -- ---- what reading a line says
 
-module _ (tasks functions counters : List (List ℕ)) (named : AreNames tasks) (called : AreNames functions) (counted : AreNames counters) (apart : AreApart counters tasks) (text line : List ℕ) where
+module _ (tasks functions counters : List (List ℕ)) (named : AreNames tasks) (called : AreNames functions) (counted : AreNames counters) (apart : AreNamesApart counters tasks) (text line : List ℕ) where
   abbrev ReadsLine : Option Stamped → Type 0
   ReadsLine result = (e : Stamped) → (result ≡ Some e) ↔ IsLineOf tasks functions counters e line
 

@@ -1,6 +1,6 @@
 //! The first event line of a text in the counted form.
 ghost use Rattle.std.specs.Prelude.{IfSome, IfNone};
-ghost use Rattle.sloth_base.specs.ImageRange.{AreApart, AreNames};
+ghost use Rattle.sloth_base.specs.ImageRange.{AreNamesApart, AreNames};
 ghost use Rattle.walked_events.specs.TraceText.{HasFirstLine, HasNoFirstLine};
 
 use sloth_base::event::Stamped;
@@ -18,7 +18,7 @@ pub fn first_event(
     requires tasks { AreNames tasks.now }
     requires funcs { AreNames funcs.now }
     requires counters { AreNames counters.now }
-    requires apart { AreApart counters.now tasks.now }
+    requires apart { AreNamesApart counters.now tasks.now }
     ensures some { IfSome result (λ e. HasFirstLine tasks.now funcs.now counters.now text.now e) }
     ensures none { IfNone result (HasNoFirstLine tasks.now funcs.now counters.now text.now) }
 {

@@ -5,7 +5,7 @@ use Rattle.sloth_base.specs.declared.config.AlarmDecl.{AlarmDecl}
 use Rattle.sloth_base.specs.declared.config.Config.{Config}
 use Rattle.sloth_base.specs.declared.config.CounterDecl.{CounterDecl}
 use Rattle.alarm_gen.specs.declared.alarms.NumberedAlarm.{NumberedAlarm}
-use Rattle.alarm_gen.specs.Alarms.{AreNumbered, alarms_from, counter_alarms}
+use Rattle.alarm_gen.specs.Alarms.{AreAlarmsInRange, alarms_from, counter_alarms}
 use Rattle.alarm_gen.specs.Pieces.{tick_code}
 use Rattle.alarm_gen.specs.Tick.{IsTickCode}
 use Rattle.alarm_gen.proofs.Lengths.{tick_long}
@@ -30,7 +30,7 @@ code-requires c =
     let few = c.requires.range.few_counters in
     let below = c.requires.exists in
     let are = alarms_are config counter _ _ _ c.deref.ensures.value c.in_ok-alarms.ensures c.items.ensures in
-    (omega (arith, few, below), subst AreNumbered (sym are) (numbered config c.requires.range counter))
+    (omega (arith, few, below), subst AreAlarmsInRange (sym are) (numbered config c.requires.range counter))
 
 pub returns-clause-size : goal.returns-clause-size
 returns-clause-size c =

@@ -5,7 +5,7 @@ use Rattle.sloth_base.specs.declared.config.Config.{Config}
 use Rattle.sloth_base.specs.declared.config.TaskDecl.{TaskDecl}
 use Rattle.code_rules.specs.WellFormed.{WellFormed}
 use Rattle.stack_bounds.specs.Bounds.{AreBounds}
-use Rattle.call_graph.specs.Tables.{AreCallable, IsSmall, most_stacked}
+use Rattle.call_graph.specs.Tables.{AreCallable, IsTableInLimit, most_stacked}
 use Rattle.stack_bounds.proofs.Bodies.{bodies_of, callable}
 use Rattle.stack_bounds.proofs.Bounded.{made, bounds, rows}
 use Rattle.stack_bounds.proofs.Rows.{same_stacks, stacks}
@@ -26,7 +26,7 @@ pub bytes_of_tasks-requires-clause-small : goal.bytes_of_tasks-requires-clause-s
 bytes_of_tasks-requires-clause-small c =
     let funcs = c.items-funcs.result.now in
     let able = callables c.args.verified.now.config c.args.verified.now.app funcs c.app.ensures.well_formed (c.items-funcs.ensures ∙ ap (λ (a : App). a.funcs) c.app.ensures.is) in
-    subst (IsSmall funcs) (sym c.deref.ensures.value) (table_small funcs (length funcs) c.in_ok-table.table.items able able.few c.in_ok-table.ensures)
+    subst (IsTableInLimit funcs) (sym c.deref.ensures.value) (table_small funcs (length funcs) c.in_ok-table.table.items able able.few c.in_ok-table.ensures)
 
 pub bytes_of_tasks-requires-clause-bodies : goal.bytes_of_tasks-requires-clause-bodies
 bytes_of_tasks-requires-clause-bodies c =

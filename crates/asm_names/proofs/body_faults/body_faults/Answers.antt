@@ -6,7 +6,7 @@ use Rattle.least_fault.specs.Search.{IsSearchResult, Somewhere}
 use Rattle.least_fault.proofs.Kept.{loop_more, loop_end}
 use Rattle.asm_scopes.specs.Statements.{is_item, label_names}
 use Rattle.asm_scopes.specs.Bodies.{BodyText, body_name, function_names}
-use Rattle.asm_names.specs.NameFaults.{items_in, HeaderFault, LineFault, BodyFault}
+use Rattle.asm_names.specs.NameFaults.{items_in, HeaderFault, LineNameFault, BodyNameFault}
 use Rattle.asm_names.proofs.Fronts.{sum_more, take_map}
 use Rattle.asm_names.proofs.body_faults.body_faults.Goals as goal
 
@@ -21,7 +21,7 @@ loop-n-preserved c =
     let scope = c.args.scope.now in
     let names : take i scope.functions ≡ function_names front = ap (take i) c.requires.functions ∙ take_map body_name xs i in
     let place : i ≡ length front = sym (length-take-le i xs c.loop-n.auto.n-end) in
-    let Inner = λ (n : ℕ). Somewhere (LineFault scope (label_names x.lines) n x.line) x.lines in
+    let Inner = λ (n : ℕ). Somewhere (LineNameFault scope (label_names x.lines) n x.line) x.lines in
     let one = subst (λ (e : List (List ℕ)). IsSearchResult (λ r. HeaderFault scope e i x.line x.header r ⊎ Inner c.loop-n.items r) m) names c.in_ok-found.ensures in
     let two = subst (λ (n : ℕ). IsSearchResult (λ r. HeaderFault scope (function_names front) n x.line x.header r ⊎ Inner c.loop-n.items r) m) place one in
     let found = subst (λ (n : ℕ). IsSearchResult (λ r. HeaderFault scope (function_names front) (length front) x.line x.header r ⊎ Inner n r) m) k.items two in
@@ -30,11 +30,11 @@ loop-n-preserved c =
     let bound = c.count_items-items.ensures.few in
     let same = ap length c.lines.ensures in
     record {
-      finds = loop_more (BodyFault scope) xs i x c.loop-n.least m c.merge-least.result c.loop-n-test.true c.index-bodies-n.is found c.merge-least.ensures k.finds;
+      finds = loop_more (BodyNameFault scope) xs i x c.loop-n.least m c.merge-least.result c.loop-n-test.true c.index-bodies-n.is found c.merge-least.ensures k.finds;
       items = ap (λ n. c.loop-n.items + n) (c.count_items-items.ensures.value ∙ ap (λ (ls : List SourceLine). count_by is_item ls) c.lines.ensures) ∙ ap (λ n. n + items_in x) k.items
           ∙ sum_more items_in xs i x c.loop-n-test.true c.index-bodies-n.is;
       few = omega (arith, few, bound, same, short);
     }
 
 pub returns : goal.returns
-returns c = loop_end (BodyFault c.args.scope.now) c.args.bodies.now c.loop-n.n c.loop-n.least c.loop-n-test.false c.loop-n.invariant.finds
+returns c = loop_end (BodyNameFault c.args.scope.now) c.args.bodies.now c.loop-n.n c.loop-n.least c.loop-n-test.false c.loop-n.invariant.finds

@@ -5,7 +5,7 @@ use Rattle.std.proofs.lemmas.List.{length-take-le}
 use Rattle.least_fault.specs.Search.{IsSearchResult}
 use Rattle.least_fault.proofs.Kept.{loop_more}
 use Rattle.asm_scopes.specs.Statements.{is_label, is_item, name_of, label_names}
-use Rattle.asm_names.specs.NameFaults.{InnerFault, LineFault}
+use Rattle.asm_names.specs.NameFaults.{BodyLineFault, LineNameFault}
 use Rattle.asm_names.proofs.Fronts.{count_more, kept_front}
 use Rattle.asm_names.proofs.body_faults.line_faults.Goals as goal
 
@@ -23,11 +23,11 @@ loop-n-preserved c =
     let names : take c.loop-n.count labels ≡ label_names front =
     ap (take c.loop-n.count) c.requires.labels ∙ ap (λ (n : ℕ). take n (label_names xs)) k.labels ∙ kept_front is_label name_of xs i in
     let place : i ≡ length front = sym (length-take-le i xs c.loop-n.auto.n-end) in
-    let one = subst (λ (e : List (List ℕ)). IsSearchResult (InnerFault scope labels e c.loop-n.items (number + i + 1) x) m) names c.inner_fault-found.ensures in
-    let two = subst (λ (n : ℕ). IsSearchResult (InnerFault scope labels (label_names front) n (number + i + 1) x) m) k.items one in
-    let found = subst (λ (n : ℕ). IsSearchResult (InnerFault scope labels (label_names front) (c.args.items + count_by is_item front) (number + n + 1) x) m) place two in
+    let one = subst (λ (e : List (List ℕ)). IsSearchResult (BodyLineFault scope labels e c.loop-n.items (number + i + 1) x) m) names c.inner_fault-found.ensures in
+    let two = subst (λ (n : ℕ). IsSearchResult (BodyLineFault scope labels (label_names front) n (number + i + 1) x) m) k.items one in
+    let found = subst (λ (n : ℕ). IsSearchResult (BodyLineFault scope labels (label_names front) (c.args.items + count_by is_item front) (number + n + 1) x) m) place two in
     record {
-      finds = loop_more (LineFault scope labels c.args.items number) xs i x c.loop-n.least m c.merge-least.result c.loop-n-test.true c.index-lines-n.is found c.merge-least.ensures k.finds;
+      finds = loop_more (LineNameFault scope labels c.args.items number) xs i x c.loop-n.least m c.merge-least.result c.loop-n-test.true c.index-lines-n.is found c.merge-least.ensures k.finds;
       labels = ap (λ n. c.loop-n.count + n) c.count_label-count.ensures ∙ ap (λ n. n + (if is_label x then 1 else 0)) k.labels
           ∙ count_more is_label xs i x c.loop-n-test.true c.index-lines-n.is;
       items = ap (λ n. c.loop-n.items + n) c.count_item-items.ensures ∙ ap (λ n. n + (if is_item x then 1 else 0)) k.items

@@ -10,7 +10,7 @@ use Rattle.asm_lines.specs.Faults.{SourceCase}
 use Rattle.asm_scopes.specs.declared.scope.Scope.{Scope}
 use Rattle.asm_scopes.specs.Bodies.{BodyText, bodies_of}
 use Rattle.asm_scopes.specs.Scopes.{scope_of}
-use Rattle.asm_names.specs.NameFaults.{is_body_missing, DataFault, BodyFault}
+use Rattle.asm_names.specs.NameFaults.{is_body_missing, DataFault, BodyNameFault}
 use Rattle.asm_scopes.proofs.Short.{few_bodies, short_bodies, EndsBefore}
 use Rattle.asm_names.proofs.judging.fault_in_scope.Goals as goal
 
@@ -34,12 +34,12 @@ returns c =
     let lines = c.args.lines.now in
     let found = c.in_ok-of_bodies.of_bodies in
     let scope = c.requires.scope ∙ ap (scope_of config lines) c.requires.bodies in
-    let of_bodies = subst (λ (s : Scope). IsSearchResult (Somewhere (BodyFault s) (bodies_of lines)) found) scope
-    (subst (λ (bodies : List BodyText). IsSearchResult (Somewhere (BodyFault c.args.scope.now) bodies) found) c.requires.bodies c.in_ok-of_bodies.ensures) in
+    let of_bodies = subst (λ (s : Scope). IsSearchResult (Somewhere (BodyNameFault s) (bodies_of lines)) found) scope
+    (subst (λ (bodies : List BodyText). IsSearchResult (Somewhere (BodyNameFault c.args.scope.now) bodies) found) c.requires.bodies c.in_ok-of_bodies.ensures) in
     let of_tasks = case_found Src (is_body_missing config (bodies_of lines)) c.in_ok-lacks.lacks 1 A7 c.fault_if-of_tasks.result c.fault_if-of_tasks.ensures
     (c.in_ok-lacks.ensures ∙ ap (is_body_missing config) c.requires.bodies) in
-    both_are (Somewhere DataFault lines) (λ r. Somewhere (BodyFault (scope_of config lines (bodies_of lines))) (bodies_of lines) r ⊎ SourceCase (is_body_missing config (bodies_of lines)) 1 A7 r)
+    both_are (Somewhere DataFault lines) (λ r. Somewhere (BodyNameFault (scope_of config lines (bodies_of lines))) (bodies_of lines) r ⊎ SourceCase (is_body_missing config (bodies_of lines)) 1 A7 r)
     c.data_faults-of_data.result c.merge.result c.merge-2.result c.data_faults-of_data.ensures
-    (both_are (Somewhere (BodyFault (scope_of config lines (bodies_of lines))) (bodies_of lines)) (SourceCase (is_body_missing config (bodies_of lines)) 1 A7) found c.fault_if-of_tasks.result c.merge.result of_bodies of_tasks
+    (both_are (Somewhere (BodyNameFault (scope_of config lines (bodies_of lines))) (bodies_of lines)) (SourceCase (is_body_missing config (bodies_of lines)) 1 A7) found c.fault_if-of_tasks.result c.merge.result of_bodies of_tasks
     c.merge.ensures)
     c.merge-2.ensures

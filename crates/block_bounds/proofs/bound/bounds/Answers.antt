@@ -1,5 +1,5 @@
 use Rattle.std.proofs.Common.{sym, subst}
-use Rattle.block_bounds.specs.Bounds.{AreBounds}
+use Rattle.block_bounds.specs.Bounds.{AreToldBounds}
 use Rattle.block_bounds.proofs.KeptTold.{keeps-told}
 use Rattle.block_bounds.proofs.bound.bounds.Goals as goal
 
@@ -7,8 +7,8 @@ pub returns-clause-kept : goal.returns-clause-kept
 returns-clause-kept c =
     let config = c.args.verified.now.config in
     let app = c.args.verified.now.app in
-    let are : AreBounds config app c.from_vec.result =
-    subst (λ x. AreBounds x app c.from_vec.result) c.config.ensures.is
-    (subst (λ x. AreBounds c.config.result.now x c.from_vec.result) c.app.ensures.is
-    (subst (λ x. AreBounds c.config.result.now c.app.result.now x) (sym c.from_vec.ensures) c.in_ok-bounds.ensures)) in
+    let are : AreToldBounds config app c.from_vec.result =
+    subst (λ x. AreToldBounds x app c.from_vec.result) c.config.ensures.is
+    (subst (λ x. AreToldBounds c.config.result.now x c.from_vec.result) c.app.ensures.is
+    (subst (λ x. AreToldBounds c.config.result.now c.app.result.now x) (sym c.from_vec.ensures) c.in_ok-bounds.ensures)) in
     keeps-told config app c.from_vec.result c.config.ensures.well_formed are

@@ -2,13 +2,13 @@ use Rattle.std.proofs.Common.{arith}
 use Rattle.std.proofs.lemmas.Result.{err_from_is_err_and}
 use Rattle.elf_image.proofs.Descriptions.{begins, description-is, no-end, sizes_of}
 use Rattle.elf_image.proofs.Steps.{parts-miss}
-use Rattle.elf_image.specs.Reading.{BeginsWith}
+use Rattle.elf_image.specs.Reading.{HasDescriptionSizes}
 use Rattle.std.proofs.Common.{subst, sym, ℕ, List}
 use Rattle.elf_image.proofs.read.read_description.Goals as goal
 
 pub returns-in_default-clause-failed : goal.returns-in_default-clause-failed
 returns-in_default-clause-failed c =
-    rw c.into.ensures (λ d w e. c.in_default.ensures.none (sizes_of d) (subst (λ (x : List ℕ). BeginsWith x (sizes_of d)) (sym e) (begins d w)))
+    rw c.into.ensures (λ d w e. c.in_default.ensures.none (sizes_of d) (subst (λ (x : List ℕ). HasDescriptionSizes x (sizes_of d)) (sym e) (begins d w)))
 
 pub returns-in_err-outline-clause-failed : goal.returns-in_err-outline-clause-failed
 returns-in_err-outline-clause-failed c =

@@ -1,6 +1,6 @@
 use Rattle.std.proofs.Common.{◌≡◌, ◌∙◌, ◌+◌, ap, subst, take, drop, length}
 use Rattle.std.proofs.lemmas.Result.{err_from_is_err_and, IfErr-weaker}
-use Rattle.elf_image.specs.Reading.{AreRead, IsContentsError, IsDescriptionError, IsDescription, IsNote}
+use Rattle.elf_image.specs.Reading.{AreNamesAndMarks, IsContentsError, IsDescriptionError, IsDescription, IsNote}
 use Rattle.elf_image.proofs.Steps.{both-ok, contents-fail, description-fails, elf-read}
 use Rattle.elf_image.proofs.Whole.{memory-size}
 use Rattle.elf_image.proofs.read.read_whole.Goals as goal
@@ -30,8 +30,8 @@ returns-clause-read c =
     ap (λ x. length x) c.part-memory.ensures ∙ memory-size c.args.bytes.now c.in_ok-size.size frame.0 frame.1 in
     both-ok c.read_contents.result _ _ _ (λ image read memory.
     elf-read c.args.bytes.now c.in_ok-size.size frame.0 frame.1 c.in_ok-length.length is o.tasks.items o.funcs.items o.counters.items o.memory o.count whole image
-    (subst (λ s. AreRead (take c.in_ok-length.length (drop 20 (drop (116 + c.in_ok-size.size) c.args.bytes.now))) o.tasks.items o.funcs.items o.counters.items o.memory o.count s image) size
-    (subst (λ x. AreRead x o.tasks.items o.funcs.items o.counters.items o.memory o.count (length c.part-memory.result.now) image) described read))
+    (subst (λ s. AreNamesAndMarks (take c.in_ok-length.length (drop 20 (drop (116 + c.in_ok-size.size) c.args.bytes.now))) o.tasks.items o.funcs.items o.counters.items o.memory o.count s image) size
+    (subst (λ x. AreNamesAndMarks x o.tasks.items o.funcs.items o.counters.items o.memory o.count (length c.part-memory.result.now) image) described read))
     (memory ∙ c.part-memory.ensures))
     c.read_contents.ensures.read c.read_contents.ensures.memory
 

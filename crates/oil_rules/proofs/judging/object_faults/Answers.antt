@@ -3,7 +3,7 @@ use Rattle.least_fault.specs.Search.{IsSearchResult}
 use Rattle.least_fault.proofs.Kept.{loop_more, loop_end, both_are}
 use Rattle.oil_parse.specs.declared.tree.OilObject.{OilObject}
 use Rattle.oil_rules.specs.ObjectFaults.{is_known, KindFault}
-use Rattle.oil_rules.specs.TreeFaults.{InnerFault, ObjectFault}
+use Rattle.oil_rules.specs.TreeFaults.{KnownObjectFault, ObjectFault}
 use Rattle.oil_rules.proofs.judging.object_faults.Goals as goal
 
 pub loop-number-preserved : goal.loop-number-preserved
@@ -17,8 +17,8 @@ loop-number-preserved c =
     let known = c.in_ok-known.known in
     record {
       finds = loop_more (ObjectFault table scheduler events) objects i x c.loop-number.least c.merge.result c.merge-least.result c.loop-number-test.true c.index-objects-number.is
-          (both_are (KindFault x) (λ r. (is_known x ≡ true) × InnerFault table scheduler events (take i objects) x r) c.kind_fault.result known c.merge.result c.kind_fault.ensures
-          (subst (λ (front : List OilObject). IsSearchResult (λ r. (is_known x ≡ true) × InnerFault table scheduler events front x r) known) c.loop-number.invariant.behind c.in_ok-known.ensures)
+          (both_are (KindFault x) (λ r. (is_known x ≡ true) × KnownObjectFault table scheduler events (take i objects) x r) c.kind_fault.result known c.merge.result c.kind_fault.ensures
+          (subst (λ (front : List OilObject). IsSearchResult (λ r. (is_known x ≡ true) × KnownObjectFault table scheduler events front x r) known) c.loop-number.invariant.behind c.in_ok-known.ensures)
           c.merge.ensures)
           c.merge-least.ensures c.loop-number.invariant.finds;
       behind = c.in_ok-front.ensures;

@@ -1,7 +1,7 @@
 use Rattle.std.proofs.Common.{◌≡◌, ◌∙◌, ◌+◌, List, ◌++◌, length, get_or, sym, ap, subst, arith}
 use Rattle.std.proofs.lemmas.Grind.{common_steps}
 use Rattle.sloth_base.specs.declared.app.Func.{Func}
-use Rattle.expansion_parts.specs.Passes.{IsSmall}
+use Rattle.expansion_parts.specs.Passes.{IsCountable}
 use Rattle.rv32_expand.proofs.InRangeOf.{small}
 use Rattle.rv32_expand.proofs.AllBodies.{one_more, whole, AreSizesTo}
 use Rattle.rv32_expand.proofs.all_sizes.sizes.Goals as goal
@@ -12,7 +12,7 @@ shortest-requires c =
     let body = c.body-item.result in
     let h : length app.funcs ≡ length c.items-body-items.result.now = ap length (sym c.items-body-items.ensures) in
     let e = c.body-item.is ∙ ap (λ (xs : List Func). get_or xs c.loop-body.body-index body) c.items-body-items.ensures in
-    subst (IsSmall app) (sym e) (small app c.requires c.loop-body.body-index body (omega (arith, h, c.loop-body-test.true)))
+    subst (IsCountable app) (sym e) (small app c.requires c.loop-body.body-index body (omega (arith, h, c.loop-body-test.true)))
 
 pub loop-body-preserved : goal.loop-body-preserved
 loop-body-preserved c =

@@ -1,12 +1,12 @@
 use Rattle.std.proofs.Common.{ℕ, ◌+◌, List, subst, sym, arith}
-use Rattle.call_graph.specs.Tables.{IsTable, IsSmall}
+use Rattle.call_graph.specs.Tables.{IsTable, IsTableInLimit}
 use Rattle.stack_bounds.proofs.Depths.{table_small, one_deeper}
 use Rattle.stack_bounds.proofs.calls.most_calls.Goals as goal
 
 pub deeper-requires-clause-small : goal.deeper-requires-clause-small
 deeper-requires-clause-small c =
     let few = c.requires.few in
-    subst (λ (table : List ℕ). IsSmall c.args.funcs.now table) (sym c.deref.ensures.value)
+    subst (λ (table : List ℕ). IsTableInLimit c.args.funcs.now table) (sym c.deref.ensures.value)
     (table_small c.args.funcs.now c.loop-depth._depth c.loop-depth.table.items c.requires (omega arith) c.loop-depth.invariant)
 
 pub loop-depth-preserved : goal.loop-depth-preserved

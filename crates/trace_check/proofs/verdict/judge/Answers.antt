@@ -2,7 +2,7 @@ use Rattle.std.proofs.Common.{◌<◌, List, ℕ, sym, subst}
 use Rattle.std.specs.Prelude.{All, IfOk}
 use Rattle.std.proofs.lemmas.Result.{IfOk-weaker}
 use Rattle.sloth_base.specs.Arrivals.{AreRisingMoments}
-use Rattle.sloth_base.specs.ImageRange.{AreApart, AreNames}
+use Rattle.sloth_base.specs.ImageRange.{AreNamesApart, AreNames}
 use Rattle.sloth_base.specs.declared.event.Arrival.{Arrival}
 use Rattle.trace_check.specs.Answer.{IsVerdict}
 use Rattle.trace_check.specs.Begun.{IsBegun}
@@ -21,7 +21,7 @@ judge_lines-requires-clause-counters c = subst AreNames (sym c.in_ok-names.ensur
 
 pub judge_lines-requires-clause-apart : goal.judge_lines-requires-clause-apart
 judge_lines-requires-clause-apart c =
-    let P : List (List ℕ) → List (List ℕ) → Type 0 = λ cs ts. AreApart cs ts in
+    let P : List (List ℕ) → List (List ℕ) → Type 0 = λ cs ts. AreNamesApart cs ts in
     subst (λ (cs : List (List ℕ)). P cs c.in_ok-names.names.tasks) (sym c.in_ok-names.ensures.counters)
     (subst (λ (ts : List (List ℕ)). P (counter_names c.args.config.now) ts) (sym c.in_ok-names.ensures.tasks)
     c.requires.well_formed.in_range.configuration.counters_apart)

@@ -2,7 +2,7 @@ use Rattle.std.proofs.Common.{arith, ◌∙◌, sym, ap, subst, List, ◌++◌, 
 use Rattle.sloth_base.specs.declared.event.Arrival.{Arrival}
 use Rattle.sloth_base.specs.Arrivals.{AreArrivals}
 use Rattle.least_fault.specs.Order.{NoFault}
-use Rattle.trace_text.specs.ArrivalsText.{LineFault, owners_read}
+use Rattle.trace_text.specs.ArrivalsText.{ArrivalLineFault, owners_read}
 use Rattle.trace_text.proofs.Kept.{last-fits, moment-fits, one-more}
 use Rattle.trace_text.proofs.arrivals.read_line.Goals as goal
 
@@ -19,14 +19,14 @@ returns-in_ok-push_arrival-clause-in_range c =
     let read = c.args.read.now.items in
     let tasks = c.args.tasks.now in
     let counters = c.args.counters.now in
-    let none = subst (λ (xs : List Arrival). NoFault (LineFault tasks counters xs c.args.number c.args.line.now)) c.as_slice.ensures.value c.in_default.ensures in
+    let none = subst (λ (xs : List Arrival). NoFault (ArrivalLineFault tasks counters xs c.args.number c.args.line.now)) c.as_slice.ensures.value c.in_default.ensures in
     subst (AreArrivals (owners_read tasks counters)) (sym (c.in_ok-push_arrival.ensures ∙ ap (λ (a : Arrival). read ++ a ∷ []) c.arrival_of.ensures))
     (one-more tasks counters read c.args.number c.args.line.now none (sym c.is_arrival.ensures ∙ c.if-is_arrival.true) c.requires)
 
 pub returns-in_ok-push_arrival-clause-none : goal.returns-in_ok-push_arrival-clause-none
 returns-in_ok-push_arrival-clause-none c =
-    subst (λ (xs : List Arrival). NoFault (LineFault c.args.tasks.now c.args.counters.now xs c.args.number c.args.line.now)) c.as_slice.ensures.value c.in_default.ensures
+    subst (λ (xs : List Arrival). NoFault (ArrivalLineFault c.args.tasks.now c.args.counters.now xs c.args.number c.args.line.now)) c.as_slice.ensures.value c.in_default.ensures
 
 pub returns-else-is_arrival-clause-none : goal.returns-else-is_arrival-clause-none
 returns-else-is_arrival-clause-none c =
-    subst (λ (xs : List Arrival). NoFault (LineFault c.args.tasks.now c.args.counters.now xs c.args.number c.args.line.now)) c.as_slice.ensures.value c.in_default.ensures
+    subst (λ (xs : List Arrival). NoFault (ArrivalLineFault c.args.tasks.now c.args.counters.now xs c.args.number c.args.line.now)) c.as_slice.ensures.value c.in_default.ensures
