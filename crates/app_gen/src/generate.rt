@@ -15,7 +15,7 @@ use sloth_base::list::List;
 use sloth_base::memory::NoMemory;
 use std::alloc::Global;
 
-/// The application of a seed with so many tasks, 1 to 30: its texts, each of at most 4,194,304 bytes, and 1,000 arrivals at
+/// The application of a seed with so many tasks, from 1 on: its texts, each no longer than a file may be, and 1,000 arrivals at
 /// moments up to 901,000.
 pub fn sample(alloc: Global, seed: u32, tasks: u32) -> Result<Sample, NoMemory>
     requires { (1 ≤ tasks) × (tasks ≤ task_limit) }

@@ -41,7 +41,7 @@ as_short n = if is_within (negsuc 2047) (pos 2047) n then n else pos 0
 abbrev pub number_of : List (List ℕ) → List ℕ → ℕ
 number_of names name = unwrap_or (position (bytes_eq name) names) 0
 
--- the number of a resource; RES_SCHEDULER, where it exists, is 32
+-- the number of a resource; RES_SCHEDULER, where it exists, is behind all others
 abbrev pub resource_number : Scope → List ℕ → ℕ
 resource_number scope name = if is_scheduler scope name then scheduler_number else number_of scope.resources name
 

@@ -4,6 +4,7 @@ use Rattle.std.specs.List.{before_first, after_first}
 use Rattle.std.specs.Str.{bytes_eq}
 use Rattle.hex.specs.declared.error.FromHexError.{FromHexError}
 use Rattle.hex.specs.Hex.{decode_of}
+use Rattle.sloth_base.specs.Limits.{operand_limit}
 use Rattle.asm_lines.specs.declared.operands.Operand.{Operand}
 use Rattle.asm_lines.specs.declared.operands.Operand.TheVariants.{Wrong, Outside, Register, Number, Name, Frame, Direct, Indexed, Bytes}
 use Rattle.asm_lines.specs.declared.operands.Small.{Small}
@@ -23,10 +24,10 @@ before c t = before_first (λ b. b == c) t
 abbrev pub behind : ℕ → List ℕ → List ℕ
 behind c t = after_first (λ b. b == c) t
 
--- a number from 0 to 65,535
+-- a number from 0 to the limit of operands
 abbrev pub small_of : Option ℤ → Small
 small_of None = NoNumber
-small_of (Some (pos n)) = if nat_le n 65535 then Is n else TooFar
+small_of (Some (pos n)) = if nat_le n operand_limit then Is n else TooFar
 small_of (Some (negsuc n)) = TooFar
 
 -- the operand of a register's number

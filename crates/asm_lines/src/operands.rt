@@ -7,6 +7,7 @@ use crate::bytes::trim;
 use crate::numerals::{is_within, number};
 use crate::registers::register;
 use hex::{FromHexError, decode};
+use sloth_base::limits::OPERAND_LIMIT;
 use sloth_base::list::List;
 use sloth_base::memory::NoMemory;
 use sloth_base::name::Name;
@@ -35,7 +36,7 @@ pub enum Operand {
     Bytes(List<u8>),
 }
 
-// A number from 0 to 65,535.
+// A number from 0 to the limit of operands.
 #[derive(Clone, Copy)]
 pub enum Small {
     NoNumber,
@@ -49,7 +50,7 @@ fn small_of(number: Option<i64>) -> Small
     match number {
         None => Small::NoNumber,
         Some(n) => {
-            if n >= 0 && n <= 65_535 {
+            if n >= 0 && n <= OPERAND_LIMIT {
                 Small::Is(n as u32)
             } else {
                 Small::TooFar

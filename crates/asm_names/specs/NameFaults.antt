@@ -16,11 +16,11 @@ use Rattle.asm_scopes.specs.Statements.{is_data, is_task, is_label, is_item, nam
 use Rattle.asm_scopes.specs.Bodies.{BodyText, bodies_of, function_names, task_body_names}
 use Rattle.asm_scopes.specs.Scopes.{scope_of, has_unknown}
 
--- more than 64 bytes
+-- more bytes than a name may have
 abbrev pub is_long : List ℕ → Bool
 is_long name = nat_lt name_limit (length name)
 
--- a name above 64 bytes is written here
+-- a name that is too long is written here
 abbrev pub has_long_name : Option (List ℕ) → Bool
 has_long_name None = false
 has_long_name (Some name) = is_long name
@@ -40,7 +40,7 @@ bytes_of l = if is_data l then number_of l else 0
 abbrev pub is_taken : List (List ℕ) → SourceLine → Bool
 is_taken earlier l = is_data l && (list_any (bytes_eq (name_of l)) earlier || bytes_eq (name_of l) (codes "frame"))
 
--- the 257th symbol, one that brings the sum of sizes above 32,768 bytes, or one of a long name
+-- one symbol too many, one that brings the sum of sizes above the limit, or one of a long name
 abbrev pub is_too_much : ℕ → ℕ → SourceLine → Bool
 is_too_much count bytes l = is_data l && ((count == symbol_limit) || (nat_lt data_limit (bytes + number_of l) || has_long l))
 
@@ -54,7 +54,7 @@ DataFault front l r = SymbolFault (symbol_names front) (count_by is_data front) 
 
 -- ---- headers
 
--- the 65th body, a frame above 32 words, or a long name
+-- one body too many, a frame of too many words, or a long name
 abbrev pub is_too_great : ℕ → SourceLine → Bool
 is_too_great count header = (count == body_limit) || (nat_lt frame_limit (number_of header) || has_long header)
 

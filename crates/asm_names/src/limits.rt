@@ -1,6 +1,7 @@
 //! Long names, and what counts against a limit.
 ghost use Rattle.std.specs.Prelude.{◌≡◌, ◌≤◌, if◌then◌else◌, count_by, length};
 ghost use Rattle.std.specs.List.{list_any};
+ghost use Rattle.sloth_base.specs.Limits.{operand_limit};
 ghost use Rattle.asm_scopes.specs.Statements.{is_data, is_label, is_item, written_name};
 ghost use Rattle.asm_names.specs.NameFaults.{has_long_name, has_long, bytes_of};
 
@@ -36,7 +37,7 @@ pub fn has_long(line: &SourceLine) -> bool
 /// The bytes that a line declares.
 pub fn bytes_of(line: &SourceLine) -> usize
     ensures value { result ≡ bytes_of line.now }
-    ensures bound { result ≤ 65535 }
+    ensures bound { result ≤ operand_limit }
 {
     if is_data(line) {
         number_of(line) as usize

@@ -6,7 +6,7 @@ use Rattle.std.proofs.lemmas.Bool.{leb-true, ltb-false, le-ltb, not-true, or_cas
 use Rattle.std.proofs.lemmas.Bool.Decides.{leb_tells, eqb_tells}
 use Rattle.std.proofs.lemmas.List.{length-append, length-replicate}
 use Rattle.sloth_base.specs.ImageRange.{IsName}
-use Rattle.sloth_base.specs.Limits.{name_limit}
+use Rattle.sloth_base.specs.Limits.{name_limit, operand_limit}
 use Rattle.asm_lines.specs.declared.operands.Operand.{Operand}
 use Rattle.asm_lines.specs.declared.operands.Operand.TheVariants.{Number, Name, Bytes}
 use Rattle.asm_lines.specs.declared.source_line.SourceLine.{SourceLine}
@@ -88,19 +88,19 @@ filled bytes size h =
     let b = length-replicate {A = ℕ} (size - length bytes) 0 in
     omega (arith, a, b, h)
 
-small_is : (n : ℕ) → n ≤ 65535 → (if nat_le n 65535 then n else 0) ≡ n
-small_is n h = ⊎_elim (λ t. rw t.0 refl) (λ t. absurd (let l = t.1 in omega (arith, l, h))) (leb_tells n 65535)
+small_is : (n : ℕ) → n ≤ operand_limit → (if nat_le n operand_limit then n else 0) ≡ n
+small_is n h = ⊎_elim (λ t. rw t.0 refl) (λ t. absurd (let l = t.1 in omega (arith, l, h))) (leb_tells n operand_limit)
 
-sized : (bytes : List ℕ) (z : ℤ) (c : List Operand) (x : Operand) → third_bytes (x ∷ Number z ∷ c) ≡ bytes → is_within (pos 1) (pos 65535) z ≡ true → int_lt z (pos (length bytes)) ≡ false → HasSize (x ∷ Number z ∷ c)
+sized : (bytes : List ℕ) (z : ℤ) (c : List Operand) (x : Operand) → third_bytes (x ∷ Number z ∷ c) ≡ bytes → is_within (pos 1) (pos operand_limit) z ≡ true → int_lt z (pos (length bytes)) ≡ false → HasSize (x ∷ Number z ∷ c)
 sized bytes (pos n) c x is e s =
-    subst (λ bs. (length (bytes_with bs (if nat_le n 65535 then n else 0)) ≡ (if nat_le n 65535 then n else 0)) × (0 < (if nat_le n 65535 then n else 0))) (sym is)
-    (subst (λ k. (length (bytes_with bytes k) ≡ k) × (0 < k)) (sym (small_is n (at_most (pos 1) 65535 n e))) (filled bytes n (ltb-false n (length bytes) s), at_least 1 n (pos 65535) e))
+    subst (λ bs. (length (bytes_with bs (if nat_le n operand_limit then n else 0)) ≡ (if nat_le n operand_limit then n else 0)) × (0 < (if nat_le n operand_limit then n else 0))) (sym is)
+    (subst (λ k. (length (bytes_with bytes k) ≡ k) × (0 < k)) (sym (small_is n (at_most (pos 1) operand_limit n e))) (filled bytes n (ltb-false n (length bytes) s), at_least 1 n (pos operand_limit) e))
 sized bytes (negsuc n) c x is e s = absurd (true≢false (sym e))
 
 two_sized : (a b : Operand) → AllFit m.Data 0 (a ∷ b ∷ []) → HasSize (a ∷ b ∷ [])
-two_sized a b h = number_case (pos 1) (pos 65535) (λ b. HasSize (a ∷ b ∷ [])) (λ z e. by z e) b h.1.0
+two_sized a b h = number_case (pos 1) (pos operand_limit) (λ b. HasSize (a ∷ b ∷ [])) (λ z e. by z e) b h.1.0
   where
-    by : (z : ℤ) → is_within (pos 1) (pos 65535) z ≡ true → HasSize (a ∷ Number z ∷ [])
+    by : (z : ℤ) → is_within (pos 1) (pos operand_limit) z ≡ true → HasSize (a ∷ Number z ∷ [])
     by (pos n) e = sized [] (pos n) [] a refl e (le-ltb n 0 (omega arith))
     by (negsuc n) e = absurd (true≢false (sym e))
 
@@ -109,7 +109,7 @@ bytes_case P f (Bytes bs) h = f bs
 bytes_case P f o h = absurd h
 
 three_sized : (a b c : Operand) → AllFit m.Data 0 (a ∷ b ∷ c ∷ []) → is_long (a ∷ b ∷ c ∷ []) ≡ false → HasSize (a ∷ b ∷ c ∷ [])
-three_sized a b c h = number_case (pos 1) (pos 65535) (λ b. is_long (a ∷ b ∷ c ∷ []) ≡ false → HasSize (a ∷ b ∷ c ∷ []))
+three_sized a b c h = number_case (pos 1) (pos operand_limit) (λ b. is_long (a ∷ b ∷ c ∷ []) ≡ false → HasSize (a ∷ b ∷ c ∷ []))
     (λ z e. bytes_case (λ c. is_long (a ∷ Number z ∷ c ∷ []) ≡ false → HasSize (a ∷ Number z ∷ c ∷ [])) (λ bs s. sized bs z (Bytes bs ∷ []) a refl e s) c h.1.1.0)
     b h.1.0
 

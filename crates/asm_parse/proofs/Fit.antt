@@ -1,6 +1,7 @@
 -- What an operand says that was read in a form.
 use Rattle.std.specs.Prelude.{◌≡◌, ◌≤◌, ℕ, ◌+◌, true, List, [], ◌∷◌}
 use Rattle.sloth_base.specs.ImageRange.{IsWord}
+use Rattle.sloth_base.specs.Limits.{operand_limit}
 use Rattle.asm_lines.specs.declared.operands.Operand.{Operand}
 use Rattle.asm_lines.specs.declared.operands.Operand.TheVariants.{Register, Number, Name, Frame, Direct, Indexed, Bytes}
 use Rattle.statement_forms.specs.declared.forms.Form.{Form}
@@ -12,13 +13,13 @@ use Rattle.code_rules.specs.AppRange.{IsRegister}
 
 -- a place in a symbol
 abbrev pub FitsPlace : Operand → Type 0
-FitsPlace (Direct name k) = IsWord name × (k ≤ 65535)
-FitsPlace (Indexed name r k) = IsWord name × IsRegister r × (k ≤ 65535)
+FitsPlace (Direct name k) = IsWord name × (k ≤ operand_limit)
+FitsPlace (Indexed name r k) = IsWord name × IsRegister r × (k ≤ operand_limit)
 FitsPlace _ = ⊥
 
 -- a place in a symbol or in the frame
 abbrev pub FitsWord : Operand → Type 0
-FitsWord (Frame k) = k ≤ 65535
+FitsWord (Frame k) = k ≤ operand_limit
 FitsWord o = FitsPlace o
 
 -- a register

@@ -3,6 +3,7 @@ use Rattle.std.proofs.Common.{true≢false, ◌≡◌, sym, subst, refl, ⊎_eli
 use Rattle.std.specs.Prelude.{◌==◌, ◌||◌, not, nat_le, nat_lt, int_lt, if◌then◌else◌}
 use Rattle.std.proofs.lemmas.Bool.{eqb-true, leb-true, ltb-false, not-true, or_parts, and_parts}
 use Rattle.std.proofs.lemmas.Bool.Decides.{leb_tells, eqb_tells}
+use Rattle.sloth_base.specs.Limits.{operand_limit}
 use Rattle.sloth_base.specs.declared.app.App.{App}
 use Rattle.sloth_base.specs.declared.app.Func.{Func}
 use Rattle.sloth_base.specs.declared.app.Op.{Op}
@@ -131,15 +132,15 @@ module _ (config : Config) (app : App) (f : Func) (scope : Scope) (labels : List
   HasWidth Load w = Unit {0}
   HasWidth Store w = IsStored w
 
-  frame_range : (a : Access) (s k : ℕ) → IsRegister s → k ≤ 65535 → IsOp config app f (frame_op a s k)
+  frame_range : (a : Access) (s k : ℕ) → IsRegister s → k ≤ operand_limit → IsOp config app f (frame_op a s k)
   frame_range Load s k r h = (r, h)
   frame_range Store s k r h = (r, h)
 
-  symbol_range : (a : Access) (w : Width) (s y k : ℕ) → HasWidth a w → IsRegister s → IsSymbol app y → k ≤ 65535 → IsOp config app f (symbol_op a w s y k)
+  symbol_range : (a : Access) (w : Width) (s y k : ℕ) → HasWidth a w → IsRegister s → IsSymbol app y → k ≤ operand_limit → IsOp config app f (symbol_op a w s y k)
   symbol_range Load w s y k g r e h = (r, e, h)
   symbol_range Store w s y k g r e h = (g, r, e, h)
 
-  element_range : (a : Access) (w : Width) (s y i k : ℕ) → HasWidth a w → IsRegister s → IsSymbol app y → IsRegister i → k ≤ 65535
+  element_range : (a : Access) (w : Width) (s y i k : ℕ) → HasWidth a w → IsRegister s → IsSymbol app y → IsRegister i → k ≤ operand_limit
       → IsOp config app f (element_op a w s y i k)
   element_range Load w s y i k g r e j h = (r, e, j, h)
   element_range Store w s y i k g r e j h = (g, r, e, j, h)

@@ -13,6 +13,7 @@ use Rattle.hex.specs.declared.error.FromHexError.{FromHexError}
 use Rattle.hex.specs.Hex.{decode_of}
 use Rattle.text_pieces.specs.Bytes.{is_name, is_byte_of}
 use Rattle.sloth_base.specs.ImageRange.{IsWord, begins_word, continues_word}
+use Rattle.sloth_base.specs.Limits.{operand_limit}
 use Rattle.asm_lines.specs.declared.operands.Operand.{Operand}
 use Rattle.asm_lines.specs.declared.operands.Operand.TheVariants.{Wrong, Outside, Register, Number, Name, Frame, Direct, Indexed, Bytes}
 use Rattle.asm_lines.specs.declared.operands.Small.{Small}
@@ -109,15 +110,15 @@ either : (P : Operand → Type 0) (b : Bool) (o p : Operand) → Sound P o → S
 either P true o p f g = f
 either P false o p f g = g
 
--- a number that is at most 65,535
+-- a number within the limit of operands
 abbrev IsSmall : Small → Type 0
-IsSmall (Is k) = k ≤ 65535
+IsSmall (Is k) = k ≤ operand_limit
 IsSmall _ = Unit {0}
 
 is_small : (o : Option ℤ) → IsSmall (small_of o)
 is_small None = tt
 is_small (Some (negsuc n)) = tt
-is_small (Some (pos n)) = ⊎_elim (λ t. rw t.0 t.1) (λ t. rw t.0 tt) (leb_tells n 65535)
+is_small (Some (pos n)) = ⊎_elim (λ t. rw t.0 t.1) (λ t. rw t.0 tt) (leb_tells n operand_limit)
 
 direct_sound : (t : List ℕ) (k : Small) → IsSmall k → Sound FitsPlace (direct_operand t k)
 direct_sound t NoNumber h = named FitsPlace t Wrong (λ w. wrong_sound FitsPlace)

@@ -1,5 +1,6 @@
 -- What a line of task source says: what it declares, and the names that it writes.
 use Rattle.std.specs.Prelude.{ℕ, ℤ, pos, negsuc, Bool, true, false, nat_le, if◌then◌else◌, List, [], ◌∷◌, map, filter, Option, Some, None}
+use Rattle.sloth_base.specs.Limits.{operand_limit}
 use Rattle.asm_lines.specs.declared.operands.Operand.{Operand}
 use Rattle.asm_lines.specs.declared.operands.Operand.TheVariants as o
 use Rattle.asm_lines.specs.declared.source_line.SourceLine.{SourceLine}
@@ -59,9 +60,9 @@ abbrev pub name_of : SourceLine → List ℕ
 name_of (Statement m os) = first_name os
 name_of _ = []
 
--- a number from 0 to 65,535
+-- a number from 0 to the limit of operands
 abbrev pub small_value : ℤ → ℕ
-small_value (pos n) = if nat_le n 65535 then n else 0
+small_value (pos n) = if nat_le n operand_limit then n else 0
 small_value (negsuc n) = 0
 
 -- the number behind the name, 0 where there is none

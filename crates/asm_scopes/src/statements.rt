@@ -1,8 +1,10 @@
 //! What a line of task source says: what it declares, and the names that it writes.
 ghost use Rattle.std.specs.Prelude.{◌≡◌, ◌≤◌, map, filter, IfOk, option_copied};
+ghost use Rattle.sloth_base.specs.Limits.{operand_limit};
 ghost use Rattle.asm_scopes.specs.Statements.{is_data, opens_body, closes_body, is_task, is_label, is_action, is_item, first_name, name_of, small_value, second_number, number_of, written_name, declares, symbol_names, label_names};
 
 use asm_lines::{Mnemonic, Operand, SourceLine, closes, opens};
+use sloth_base::limits::OPERAND_LIMIT;
 use sloth_base::memory::NoMemory;
 use std::alloc::Global;
 use text_pieces::names::Names;
@@ -109,9 +111,9 @@ pub fn name_of(line: &SourceLine) -> &[u8]
 
 fn small(number: i64) -> u32
     ensures value { result ≡ small_value number }
-    ensures bound { result ≤ 65535 }
+    ensures bound { result ≤ operand_limit }
 {
-    if number >= 0 && number <= 65_535 {
+    if number >= 0 && number <= OPERAND_LIMIT {
         number as u32
     } else {
         0
@@ -120,7 +122,7 @@ fn small(number: i64) -> u32
 
 fn second_number(operands: &[Operand]) -> u32
     ensures value { result ≡ second_number operands.now }
-    ensures bound { result ≤ 65535 }
+    ensures bound { result ≤ operand_limit }
 {
     match operands {
         [_, Operand::Number(number), ..] => small(*number),
@@ -131,7 +133,7 @@ fn second_number(operands: &[Operand]) -> u32
 /// The size of a symbol, or the words of a frame: the number behind the name, 0 where there is none.
 pub fn number_of(line: &SourceLine) -> u32
     ensures value { result ≡ number_of line.now }
-    ensures bound { result ≤ 65535 }
+    ensures bound { result ≤ operand_limit }
 {
     match line {
         SourceLine::Statement { operands, .. } => second_number(operands.items()),

@@ -12,7 +12,7 @@ use Rattle.bound_rules.specs.declared.bound.Bound.TheVariants as bound
 use Rattle.bound_rules.specs.declared.sizes.Summary.{Summary}
 use Rattle.bound_rules.specs.Tasks.{task_at, task_summary}
 
--- what is told of task h is so: its bound, up to 1,000,000; or that it is above that; or that sections have no greatest size
+-- what is told of task h is so: its bound, up to the greatest that is told; or that it is above that; or that sections have no greatest size
 abbrev pub IsTold : Config → App → (h : ℕ) → Bound → Type 0
 IsTold config app h (bound.Items n) = IsBound config app h n × (n ≤ greatest_told_bound)
 IsTold config app h bound.Huge = ExceedsBound config app h greatest_told_bound

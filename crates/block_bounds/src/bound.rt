@@ -206,7 +206,7 @@ fn bounds_of(
     bounds_by(alloc, config, app, &bodies, &order, &whole)
 }
 
-/// The blocking bound of each task, 0 to 1,000,000 items, or that it is above that, or that there is none.
+/// The blocking bound of each task in items, or that it is above the greatest that is told, or that there is none.
 pub fn bounds(alloc: Global, verified: &Verified, ranks: &Ranks) -> Result<List<Bound>, NoMemory>
     requires { RanksOf verified.now.app ranks.now }
     ensures exact { IfOk result (AreToldBounds verified.now.config verified.now.app) }

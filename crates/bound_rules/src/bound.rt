@@ -12,9 +12,9 @@ use stack_bounds::task_bodies::body_of;
 /// How much work of lower tasks may stand between a task's becoming Ready and its entry.
 #[derive(Clone, Copy)]
 pub enum Bound {
-    /// At most so many items, 0 to 1,000,000: 0 where no task is lower.
+    /// At most so many items, 0 to the greatest that is told: 0 where no task is lower.
     Items(u32),
-    /// More than 1,000,000 items, but not without limit.
+    /// More than the greatest that is told, but not without limit.
     Huge,
     /// Without limit.
     Endless,

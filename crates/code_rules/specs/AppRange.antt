@@ -18,7 +18,7 @@ use Rattle.sloth_base.specs.ConfigRange.{no_event}
 use Rattle.sloth_base.specs.ImageRange.{AreNames}
 use Rattle.sloth_base.specs.Named.{function, IsBodyOf}
 use Rattle.sloth_base.specs.ServiceCodes.{object_kind, has_mask}
-use Rattle.sloth_base.specs.Limits.{body_limit, item_limit, symbol_limit, data_limit, frame_limit}
+use Rattle.sloth_base.specs.Limits.{body_limit, item_limit, symbol_limit, data_limit, frame_limit, operand_limit}
 
 -- ---- operands
 
@@ -114,12 +114,12 @@ IsOp config app f (op.Alu kind rd a b) = IsRegister rd × IsRegister a × IsRegi
 IsOp config app f (op.AluImm kind rd a n) = IsRegister rd × IsRegister a × IsNumberOf kind n
 IsOp config app f (op.Lui rd n) = IsRegister rd × (n ≤ 1048575)
 IsOp config app f (op.Li rd n) = IsRegister rd × (n ≤ 4294967295)
-IsOp config app f (op.FrameLoad rd word) = IsRegister rd × (word ≤ 65535)
-IsOp config app f (op.FrameStore rs word) = IsRegister rs × (word ≤ 65535)
-IsOp config app f (op.Load w rd y offset) = IsRegister rd × IsSymbol app y × (offset ≤ 65535)
-IsOp config app f (op.Store w rs y offset) = IsStored w × IsRegister rs × IsSymbol app y × (offset ≤ 65535)
-IsOp config app f (op.LoadAt w rd y index mask) = IsRegister rd × IsSymbol app y × IsRegister index × (mask ≤ 65535)
-IsOp config app f (op.StoreAt w rs y index mask) = IsStored w × IsRegister rs × IsSymbol app y × IsRegister index × (mask ≤ 65535)
+IsOp config app f (op.FrameLoad rd word) = IsRegister rd × (word ≤ operand_limit)
+IsOp config app f (op.FrameStore rs word) = IsRegister rs × (word ≤ operand_limit)
+IsOp config app f (op.Load w rd y offset) = IsRegister rd × IsSymbol app y × (offset ≤ operand_limit)
+IsOp config app f (op.Store w rs y offset) = IsStored w × IsRegister rs × IsSymbol app y × (offset ≤ operand_limit)
+IsOp config app f (op.LoadAt w rd y index mask) = IsRegister rd × IsSymbol app y × IsRegister index × (mask ≤ operand_limit)
+IsOp config app f (op.StoreAt w rs y index mask) = IsStored w × IsRegister rs × IsSymbol app y × IsRegister index × (mask ≤ operand_limit)
 IsOp config app f (op.Branch kind a b k) = IsRegister a × IsRegister b × IsLabel f k
 IsOp config app f (op.Jump k) = IsLabel f k
 IsOp config app f (op.Invoke g) = IsCallable app g

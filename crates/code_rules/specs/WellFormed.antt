@@ -38,7 +38,7 @@ IsUneven (op.LoadAt w rd y index mask) = mask % size_of w ≢ 0
 IsUneven (op.StoreAt w rs y index mask) = mask % size_of w ≢ 0
 IsUneven _ = ⊥
 
--- V4: a mask above 32,767, or mask plus access size above the symbol's size
+-- V4: a mask above the limit, or mask plus access size above the symbol's size
 abbrev pub IsMaskPast : App → Op → Type 0
 IsMaskPast app (op.LoadAt w rd y index mask) = (mask_limit < mask) ⊎ (symbol_size app y < mask + size_of w)
 IsMaskPast app (op.StoreAt w rs y index mask) = (mask_limit < mask) ⊎ (symbol_size app y < mask + size_of w)

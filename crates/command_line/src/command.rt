@@ -15,7 +15,7 @@ pub struct RunWords<'a> {
     /// How the events are printed: `run` counts, `order` does not.
     pub form: Form,
     pub arr: &'a str,
-    /// The number of instructions, 0 to 1,000,000.
+    /// The number of instructions, 0 to `COUNT_LIMIT`.
     pub n: u32,
 }
 
@@ -34,7 +34,7 @@ pub struct BuildWords<'a> {
 pub struct ExecWords<'a> {
     pub img: &'a str,
     pub arr: &'a str,
-    /// The number of instructions, 0 to 1,000,000.
+    /// The number of instructions, 0 to `COUNT_LIMIT`.
     pub n: u32,
 }
 

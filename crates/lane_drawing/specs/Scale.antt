@@ -3,7 +3,7 @@ use Rattle.std.specs.Prelude.{ℕ, ◌+◌, ◌-◌, ◌*◌, ◌/◌, ◌%◌, 
 use Rattle.sloth_base.specs.Limits.{picture_limit, count_limit}
 use Rattle.lane_drawing.specs.declared.scale.Scale.{Scale}
 
--- A scale that has its counts in order, 100,000 at most of the first 1,000,000, in a chart that begins 600 pixels from the left at most.
+-- A scale that has its counts in order, no more than a picture shows and of those that a run may have, in a chart that begins 600 pixels from the left at most.
 pub record IsScale (scale : Scale) : Type 0 where
   pub ordered : scale.from ≤ scale.to
   pub short : scale.to ≤ scale.from + picture_limit

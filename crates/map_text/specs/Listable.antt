@@ -6,7 +6,7 @@ use Rattle.sloth_region.specs.declared.map.Map.{Map}
 use Rattle.mem_map.specs.Stacks.{address_behind_data}
 use Rattle.map_text.specs.Rows.{address_behind_code}
 
--- its zones end at addresses of 32 bits, and there are at most 30 tasks and 2 counters
+-- its zones end at addresses of 32 bits, and there are no more tasks and counters than a configuration may have
 pub record IsListable (config : Config) (map : Map) : Type 0 where
   pub code : address_behind_code map < 4294967296
   pub data_zone : address_behind_data map < 4294967296

@@ -73,7 +73,7 @@ small_prologue config app t size well p =
     let bound = short_prologue p.decl.extended p.func.frame_words in
     (omega (arith, is, bound.0), omega (arith, is, bound.1, words))
 
--- a tick, of at most 32 alarms
+-- a tick, of no more alarms than there may be
 small_tick : (config : Config) (app : App) (c size : ℕ) → WellFormed config app → size ≡ tick_length c config.alarms → IsSmallTick size
 small_tick config app c size well is =
     let few = well.in_range.configuration.few_alarms in

@@ -60,7 +60,7 @@ comes_behind kind limit front object = is_of_kind kind object && (count_by (is_o
 abbrev pub is_clock_above : List OilObject → OilObject → Bool
 is_clock_above front object = comes_behind (codes "COUNTER") counter_limit front object || comes_behind (codes "ALARM") alarm_limit front object
 
--- the 31st task, the 33rd resource or event, the 3rd counter, the 33rd alarm, or a name of more than 64 bytes
+-- one task, resource, event, counter or alarm too many, or a name of too many bytes
 abbrev pub is_above : List OilObject → OilObject → Bool
 is_above front object =
     comes_behind (codes "TASK") task_limit front object || (comes_behind (codes "RESOURCE") resource_limit front object

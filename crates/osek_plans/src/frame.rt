@@ -5,7 +5,7 @@ ghost use Rattle.sloth_base.specs.Limits.{frame_limit};
 use sloth_base::limits::FRAME_LIMIT;
 use std::marker::Model;
 
-/// A function that was entered, with room for 32 words.
+/// A function that was entered, with room for `FRAME_LIMIT` words.
 #[derive(Drop)]
 pub struct FrameRoom {
     func: u32,
@@ -27,7 +27,7 @@ impl Model for FrameRoom {
 }
 
 impl FrameRoom {
-    /// A function as it is entered, with so many words, at most 32.
+    /// A function as it is entered, with so many words, at most `FRAME_LIMIT`.
     pub fn entry(func: u32, words: u32) -> FrameRoom
         requires { words ≤ frame_limit }
         ensures { result ≡ record { func = func; item = 0; words = replicate words 0 } }

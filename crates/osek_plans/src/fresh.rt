@@ -5,7 +5,7 @@ ghost use Rattle.sloth_base.specs.Limits.{task_limit};
 use sloth_base::limits::TASK_LIMIT;
 use std::marker::Model;
 
-/// The tasks that admitted arrivals made Ready since the last event of another kind, with room for 30. The newest is the first.
+/// The tasks that admitted arrivals made Ready since the last event of another kind, with room for `TASK_LIMIT`. The newest is the first.
 #[derive(Drop)]
 pub struct Fresh {
     first: usize,

@@ -8,7 +8,7 @@ use sloth_base::memory::NoMemory;
 use std::alloc::Global;
 use std::marker::Model;
 
-/// The resources that a task holds, in the order taken, with room for 33.
+/// The resources that a task holds, in the order taken, with room for `CEILING_COUNT`.
 #[derive(Drop)]
 pub struct Held {
     resources: Vec<u32>,

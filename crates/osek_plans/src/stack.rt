@@ -12,7 +12,7 @@ use sloth_base::memory::NoMemory;
 use std::alloc::Global;
 use std::marker::Model;
 
-/// The functions in progress, with room for 64. Contracts see the innermost first.
+/// The functions in progress, with room for `BODY_LIMIT`. Contracts see the innermost first.
 #[derive(Drop)]
 pub struct Stack {
     frames: Vec<FrameRoom>,

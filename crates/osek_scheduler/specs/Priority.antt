@@ -18,7 +18,7 @@ greatest (x ∷ xs) = max x (greatest xs)
 abbrev pub highest_priority : Config → ℕ
 highest_priority config = greatest (map (λ d. d.priority) config.tasks)
 
--- The ceiling of a resource: the highest priority of the tasks that list it. That of RES_SCHEDULER, 32, is the highest of all.
+-- The ceiling of a resource: the highest priority of the tasks that list it. That of RES_SCHEDULER is the highest of all.
 abbrev pub ceiling : Config → ℕ → ℕ
 ceiling config r = cond (r == scheduler_number) (highest_priority config) (greatest (map (λ d. d.priority) (filter (λ d. is_in r d.resources) config.tasks)))
 

@@ -103,7 +103,7 @@ allows_absolute d start cycle = leb start d.max && allows_cycle d cycle
 abbrev pub is_task : Config → ℕ → Bool
 is_task config t = ltb t (length config.tasks)
 
--- a resource by its number; that of RES_SCHEDULER is 32
+-- a resource by its number, RES_SCHEDULER too
 abbrev pub is_resource : Config → ℕ → Bool
 is_resource config r = cond (r == scheduler_number) config.res_scheduler (ltb r (length config.resources))
 

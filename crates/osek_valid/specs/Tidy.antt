@@ -17,7 +17,7 @@ pub record IsTidy (config : Config) (app : App) (t : ℕ) (own : Task) : Type 0 
   pub asleep : own.state ≡ mode.Suspended → (own.frames ≡ []) × (own.events ≡ 0)
   -- a task whose scheduling is NON that holds a resource has its internal resource too
   pub raised_by : (r : ℕ) → is_in r own.held ≡ true → own.raised ≡ (declaration config t).non
-  -- RES_SCHEDULER has the greatest number, 32
+  -- RES_SCHEDULER has the greatest number
   pub few : (r : ℕ) → is_in r own.held ≡ true → r < ceiling_count
   pub events_small : own.events < 0x1_0000_0000
   pub wait_small : (mask : ℕ) → own.state ≡ mode.Waiting mask → mask < 0x1_0000_0000

@@ -74,7 +74,7 @@ impl<'a> Sampler<'a> {
         }
     }
 
-    /// The levels of the lines of the image's tasks, in 30 places.
+    /// The levels of the lines of the image's tasks, in `TASK_LIMIT` places.
     pub fn levels(&mut self) -> [u8; TASK_LIMIT]
         requires sampling { IsSampling self.old }
         ensures levels { AreSampledLevels (sampled_image self.old) (sampled_arrivals self.old) (sampled_count self.old) result }

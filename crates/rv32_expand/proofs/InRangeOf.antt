@@ -12,7 +12,7 @@ use Rattle.sloth_base.specs.Limits.{frame_limit}
 use Rattle.code_rules.specs.AppRange.{IsTaskCode}
 use Rattle.expansion_parts.specs.Passes.{IsCountable}
 
--- a frame has at most 32 words
+-- a frame has no more words than the limit
 pub frame_of : (app : App) → IsTaskCode app → (func : ℕ) → (function app func).frame_words ≤ frame_limit
 frame_of app code func =
     ⊎_elim

@@ -20,7 +20,7 @@ use Rattle.code_rules.specs.WellFormed.{IsAccessPast, IsMaskPast, WellFormed, Is
 use Rattle.rv32_instr.specs.Range.{IsEven}
 use Rattle.expansion_parts.specs.Expansion.{item_address, symbol_address, block_address, label_address, distance, mask_of, is_long, operation_code, expansion}
 use Rattle.sloth_base.specs.Named.{operation}
-use Rattle.sloth_base.specs.Limits.{mask_limit, frame_limit}
+use Rattle.sloth_base.specs.Limits.{mask_limit, frame_limit, operand_limit}
 use Rattle.rv32_expand.specs.NumberRange.{HasBranchRoom, HasNumbersInRange}
 use Rattle.rv32_expand.specs.InPlace.{IsAppItem}
 use Rattle.expansion_parts.specs.Long.{target_of, IsBranchTo, AreLongBranches, IsInBranchReach}
@@ -177,7 +177,7 @@ module _ (config : Config) (app : App) (well : WellFormed config app) (places : 
       test_reaches address (item_address places func target) w.2 v.2
       (reaches app places agree func item.declared index target g t.inside (sym (told app places agree func item.declared index target g n.inside) ∙ e))
 
-  in_ram : (symbol offset : ℕ) → symbol < length app.symbols → offset ≤ 65535 → symbol_address places symbol + offset < 2 ^ 32
+  in_ram : (symbol offset : ℕ) → symbol < length app.symbols → offset ≤ operand_limit → symbol_address places symbol + offset < 2 ^ 32
   in_ram symbol offset h k = let v = covers.symbols symbol h in omega (arith, v.1)
 
   -- one operation; `is` says that it is this item's

@@ -99,7 +99,7 @@ fn text_with(
     Ok(text)
 }
 
-/// The picture of a run of an image with arrivals, from one count to below another: at most 1,000,000, and 100,000 more than the first.
+/// The picture of a run of an image with arrivals, from one count to below another: at most `COUNT_LIMIT`, and `PICTURE_LIMIT` more than the first.
 pub fn draw(
     alloc: Global,
     image: &Image,

@@ -15,7 +15,7 @@ use sloth_base::numbers::RES_SCHEDULER;
 use std::alloc::Global;
 use text_pieces::growth::push;
 
-/// The ceilings of the resources 0 to 32.
+/// The ceilings of all resources, that of RES_SCHEDULER behind the others.
 pub fn ceilings(alloc: Global, config: &Config) -> Result<Vec<u32>, NoMemory>
     ensures { IfOk result (λ table. AreResourceCeilings config.now table.items) }
 {

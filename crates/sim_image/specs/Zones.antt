@@ -55,7 +55,7 @@ pub record IsInCode (map : Map) (block : Block) : Type 0 where
   pub from : (code_zone map).base ≤ block.at
   pub to : block.at + 4 * length block.code ≤ (code_zone map).base + (code_zone map).len
 
--- a configuration has at most 2 counters and 32 alarms: the service words have room for theirs
+-- a configuration has no more counters and alarms than the service words have room for
 abbrev pub HasFewAlarms : Config → Type 0
 HasFewAlarms config = (length config.counters ≤ counter_limit) × (length config.alarms ≤ alarm_limit)
 

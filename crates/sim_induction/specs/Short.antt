@@ -37,7 +37,7 @@ abbrev pub passed_length : View → RunPiece → ℕ → ℕ
 passed_length view (Outside step) before = passed_count (outside_events (mark_at view step.pc) view step) before
 passed_length view (Stretch steps) before = 0
 
--- they are at most 40
+-- they are at most `unseen_counts`
 abbrev pub HasShortGaps : View → ℕ → List RunPiece → Type 0
 HasShortGaps view before [] = Unit {0}
 HasShortGaps view before (piece ∷ rest) = (passed_length view piece before ≤ unseen_counts) × HasShortGaps view (passed_length view piece before) rest

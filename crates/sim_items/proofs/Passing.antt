@@ -5,6 +5,7 @@ use Rattle.std.proofs.lemmas.Bool.{le-leb, lt-ltb, lt-leb, le-ltb, and_from, and
 use Rattle.std.proofs.lemmas.List.{set-get_or}
 use Rattle.sloth_base.specs.declared.event.Arrival.{Arrival}
 use Rattle.sloth_base.specs.Machine.{Core, State}
+use Rattle.sloth_base.specs.Limits.{unseen_counts}
 use Rattle.sloth_base.specs.MemoryMap.{memory_base, memory_bytes}
 use Rattle.sloth_region.specs.Layout.{cur, context_bytes}
 use Rattle.rv32_instr.specs.Execute.{Going, step, touched, touched_line_by, perform}
@@ -42,13 +43,13 @@ use Rattle.sim_items.proofs.Outside as outside
 pub at_done : (address count done : ℕ) → done < count → passed_count_at address count (address + 4 * done) ≡ done
 at_done address count done h =
     let z : (address + 4 * done - address) / 4 ≡ done = omega arith in
-    ap (λ b. cond b ((address + 4 * done - address) / 4) 40)
+    ap (λ b. cond b ((address + 4 * done - address) / 4) unseen_counts)
     (and_from _ _ (le-leb address (address + 4 * done) (omega arith)) (lt-ltb (address + 4 * done) (address + 4 * count) (omega arith))) ∙ z
 
 -- elsewhere the measure has its greatest value
-pub at_none : (address count pc : ℕ) → (pc < address) ⊎ (address + 4 * count ≤ pc) → passed_count_at address count pc ≡ 40
-at_none address count pc (inl h) = ap (λ b. cond b ((pc - address) / 4) 40) (and_left _ _ (lt-leb address pc h))
-at_none address count pc (inr h) = ap (λ b. cond b ((pc - address) / 4) 40) (and_right _ _ (le-ltb pc (address + 4 * count) h))
+pub at_none : (address count pc : ℕ) → (pc < address) ⊎ (address + 4 * count ≤ pc) → passed_count_at address count pc ≡ unseen_counts
+at_none address count pc (inl h) = ap (λ b. cond b ((pc - address) / 4) unseen_counts) (and_left _ _ (lt-leb address pc h))
+at_none address count pc (inr h) = ap (λ b. cond b ((pc - address) / 4) unseen_counts) (and_right _ _ (le-ltb pc (address + 4 * count) h))
 
 -- ---- what it leaves
 

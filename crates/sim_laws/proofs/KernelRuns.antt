@@ -16,7 +16,7 @@ use Rattle.expansion_parts.proofs.Counts.{size_is, size_few}
 use Rattle.rv32_expand.proofs.InRangeOf.{frame_of}
 use Rattle.expansion_parts.specs.Expansion.{item_address, is_long, expansion}
 use Rattle.sloth_base.specs.Named.{operation}
-use Rattle.sloth_base.specs.Limits.{count_limit}
+use Rattle.sloth_base.specs.Limits.{count_limit, unseen_counts}
 use Rattle.sloth_base.specs.MemoryMap.{line_count}
 use Rattle.observe.specs.Observe.{View, view_of_image}
 use Rattle.osek_scheduler.specs.State.{Frame, System, task, opening}
@@ -49,21 +49,21 @@ use Rattle.sim_laws.proofs.Steady.{steady_stays, opening_steady}
 use Rattle.sim_laws.proofs.Dispatch.{advance}
 use Rattle.sim_laws.proofs.Nesting.{stack_nested}
 
--- ---- the measure is at most 40
+-- ---- the measure is at most `unseen_counts`
 
-at_most : (x : Bool) (a b : ℕ) → a ≤ 40 → b ≤ 40 → (if x then a else b) ≤ 40
+at_most : (x : Bool) (a b : ℕ) → a ≤ unseen_counts → b ≤ unseen_counts → (if x then a else b) ≤ unseen_counts
 at_most true a b h l = h
 at_most false a b h l = l
 
-other_at_most : (x : Bool) (a : ℕ) → (if x && false then a else 40) ≤ 40
+other_at_most : (x : Bool) (a : ℕ) → (if x && false then a else unseen_counts) ≤ unseen_counts
 other_at_most true a = omega arith
 other_at_most false a = omega arith
 
-passed_small : (address count pc : ℕ) → count ≤ 40 → passed_count_at address count pc ≤ 40
+passed_small : (address count pc : ℕ) → count ≤ unseen_counts → passed_count_at address count pc ≤ unseen_counts
 passed_small address count pc l =
     ⊎_elim
-    (λ (h : pc < address + 4 * count). at_most (nat_le address pc && nat_lt pc (address + 4 * count)) ((pc - address) / 4) 40 (omega arith) (omega arith))
-    (λ (h : address + 4 * count ≤ pc). subst (λ v. (if nat_le address pc && v then (pc - address) / 4 else 40) ≤ 40) (sym (le-ltb pc (address + 4 * count) h)) (other_at_most (nat_le address pc) ((pc - address) / 4)))
+    (λ (h : pc < address + 4 * count). at_most (nat_le address pc && nat_lt pc (address + 4 * count)) ((pc - address) / 4) unseen_counts (omega arith) (omega arith))
+    (λ (h : address + 4 * count ≤ pc). subst (λ v. (if nat_le address pc && v then (pc - address) / 4 else unseen_counts) ≤ unseen_counts) (sym (le-ltb pc (address + 4 * count) h)) (other_at_most (nat_le address pc) ((pc - address) / 4)))
     (cases_lt pc (address + 4 * count))
 
 -- ---- the start
@@ -94,7 +94,7 @@ module _ (b : Build) (image : Image) (kernel : Kernel b image) where
   few : length b.config.tasks ≤ line_count
   few = let f = kernel.fits.few_tasks in omega arith
 
-  few_instructions : (func item : ℕ) → length (expansion b.app b.places func item) ≤ 40
+  few_instructions : (func item : ℕ) → length (expansion b.app b.places func item) ≤ unseen_counts
   few_instructions func item =
       let long = is_long b.places func item in
       let o = operation b.app func item in
@@ -102,7 +102,7 @@ module _ (b : Build) (image : Image) (kernel : Kernel b image) where
       let f = size_few b.app (frame_of b.app (b.config, kernel.well_formed.in_range)) long o in
       omega (arith, e, f.few)
 
-  in_frames : (pc : ℕ) (frames : List Frame) → passed_count_in b pc frames ≤ 40
+  in_frames : (pc : ℕ) (frames : List Frame) → passed_count_in b pc frames ≤ unseen_counts
   in_frames pc [] = omega arith
   in_frames pc (frame ∷ outer) =
       passed_small (item_address b.places frame.func frame.item) (length (expansion b.app b.places frame.func frame.item)) pc (few_instructions frame.func frame.item)

@@ -87,7 +87,7 @@ owned_task owners line none h =
     ⊎_elim (λ (l : line < owners.tasks). l) (λ (found : (c : ℕ) × IsCounterLine owners line c). let d = found.1.declared in absurd (omega (arith, none, d)))
     (owned_cases owners line h)
 
--- of at most 30 tasks and 2 counters it is one of the controller
+-- of so few tasks and counters it is one of the controller
 pub owned_below : (owners : Owners) (line : ℕ) → owners.tasks ≤ task_limit → owners.counters ≤ counter_limit → IsOwned owners line → line < line_count
 owned_below owners line few counters h =
     ⊎_elim (λ (l : line < owners.tasks). omega (arith, l, few))

@@ -14,7 +14,7 @@ abbrev pub AreRisingMoments : ℕ → List Arrival → Type 0
 AreRisingMoments before [] = Unit {0}
 AreRisingMoments before (a ∷ rest) = (before ≤ a.at) × AreRisingMoments a.at rest
 
--- at most 100,000 arrivals, at moments from 1 to 1,000,000 that never fall, of lines that have owners
+-- a limited number of arrivals, at moments from 1 to the last of a run that never fall, of lines that have owners
 pub record AreArrivals (owners : Owners) (arrivals : List Arrival) : Type 0 where
   pub few : length arrivals ≤ arrival_limit
   pub moments_in_range : All (λ a. a.at ≤ count_limit) arrivals

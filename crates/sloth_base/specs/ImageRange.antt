@@ -23,7 +23,7 @@ abbrev pub IsWord : List ℕ → Type 0
 IsWord [] = ⊥
 IsWord (first ∷ rest) = IsTrue (begins_word first) × AllPass continues_word rest
 
--- a word of at most 64 bytes
+-- a word that is no longer than a name may be
 pub record IsName (bytes : List ℕ) : Type 0 where
   pub word : IsWord bytes
   pub short : length bytes ≤ name_limit

@@ -65,6 +65,10 @@ data_limit = 32768
 abbrev pub mask_limit : ℕ
 mask_limit = 32767
 
+-- the greatest number of an operand that counts: a size, a place in a symbol, a mask, a word of the frame
+abbrev pub operand_limit : ℕ
+operand_limit = 65535
+
 -- how many marks an image may have
 abbrev pub mark_limit : ℕ
 mark_limit = 16384

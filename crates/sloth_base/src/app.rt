@@ -160,7 +160,7 @@ pub struct Func {
     /// The line of its header.
     pub line: u32,
     pub task: Option<TaskId>,
-    /// The words of its frame, 0 to 32.
+    /// The words of its frame, 0 to `FRAME_LIMIT`.
     pub frame_words: u32,
     pub items: List<Item>,
     pub labels: List<Label>,

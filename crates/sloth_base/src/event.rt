@@ -3,7 +3,7 @@
 use crate::numbers::Line;
 use crate::service::Service;
 
-/// An interrupt line is raised before the instruction of count `at`, 1 to 1,000,000.
+/// An interrupt line is raised before the instruction of count `at`, 1 to `COUNT_LIMIT`.
 #[derive(Clone, Copy)]
 pub struct Arrival {
     pub at: u32,

@@ -48,6 +48,9 @@ pub const DATA_LIMIT: usize = 32_768;
 /// The greatest mask of an indexed access: the data has no more bytes.
 pub const MASK_LIMIT: u32 = 32_767;
 
+/// The greatest number of an operand that counts: a size, a place in a symbol, a mask, a word of the frame.
+pub const OPERAND_LIMIT: i64 = 65_535;
+
 /// How many marks an image may have.
 pub const MARK_LIMIT: usize = 16_384;
 

@@ -52,7 +52,7 @@ fn continues_word(byte: u8) -> bool
     byte.is_ascii_alphanumeric() || byte == b'_'
 }
 
-/// Whether the bytes are a name: a letter or `_`, and then letters, digits and `_`; at most 64 bytes.
+/// Whether the bytes are a name: a letter or `_`, and then letters, digits and `_`; at most `NAME_LIMIT` bytes.
 pub fn is_name(bytes: &[u8]) -> bool
     ensures { IsTrue result ↔ IsName bytes.now }
 {

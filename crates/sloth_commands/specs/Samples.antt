@@ -21,6 +21,6 @@ sample_source seed = source_text seed task_limit
 abbrev pub sample_arrivals : ℕ → List Arrival
 sample_arrivals seed = arrivals seed task_limit
 
--- what is put: the summary of what is observed of the image's run of 1,000,000 instructions with these arrivals
+-- what is put: the summary of what is observed of the image's run of `count_limit` instructions with these arrivals
 unfoldable pub sample_text : Image → List Arrival → List ℕ
 sample_text image arrivals = summary_text (counts_of (events_of image arrivals count_limit))

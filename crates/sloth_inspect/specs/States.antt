@@ -17,7 +17,7 @@ state_in memory task =
     then (if slice_index memory.lines.pending task == 1 then mode.Ready else mode.Suspended)
     else mode.Waiting (word_at memory.ram (wait task))
 
--- those of so many tasks, in 30 places; an unused place has Suspended
+-- those of so many tasks, in `task_limit` places; an unused place has Suspended
 abbrev pub states_in : Memory → ℕ → List TaskState
 states_in memory tasks = map (state_in memory) (range_with_len 0 tasks) ++ replicate (task_limit - tasks) mode.Suspended
 
@@ -29,10 +29,10 @@ running_number_in memory = word_at memory.ram cur
 abbrev pub is_pending_in : Memory → ℕ → Bool
 is_pending_in memory task = slice_index memory.lines.pending task == 1
 
--- that of each of so many tasks, in 30 places; an unused place has false
+-- that of each of so many tasks, in `task_limit` places; an unused place has false
 abbrev pub pending_lines_in : Memory → ℕ → List Bool
 pending_lines_in memory tasks = map (is_pending_in memory) (range_with_len 0 tasks) ++ replicate (task_limit - tasks) false
 
--- the level byte of the line of each of so many tasks, in 30 places; an unused place has 0
+-- the level byte of the line of each of so many tasks, in `task_limit` places; an unused place has 0
 abbrev pub levels_in : Memory → ℕ → List ℕ
 levels_in memory tasks = map (λ task. slice_index memory.lines.levels task) (range_with_len 0 tasks) ++ replicate (task_limit - tasks) 0

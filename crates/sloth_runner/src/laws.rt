@@ -13,7 +13,7 @@ ghost use Rattle.sloth_runner.specs.TaskStates.{AreStatesAt};
 ghost use Rattle.sloth_runner.specs.declared.task_states.Sight.{Sight};
 ghost use Rattle.sloth_runner.specs.declared.runner.RunEnd.TheVariants.{Whole};
 
-/// A run of a sound image, of at most 1,000,000 instructions, never stops.
+/// A run of a sound image, of at most `COUNT_LIMIT` instructions, never stops.
 pub fn sound_runs_are_whole()
     ensures { (config : Config) (app : App) (image : Image) (arrivals : List Arrival) (n : ℕ) →
         Sound config app image → AreArrivals (owners_in config) arrivals → n ≤ count_limit → run_end image arrivals n ≡ Whole }

@@ -9,7 +9,7 @@ use rv32_machine::{Machine, SlothBus};
 use sloth_base::limits::TASK_LIMIT;
 use sloth_inspect::{running, states};
 
-/// The states of the tasks at a count, in 30 places.
+/// The states of the tasks at a count, in `TASK_LIMIT` places.
 #[derive(Clone, Copy)]
 pub struct Seen {
     pub count: u32,

@@ -238,7 +238,7 @@ impl<'a> Runner<'a> {
         Ok(None)
     }
 
-    /// Runs n instructions, at most 1,000,000, and puts the line of each event.
+    /// Runs n instructions, at most `COUNT_LIMIT`, and puts the line of each event.
     pub fn run<S: Sink>(&mut self, n: u32, form: Form, out: &mut S) -> Result<RunEnd, SinkFault>
         requires fresh { IsFresh self.old }
         requires few { n ≤ count_limit }

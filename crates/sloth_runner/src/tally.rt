@@ -18,7 +18,7 @@ pub struct Tally {
 impl<'a> Runner<'a> {
     ghost use Rattle.sloth_runner.specs.Runner.{IsFresh, image_of, given_arrivals, run_end};
 
-    /// Runs n instructions, at most 1,000,000, and counts the events.
+    /// Runs n instructions, at most `COUNT_LIMIT`, and counts the events.
     pub fn tally(&mut self, n: u32) -> Tally
         requires fresh { IsFresh self.old }
         requires few { n ≤ count_limit }

@@ -16,7 +16,7 @@ use sloth_inspect::{levels, pending};
 /// What the machine shows of interrupts at a count.
 #[derive(Clone, Copy)]
 pub struct Interrupts {
-    /// Whether each task's line is pending, in 30 places.
+    /// Whether each task's line is pending, in `TASK_LIMIT` places.
     pub pending: [bool; TASK_LIMIT],
     /// Whether the line of each counter is pending.
     pub counters_pending: [bool; COUNTER_LIMIT],
@@ -77,7 +77,7 @@ impl<'a> Runner<'a> {
         }
     }
 
-    /// The level byte of each task's line, in 30 places.
+    /// The level byte of each task's line, in `TASK_LIMIT` places.
     pub fn levels(&mut self) -> [u8; TASK_LIMIT]
         requires { length (image_of self.old).tasks ≤ task_limit }
         ensures levels { result ≡ task_levels (image_of self.old) (sloth_state self.old.machine) }

@@ -3,6 +3,7 @@ use Rattle.std.specs.Prelude.{ℕ, ◌+◌, pos, negsuc, ◌==◌, Bool, true, f
 use Rattle.sloth_base.specs.declared.app.Width.{Width}
 use Rattle.sloth_base.specs.declared.app.Width.TheVariants as width
 use Rattle.sloth_base.specs.ServiceCodes.{object_kind, has_mask}
+use Rattle.sloth_base.specs.Limits.{operand_limit}
 use Rattle.sloth_base.specs.declared.service.ObjectKind.{ObjectKind}
 use Rattle.sloth_base.specs.declared.service.ObjectKind.TheVariants as object
 use Rattle.sloth_base.specs.declared.service.Service.{Service}
@@ -51,9 +52,9 @@ place_form _ = form.Place
 
 -- the form of the operand at place i, from 0
 abbrev pub form_of : Mnemonic → ℕ → Form
-form_of m.Data i = if i == 1 then form.Number (pos 1) (pos 65535) else if i == 2 then form.Bytes else form.Name
-form_of m.Task i = if nat_lt 0 i then form.Number (pos 0) (pos 65535) else form.Name
-form_of m.Func i = if nat_lt 0 i then form.Number (pos 0) (pos 65535) else form.Name
+form_of m.Data i = if i == 1 then form.Number (pos 1) (pos operand_limit) else if i == 2 then form.Bytes else form.Name
+form_of m.Task i = if nat_lt 0 i then form.Number (pos 0) (pos operand_limit) else form.Name
+form_of m.Func i = if nat_lt 0 i then form.Number (pos 0) (pos operand_limit) else form.Name
 form_of (m.Alu k) i = form.Register
 form_of m.Move i = form.Register
 form_of (m.Imm k) i = if nat_lt i 2 then form.Register else form.Number (negsuc 2047) (pos 2047)

@@ -3,6 +3,7 @@ ghost use Rattle.std.specs.Prelude.{◌≡◌};
 ghost use Rattle.statement_forms.specs.Forms.{object_operands, service_takes, is_operand_count, place_form, form_of, is_outer, is_body_start, is_body_end};
 
 use sloth_base::app::{AluKind, BranchKind, ImmKind, Width};
+use sloth_base::limits::OPERAND_LIMIT;
 use sloth_base::service::{ObjectKind, Service};
 
 /// A statement by its first word.
@@ -102,9 +103,9 @@ pub fn form_of(mnemonic: Mnemonic, place: usize) -> Form
     ensures { result ≡ form_of mnemonic place }
 {
     match mnemonic {
-        Mnemonic::Data if place == 1 => number_form(1, 65_535),
+        Mnemonic::Data if place == 1 => number_form(1, OPERAND_LIMIT),
         Mnemonic::Data if place == 2 => Form::Bytes,
-        Mnemonic::Task | Mnemonic::Func if place > 0 => number_form(0, 65_535),
+        Mnemonic::Task | Mnemonic::Func if place > 0 => number_form(0, OPERAND_LIMIT),
         Mnemonic::Alu(_) | Mnemonic::Move => Form::Register,
         Mnemonic::Imm(_) | Mnemonic::Shift(_) | Mnemonic::Branch(_) if place < 2 => Form::Register,
         Mnemonic::Imm(_) => number_form(-2048, 2047),

@@ -91,11 +91,11 @@ is_t2 tasks counters line = is_arrival line && not (is_some (named_line tasks co
 abbrev pub is_t3 : List Arrival → List ℕ → Bool
 is_t3 before line = is_arrival line && nat_lt (moment_of line) (last_moment 0 before)
 
--- a moment outside 1 to 1,000,000
+-- a moment outside 1 to `count_limit`
 abbrev pub is_outside : List ℕ → Bool
 is_outside line = nat_lt (moment_of line) 1 || nat_lt count_limit (moment_of line)
 
--- T4: one arrival more than 100,000, or a moment out of range
+-- T4: one arrival too many, or a moment out of range
 abbrev pub is_t4 : List Arrival → List ℕ → Bool
 is_t4 before line = is_arrival line && (nat_le arrival_limit (length before) || is_outside line)
 

@@ -96,7 +96,7 @@ fn named_line(tasks: &[Name], counters: &[Name], line: &[u8]) -> Option<u8>
     }
 }
 
-/// The arrival of a line, whose moment is at most 1,000,000.
+/// The arrival of a line, whose moment is at most `COUNT_LIMIT`.
 pub fn arrival_of(tasks: &[Name], counters: &[Name], line: &[u8]) -> Arrival
     requires { moment_of line.now ≤ count_limit }
     ensures { result ≡ arrival_of tasks.now counters.now line.now }
@@ -133,7 +133,7 @@ fn is_t2(tasks: &[Name], counters: &[Name], line: &[u8]) -> bool
     is_arrival(line) && named_line(tasks, counters, line).is_none()
 }
 
-// A moment less than that of the arrival before, which is at most 1,000,000.
+// A moment less than that of the arrival before, which is at most `COUNT_LIMIT`.
 fn is_t3(before: &[Arrival], line: &[u8]) -> bool
     requires { last_moment 0 before.now ≤ count_limit }
     ensures { result ≡ is_t3 before.now line.now }
@@ -156,7 +156,7 @@ fn is_outside(line: &[u8]) -> bool
     moment < 1 || u64::from(COUNT_LIMIT) < moment
 }
 
-/// The least fault of a line that these arrivals stand before, each at a moment of at most 1,000,000.
+/// The least fault of a line that these arrivals stand before, each at a moment of at most `COUNT_LIMIT`.
 pub fn line_fault(
     tasks: &[Name],
     counters: &[Name],

@@ -1,7 +1,7 @@
 //! The declarations of signals.
 ghost use Rattle.std.specs.Prelude.{◌≡◌, ◌≤◌, ◌++◌, IfOk, OnOk, All, length};
 ghost use Rattle.sloth_base.specs.ImageRange.{InFormat, IsName};
-ghost use Rattle.sloth_base.specs.Limits.{task_limit, name_limit};
+ghost use Rattle.sloth_base.specs.Limits.{task_limit, counter_limit, name_limit};
 ghost use Rattle.wave_text.specs.Header.{scope_name, width_digit, variable_line, variable_lines, scope_line, scope_text, header};
 
 use crate::signals::{Scope, Width, first_code, width_of};
@@ -88,7 +88,7 @@ fn push_scope(
 ) -> Result<(), NoMemory>
     requires few_tasks { length tasks.now ≤ task_limit }
     requires short_tasks { All IsName tasks.now }
-    requires few_counters { length counters.now ≤ 30 }
+    requires few_counters { length counters.now ≤ counter_limit }
     requires short_counters { All IsName counters.now }
     ensures { OnOk result (text.new.items ≡ text.old.items ++ scope_text scope tasks.now counters.now) }
 {

@@ -23,7 +23,7 @@ pub enum Recorded {
     Stopped(Halt),
 }
 
-/// The waves of the first n instructions, at most 1,000,000, of the run of an image with arrivals.
+/// The waves of the first n instructions, at most `COUNT_LIMIT`, of the run of an image with arrivals.
 pub fn waves(
     alloc: Global,
     image: &Image,

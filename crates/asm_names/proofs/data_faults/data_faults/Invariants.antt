@@ -1,5 +1,6 @@
 use Rattle.std.proofs.Common.{◌≡◌, ◌≤◌, ◌*◌, take, count_by}
 use Rattle.std.specs.List.{sum_by}
+use Rattle.sloth_base.specs.Limits.{operand_limit}
 use Rattle.least_fault.proofs.Kept.{Loop}
 use Rattle.asm_scopes.specs.Statements.{is_data}
 use Rattle.asm_names.specs.NameFaults.{bytes_of, DataFault}
@@ -10,5 +11,5 @@ invariant-loop-n l = record {
   finds : Loop DataFault l.lines l.n l.least;
   counted : l.count ≡ count_by is_data (take l.n l.lines);
   summed : l.bytes ≡ sum_by bytes_of (take l.n l.lines);
-  few : l.bytes ≤ 65535 * l.n;
+  few : l.bytes ≤ operand_limit * l.n;
 }
