@@ -1,7 +1,14 @@
 //! What the program does with its words: they go to the top call, over the system's files and standard output, and the status is how it ends.
+ghost use Rattle.std.specs.Prelude.{◌≡◌, ℕ, List, []};
+ghost use Rattle.sloth_io.specs.FileStore.{shown_files, untold_files};
+ghost use Rattle.sloth_io.specs.OutSink.{accepted_bytes, given_bytes};
+ghost use Rattle.command_line.specs.Command.{words_of};
+ghost use Rattle.sloth_cli.specs.ProgramRun.{IsProgramRun};
+
 use crate::top::sloth_top;
 use sloth_io::file_store::FileStore;
 use sloth_io::out_sink::OutSink;
+use std::alloc::Global;
 use std::env;
 use std::env::Env;
 use std::io::ErrorKind;
@@ -25,11 +32,27 @@ fn words(rt: &(impl Env + AllocGlobal)) -> Result<Vec<String>, Status> {
     Ok(words)
 }
 
+/// Runs the command of these words, over files of which nothing was read and none written, and standard output to which nothing was put.
+pub fn run_over<R: Files, P: Print>(
+    alloc: Global,
+    words: &[String],
+    files: &mut FileStore<'_, R>,
+    out: &mut OutSink<'_, P>,
+) -> Status
+    requires files { shown_files files.old ≡ untold_files 0 0 0 [] [] }
+    requires out { accepted_bytes out.old ≡ [] }
+    ensures { IsProgramRun (words_of words.now) (shown_files files.new).reads (shown_files files.new).writes (given_bytes out.new) result }
+{
+    sloth_top(alloc, words, files, out)
+}
+
 /// Runs the command of these words.
-pub fn run_words(rt: &(impl Files + Print + AllocGlobal), words: &[String]) -> Status {
-    let mut files = FileStore::new(rt);
+pub fn run_words(rt: &(impl Files + Print + AllocGlobal), words: &[String]) -> Status
+    ensures { (reads writes : List (List ℕ × List ℕ)) × (printed : List ℕ) × IsProgramRun (words_of words.now) reads writes printed result }
+{
+    let mut files = FileStore::new(rt, rt.alloc());
     let mut out = OutSink::new(rt);
-    sloth_top(rt.alloc(), words, &mut files, &mut out)
+    run_over(rt.alloc(), words, &mut files, &mut out)
 }
 
 /// Runs the command of the program's words, and answers with the number of its status.

@@ -1,5 +1,5 @@
 -- Why a command was not done, from its first read to its last line.
-use Rattle.std.proofs.Common.{◌≡◌, ◌∙◌, inl, inr, ℕ, List, length, refl, sym, ap, subst}
+use Rattle.std.proofs.Common.{◌≡◌, ◌∙◌, inl, inr, ℕ, List, [], ◌∷◌, ◌++◌, length, refl, sym, ap, subst}
 use Rattle.std.specs.Prelude.{codes, IsTrue, Result, Ok, Err, OnOk}
 use Rattle.sloth_base.specs.declared.config.Config.{Config}
 use Rattle.sloth_base.specs.declared.app.App.{App}
@@ -10,30 +10,41 @@ use Rattle.sloth_base.specs.Owners.{owners_in}
 use Rattle.sloth_io.specs.Counts.{Rose}
 use Rattle.sloth_io.specs.Sink.{Output}
 use Rattle.sloth_io.proofs.Gains.{part-whole}
-use Rattle.sloth_io.specs.Store.{Files, KeepsFiles}
+use Rattle.sloth_io.specs.Store.{Files, KeepsFiles, AreDelivered, IsFileWritten, IsMissing, IsTooLong, call_files}
 use Rattle.sloth_io.specs.Slots.{is_space_for}
 use Rattle.image_file.specs.ImageText.{image_bytes}
 use Rattle.sloth_source.specs.Texts.{AreAccepted}
 use Rattle.command_line.specs.Command.{Command, Building, Builds, Executes, Lists, Samples, Uses, IsCommand, IsInLimit}
+use Rattle.sloth_base.specs.Limits.{file_limit}
 use Rattle.trace_check.specs.Inputs.{AreArrivalsOf}
 use Rattle.command_line.specs.LastLine.{refusal_line, no_image_line}
 use Rattle.tool_answers.specs.declared.status.Status.{Status}
 use Rattle.tool_answers.specs.declared.status.Status.TheVariants as status
 use Rattle.sloth_commands.specs.declared.failure.Failure.{Failure}
 use Rattle.sloth_commands.specs.declared.failure.Failure.TheVariants as failure
-use Rattle.sloth_commands.specs.Top.{World, world, inputs_of, AreInputs, AreFilesSame, IsAccepted, IsBuiltImage}
+use Rattle.sloth_commands.specs.Top.{World, world, text_deliveries, AreInputs, AreFilesSame, IsAccepted, IsBuiltImage}
+use Rattle.sloth_commands.specs.CommandFiles.{inputs_of, IsUsageCause}
 use Rattle.sloth_base.specs.DeclaredNames.{task_names, counter_names}
 use Rattle.sloth_commands.specs.Top.{IsWritten, IsDone, IsRequired, IsTextTaken, IsPutAnswer, IsCloseAnswer, IsTextBrokenOff, IsTopAnswer, done_text}
 use Rattle.sloth_commands.specs.Failures.{IsReadFailure, IsJudgeFailure, IsPerformFailure, IsCommandEnd, IsPlainEnd, IsCommandFailure, IsPerformed, IsFailureEnd}
 use Rattle.sloth_commands.proofs.Ceilings.{shown-keep, shown-keep_bounds}
+use Rattle.sloth_commands.proofs.CallFiles.{delivered-in_call, inputs-in_call, unread-in_call, stays-behind, still}
 use Rattle.sloth_commands.proofs.ToolCauses.{end-required}
+
+-- ---- usage
+
+-- nothing was read and nothing written
+pub usage-ends : (words : List (List ℕ)) (files : Files) (sink out : Output) (answer : Status) → IsUsageCause words files
+    → IsPutAnswer status.Usage answer sink out (codes "usage\n") → IsTopAnswer words (world (call_files files files) sink) (world files out) answer
+usage-ends words files sink out answer cause put =
+    record { wanted = status.Usage; text = codes "usage\n"; required = (cause, refl, (λ name. refl, refl)); puts = put }
 
 -- ---- a command
 
 pub read-ends : (f : Failure) (old new : Files) (sink : Output) (c : Command) → IsReadFailure f old new (inputs_of c) → AreFilesSame old new
-    → IsCommandFailure f (world old sink) (world new sink) c
-read-ends failure.ReadFault old new sink c h stay = (h, stay, refl)
-read-ends failure.TooLong old new sink c h stay = (h, stay, refl)
+    → IsCommandFailure f (world (call_files old new) sink) (world new sink) c
+read-ends failure.ReadFault old new sink c h stay = (unread-in_call old new (IsMissing old new) (inputs_of c) h, stay, refl)
+read-ends failure.TooLong old new sink c h stay = (unread-in_call old new (λ name. IsTooLong old new name file_limit) (inputs_of c) h, stay, refl)
 read-ends failure.NoMemory old new sink c h stay = (stay, refl)
 read-ends (failure.Refused r) old new sink c h stay = absurd h
 read-ends failure.WriteFile old new sink c h stay = absurd h
@@ -41,77 +52,102 @@ read-ends failure.Put old new sink c h stay = absurd h
 read-ends (failure.NotAnImage fault) old new sink c h stay = absurd h
 
 pub judge-ends : (f : Failure) (old new : Files) (sink : Output) (c : Building) (oil src arr : List ℕ)
-    → AreInputs old c oil src arr → IsJudgeFailure f oil src arr → AreFilesSame old new → IsCommandFailure f (world old sink) (world new sink) (Builds c)
-judge-ends (failure.Refused r) old new sink c oil src arr inputs h stay =
-    (record { oil = oil; src = src; arr = arr; inputs = inputs; is = h }, stay, refl)
-judge-ends failure.NoMemory old new sink c oil src arr inputs h stay = (stay, refl)
-judge-ends failure.ReadFault old new sink c oil src arr inputs h stay = absurd h
-judge-ends failure.TooLong old new sink c oil src arr inputs h stay = absurd h
-judge-ends failure.WriteFile old new sink c oil src arr inputs h stay = absurd h
-judge-ends failure.Put old new sink c oil src arr inputs h stay = absurd h
-judge-ends (failure.NotAnImage fault) old new sink c oil src arr inputs h stay = absurd h
+    → AreInputs old c oil src arr → AreDelivered old new (text_deliveries c oil src arr) → IsJudgeFailure f oil src arr → AreFilesSame old new
+    → IsCommandFailure f (world (call_files old new) sink) (world new sink) (Builds c)
+judge-ends (failure.Refused r) old new sink c oil src arr inputs delivered h stay = (
+  record {
+    oil = oil;
+    src = src;
+    arr = arr;
+    inputs = inputs-in_call old new c oil src arr inputs;
+    delivered = delivered-in_call old new (text_deliveries c oil src arr) delivered;
+    is = h;
+  },
+  stay,
+  refl,
+)
+judge-ends failure.NoMemory old new sink c oil src arr inputs delivered h stay = (stay, refl)
+judge-ends failure.ReadFault old new sink c oil src arr inputs delivered h stay = absurd h
+judge-ends failure.TooLong old new sink c oil src arr inputs delivered h stay = absurd h
+judge-ends failure.WriteFile old new sink c oil src arr inputs delivered h stay = absurd h
+judge-ends failure.Put old new sink c oil src arr inputs delivered h stay = absurd h
+judge-ends (failure.NotAnImage fault) old new sink c oil src arr inputs delivered h stay = absurd h
 
 -- an image was built of the inputs, the arrivals are read, and nothing is written yet
 pub record IsBuilt (old mid : Files) (c : Building) (image : Image) (arrivals : List Arrival) : Type 0 where
   pub config : Config
   pub app : App
-  pub accepted : IsAccepted old c config app arrivals
+  pub accepted : IsAccepted (call_files old mid) c config app arrivals
   pub is_image : IsBuiltImage config app image
   pub in_limit : IsInLimit c.run
   pub kept : KeepsFiles old mid
 
 pub built-of : (old mid : Files) (c : Building) (config : Config) (app : App) (image : Image) (arrivals : List Arrival) (oil src arr : List ℕ)
-    → AreInputs old c oil src arr → AreAccepted oil src config app → AreArrivalsOf (task_names config) (counter_names config) arr arrivals → AreArrivals (owners_in config) arrivals
+    → AreInputs old c oil src arr → AreDelivered old mid (text_deliveries c oil src arr) → AreAccepted oil src config app → AreArrivalsOf (task_names config) (counter_names config) arr arrivals → AreArrivals (owners_in config) arrivals
     → IsBuiltImage config app image → IsInLimit c.run → KeepsFiles old mid → IsBuilt old mid c image arrivals
-built-of old mid c config app image arrivals oil src arr inputs accepted read in_range is_image in_limit kept = record {
+built-of old mid c config app image arrivals oil src arr inputs delivered accepted read in_range is_image in_limit kept = record {
   config = config;
   app = app;
-  accepted = record { oil = oil; src = src; arr = arr; inputs = inputs; accepted = accepted; read = read; in_range = in_range };
+  accepted = record {
+    oil = oil;
+    src = src;
+    arr = arr;
+    inputs = inputs-in_call old mid c oil src arr inputs;
+    delivered = delivered-in_call old mid (text_deliveries c oil src arr) delivered;
+    accepted = accepted;
+    read = read;
+    in_range = in_range;
+  };
   is_image = is_image;
   in_limit = in_limit;
   kept = kept;
 }
 
+pub written-behind : (old mid new : Files) (name bytes : List ℕ) → KeepsFiles old mid → IsFileWritten mid new name bytes → IsFileWritten old new name bytes
+written-behind old mid new name bytes kept put = (put.0, put.1 ∙ ap (λ (xs : List (List ℕ × List ℕ)). xs ++ (name, bytes) ∷ []) kept.writes)
+
 pub done : (old mid new : Files) (c : Building) (image : Image) (arrivals : List Arrival) → IsBuilt old mid c image arrivals
-    → IsWritten mid new c.img (image_bytes image) → IsDone old new c (done_text image arrivals c.run)
-done old mid new c image arrivals b w = record {
+    → new.reads ≡ mid.reads → IsWritten mid new c.img (image_bytes image) → IsDone (call_files old new) new c (done_text image arrivals c.run)
+done old mid new c image arrivals b same w = record {
   config = b.config;
   app = b.app;
   arrivals = arrivals;
   image = image;
-  accepted = b.accepted;
+  accepted = still (λ files. IsAccepted files c b.config b.app arrivals) old mid new same b.accepted;
   is_image = b.is_image;
-  written = (w.0, λ name other. w.1 name other ∙ b.kept.holds name);
+  written = (written-behind old mid new c.img (image_bytes image) b.kept w.0, λ name other. w.1 name other ∙ b.kept.holds name);
   text_is = refl;
   protocol = shown-keep b.config b.app image arrivals c.run b.is_image.protocol b.accepted.in_range b.in_limit;
   bounds = shown-keep_bounds b.config b.app image arrivals c.run b.is_image.bounds b.accepted.in_range b.in_limit;
 }
 
 pub perform-ends : (f : Failure) (old mid : Files) (sink : Output) (new : World) (c : Building) (image : Image) (arrivals : List Arrival)
-    → IsBuilt old mid c image arrivals → IsPerformFailure f (world mid sink) new c.img (image_bytes image) (done_text image arrivals c.run)
-    → IsCommandFailure f (world old sink) new (Builds c)
-perform-ends failure.NoMemory old mid sink new c image arrivals is h = (λ name. h.0 name ∙ is.kept.holds name, h.1)
-perform-ends failure.WriteFile old mid sink new c image arrivals is h = (
+    → IsBuilt old mid c image arrivals → new.files.reads ≡ mid.reads → IsPerformFailure f (world mid sink) new c.img (image_bytes image) (done_text image arrivals c.run)
+    → IsCommandFailure f (world (call_files old new.files) sink) new (Builds c)
+perform-ends failure.NoMemory old mid sink new c image arrivals is same h = (stays-behind old mid new.files is.kept h.0, h.1)
+perform-ends failure.WriteFile old mid sink new c image arrivals is same h = (
   record {
     config = is.config;
     app = is.app;
     arrivals = arrivals;
     image = image;
-    accepted = is.accepted;
+    accepted = still (λ files. IsAccepted files c is.config is.app arrivals) old mid new.files same is.accepted;
     is_image = is.is_image;
     failed = (
       subst (λ n. Rose n new.files.failed_writes) is.kept.failed_writes h.0.0,
       λ sure. (ap (λ s. is_space_for s (length (image_bytes image))) (sym (is.kept.space c.img)) ∙ h.0.1 (subst (λ t. IsTrue t) (sym is.kept.sure) sure)),
+      h.0.2 ∙ is.kept.writes,
     );
     others = λ name other. h.1 name other ∙ is.kept.holds name;
   },
   h.2,
 )
-perform-ends failure.Put old mid sink new c image arrivals is h = (status.Done, done_text image arrivals c.run, done old mid new.files c image arrivals is h.0, h.1)
-perform-ends (failure.Refused r) old mid sink new c image arrivals is h = absurd h
-perform-ends failure.ReadFault old mid sink new c image arrivals is h = absurd h
-perform-ends failure.TooLong old mid sink new c image arrivals is h = absurd h
-perform-ends (failure.NotAnImage fault) old mid sink new c image arrivals is h = absurd h
+perform-ends failure.Put old mid sink new c image arrivals is same h =
+    (status.Done, done_text image arrivals c.run, done old mid new.files c image arrivals is same h.0, h.1)
+perform-ends (failure.Refused r) old mid sink new c image arrivals is same h = absurd h
+perform-ends failure.ReadFault old mid sink new c image arrivals is same h = absurd h
+perform-ends failure.TooLong old mid sink new c image arrivals is same h = absurd h
+perform-ends (failure.NotAnImage fault) old mid sink new c image arrivals is same h = absurd h
 
 -- two facts of a call that succeeds
 pub both-ok : {T E : Type 0} (r : Result T E) (P Q R : Type 0) → (P → Q → R) → OnOk r P → OnOk r Q → OnOk r R

@@ -23,12 +23,14 @@ use Rattle.trace_check.specs.Inputs.{AreArrivalsOf}
 use Rattle.sloth_commands.specs.ImageFiles.{IsNoImage}
 use Rattle.tool_answers.specs.declared.status.Status.{Status}
 use Rattle.tool_answers.specs.declared.status.Status.TheVariants as status
-use Rattle.sloth_commands.specs.Top.{World, arrivals_named, inputs_of, FirstUnread, AreInputs, HoldsArrivals, AreThere, IsFailedRead, IsLongRead}
+use Rattle.sloth_commands.specs.Top.{World, FirstUnread, AreInputs, HoldsArrivals, AreThere, IsFailedRead, IsLongRead}
+use Rattle.sloth_commands.specs.CommandFiles.{arrivals_named, inputs_of}
 use Rattle.sloth_commands.specs.Top.{IsCommandDone, IsCommandRefused, IsCommandUnwritten, IsCommandStopped, done_text, IsRefused, IsAccepted, IsBuiltImage, IsRequired, IsPutAnswer, IsTextTaken, IsTextBrokenOff, IsFullAnswer, IsTopAnswer}
 use Rattle.trace_check.specs.Inputs.{IsRefusal}
 use Rattle.sloth_base.specs.DeclaredNames.{task_names, counter_names}
 use Rattle.sloth_commands.specs.Top.{IsUsageAnswer, IsRefusalAnswer, ReadsWork, WritesWork, HasSpace, PutsWork, CallsWork, HasUsageAnswer, HasRefusalAnswer, IsComplete}
 use Rattle.command_line.proofs.Commands.{one-command}
+use Rattle.sloth_commands.proofs.OwnOutput.{keeps-inputs, no-usage}
 use Rattle.trace_check.proofs.Refused.{not-refused, one-way}
 
 pub stays : (a b : ℕ) → Stays a b → Rose a b → ⊥
@@ -162,6 +164,12 @@ usage-by status.NoHolds answer words old new text r p none = absurd (none (Uses 
 pub tells-usage : (words : List (List ℕ)) (old new : World) (answer : Status) → IsTopAnswer words old new answer → HasUsageAnswer words old new answer
 tells-usage words old new answer h none = usage-by h.wanted answer words old new h.text h.required h.puts none
 
+-- the line was put, or broke off
+pub usage-of-put : (old new : Output) (answer : Status) (text : List ℕ) → IsPutAnswer status.Usage answer old new text
+    → (answer ≡ status.Usage) ⊎ ((answer ≡ status.WriteFault) × Rose old.faults new.faults)
+usage-of-put old new answer text (inl p) = inl p.0
+usage-of-put old new answer text (inr p) = inr (p.0, counted-put old new text p.1)
+
 -- ---- Refused
 
 refused-by : (wanted answer : Status) (words : List (List ℕ)) (old new : World) (text : List ℕ) (c : Building) (oil src arr : List ℕ) (r : Refusal)
@@ -176,7 +184,8 @@ refused-by status.Refused answer words old new text c oil src arr r q (inr p) is
 refused-by status.NoMemory answer words old new text c oil src arr r q (inl p) is there works refusal = inr (inl p.0)
 refused-by status.NoMemory answer words old new text c oil src arr r q (inr p) is there works refusal =
     inr (inr (p.0, counted-put old.sink new.sink text p.1))
-refused-by status.Usage answer words old new text c oil src arr r q p is there works refusal = absurd (q.0 (Builds c) is)
+refused-by status.Usage answer words old new text c oil src arr r q p is there works refusal =
+    absurd (no-usage words old.files (Builds c) is (keeps-inputs old.files (Builds c) there.tells there.own_output) q.0)
 refused-by status.Done answer words old new text c oil src arr r q p is there works refusal =
     let d = subst (λ x. IsCommandDone old.files new.files x text) (one-command words q.0 (Builds c) q.1 is) q.2 in
     absurd (one-verdict old.files c d.config d.app d.arrivals oil src arr r there d.accepted refusal)
@@ -242,7 +251,8 @@ module _ (old new : World) (c : Building) (oil src arr : List ℕ) (config : Con
       inl (stands status.Done answer words old new text (subst (λ x. PutsWork old.sink new.sink x) (sym text_is) lines) q p)
   complete-by status.NoMemory answer words text q p is =
       inr (stands status.NoMemory answer words old new text (subst (λ x. PutsWork old.sink new.sink x) (sym q.2) works.last_line) q p)
-  complete-by status.Usage answer words text q p is = absurd (q.0 (Builds c) is)
+  complete-by status.Usage answer words text q p is =
+      absurd (no-usage words old.files (Builds c) is (keeps-inputs old.files (Builds c) there.tells there.own_output) q.0)
   complete-by status.Refused answer words text q p is =
       absurd (refused-verdict old.files c config app oil src arr q.2 there h read.no_fault
       (subst (λ x. IsCommandRefused old.files x q.2) (one-command words q.0 (Builds c) q.1 is) q.3))

@@ -1,5 +1,5 @@
 -- Why a command on an image file was not done, and what it did.
-use Rattle.std.proofs.Common.{◌≡◌, ◌≤◌, ◌∙◌, ℕ, List, [], ◌++◌, length, refl, sym, ap, subst, append-nil}
+use Rattle.std.proofs.Common.{◌≡◌, ◌≤◌, ◌∙◌, ℕ, List, [], ◌∷◌, ◌++◌, length, refl, sym, ap, subst, append-nil}
 use Rattle.std.specs.Prelude.{Result, Ok, Err, IfOk, OnOk}
 use Rattle.sloth_base.specs.Arrivals.{AreArrivals}
 use Rattle.sloth_base.specs.declared.event.Arrival.{Arrival}
@@ -7,17 +7,18 @@ use Rattle.sloth_base.specs.declared.image.Image.{Image}
 use Rattle.sloth_base.specs.Owners.{owners_named}
 use Rattle.sloth_base.specs.Limits.{file_limit}
 use Rattle.sloth_io.specs.Sink.{Output, output_with, GainsPart}
-use Rattle.sloth_io.specs.Store.{Files, Holds}
+use Rattle.sloth_io.specs.Store.{Files, Holds, AreDelivered, call_files}
 use Rattle.sloth_io.proofs.Gains.{gains-gains, gains-nil, part-behind}
 use Rattle.image_file.specs.ImageText.{ImageText}
 use Rattle.trace_text.specs.Listing.{listing}
 use Rattle.command_line.specs.Command.{Execution, Executes, Lists}
 use Rattle.trace_check.specs.Inputs.{AreArrivalsOf}
-use Rattle.sloth_commands.specs.ImageFiles.{AreExecInputs, IsRunnable, IsExecuted, IsListed, exec_text}
+use Rattle.sloth_commands.specs.ImageFiles.{AreExecInputs, IsRunnable, IsExecuted, IsListed, exec_deliveries, exec_text}
 use Rattle.sloth_commands.specs.ImageAnswers.{end_status}
 use Rattle.sloth_runner.specs.Runner.{run_end}
 use Rattle.sloth_commands.specs.Top.{world, AreFilesSame, IsTextTaken}
-use Rattle.sloth_commands.specs.Failures.{IsLinesFailure, IsLineFailure, IsCommandEnd, IsCommandFailure, IsPerformed}
+use Rattle.sloth_commands.specs.Failures.{IsLoadFailure, IsLinesFailure, IsLineFailure, IsCommandEnd, IsCommandFailure, IsPerformed}
+use Rattle.sloth_commands.proofs.CallFiles.{delivered-in_call, exec-inputs-in_call}
 use Rattle.sloth_commands.specs.declared.failure.Failure.{Failure}
 use Rattle.sloth_commands.specs.declared.failure.Failure.TheVariants as failure
 use Rattle.tool_answers.specs.declared.status.Status.{Status}
@@ -83,16 +84,64 @@ exec-failed failure.TooLong old new sink out e image arrivals is stay h = absurd
 exec-failed (failure.NotAnImage fault) old new sink out e image arrivals is stay h = absurd h
 exec-failed failure.WriteFile old new sink out e image arrivals is stay h = absurd h
 
-pub runnable : (old : Files) (e : Execution) (image : Image) (arrivals : List Arrival) (file arr : List ℕ) → AreExecInputs old e file arr → ImageText file image
-    → AreArrivalsOf image.tasks image.counters arr arrivals → AreArrivals (owners_named image) arrivals → IsRunnable old e image arrivals
-runnable old e image arrivals file arr inputs is read in_range =
-    record { file = file; arr = arr; inputs = inputs; is_image = is; read = read; in_range = in_range }
+pub runnable : (old new : Files) (e : Execution) (image : Image) (arrivals : List Arrival) (file arr : List ℕ) → AreExecInputs old e file arr
+    → AreDelivered old new (exec_deliveries e file arr) → ImageText file image
+    → AreArrivalsOf image.tasks image.counters arr arrivals → AreArrivals (owners_named image) arrivals → IsRunnable (call_files old new) e image arrivals
+runnable old new e image arrivals file arr inputs delivered is read in_range = record {
+  file = file;
+  arr = arr;
+  inputs = exec-inputs-in_call old new e file arr inputs;
+  delivered = delivered-in_call old new (exec_deliveries e file arr) delivered;
+  is_image = is;
+  read = read;
+  in_range = in_range;
+}
+
+-- the image or the arrivals were not read
+pub load-ends : (f : Failure) (old new : Files) (sink : Output) (e : Execution) (file arr : List ℕ) → AreExecInputs old e file arr
+    → AreDelivered old new (exec_deliveries e file arr) → IsLoadFailure f file arr → AreFilesSame old new
+    → IsCommandFailure f (world (call_files old new) sink) (world new sink) (Executes e)
+load-ends (failure.NotAnImage fault) old new sink e file arr inputs delivered h stay = (
+  record {
+    file = file;
+    inputs = (arr, exec-inputs-in_call old new e file arr inputs);
+    delivered = delivered-in_call old new (exec_deliveries e file arr) delivered;
+    faulty = h;
+  },
+  stay,
+  refl,
+)
+load-ends (failure.Refused r) old new sink e file arr inputs delivered h stay = (
+  record {
+    file = file;
+    arr = arr;
+    image = h.0;
+    inputs = exec-inputs-in_call old new e file arr inputs;
+    delivered = delivered-in_call old new (exec_deliveries e file arr) delivered;
+    is_image = h.1;
+    least = h.2;
+  },
+  stay,
+  refl,
+)
+load-ends failure.NoMemory old new sink e file arr inputs delivered h stay = (stay, refl)
+load-ends failure.ReadFault old new sink e file arr inputs delivered h stay = absurd h
+load-ends failure.TooLong old new sink e file arr inputs delivered h stay = absurd h
+load-ends failure.WriteFile old new sink e file arr inputs delivered h stay = absurd h
+load-ends failure.Put old new sink e file arr inputs delivered h stay = absurd h
 
 -- ---- `list`
 
-pub listed : (old : Files) (img file : List ℕ) (image : Image) → Holds old img file → length file ≤ file_limit → ImageText file image
-    → IsListed old img (listing image)
-listed old img file image read short is = record { file = file; image = image; input = record { read = read; short = short }; is_image = is; text_is = refl }
+pub listed : (old new : Files) (img file : List ℕ) (image : Image) → Holds old img file → length file ≤ file_limit → AreDelivered old new ((img, file) ∷ [])
+    → ImageText file image → IsListed (call_files old new) img (listing image)
+listed old new img file image read short delivered is = record {
+  file = file;
+  image = image;
+  input = record { read = read; short = short };
+  delivered = delivered-in_call old new ((img, file) ∷ []) delivered;
+  is_image = is;
+  text_is = refl;
+}
 
 pub list-failed : (f : Failure) (old new : Files) (sink out : Output) (img text : List ℕ) → IsListed old img text → AreFilesSame old new → IsLineFailure f sink out text
     → IsCommandFailure f (world old sink) (world new out) (Lists img)

@@ -31,13 +31,15 @@ use Rattle.sloth_commands.specs.ImageFiles.{AreExecInputs, ReadsImageFile, IsRun
 use Rattle.sloth_commands.specs.ImageAnswers.{end_status, LinesWork, IsNoImageAnswer, IsImageFaultAnswer, HasImageFaultAnswer, HasNoImageAnswer, HasExecRefusedAnswer, HasExecutedAnswer, HasListedAnswer}
 use Rattle.command_line.specs.LastLine.{no_image_line, refusal_line}
 use Rattle.sloth_runner.specs.Runner.{run_end}
-use Rattle.sloth_commands.specs.Top.{World, inputs_of, FirstUnread, IsFailedRead, IsLongRead, IsRequired, IsPutAnswer, IsTextTaken, IsFullAnswer, IsTopAnswer, IsRefusalAnswer, ReadsWork, PutsWork}
+use Rattle.sloth_commands.specs.Top.{World, FirstUnread, IsFailedRead, IsLongRead, IsRequired, IsPutAnswer, IsTextTaken, IsFullAnswer, IsTopAnswer, IsRefusalAnswer, ReadsWork, PutsWork}
+use Rattle.sloth_commands.specs.CommandFiles.{inputs_of, HasOwnOutput}
 use Rattle.sloth_commands.specs.Top.{IsCommandDone, IsCommandRefused, IsCommandUnwritten, IsCommandStopped, IsToolEnd}
 use Rattle.sloth_runner.specs.declared.runner.RunEnd.{RunEnd}
 use Rattle.sloth_runner.specs.declared.runner.RunEnd.TheVariants as ends
 use Rattle.tool_answers.specs.declared.status.Status.{Status}
 use Rattle.tool_answers.specs.declared.status.Status.TheVariants as status
 use Rattle.command_line.proofs.Commands.{one-command}
+use Rattle.sloth_commands.proofs.OwnOutput.{keeps-inputs, no-usage}
 use Rattle.sloth_commands.proofs.Complete.{told, not-missing, not-long, counted-put, no-tool, stands}
 use Rattle.trace_check.proofs.Refused.{of-arrivals}
 
@@ -151,7 +153,7 @@ Verdict wanted file text =
     HasImage file ⊎ (((wanted ≡ status.NotAnImage) × ((fault : ImageFault) × IsFirstImageFault fault file × (text ≡ no_image_line fault))) ⊎ (wanted ≡ status.NoMemory))
 
 module _ (words : List (List ℕ)) (old new : Files) (text : List ℕ) (c : Command) (file : List ℕ) (is : IsCommand words c) (tells : IsTrue old.tells)
-    (i : ReadsImageFile old c file) (works : ReadsWork old new) where
+    (own : HasOwnOutput c) (i : ReadsImageFile old c file) (works : ReadsWork old new) where
   verdict : (wanted : Status) → IsRequired wanted words old new text → Verdict wanted file text
   verdict status.Done q = inl (done-image old new c file text tells i (subst (λ x. IsCommandDone old new x text) (one-command words q.0 c q.1 is) q.2))
   verdict status.Stopped q = inl (stopped-image old new c file text tells i (subst (λ x. IsCommandStopped old new x text) (one-command words q.0 c q.1 is) q.2))
@@ -161,7 +163,7 @@ module _ (words : List (List ℕ)) (old new : Files) (text : List ℕ) (c : Comm
       let same : n.file ≡ file = told-file old c n.file file tells n.inputs i in
       inr (inl (refl, (q.2, subst (IsFirstImageFault q.2) same n.faulty, q.4)))
   verdict status.NoMemory q = inr (inr refl)
-  verdict status.Usage q = absurd (q.0 c is)
+  verdict status.Usage q = absurd (no-usage words old c is (keeps-inputs old c tells own) q.0)
   verdict status.ReadFault q =
       absurd (no-failed-read old new c file tells i works (subst (IsFailedRead old new) (one-command words q.0 c q.1 is) q.2))
   verdict status.TooLong q = absurd (no-long-read old new c file tells i (subst (IsLongRead old new) (one-command words q.0 c q.1 is) q.2))
@@ -186,8 +188,8 @@ fault-by wanted answer old new file text fault h (inr (inl v)) (inl p) =
 fault-by wanted answer old new file text fault h (inr (inr none)) (inl p) = inr (inl (p.0 ∙ none))
 
 pub tells-fault : (words : List (List ℕ)) (old new : World) (answer : Status) → IsTopAnswer words old new answer → HasImageFaultAnswer words old new answer
-tells-fault words old new answer h c is tells file i works fault faulty =
-    fault-by h.wanted answer old new file h.text fault faulty (verdict words old.files new.files h.text c file is tells i works h.wanted h.required) h.puts
+tells-fault words old new answer h c is tells own file i works fault faulty =
+    fault-by h.wanted answer old new file h.text fault faulty (verdict words old.files new.files h.text c file is tells own i works h.wanted h.required) h.puts
 
 none-by : (wanted answer : Status) (old new : World) (file text : List ℕ) → ((image : Image) → ImageText file image → ⊥) → Verdict wanted file text
     → IsPutAnswer wanted answer old.sink new.sink text → IsNoImageAnswer old new answer
@@ -197,8 +199,8 @@ none-by wanted answer old new file text h (inr (inl v)) (inl p) = inl (p.0 ∙ v
 none-by wanted answer old new file text h (inr (inr none)) (inl p) = inr (inl (p.0 ∙ none))
 
 pub tells-no-image : (words : List (List ℕ)) (old new : World) (answer : Status) → IsTopAnswer words old new answer → HasNoImageAnswer words old new answer
-tells-no-image words old new answer h c is tells file i works none =
-    none-by h.wanted answer old new file h.text none (verdict words old.files new.files h.text c file is tells i works h.wanted h.required) h.puts
+tells-no-image words old new answer h c is tells own file i works none =
+    none-by h.wanted answer old new file h.text none (verdict words old.files new.files h.text c file is tells own i works h.wanted h.required) h.puts
 
 -- ---- `exec`
 
@@ -257,7 +259,7 @@ module _ (words : List (List ℕ)) (old new : World) (answer : Status) (e : Exec
       absurd (read.no_fault q.2 (subst (λ x. ArrivalsFault image.tasks image.counters x q.2) arr_is (subst (λ (x : Image). ArrivalsFault x.tasks x.counters d.arr q.2) same d.least.is_fault)))
   executed-by status.NotAnImage arrivals text read works q p =
       absurd (no-fault q.2 (subst (λ x. IsNoImage old.files x q.2) (one-command words q.0 (Executes e) q.1 is) q.3))
-  executed-by status.Usage arrivals text read works q p = absurd (q.0 (Executes e) is)
+  executed-by status.Usage arrivals text read works q p = absurd (no-usage words old.files (Executes e) is (λ h. h) q.0)
   executed-by status.ReadFault arrivals text read works q p =
       absurd (no-failed-read old.files new.files (Executes e) file tells (arr, i) works.reads (subst (IsFailedRead old.files new.files) (one-command words q.0 (Executes e) q.1 is) q.2))
   executed-by status.TooLong arrivals text read works q p =
@@ -297,7 +299,7 @@ module _ (words : List (List ℕ)) (old new : World) (answer : Status) (e : Exec
       absurd (not-accepted d.2.image d.2.arrivals r d.2.accepted least)
   refused-by status.NotAnImage text r works least q p =
       absurd (no-fault q.2 (subst (λ x. IsNoImage old.files x q.2) (one-command words q.0 (Executes e) q.1 is) q.3))
-  refused-by status.Usage text r works least q p = absurd (q.0 (Executes e) is)
+  refused-by status.Usage text r works least q p = absurd (no-usage words old.files (Executes e) is (λ h. h) q.0)
   refused-by status.ReadFault text r works least q p =
       absurd (no-failed-read old.files new.files (Executes e) file tells (arr, i) works (subst (IsFailedRead old.files new.files) (one-command words q.0 (Executes e) q.1 is) q.2))
   refused-by status.TooLong text r works least q p =
@@ -336,7 +338,7 @@ module _ (words : List (List ℕ)) (old new : World) (answer : Status) (img file
       absurd (none_is_both file image q.2 is_image (subst (IsFirstImageFault q.2) same n.faulty))
   listed-by status.Stopped text q p = absurd (subst (λ x. IsCommandStopped old.files new.files x text) (one-command words q.0 (Lists img) q.1 is) q.2)
   listed-by status.Refused text q p = absurd (subst (λ x. IsCommandRefused old.files x q.2) (one-command words q.0 (Lists img) q.1 is) q.3)
-  listed-by status.Usage text q p = absurd (q.0 (Lists img) is)
+  listed-by status.Usage text q p = absurd (no-usage words old.files (Lists img) is (λ h. h) q.0)
   listed-by status.ReadFault text q p =
       absurd (no-failed-read old.files new.files (Lists img) file tells i works.reads (subst (IsFailedRead old.files new.files) (one-command words q.0 (Lists img) q.1 is) q.2))
   listed-by status.TooLong text q p =

@@ -4,6 +4,7 @@ use Rattle.std.specs.Prelude.{IsTrue, codes}
 use Rattle.sloth_base.specs.declared.config.Config.{Config}
 use Rattle.sloth_base.specs.declared.app.App.{App}
 use Rattle.sloth_base.specs.declared.event.Arrival.{Arrival}
+use Rattle.sloth_io.specs.Store.{call_files}
 use Rattle.sloth_io.specs.MemStore.{is_sure, shown_files as store_shown}
 use Rattle.sloth_io.specs.MemSink.{taken_by, told_space, shown_output as sink_shown}
 use Rattle.sloth_io.specs.declared.mem_store.MemStore.{MemStore}
@@ -26,7 +27,7 @@ room store sink text none enough =
     subst (λ (f : List (ℕ × ℕ)). HasSpace (Some (taken_by sink)) (told_space sink.buffer.space f) text) (sym none.sink_calls) enough
 
 pub calls-work : (store : MemStore) (sink : MemSink) (c : Building) (config : Config) (app : App) (arrivals : List Arrival) (new : World)
-    → AreEnough store sink c config app arrivals → CallsWork c config app arrivals (world (store_shown store) (sink_shown sink)) new
+    → AreEnough store sink c config app arrivals → CallsWork c config app arrivals (world (call_files (store_shown store) new.files) (sink_shown sink)) new
 calls-work store sink c config app arrivals new enough =
     let none = enough.calls in
     let sure = sure-of store sink none in
@@ -38,7 +39,7 @@ calls-work store sink c config app arrivals new enough =
     }
 
 pub lines-work : (store : MemStore) (sink : MemSink) (text : List ℕ) (new : World)
-    → AreEnoughForLines store sink text → LinesWork (world (store_shown store) (sink_shown sink)) new text
+    → AreEnoughForLines store sink text → LinesWork (world (call_files (store_shown store) new.files) (sink_shown sink)) new text
 lines-work store sink text new enough =
     let none = enough.calls in
     record {
@@ -48,7 +49,7 @@ lines-work store sink text new enough =
     }
 
 pub sample-works : (store : MemStore) (sink : MemSink) (seed : ℕ) (img : List ℕ) (config : Config) (app : App) (new : World)
-    → AreEnoughForSample store sink seed img config app → SampleWorks seed img config app (world (store_shown store) (sink_shown sink)) new
+    → AreEnoughForSample store sink seed img config app → SampleWorks seed img config app (world (call_files (store_shown store) new.files) (sink_shown sink)) new
 sample-works store sink seed img config app new enough =
     let none = enough.calls in
     record {

@@ -1,3 +1,6 @@
+pub mod CallFiles
+pub mod OwnOutput
+pub mod InOrder
 mod Ceilings
 mod OnlyRuns
 mod Listed
@@ -16,3 +19,4 @@ pub mod Declared
 pub mod Registers
 pub mod TaskDeclared
 pub mod Printed
+mod PrintedMap

@@ -8,7 +8,7 @@ use Rattle.sloth_base.specs.declared.image.Image.{Image}
 use Rattle.sloth_base.specs.Owners.{owners_in}
 use Rattle.sloth_base.specs.Limits.{count_limit}
 use Rattle.sloth_io.specs.Sink.{Output}
-use Rattle.sloth_io.specs.Store.{Files}
+use Rattle.sloth_io.specs.Store.{Files, call_files}
 use Rattle.image_file.specs.ImageText.{image_bytes}
 use Rattle.sloth_source.specs.Texts.{AreAccepted}
 use Rattle.command_line.specs.Command.{Samples}
@@ -55,12 +55,12 @@ sampled old new seed img image is written = record {
 
 pub sample-failed : (f : Failure) (old : Files) (sink : Output) (new : World) (seed : ℕ) (img : List ℕ) (image : Image)
     → IsGenerated seed image → IsPerformFailure f (world old sink) new img (image_bytes image) (sample_text image (sample_arrivals seed))
-    → IsCommandFailure f (world old sink) new (Samples seed img)
+    → IsCommandFailure f (world (call_files old new.files) sink) new (Samples seed img)
 sample-failed failure.NoMemory old sink new seed img image is h = h
 sample-failed failure.WriteFile old sink new seed img image is h =
     (record { config = is.config; app = is.app; image = image; accepted = is.accepted; is_image = is.is_image; failed = h.0; others = h.1 }, h.2)
 sample-failed failure.Put old sink new seed img image is h =
-    (status.Done, sample_text image (sample_arrivals seed), sampled old new.files seed img image is h.0, h.1)
+    (status.Done, sample_text image (sample_arrivals seed), sampled (call_files old new.files) new.files seed img image is h.0, h.1)
 sample-failed (failure.Refused r) old sink new seed img image is h = absurd h
 sample-failed failure.ReadFault old sink new seed img image is h = absurd h
 sample-failed failure.TooLong old sink new seed img image is h = absurd h
@@ -68,6 +68,6 @@ sample-failed (failure.NotAnImage fault) old sink new seed img image is h = absu
 
 pub sample-done : (old new : Files) (sink out : Output) (seed : ℕ) (img : List ℕ) (image : Image)
     → IsGenerated seed image → IsWritten old new img (image_bytes image) → IsTextTaken sink out (sample_text image (sample_arrivals seed))
-    → IsPerformed status.Done (world old sink) (world new out) (Samples seed img)
+    → IsPerformed status.Done (world (call_files old new) sink) (world new out) (Samples seed img)
 sample-done old new sink out seed img image is written took =
-    (sample_text image (sample_arrivals seed), sampled old new seed img image is written, took)
+    (sample_text image (sample_arrivals seed), sampled (call_files old new) new seed img image is written, took)

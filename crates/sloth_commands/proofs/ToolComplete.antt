@@ -23,6 +23,8 @@ use Rattle.sloth_commands.specs.Top.{World, IsFailedRead, IsLongRead, FilesAfter
 use Rattle.sloth_commands.specs.Top.{IsCommandDone, IsCommandRefused, IsCommandUnwritten, IsCommandStopped, ReadsWork}
 use Rattle.tool_answers.specs.declared.status.Status.{Status}
 use Rattle.tool_answers.specs.declared.status.Status.TheVariants as status
+use Rattle.sloth_commands.proofs.OwnOutput.{keeps-inputs, no-usage}
+use Rattle.sloth_commands.specs.CommandFiles.{HasOwnOutput}
 use Rattle.sloth_commands.proofs.Complete.{not-missing, not-long, counted-put, no-broken-put, no-failed-write}
 use Rattle.sloth_commands.proofs.ToolReads.{none-unread, told-inputs}
 
@@ -45,12 +47,17 @@ no-long-tool-read old new u inputs tells i =
     none-unread (λ name. IsTooLong old new name file_limit) old u.inputs inputs i (λ name bytes holds short. not-long old new name bytes tells holds short)
 
 -- what an answer says of the image file that a tool reads first
+image-of-inputs : (old : Files) (u : ToolUse) (file : List ℕ) (b : ToolAnswer) → IsTrue old.tells → ReadsImageFirst old u file
+    → (inputs : List (List ℕ)) → AreToolInputs old u.inputs inputs → IsAnswer u.tool u.counts inputs b
+    → HasImage file ⊎ ((fault : ImageFault) × (b ≡ tool_answer.NotAnImage fault))
+image-of-inputs old u file b tells i inputs read answers =
+    let same : inputs ≡ file ∷ i.rest = told-inputs old u.inputs inputs (file ∷ i.rest) tells read i.read in
+    let is = subst (λ xs. IsAnswer u.tool u.counts xs b) same answers in
+    image-or-fault u.tool u.counts (file ∷ i.rest) b i.first is
+
 pub tool-image : (old : Files) (u : ToolUse) (file : List ℕ) (b : ToolAnswer) → IsTrue old.tells → ReadsImageFirst old u file → IsToolAnswer old u b
     → HasImage file ⊎ ((fault : ImageFault) × (b ≡ tool_answer.NotAnImage fault))
-tool-image old u file b tells i h =
-    let same : h.inputs ≡ file ∷ i.rest = told-inputs old u.inputs h.inputs (file ∷ i.rest) tells h.read i.read in
-    let is = subst (λ xs. IsAnswer u.tool u.counts xs b) same h.is in
-    image-or-fault u.tool u.counts (file ∷ i.rest) b i.first is
+tool-image old u file b tells i h = image-of-inputs old u file b tells i h.inputs h.read h.is
 
 -- the write of an answer's file failed
 abbrev IsUnwrittenFor : ToolAnswer → Option (List ℕ) → Files → Files → Type 0
@@ -71,7 +78,7 @@ data Told (words : List (List ℕ)) (a : ToolAnswer) (output : Option (List ℕ)
   BrokeWanting : answer ≡ status.WriteFault → IsTextBrokenOff old.sink new.sink (codes "no memory\n") → Told words a output old new answer
 
 module _ (words : List (List ℕ)) (old new : World) (answer : Status) (u : ToolUse) (is : IsCommand words (Uses u)) (tells : IsTrue old.files.tells)
-    (inputs : List (List ℕ)) (i : AreToolInputs old.files u.inputs inputs) (works : ReadsWork old.files new.files) (a : ToolAnswer)
+    (own_output : HasOwnOutput (Uses u)) (inputs : List (List ℕ)) (i : AreToolInputs old.files u.inputs inputs) (works : ReadsWork old.files new.files) (a : ToolAnswer)
     (is_answer : IsAnswer u.tool u.counts inputs a) where
   -- the tool's answer is this one
   the-answer : (b : ToolAnswer) → IsToolAnswer old.files u b → b ≡ a
@@ -97,7 +104,7 @@ module _ (words : List (List ℕ)) (old new : World) (answer : Status) (u : Tool
 
   -- where the image file that it reads has a fault, this is its answer
   no-image-told : (fault : ImageFault) → IsNoImage old.files (Uses u) fault → IsToolAnswer old.files u (tool_answer.NotAnImage fault)
-  no-image-told fault n = by (tool-image old.files u n.file a tells n.inputs (record { inputs = inputs; read = i; is = is_answer }))
+  no-image-told fault n = by (image-of-inputs old.files u n.file a tells n.inputs inputs i is_answer)
     where
       by : HasImage n.file ⊎ ((own : ImageFault) × (a ≡ tool_answer.NotAnImage own)) → IsToolAnswer old.files u (tool_answer.NotAnImage fault)
       by (inl image) = absurd (none_is_both n.file image.0 fault image.1 n.faulty)
@@ -109,6 +116,7 @@ module _ (words : List (List ℕ)) (old new : World) (answer : Status) (u : Tool
           record {
             inputs = n.file ∷ n.inputs.rest;
             read = n.inputs.read;
+            delivered = n.delivered;
             is = subst (λ f. IsAnswer u.tool u.counts (n.file ∷ n.inputs.rest) (tool_answer.NotAnImage f)) fault_is is_no;
           }
 
@@ -141,7 +149,7 @@ module _ (words : List (List ℕ)) (old new : World) (answer : Status) (u : Tool
       write-fault : IsPutAnswer status.WriteFault answer old.sink new.sink text → answer ≡ status.WriteFault
       write-fault (inl p) = p.0
       write-fault (inr p) = p.0
-  told-by status.Usage text q p = absurd (q.0 (Uses u) is)
+  told-by status.Usage text q p = absurd (no-usage words old.files (Uses u) is (keeps-inputs old.files (Uses u) tells own_output) q.0)
   told-by status.ReadFault text q p =
       absurd (no-failed-tool-read old.files new.files u inputs tells i works (subst (IsFailedRead old.files new.files) (one-command words q.0 (Uses u) q.1 is) q.2))
   told-by status.TooLong text q p =
@@ -193,10 +201,10 @@ answers-done words a output old new answer works (Broke is h) = absurd (no-broke
 answers-done words a output old new answer works (BrokeWanting is h) = absurd (no-broken-put old.sink new.sink (codes "no memory\n") works.last_line h)
 
 pub tells-tool : (words : List (List ℕ)) (old new : World) (answer : Status) → IsTopAnswer words old new answer → HasToolAnswer words old new answer
-tells-tool words old new answer h u is tells inputs i reads a is_answer =
-    answers-tool words a u.output old new answer (told-by words old new answer u is tells inputs i reads a is_answer h.wanted h.text h.required h.puts)
+tells-tool words old new answer h u is tells own inputs i reads a is_answer =
+    answers-tool words a u.output old new answer (told-by words old new answer u is tells own inputs i reads a is_answer h.wanted h.text h.required h.puts)
 
 pub tells-tool-done : (words : List (List ℕ)) (old new : World) (answer : Status) → IsTopAnswer words old new answer → HasToolDoneAnswer words old new answer
-tells-tool-done words old new answer h u is tells inputs i a is_answer works =
+tells-tool-done words old new answer h u is tells own inputs i a is_answer works =
     answers-done words a u.output old new answer works
-    (told-by words old new answer u is tells inputs i works.reads a is_answer h.wanted h.text h.required h.puts)
+    (told-by words old new answer u is tells own inputs i works.reads a is_answer h.wanted h.text h.required h.puts)

@@ -5,10 +5,12 @@ use Rattle.std.proofs.lemmas.List.{take_more, map-append, take-append-drop}
 use Rattle.std.specs.List.{AllByRecursion}
 use Rattle.sloth_base.specs.Limits.{file_limit}
 use Rattle.sloth_io.specs.Counts.{Rose}
-use Rattle.sloth_io.specs.Store.{Files, Holds, KeepsFiles, IsMissing, IsTooLong}
+use Rattle.sloth_io.specs.Store.{Files, Holds, KeepsFiles, AreDelivered, IsMissing, IsTooLong}
 use Rattle.command_line.specs.Command.{words_of}
 use Rattle.sloth_commands.specs.FileInputs.{IsInput}
-use Rattle.sloth_commands.specs.ToolFiles.{AreToolInputs}
+use Rattle.sloth_commands.specs.ToolFiles.{AreToolInputs, input_deliveries}
+use Rattle.sloth_commands.specs.CommandFiles.{AreFirstDelivered}
+use Rattle.sloth_commands.proofs.InOrder.{front-delivered}
 use Rattle.sloth_commands.specs.Top.{FirstUnread}
 use Rattle.sloth_commands.specs.Failures.{IsFetchFailure, IsReadFailure}
 use Rattle.sloth_commands.specs.declared.failure.Failure.{Failure}
@@ -76,6 +78,7 @@ kept-both old mid new a b =
       failed_reads = omega (arith, r, s);
       overlong_reads = omega (arith, t, u);
       failed_writes = b.failed_writes ∙ a.failed_writes;
+      writes = b.writes ∙ a.writes;
     }
 
 pub kept-none : (files : Files) → KeepsFiles files files
@@ -87,6 +90,7 @@ kept-none files = record {
   failed_reads = omega arith;
   overlong_reads = omega arith;
   failed_writes = refl;
+  writes = refl;
 }
 
 pub input-kept : (old mid : Files) (name bytes : List ℕ) → KeepsFiles old mid → Holds mid name bytes → length bytes ≤ file_limit → IsInput old name bytes
@@ -150,11 +154,26 @@ words-around names i d lt =
 pub record AreFetched (old mid : Files) (names : List (String Global)) (i : ℕ) (inputs : List (List ℕ)) : Type 0 where
   pub read : AreToolInputs old (words_of (take i names)) inputs
   pub kept : KeepsFiles old mid
+  pub delivered : AreDelivered old mid (input_deliveries (words_of (take i names)) inputs)
+
+-- one delivery more
+delivered-more : (files : Files) (names inputs : List (List ℕ)) (name bytes : List ℕ) → AreToolInputs files names inputs
+    → input_deliveries (names ++ name ∷ []) (inputs ++ bytes ∷ []) ≡ input_deliveries names inputs ++ (name, bytes) ∷ []
+delivered-more files [] [] name bytes h = refl
+delivered-more files [] (b ∷ inputs) name bytes h = absurd h
+delivered-more files (n ∷ names) [] name bytes h = absurd h
+delivered-more files (n ∷ names) (b ∷ inputs) name bytes h =
+    ap (λ (xs : List (List ℕ × List ℕ)). (n, b) ∷ xs) (delivered-more files names inputs name bytes h.1)
+
+delivers-more : (old mid new : Files) (ds : List (List ℕ × List ℕ)) (name bytes : List ℕ) → AreDelivered old mid ds → AreDelivered mid new ((name, bytes) ∷ [])
+    → AreDelivered old new (ds ++ (name, bytes) ∷ [])
+delivers-more old mid new ds name bytes h k =
+    k ∙ ap (λ (xs : List (List ℕ × List ℕ)). xs ++ (name, bytes) ∷ []) h ∙ append_assoc old.reads ds ((name, bytes) ∷ [])
 
 pub fetched-more : (old mid new : Files) (names : List (String Global)) (i : ℕ) (d : String Global) (inputs after : List (List ℕ)) (name bytes : List ℕ) → i < length names
     → AreFetched old mid names i inputs → name ≡ string_bytes (get_or names i d) → Holds mid name bytes → length bytes ≤ file_limit → KeepsFiles mid new
-    → after ≡ inputs ++ bytes ∷ [] → AreFetched old new names (i + 1) after
-fetched-more old mid new names i d inputs after name bytes lt before is holds short kept e =
+    → AreDelivered mid new ((name, bytes) ∷ []) → after ≡ inputs ++ bytes ∷ [] → AreFetched old new names (i + 1) after
+fetched-more old mid new names i d inputs after name bytes lt before is holds short kept delivered e =
     let one : IsInput old (string_bytes (get_or names i d)) bytes =
     subst (λ n. IsInput old n bytes) is (input-kept old mid name bytes before.kept holds short) in
     record {
@@ -162,6 +181,13 @@ fetched-more old mid new names i d inputs after name bytes lt before is holds sh
           (subst (λ xs. AreToolInputs old (words_of (take i names) ++ string_bytes (get_or names i d) ∷ []) xs) (sym e)
           (more-inputs old (words_of (take i names)) inputs (string_bytes (get_or names i d)) bytes before.read one));
       kept = kept-both old mid new before.kept kept;
+      delivered =
+          let word = string_bytes (get_or names i d) in
+          let words = words_of (take i names) in
+          delivers-more old mid new (input_deliveries words inputs) word bytes before.delivered (subst (λ n. AreDelivered mid new ((n, bytes) ∷ [])) is delivered)
+          ∙ ap (λ (xs : List (List ℕ × List ℕ)). old.reads ++ xs) (sym (delivered-more old words inputs word bytes before.read))
+          ∙ ap (λ (xs : List (List ℕ)). old.reads ++ input_deliveries (words ++ word ∷ []) xs) (sym e)
+          ∙ ap (λ (xs : List (List ℕ)). old.reads ++ input_deliveries xs after) (sym (words-more names i d lt));
     }
 
 pub fetch-failed : (f : Failure) (old mid new : Files) (names : List (String Global)) (i : ℕ) (d : String Global) (inputs : List (List ℕ)) (name : List ℕ) → i < length names
@@ -169,3 +195,24 @@ pub fetch-failed : (f : Failure) (old mid new : Files) (names : List (String Glo
 fetch-failed f old mid new names i d inputs name lt before is h =
     fetch-ends f old mid new (words_of (take i names)) inputs (string_bytes (get_or names i d)) (words_of (drop (i + 1) names)) (words_of names) before.read before.kept
     (words-around names i d lt) (subst (λ n. IsFetchFailure f mid new n) is h)
+
+-- ---- what was delivered before a failure
+
+-- the next file was not read
+pub fetched-front : (old mid new : Files) (names : List (String Global)) (i : ℕ) (inputs : List (List ℕ)) → AreFetched old mid names i inputs
+    → new.reads ≡ mid.reads → AreFirstDelivered old new (words_of names)
+fetched-front old mid new names i inputs before same =
+    front-delivered old new (words_of (take i names)) (words_of (drop i names)) (words_of names) inputs (words-parted names i) before.read
+    (same ∙ before.delivered)
+  where
+    words-parted : (names : List (String Global)) (i : ℕ) → words_of (take i names) ++ words_of (drop i names) ≡ words_of names
+    words-parted names i =
+        sym (map-append (λ w. string_bytes w) (take i names) (drop i names)) ∙ ap words_of (take-append-drop i names)
+
+-- it was read, and there was no memory to keep it
+pub fetched-one-more : (old mid new : Files) (names : List (String Global)) (i : ℕ) (d : String Global) (inputs : List (List ℕ)) (name bytes : List ℕ) → i < length names
+    → AreFetched old mid names i inputs → name ≡ string_bytes (get_or names i d) → Holds mid name bytes → length bytes ≤ file_limit → KeepsFiles mid new
+    → AreDelivered mid new ((name, bytes) ∷ []) → AreFirstDelivered old new (words_of names)
+fetched-one-more old mid new names i d inputs name bytes lt before is holds short kept delivered =
+    let more = fetched-more old mid new names i d inputs (inputs ++ bytes ∷ []) name bytes lt before is holds short kept delivered refl in
+    fetched-front old new new names (i + 1) (inputs ++ bytes ∷ []) more refl

@@ -15,6 +15,7 @@ use Rattle.sloth_commands.specs.FileInputs.{IsInput}
 use Rattle.sloth_commands.specs.ImageFiles.{AreExecInputs, ReadsImageFile, exec_text}
 use Rattle.command_line.specs.LastLine.{no_image_line}
 use Rattle.sloth_runner.specs.Runner.{run_end}
+use Rattle.sloth_commands.specs.CommandFiles.{HasOwnOutput}
 use Rattle.sloth_commands.specs.Top.{World, IsTextTaken, IsFullAnswer, IsBrokenOff, IsRefusalAnswer, ReadsWork, PutsWork}
 use Rattle.sloth_runner.specs.declared.runner.RunEnd.{RunEnd}
 use Rattle.sloth_runner.specs.declared.runner.RunEnd.TheVariants as ends
@@ -41,16 +42,18 @@ abbrev pub IsImageFaultAnswer : World → World → ImageFault → Status → Ty
 IsImageFaultAnswer old new fault answer =
     ((answer ≡ status.NotAnImage) × IsTextTaken old.sink new.sink (no_image_line fault)) ⊎ ((answer ≡ status.NoMemory) ⊎ IsBrokenOff old new answer)
 
--- The inputs are there, and this is the first fault of the image file: NotAnImage, with the line that says it.
+-- The inputs are there, the command's output is none of them, and this is the first fault of the image file: NotAnImage, with the line that says it.
 abbrev pub HasImageFaultAnswer : List (List ℕ) → World → World → Status → Type 0
 HasImageFaultAnswer words old new answer =
-    (c : Command) → IsCommand words c → IsTrue old.files.tells → (file : List ℕ) → ReadsImageFile old.files c file → ReadsWork old.files new.files
+    (c : Command) → IsCommand words c → IsTrue old.files.tells → HasOwnOutput c → (file : List ℕ) → ReadsImageFile old.files c file
+    → ReadsWork old.files new.files
     → (fault : ImageFault) → IsFirstImageFault fault file → IsImageFaultAnswer old new fault answer
 
--- The inputs are there, and no image has the bytes of the image file: NotAnImage.
+-- The same, and no image has the bytes of the image file: NotAnImage.
 abbrev pub HasNoImageAnswer : List (List ℕ) → World → World → Status → Type 0
 HasNoImageAnswer words old new answer =
-    (c : Command) → IsCommand words c → IsTrue old.files.tells → (file : List ℕ) → ReadsImageFile old.files c file → ReadsWork old.files new.files
+    (c : Command) → IsCommand words c → IsTrue old.files.tells → HasOwnOutput c → (file : List ℕ) → ReadsImageFile old.files c file
+    → ReadsWork old.files new.files
     → ((image : Image) → ImageText file image → ⊥) → IsNoImageAnswer old new answer
 
 -- `exec`: the inputs are there, the image file is one, and this is the least fault of the arrivals: Refused, with the line that says it.

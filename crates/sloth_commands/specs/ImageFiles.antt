@@ -1,5 +1,5 @@
 -- What commands on image files do, and why they do not.
-use Rattle.std.specs.Prelude.{ℕ, ◌≡◌, List, [], ◌++◌}
+use Rattle.std.specs.Prelude.{ℕ, ◌≡◌, List, [], ◌∷◌, ◌++◌}
 use Rattle.sloth_base.specs.declared.event.Arrival.{Arrival}
 use Rattle.sloth_base.specs.declared.image.Image.{Image}
 use Rattle.sloth_base.specs.declared.refusal.Refusal.{Refusal}
@@ -16,7 +16,7 @@ use Rattle.trace_text.specs.declared.printing.Form.TheVariants as form
 use Rattle.command_line.specs.Command.{Command, Execution, Builds, Executes, Lists, Samples, Uses}
 use Rattle.trace_check.specs.Inputs.{AreArrivalsOf}
 use Rattle.sloth_commands.specs.FileInputs.{IsInput}
-use Rattle.sloth_commands.specs.ToolFiles.{ReadsImageFirst}
+use Rattle.sloth_commands.specs.ToolFiles.{ReadsImageFirst, input_deliveries}
 use Rattle.command_line.specs.StopLine.{stopped_line}
 use Rattle.sloth_runner.specs.Runner.{run_text, run_end}
 use Rattle.sloth_runner.specs.declared.runner.RunEnd.{RunEnd}
@@ -37,6 +37,18 @@ ReadsImageFile files (Lists img) file = IsInput files img file
 ReadsImageFile files (Samples seed img) file = ⊥
 ReadsImageFile files (Uses u) file = ReadsImageFirst files u file
 
+-- what is read where these are the image file and the arrivals file of a run
+abbrev pub exec_deliveries : Execution → List ℕ → List ℕ → List (List ℕ × List ℕ)
+exec_deliveries e file arr = (e.img, file) ∷ (e.arr, arr) ∷ []
+
+-- exactly the inputs of a command on an image file were read, in this order
+abbrev pub IsImageFileDelivered : (files : Files) (c : Command) (file : List ℕ) → ReadsImageFile files c file → Type 0
+IsImageFileDelivered files (Builds b) file i = ⊥
+IsImageFileDelivered files (Executes e) file i = files.reads ≡ exec_deliveries e file i.0
+IsImageFileDelivered files (Lists img) file i = files.reads ≡ (img, file) ∷ []
+IsImageFileDelivered files (Samples seed img) file i = ⊥
+IsImageFileDelivered files (Uses u) file i = files.reads ≡ input_deliveries u.inputs (file ∷ i.rest)
+
 -- ---- `exec`
 
 -- the inputs are accepted, with this meaning
@@ -44,6 +56,8 @@ pub record IsRunnable (old : Files) (e : Execution) (image : Image) (arrivals : 
   pub file : List ℕ
   pub arr : List ℕ
   pub inputs : AreExecInputs old e file arr
+  -- and exactly they were read, in this order
+  pub delivered : old.reads ≡ exec_deliveries e file arr
   pub is_image : ImageText file image
   pub read : AreArrivalsOf image.tasks image.counters arr arrivals
   -- so the machine has their lines
@@ -72,6 +86,7 @@ pub record IsExecRefused (old : Files) (e : Execution) (refusal : Refusal) : Typ
   pub arr : List ℕ
   pub image : Image
   pub inputs : AreExecInputs old e file arr
+  pub delivered : old.reads ≡ exec_deliveries e file arr
   pub is_image : ImageText file image
   pub least : IsLeast (ArrivalsFault image.tasks image.counters arr) refusal
 
@@ -82,6 +97,7 @@ pub record IsListed (old : Files) (img : List ℕ) (text : List ℕ) : Type 0 wh
   pub file : List ℕ
   pub image : Image
   pub input : IsInput old img file
+  pub delivered : old.reads ≡ (img, file) ∷ []
   pub is_image : ImageText file image
   pub text_is : text ≡ listing image
 
@@ -91,4 +107,5 @@ pub record IsListed (old : Files) (img : List ℕ) (text : List ℕ) : Type 0 wh
 pub record IsNoImage (old : Files) (c : Command) (fault : ImageFault) : Type 0 where
   pub file : List ℕ
   pub inputs : ReadsImageFile old c file
+  pub delivered : IsImageFileDelivered old c file inputs
   pub faulty : IsFirstImageFault fault file

@@ -1,3 +1,4 @@
+pub mod CommandFiles
 pub mod ImageFiles
 pub mod Samples
 pub mod Top
@@ -9,3 +10,4 @@ pub mod FileInputs
 pub mod ToolFiles
 pub mod ToolAnswers
 pub mod CheckedRuns
+pub mod PrintedMap

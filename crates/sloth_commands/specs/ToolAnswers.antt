@@ -9,6 +9,7 @@ use Rattle.tool_commands.specs.Lines.{tool_text}
 use Rattle.tool_answers.specs.declared.answer.ToolAnswer.{ToolAnswer}
 use Rattle.tool_answers.specs.declared.answer.ToolAnswer.TheVariants as tool_answer
 use Rattle.tool_answers.specs.Statuses.{tool_status}
+use Rattle.sloth_commands.specs.CommandFiles.{HasOwnOutput}
 use Rattle.sloth_commands.specs.ToolFiles.{AreToolInputs}
 use Rattle.sloth_commands.specs.Top.{World, IsTextTaken, FilesAfter, IsFullAnswer, IsBrokenOff, ReadsWork, WritesWork, PutsWork}
 use Rattle.tool_answers.specs.declared.status.Status.{Status}
@@ -41,15 +42,17 @@ pub record ToolWorks (a : ToolAnswer) (output : Option (List ℕ)) (old new : Wo
   pub text : PutsWork old.sink new.sink (tool_text a)
   pub last_line : PutsWork old.sink new.sink (codes "no memory\n")
 
--- The files are there, and this is the tool's answer to them: this answer.
+-- The files are there, the tool's output is none of them, and this is the tool's answer to them: this answer.
 abbrev pub HasToolAnswer : List (List ℕ) → World → World → Status → Type 0
 HasToolAnswer words old new answer =
-    (u : ToolUse) → IsCommand words (Uses u) → IsTrue old.files.tells → (inputs : List (List ℕ)) → AreToolInputs old.files u.inputs inputs
+    (u : ToolUse) → IsCommand words (Uses u) → IsTrue old.files.tells → HasOwnOutput (Uses u) → (inputs : List (List ℕ))
+    → AreToolInputs old.files u.inputs inputs
     → ReadsWork old.files new.files → (a : ToolAnswer) → IsAnswer u.tool u.counts inputs a → IsToolStatus words a u.output old new answer
 
 -- And no call failed: this answer, or memory was wanting.
 abbrev pub HasToolDoneAnswer : List (List ℕ) → World → World → Status → Type 0
 HasToolDoneAnswer words old new answer =
-    (u : ToolUse) → IsCommand words (Uses u) → IsTrue old.files.tells → (inputs : List (List ℕ)) → AreToolInputs old.files u.inputs inputs
+    (u : ToolUse) → IsCommand words (Uses u) → IsTrue old.files.tells → HasOwnOutput (Uses u) → (inputs : List (List ℕ))
+    → AreToolInputs old.files u.inputs inputs
     → (a : ToolAnswer) → IsAnswer u.tool u.counts inputs a → ToolWorks a u.output old new
     → IsToolTold a u.output old new answer ⊎ IsFullAnswer status.NoMemory words old new answer

@@ -1,5 +1,5 @@
 -- What tools read, and what they answer to it.
-use Rattle.std.specs.Prelude.{ℕ, List, [], ◌∷◌, IsTrue}
+use Rattle.std.specs.Prelude.{ℕ, ◌≡◌, List, [], ◌∷◌, IsTrue}
 use Rattle.sloth_io.specs.Store.{Files}
 use Rattle.command_line.specs.Tools.{ToolUse}
 use Rattle.tool_commands.specs.Answers.{IsAnswer, reads_image}
@@ -13,10 +13,18 @@ AreToolInputs files [] (bytes ∷ rest) = ⊥
 AreToolInputs files (name ∷ names) [] = ⊥
 AreToolInputs files (name ∷ names) (bytes ∷ rest) = IsInput files name bytes × AreToolInputs files names rest
 
+-- what is read of files of these names, where these are their bytes
+abbrev pub input_deliveries : List (List ℕ) → List (List ℕ) → List (List ℕ × List ℕ)
+input_deliveries [] inputs = []
+input_deliveries (name ∷ names) [] = []
+input_deliveries (name ∷ names) (bytes ∷ rest) = (name, bytes) ∷ input_deliveries names rest
+
 -- the tool reads these files, and this is its answer to them
 pub record IsToolAnswer (files : Files) (u : ToolUse) (answer : ToolAnswer) : Type 0 where
   pub inputs : List (List ℕ)
   pub read : AreToolInputs files u.inputs inputs
+  -- and exactly they were read, in this order
+  pub delivered : files.reads ≡ input_deliveries u.inputs inputs
   pub is : IsAnswer u.tool u.counts inputs answer
 
 -- the tool reads an image file first, which has these bytes

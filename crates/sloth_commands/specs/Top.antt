@@ -1,4 +1,4 @@
--- What the program does, and why it does not.
+-- What the program does, and why it does not. What the store shows before a call has, as its reads, those of this call (`call_files`).
 use Rattle.std.specs.Prelude.{ℕ, ◌≡◌, ◌+◌, ◌≤◌, ◌⊎◌, List, [], ◌∷◌, Option, Some, None, IsTrue, codes, length}
 use Rattle.sloth_base.specs.declared.config.Config.{Config}
 use Rattle.sloth_base.specs.declared.app.App.{App}
@@ -18,8 +18,9 @@ use Rattle.sim_induction.specs.Sound.{Sound, events_of}
 use Rattle.sim_laws.specs.TaskStates.{HasTaskStates}
 use Rattle.sloth_io.specs.Counts.{Rose, Stays}
 use Rattle.sloth_io.specs.Sink.{Output, output_with, GainsPart, FailsToPassOn}
-use Rattle.sloth_io.specs.Store.{Files, Holds, KeepsOthers, IsMissing, IsTooLong, IsUnwritten}
+use Rattle.sloth_io.specs.Store.{Files, Holds, IsFileWritten, KeepsOthers, IsMissing, IsTooLong, IsUnwritten}
 use Rattle.sloth_io.specs.Slots.{is_space_for}
+use Rattle.image_gen.specs.ImageOf.{HasPlannedMap}
 use Rattle.image_file.specs.ImageText.{image_bytes}
 use Rattle.image_file.specs.declared.fault.ImageFault.{ImageFault}
 use Rattle.rv32_instr.specs.declared.stop.Stop.{Stop}
@@ -36,6 +37,7 @@ use Rattle.trace_check.specs.Inputs.{IsRefusal}
 use Rattle.sloth_base.specs.DeclaredNames.{task_names, counter_names}
 use Rattle.trace_check.specs.Inputs.{AreArrivalsOf}
 use Rattle.tool_answers.specs.Statuses.{tool_status}
+use Rattle.sloth_commands.specs.CommandFiles.{inputs_of, HasOwnOutput, IsUsageCause}
 use Rattle.sloth_commands.specs.ToolFiles.{IsToolAnswer}
 use Rattle.sloth_commands.specs.ImageFiles.{IsExecuted, IsExecRefused, IsListed, IsNoImage}
 use Rattle.command_line.specs.LastLine.{refusal_line, built_line, no_image_line}
@@ -56,23 +58,19 @@ world files sink = record { files = files; sink = sink }
 
 -- ---- the inputs
 
--- the file that a run reads its arrivals from
-abbrev pub arrivals_named : Option Run → List (List ℕ)
-arrivals_named None = []
-arrivals_named (Some run) = run.arr ∷ []
-
--- the files that a command reads, in the order of its words
-abbrev pub inputs_of : Command → List (List ℕ)
-inputs_of (Builds b) = b.oil ∷ b.src ∷ arrivals_named b.run
-inputs_of (Executes e) = e.img ∷ e.arr ∷ []
-inputs_of (Lists img) = img ∷ []
-inputs_of (Samples seed img) = []
-inputs_of (Uses u) = u.inputs
-
 -- the arrivals are read from this text; a command that runs nothing has none
 abbrev pub HoldsArrivals : Files → Option Run → List ℕ → Type 0
 HoldsArrivals files None arr = arr ≡ []
 HoldsArrivals files (Some run) arr = Holds files run.arr arr
+
+-- what is read of the arrivals
+abbrev pub arrival_deliveries : Option Run → List ℕ → List (List ℕ × List ℕ)
+arrival_deliveries None arr = []
+arrival_deliveries (Some run) arr = (run.arr, arr) ∷ []
+
+-- what is read where these are the texts of the files that the words name
+abbrev pub text_deliveries : Building → List ℕ → List ℕ → List ℕ → List (List ℕ × List ℕ)
+text_deliveries c oil src arr = (c.oil, oil) ∷ (c.src, src) ∷ arrival_deliveries c.run arr
 
 -- these are the files that the words name, where the store tells its files, each of at most 4 MiB
 pub record AreInputs (files : Files) (c : Building) (oil src arr : List ℕ) : Type 0 where
@@ -102,13 +100,13 @@ IsLongRead old new c = FirstUnread old (λ name. IsTooLong old new name file_lim
 
 -- ---- what stands after an answer
 
--- no file has changed
+-- no file has changed, and nothing was written
 abbrev pub AreFilesSame : Files → Files → Type 0
-AreFilesSame old new = (name : List ℕ) → new.holds name ≡ old.holds name
+AreFilesSame old new = ((name : List ℕ) → new.holds name ≡ old.holds name) × (new.writes ≡ old.writes)
 
--- the image's file holds these bytes, and no other file has changed
+-- these bytes were written to the image's file, and nothing else, and no other file has changed
 abbrev pub IsWritten : Files → Files → List ℕ → List ℕ → Type 0
-IsWritten old new img bytes = Holds new img bytes × KeepsOthers old new img
+IsWritten old new img bytes = IsFileWritten old new img bytes × KeepsOthers old new img
 
 -- the text of a command that was done: that of the run with these arrivals, or the length of the image's file
 abbrev pub done_text : Image → List Arrival → Option Run → List ℕ
@@ -121,6 +119,8 @@ pub record IsAccepted (old : Files) (c : Building) (config : Config) (app : App)
   pub src : List ℕ
   pub arr : List ℕ
   pub inputs : AreInputs old c oil src arr
+  -- and exactly they were read, in this order
+  pub delivered : old.reads ≡ text_deliveries c oil src arr
   pub accepted : AreAccepted oil src config app
   pub read : AreArrivalsOf (task_names config) (counter_names config) arr arrivals
   -- so they are among those of which an image is sound
@@ -163,6 +163,8 @@ pub record IsBuiltImage (config : Config) (app : App) (image : Image) : Type 0 w
   -- its tasks and counters have the names of the configuration
   pub names : image.tasks ≡ task_names config
   pub counters : image.counters ≡ counter_names config
+  -- each of its pieces stands where the map that is planned for the task code has it
+  pub planned : HasPlannedMap config app image
 
 -- the events that a run of the image shows keep the priority ceiling protocol; a command that runs nothing shows none
 abbrev pub ShownKeepProtocol : Config → App → Image → List Arrival → Option Run → Type 0
@@ -194,6 +196,7 @@ pub record IsRefused (old : Files) (c : Building) (refusal : Refusal) : Type 0 w
   pub src : List ℕ
   pub arr : List ℕ
   pub inputs : AreInputs old c oil src arr
+  pub delivered : old.reads ≡ text_deliveries c oil src arr
   pub is : IsRefusal oil src arr refusal
 
 -- the inputs are accepted, the write of the image's file failed, and no other file has changed
@@ -318,7 +321,7 @@ IsCloseAnswer wanted answer old new = ((answer ≡ wanted) × (new ≡ old)) ⊎
 -- What an answer requires: its cause, this text, and what the files hold.
 abbrev pub IsRequired : Status → List (List ℕ) → Files → Files → List ℕ → Type 0
 IsRequired status.Done words old new text = (c : Command) × IsCommand words c × IsCommandDone old new c text
-IsRequired status.Usage words old new text = NoCommand words × (text ≡ codes "usage\n") × AreFilesSame old new
+IsRequired status.Usage words old new text = IsUsageCause words old × (text ≡ codes "usage\n") × AreFilesSame old new
 IsRequired status.Refused words old new text =
     (c : Command) × IsCommand words c × (refusal : Refusal) × IsCommandRefused old c refusal × (text ≡ refusal_line refusal) × AreFilesSame old new
 IsRequired status.ReadFault words old new text =
@@ -355,16 +358,17 @@ IsFullAnswer wanted words old new answer =
 
 -- ---- which answer comes
 
--- the store tells its files, and these are the inputs
+-- the store tells its files, these are the inputs, and the image's file is none of them
 pub record AreThere (old : Files) (c : Building) (oil src arr : List ℕ) : Type 0 where
   pub tells : IsTrue old.tells
   pub inputs : AreInputs old c oil src arr
+  pub own_output : HasOwnOutput (Builds c)
 
 -- this answer for want of a line, since a put failed
 abbrev pub IsBrokenOff : World → World → Status → Type 0
 IsBrokenOff old new answer = (answer ≡ status.WriteFault) × Rose old.sink.faults new.sink.faults
 
--- words of no command, unless the line could not be put
+-- usage, unless the line could not be put
 abbrev pub IsUsageAnswer : World → World → Status → Type 0
 IsUsageAnswer old new answer = (answer ≡ status.Usage) ⊎ IsBrokenOff old new answer
 
@@ -401,6 +405,11 @@ pub record CallsWork (c : Building) (config : Config) (app : App) (arrivals : Li
 -- The words are those of no command: Usage.
 abbrev pub HasUsageAnswer : List (List ℕ) → World → World → Status → Type 0
 HasUsageAnswer words old new answer = NoCommand words → IsUsageAnswer old new answer
+
+-- The store tells its files, and the file that the command would write has the name of one that it reads: Usage.
+abbrev pub HasOverwriteAnswer : List (List ℕ) → World → World → Status → Type 0
+HasOverwriteAnswer words old new answer =
+    (c : Command) → IsCommand words c → IsTrue old.files.tells → (HasOwnOutput c → ⊥) → IsUsageAnswer old new answer
 
 -- The inputs are there and are refused so: Refused, with the line that says it.
 abbrev pub HasRefusalAnswer : List (List ℕ) → World → World → Status → Type 0

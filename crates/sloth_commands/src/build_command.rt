@@ -1,10 +1,10 @@
 //! The commands that build an image: `build`, `run` and `order`, in steps.
-ghost use Rattle.std.specs.Prelude.{◌≤◌, IfOk, IfErr, OnOk, length};
+ghost use Rattle.std.specs.Prelude.{◌≡◌, ◌≤◌, IfOk, IfErr, OnOk, length};
 ghost use Rattle.sloth_base.specs.Arrivals.{AreArrivals};
 ghost use Rattle.sloth_base.specs.Owners.{owners_in, owners_named};
 ghost use Rattle.sloth_base.specs.ImageRange.{InFormat};
 ghost use Rattle.sloth_base.specs.Limits.{file_limit, count_limit};
-ghost use Rattle.sloth_io.specs.Store.{KeepsFiles};
+ghost use Rattle.sloth_io.specs.Store.{KeepsFiles, AreDelivered};
 ghost use Rattle.image_file.specs.ImageText.{image_bytes};
 ghost use Rattle.sloth_source.specs.Texts.{AreAccepted};
 ghost use Rattle.command_line.specs.Command.{Builds, IsInLimit};
@@ -12,7 +12,9 @@ ghost use Rattle.command_line.specs.Words.{building_of, run_of};
 ghost use Rattle.trace_check.specs.Inputs.{AreArrivalsOf};
 ghost use Rattle.command_line.specs.LastLine.{built_line};
 ghost use Rattle.sloth_runner.specs.Runner.{IsFresh, image_of, given_arrivals, run_text};
-ghost use Rattle.sloth_commands.specs.Top.{world, arrivals_named, inputs_of, AreInputs, HoldsArrivals, IsBuiltImage, IsWritten, done_text, IsTextTaken};
+ghost use Rattle.sloth_commands.specs.Top.{world, arrival_deliveries, text_deliveries};
+ghost use Rattle.sloth_commands.specs.CommandFiles.{AreFirstDelivered, arrivals_named, inputs_of};
+ghost use Rattle.sloth_commands.specs.Top.{AreInputs, HoldsArrivals, IsBuiltImage, IsWritten, done_text, IsTextTaken};
 ghost use Rattle.sloth_base.specs.DeclaredNames.{task_names, counter_names};
 ghost use Rattle.sloth_commands.specs.Failures.{IsReadFailure, IsJudgeFailure, IsPerformFailure};
 
@@ -50,6 +52,8 @@ fn fetch_arrivals<F: Store>(
     ensures err { IfErr result (λ failure.
         IsReadFailure failure (F.seen files.old) (F.seen files.new) (arrivals_named (run_of run.now))) }
     ensures keeps { KeepsFiles (F.seen files.old) (F.seen files.new) }
+    ensures nothing { IfErr result (λ _. (F.seen files.new).reads ≡ (F.seen files.old).reads) }
+    ensures delivered { IfOk result (λ bytes. AreDelivered (F.seen files.old) (F.seen files.new) (arrival_deliveries (run_of run.now) bytes.items)) }
 {
     match run {
         None => Ok(Vec::new(alloc)),
@@ -66,12 +70,14 @@ pub fn read_inputs<F: Store>(
     ensures ok { IfOk result (λ i. AreInputs (F.seen files.old) (building_of c.now) i.oil.items i.src.items i.arr.items) }
     ensures err { IfErr result (λ failure. IsReadFailure failure (F.seen files.old) (F.seen files.new) (inputs_of (Builds (building_of c.now)))) }
     ensures keeps { KeepsFiles (F.seen files.old) (F.seen files.new) }
+    ensures delivered { IfOk result (λ i. AreDelivered (F.seen files.old) (F.seen files.new)
+        (text_deliveries (building_of c.now) i.oil.items i.src.items i.arr.items)) }
+    ensures front { IfErr result (λ _. AreFirstDelivered (F.seen files.old) (F.seen files.new) (inputs_of (Builds (building_of c.now)))) }
 {
-    Ok(Inputs {
-        oil: fetch(alloc, files, c.oil)?,
-        src: fetch(alloc, files, c.src)?,
-        arr: fetch_arrivals(alloc, files, &c.run)?,
-    })
+    let oil = fetch(alloc, files, c.oil)?;
+    let src = fetch(alloc, files, c.src)?;
+    let arr = fetch_arrivals(alloc, files, &c.run)?;
+    Ok(Inputs { oil, src, arr })
 }
 
 /// What is built, and the arrivals.
@@ -115,6 +121,7 @@ fn perform_build<F: Store, S: Sink>(
     ensures err { IfErr result (λ failure.
         IsPerformFailure failure (world (F.seen files.old) (S.seen out.old)) (world (F.seen files.new) (S.seen out.new))
         img.now bytes.now (built_line (length bytes.now))) }
+    ensures reads { (F.seen files.new).reads ≡ (F.seen files.old).reads }
 {
     files.write(img, bytes).map_err(|_| Failure::WriteFile)?;
     out.put(built_line(bytes.len()).bytes())?;
@@ -138,6 +145,7 @@ fn write_and_run<F: Store, S: Sink>(
     ensures err { IfErr result (λ failure.
         IsPerformFailure failure (world (F.seen files.old) (S.seen out.old)) (world (F.seen files.new) (S.seen out.new))
         img.now bytes.now (run_text (image_of runner.old) (given_arrivals runner.old) run.now.form run.now.n)) }
+    ensures reads { (F.seen files.new).reads ≡ (F.seen files.old).reads }
 {
     files.write(img, bytes).map_err(|_| Failure::WriteFile)?;
     runner.run(run.n, run.form, out)?;
@@ -163,6 +171,7 @@ fn perform_run<F: Store, S: Sink>(
     ensures err { IfErr result (λ failure.
         IsPerformFailure failure (world (F.seen files.old) (S.seen out.old)) (world (F.seen files.new) (S.seen out.new))
         img.now bytes.now (run_text image.now arrivals.now run.now.form run.now.n)) }
+    ensures reads { (F.seen files.new).reads ≡ (F.seen files.old).reads }
 {
     let mut runner = Runner::new(alloc, image, arrivals)?;
     write_and_run(files, out, img, run, bytes, &mut runner)
@@ -185,6 +194,7 @@ pub fn perform<F: Store, S: Sink>(
     ensures err { IfErr result (λ failure.
         IsPerformFailure failure (world (F.seen files.old) (S.seen out.old)) (world (F.seen files.new) (S.seen out.new))
         c.now.img.now (image_bytes image.now) (done_text image.now arrivals.now (run_of c.now.run))) }
+    ensures reads { (F.seen files.new).reads ≡ (F.seen files.old).reads }
 {
     let bytes = write_image(alloc, image)?;
     match &c.run {

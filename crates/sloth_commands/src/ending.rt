@@ -1,4 +1,5 @@
 //! How a command ends: its last line, and what the sink holds back.
+ghost use Rattle.std.specs.Prelude.{◌≢◌};
 ghost use Rattle.sloth_commands.specs.Top.{IsPutAnswer, IsCloseAnswer};
 ghost use Rattle.sloth_commands.specs.Failures.{IsFailureEnd};
 
@@ -9,7 +10,8 @@ use tool_answers::Status;
 
 /// Hands on what the sink holds back. Where it can't be, the status is WriteFault.
 pub fn close<S: Sink>(out: &mut S, status: Status) -> Status
-    ensures { IsCloseAnswer status result (S.seen out.old) (S.seen out.new) }
+    ensures ends { IsCloseAnswer status result (S.seen out.old) (S.seen out.new) }
+    ensures passed { result ≢ Status.WriteFault → S.passed_on out.new }
 {
     match out.flush() {
         Ok(()) => status,
@@ -19,7 +21,8 @@ pub fn close<S: Sink>(out: &mut S, status: Status) -> Status
 
 /// Puts a last line. Where it can't be put or handed on, the status is WriteFault.
 pub fn say<S: Sink>(out: &mut S, line: &[u8], status: Status) -> Status
-    ensures { IsPutAnswer status result (S.seen out.old) (S.seen out.new) line.now }
+    ensures ends { IsPutAnswer status result (S.seen out.old) (S.seen out.new) line.now }
+    ensures passed { result ≢ Status.WriteFault → S.passed_on out.new }
 {
     match out.put(line) {
         Ok(()) => close(out, status),
@@ -29,7 +32,8 @@ pub fn say<S: Sink>(out: &mut S, line: &[u8], status: Status) -> Status
 
 /// Puts the last line of a failure.
 pub fn finish<S: Sink>(out: &mut S, failure: Failure) -> Status
-    ensures { IsFailureEnd failure result (S.seen out.old) (S.seen out.new) }
+    ensures ends { IsFailureEnd failure result (S.seen out.old) (S.seen out.new) }
+    ensures passed { result ≢ Status.WriteFault → S.passed_on out.new }
 {
     match failure {
         Failure::Refused(refusal) => say(out, refusal_line(refusal).bytes(), Status::Refused),

@@ -5,15 +5,16 @@ ghost use Rattle.sloth_base.specs.Owners.{owners_named};
 ghost use Rattle.sloth_base.specs.ImageRange.{InFormat};
 ghost use Rattle.sloth_base.specs.Limits.{file_limit, count_limit};
 ghost use Rattle.sloth_io.specs.Sink.{output_with, GainsPart};
-ghost use Rattle.sloth_io.specs.Store.{KeepsFiles};
+ghost use Rattle.sloth_io.specs.Store.{KeepsFiles, AreDelivered, call_files};
 ghost use Rattle.image_file.specs.ImageText.{ImageText};
 ghost use Rattle.command_line.specs.Command.{Executes, Lists};
 ghost use Rattle.command_line.specs.Words.{execution_of};
 ghost use Rattle.trace_check.specs.Inputs.{AreArrivalsOf};
-ghost use Rattle.sloth_commands.specs.ImageFiles.{AreExecInputs, end_line, exec_text};
+ghost use Rattle.sloth_commands.specs.ImageFiles.{AreExecInputs, exec_deliveries, end_line, exec_text};
 ghost use Rattle.sloth_commands.specs.ImageAnswers.{end_status};
 ghost use Rattle.sloth_runner.specs.Runner.{IsFresh, image_of, given_arrivals, run_end};
-ghost use Rattle.sloth_commands.specs.Top.{world, inputs_of, IsTextTaken};
+ghost use Rattle.sloth_commands.specs.Top.{world, IsTextTaken};
+ghost use Rattle.sloth_commands.specs.CommandFiles.{AreFirstDelivered, inputs_of};
 ghost use Rattle.sloth_commands.specs.Failures.{IsReadFailure, IsLoadFailure, IsLinesFailure, IsLineFailure, IsCommandFailure, IsPerformed};
 ghost use Rattle.tool_answers.specs.declared.status.Status.TheVariants.{Done as DoneStatus};
 ghost use Rattle.trace_text.specs.Listing.{listing};
@@ -47,11 +48,12 @@ fn read_inputs<F: Store>(alloc: Global, files: &mut F, e: &ExecWords) -> Result<
     ensures err { IfErr result (λ failure.
         IsReadFailure failure (F.seen files.old) (F.seen files.new) (inputs_of (Executes (execution_of e.now)))) }
     ensures keeps { KeepsFiles (F.seen files.old) (F.seen files.new) }
+    ensures delivered { IfOk result (λ i. AreDelivered (F.seen files.old) (F.seen files.new) (exec_deliveries (execution_of e.now) i.file.items i.arr.items)) }
+    ensures front { IfErr result (λ _. AreFirstDelivered (F.seen files.old) (F.seen files.new) (inputs_of (Executes (execution_of e.now)))) }
 {
-    Ok(ExecInputs {
-        file: fetch(alloc, files, e.img)?,
-        arr: fetch(alloc, files, e.arr)?,
-    })
+    let file = fetch(alloc, files, e.img)?;
+    let arr = fetch(alloc, files, e.arr)?;
+    Ok(ExecInputs { file, arr })
 }
 
 // Judges the inputs of a run, the image before its arrivals.
@@ -134,9 +136,12 @@ pub fn execute<F: Store, S: Sink>(
 ) -> Result<Status, Failure>
     requires { e.now.n ≤ count_limit }
     ensures done { IfOk result (λ status. IsPerformed status
-        (world (F.seen files.old) (S.seen out.old)) (world (F.seen files.new) (S.seen out.new)) (Executes (execution_of e.now))) }
+        (world (call_files (F.seen files.old) (F.seen files.new)) (S.seen out.old)) (world (F.seen files.new) (S.seen out.new))
+        (Executes (execution_of e.now))) }
     ensures err { IfErr result (λ failure. IsCommandFailure failure
-        (world (F.seen files.old) (S.seen out.old)) (world (F.seen files.new) (S.seen out.new)) (Executes (execution_of e.now))) }
+        (world (call_files (F.seen files.old) (F.seen files.new)) (S.seen out.old)) (world (F.seen files.new) (S.seen out.new))
+        (Executes (execution_of e.now))) }
+    ensures reads { AreFirstDelivered (F.seen files.old) (F.seen files.new) (inputs_of (Executes (execution_of e.now))) }
 {
     let inputs = read_inputs(alloc, files, e)?;
     let loaded = load(alloc, inputs)?;
@@ -161,9 +166,10 @@ fn list_file<F: Store, S: Sink>(
     img: &str,
 ) -> Result<(), Failure>
     ensures done { OnOk result (IsPerformed DoneStatus
-        (world (F.seen files.old) (S.seen out.old)) (world (F.seen files.new) (S.seen out.new)) (Lists img.now)) }
+        (world (call_files (F.seen files.old) (F.seen files.new)) (S.seen out.old)) (world (F.seen files.new) (S.seen out.new)) (Lists img.now)) }
     ensures err { IfErr result (λ failure. IsCommandFailure failure
-        (world (F.seen files.old) (S.seen out.old)) (world (F.seen files.new) (S.seen out.new)) (Lists img.now)) }
+        (world (call_files (F.seen files.old) (F.seen files.new)) (S.seen out.old)) (world (F.seen files.new) (S.seen out.new)) (Lists img.now)) }
+    ensures reads { AreFirstDelivered (F.seen files.old) (F.seen files.new) (inputs_of (Lists img.now)) }
 {
     let file = fetch(alloc, files, img)?;
     let image = read_image(alloc, file.as_slice())?;
@@ -178,9 +184,10 @@ pub fn list<F: Store, S: Sink>(
     img: &str,
 ) -> Result<Status, Failure>
     ensures done { IfOk result (λ status. IsPerformed status
-        (world (F.seen files.old) (S.seen out.old)) (world (F.seen files.new) (S.seen out.new)) (Lists img.now)) }
+        (world (call_files (F.seen files.old) (F.seen files.new)) (S.seen out.old)) (world (F.seen files.new) (S.seen out.new)) (Lists img.now)) }
     ensures err { IfErr result (λ failure. IsCommandFailure failure
-        (world (F.seen files.old) (S.seen out.old)) (world (F.seen files.new) (S.seen out.new)) (Lists img.now)) }
+        (world (call_files (F.seen files.old) (F.seen files.new)) (S.seen out.old)) (world (F.seen files.new) (S.seen out.new)) (Lists img.now)) }
+    ensures reads { AreFirstDelivered (F.seen files.old) (F.seen files.new) (inputs_of (Lists img.now)) }
 {
     list_file(alloc, files, out, img)?;
     Ok(Status::Done)

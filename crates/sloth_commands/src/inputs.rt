@@ -1,7 +1,7 @@
 //! Reads the files that a command names.
-ghost use Rattle.std.specs.Prelude.{◌≤◌, IfOk, IfErr, length};
+ghost use Rattle.std.specs.Prelude.{◌≡◌, ◌≤◌, [], ◌∷◌, IfOk, IfErr, length};
 ghost use Rattle.sloth_base.specs.Limits.{file_limit};
-ghost use Rattle.sloth_io.specs.Store.{KeepsFiles, Holds};
+ghost use Rattle.sloth_io.specs.Store.{KeepsFiles, AreDelivered, Holds};
 ghost use Rattle.sloth_commands.specs.Failures.{IsFetchFailure};
 
 use crate::failure::Failure;
@@ -15,6 +15,8 @@ pub fn fetch<F: Store>(alloc: Global, files: &mut F, name: &str) -> Result<Vec<u
     ensures short { IfOk result (λ bytes. length bytes.items ≤ file_limit) }
     ensures err { IfErr result (λ failure. IsFetchFailure failure (F.seen files.old) (F.seen files.new) name.now) }
     ensures keeps { KeepsFiles (F.seen files.old) (F.seen files.new) }
+    ensures nothing { IfErr result (λ _. (F.seen files.new).reads ≡ (F.seen files.old).reads) }
+    ensures delivered { IfOk result (λ bytes. AreDelivered (F.seen files.old) (F.seen files.new) ((name.now, bytes.items) ∷ [])) }
 {
     let mut bytes = Vec::new(alloc);
     files.read(name, FILE_LIMIT, &mut bytes)?;

@@ -4,10 +4,12 @@ ghost use Rattle.sloth_base.specs.Arrivals.{AreArrivals};
 ghost use Rattle.sloth_base.specs.Owners.{owners_in, owners_named};
 ghost use Rattle.sloth_base.specs.ImageRange.{InFormat};
 ghost use Rattle.sloth_io.specs.Sink.{output_with, GainsPart};
+ghost use Rattle.sloth_io.specs.Store.{call_files};
 ghost use Rattle.image_file.specs.ImageText.{image_bytes};
 ghost use Rattle.sloth_source.specs.Texts.{AreAccepted};
 ghost use Rattle.command_line.specs.Command.{Samples};
 ghost use Rattle.sloth_runner.specs.Runner.{IsFresh, image_of, given_arrivals};
+ghost use Rattle.sloth_commands.specs.CommandFiles.{inputs_of, AreFirstDelivered};
 ghost use Rattle.sloth_commands.specs.Samples.{sample_oil, sample_source, sample_arrivals, sample_text};
 ghost use Rattle.sloth_commands.specs.Top.{world, IsBuiltImage, IsWritten, IsTextTaken};
 ghost use Rattle.sloth_commands.specs.Failures.{IsSampleFailure, IsPerformFailure, IsCommandFailure, IsPerformed};
@@ -75,6 +77,7 @@ fn write_and_show<F: Store, S: Sink>(
     ensures err { IfErr result (λ failure.
         IsPerformFailure failure (world (F.seen files.old) (S.seen out.old)) (world (F.seen files.new) (S.seen out.new))
         img.now bytes.now (sample_text (image_of runner.old) (given_arrivals runner.old))) }
+    ensures reads { (F.seen files.new).reads ≡ (F.seen files.old).reads }
 {
     files.write(img, bytes).map_err(|_| Failure::WriteFile)?;
     show(runner, out)?;
@@ -97,6 +100,7 @@ fn perform<F: Store, S: Sink>(
     ensures err { IfErr result (λ failure.
         IsPerformFailure failure (world (F.seen files.old) (S.seen out.old)) (world (F.seen files.new) (S.seen out.new))
         img.now (image_bytes image.now) (sample_text image.now arrivals.now)) }
+    ensures reads { (F.seen files.new).reads ≡ (F.seen files.old).reads }
 {
     let bytes = write_image(alloc, image)?;
     let mut runner = Runner::new(alloc, image, arrivals)?;
@@ -112,9 +116,10 @@ fn attempt<F: Store, S: Sink>(
     img: &str,
 ) -> Result<(), Failure>
     ensures done { OnOk result (IsPerformed DoneStatus
-        (world (F.seen files.old) (S.seen out.old)) (world (F.seen files.new) (S.seen out.new)) (Samples seed img.now)) }
+        (world (call_files (F.seen files.old) (F.seen files.new)) (S.seen out.old)) (world (F.seen files.new) (S.seen out.new)) (Samples seed img.now)) }
     ensures err { IfErr result (λ failure. IsCommandFailure failure
-        (world (F.seen files.old) (S.seen out.old)) (world (F.seen files.new) (S.seen out.new)) (Samples seed img.now)) }
+        (world (call_files (F.seen files.old) (F.seen files.new)) (S.seen out.old)) (world (F.seen files.new) (S.seen out.new)) (Samples seed img.now)) }
+    ensures reads { AreFirstDelivered (F.seen files.old) (F.seen files.new) (inputs_of (Samples seed img.now)) }
 {
     let made = generate(alloc, seed)?;
     perform(
@@ -137,9 +142,10 @@ pub fn sample_run<F: Store, S: Sink>(
     img: &str,
 ) -> Result<Status, Failure>
     ensures done { IfOk result (λ status. IsPerformed status
-        (world (F.seen files.old) (S.seen out.old)) (world (F.seen files.new) (S.seen out.new)) (Samples seed img.now)) }
+        (world (call_files (F.seen files.old) (F.seen files.new)) (S.seen out.old)) (world (F.seen files.new) (S.seen out.new)) (Samples seed img.now)) }
     ensures err { IfErr result (λ failure. IsCommandFailure failure
-        (world (F.seen files.old) (S.seen out.old)) (world (F.seen files.new) (S.seen out.new)) (Samples seed img.now)) }
+        (world (call_files (F.seen files.old) (F.seen files.new)) (S.seen out.old)) (world (F.seen files.new) (S.seen out.new)) (Samples seed img.now)) }
+    ensures reads { AreFirstDelivered (F.seen files.old) (F.seen files.new) (inputs_of (Samples seed img.now)) }
 {
     attempt(alloc, files, out, seed, img)?;
     Ok(Status::Done)

@@ -1,14 +1,15 @@
 //! The commands that are tools: they read files, come to one answer, write one file at most, and put the answer's text.
 ghost use Rattle.std.specs.Prelude.{◌≡◌, ◌<◌, ◌≤◌, IfOk, IfErr, OnOk, OnErr, length};
 ghost use Rattle.sloth_io.specs.Sink.{output_with, GainsPart};
-ghost use Rattle.sloth_io.specs.Store.{KeepsFiles};
+ghost use Rattle.sloth_io.specs.Store.{KeepsFiles, AreDelivered, call_files};
 ghost use Rattle.command_line.specs.Command.{Uses, words_of};
 ghost use Rattle.command_line.specs.Tools.{IsToolUse};
 ghost use Rattle.command_line.specs.Words.{use_of};
 ghost use Rattle.tool_commands.specs.Lines.{tool_text};
 ghost use Rattle.tool_answers.specs.declared.answer.ToolAnswer.TheVariants as tool_answer;
 ghost use Rattle.tool_answers.specs.Statuses.{tool_status};
-ghost use Rattle.sloth_commands.specs.ToolFiles.{AreToolInputs};
+ghost use Rattle.sloth_commands.specs.CommandFiles.{inputs_of, AreFirstDelivered};
+ghost use Rattle.sloth_commands.specs.ToolFiles.{AreToolInputs, input_deliveries};
 ghost use Rattle.sloth_commands.specs.Top.{world, IsTextTaken, FilesAfter, IsOutputWritten};
 ghost use Rattle.sloth_commands.specs.Failures.{IsReadFailure, IsOutputFailure, IsLineFailure, IsTellFailure, IsCommandFailure, IsPerformed};
 
@@ -34,6 +35,8 @@ fn fetch_all<F: Store>(
     ensures ok { IfOk result (λ inputs. AreToolInputs (F.seen files.old) (words_of names.now) inputs.items) }
     ensures err { IfErr result (λ failure. IsReadFailure failure (F.seen files.old) (F.seen files.new) (words_of names.now)) }
     ensures keeps { KeepsFiles (F.seen files.old) (F.seen files.new) }
+    ensures delivered { IfOk result (λ inputs. AreDelivered (F.seen files.old) (F.seen files.new) (input_deliveries (words_of names.now) inputs.items)) }
+    ensures front { IfErr result (λ _. AreFirstDelivered (F.seen files.old) (F.seen files.new) (words_of names.now)) }
 {
     let mut inputs = Vec::new(alloc);
     for name in names {
@@ -48,6 +51,7 @@ fn write_output<F: Store>(files: &mut F, words: &ToolWords, bytes: &[u8]) -> Res
     ensures ok { OnOk result (IsOutputWritten (F.seen files.old) (F.seen files.new) (use_of words.now).output bytes.now) }
     ensures err { IfErr result (λ failure.
         IsOutputFailure failure (F.seen files.old) (F.seen files.new) (use_of words.now).output bytes.now) }
+    ensures reads { (F.seen files.new).reads ≡ (F.seen files.old).reads }
 {
     let Some(name) = words.output else {
         return Ok(());
@@ -91,6 +95,7 @@ fn tell_outcome<F: Store, S: Sink>(
     ensures text { OnOk result (IsTextTaken (S.seen out.old) (S.seen out.new) outcome.now.text) }
     ensures err { IfErr result (λ failure. IsTellFailure failure (tool_answer.Done outcome.now)
         (world (F.seen files.old) (S.seen out.old)) (world (F.seen files.new) (S.seen out.new)) (use_of words.now).output) }
+    ensures reads { (F.seen files.new).reads ≡ (F.seen files.old).reads }
 {
     write_output(files, words, outcome.file.items())?;
     put_text(out, outcome.text.items())?;
@@ -117,6 +122,7 @@ fn tell_text<F: Store, S: Sink>(
     ensures files { OnOk result (FilesAfter answer.now (F.seen files.old) (F.seen files.new) (use_of words.now).output) }
     ensures err { IfErr result (λ failure. IsTellFailure failure answer.now
         (world (F.seen files.old) (S.seen out.old)) (world (F.seen files.new) (S.seen out.new)) (use_of words.now).output) }
+    ensures reads { (F.seen files.new).reads ≡ (F.seen files.old).reads }
 {
     match answer {
         ToolAnswer::Done(outcome) => tell_outcome(files, out, words, outcome),
@@ -141,6 +147,7 @@ fn tell<F: Store, S: Sink>(
     ensures files { OnOk result (FilesAfter answer.now (F.seen files.old) (F.seen files.new) (use_of words.now).output) }
     ensures err { IfErr result (λ failure. IsTellFailure failure answer.now
         (world (F.seen files.old) (S.seen out.old)) (world (F.seen files.new) (S.seen out.new)) (use_of words.now).output) }
+    ensures reads { (F.seen files.new).reads ≡ (F.seen files.old).reads }
 {
     tell_text(files, out, words, answer)?;
     Ok(answer.status())
@@ -155,9 +162,10 @@ pub fn use_tool<F: Store, S: Sink>(
 ) -> Result<Status, Failure>
     requires { IsToolUse (use_of words.now) }
     ensures done { IfOk result (λ status. IsPerformed status
-        (world (F.seen files.old) (S.seen out.old)) (world (F.seen files.new) (S.seen out.new)) (Uses (use_of words.now))) }
+        (world (call_files (F.seen files.old) (F.seen files.new)) (S.seen out.old)) (world (F.seen files.new) (S.seen out.new)) (Uses (use_of words.now))) }
     ensures err { IfErr result (λ failure. IsCommandFailure failure
-        (world (F.seen files.old) (S.seen out.old)) (world (F.seen files.new) (S.seen out.new)) (Uses (use_of words.now))) }
+        (world (call_files (F.seen files.old) (F.seen files.new)) (S.seen out.old)) (world (F.seen files.new) (S.seen out.new)) (Uses (use_of words.now))) }
+    ensures reads { AreFirstDelivered (F.seen files.old) (F.seen files.new) (inputs_of (Uses (use_of words.now))) }
 {
     let inputs = fetch_all(alloc, files, words.inputs)?;
     let answer = judge(alloc, words.tool, words.counts, inputs.as_slice())?;

@@ -1,3 +1,4 @@
+pub mod NoFields
 pub mod Gains
 pub mod Passing
 pub mod Files

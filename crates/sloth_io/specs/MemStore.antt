@@ -55,6 +55,8 @@ shown_files store = record {
   failed_reads = store.failed_reads;
   overlong_reads = store.overlong_reads;
   failed_writes = store.failed_writes;
+  reads = store.reads.items;
+  writes = store.writes.items;
 }
 
 -- a store of these files with these failing calls, which was not yet called
@@ -65,6 +67,8 @@ pub record IsFreshStore (files : List MemFile) (fails : List ℕ) (store : MemSt
   pub failed_reads : store.failed_reads ≡ 0
   pub overlong_reads : store.overlong_reads ≡ 0
   pub failed_writes : store.failed_writes ≡ 0
+  pub reads : store.reads.items ≡ []
+  pub writes : store.writes.items ≡ []
 
 -- one call was counted
 pub record IsStoreCalled (old new : MemStore) : Type 0 where

@@ -1,10 +1,11 @@
 -- What a store shows, and what its calls do.
-use Rattle.std.specs.Prelude.{◌≡◌, ◌≢◌, ◌≤◌, ◌<◌, ◌⊎◌, ℕ, List, ◌++◌, length, Option, Some, None, Bool, false, IsTrue}
+use Rattle.std.specs.Prelude.{◌≡◌, ◌≢◌, ◌≤◌, ◌<◌, ◌⊎◌, ℕ, List, [], ◌∷◌, ◌++◌, length, drop, Option, Some, None, Bool, false, IsTrue}
 use Rattle.sloth_io.specs.Counts.{Rose}
 use Rattle.sloth_io.specs.Slots.{is_space_for}
 
--- What each named file holds, where the store tells that, and three counts. A sure store has no call that is to fail: what its
--- files hold, their space and want of memory are the only causes.
+-- What each named file holds, where the store tells that, three counts, and what its calls moved: the bytes that each read that was done
+-- delivered, and those of each write that was done, with the file's name, in the order of the calls. A sure store has no call that is to
+-- fail: what its files hold, their space and want of memory are the only causes.
 pub record Files : Type 0 where
   pub tells : Bool
   pub sure : Bool
@@ -13,6 +14,8 @@ pub record Files : Type 0 where
   pub failed_reads : ℕ
   pub overlong_reads : ℕ
   pub failed_writes : ℕ
+  pub reads : List (List ℕ × List ℕ)
+  pub writes : List (List ℕ × List ℕ)
 
 -- a read changes no file, and not the count of failed writes
 pub record KeepsFiles (old new : Files) : Type 0 where
@@ -23,8 +26,9 @@ pub record KeepsFiles (old new : Files) : Type 0 where
   pub failed_reads : old.failed_reads ≤ new.failed_reads
   pub overlong_reads : old.overlong_reads ≤ new.overlong_reads
   pub failed_writes : new.failed_writes ≡ old.failed_writes
+  pub writes : new.writes ≡ old.writes
 
--- a write changes no file's space, and none of the counts of reads
+-- a write changes no file's space, none of the counts of reads, and delivers nothing
 pub record KeepsReads (old new : Files) : Type 0 where
   pub tells : new.tells ≡ old.tells
   pub sure : new.sure ≡ old.sure
@@ -32,11 +36,21 @@ pub record KeepsReads (old new : Files) : Type 0 where
   pub failed_reads : new.failed_reads ≡ old.failed_reads
   pub overlong_reads : new.overlong_reads ≡ old.overlong_reads
   pub failed_writes : old.failed_writes ≤ new.failed_writes
+  pub reads : new.reads ≡ old.reads
 
--- the file's bytes, which are at most `limit`, stand behind the old ones
-abbrev pub IsAppended : Files → List ℕ → ℕ → List ℕ → List ℕ → Type 0
-IsAppended files name limit old new =
-    (bytes : List ℕ) × (new ≡ old ++ bytes) × (length bytes ≤ limit) × (IsTrue files.tells → files.holds name ≡ Some bytes)
+-- exactly these were read, each with its file's name, in this order
+abbrev pub AreDelivered : Files → Files → List (List ℕ × List ℕ) → Type 0
+AreDelivered old new deliveries = new.reads ≡ old.reads ++ deliveries
+
+-- what a store showed at first, with what was read since
+abbrev pub call_files : Files → Files → Files
+call_files old new = record old { reads = drop (length old.reads) new.reads }
+
+-- the bytes that were delivered, which are at most `limit` and the file's, where the store tells it, stand behind the old ones
+abbrev pub IsAppended : Files → Files → List ℕ → ℕ → List ℕ → List ℕ → Type 0
+IsAppended before after name limit old new =
+    (bytes : List ℕ) × (new ≡ old ++ bytes) × (length bytes ≤ limit) × (IsTrue before.tells → before.holds name ≡ Some bytes)
+    × AreDelivered before after ((name, bytes) ∷ [])
 
 -- a read failed in a store that is not sure, or the store tells that there is no such file
 abbrev pub IsMissing : Files → Files → List ℕ → Type 0
@@ -49,14 +63,22 @@ IsTooLong old new name limit =
     Rose old.overlong_reads new.overlong_reads
     × (IsTrue old.tells → (bytes : List ℕ) × (old.holds name ≡ Some bytes) × (limit < length bytes))
 
--- a failed write of so many bytes is counted; a sure store has no space for them in the file
+-- a failed write of so many bytes is counted, and no write was done; a sure store has no space for them in the file
 abbrev pub IsUnwritten : Files → Files → List ℕ → ℕ → Type 0
 IsUnwritten old new name size =
-    Rose old.failed_writes new.failed_writes × (IsTrue old.sure → is_space_for (old.space name) size ≡ false)
+    Rose old.failed_writes new.failed_writes × (IsTrue old.sure → is_space_for (old.space name) size ≡ false) × (new.writes ≡ old.writes)
 
--- the file holds these bytes
+-- the file holds these bytes, where the store tells it
 abbrev pub Holds : Files → List ℕ → List ℕ → Type 0
 Holds files name bytes = IsTrue files.tells → files.holds name ≡ Some bytes
+
+-- a store that tells its files has one file of each name; of another store two names may be of one file
+abbrev pub MayBeOneFile : Files → List ℕ → List ℕ → Type 0
+MayBeOneFile files one other = IsTrue files.tells → one ≡ other
+
+-- one write was done: these bytes were given for the file, which holds them, where the store tells it
+abbrev pub IsFileWritten : Files → Files → List ℕ → List ℕ → Type 0
+IsFileWritten old new name bytes = Holds new name bytes × (new.writes ≡ old.writes ++ (name, bytes) ∷ [])
 
 -- each file of another name holds what it held
 abbrev pub KeepsOthers : Files → Files → List ℕ → Type 0

@@ -1,34 +1,48 @@
 //! The system's files.
-ghost use Rattle.std.specs.Prelude.{◌≡◌, ◌≢◌, ◌<◌, ◌+◌, OnErr, OnOk, length};
-ghost use Rattle.sloth_io.specs.Store.{IsAppended, IsMissing, IsTooLong, IsUnwritten, Holds, KeepsOthers, KeepsFiles, KeepsReads};
-ghost use Rattle.sloth_io.specs.FileStore.{HasPrefix, HasPrefixBeyond, HasPrefixWithin, shown_files, taken_bytes, untold_files};
+ghost use Rattle.std.specs.Prelude.{◌≡◌, ◌≢◌, ◌<◌, ◌+◌, [], IsTrue, true, OnErr, OnOk, length};
+ghost use Rattle.std.specs.Io.{appended_bytes};
+ghost use Rattle.sloth_io.specs.Store.{IsAppended, IsMissing, IsTooLong, IsUnwritten, IsFileWritten, MayBeOneFile};
+ghost use Rattle.sloth_io.specs.Store.{KeepsOthers, KeepsFiles, KeepsReads};
+ghost use Rattle.sloth_io.specs.FileStore.{IsGivenTo, IsWholeRest, HasPrefix, HasPrefixBeyond, HasPrefixWithin};
+ghost use Rattle.sloth_io.specs.FileStore.{shown_files, taken_bytes, untold_files};
 
+use crate::history::History;
+use crate::replaced_files::replace_file;
 use crate::store::{Store, StoreFault};
-use crate::whole_files::{read_whole, write_whole};
+use crate::whole_files::read_whole;
+use std::alloc::Global;
 use std::fs;
+use std::os::unix::fs::MetadataExt;
 use std::rt::Files;
 
-/// Files of the system. It tells nothing of them, counts each refusal, and keeps how many bytes the last call took from a file or wrote to it.
+/// Files of the system. It tells nothing of what they hold, but the bytes that its reads delivered and its writes gave, counts each refusal,
+/// and keeps how many bytes the last call took from a file or wrote to it.
 #[derive(Drop)]
 pub struct FileStore<'a, R> {
     rt: &'a R,
+    alloc: Global,
     failed_reads: u64,
     overlong_reads: u64,
     failed_writes: u64,
     taken: usize,
+    reads: History,
+    writes: History,
 }
 
 impl<'a, R: Files> FileStore<'a, R> {
-    /// The files that this handle reaches, with no refusal counted.
-    pub fn new(rt: &'a R) -> FileStore<'a, R>
-        ensures { shown_files result ≡ untold_files 0 0 0 }
+    /// The files that this handle reaches, with no refusal counted, and nothing read or written.
+    pub fn new(rt: &'a R, alloc: Global) -> FileStore<'a, R>
+        ensures { shown_files result ≡ untold_files 0 0 0 [] [] }
     {
         FileStore {
             rt,
+            alloc,
             failed_reads: 0,
             overlong_reads: 0,
             failed_writes: 0,
             taken: 0,
+            reads: History::new(),
+            writes: History::new(),
         }
     }
 
@@ -50,6 +64,8 @@ fn read_file<R: Files>(
     ensures ok { OnOk result (HasPrefixWithin limit into.old.items into.new.items) }
     ensures too_long { result ≡ Err StoreFault.TooLong → HasPrefixBeyond limit into.old.items into.new.items }
     ensures front { HasPrefix into.old.items into.new.items }
+    ensures whole { OnOk result ((from to : R.File) × IsWholeRest (R.File.remaining from) (R.File.remaining to)
+        (appended_bytes into.old.items into.new.items)) }
 {
     let Ok(mut file) = fs::open(rt, name) else {
         return Err(StoreFault::Failed);
@@ -57,20 +73,24 @@ fn read_file<R: Files>(
     read_whole(&mut file, limit, into)
 }
 
-// Makes a file anew and writes it whole. How many bytes it took, or none where it was not made.
-fn write_file<R: Files>(rt: &R, name: &str, bytes: &[u8]) -> Option<usize> {
-    let Ok(mut file) = fs::create(rt, name) else {
-        return None;
+// Both names are of one plain file: what they lead to has one device and one number there.
+fn is_same_file<R: Files>(rt: &R, one: &str, other: &str) -> bool {
+    let Ok(one) = fs::metadata(rt, one) else {
+        return false;
     };
-    Some(write_whole(&mut file, bytes))
+    let Ok(other) = fs::metadata(rt, other) else {
+        return false;
+    };
+    one.is_file() && one.ino() != 0 && one.ino() == other.ino() && one.dev() == other.dev()
 }
 
 impl<'a, R: Files> Store for FileStore<'a, R> {
     ghost seen = { λ store. shown_files store };
 
     fn read(&mut self, name: &str, limit: usize, into: &mut Vec<u8>) -> Result<(), StoreFault>
-        ensures ok { OnOk result (IsAppended (shown_files self.old) name.now limit into.old.items into.new.items) }
+        ensures ok { OnOk result (IsAppended (shown_files self.old) (shown_files self.new) name.now limit into.old.items into.new.items) }
         ensures err { OnErr result (into.new.items ≡ into.old.items) }
+        ensures nothing { OnErr result ((shown_files self.new).reads ≡ (shown_files self.old).reads) }
         ensures failed { result ≡ Err StoreFault.Failed → IsMissing (shown_files self.old) (shown_files self.new) name.now }
         ensures too_long { result ≡ Err StoreFault.TooLong → IsTooLong (shown_files self.old) (shown_files self.new) name.now limit }
         ensures keeps { KeepsFiles (shown_files self.old) (shown_files self.new) }
@@ -80,12 +100,19 @@ impl<'a, R: Files> Store for FileStore<'a, R> {
         // A read is too long only where more bytes than the limit were taken from the file.
         ensures taken { OnOk result (length into.new.items ≡ length into.old.items + taken_bytes self.new) }
         ensures taken_beyond { result ≡ Err StoreFault.TooLong → limit < taken_bytes self.new }
+
+        // What a read delivers is all that was left of an open file, if it tells that.
+        ensures whole { OnOk result ((from to : R.File) × IsWholeRest (R.File.remaining from) (R.File.remaining to)
+            (appended_bytes into.old.items into.new.items)) }
     {
         let before = into.len();
         let outcome = read_file(self.rt, name, limit, into);
         self.taken = into.len() - before;
         match outcome {
-            Ok(()) => return Ok(()),
+            Ok(()) => {
+                self.reads = self.reads.and(name.as_bytes(), &into[before..]);
+                return Ok(());
+            }
             Err(StoreFault::Failed) => {
                 self.failed_reads = self.failed_reads.saturating_add(1);
             }
@@ -99,7 +126,7 @@ impl<'a, R: Files> Store for FileStore<'a, R> {
     }
 
     fn write(&mut self, name: &str, bytes: &[u8]) -> Result<(), StoreFault>
-        ensures ok { OnOk result (Holds (shown_files self.new) name.now bytes.now) }
+        ensures ok { OnOk result (IsFileWritten (shown_files self.old) (shown_files self.new) name.now bytes.now) }
         ensures failed { OnErr result (IsUnwritten (shown_files self.old) (shown_files self.new) name.now (length bytes.now)) }
         ensures only_failed { OnErr result (result ≡ Err StoreFault.Failed) }
         ensures others { KeepsOthers (shown_files self.old) (shown_files self.new) name.now }
@@ -108,13 +135,24 @@ impl<'a, R: Files> Store for FileStore<'a, R> {
 
         // A write is done only where the file took all bytes.
         ensures taken { OnOk result (taken_bytes self.new ≡ length bytes.now) }
+
+        // Some open file, if it tells its bytes, took all of these.
+        ensures given { OnOk result (IsGivenTo R.File.contents bytes.now) }
     {
-        let taken = write_file(self.rt, name, bytes);
+        let taken = replace_file(self.rt, self.alloc, name, bytes);
         self.taken = taken.unwrap_or(0);
         if taken == Some(bytes.len()) {
+            self.writes = self.writes.and(name.as_bytes(), bytes);
             return Ok(());
         }
         self.failed_writes = self.failed_writes.saturating_add(1);
         Err(StoreFault::Failed)
+    }
+
+    fn is_same(&self, one: &str, other: &str) -> bool
+        ensures yes { result ≡ true → MayBeOneFile (shown_files self.now) one.now other.now }
+        ensures no { IsTrue (shown_files self.now).tells → one.now ≡ other.now → result ≡ true }
+    {
+        is_same_file(self.rt, one, other)
     }
 }

@@ -57,6 +57,9 @@ impl MemSink {
 impl Sink for MemSink {
     ghost seen = { λ sink. shown_output sink };
 
+    // It holds nothing back.
+    ghost passed_on = { λ _. Unit {0} };
+
     fn put(&mut self, piece: &[u8]) -> Result<(), SinkFault>
         ensures ok { OnOk result (shown_output self.new ≡ output_with (shown_output self.old) piece.now) }
         ensures err { OnErr result (GainsPart (shown_output self.old) (shown_output self.new) piece.now) }
@@ -79,5 +82,9 @@ impl Sink for MemSink {
         }
         self.faults = self.faults.saturating_add(1);
         Err(SinkFault::Failed)
+    }
+
+    fn flush(&mut self) -> Result<(), SinkFault> {
+        Ok(())
     }
 }

@@ -1,13 +1,15 @@
 //! A store in memory.
-ghost use Rattle.std.specs.Prelude.{◌≡◌, ◌≢◌, ◌≤◌, ◌<◌, None, Some, length, All};
+ghost use Rattle.std.specs.Prelude.{◌≡◌, ◌≢◌, ◌≤◌, ◌<◌, IsTrue, None, Some, true, length, All};
 ghost use Rattle.std.specs.Prelude.{OnErr, OnOk, IfOk, IfSome, IfNone, IsOkUnless, MatchOption, is_ok, is_err, if◌then◌else◌};
 ghost use Rattle.std.specs.List.{AllPairs};
 ghost use Rattle.sloth_io.specs.Counts.{count_after_call, next_call};
 ghost use Rattle.sloth_io.specs.Slots.{bytes_named, files_with};
 ghost use Rattle.sloth_io.specs.MemStore.{IsFreshStore, is_next_call_failed, files_of, IsStoreCalled};
 ghost use Rattle.sloth_io.specs.MemStore.{is_too_long, read_fault, shown_files, is_next_write_done};
-ghost use Rattle.sloth_io.specs.Store.{IsAppended, IsMissing, IsTooLong, IsUnwritten, Holds, KeepsOthers, KeepsFiles, KeepsReads};
+ghost use Rattle.sloth_io.specs.Store.{IsAppended, IsMissing, IsTooLong, IsUnwritten, IsFileWritten, MayBeOneFile};
+ghost use Rattle.sloth_io.specs.Store.{KeepsOthers, KeepsFiles, KeepsReads};
 
+use crate::history::History;
 pub use crate::slots::MemFile;
 use crate::slots::{Slot, bytes_of, replace, slots_of};
 use crate::store::{Store, StoreFault};
@@ -24,6 +26,8 @@ pub struct MemStore {
     failed_reads: u64,
     overlong_reads: u64,
     failed_writes: u64,
+    reads: History,
+    writes: History,
 }
 
 impl MemStore {
@@ -42,6 +46,8 @@ impl MemStore {
             failed_reads: 0,
             overlong_reads: 0,
             failed_writes: 0,
+            reads: History::new(),
+            writes: History::new(),
         })
     }
 
@@ -67,8 +73,9 @@ impl Store for MemStore {
     ghost seen = { λ store. shown_files store };
 
     fn read(&mut self, name: &str, limit: usize, into: &mut Vec<u8>) -> Result<(), StoreFault>
-        ensures ok { OnOk result (IsAppended (shown_files self.old) name.now limit into.old.items into.new.items) }
+        ensures ok { OnOk result (IsAppended (shown_files self.old) (shown_files self.new) name.now limit into.old.items into.new.items) }
         ensures err { OnErr result (into.new.items ≡ into.old.items) }
+        ensures nothing { OnErr result ((shown_files self.new).reads ≡ (shown_files self.old).reads) }
         ensures failed { result ≡ Err StoreFault.Failed → IsMissing (shown_files self.old) (shown_files self.new) name.now }
         ensures too_long { result ≡ Err StoreFault.TooLong →
             IsTooLong (shown_files self.old) (shown_files self.new) name.now limit }
@@ -96,14 +103,16 @@ impl Store for MemStore {
             self.overlong_reads = self.overlong_reads.saturating_add(1);
             return Err(StoreFault::TooLong);
         }
+        let before = into.len();
         if into.extend_from_slice(bytes).is_err() {
             return Err(StoreFault::Memory);
         }
+        self.reads = self.reads.and(name.as_bytes(), &into[before..]);
         Ok(())
     }
 
     fn write(&mut self, name: &str, bytes: &[u8]) -> Result<(), StoreFault>
-        ensures ok { OnOk result (Holds (shown_files self.new) name.now bytes.now) }
+        ensures ok { OnOk result (IsFileWritten (shown_files self.old) (shown_files self.new) name.now bytes.now) }
         ensures failed { OnErr result (IsUnwritten (shown_files self.old) (shown_files self.new) name.now (length bytes.now)) }
         ensures only_failed { OnErr result (result ≡ Err StoreFault.Failed) }
         ensures others { KeepsOthers (shown_files self.old) (shown_files self.new) name.now }
@@ -118,9 +127,17 @@ impl Store for MemStore {
             (if is_ok result then files_with name.now bytes.now (files_of self.old) else files_of self.old) }
     {
         if !self.call() && replace(&mut self.slots, name.as_bytes(), bytes) {
+            self.writes = self.writes.and(name.as_bytes(), bytes);
             return Ok(());
         }
         self.failed_writes = self.failed_writes.saturating_add(1);
         Err(StoreFault::Failed)
+    }
+
+    fn is_same(&self, one: &str, other: &str) -> bool
+        ensures yes { result ≡ true → MayBeOneFile (shown_files self.now) one.now other.now }
+        ensures no { IsTrue (shown_files self.now).tells → one.now ≡ other.now → result ≡ true }
+    {
+        one == other
     }
 }

@@ -1,54 +1,60 @@
 //! Standard output.
-ghost use Rattle.std.specs.Prelude.{◌≡◌, ◌≤◌, ◌++◌, [], OnErr, OnOk};
-ghost use Rattle.sloth_io.specs.Sink.{output_with, failed_output, GainsPart, FailsToPassOn};
-ghost use Rattle.sloth_io.specs.OutSink.{shown_output, held_back_bytes, EndsWith};
+ghost use Rattle.std.specs.Prelude.{◌≡◌, ◌≤◌, ◌++◌, [], Some, false, OnErr, OnOk};
+ghost use Rattle.sloth_io.specs.Buffered.{bytes_in, IsPrefix, IsGivenBut};
 
 use crate::buffered::Buffered;
+use crate::history::History;
 use crate::sink::{Sink, SinkFault};
 use std::io;
 use std::io::Write;
 
-/// Standard output, behind a buffer. It tells nothing, and counts its faults.
+/// Standard output, behind a buffer. It tells the bytes that were put and those that were given to the system, and counts its faults.
+/// Behind a failure each call fails.
 #[derive(Drop)]
 pub struct OutSink<'a, P> {
     to: Buffered<Printer<'a, P>>,
     faults: u64,
+    broken: bool,
+    accepted: History,
+    pub ghost front: { IsPrefix (bytes_in to.to.given.items) (bytes_in accepted.items) },
+    pub ghost but: { IsGivenBut broken (bytes_in accepted.items) (bytes_in to.to.given.items) to.backlog },
 }
 
 impl<'a, P: Print> OutSink<'a, P> {
-    /// What this handle prints to, with no fault counted, and nothing held back.
+    ghost use Rattle.sloth_io.specs.OutSink.{shown_output, accepted_bytes, given_bytes};
+
+    /// What this handle prints to, with no fault counted, and nothing put.
     pub fn new(to: &'a P) -> OutSink<'a, P>
         ensures faults { (shown_output result).faults ≡ 0 }
-        ensures backlog { held_back_bytes result ≡ [] }
+        ensures accepted { accepted_bytes result ≡ [] }
+        ensures given { given_bytes result ≡ [] }
     {
         OutSink {
-            to: Buffered::new(Printer(to)),
+            to: Buffered::new(Printer {
+                to,
+                given: History::new(),
+            }),
             faults: 0,
+            broken: false,
+            accepted: History::new(),
         }
-    }
-
-    // Counts a failed call.
-    fn counted(&mut self, outcome: Result<(), SinkFault>) -> Result<(), SinkFault>
-        ensures outcome { result ≡ outcome }
-        ensures ok { OnOk result (shown_output self.new ≡ shown_output self.old) }
-        ensures err { OnErr result (shown_output self.new ≡ failed_output (shown_output self.old)) }
-        ensures never_falls { (shown_output self.old).faults ≤ (shown_output self.new).faults }
-        ensures to { self.new.to ≡ self.old.to }
-    {
-        if outcome.is_err() {
-            self.faults = self.faults.saturating_add(1);
-        }
-        outcome
     }
 }
 
-// What a handle prints to, as a writer.
+// What a handle prints to, as a writer, with the bytes that the system took.
 #[derive(Drop)]
-struct Printer<'a, P>(&'a P);
+struct Printer<'a, P> {
+    to: &'a P,
+    given: History,
+}
 
 impl<'a, P: Print> Write for Printer<'a, P> {
+    ghost contents = { λ printer. Some (bytes_in printer.given.items) };
+
     fn write(&mut self, bytes: &[u8]) -> io::Result<usize> {
-        self.0.write_some(bytes)
+        let count = self.to.write_some(bytes)?;
+        self.given = self.given.and(b"", &bytes[..count]);
+        Ok(count)
     }
 
     fn flush(&mut self) -> io::Result<()> {
@@ -57,7 +63,12 @@ impl<'a, P: Print> Write for Printer<'a, P> {
 }
 
 impl<'a, P: Print> Sink for OutSink<'a, P> {
+    ghost use Rattle.sloth_io.specs.Sink.{output_with, GainsPart, FailsToPassOn};
+    ghost use Rattle.sloth_io.specs.OutSink.{shown_output, held_back_bytes, EndsWith, IsPassedOn};
+
     ghost seen = { λ sink. shown_output sink };
+
+    ghost passed_on = { λ sink. IsPassedOn sink };
 
     fn put(&mut self, piece: &[u8]) -> Result<(), SinkFault>
         ensures ok { OnOk result (shown_output self.new ≡ output_with (shown_output self.old) piece.now) }
@@ -67,17 +78,34 @@ impl<'a, P: Print> Sink for OutSink<'a, P> {
         // What is not written of the bytes taken is held back.
         ensures kept { OnOk result (EndsWith (held_back_bytes self.old ++ piece.now) (held_back_bytes self.new)) }
     {
-        let outcome = self.to.put(piece);
-        self.counted(outcome)
+        let outcome = if self.broken {
+            Err(SinkFault::Failed)
+        } else {
+            self.to.put(piece)
+        };
+        self.accepted = self.accepted.and(b"", piece);
+        if outcome.is_err() {
+            self.broken = true;
+            self.faults = self.faults.saturating_add(1);
+        }
+        outcome
     }
 
     fn flush(&mut self) -> Result<(), SinkFault>
         ensures ok { OnOk result (shown_output self.new ≡ shown_output self.old) }
+        ensures passed { OnOk result (IsPassedOn self.new) }
         ensures err { OnErr result (FailsToPassOn (shown_output self.old) (shown_output self.new)) }
         ensures never_falls { (shown_output self.old).faults ≤ (shown_output self.new).faults }
-        ensures backlog { held_back_bytes self.new ≡ [] }
     {
-        let outcome = self.to.flush();
-        self.counted(outcome)
+        let outcome = if self.broken {
+            Err(SinkFault::Failed)
+        } else {
+            self.to.flush()
+        };
+        if outcome.is_err() {
+            self.broken = true;
+            self.faults = self.faults.saturating_add(1);
+        }
+        outcome
     }
 }

@@ -16,6 +16,9 @@ pub trait Sink {
     /// What the sink took and how much more it takes, where it tells that, and its count.
     ghost seen: { Self → Output };
 
+    /// What was taken was handed on.
+    ghost passed_on: { Self → Type 0 };
+
     /// Takes a piece; on a failure, some first part of it. A failed call alone is counted.
     fn put(&mut self, piece: &[u8]) -> Result<(), SinkFault>
         ensures ok { OnOk result (seen self.new ≡ output_with (seen self.old) piece.now) }
@@ -26,9 +29,7 @@ pub trait Sink {
     /// tells its space has none.
     fn flush(&mut self) -> Result<(), SinkFault>
         ensures ok { OnOk result (seen self.new ≡ seen self.old) }
+        ensures passed { OnOk result (passed_on self.new) }
         ensures err { OnErr result (FailsToPassOn (seen self.old) (seen self.new)) }
-        ensures never_falls { (seen self.old).faults ≤ (seen self.new).faults }
-    {
-        Ok(())
-    }
+        ensures never_falls { (seen self.old).faults ≤ (seen self.new).faults };
 }

@@ -1,6 +1,7 @@
 //! Named files.
-ghost use Rattle.std.specs.Prelude.{◌≡◌, ◌≢◌, OnErr, OnOk, length};
-ghost use Rattle.sloth_io.specs.Store.{Files, IsAppended, IsMissing, IsTooLong, IsUnwritten, Holds, KeepsOthers, KeepsFiles, KeepsReads};
+ghost use Rattle.std.specs.Prelude.{◌≡◌, ◌≢◌, IsTrue, true, OnErr, OnOk, length};
+ghost use Rattle.sloth_io.specs.Store.{Files, IsAppended, IsMissing, IsTooLong, IsUnwritten, IsFileWritten, MayBeOneFile};
+ghost use Rattle.sloth_io.specs.Store.{KeepsOthers, KeepsFiles, KeepsReads};
 
 use thiserror::Error;
 
@@ -15,15 +16,17 @@ pub enum StoreFault {
     Memory,
 }
 
-/// Named files. A store may tell what they hold, and counts its failed reads, overlong reads and failed writes.
+/// Named files. A store may tell what they hold, counts its failed reads, overlong reads and failed writes, and tells what was read and
+/// written.
 pub trait Store {
-    /// What the files hold, where the store tells that, and its counts.
+    /// What the files hold, where the store tells that, its counts, and what was read and written.
     ghost seen: { Self → Files };
 
     /// Appends the bytes of a file of at most `limit` bytes. Want of memory may come at any call.
     fn read(&mut self, name: &str, limit: usize, into: &mut Vec<u8>) -> Result<(), StoreFault>
-        ensures ok { OnOk result (IsAppended (seen self.old) name.now limit into.old.items into.new.items) }
+        ensures ok { OnOk result (IsAppended (seen self.old) (seen self.new) name.now limit into.old.items into.new.items) }
         ensures err { OnErr result (into.new.items ≡ into.old.items) }
+        ensures nothing { OnErr result ((seen self.new).reads ≡ (seen self.old).reads) }
         ensures failed { result ≡ Err StoreFault.Failed → IsMissing (seen self.old) (seen self.new) name.now }
         ensures too_long { result ≡ Err StoreFault.TooLong → IsTooLong (seen self.old) (seen self.new) name.now limit }
         ensures keeps { KeepsFiles (seen self.old) (seen self.new) }
@@ -34,7 +37,7 @@ pub trait Store {
 
     /// Makes a file hold exactly these bytes. After a failure that file may hold anything.
     fn write(&mut self, name: &str, bytes: &[u8]) -> Result<(), StoreFault>
-        ensures ok { OnOk result (Holds (seen self.new) name.now bytes.now) }
+        ensures ok { OnOk result (IsFileWritten (seen self.old) (seen self.new) name.now bytes.now) }
         ensures failed { OnErr result (IsUnwritten (seen self.old) (seen self.new) name.now (length bytes.now)) }
         ensures only_failed { OnErr result (result ≡ Err StoreFault.Failed) }
         ensures others { KeepsOthers (seen self.old) (seen self.new) name.now }
@@ -42,4 +45,9 @@ pub trait Store {
 
         // Only a failed write is counted.
         ensures failed_writes { OnOk result ((seen self.new).failed_writes ≡ (seen self.old).failed_writes) };
+
+    /// Whether two names are of one plain file, which a write by the one would take from the other.
+    fn is_same(&self, one: &str, other: &str) -> bool
+        ensures yes { result ≡ true → MayBeOneFile (seen self.now) one.now other.now }
+        ensures no { IsTrue (seen self.now).tells → one.now ≡ other.now → result ≡ true };
 }

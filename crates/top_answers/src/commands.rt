@@ -34,7 +34,7 @@ fn file(alloc: Global, name: &[u8], bytes: &[u8], space: u32) -> Result<MemFile,
     })
 }
 
-// The three texts, and an image file with this space. These calls are to fail.
+// The three texts, an image file with this space, and a file `out` with the same, which holds nothing. These calls are to fail.
 fn store(
     alloc: Global,
     texts: &Texts,
@@ -46,7 +46,8 @@ fn store(
     let src = file(alloc, b"src", &texts.src, 0)?;
     let arr = file(alloc, b"arr", &texts.arr, 0)?;
     let img = file(alloc, b"img", img, space)?;
-    MemStore::new(alloc, &[arr, img, oil, src], fails)
+    let out = file(alloc, b"out", b"", space)?;
+    MemStore::new(alloc, &[arr, img, oil, out, src], fails)
 }
 
 /// The words of a line; an empty line has none.
@@ -61,7 +62,7 @@ pub fn words(alloc: Global, line: &str) -> anyhow::Result<Vec<String>> {
     Ok(words)
 }
 
-/// What a command prints with how it ends, how many bytes it prints, and the image file behind it.
+/// What a command prints with how it ends, how many bytes it prints, and the image file behind it, which is the file `out` where that was written.
 #[derive(Drop)]
 pub struct Outcome {
     pub text: String,
@@ -80,6 +81,14 @@ fn ended(alloc: Global, printed: &[u8], status: Status) -> anyhow::Result<String
     Ok(format!(in alloc; "{printed}=== {status:?}\n")?)
 }
 
+// The image file that a command left: the file `out`, unless it holds nothing.
+fn image_left(files: &MemStore) -> &[u8] {
+    match files.file("out") {
+        Some(out) if !out.is_empty() => out,
+        _ => files.file("img").unwrap_or(b""),
+    }
+}
+
 // What a command printed, how it ended, and the image file that it left.
 fn outcome_of(
     alloc: Global,
@@ -88,7 +97,7 @@ fn outcome_of(
     files: &MemStore,
 ) -> anyhow::Result<Outcome> {
     let text = ended(alloc, printed, status)?;
-    let img = Vec::from_slice(alloc, files.file("img").unwrap_or(b""))?;
+    let img = Vec::from_slice(alloc, image_left(files))?;
     Ok(Outcome {
         text,
         printed: printed.len(),

@@ -4,6 +4,7 @@ use crate::rows::{Piece, numbers, row};
 use sloth_cli::program::run_words;
 use sloth_io::file_store::FileStore;
 use sloth_io::store::Store;
+use std::os::unix::fs::symlink;
 use std::rt::Files;
 
 /// The most bytes of a picture.
@@ -25,7 +26,7 @@ fn run(rt: &(impl Files + Print + AllocGlobal), line: &str) -> anyhow::Result<()
 // The bytes of a file; none where it cannot be read.
 fn bytes(rt: &(impl Files + AllocGlobal), name: &str) -> Vec<u8> {
     let mut bytes = Vec::new(rt.alloc());
-    let _ = FileStore::new(rt).read(name, LIMIT, &mut bytes);
+    let _ = FileStore::new(rt, rt.alloc()).read(name, LIMIT, &mut bytes);
     bytes
 }
 
@@ -46,6 +47,18 @@ pub fn compare_picture(rt: &(impl Files + Print + AllocGlobal)) -> anyhow::Resul
         Piece::Text("door.svg is this picture"),
         &[Piece::Flag(same)],
     )
+}
+
+/// Runs commands that would write over a file that they read: by its name, by another path, and by a link. It stays as it is.
+pub fn run_over_inputs(rt: &(impl Files + Print + AllocGlobal)) -> anyhow::Result<()> {
+    run(rt, "build door.oil door.src door.src")?;
+    run(rt, "run door.oil door.src door.arr ./door.arr 10")?;
+    symlink(rt, "door.img", "door.link")?;
+    run(rt, "elf door.link door.img")?;
+    run(rt, "infer door.oil ./door.src door.oil")?;
+    run(rt, "build door.oil door.src again.img")?;
+    let same = are_same(rt, "again.img", "door.img");
+    row(rt, Piece::Text("door.img stays"), &[Piece::Flag(same)])
 }
 
 /// Runs a command of whose files one is missing.

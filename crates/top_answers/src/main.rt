@@ -15,7 +15,8 @@
 //! - `summed`, and a command: it is run, and how it ends, how many lines it prints and a checksum of them are printed;
 //! - `sweep`, and words such as `1 400 High / run oil src arr img 3000 / once enter High / each run High High 0 / last`: the command is run
 //!   once for each of the moments, with one arrival of the task then, and what the questions ask of the lines of all runs is printed;
-//! - a command, such as `order oil src arr img 5000`: it is run on the files of these names. The image file that it leaves is kept.
+//! - a command, such as `order oil src arr img 5000`: it is run on the files of these names. The image file that it leaves is kept; one that reads
+//!   the image file writes to `out`, which takes its place.
 //!   Nothing behind `=== ` is a command without words.
 //!
 //! What the readers alone make of a text is asked by a line behind it: `tokens`, `tree` and `config` of an OIL text, `counts`, `listing`, `sizes`
@@ -58,7 +59,7 @@ use crate::commands::{
     run, run_both, run_cut, run_failing, run_kept, run_lengthened, run_summed, show,
 };
 use crate::event_lines::list_summary;
-use crate::file_commands::{compare_picture, run_missing};
+use crate::file_commands::{compare_picture, run_missing, run_over_inputs};
 use crate::images::list_image_file;
 use crate::machine::{list_controller, list_instruction};
 use crate::readers::answer_read;
@@ -176,6 +177,7 @@ fn list_lower(rt: &impl Print) -> anyhow::Result<()> {
 fn list_files(rt: &(impl Files + Print + AllocGlobal)) -> anyhow::Result<()> {
     list_outside(rt)?;
     compare_picture(rt)?;
+    run_over_inputs(rt)?;
     run_missing(rt)
 }
 

@@ -5,6 +5,9 @@ use sloth_io::mem_sink::MemSink;
 use sloth_io::out_sink::OutSink;
 use sloth_io::sink::Sink;
 use sloth_io::store::{Store, StoreFault};
+use std::fs;
+use std::fs::Permissions;
+use std::os::unix::fs::{PermissionsExt, symlink};
 use std::rt::Files;
 
 fn list_fault(rt: &impl Print, name: &str, fault: StoreFault) -> anyhow::Result<()> {
@@ -51,13 +54,66 @@ fn list_count<R: Files + Print>(rt: &R, files: &FileStore<'_, R>) -> anyhow::Res
 
 // A file that is not there, files that are written, and one that is too long and is not.
 fn list_files<R: Files + Print + AllocGlobal>(rt: &R) -> anyhow::Result<()> {
-    let mut files = FileStore::new(rt);
+    let mut files = FileStore::new(rt, rt.alloc());
     list_read(rt, &mut files, "none", 9)?;
     list_write(rt, &mut files, "made")?;
     list_write(rt, &mut files, "no/folder")?;
     list_read(rt, &mut files, "made", 2)?;
     list_read(rt, &mut files, "made", 3)?;
     list_count(rt, &files)
+}
+
+// The mode of a file behind a write.
+fn list_mode<R: Files + Print>(
+    rt: &R,
+    files: &mut FileStore<'_, R>,
+    name: &str,
+    mode: u32,
+) -> anyhow::Result<()> {
+    fs::set_permissions(rt, name, Permissions::from_mode(mode))?;
+    list_write(rt, files, name)?;
+    let mode = fs::metadata(rt, name)?.permissions().mode() & 0o777;
+    row(
+        rt,
+        Piece::Text(name),
+        &[Piece::Text("mode"), Piece::Number(mode)],
+    )
+}
+
+// A file is not written where one of the new one's name stands, and both stay as they are.
+fn list_standing<R: Files + Print + AllocGlobal>(
+    rt: &R,
+    files: &mut FileStore<'_, R>,
+) -> anyhow::Result<()> {
+    fs::write(rt, "old", b"old")?;
+    fs::write(rt, "old.new", b"mine")?;
+    list_write(rt, files, "old")?;
+    list_read(rt, files, "old", 9)?;
+    list_read(rt, files, "old.new", 9)
+}
+
+// What a link leads to is written, and the link stays.
+fn list_link<R: Files + Print + AllocGlobal>(
+    rt: &R,
+    files: &mut FileStore<'_, R>,
+) -> anyhow::Result<()> {
+    symlink(rt, "linked", "link")?;
+    list_write(rt, files, "link")?;
+    list_read(rt, files, "linked", 9)?;
+    let stays = fs::symlink_metadata(rt, "link")?.is_symlink();
+    row(
+        rt,
+        Piece::Text("link"),
+        &[Piece::Text("stays"), Piece::Flag(stays)],
+    )
+}
+
+// Files that are replaced: their modes, what stands beside them, and links.
+fn list_replaced<R: Files + Print + AllocGlobal>(rt: &R) -> anyhow::Result<()> {
+    let mut files = FileStore::new(rt, rt.alloc());
+    list_mode(rt, &mut files, "made", 0o640)?;
+    list_standing(rt, &mut files)?;
+    list_link(rt, &mut files)
 }
 
 // A line on standard output, which is held back until it is handed on.
@@ -90,6 +146,7 @@ fn list_taken(rt: &(impl Print + AllocGlobal)) -> anyhow::Result<()> {
 /// Files that are read and written, and lines that outputs take.
 pub fn list_outside(rt: &(impl Files + Print + AllocGlobal)) -> anyhow::Result<()> {
     list_files(rt)?;
+    list_replaced(rt)?;
     list_line(rt)?;
     list_taken(rt)
 }

@@ -17,4 +17,5 @@ returns-clause-image c =
       format = built.format;
       names = built.tasks;
       counters = built.counters;
+      planned = built.planned;
     }

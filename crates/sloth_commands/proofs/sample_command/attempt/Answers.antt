@@ -1,6 +1,7 @@
-use Rattle.std.proofs.Common.{◌∙◌}
+use Rattle.std.proofs.Common.{◌∙◌, [], refl}
 use Rattle.std.proofs.lemmas.Result.{IfErr-weaker}
 use Rattle.sloth_commands.proofs.Causes.{both-ok}
+use Rattle.sloth_commands.proofs.InOrder.{none-delivered}
 use Rattle.sloth_commands.proofs.SampleCauses.{generated, sample-failed, sample-done}
 use Rattle.sloth_commands.proofs.sample_command.attempt.Goals as goal
 
@@ -19,3 +20,10 @@ returns-clause-done g c =
     let is = generated c.args.seed made.built.config made.built.app made.built.image made.arrivals of.accepted of.image of.arrivals of.in_range in
     both-ok c.perform.result _ _ _ (λ written text. sample-done _ _ _ _ c.args.seed c.args.img.now made.built.image is written text) c.perform.ensures.written
     (rw (c.items.ensures ∙ of.arrivals) at c.perform.ensures.text)
+
+pub returns-in_err-made-clause-reads : goal.returns-in_err-made-clause-reads
+returns-in_err-made-clause-reads g c = none-delivered (g.F.Store.seen c.args.files.now) (g.F.Store.seen c.args.files.now) [] refl
+
+pub returns-clause-reads : goal.returns-clause-reads
+returns-clause-reads g c =
+    none-delivered (g.F.Store.seen c.args.files.now) (g.F.Store.seen c.perform.new.files) [] c.perform.ensures.reads

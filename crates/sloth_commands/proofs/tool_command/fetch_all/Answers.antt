@@ -1,14 +1,16 @@
-use Rattle.std.proofs.Common.{◌∙◌, List, [], ◌∷◌, ◌++◌, ℕ, sym, ap, subst}
+use Rattle.std.proofs.Common.{◌∙◌, List, [], ◌∷◌, ◌++◌, ℕ, sym, ap, subst, append-nil}
 use Rattle.std.specs.Prelude.{string_bytes}
 use Rattle.std.proofs.lemmas.Result.{err_from_is_err_and}
 use Rattle.sloth_commands.specs.ToolFiles.{AreToolInputs}
-use Rattle.sloth_commands.proofs.ToolReads.{fetched-more, fetch-failed, kept-none}
+use Rattle.sloth_commands.proofs.InOrder.{err-anyway}
+use Rattle.sloth_commands.proofs.ToolReads.{fetched-front, fetched-more, fetched-one-more, fetch-failed, kept-none}
 use Rattle.sloth_commands.proofs.tool_command.fetch_all.Goals as goal
 
 pub loop-name-init : goal.loop-name-init
 loop-name-init g c = record {
   read = subst (λ (xs : List (List ℕ)). AreToolInputs (g.F.Store.seen c.args.files.now) [] xs) (sym c.new-inputs.ensures.items) tt;
   kept = kept-none (g.F.Store.seen c.args.files.now);
+  delivered = sym (append-nil (g.F.Store.seen c.args.files.now).reads);
 }
 
 pub loop-name-preserved : goal.loop-name-preserved
@@ -16,7 +18,7 @@ loop-name-preserved g c =
     let of = c.in_ok-bytes.ensures in
     fetched-more (g.F.Store.seen c.args.files.now) (g.F.Store.seen c.loop-name.files) (g.F.Store.seen c.fetch.new.files) c.args.names.now c.loop-name.name-index
     c.name-item.result c.loop-name.inputs.items c.push.new.self.items c.as_str.result.now c.in_ok-bytes.bytes.items c.loop-name-test.true c.loop-name.invariant
-    (c.as_str.ensures.value ∙ ap (λ w. string_bytes w) c.name-item.is) of.ok of.short c.fetch.ensures.keeps
+    (c.as_str.ensures.value ∙ ap (λ w. string_bytes w) c.name-item.is) of.ok of.short c.fetch.ensures.keeps of.delivered
     (c.in_ok-push.ensures.items ∙ ap (λ (x : List ℕ). c.loop-name.inputs.items ++ x ∷ []) c.from_vec.ensures)
 
 pub returns-in_err-bytes-clause-err : goal.returns-in_err-bytes-clause-err
@@ -26,3 +28,17 @@ returns-in_err-bytes-clause-err g c =
     (fetch-failed c.in_err-bytes.field-0.0 (g.F.Store.seen c.args.files.now) (g.F.Store.seen c.loop-name.files) (g.F.Store.seen c.fetch.new.files) c.args.names.now
     c.loop-name.name-index c.name-item.result c.loop-name.inputs.items c.as_str.result.now c.loop-name-test.true c.loop-name.invariant
     (c.as_str.ensures.value ∙ ap (λ w. string_bytes w) c.name-item.is) c.in_err-bytes.ensures.err)
+
+pub returns-in_err-bytes-clause-front : goal.returns-in_err-bytes-clause-front
+returns-in_err-bytes-clause-front g c =
+    err-anyway _ _
+    (fetched-front (g.F.Store.seen c.args.files.now) (g.F.Store.seen c.loop-name.files) (g.F.Store.seen c.fetch.new.files) c.args.names.now c.loop-name.name-index
+    c.loop-name.inputs.items c.loop-name.invariant c.in_err-bytes.ensures.nothing)
+
+pub returns-in_err-push-clause-front : goal.returns-in_err-push-clause-front
+returns-in_err-push-clause-front g c =
+    let of = c.in_ok-bytes.ensures in
+    err-anyway _ _
+    (fetched-one-more (g.F.Store.seen c.args.files.now) (g.F.Store.seen c.loop-name.files) (g.F.Store.seen c.fetch.new.files) c.args.names.now c.loop-name.name-index
+    c.name-item.result c.loop-name.inputs.items c.as_str.result.now c.in_ok-bytes.bytes.items c.loop-name-test.true c.loop-name.invariant
+    (c.as_str.ensures.value ∙ ap (λ w. string_bytes w) c.name-item.is) of.ok of.short c.fetch.ensures.keeps of.delivered)

@@ -5,8 +5,11 @@ use Rattle.std.proofs.lemmas.List.Elements.{All-from_recursion}
 use Rattle.sloth_base.specs.Limits.{file_limit}
 use Rattle.command_line.specs.Command.{Uses, words_of}
 use Rattle.command_line.specs.Words.{use_of}
+use Rattle.sloth_commands.specs.CommandFiles.{inputs_of}
+use Rattle.sloth_commands.proofs.InOrder.{still-delivered}
 use Rattle.sloth_commands.proofs.Causes.{read-ends}
 use Rattle.sloth_commands.proofs.ToolCauses.{all-told, answer-of, tell-ends, tool-performed}
+use Rattle.sloth_commands.proofs.CallFiles.{stays-kept}
 use Rattle.sloth_commands.proofs.ToolReads.{all-short, as-many}
 use Rattle.sloth_commands.proofs.tool_command.use_tool.Goals as goal
 
@@ -28,16 +31,28 @@ pub returns-in_err-inputs-clause-err : goal.returns-in_err-inputs-clause-err
 returns-in_err-inputs-clause-err g c =
     let failed = err_from_is_err_and c.from_residual.result c.from_residual.ensures.1 in
     rw (failed.1, failed.2)
-    (read-ends c.in_err-inputs.field-0.0 _ _ _ (Uses (use_of c.args.words.now)) c.in_err-inputs.ensures.err c.fetch_all.ensures.keeps.holds)
+    (read-ends c.in_err-inputs.field-0.0 _ _ _ (Uses (use_of c.args.words.now)) c.in_err-inputs.ensures.err
+    (stays-kept _ _ c.fetch_all.ensures.keeps))
 
 pub returns-clause-err : goal.returns-clause-err
 returns-clause-err g c =
-    let is = answer-of _ (use_of c.args.words.now) _ _ _ c.in_ok-inputs.ensures.ok c.as_slice.ensures.value c.in_ok-answer.ensures in
-    IfErr-weaker c.tell.result _ _ (λ failure h. tell-ends _ _ _ _ (use_of c.args.words.now) c.fetch_all.ensures.keeps failure c.in_ok-answer.answer is h) c.tell.ensures.err
+    let is = answer-of (g.F.Store.seen c.args.files.now) (g.F.Store.seen c.fetch_all.new.files) (use_of c.args.words.now) _ _ _ c.in_ok-inputs.ensures.ok c.in_ok-inputs.ensures.delivered c.as_slice.ensures.value c.in_ok-answer.ensures in
+    IfErr-weaker c.tell.result _ _ (λ failure h. tell-ends _ _ _ _ (use_of c.args.words.now) c.fetch_all.ensures.keeps c.tell.ensures.reads failure c.in_ok-answer.answer is h) c.tell.ensures.err
 
 pub returns-clause-done : goal.returns-clause-done
 returns-clause-done g c =
-    let is = answer-of _ (use_of c.args.words.now) _ _ _ c.in_ok-inputs.ensures.ok c.as_slice.ensures.value c.in_ok-answer.ensures in
+    let is = answer-of (g.F.Store.seen c.args.files.now) (g.F.Store.seen c.fetch_all.new.files) (use_of c.args.words.now) _ _ _ c.in_ok-inputs.ensures.ok c.in_ok-inputs.ensures.delivered c.as_slice.ensures.value c.in_ok-answer.ensures in
     all-told c.tell.result _ _ _ _
-    (λ status is_status text after. tool-performed _ _ _ _ (use_of c.args.words.now) c.fetch_all.ensures.keeps status c.in_ok-answer.answer is is_status text after)
+    (λ status is_status text after. tool-performed _ _ _ _ (use_of c.args.words.now) c.fetch_all.ensures.keeps c.tell.ensures.reads status c.in_ok-answer.answer is is_status text after)
     c.tell.ensures.status c.tell.ensures.text c.tell.ensures.files
+
+pub returns-in_err-inputs-clause-reads : goal.returns-in_err-inputs-clause-reads
+returns-in_err-inputs-clause-reads g c = c.in_err-inputs.ensures.front
+
+pub returns-in_err-answer-clause-reads : goal.returns-in_err-answer-clause-reads
+returns-in_err-answer-clause-reads g c = (c.in_ok-inputs.inputs.items, c.in_ok-inputs.ensures.delivered)
+
+pub returns-clause-reads : goal.returns-clause-reads
+returns-clause-reads g c =
+    still-delivered (g.F.Store.seen c.args.files.now) (g.F.Store.seen c.fetch_all.new.files) (g.F.Store.seen c.tell.new.files)
+    (inputs_of (Uses (use_of c.args.words.now))) c.tell.ensures.reads (c.in_ok-inputs.inputs.items, c.in_ok-inputs.ensures.delivered)

@@ -1,4 +1,5 @@
 use Rattle.std.proofs.Common.{◌≡◌, ap, sym, ◌∙◌, length, refl, arith}
+use Rattle.std.proofs.lemmas.Grind.{common_steps}
 use Rattle.sloth_io.proofs.Files.{bytes_named-written, bytes_named-written_other, space_named-written}
 use Rattle.sloth_io.specs.Slots.{bytes_named, space_named}
 use Rattle.sloth_io.specs.MemStore.{files_of, is_sure}
@@ -6,10 +7,13 @@ use Rattle.sloth_io.specs.declared.mem_store.MemStore.{MemStore}
 use Rattle.sloth_io.proofs.mem_store.MemStoreStore.write.Goals as goal
 
 pub returns-then-replace-clause-ok : goal.returns-then-replace-clause-ok
-returns-then-replace-clause-ok c h =
+returns-then-replace-clause-ok c =
     let files = rw c.as_bytes.ensures.value at c.if-replace.ensures.files in
     let space = rw c.as_bytes.ensures.value at c.if-replace.ensures.done in
-    ap (bytes_named c.args.name.now) files ∙ bytes_named-written c.args.name.now c.args.bytes.now (length c.args.bytes.now) _ (sym space)
+    let called = c.call.ensures.rest in (
+      λ h. ap (bytes_named c.args.name.now) files ∙ bytes_named-written c.args.name.now c.args.bytes.now (length c.args.bytes.now) _ (sym space),
+      grind (arith, common_steps),
+    )
 
 pub returns-then-replace-clause-others : goal.returns-then-replace-clause-others
 returns-then-replace-clause-others c other n =
@@ -31,4 +35,5 @@ returns-then-replace-clause-keeps c =
       failed_reads = ap (λ (store : MemStore). store.failed_reads) called;
       overlong_reads = ap (λ (store : MemStore). store.overlong_reads) called;
       failed_writes = omega (arith, writes);
+      reads = ap (λ (store : MemStore). store.reads.items) called;
     }

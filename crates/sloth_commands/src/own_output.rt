@@ -1,0 +1,70 @@
+//! Whether the file that a command writes is one that it reads.
+ghost use Rattle.std.specs.Prelude.{◌≡◌, IsTrue, true, false, Some};
+ghost use Rattle.command_line.specs.Command.{Builds, Uses, words_of};
+ghost use Rattle.command_line.specs.Words.{building_of, command_of, run_of, use_of};
+ghost use Rattle.sloth_commands.specs.CommandFiles.{arrivals_named, HasOwnOutput, IsFileAmong, IsNameApart, OverwritesInput};
+
+use command_line::command::{BuildWords, CommandWords, RunWords};
+use command_line::tool::ToolWords;
+use sloth_io::store::Store;
+
+// Whether the file of a name is one of these.
+fn is_among<F: Store>(files: &F, name: &str, inputs: &[String]) -> bool
+    ensures yes { result ≡ true → IsFileAmong (F.seen files.now) name.now (words_of inputs.now) }
+    ensures no { result ≡ false → IsTrue (F.seen files.now).tells → IsNameApart (Some name.now) (words_of inputs.now) }
+{
+    for input in inputs {
+        if files.is_same(name, input.as_str()) {
+            return true;
+        }
+    }
+    false
+}
+
+// Whether it is that of the arrivals, if there are any.
+fn is_arrivals<F: Store>(files: &F, name: &str, run: &Option<RunWords>) -> bool
+    ensures yes { result ≡ true → IsFileAmong (F.seen files.now) name.now (arrivals_named (run_of run.now)) }
+    ensures no { result ≡ false → IsTrue (F.seen files.now).tells → IsNameApart (Some name.now) (arrivals_named (run_of run.now)) }
+{
+    match run {
+        Some(run) => files.is_same(name, run.arr),
+        None => false,
+    }
+}
+
+// Whether the image's file is one that is built from.
+fn is_source<F: Store>(files: &F, c: &BuildWords) -> bool
+    ensures yes { result ≡ true → OverwritesInput (F.seen files.now) (Builds (building_of c.now)) }
+    ensures no { result ≡ false → IsTrue (F.seen files.now).tells → HasOwnOutput (Builds (building_of c.now)) }
+{
+    if files.is_same(c.img, c.oil) {
+        return true;
+    }
+    if files.is_same(c.img, c.src) {
+        return true;
+    }
+    is_arrivals(files, c.img, &c.run)
+}
+
+// Whether the file of a tool, if it writes one, is one that it reads.
+fn is_tool_input<F: Store>(files: &F, words: &ToolWords) -> bool
+    ensures yes { result ≡ true → OverwritesInput (F.seen files.now) (Uses (use_of words.now)) }
+    ensures no { result ≡ false → IsTrue (F.seen files.now).tells → HasOwnOutput (Uses (use_of words.now)) }
+{
+    match words.output {
+        Some(name) => is_among(files, name, words.inputs),
+        None => false,
+    }
+}
+
+/// Whether a command would write over a file that it reads.
+pub fn overwrites_input<F: Store>(files: &F, c: &CommandWords) -> bool
+    ensures yes { result ≡ true → OverwritesInput (F.seen files.now) (command_of c.now) }
+    ensures no { result ≡ false → IsTrue (F.seen files.now).tells → HasOwnOutput (command_of c.now) }
+{
+    match c {
+        CommandWords::Build(c) => is_source(files, c),
+        CommandWords::Tool(words) => is_tool_input(files, words),
+        CommandWords::Exec(_) | CommandWords::List(_) | CommandWords::Sample { .. } => false,
+    }
+}
