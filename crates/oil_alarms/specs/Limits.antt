@@ -24,12 +24,16 @@ limit_by None other = other
 limit_by (Some number) other = if nat_le 1 number && nat_le number tick_limit then number else other
 
 -- the limits of a counter
-abbrev pub limits_given : Option OilObject → Limits
-limits_given None = record { least = 1; greatest = tick_limit }
-limits_given (Some counter) = record {
+abbrev pub limits_in : OilObject → Limits
+limits_in counter = record {
   least = limit_by (first_number counter.attrs (codes "MINCYCLE")) 1;
   greatest = limit_by (first_number counter.attrs (codes "MAXALLOWEDVALUE")) tick_limit;
 }
+
+-- the same where there may be none
+abbrev pub limits_given : Option OilObject → Limits
+limits_given None = record { least = 1; greatest = tick_limit }
+limits_given (Some counter) = limits_in counter
 
 -- the limits of the counter that an alarm with these attributes names
 abbrev pub limits_of : List OilObject → List OilAttr → Limits

@@ -1,44 +1,42 @@
-//! The limits of an alarm's counter.
-ghost use Rattle.std.specs.Prelude.{◌≡◌, find, option_copied};
+//! The limits of the counters of a tree.
+ghost use Rattle.std.specs.Prelude.{◌≡◌, IfOk, codes, find};
 ghost use Rattle.oil_table.specs.Objects.{is_declaration};
-ghost use Rattle.oil_alarms.specs.Limits.{object_of_value, object_named, limit_by, limits_given, limits_of};
+ghost use Rattle.oil_alarms.specs.Indexes.{limits_among};
+ghost use Rattle.oil_alarms.specs.Limits.{object_of_value, limit_by, limits_in, limits_given, limits_of};
 
 use oil_parse::tree::{OilAttr, OilObject, OilValue};
-use oil_table::{Limits, declares, first_number, first_use};
+use oil_table::{Limits, first_number, first_use, is_of_kind, names_of};
 use sloth_base::limits::TICK_LIMIT;
+use sloth_base::memory::NoMemory;
+use std::alloc::Global;
+use std::marker::Model;
+use text_pieces::growth::push;
+use text_pieces::names::Names;
 
-fn first_declared<'t>(objects: &'t [OilObject], kind: &[u8], word: &[u8]) -> Option<&'t OilObject>
-    ensures { option_copied result ≡ find (is_declaration kind.now word.now) objects.now }
-{
-    objects.iter().find(|object| declares(object, kind, word))
+/// The limits in the place of those of a counter that is missing.
+const WIDEST: Limits = Limits {
+    least: 1,
+    greatest: TICK_LIMIT,
+};
+
+/// The counters among some objects, found by their names, and their limits.
+#[derive(Drop)]
+pub struct CounterLimits<'t> {
+    objects: &'t [OilObject],
+    names: Names<'t>,
+    limits: Vec<Limits>,
 }
 
-/// The first object of this kind that a value names.
-fn value_object<'t>(
-    objects: &'t [OilObject],
-    kind: &[u8],
-    value: &OilValue,
-) -> Option<&'t OilObject>
-    ensures { option_copied result ≡ object_of_value objects.now kind.now value.now }
-{
-    match value {
-        OilValue::Word(word) => first_declared(objects, kind, word.bytes()),
-        _ => None,
-    }
-}
+impl<'t> Model for CounterLimits<'t> {
+    ghost use Rattle.std.specs.Prelude.{List};
+    ghost use Rattle.oil_parse.specs.declared.tree.OilObject.{OilObject};
+    ghost use Rattle.oil_alarms.specs.Indexes.{AreCounters};
 
-/// The first object of this kind that an attribute names.
-pub fn object_named<'t>(
-    objects: &'t [OilObject],
-    kind: &[u8],
-    attr: Option<&OilAttr>,
-) -> Option<&'t OilObject>
-    ensures { option_copied result ≡ object_named objects.now kind.now (option_copied attr.entry) }
-{
-    match attr {
-        Some(attr) => value_object(objects, kind, &attr.value),
-        None => None,
-    }
+    ghost Value = { List OilObject };
+
+    ghost view = { λ counters. counters.objects.now };
+
+    ghost invariant = { λ counters. AreCounters counters.objects.now counters.names counters.limits.items };
 }
 
 fn limit_by(number: Option<u32>, other: u32) -> u32
@@ -56,28 +54,71 @@ fn limit_by(number: Option<u32>, other: u32) -> u32
     }
 }
 
-fn limits_given(counter: Option<&OilObject>) -> Limits
-    ensures { result ≡ limits_given (option_copied counter.entry) }
+fn limits_in(counter: &OilObject) -> Limits
+    ensures { result ≡ limits_in counter.now }
 {
-    match counter {
-        Some(counter) => Limits {
-            least: limit_by(first_number(counter.attrs.items(), b"MINCYCLE"), 1),
-            greatest: limit_by(
-                first_number(counter.attrs.items(), b"MAXALLOWEDVALUE"),
-                TICK_LIMIT,
-            ),
-        },
-        None => Limits {
-            least: 1,
-            greatest: TICK_LIMIT,
-        },
+    let attrs = counter.attrs.items();
+    Limits {
+        least: limit_by(first_number(attrs, b"MINCYCLE"), 1),
+        greatest: limit_by(first_number(attrs, b"MAXALLOWEDVALUE"), TICK_LIMIT),
     }
 }
 
-/// The limits of the counter that an alarm with these attributes names.
-pub fn limits_of(objects: &[OilObject], attrs: &[OilAttr]) -> Limits
-    ensures { result ≡ limits_of objects.now attrs.now }
+/// The limits of the counters among these objects, in the order of their numbers.
+fn limits_among(alloc: Global, objects: &[OilObject]) -> Result<Vec<Limits>, NoMemory>
+    ensures { IfOk result (λ limits. limits.items ≡ limits_among objects.now) }
 {
-    let named = first_use(attrs, b"COUNTER");
-    limits_given(object_named(objects, b"COUNTER", named))
+    let mut limits = Vec::new(alloc);
+    for object in objects {
+        if !is_of_kind(object, b"COUNTER") {
+            continue;
+        }
+        push(&mut limits, limits_in(object))?;
+    }
+    Ok(limits)
+}
+
+impl<'t> CounterLimits<'t> {
+    /// The counters among these objects.
+    pub fn of(alloc: Global, objects: &'t [OilObject]) -> Result<CounterLimits<'t>, NoMemory>
+        ensures { IfOk result (λ counters. counters ≡ objects.now) }
+    {
+        let names = names_of(alloc, objects, b"COUNTER")?;
+        let limits = limits_among(alloc, objects)?;
+        Ok(CounterLimits {
+            objects,
+            names,
+            limits,
+        })
+    }
+
+    /// The limits of the first counter of this name; the widest, where there is none.
+    fn limits_of_word(&self, word: &[u8]) -> Limits
+        ensures { result ≡ limits_given (find (is_declaration (codes "COUNTER") word.now) self.now) }
+    {
+        match self.names.number(word) {
+            Some(number) => self.limits[number],
+            None => WIDEST,
+        }
+    }
+
+    /// The limits of the counter that a value names.
+    fn limits_of_value(&self, value: &OilValue) -> Limits
+        ensures { result ≡ limits_given (object_of_value self.now (codes "COUNTER") value.now) }
+    {
+        match value {
+            OilValue::Word(word) => self.limits_of_word(word.bytes()),
+            _ => WIDEST,
+        }
+    }
+
+    /// The limits of the counter that an alarm with these attributes names.
+    pub fn limits_of(&self, attrs: &[OilAttr]) -> Limits
+        ensures { result ≡ limits_of self.now attrs.now }
+    {
+        match first_use(attrs, b"COUNTER") {
+            Some(attr) => self.limits_of_value(&attr.value),
+            None => WIDEST,
+        }
+    }
 }

@@ -14,3 +14,4 @@ mod task_faults;
 
 pub use front::Front;
 pub use judging::judge;
+pub use references::event_word;

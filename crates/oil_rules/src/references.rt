@@ -47,7 +47,7 @@ impl<'t> Model for References<'t> {
 }
 
 /// The event that an attribute refers to.
-fn event_word<'t>(attr: &'t OilAttr) -> Option<&'t [u8]>
+pub fn event_word<'t>(attr: &'t OilAttr) -> Option<&'t [u8]>
     ensures { option_copied result ≡ event_word attr.now }
 {
     match &attr.value {

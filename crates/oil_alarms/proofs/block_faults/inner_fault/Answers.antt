@@ -18,7 +18,7 @@ returns c =
     let limits = c.args.limits in
     let row = attribute_of c.args.place a.name in
     let is_row = c.attribute_of-row.ensures ∙ ap (attribute_of c.args.place) c.bytes.ensures in
-    let left = is_unlisted c.args.objects.now c.args.place c.args.inner.now a in
+    let left = is_unlisted c.args.block.now.objects c.args.place c.args.block.now.inner a in
     let second = case_found Oil (is_second 1 row before a) c.is_second.result a.line O9 c.fault_if-second.result c.fault_if-second.ensures
     (c.is_second.ensures ∙ ap (λ depth. is_second depth c.attribute_of-row.result before a) c.requires ∙ ap (λ (r : Option Attribute). is_second 1 r before a) is_row) in
     let unlisted = case_found Oil left c.is_unlisted-unlisted.result a.line O10 c.fault_if-unlisted.result c.fault_if-unlisted.ensures c.is_unlisted-unlisted.ensures in

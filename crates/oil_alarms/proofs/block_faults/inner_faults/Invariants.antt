@@ -5,7 +5,8 @@ use Rattle.oil_alarms.proofs.block_faults.inner_faults.Given as goal
 
 abbrev pub invariant-loop-number : goal.invariant-loop-number
 invariant-loop-number l = record {
-  finds : Loop (InsideFault l.objects l.limits l.place l.inner) l.inner l.number l.least;
+  finds : Loop (InsideFault l.block.objects l.limits l.place l.block.inner) l.attrs l.number l.least;
   depth : l.before.depth ≡ 1;
-  behind : l.before.attrs ≡ take l.number l.inner;
+  behind : l.before.attrs ≡ take l.number l.attrs;
+  own : l.attrs ≡ l.block.inner;
 }

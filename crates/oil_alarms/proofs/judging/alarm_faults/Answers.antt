@@ -8,5 +8,5 @@ use Rattle.oil_alarms.proofs.judging.alarm_faults.Goals as goal
 pub returns : goal.returns
 returns c =
     let o = c.args.object.now in
-    finds_if (PartFault c.args.objects.now o) (is_of_kind (codes "ALARM") o) c.in_ok-found.found (λ t. c.in_ok-found.ensures)
+    finds_if (PartFault c.args.tasks.now o) (is_of_kind (codes "ALARM") o) c.in_ok-found.found (λ t. c.in_ok-found.ensures)
     (λ f. let t : is_of_kind (codes "ALARM") o ≡ true = sym c.is_of_kind.ensures ∙ c.if-not-is_of_kind.false in cc)

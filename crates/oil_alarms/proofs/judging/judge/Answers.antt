@@ -1,11 +1,13 @@
-use Rattle.least_fault.proofs.Kept.{loop_more, loop_end}
+use Rattle.std.proofs.Common.{List, subst}
+use Rattle.std.proofs.lemmas.Result.{IfOk-weaker}
+use Rattle.least_fault.specs.Search.{IsSearchResult, Somewhere}
+use Rattle.oil_parse.specs.declared.tree.OilObject.{OilObject}
 use Rattle.oil_alarms.specs.AlarmFaults.{AlarmFault}
 use Rattle.oil_alarms.proofs.judging.judge.Goals as goal
 
-pub loop-object-preserved : goal.loop-object-preserved
-loop-object-preserved c =
-    loop_more (AlarmFault c.args.objects.now) c.args.objects.now c.loop-object.object-index c.object-item.result c.loop-object.least c.in_ok-found.found
-    c.merge-least.result c.loop-object-test.true c.object-item.is c.in_ok-found.ensures c.merge-least.ensures c.loop-object.invariant
-
 pub returns : goal.returns
-returns c = loop_end (AlarmFault c.args.objects.now) c.args.objects.now c.loop-object.object-index c.loop-object.least c.loop-object-test.false c.loop-object.invariant
+returns c =
+    let objects = c.args.objects.now in
+    IfOk-weaker c.judge_by.result (IsSearchResult (Somewhere (AlarmFault c.in_ok-tasks.tasks) objects)) (IsSearchResult (Somewhere (AlarmFault objects) objects))
+    (λ found. subst (λ (x : List OilObject). IsSearchResult (Somewhere (AlarmFault x) objects) found) c.in_ok-tasks.ensures)
+    c.judge_by.ensures

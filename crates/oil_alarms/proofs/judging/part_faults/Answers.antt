@@ -13,7 +13,7 @@ use Rattle.oil_alarms.proofs.judging.part_faults.Goals as goal
 pub returns : goal.returns
 returns c =
     let alarm = c.args.alarm.now in
-    let objects = c.args.objects.now in
+    let objects = c.args.tasks.now in
     let lacking = case_found Oil (lacks_part alarm.attrs) c.lacks_part-lacking.result alarm.line O11 c.fault_if-lacking.result c.fault_if-lacking.ensures
     (c.lacks_part-lacking.ensures ∙ ap lacks_part c.items.ensures) in
     both_are (OilCase (lacks_part alarm.attrs) alarm.line O11) (Somewhere (BlockFault objects (limits_of objects alarm.attrs)) (blocks_of alarm.attrs))

@@ -1,0 +1,209 @@
+//! The events that tasks list, and the task that a block names.
+ghost use Rattle.std.specs.Prelude.{◌≡◌, ◌||◌, ◌&&◌, ◌==◌, ℕ, List, [], ◌∷◌, ◌++◌, IfOk, OnOk, codes, option_copied};
+ghost use Rattle.std.specs.List.{list_any};
+ghost use Rattle.oil_alarms.specs.Blocks.{first_in};
+ghost use Rattle.oil_alarms.specs.Limits.{object_named};
+ghost use Rattle.oil_alarms.specs.AlarmFaults.{lists_event, leaves_out, is_left_out};
+ghost use Rattle.oil_alarms.specs.Indexes.{tasks_among, attrs_at, is_listing, task_of_value, task_of};
+
+use crate::blocks::first_in;
+use indexmap::IndexSet;
+use oil_parse::tree::{OilAttr, OilObject, OilValue};
+use oil_rules::event_word;
+use oil_table::is_of_kind;
+use oil_table::sets::insert;
+use sloth_base::memory::NoMemory;
+use std::alloc::Global;
+use std::marker::Model;
+use text_pieces::names::Names;
+
+/// The tasks among some objects, found by their names, and the events that they list, each with the number of its task.
+#[derive(Drop)]
+pub struct TaskEvents<'t> {
+    objects: &'t [OilObject],
+    names: Names<'t>,
+    listed: IndexSet<(usize, &'t [u8])>,
+}
+
+impl<'t> Model for TaskEvents<'t> {
+    ghost use Rattle.std.specs.Prelude.{List};
+    ghost use Rattle.oil_parse.specs.declared.tree.OilObject.{OilObject};
+    ghost use Rattle.oil_alarms.specs.Indexes.{AreTasks};
+
+    ghost Value = { List OilObject };
+
+    ghost view = { λ tasks. tasks.objects.now };
+
+    ghost invariant = { λ tasks. AreTasks tasks.objects.now tasks.names tasks.listed };
+}
+
+/// The event of an attribute of the task of this number, if it lists one.
+fn add_event<'t>(
+    listed: &mut IndexSet<(usize, &'t [u8])>,
+    task: usize,
+    attr: &'t OilAttr,
+) -> Result<(), NoMemory>
+    ensures { OnOk result ((number : ℕ) (word : List ℕ) → list_any (is_listing number word) listed.new.keys
+        ≡ (list_any (is_listing number word) listed.old.keys || ((task == number) && lists_event word attr.now))) }
+{
+    let Some(word) = event_word(attr) else {
+        return Ok(());
+    };
+    insert(listed, (task, word))?;
+    Ok(())
+}
+
+/// The events that the task of this number lists.
+fn add_events<'t>(
+    listed: &mut IndexSet<(usize, &'t [u8])>,
+    task: usize,
+    attrs: &'t [OilAttr],
+) -> Result<(), NoMemory>
+    ensures { OnOk result ((number : ℕ) (word : List ℕ) → list_any (is_listing number word) listed.new.keys
+        ≡ (list_any (is_listing number word) listed.old.keys || ((task == number) && list_any (lists_event word) attrs.now))) }
+{
+    for attr in attrs {
+        add_event(listed, task, attr)?;
+    }
+    Ok(())
+}
+
+impl<'t> TaskEvents<'t> {
+    /// No objects.
+    fn new(alloc: Global) -> TaskEvents<'t>
+        ensures { result ≡ [] }
+    {
+        TaskEvents {
+            objects: &[],
+            names: Names::new(alloc),
+            listed: IndexSet::new(alloc),
+        }
+    }
+
+    /// One object more.
+    fn with(
+        self,
+        objects: &'t [OilObject],
+        object: &'t OilObject,
+    ) -> Result<TaskEvents<'t>, NoMemory>
+        requires { objects.now ≡ self ++ object.now ∷ [] }
+        ensures { IfOk result (λ tasks. tasks ≡ objects.now) }
+    {
+        let TaskEvents {
+            names,
+            mut listed,
+            ..
+        } = self;
+        if !is_of_kind(object, b"TASK") {
+            return Ok(TaskEvents {
+                objects,
+                names,
+                listed,
+            });
+        }
+        add_events(&mut listed, names.count(), object.attrs.items())?;
+        let names = names.with(object.name.bytes())?;
+        Ok(TaskEvents {
+            objects,
+            names,
+            listed,
+        })
+    }
+
+    /// The tasks among these objects.
+    pub fn of(alloc: Global, objects: &'t [OilObject]) -> Result<TaskEvents<'t>, NoMemory>
+        ensures { IfOk result (λ tasks. tasks ≡ objects.now) }
+    {
+        let mut tasks = TaskEvents::new(alloc);
+        for (number, object) in objects.iter().enumerate() {
+            tasks = tasks.with(&objects[..=number], object)?;
+        }
+        Ok(tasks)
+    }
+
+    /// The number of the first task of this value's name.
+    fn number_of(&self, value: &OilValue) -> Option<usize>
+        ensures { result ≡ task_of_value self.now value.now }
+    {
+        match value {
+            OilValue::Word(word) => self.names.number(word.bytes()),
+            _ => None,
+        }
+    }
+
+    /// The number of the task that an attribute names.
+    fn number_named(&self, attr: Option<&OilAttr>) -> Option<usize>
+        ensures { result ≡ task_of self.now (option_copied attr.entry) }
+    {
+        match attr {
+            Some(attr) => self.number_of(&attr.value),
+            None => None,
+        }
+    }
+
+    /// Whether the task of this number lists the event.
+    fn lists(&self, task: usize, word: &[u8]) -> bool
+        ensures { result ≡ list_any (lists_event word.now) (attrs_at (tasks_among self.now) task) }
+    {
+        self.listed.contains(&(task, word))
+    }
+}
+
+/// The attributes of a block, and the number of the task that the first TASK among them names.
+#[derive(Drop)]
+pub struct NamedTask<'t> {
+    tasks: &'t TaskEvents<'t>,
+    inner: &'t [OilAttr],
+    number: Option<usize>,
+}
+
+impl<'t> Model for NamedTask<'t> {
+    ghost use Rattle.std.specs.Prelude.{◌≡◌};
+    ghost use Rattle.oil_alarms.specs.Indexes.{ActionBlock, task_in};
+
+    ghost Value = { ActionBlock };
+
+    ghost view = { λ block. record { objects = block.tasks.now; inner = block.inner.now } };
+
+    ghost invariant = { λ block. block.number ≡ task_in block.tasks.now block.inner.now };
+}
+
+impl<'t> NamedTask<'t> {
+    /// These attributes of a block.
+    pub fn new(tasks: &'t TaskEvents<'t>, inner: &'t [OilAttr]) -> NamedTask<'t>
+        ensures { result ≡ record { objects = tasks.now; inner = inner.now } }
+    {
+        NamedTask {
+            tasks,
+            inner,
+            number: tasks.number_named(first_in(inner, b"TASK")),
+        }
+    }
+
+    /// The attributes.
+    pub fn inner(&self) -> &'t [OilAttr]
+        ensures { result.now ≡ self.now.inner }
+    {
+        self.inner
+    }
+
+    /// Whether there is such a task, and it does not list the event.
+    fn leaves_out_word(&self, word: &[u8]) -> bool
+        ensures { result ≡ leaves_out (object_named self.now.objects (codes "TASK") (first_in self.now.inner (codes "TASK"))) word.now }
+    {
+        match self.number {
+            Some(number) => !self.tasks.lists(number, word),
+            None => false,
+        }
+    }
+
+    /// Whether there is such a task, and it does not list the event that a value names.
+    pub fn leaves_out(&self, value: &OilValue) -> bool
+        ensures { result ≡ is_left_out self.now.objects self.now.inner value.now }
+    {
+        match value {
+            OilValue::Word(word) => self.leaves_out_word(word.bytes()),
+            _ => false,
+        }
+    }
+}
