@@ -13,6 +13,7 @@ abbrev pub part_text : Part → List ℕ
 part_text part.Oil = codes "oil"
 part_text part.Src = codes "src"
 part_text part.Arr = codes "arr"
+part_text part.Load = codes "load"
 
 -- the letters of a refusal's code
 unfoldable pub code_text : Code → List ℕ
@@ -54,6 +55,10 @@ code_text code.T1 = codes "T1"
 code_text code.T2 = codes "T2"
 code_text code.T3 = codes "T3"
 code_text code.T4 = codes "T4"
+code_text code.L1 = codes "L1"
+code_text code.L2 = codes "L2"
+code_text code.L3 = codes "L3"
+code_text code.L4 = codes "L4"
 
 -- `refused`, the text that is at fault, the line and the rule
 abbrev pub refusal_line : Refusal → List ℕ

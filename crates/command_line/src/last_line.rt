@@ -10,12 +10,13 @@ use trace_text::line_text::LineText;
 
 fn part_text(part: Part) -> &'static [u8]
     ensures is { result.now ≡ part_text part }
-    ensures short { length result.now ≤ 3 }
+    ensures short { length result.now ≤ 4 }
 {
     match part {
         Part::Oil => b"oil",
         Part::Src => b"src",
         Part::Arr => b"arr",
+        Part::Load => b"load",
     }
 }
 
@@ -63,6 +64,10 @@ fn code_text(code: Code) -> &'static [u8]
         Code::T2 => b"T2",
         Code::T3 => b"T3",
         Code::T4 => b"T4",
+        Code::L1 => b"L1",
+        Code::L2 => b"L2",
+        Code::L3 => b"L3",
+        Code::L4 => b"L4",
     }
 }
 

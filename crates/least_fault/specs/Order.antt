@@ -46,6 +46,10 @@ number code.T1 = 34
 number code.T2 = 35
 number code.T3 = 36
 number code.T4 = 37
+number code.L1 = 38
+number code.L2 = 39
+number code.L3 = 40
+number code.L4 = 41
 
 -- r stands no later than s: on an earlier line, or on the same line with no greater number
 abbrev pub IsNoLater : Refusal → Refusal → Type 0

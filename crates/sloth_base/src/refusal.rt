@@ -4,15 +4,17 @@ ghost use Rattle.sloth_base.specs.declared.refusal.BuildError.TheVariants.{Memor
 
 use crate::memory::NoMemory;
 
-/// The text that is at fault: the configuration, the task code or the arrivals.
+/// The text that is at fault: the configuration, the task code, the arrivals or the load.
 #[derive(Clone, Copy)]
 pub enum Part {
     Oil,
     Src,
     Arr,
+    Load,
 }
 
-/// The rule that is broken. The letter names the stage: O the configuration, A the task code, V the verifier, T the arrivals.
+/// The rule that is broken. The letter names the stage: O the configuration, A the task code, V the verifier, T the arrivals,
+/// L the load.
 #[derive(Clone, Copy, Debug)]
 pub enum Code {
     O1,
@@ -53,6 +55,10 @@ pub enum Code {
     T2,
     T3,
     T4,
+    L1,
+    L2,
+    L3,
+    L4,
 }
 
 /// A refusal: the text, the line in it, counted from 1, and the rule.

@@ -14,7 +14,7 @@ all =
     code.O1 ∷ code.O2 ∷ code.O3 ∷ code.O4 ∷ code.O5 ∷ code.O6 ∷ code.O7 ∷ code.O8 ∷ code.O9 ∷ code.O10 ∷ code.O11 ∷ code.O12 ∷ code.O13 ∷ code.O14 ∷ code.O15
     ∷ code.A1 ∷ code.A2 ∷ code.A3 ∷ code.A4 ∷ code.A5 ∷ code.A6 ∷ code.A7
     ∷ code.V1 ∷ code.V2 ∷ code.V3 ∷ code.V4 ∷ code.V5 ∷ code.V6 ∷ code.V7 ∷ code.V8 ∷ code.V9 ∷ code.V10 ∷ code.V11 ∷ code.V12
-    ∷ code.T1 ∷ code.T2 ∷ code.T3 ∷ code.T4 ∷ []
+    ∷ code.T1 ∷ code.T2 ∷ code.T3 ∷ code.T4 ∷ code.L1 ∷ code.L2 ∷ code.L3 ∷ code.L4 ∷ []
 
 by_number : (c : Code) → get_or all (number c) code.O1 ≡ c
 by_number code.O1 = refl
@@ -55,6 +55,10 @@ by_number code.T1 = refl
 by_number code.T2 = refl
 by_number code.T3 = refl
 by_number code.T4 = refl
+by_number code.L1 = refl
+by_number code.L2 = refl
+by_number code.L3 = refl
+by_number code.L4 = refl
 
 same_place : (r s : Refusal) → IsNoLater r s → IsNoLater s r → (r.line ≡ s.line) × (number r.code ≡ number s.code)
 same_place r s (inl a) (inl b) = absurd (omega (arith, a, b))
@@ -92,7 +96,7 @@ few_codes c = by (cases_lt (number c) 64)
     by : (number c < 64) ⊎ (64 ≤ number c) → number c < 64
     by (inl lt) = lt
     by (inr past) =
-        let le : 38 ≤ number c = omega (arith, past) in
+        let le : 42 ≤ number c = omega (arith, past) in
         let first : c ≡ code.O1 = sym (by_number c) ∙ get_or_past all (number c) code.O1 le in
         absurd (let none = ap number first in omega (arith, none, past))
 

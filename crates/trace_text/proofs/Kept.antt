@@ -19,7 +19,7 @@ use Rattle.sloth_base.specs.Limits.{count_limit, arrival_limit}
 use Rattle.sloth_base.proofs.Owners.{task_owned}
 use Rattle.least_fault.specs.Order.{NoFault}
 use Rattle.least_fault.proofs.Nowhere.{case_false}
-use Rattle.trace_text.specs.ArrivalsText.{is_arrival, moment_of, line_of_either, named_among, named_line, name_text, arrival_of, last_moment, is_outside, is_t2, is_t3, is_t4, ArrivalLineFault, owners_read}
+use Rattle.trace_text.specs.ArrivalsText.{is_arrival, moment_of, line_of_either, named_among, owner_line, named_line, name_text, arrival_of, last_moment, is_outside, is_t2, is_t3, is_t4, ArrivalLineFault, owners_read}
 
 last-at : (none : ℕ) (xs : List Arrival) (k : ℕ) (d : Arrival) → length xs ≡ suc k → (slice_index_or xs k d).at ≡ last_moment none xs
 last-at none [] k d h = absurd (omega (arith, h))
@@ -38,9 +38,9 @@ last-fits none [] h all = h
 last-fits none (x ∷ xs) h all = last-fits x.at xs (All-head (λ a. a.at ≤ count_limit) x xs all) (All-tail (λ a. a.at ≤ count_limit) x xs all)
 
 -- a place that is found is one of the first
-pub found-below : (o : Option ℕ) (most : ℕ) (names : List (List ℕ)) (line : List ℕ) → o ≡ named_among most names line → (i : ℕ) → o ≡ Some i → (i < most) × (i < length names)
-found-below o most names line q i e =
-    let h = (position-Some (bytes_eq (name_text line)) (take most names) i [] (sym q ∙ e)).0 in
+pub found-below : (o : Option ℕ) (most : ℕ) (names : List (List ℕ)) (word : List ℕ) → o ≡ named_among most names word → (i : ℕ) → o ≡ Some i → (i < most) × (i < length names)
+found-below o most names word q i e =
+    let h = (position-Some (bytes_eq word) (take most names) i [] (sym q ∙ e)).0 in
     let l = length-take most names in
     let a = min-le_left most (length names) in
     let b = min-le_right most (length names) in
@@ -62,14 +62,18 @@ counter-owned owners c h = by (nat_lt (counter_line c) owners.tasks)
     by false e = counted (is_counter_line owners (counter_line c)) tested e
 
 -- the line that a name has, where it has one, has an owner
-line-owned : (tasks counters : List (List ℕ)) (line : List ℕ) (t c : Option ℕ) → t ≡ named_among 256 tasks line → c ≡ named_among 226 counters line
+either-owned : (tasks counters : List (List ℕ)) (word : List ℕ) (t c : Option ℕ) → t ≡ named_among 256 tasks word → c ≡ named_among 226 counters word
     → (k : ℕ) → line_of_either t c ≡ Some k → IsOwned (owners_read tasks counters) k
-line-owned tasks counters line (Some t) c p q k e =
-    subst (IsOwned (owners_read tasks counters)) (same_Some t k e) (task_owned (owners_read tasks counters) t (found-below (Some t) 256 tasks line p t refl).1)
-line-owned tasks counters line None (Some c) p q k e =
+either-owned tasks counters word (Some t) c p q k e =
+    subst (IsOwned (owners_read tasks counters)) (same_Some t k e) (task_owned (owners_read tasks counters) t (found-below (Some t) 256 tasks word p t refl).1)
+either-owned tasks counters word None (Some c) p q k e =
     subst (IsOwned (owners_read tasks counters)) (same_Some (counter_line c) k e)
-    (counter-owned (owners_read tasks counters) c (found-below (Some c) 226 counters line q c refl).1)
-line-owned tasks counters line None None p q k e = absurd (none-some k e)
+    (counter-owned (owners_read tasks counters) c (found-below (Some c) 226 counters word q c refl).1)
+either-owned tasks counters word None None p q k e = absurd (none-some k e)
+
+pub line-owned : (tasks counters : List (List ℕ)) (word : List ℕ) (k : ℕ) → owner_line tasks counters word ≡ Some k → IsOwned (owners_read tasks counters) k
+line-owned tasks counters word k e =
+    either-owned tasks counters word (named_among 256 tasks word) (named_among 226 counters word) refl refl k e
 
 pub some-is : (o : Option ℕ) (P : ℕ → Type 0) → ((i : ℕ) → o ≡ Some i → P i) → IfSome o P
 some-is None P f = tt
@@ -83,11 +87,11 @@ last-by : (xs : List Arrival) (m : ℕ) → last_moment 0 xs ≤ m → 1 ≤ m �
 last-by [] m l h = h
 last-by (x ∷ xs) m l h = l
 
-without : (a b : Bool) → a ≡ true → (a && b) ≡ false → b ≡ false
+pub without : (a b : Bool) → a ≡ true → (a && b) ≡ false → b ≡ false
 without true b e h = h
 without false b e h = cc
 
-some-of : (o : Option ℕ) → not (is_some o) ≡ false → (i : ℕ) × (o ≡ Some i)
+pub some-of : (o : Option ℕ) → not (is_some o) ≡ false → (i : ℕ) × (o ≡ Some i)
 some-of None h = cc
 some-of (Some i) h = (i, refl)
 
@@ -108,7 +112,7 @@ module _ (tasks counters : List (List ℕ)) (before : List Arrival) (n : ℕ) (l
       let some = some-of (named_line tasks counters line) (without (is_arrival line) (not (is_some (named_line tasks counters line))) is t2) in
       let e : unwrap_or (named_line tasks counters line) 0 ≡ some.0 = ap (λ o. unwrap_or o 0) some.1 in
       subst (IsOwned (owners_read tasks counters)) (sym e)
-      (line-owned tasks counters line (named_among 256 tasks line) (named_among 226 counters line) refl refl some.0 some.1)
+      (line-owned tasks counters (name_text line) some.0 some.1)
 
   rises : last_moment 0 before ≤ moment_of line
   rises =

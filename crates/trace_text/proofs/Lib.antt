@@ -3,4 +3,5 @@ pub mod Digits
 pub mod TasksBack
 pub mod EventsBack
 pub mod Kept
+pub mod LineByLine
 pub mod Reading

@@ -43,9 +43,9 @@ is_arrival line = are_digits (moment_text line) && is_name (name_text line)
 abbrev pub moment_of : List ℕ → ℕ
 moment_of line = value_from 10 0 (moment_text line)
 
--- the place of the arrival's name among the first of these names
+-- the place of a name among the first of these names
 abbrev pub named_among : ℕ → List (List ℕ) → List ℕ → Option ℕ
-named_among most names line = position (bytes_eq (name_text line)) (take most names)
+named_among most names word = position (bytes_eq word) (take most names)
 
 -- the line of a task, if there is one, or else of a counter
 abbrev pub line_of_either : Option ℕ → Option ℕ → Option ℕ
@@ -53,10 +53,14 @@ line_of_either (Some task) counter = Some task
 line_of_either None (Some counter) = Some (counter_line counter)
 line_of_either None None = None
 
--- The line of the task or the counter with the arrival's name. A controller's line has a byte as its number, so there is none behind the first 256
+-- The line of the task or the counter of a name. A controller's line has a byte as its number, so there is none behind the first 256
 -- tasks, nor behind the first 226 counters.
+abbrev pub owner_line : List (List ℕ) → List (List ℕ) → List ℕ → Option ℕ
+owner_line tasks counters word = line_of_either (named_among 256 tasks word) (named_among 226 counters word)
+
+-- that of the arrival's name
 abbrev pub named_line : List (List ℕ) → List (List ℕ) → List ℕ → Option ℕ
-named_line tasks counters line = line_of_either (named_among 256 tasks line) (named_among 226 counters line)
+named_line tasks counters line = owner_line tasks counters (name_text line)
 
 -- ---- the arrivals
 

@@ -5,7 +5,7 @@ ghost use Rattle.std.specs.Char.{is_ascii_digit};
 ghost use Rattle.sloth_base.specs.Limits.{count_limit};
 ghost use Rattle.least_fault.specs.Search.{IsSearchResult};
 ghost use Rattle.text_pieces.specs.Digits.{capped_value};
-ghost use Rattle.trace_text.specs.ArrivalsText.{is_comment, are_digits, is_arrival, moment_of, named_among, named_line, arrival_of};
+ghost use Rattle.trace_text.specs.ArrivalsText.{is_comment, are_digits, is_arrival, moment_of, named_among, owner_line, named_line, arrival_of};
 ghost use Rattle.trace_text.specs.ArrivalsText.{last_moment, is_outside, is_t1, is_t2, is_t3, is_t4, ArrivalLineFault};
 
 use least_fault::{fault_if, merge};
@@ -24,8 +24,8 @@ const LINES: usize = 256;
 /// How many of them may be counters'.
 const COUNTER_LINES: usize = LINES - TASK_LIMIT;
 
-// Empty, or a comment.
-fn is_comment(line: &[u8]) -> bool
+/// Empty, or a comment.
+pub fn is_comment(line: &[u8]) -> bool
     ensures { result ≡ is_comment line.now }
 {
     line.is_empty() || line[0] == b'#'
@@ -37,7 +37,8 @@ fn all_digits(text: &[u8]) -> bool
     text.iter().all(|byte| byte.is_ascii_digit())
 }
 
-fn are_digits(text: &[u8]) -> bool
+/// Whether there are decimal digits, and nothing else.
+pub fn are_digits(text: &[u8]) -> bool
     ensures { result ≡ are_digits text.now }
 {
     !text.is_empty() && all_digits(text)
@@ -75,25 +76,42 @@ fn first_names(names: &[Name], count: usize) -> &[Name]
     names
 }
 
-// The place of the line's name among the first of these names.
-fn named_among(most: usize, names: &[Name], line: &[u8]) -> Option<usize>
-    ensures place { result ≡ named_among most names.now line.now }
+// The place of a name among the first of these names.
+fn named_among(most: usize, names: &[Name], word: &[u8]) -> Option<usize>
+    ensures place { result ≡ named_among most names.now word.now }
     ensures small { IfSome result (λ place. place < most) }
 {
-    position(first_names(names, most), behind(line, b' '))
+    position(first_names(names, most), word)
+}
+
+/// The line of the task of a name.
+pub fn task_line(tasks: &[Name], word: &[u8]) -> Option<u8>
+    ensures { result ≡ named_among 256 tasks.now word.now }
+{
+    match named_among(LINES, tasks, word) {
+        Some(task) => Some(task as u8),
+        None => None,
+    }
+}
+
+/// The line of the task or the counter of a name.
+pub fn owner_line(tasks: &[Name], counters: &[Name], word: &[u8]) -> Option<u8>
+    ensures { result ≡ owner_line tasks.now counters.now word.now }
+{
+    if let Some(line) = task_line(tasks, word) {
+        return Some(line);
+    }
+    match named_among(COUNTER_LINES, counters, word) {
+        Some(counter) => Some(FIRST_COUNTER_LINE + counter as u8),
+        None => None,
+    }
 }
 
 // The line of the task or the counter that a line of the text names.
 fn named_line(tasks: &[Name], counters: &[Name], line: &[u8]) -> Option<u8>
     ensures { result ≡ named_line tasks.now counters.now line.now }
 {
-    if let Some(task) = named_among(LINES, tasks, line) {
-        return Some(task as u8);
-    }
-    match named_among(COUNTER_LINES, counters, line) {
-        Some(counter) => Some(FIRST_COUNTER_LINE + counter as u8),
-        None => None,
-    }
+    owner_line(tasks, counters, behind(line, b' '))
 }
 
 /// The arrival of a line, whose moment is at most `COUNT_LIMIT`.

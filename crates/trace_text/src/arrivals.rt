@@ -27,9 +27,9 @@ fn lines_of<'a>(alloc: Global, parts: &[&'a [u8]]) -> Result<Vec<&'a [u8]>, NoMe
     Ok(read)
 }
 
-// The lines of a text.
+/// The lines of a text.
 #[tactic(auto, unfolding(asm_lines::specs::Lines::lines))]
-fn lines<'a>(alloc: Global, text: &'a [u8]) -> Result<Vec<&'a [u8]>, NoMemory>
+pub fn lines<'a>(alloc: Global, text: &'a [u8]) -> Result<Vec<&'a [u8]>, NoMemory>
     ensures { IfOk result (λ read. map referent read.items ≡ lines text.now) }
 {
     let parts = split(alloc, text, b'\n')?;

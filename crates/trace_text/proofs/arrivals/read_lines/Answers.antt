@@ -3,8 +3,9 @@ use Rattle.std.specs.Borrow.{Bor}
 use Rattle.std.proofs.lemmas.Result.{err_from_is_err_and}
 use Rattle.sloth_base.specs.declared.event.Arrival.{Arrival}
 use Rattle.text_pieces.specs.Names.{referent}
-use Rattle.trace_text.specs.ArrivalsText.{arrivals_of}
-use Rattle.trace_text.proofs.Reading.{next-of, arrivals-more, one-sound, first-error}
+use Rattle.trace_text.specs.ArrivalsText.{is_arrival, arrival_of, arrivals_of, ArrivalLineFault}
+use Rattle.trace_text.proofs.LineByLine.{next-of, values-more, one-sound, first-error}
+use Rattle.trace_text.proofs.Reading.{fault_line}
 use Rattle.trace_text.proofs.arrivals.read_lines.Goals as goal
 
 pub returns-in_err-read_line-clause-refused : goal.returns-in_err-read_line-clause-refused
@@ -16,8 +17,11 @@ returns-in_err-read_line-clause-refused c =
     let counters = c.args.counters.now in
     let read = c.loop-n.read.items in
     let none : Bor (List ℕ) = record { ref_ptr = (0, 0); now = [] } in
-    let next = next-of tasks counters parts i read none c.loop-n-test.true c.loop-n.invariant.read c.loop-n.invariant.none in
-    rw (failed.1, failed.2) (first-error tasks counters (map referent parts) i read (get_or parts i none).now c.in_err-read_line.field-0.0 next c.in_err-read_line.ensures.refused)
+    let own_line = fault_line tasks counters in
+    let next = next-of is_arrival (arrival_of tasks counters) (ArrivalLineFault tasks counters) own_line parts i read none c.loop-n-test.true c.loop-n.invariant.read c.loop-n.invariant.none in
+    rw (failed.1, failed.2)
+    (first-error is_arrival (arrival_of tasks counters) (ArrivalLineFault tasks counters) own_line (map referent parts) i read (get_or parts i none).now c.in_err-read_line.field-0.0 next
+    c.in_err-read_line.ensures.refused)
 
 pub loop-n-preserved : goal.loop-n-preserved
 loop-n-preserved c =
@@ -28,10 +32,13 @@ loop-n-preserved c =
     let read = c.loop-n.read.items in
     let none : Bor (List ℕ) = record { ref_ptr = (0, 0); now = [] } in
     let line = (get_or parts i none).now in
-    let next = next-of tasks counters parts i read none c.loop-n-test.true c.loop-n.invariant.read c.loop-n.invariant.none in
+    let own_line = fault_line tasks counters in
+    let next = next-of is_arrival (arrival_of tasks counters) (ArrivalLineFault tasks counters) own_line parts i read none c.loop-n-test.true c.loop-n.invariant.read c.loop-n.invariant.none in
     let of = c.in_ok-read_line.ensures in
     record {
-      read = of.read ∙ (ap (λ (xs : List Arrival). xs ++ arrivals_of tasks counters (line ∷ [])) next.behind ∙ arrivals-more tasks counters (map referent parts) i line next.inside next.line_is);
+      read = of.read
+          ∙ (ap (λ (xs : List Arrival). xs ++ arrivals_of tasks counters (line ∷ [])) next.behind
+          ∙ values-more is_arrival (arrival_of tasks counters) (ArrivalLineFault tasks counters) own_line (map referent parts) i line next.inside next.line_is);
       in_range = of.in_range;
-      none = one-sound tasks counters (map referent parts) i read line next of.none;
+      none = one-sound is_arrival (arrival_of tasks counters) (ArrivalLineFault tasks counters) own_line (map referent parts) i read line next of.none;
     }

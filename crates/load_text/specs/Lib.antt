@@ -1,0 +1,2 @@
+pub mod LoadText
+pub mod Loads

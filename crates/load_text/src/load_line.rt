@@ -1,0 +1,202 @@
+//! A line of a load, and its faults: L1 to L4.
+ghost use Rattle.std.specs.Prelude.{◌≡◌, ◌≤◌};
+ghost use Rattle.std.specs.List.{list_any};
+ghost use Rattle.sloth_base.specs.Limits.{count_limit};
+ghost use Rattle.least_fault.specs.Search.{IsSearchResult};
+ghost use Rattle.text_pieces.specs.Digits.{capped_value};
+ghost use Rattle.load_text.specs.LoadText.{form_named, is_entry, form_of, number_of, owner_by, owner_of, entry_of, is_form, is_of, is_said, is_outside};
+ghost use Rattle.load_text.specs.LoadText.{is_l1, is_l2, is_l3, is_l4, LineFault, owner_text, number_text, form_text};
+
+use crate::entry::{Entry, Form};
+use least_fault::{fault_if, merge};
+use sloth_base::limits::COUNT_LIMIT;
+use sloth_base::name::Name;
+use sloth_base::numbers::Line;
+use sloth_base::refusal::{Code, Part, Refusal};
+use text_pieces::bytes::{before, behind, is_name, same};
+use text_pieces::numerals::value;
+use trace_text::arrival_line::{are_digits, is_comment, owner_line, task_line};
+
+/// The form that a word names.
+#[tactic(auto, unfolding(crate::specs::LoadText::form_named))]
+fn form_named(word: &[u8]) -> Option<Form>
+    ensures { result ≡ form_named word.now }
+{
+    if same(word, b"every") {
+        return Some(Form::Every);
+    }
+    if same(word, b"work") {
+        return Some(Form::Work);
+    }
+    if same(word, b"deadline") {
+        return Some(Form::Deadline);
+    }
+    None
+}
+
+fn form_text(line: &[u8]) -> &[u8]
+    ensures { result.now ≡ form_text line.now }
+{
+    before(line, b' ')
+}
+
+fn owner_text(line: &[u8]) -> &[u8]
+    ensures { result.now ≡ owner_text line.now }
+{
+    before(behind(line, b' '), b' ')
+}
+
+fn number_text(line: &[u8]) -> &[u8]
+    ensures { result.now ≡ number_text line.now }
+{
+    behind(behind(line, b' '), b' ')
+}
+
+/// Whether the line has the shape of an entry: a form's word, a name and decimal digits, with one space between.
+#[tactic(auto, unfolding(crate::specs::LoadText::is_entry))]
+pub fn is_entry(line: &[u8]) -> bool
+    ensures { result ≡ is_entry line.now }
+{
+    form_named(form_text(line)).is_some()
+        && (is_name(owner_text(line)) && are_digits(number_text(line)))
+}
+
+fn form_of(line: &[u8]) -> Form
+    ensures { result ≡ form_of line.now }
+{
+    match form_named(form_text(line)) {
+        Some(form) => form,
+        None => Form::Every,
+    }
+}
+
+// The number, or a greater one than is in range.
+fn number(line: &[u8]) -> u64
+    ensures number { result ≡ capped_value (number_of line.now) }
+    ensures small { result ≤ 4294967296 }
+{
+    value(number_text(line), 10)
+}
+
+// The line of the owner of a name, for a form.
+fn owner_by(tasks: &[Name], counters: &[Name], form: Form, name: &[u8]) -> Option<u8>
+    ensures { result ≡ owner_by tasks.now counters.now form name.now }
+{
+    match form {
+        Form::Every => owner_line(tasks, counters, name),
+        Form::Work | Form::Deadline => task_line(tasks, name),
+    }
+}
+
+fn owner_of(tasks: &[Name], counters: &[Name], line: &[u8]) -> Option<u8>
+    ensures { result ≡ owner_of tasks.now counters.now line.now }
+{
+    owner_by(tasks, counters, form_of(line), owner_text(line))
+}
+
+/// The entry of a line, whose number is at most 1,000,000.
+pub fn entry_of(tasks: &[Name], counters: &[Name], line: &[u8]) -> Entry
+    requires { number_of line.now ≤ count_limit }
+    ensures { result ≡ entry_of tasks.now counters.now line.now }
+{
+    let number = number(line) as u32;
+    let owner = owner_of(tasks, counters, line).unwrap_or(0);
+    Entry {
+        form: form_of(line),
+        owner: Line(owner),
+        number,
+    }
+}
+
+/// Whether an entry is of this form and of the owner of this line.
+pub fn is_of(form: Form, owner: u8, entry: &Entry) -> bool
+    ensures { result ≡ is_of form owner entry.now }
+{
+    is_form(entry.form, form) && entry.owner.0 == owner
+}
+
+fn is_form(one: Form, other: Form) -> bool
+    ensures { result ≡ is_form one other }
+{
+    match (one, other) {
+        (Form::Every, Form::Every) => true,
+        (Form::Work, Form::Work) => true,
+        (Form::Deadline, Form::Deadline) => true,
+        (Form::Every, Form::Work) | (Form::Every, Form::Deadline) => false,
+        (Form::Work, Form::Every) | (Form::Work, Form::Deadline) => false,
+        (Form::Deadline, Form::Every) | (Form::Deadline, Form::Work) => false,
+    }
+}
+
+// Whether one of these entries is of the form and of that owner, if there is one.
+fn is_said(before: &[Entry], form: Form, owner: Option<u8>) -> bool
+    ensures { result ≡ is_said before.now form owner }
+{
+    match owner {
+        Some(owner) => is_said_of(before, form, owner),
+        None => false,
+    }
+}
+
+fn is_said_of(before: &[Entry], form: Form, owner: u8) -> bool
+    ensures { result ≡ list_any (is_of form owner) before.now }
+{
+    before.iter().any(|entry| is_of(form, owner, entry))
+}
+
+// A line of none of the forms.
+fn is_l1(line: &[u8]) -> bool
+    ensures { result ≡ is_l1 line.now }
+{
+    !is_comment(line) && !is_entry(line)
+}
+
+// A name that no owner has.
+fn is_l2(tasks: &[Name], counters: &[Name], line: &[u8]) -> bool
+    ensures { result ≡ is_l2 tasks.now counters.now line.now }
+{
+    is_entry(line) && owner_of(tasks, counters, line).is_none()
+}
+
+// A second entry of one form and name.
+fn is_l3(tasks: &[Name], counters: &[Name], before: &[Entry], line: &[u8]) -> bool
+    ensures { result ≡ is_l3 tasks.now counters.now before.now line.now }
+{
+    is_entry(line) && is_said(before, form_of(line), owner_of(tasks, counters, line))
+}
+
+// A number out of range.
+fn is_outside(line: &[u8]) -> bool
+    ensures { result ≡ is_outside line.now }
+{
+    let number = number(line);
+    number < 1 || u64::from(COUNT_LIMIT) < number
+}
+
+fn is_l4(line: &[u8]) -> bool
+    ensures { result ≡ is_l4 line.now }
+{
+    is_entry(line) && is_outside(line)
+}
+
+/// The least fault of a line that these entries stand before.
+pub fn line_fault(
+    tasks: &[Name],
+    counters: &[Name],
+    before: &[Entry],
+    number: u32,
+    line: &[u8],
+) -> Option<Refusal>
+    ensures { IsSearchResult (LineFault tasks.now counters.now before.now number line.now) result }
+{
+    let l1 = fault_if(is_l1(line), Part::Load, number, Code::L1);
+    let l2 = fault_if(is_l2(tasks, counters, line), Part::Load, number, Code::L2);
+    let l3 = fault_if(
+        is_l3(tasks, counters, before, line),
+        Part::Load,
+        number,
+        Code::L3,
+    );
+    let l4 = fault_if(is_l4(line), Part::Load, number, Code::L4);
+    merge(l1, merge(l2, merge(l3, l4)))
+}
