@@ -13,7 +13,22 @@ use sloth_base::config::Config;
 use sloth_base::places::Bounds;
 use sloth_base::refusal::BuildError;
 use std::alloc::Global;
+use task_verify::verified::Verified;
 use task_verify::verify;
+
+// The same, where the rules are kept.
+fn bounds_of_verified(
+    alloc: Global,
+    verified: &Verified,
+    ranks: &Ranks,
+) -> Result<Bounds, BuildError>
+    requires { RanksOf verified.now.app ranks.now }
+    ensures bounds { IfOk result (AreBounds verified.now.config verified.now.app) }
+    ensures refused { IfErr result (ErrorIs (RuleFault verified.now.config verified.now.app)) }
+{
+    let bounds = bound(alloc, verified, ranks)?;
+    Ok(bounds)
+}
 
 /// The bytes of stack that tasks may need, where no rule of V2 to V12 has a fault; else the least fault.
 pub fn bounds_of(
@@ -29,6 +44,5 @@ pub fn bounds_of(
     ensures refused { IfErr result (ErrorIs (RuleFault config.now app.now)) }
 {
     let verified = verify(alloc, config, app, ranks)?;
-    let bounds = bound(alloc, &verified, ranks)?;
-    Ok(bounds)
+    bounds_of_verified(alloc, &verified, ranks)
 }
