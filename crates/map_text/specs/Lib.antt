@@ -3,3 +3,4 @@ pub mod Listable
 pub mod MapText
 pub mod Rows
 pub mod PieceRows
+pub mod Totals

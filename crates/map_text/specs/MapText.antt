@@ -18,6 +18,9 @@ use Rattle.stack_bounds.specs.Bounds.{AreBounds, bytes_of}
 use Rattle.mem_map.specs.Planned.{IsPlanned}
 use Rattle.sloth_source.specs.Texts.{AreAccepted}
 use Rattle.map_text.specs.Rows.{map_rows, sum_of}
+use Rattle.map_text.specs.Totals.{all_parts, filled_rows, part_sum}
+use Rattle.map_text.specs.declared.totals.Part.{Part}
+use Rattle.map_text.specs.declared.totals.Part.TheVariants as part
 use Rattle.map_text.specs.declared.piece_rows.Kind.{Kind}
 use Rattle.map_text.specs.declared.piece_rows.Kind.TheVariants as kind
 use Rattle.map_text.specs.declared.piece_rows.Row.{Row}
@@ -54,6 +57,7 @@ piece_text config app kind.Data number = codes "data " ++ (get_or app.symbols nu
 piece_text config app kind.End number = codes "end"
 piece_text config app kind.Shared number = codes "shared"
 piece_text config app kind.Stack number = codes "stack " ++ (declaration config number).name
+piece_text config app kind.Between number = codes "between"
 
 -- ---- lines
 
@@ -70,14 +74,34 @@ unfoldable pub need_lines : Config → Bounds → ℕ → List ℕ
 need_lines config bounds zero = []
 need_lines config bounds (suc task) = need_lines config bounds task ++ need_line config bounds task
 
+-- what the rows of a part take together
+abbrev pub part_text : Part → List ℕ
+part_text part.Code = codes "code"
+part_text part.Data = codes "data"
+part_text part.Stacks = codes "stacks"
+part_text part.Between = codes "between"
+
+-- behind the bytes of code, which no run of the image writes
+abbrev pub behind_part : Part → List ℕ
+behind_part part.Code = codes " read-only"
+behind_part _ = []
+
+-- the line of the bytes of a part
+unfoldable pub total_line : List Row → Part → List ℕ
+total_line rows p = part_text p ++ codes " " ++ decimal (part_sum p rows) ++ behind_part p ++ codes "\n"
+
 -- the line of the bytes of all rows
 abbrev pub sum_line : ℕ → List ℕ
 sum_line sum = codes "sum " ++ decimal sum ++ codes "\n"
 
--- the lines of rows, of what each task needs, and of their sum
+-- the lines of rows, of what each task needs, of the bytes of each part, and of their sum
+abbrev pub lines_with : Config → App → Bounds → List Row → List ℕ
+lines_with config app bounds rows =
+    flat_map (row_line config app) rows ++ need_lines config bounds (length config.tasks) ++ flat_map (total_line rows) all_parts ++ sum_line (sum_of rows)
+
+-- the same of rows and of the bytes between them
 abbrev pub lines_of : Config → App → Bounds → List Row → List ℕ
-lines_of config app bounds rows =
-    flat_map (row_line config app) rows ++ need_lines config bounds (length config.tasks) ++ sum_line (sum_of rows)
+lines_of config app bounds rows = lines_with config app bounds (filled_rows rows)
 
 -- the lines of a map
 abbrev pub map_text : Config → App → Bounds → Map → List ℕ

@@ -2,9 +2,10 @@
 ghost use Rattle.std.specs.Prelude.{◌≡◌, ◌<◌, ◌++◌, IfOk, OnOk, length, get_or};
 ghost use Rattle.sloth_base.specs.Blocks.{block_object, block_service};
 ghost use Rattle.sloth_base.specs.Named.{alarm_declaration, counter_declaration, declaration, function, no_symbol};
-ghost use Rattle.map_text.specs.MapText.{need_line, object_text, piece_text, resource_name, row_line, service_text, sum_line};
+ghost use Rattle.map_text.specs.MapText.{behind_part, need_line, object_text, part_text, piece_text, resource_name, row_line, service_text, sum_line, total_line};
 
 use crate::piece_rows::{Kind, Row};
+use crate::totals::{Part, part_sum};
 use itoa::Buffer;
 use sloth_base::app::App;
 use sloth_base::config::Config;
@@ -166,6 +167,7 @@ fn push_piece(
         Kind::End => push(text, b"end"),
         Kind::Shared => push(text, b"shared"),
         Kind::Stack => push_both(text, b"stack ", task_name(config, row.number)),
+        Kind::Between => push(text, b"between"),
     }
 }
 
@@ -201,6 +203,42 @@ pub fn need_line(
     line.extend_from_slice(task_name(config, task))?;
     line.extend_from_slice(b" ")?;
     line.extend_from_slice(buffer.format(bounds.bytes.items()[task]).as_bytes())?;
+    line.extend_from_slice(b"\n")?;
+    Ok(line)
+}
+
+// What the rows of a part take together.
+fn part_text(part: Part) -> &'static [u8]
+    ensures { result.now ≡ part_text part }
+{
+    match part {
+        Part::Code => b"code",
+        Part::Data => b"data",
+        Part::Stacks => b"stacks",
+        Part::Between => b"between",
+    }
+}
+
+// What stands behind the bytes of a part.
+fn behind_part(part: Part) -> &'static [u8]
+    ensures { result.now ≡ behind_part part }
+{
+    match part {
+        Part::Code => b" read-only",
+        Part::Data | Part::Stacks | Part::Between => b"",
+    }
+}
+
+/// The line of the bytes of a part.
+#[tactic(auto, unfolding(crate::specs::MapText::total_line))]
+pub fn total_line(alloc: Global, rows: &[Row], part: Part) -> Result<Vec<u8>, NoMemory>
+    ensures { IfOk result (λ line. line.items ≡ total_line rows.now part) }
+{
+    let mut buffer = Buffer::new();
+    let mut line = Vec::from_slice(alloc, part_text(part))?;
+    line.extend_from_slice(b" ")?;
+    line.extend_from_slice(buffer.format(part_sum(part, rows)).as_bytes())?;
+    line.extend_from_slice(behind_part(part))?;
     line.extend_from_slice(b"\n")?;
     Ok(line)
 }

@@ -29,6 +29,8 @@ pub enum Kind {
     Shared,
     /// The stack of an extended task.
     Stack,
+    /// Bytes between two parts, of neither.
+    Between,
 }
 
 /// Where a piece begins: the task, counter, service block, function or symbol of this number, or the one piece of its kind, with the number 0.

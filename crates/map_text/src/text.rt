@@ -5,11 +5,12 @@ ghost use Rattle.code_rules.specs.WellFormed.{WellFormed};
 ghost use Rattle.stack_bounds.specs.Bounds.{AreBounds};
 ghost use Rattle.sloth_source.specs.Texts.{SourcesErrorIs};
 ghost use Rattle.map_text.specs.Listable.{IsListable};
-ghost use Rattle.map_text.specs.MapText.{HasMap, IsMapText, map_text, need_lines, row_line};
+ghost use Rattle.map_text.specs.MapText.{HasMap, IsMapText, lines_with, map_text, need_lines, row_line, total_line};
 
-use crate::lines::{need_line, row_line, sum_line};
+use crate::lines::{need_line, row_line, sum_line, total_line};
 use crate::piece_rows::Row;
 use crate::rows::{map_rows, sum_of};
+use crate::totals::{PARTS, Part, filled_rows};
 use mem_map::plan;
 use sloth_base::app::App;
 use sloth_base::config::Config;
@@ -53,6 +54,40 @@ fn push_needs(
     Ok(())
 }
 
+// Appends the lines of the bytes of each part.
+fn push_totals(
+    alloc: Global,
+    text: &mut Vec<u8>,
+    rows: &[Row],
+    parts: &[Part],
+) -> Result<(), NoMemory>
+    ensures { OnOk result (text.new.items ≡ text.old.items ++ flat_map (total_line rows.now) parts.now) }
+{
+    for part in parts {
+        text.extend_from_slice(total_line(alloc, rows, *part)?.as_slice())?;
+    }
+    Ok(())
+}
+
+// The text of rows.
+fn text_with(
+    alloc: Global,
+    config: &Config,
+    app: &App,
+    bounds: &Bounds,
+    rows: &[Row],
+) -> Result<Vec<u8>, NoMemory>
+    requires { length bounds.now.bytes ≡ length config.now.tasks }
+    ensures { IfOk result (λ text. text.items ≡ lines_with config.now app.now bounds.now rows.now) }
+{
+    let mut text = Vec::new(alloc);
+    push_rows(alloc, &mut text, config, app, rows)?;
+    push_needs(alloc, &mut text, config, bounds)?;
+    push_totals(alloc, &mut text, rows, &PARTS)?;
+    text.extend_from_slice(sum_line(alloc, sum_of(rows))?.as_slice())?;
+    Ok(text)
+}
+
 // The text of a map.
 fn text_of(
     alloc: Global,
@@ -66,12 +101,8 @@ fn text_of(
     ensures { IfOk result (λ text. text.items ≡ map_text config.now app.now bounds.now map.now) }
 {
     let rows = map_rows(alloc, config, map)?;
-    let sum = sum_line(alloc, sum_of(rows.as_slice()))?;
-    let mut text = Vec::new(alloc);
-    push_rows(alloc, &mut text, config, app, rows.as_slice())?;
-    push_needs(alloc, &mut text, config, bounds)?;
-    text.extend_from_slice(sum.as_slice())?;
-    Ok(text)
+    let rows = filled_rows(alloc, rows.as_slice())?;
+    text_with(alloc, config, app, bounds, rows.as_slice())
 }
 
 // The lines of the map that is planned for task code.
