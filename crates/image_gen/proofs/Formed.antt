@@ -21,7 +21,7 @@ use Rattle.sloth_link.specs.Linked.{datum_section}
 use Rattle.sloth_link.proofs.Written.{code_bytes_length, front_of}
 use Rattle.sloth_link.proofs.Standing.{all_marks}
 use Rattle.image_gen.specs.Gathered.{MayGenerate}
-use Rattle.image_gen.proofs.ImageOf.{IsImageOf}
+use Rattle.image_gen.specs.ImageOf.{IsImageOf}
 
 -- at most twice as many marks as blocks
 marks_few : (blocks : List Block) → All (λ b. length b.marks ≤ 2) blocks → length (marks_of blocks) ≤ 2 * length blocks

@@ -9,4 +9,3 @@ pub mod Linking
 pub mod Formed
 pub mod Planning
 pub mod Places
-pub mod ImageOf

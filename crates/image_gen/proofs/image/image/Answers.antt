@@ -7,7 +7,7 @@ use Rattle.sloth_link.specs.Image.{MayLink, all_blocks, all_data, memory_size}
 use Rattle.sloth_link.specs.Linked.{AreLinked, BlockStands, sections_of}
 use Rattle.mem_map.specs.Sections.{marks_of}
 use Rattle.image_gen.specs.Gathered.{MayGenerate}
-use Rattle.image_gen.proofs.ImageOf.{IsImageOf}
+use Rattle.image_gen.specs.ImageOf.{IsImageOf}
 use Rattle.image_gen.proofs.Formed.{in_format}
 use Rattle.image_gen.proofs.Linking.{linked_image, sound, shows}
 use Rattle.sloth_base.specs.Limits.{task_limit}
@@ -64,4 +64,5 @@ returns c =
       tasks = h.tasks;
       functions = h.functions;
       counters = h.counters;
+      planned = record { map = map; levels = levels; planned = c.in_ok-map.ensures; is = is };
     }

@@ -1,8 +1,9 @@
--- What the image of gathered code is.
+-- What the image of gathered code is, and by which map.
 use Rattle.std.specs.Prelude.{ℕ, ◌%◌, ◌≤◌, ◌≡◌, List, length, All}
 use Rattle.std.specs.List.Sorted.{IsPermutation, IsStrictlyIncreasing}
 use Rattle.sloth_base.specs.declared.app.App.{App}
 use Rattle.sloth_base.specs.declared.config.Config.{Config}
+use Rattle.sloth_base.specs.declared.image.Image.{Image}
 use Rattle.sloth_base.specs.declared.image.Mark.{Mark}
 use Rattle.sloth_base.specs.declared.places.Bounds.{Bounds}
 use Rattle.sloth_base.specs.declared.places.Levels.{Levels}
@@ -10,6 +11,8 @@ use Rattle.sloth_region.specs.declared.map.Map.{Map}
 use Rattle.rv32_instr.specs.declared.block.Block.{Block}
 use Rattle.sim_relation.specs.Bounds.{AreBelow}
 use Rattle.sloth_link.specs.declared.datum.Datum.{Datum}
+use Rattle.stack_bounds.specs.Bounds.{AreBounds}
+use Rattle.mem_map.specs.Planned.{IsPlanned}
 use Rattle.mem_map.specs.Sections.{addresses, marks_of}
 use Rattle.sim_image.specs.Generated.{HasCode, HasItemBlocks}
 use Rattle.sim_image.specs.Rooms.{HasOwnMarks}
@@ -33,3 +36,17 @@ pub record IsImageOf (config : Config) (app : App) (levels : Levels) (map : Map)
   pub marks_are : IsPermutation (marks_of blocks) marks
   pub ascending : IsStrictlyIncreasing (addresses marks)
   pub bytes : AreBelow 256 memory
+
+-- The image is of the map that is planned for the task code by these bytes of stack: the vector words, boot, the idle loop, each prologue, tick,
+-- service and item, and each symbol stands where that map has it.
+pub record IsOfPlannedMap (config : Config) (app : App) (bounds : Bounds) (image : Image) : Type 0 where
+  pub map : Map
+  pub levels : Levels
+  pub planned : IsPlanned config app bounds map
+  pub is : IsImageOf config app levels map image.memory image.marks
+
+-- the same, by the bytes of stack that its tasks may need
+pub record HasPlannedMap (config : Config) (app : App) (image : Image) : Type 0 where
+  pub bounds : Bounds
+  pub are_bounds : AreBounds config app bounds
+  pub by_map : IsOfPlannedMap config app bounds image
