@@ -11,3 +11,5 @@
 
 pub mod bound;
 pub mod latency;
+
+pub use bound::bounds;

@@ -54,8 +54,8 @@ runs-keep-latency config app bounds (Some h) code are is =
     let same = running-behind config made.stamp.at before ended in
     let kept = keeps_blocking_bounds config app image arrivals n code sound in
     let E : ℕ → Type 0 =
-    λ limit. made.stamp.at + with_ticks config h (latency config limit b) behind ≤ n
-    → EntersBefore h (made.stamp.at + with_ticks config h (latency config limit b) behind) behind in
+    λ limit. made.stamp.at + with_ticks h (latency config limit b) behind ≤ n
+    → EntersBefore h (made.stamp.at + with_ticks h (latency config limit b) behind) behind in
     subst E same
     (kept.latency before behind made h b found s events-are leads makes admits is.1 (told-bound config app bounds h b are makes.declared told)) many
 

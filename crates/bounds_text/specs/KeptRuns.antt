@@ -47,18 +47,18 @@ RunsKeepAll config app bounds =
 abbrev pub IsBehindBoot : (moment : ℕ) → List Stamped → Type 0
 IsBehindBoot moment before = AllByRecursion (λ e. is_boot e.event ≡ true → e.stamp.at < moment) before
 
--- the same counts, and those of the ticks among the events up to the entry of task h
-abbrev pub with_ticks : Config → (h limit : ℕ) → List Stamped → ℕ
-with_ticks config h limit behind = limit + tick_counts config (events_up_to_entry h behind)
+-- the same counts, those of the ticks among the events up to the entry of task h, and 40 for each of these
+abbrev pub with_ticks : (h limit : ℕ) → List Stamped → ℕ
+with_ticks h limit behind = limit + tick_counts (events_up_to_entry h behind)
 
--- From the moment of an arrival behind boot that makes task h Ready its entry ends within so many counts and those of the ticks on the way, if n
--- instructions are that many.
+-- From the moment of an arrival behind boot that makes task h Ready its entry ends within so many counts, those of the ticks on the way and 40 for
+-- each of these, if n instructions are that many.
 abbrev pub EntersWithin : Config → App → (h limit n : ℕ) → List Stamped → Type 0
 EntersWithin config app h limit n events =
     (before behind : List Stamped) (made : Stamped) (found s : System) → events ≡ before ++ made ∷ behind
     → AreStepsTo config app before (opening config app) found → MakesReady config app h made.event found s → is_admit made ≡ true
-    → IsBehindBoot made.stamp.at before → made.stamp.at + with_ticks config h limit behind ≤ n
-    → EntersBefore h (made.stamp.at + with_ticks config h limit behind) behind
+    → IsBehindBoot made.stamp.at before → made.stamp.at + with_ticks h limit behind ≤ n
+    → EntersBefore h (made.stamp.at + with_ticks h limit behind) behind
 
 -- in every sound run of an image of the task code this task, if it is one of which a number is told, is entered within its latency
 abbrev pub RunsKeepLatency : Config → App → List Bound → Option ℕ → Type 0

@@ -7,7 +7,8 @@ ghost use Rattle.bounds_text.specs.BoundsText.{IsTellable, AreTellable};
 ghost use Rattle.bounds_text.specs.Latency.{IsHighestTask, HasLatency, IsLatencyText, latency_text, latency_line, last_line, AreAllLines};
 
 use crate::{bound_lines, read_checked};
-use block_bounds::bound::{Bound, bounds};
+use block_bounds::bound::Bound;
+use block_bounds::bounds;
 use block_bounds::latency::{highest_among, latency_of};
 use call_graph::ranking::Ranks;
 use itoa::Buffer;
@@ -116,8 +117,8 @@ fn latency_of_code(alloc: Global, verified: &Verified, ranks: &Ranks) -> Result<
 }
 
 /// The lines of the bounds of all tasks, and that of the latency of the task of highest priority, of texts of at most 4,294,967,294 bytes;
-/// or the first refusal (O1 to O15, A1 to A7, V1 to V12). The latency is a number of instructions, for an arrival behind boot, the time of
-/// ticks on the way aside. Without a task there is no line.
+/// or the first refusal (O1 to O15, A1 to A7, V1 to V12). The latency is a number of instructions, for an arrival behind boot; what
+/// ticks on the way add is left out. Without a task there is no line.
 pub fn latency_lines(alloc: Global, oil: &[u8], src: &[u8]) -> Result<Vec<u8>, BuildError>
     requires oil { length oil.now < 4294967295 }
     requires src { length src.now < 4294967295 }

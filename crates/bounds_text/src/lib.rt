@@ -2,8 +2,8 @@
 //!
 //! The lines of the bounds of accepted texts, and with `latency` the line of the task of highest priority, or their first refusal (`bounds_text`,
 //! `latency::latency_lines`). In every sound run of an image of the task code each task of which a number is told waits for at most so many items and
-//! 200 counts for each, and from an arrival behind boot the task of the last line is entered within its latency and the counts of the ticks on the
-//! way. Texts have one list of lines of each kind at most (`one_text`, `one_latency_text`). Definitions: `specs/BoundsText`, the last line
+//! 200 counts for each, and from an arrival behind boot the task of the last line is entered within its latency, the counts of the ticks on the way
+//! and 40 for each of these. Texts have one list of lines of each kind at most (`one_text`, `one_latency_text`). Definitions: `specs/BoundsText`, the last line
 //! `specs/Latency`, what the numbers promise of runs `specs/KeptRuns`. Bounds: `block_bounds` (`Bounds`, `Kept`); latency: `run_bounds` (`Latency`).
 #![tactic(auto)]
 
@@ -16,7 +16,8 @@ ghost use Rattle.bounds_text.specs.BoundsText.{IsTellable, AreTellable, IsChecke
 pub mod latency;
 pub mod laws;
 
-use block_bounds::bound::{Bound, bounds};
+use block_bounds::bound::Bound;
+use block_bounds::bounds;
 use call_graph::ranking::Ranks;
 use itoa::Buffer;
 use sloth_base::app::App;

@@ -17,4 +17,4 @@ RunsKeepBounds = (config : Config) (app : App) (events : List Stamped)
 -- where each event but the boot ends soon behind the event before it, the bounds are kept in counts too
 abbrev pub RunsKeepCounts : Type 0
 RunsKeepCounts = (config : Config) (app : App) (events : List Stamped)
-    → WellFormed config app → OsekRun config app events → IsPaced config 0 events → KeepsCounts config app events
+    → WellFormed config app → OsekRun config app events → IsPaced 0 events → KeepsCounts config app events

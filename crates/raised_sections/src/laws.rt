@@ -7,8 +7,8 @@ pub fn runs_keep_bounds()
     ensures { RunsKeepBounds }
 {}
 
-/// In every such run in which each event but the boot ends at most 200 counts behind the event before it, admits left out, at most 200
-/// times the bound are spent on lower tasks.
+/// In every such run in which each event but the boot ends at most 200 counts behind the event before it, admits left out (an `enter` or a `tick`: 40
+/// and its own counts), at most 200 times the bound are spent on lower tasks.
 pub fn runs_keep_counts()
     ensures { RunsKeepCounts }
 {}

@@ -26,7 +26,7 @@ use Rattle.osek_valid.proofs.Steps.{step_valid, opening_valid}
 use Rattle.osek_blocking.specs.Blocking.{is_entry_of, events_up_to_entry}
 use Rattle.osek_blocking.proofs.Ordering.{step_ordered, opening_ordered, leads_ordered}
 use Rattle.osek_blocking.proofs.Once.{block_once}
-use Rattle.raised_sections.specs.Pace.{entry_counts, event_counts, takes_line, last_count, IsPaced}
+use Rattle.raised_sections.specs.Pace.{own_counts, event_counts, takes_line, last_count, IsPaced}
 use Rattle.sim_induction.proofs.Events.{each_both}
 use Rattle.raised_sections.proofs.Counts.{behind_paced}
 use Rattle.raised_sections.proofs.Placed.{step_placed, opening_placed}
@@ -39,50 +39,49 @@ use Rattle.run_bounds.proofs.Waiting.{waiting, IsOnTheWay, waits_at_most, on_the
 -- ---- counts of events
 
 -- where each event ends soon behind the one before it, so many events that are no admits end soon
-module _ (config : Config) where
-  ends_step : (at : ℕ) (e : Stamped) (events : List Stamped) → takes_line e.event ≡ is_tick e.event
-      → (is_admit e ≡ false → e.stamp.at ≤ at + event_counts config e.event)
-      → ((k : ℕ) → cond (is_admit e) at e.stamp.at ≡ k → last_count k events ≤ k + item_counts * waiting events + tick_counts config events)
-      → last_count (cond (is_admit e) at e.stamp.at) events
-      ≤ at + item_counts * (cond (is_outside e.event) 0 1 + waiting events) + (cond (is_tick e.event) (entry_counts config) 0 + tick_counts config events)
-  ends_step at e events takes soon further = by (cases_Bool (is_admit e)) (cases_Bool (is_tick e.event))
-    where
-      by : (is_admit e ≡ true) ⊎ (is_admit e ≡ false) → (is_tick e.event ≡ true) ⊎ (is_tick e.event ≡ false)
-          → last_count (cond (is_admit e) at e.stamp.at) events
-          ≤ at + item_counts * (cond (is_outside e.event) 0 1 + waiting events) + (cond (is_tick e.event) (entry_counts config) 0 + tick_counts config events)
-      by (inl is) which =
-          let same = ap (λ b. cond b at e.stamp.at) is in
-          let le = further at same in
-          let front = ap {B = ℕ} (λ b. cond (b || is_tick e.event) 0 1) is in
-          let last = ap (λ v. last_count v events) same in
-          omega (arith, le, front, last)
-      by (inr other) (inl tick) =
-          let same = ap (λ b. cond b at e.stamp.at) other in
-          let le = further e.stamp.at same in
-          let near = soon other in
-          let limit = ap (λ b. cond b (entry_counts config) item_counts) (takes ∙ tick) in
-          let spent = ap (λ b. cond b (entry_counts config) 0) tick in
-          let last = ap (λ v. last_count v events) same in
-          omega (arith, le, near, limit, spent, last)
-      by (inr other) (inr none) =
-          let same = ap (λ b. cond b at e.stamp.at) other in
-          let le = further e.stamp.at same in
-          let near = soon other in
-          let limit = ap (λ b. cond b (entry_counts config) item_counts) (takes ∙ none) in
-          let front = ap {B = ℕ} (λ b. cond (b || is_tick e.event) 0 1) other ∙ ap {B = ℕ} (λ b. cond b 0 1) none in
-          let last = ap (λ v. last_count v events) same in
-          omega (arith, le, near, limit, front, last)
+ends_step : (at : ℕ) (e : Stamped) (events : List Stamped) → takes_line e.event ≡ is_tick e.event
+    → (is_admit e ≡ false → e.stamp.at ≤ at + event_counts e)
+    → ((k : ℕ) → cond (is_admit e) at e.stamp.at ≡ k → last_count k events ≤ k + item_counts * waiting events + tick_counts events)
+    → last_count (cond (is_admit e) at e.stamp.at) events
+    ≤ at + item_counts * (cond (is_outside e.event) 0 1 + waiting events) + (cond (is_tick e.event) (own_counts e) 0 + tick_counts events)
+ends_step at e events takes soon further = by (cases_Bool (is_admit e)) (cases_Bool (is_tick e.event))
+  where
+    by : (is_admit e ≡ true) ⊎ (is_admit e ≡ false) → (is_tick e.event ≡ true) ⊎ (is_tick e.event ≡ false)
+        → last_count (cond (is_admit e) at e.stamp.at) events
+        ≤ at + item_counts * (cond (is_outside e.event) 0 1 + waiting events) + (cond (is_tick e.event) (own_counts e) 0 + tick_counts events)
+    by (inl is) which =
+        let same = ap (λ b. cond b at e.stamp.at) is in
+        let le = further at same in
+        let front = ap {B = ℕ} (λ b. cond (b || is_tick e.event) 0 1) is in
+        let last = ap (λ v. last_count v events) same in
+        omega (arith, le, front, last)
+    by (inr other) (inl tick) =
+        let same = ap (λ b. cond b at e.stamp.at) other in
+        let le = further e.stamp.at same in
+        let near = soon other in
+        let limit = ap (λ b. cond b (own_counts e) item_counts) (takes ∙ tick) in
+        let spent = ap (λ b. cond b (own_counts e) 0) tick in
+        let last = ap (λ v. last_count v events) same in
+        omega (arith, le, near, limit, spent, last)
+    by (inr other) (inr none) =
+        let same = ap (λ b. cond b at e.stamp.at) other in
+        let le = further e.stamp.at same in
+        let near = soon other in
+        let limit = ap (λ b. cond b (own_counts e) item_counts) (takes ∙ none) in
+        let front = ap {B = ℕ} (λ b. cond (b || is_tick e.event) 0 1) other ∙ ap {B = ℕ} (λ b. cond b 0 1) none in
+        let last = ap (λ v. last_count v events) same in
+        omega (arith, le, near, limit, front, last)
 
-  ends_by : (at : ℕ) (events : List Stamped) → IsPaced config at events → AllByRecursion IsOnTheWay events
-      → last_count at events ≤ at + item_counts * waiting events + tick_counts config events
-  ends_by at [] p none = omega arith
-  ends_by at (e ∷ events) p way =
-      ends_step at e events way.0.1 (λ other. p.0 other way.0.0)
-      (λ k is. subst (λ v. last_count v events ≤ v + item_counts * waiting events + tick_counts config events) is (ends_by (cond (is_admit e) at e.stamp.at) events p.1 way.1))
+ends_by : (at : ℕ) (events : List Stamped) → IsPaced at events → AllByRecursion IsOnTheWay events
+    → last_count at events ≤ at + item_counts * waiting events + tick_counts events
+ends_by at [] p none = omega arith
+ends_by at (e ∷ events) p way =
+    ends_step at e events way.0.1 (λ other. p.0 other way.0.0)
+    (λ k is. subst (λ v. last_count v events ≤ v + item_counts * waiting events + tick_counts events) is (ends_by (cond (is_admit e) at e.stamp.at) events p.1 way.1))
 
-  front_paced : (at : ℕ) (before behind : List Stamped) → IsPaced config at (before ++ behind) → IsPaced config at before
-  front_paced at [] behind p = tt
-  front_paced at (e ∷ before) behind p = (p.0, front_paced (cond (is_admit e) at e.stamp.at) before behind p.1)
+front_paced : (at : ℕ) (before behind : List Stamped) → IsPaced at (before ++ behind) → IsPaced at before
+front_paced at [] behind p = tt
+front_paced at (e ∷ before) behind p = (p.0, front_paced (cond (is_admit e) at e.stamp.at) before behind p.1)
 
 last-append : (at : ℕ) (a b : List Stamped) → last_count at (a ++ b) ≡ last_count (last_count at a) b
 last-append at [] b = refl
@@ -188,6 +187,10 @@ each_front : (P : Stamped → Type 0) (a b : List Stamped) → AllByRecursion P 
 each_front P [] b h = tt
 each_front P (e ∷ a) b h = (h.0, each_front P a b h.1)
 
+each_behind : (P : Stamped → Type 0) (a b : List Stamped) → AllByRecursion P (a ++ b) → AllByRecursion P b
+each_behind P [] b h = h
+each_behind P (e ∷ a) b h = each_behind P a b h.1
+
 -- a run begins with boot
 begins : (config : Config) (app : App) (e : Stamped) (events : List Stamped) (end : System) → AreStepsTo config app (e ∷ events) (opening config app) end
     → BeginsWithBoot (e ∷ events)
@@ -281,37 +284,42 @@ module _ (config : Config) (app : App) (n : ℕ) (events : List Stamped) (code :
           before_ends config made.stamp.at 0 limit before (omega (arith, less)) (omega arith)
           (each_both (λ e. is_admit e ≡ false → e.stamp.from < made.stamp.at) (LastsBriefly config) before stood brief)
 
+      brief_behind : AllByRecursion (LastsBriefly config) behind
+      brief_behind = (each_behind (LastsBriefly config) before (made ∷ behind) (subst (AllByRecursion (LastsBriefly config)) is paced.brief)).1
+
       same : cond (is_admit made) at made.stamp.at ≡ at
       same = ap (λ c. cond c at made.stamp.at) admits
 
-      pace : IsPaced config at behind
+      pace : IsPaced at behind
       pace =
-          let rest = behind_paced config 0 before (made ∷ behind) (subst (IsPaced config 0) is paced.paced) in
-          subst (λ k. IsPaced config k behind) same rest.1
+          let rest = behind_paced 0 before (made ∷ behind) (subst (IsPaced 0) is paced.paced) in
+          subst (λ k. IsPaced k behind) same rest.1
 
       reach : (window further : List Stamped) → behind ≡ window ++ further → events_up_to_entry h behind ≡ window
-          → last_count at window ≤ at + item_counts * b + tick_counts config window
+          → last_count at window ≤ at + item_counts * b + tick_counts window
       reach window further split front =
-          let p = front_paced config at window further (subst (IsPaced config at) split pace) in
+          let p = front_paced at window further (subst (IsPaced at) split pace) in
           let way = subst (AllByRecursion IsOnTheWay) front (on_the_way config app w h makes.declared highest behind s run.0 stands behind_leads) in
-          let le = ends_by config at window p way in
+          let le = ends_by at window p way in
           let few = subst (λ es. waiting es ≤ b) front most in
           omega (arith, le, few)
 
       by : Entry h behind → EntersBefore h (made.stamp.at + latency_with_ticks config h b made.stamp.at before behind) behind
       by (enters entry rest entered split) =
           let le = reach (events_up_to_entry h behind) (entry ∷ rest) split refl in
-          let p = behind_paced config at (events_up_to_entry h behind) (entry ∷ rest) (subst (IsPaced config at) split pace) in
+          let p = behind_paced at (events_up_to_entry h behind) (entry ∷ rest) (subst (IsPaced at) split pace) in
           let facts = entry_facts h entry.event entered in
           let soon = p.0 facts.0 facts.1 in
-          let limit = ap (λ c. cond c (entry_counts config) item_counts) facts.2 in
+          let limit = ap (λ c. cond c (own_counts entry) item_counts) facts.2 in
           let start = near in
-          record { entry = entry; rest = rest; is_entry = entered; first = split; in_time = omega (arith, le, soon, limit, start) }
+          let brief = (each_behind (LastsBriefly config) (events_up_to_entry h behind) (entry ∷ rest) (subst (AllByRecursion (LastsBriefly config)) split brief_behind)).0 in
+          let lasts = ap (λ b. cond b (stretch_limit config Boots) (longest_stretch config)) facts.1 in
+          record { entry = entry; rest = rest; is_entry = entered; first = split; in_time = omega (arith, le, soon, limit, start, brief, lasts) }
       by (enters_not all) =
           let le = reach behind [] (sym (append-nil behind)) all in
           let end = paced.reaches (subst BeginsWithBoot (sym is) (some_boot config app before behind made run.0 whole)) in
           let last = ap (last_count 0) is ∙ last-append 0 before (made ∷ behind) ∙ ap (λ k. last_count k behind) same in
           let start = near in
-          let ticks = ap (tick_counts config) all in
+          let ticks = ap tick_counts all in
           let enough = many in
           absurd (omega (arith, le, end, last, start, ticks, enough))

@@ -11,6 +11,7 @@ use Rattle.sloth_base.specs.declared.step.Step.{Step}
 use Rattle.sloth_base.specs.Machine.{State}
 use Rattle.sloth_base.specs.Arrivals.{moments}
 use Rattle.sloth_base.specs.Stretches.{longest_stretch}
+use Rattle.sloth_base.specs.Limits.{counter_limit}
 use Rattle.code_rules.specs.WellFormed.{WellFormed}
 use Rattle.rv32_machine.specs.Advance.{StepOutcome, Goes, Halts}
 use Rattle.rv32_machine.specs.Coherent.{AreCoherent}
@@ -50,7 +51,7 @@ whole_steps (suc n) arrivals count state h =
 
 -- ---- its events
 
-module _ (config : Config) (view : View) (arrivals : List Arrival) where
+module _ (config : Config) (view : View) (arrivals : List Arrival) (few_counters : length config.counters ≤ counter_limit) where
   found_continues : (at : ℕ) (rest : List Step) → Continues config at (found_admits view arrivals rest) at
   found_continues at [] = nothing config at
   found_continues at (first ∷ more) = admissions config view at (moments first.count (first_masked_moment first) arrivals)
@@ -65,7 +66,7 @@ module _ (config : Config) (view : View) (arrivals : List Arrival) where
   cut_limit [] count enabled c short later = omega arith
   cut_limit (first ∷ more) count enabled c short later =
       let e = c.0 in
-      later_limit config view arrivals first more short (omega (arith, e, later))
+      later_limit config view arrivals few_counters first more short (omega (arith, e, later))
 
   pub is_paced : (n : ℕ) (steps : List Step) → Short config view steps → AreCoherent 0 false steps → length steps ≡ n
       → IsPacedRun config n (observe view arrivals steps)
@@ -74,16 +75,17 @@ module _ (config : Config) (view : View) (arrivals : List Arrival) where
       let parts = pieces [] steps in
       let rest = cut_off_steps [] steps in
       let cut = is-cut steps in
-      let p = paces config view arrivals parts rest 0 0 0 false (subst (AreCoherent 0 false) (sym cut.joined) c) cut.each
+      let p = paces config view arrivals few_counters parts rest 0 0 0 false (subst (AreCoherent 0 false) (sym cut.joined) c) cut.each
       (recursion_from_All (IsShortPiece config) parts short.finished) short.gaps (omega arith) (omega arith) in
       let all = joined config (flat_map (piece_events view arrivals) parts) (found_admits view arrivals rest) 0 p.to p.to p.goes (found_continues p.to rest) in
       record {
         paced = all.paced;
         brief = all.brief;
+        ticks = all.ticks;
         reaches = λ boot. near p all.last boot p.onward;
       }
     where
-      near : (p : Paces config view arrivals 0 (pieces [] steps) 0 (cut_off_steps [] steps))
+      near : (p : Paces config view arrivals few_counters 0 (pieces [] steps) 0 (cut_off_steps [] steps))
           → last_count 0 (flat_map (piece_events view arrivals) (pieces [] steps) ++ found_admits view arrivals (cut_off_steps [] steps)) ≡ p.to
           → BeginsWithBoot (flat_map (piece_events view arrivals) (pieces [] steps) ++ found_admits view arrivals (cut_off_steps [] steps))
           → (pieces [] steps ≡ []) ⊎ (0 < p.next)
@@ -99,19 +101,20 @@ module _ (config : Config) (view : View) (arrivals : List Arrival) where
           let whole = sym (ap length (is-cut steps).joined) ∙ length-append (flat_map piece.steps_of (pieces [] steps)) (cut_off_steps [] steps) in
           omega (arith, le, counted, near, few, whole, long, last)
 
-pub sound_is_paced : (config : Config) (app : App) (image : Image) (arrivals : List Arrival) (n : ℕ) → IsSoundRun config app image arrivals n
-    → IsPacedRun config n (events_of image arrivals n)
-sound_is_paced config app image arrivals n sound =
-    is_paced config (view_of_image image) arrivals n (steps_of (run n arrivals (start image))) sound.short (coherent n arrivals 0 (start image))
+pub sound_is_paced : (config : Config) (app : App) (image : Image) (arrivals : List Arrival) (n : ℕ) → length config.counters ≤ counter_limit
+    → IsSoundRun config app image arrivals n → IsPacedRun config n (events_of image arrivals n)
+sound_is_paced config app image arrivals n few sound =
+    is_paced config (view_of_image image) arrivals few n (steps_of (run n arrivals (start image))) sound.short (coherent n arrivals 0 (start image))
     (whole_steps n arrivals 0 (start image) sound.whole)
 
 pub keeps_blocking_bounds : (config : Config) (app : App) (image : Image) (arrivals : List Arrival) (n : ℕ) → WellFormed config app
     → IsSoundRun config app image arrivals n → KeepsBlockingBounds config app n (events_of image arrivals n)
 keeps_blocking_bounds config app image arrivals n code sound =
     let bounds = keeps_bounds config app (events_of image arrivals n) code sound.osek in
-    let paced = sound_is_paced config app image arrivals n sound in
+    let paced = sound_is_paced config app image arrivals n code.in_range.configuration.few_counters sound in
     record {
       bounds = bounds;
       counts = keeps_counts config app (events_of image arrivals n) bounds paced.paced;
       latency = enters_in_time config app n (events_of image arrivals n) code sound.osek paced sound.in_time.placed;
+      ticks = paced.ticks;
     }

@@ -1,5 +1,6 @@
 -- What the bounds of raised sections promise of the runs of an image.
 use Rattle.std.specs.Prelude.{ℕ, List}
+use Rattle.std.specs.List.{AllByRecursion}
 use Rattle.sloth_base.specs.declared.config.Config.{Config}
 use Rattle.sloth_base.specs.declared.app.App.{App}
 use Rattle.sloth_base.specs.declared.event.Arrival.{Arrival}
@@ -9,7 +10,7 @@ use Rattle.code_rules.specs.WellFormed.{WellFormed}
 use Rattle.sim_induction.specs.Sound.{IsSoundRun, events_of}
 use Rattle.raised_sections.specs.Kept.{KeepsBounds}
 use Rattle.raised_sections.specs.Spent.{KeepsCounts}
-use Rattle.run_bounds.specs.Latency.{EntersInTime}
+use Rattle.run_bounds.specs.Latency.{IsShortTick, EntersInTime}
 
 -- The events of n instructions keep the blocking bounds of their tasks.
 pub record KeepsBlockingBounds (config : Config) (app : App) (n : ℕ) (events : List Stamped) : Type 0 where
@@ -19,6 +20,8 @@ pub record KeepsBlockingBounds (config : Config) (app : App) (n : ℕ) (events :
   pub counts : KeepsCounts config app events
   -- and the task of highest priority is entered within its latency
   pub latency : EntersInTime config app n events
+  -- and a tick takes at most 160 counts and 40 for each alarm of its counter
+  pub ticks : AllByRecursion (IsShortTick config) events
 
 -- every sound run of an image of well-formed task code keeps the blocking bounds
 abbrev pub SoundRunsKeepBlockingBounds : Type 0

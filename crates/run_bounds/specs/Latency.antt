@@ -6,7 +6,8 @@ use Rattle.sloth_base.specs.declared.event.Event.{Event}
 use Rattle.sloth_base.specs.declared.event.Event.TheVariants as event
 use Rattle.sloth_base.specs.declared.event.Stamped.{Stamped}
 use Rattle.sloth_base.specs.Events.{is_boot}
-use Rattle.sloth_base.specs.Stretches.{Boots, stretch_limit, longest_stretch}
+use Rattle.sloth_base.specs.declared.lines.LineKind.TheVariants as line_of
+use Rattle.sloth_base.specs.Stretches.{Boots, stretch_limit, entry_limit, longest_stretch}
 use Rattle.sloth_base.specs.Limits.{item_counts}
 use Rattle.osek_scheduler.specs.State.{System, opening}
 use Rattle.osek_scheduler.specs.InTime.{is_admit}
@@ -14,7 +15,7 @@ use Rattle.osek_scheduler.specs.Runs.{AreStepsTo}
 use Rattle.osek_valid.specs.Apart.{static_priority}
 use Rattle.osek_blocking.specs.Blocking.{is_entry_of, events_up_to_entry, MakesReady}
 use Rattle.raised_sections.specs.Sections.{IsBound}
-use Rattle.raised_sections.specs.Pace.{entry_counts}
+use Rattle.raised_sections.specs.Pace.{entry_counts, own_counts}
 
 -- every other task of the configuration is of lower static priority
 abbrev pub IsHighest : Config → (h : ℕ) → Type 0
@@ -35,10 +36,15 @@ abbrev pub is_tick : Event → Bool
 is_tick (event.Tick c) = true
 is_tick _ = false
 
--- the most counts that the ticks among these events take
-abbrev pub tick_counts : Config → List Stamped → ℕ
-tick_counts config [] = 0
-tick_counts config (e ∷ events) = cond (is_tick e.event) (entry_counts config) 0 + tick_counts config events
+-- the counts of the ticks among these events, and 40 for each
+abbrev pub tick_counts : List Stamped → ℕ
+tick_counts [] = 0
+tick_counts (e ∷ events) = cond (is_tick e.event) (own_counts e) 0 + tick_counts events
+
+-- A tick of a declared counter has no more counts than a stretch that begins with its line may have.
+abbrev pub IsShortTick : Config → Stamped → Type 0
+IsShortTick config e =
+    (c : ℕ) → c < length config.counters → e.event ≡ event.Tick c → e.stamp.at < e.stamp.from + entry_limit config (line_of.Counter c)
 
 -- the most counts from a moment to the end of the entry, ticks left out: the stretch that is running, an item for each event of the bound, and
 -- the entry
@@ -48,7 +54,7 @@ latency config running bound = running + item_counts * bound + entry_counts conf
 -- the same with the ticks among the events up to the entry of task h, where the events `behind` follow one of the moment, and `before` come before it
 abbrev pub latency_with_ticks : Config → (h bound moment : ℕ) → (before behind : List Stamped) → ℕ
 latency_with_ticks config h bound moment before behind =
-    latency config (running_limit config moment before) bound + tick_counts config (events_up_to_entry h behind)
+    latency config (running_limit config moment before) bound + tick_counts (events_up_to_entry h behind)
 
 -- task h is entered among these events, for the first time, and its entry ends before this count
 pub record EntersBefore (h limit : ℕ) (events : List Stamped) : Type 0 where
@@ -58,8 +64,8 @@ pub record EntersBefore (h limit : ℕ) (events : List Stamped) : Type 0 where
   pub first : events ≡ events_up_to_entry h events ++ entry ∷ rest
   pub in_time : entry.stamp.at < limit
 
--- From the moment of an arrival that makes the task of highest priority Ready its entry ends within its latency and the time of the ticks on the
--- way, if the run has that many instructions.
+-- From the moment of an arrival that makes the task of highest priority Ready its entry ends within its latency, the counts of the ticks on the
+-- way and 40 for each of these, if the run has that many instructions.
 abbrev pub EntersInTime : Config → App → (n : ℕ) → List Stamped → Type 0
 EntersInTime config app n events =
     (before behind : List Stamped) (made : Stamped) (h b : ℕ) (found s : System) → events ≡ before ++ made ∷ behind
