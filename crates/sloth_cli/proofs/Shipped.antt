@@ -3,10 +3,12 @@ use Rattle.std.proofs.Common.{◌≡◌, ◌≢◌, ◌∙◌, inl, inr, ℕ, Li
 use Rattle.std.proofs.lemmas.List.{take-append-drop}
 use Rattle.std.proofs.Math.Seq.{take-append_seam}
 use Rattle.sloth_io.specs.Sink.{Output, longer_bytes}
+use Rattle.sloth_io.specs.Counts.{Rose}
 use Rattle.sloth_io.specs.Store.{Files, call_files}
 use Rattle.sloth_io.specs.Buffered.{IsPrefix}
 use Rattle.sloth_io.specs.FileStore.{untold_files}
 use Rattle.sloth_commands.specs.CommandFiles.{ReadsInOrder}
+use Rattle.sloth_commands.proofs.Complete.{counted-put}
 use Rattle.sloth_commands.specs.Top.{world, IsRequired, IsPutAnswer, IsTopAnswer}
 use Rattle.tool_answers.specs.declared.status.Status.{Status}
 use Rattle.tool_answers.specs.declared.status.Status.TheVariants as status
@@ -29,23 +31,16 @@ taken-is was now accepted part w n h = some (sym n ∙ h ∙ ap (λ (t : Option 
     some : Some accepted ≡ Some part → accepted ≡ part
     some e = cc
 
-module _ (words : List (List ℕ)) (reads writes : List (List ℕ × List ℕ)) (failed overlong unwritten : ℕ) (was now : Output)
-    (accepted given : List ℕ) (answer : Status) (w : was.taken ≡ Some []) (n : now.taken ≡ Some accepted) (front : IsPrefix given accepted)
-    (passed : answer ≢ status.WriteFault → given ≡ accepted)
-    (in_order : ReadsInOrder words (untold_files 0 0 0 [] []) (untold_files failed overlong unwritten reads writes)) where
-  abbrev After : Files
-  After = untold_files failed overlong unwritten reads writes
-
-  ran-by : (wanted : Status) (text : List ℕ) → IsRequired wanted words (untold_files 0 0 0 reads []) After text → IsPutAnswer wanted answer was now text
-      → IsProgramRun words reads writes given answer
+module _ (words : List (List ℕ)) (after : Files) (was now : Output) (accepted given : List ℕ) (answer : Status) (w : was.taken ≡ Some [])
+    (none : was.faults ≡ 0) (n : now.taken ≡ Some accepted) (front : IsPrefix given accepted) (passed : answer ≢ status.WriteFault → given ≡ accepted)
+    (in_order : ReadsInOrder words (untold_files 0 0 0 [] []) after) where
+  ran-by : (wanted : Status) (text : List ℕ) → IsRequired wanted words (untold_files 0 0 0 after.reads []) after text → IsPutAnswer wanted answer was now text
+      → IsProgramRun words after given now.faults answer
   ran-by wanted text q (inl p) =
       let is : accepted ≡ text = taken-is was now accepted text w n (ap (λ (o : Output). o.taken) p.1) in
       record {
         wanted = wanted;
         text = text;
-        failed_reads = failed;
-        overlong_reads = overlong;
-        failed_writes = unwritten;
         in_order = in_order;
         required = q;
         told = inl p.0;
@@ -57,18 +52,15 @@ module _ (words : List (List ℕ)) (reads writes : List (List ℕ × List ℕ)) 
       record {
         wanted = wanted;
         text = text;
-        failed_reads = failed;
-        overlong_reads = overlong;
-        failed_writes = unwritten;
         in_order = in_order;
         required = q;
-        told = inr p.0;
+        told = inr (p.0, subst (λ (k : ℕ). Rose k now.faults) none (counted-put was now text p.1));
         front = front-of given p.1.0 p.1.1 text (subst (IsPrefix given) is front) p.1.2;
         whole = λ no. absurd (no p.0);
       }
 
-  pub ran : (old : Files) → old ≡ untold_files 0 0 0 [] [] → IsTopAnswer words (world (call_files old After) was) (world After now) answer
-      → IsProgramRun words reads writes given answer
+  pub ran : (old : Files) → old ≡ untold_files 0 0 0 [] [] → IsTopAnswer words (world (call_files old after) was) (world after now) answer
+      → IsProgramRun words after given now.faults answer
   ran old fresh a =
       ran-by a.wanted a.text
-      (subst (λ (files : Files). IsRequired a.wanted words (call_files files After) After a.text) fresh a.required) a.puts
+      (subst (λ (files : Files). IsRequired a.wanted words (call_files files after) after a.text) fresh a.required) a.puts

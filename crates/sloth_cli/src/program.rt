@@ -1,9 +1,9 @@
 //! What the program does with its words: they go to the top call, over the system's files and standard output, and the status is how it ends.
-ghost use Rattle.std.specs.Prelude.{◌≡◌, ℕ, List, []};
+ghost use Rattle.std.specs.Prelude.{◌≡◌, []};
 ghost use Rattle.sloth_io.specs.FileStore.{shown_files, untold_files};
-ghost use Rattle.sloth_io.specs.OutSink.{accepted_bytes, given_bytes};
+ghost use Rattle.sloth_io.specs.OutSink.{shown_output, accepted_bytes, given_bytes};
 ghost use Rattle.command_line.specs.Command.{words_of};
-ghost use Rattle.sloth_cli.specs.ProgramRun.{IsProgramRun};
+ghost use Rattle.sloth_cli.specs.ProgramRun.{IsProgramRun, HasProgramRun};
 
 use crate::top::sloth_top;
 use sloth_io::file_store::FileStore;
@@ -41,14 +41,15 @@ pub fn run_over<R: Files, P: Print>(
 ) -> Status
     requires files { shown_files files.old ≡ untold_files 0 0 0 [] [] }
     requires out { accepted_bytes out.old ≡ [] }
-    ensures { IsProgramRun (words_of words.now) (shown_files files.new).reads (shown_files files.new).writes (given_bytes out.new) result }
+    requires faults { (shown_output out.old).faults ≡ 0 }
+    ensures { IsProgramRun (words_of words.now) (shown_files files.new) (given_bytes out.new) (shown_output out.new).faults result }
 {
     sloth_top(alloc, words, files, out)
 }
 
 /// Runs the command of these words.
 pub fn run_words(rt: &(impl Files + Print + AllocGlobal), words: &[String]) -> Status
-    ensures { (reads writes : List (List ℕ × List ℕ)) × (printed : List ℕ) × IsProgramRun (words_of words.now) reads writes printed result }
+    ensures { HasProgramRun (words_of words.now) result }
 {
     let mut files = FileStore::new(rt, rt.alloc());
     let mut out = OutSink::new(rt);

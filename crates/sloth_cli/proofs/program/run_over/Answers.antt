@@ -15,7 +15,7 @@ returns g c =
     let passed : c.sloth_top.result ≢ status.WriteFault → given_bytes out ≡ accepted_bytes out = λ no.
     let on = c.sloth_top.ensures.passed no in
     sym (out.but on.0 ∙ ap (λ (xs : List ℕ). given_bytes out ++ xs) on.1 ∙ append-nil (given_bytes out)) in
-    ran (words_of c.args.words.now) files.reads.items files.writes.items files.failed_reads files.overlong_reads files.failed_writes
+    ran (words_of c.args.words.now) (shown_files files)
     (shown_output c.args.out.now) (shown_output out) (accepted_bytes out) (given_bytes out) c.sloth_top.result
-    (ap (λ (xs : List ℕ). Some xs) c.requires.out) refl out.front passed
+    (ap (λ (xs : List ℕ). Some xs) c.requires.out) c.requires.faults refl out.front passed
     (subst (λ (old : Files). ReadsInOrder (words_of c.args.words.now) old (shown_files files)) c.requires.files c.sloth_top.ensures.reads) (shown_files c.args.files.now) c.requires.files c.sloth_top.ensures.answers
