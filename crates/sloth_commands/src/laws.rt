@@ -30,7 +30,8 @@ pub fn lines_work_in_memory()
 /// The same of `sample`.
 pub fn sample_works_in_memory()
     ensures { (store : MemStore) (sink : MemSink) (seed : ℕ) (img : List ℕ) (config : Config) (app : App) (new : World) →
-        AreEnoughForSample store sink seed img config app → SampleWorks seed img config app (world (call_files (store_shown store) new.files) (sink_shown sink)) new }
+        AreEnoughForSample store sink seed img config app
+        → SampleWorks seed img config app (world (call_files (store_shown store) new.files) (sink_shown sink)) new }
 {}
 
 /// The map that `map` prints of texts is that by which each piece of their image stands.

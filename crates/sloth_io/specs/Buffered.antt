@@ -1,5 +1,5 @@
 -- A writer behind a buffer: what was put is written in its order, but for what is held back.
-use Rattle.std.specs.Prelude.{◌≡◌, ◌≢◌, ℕ, List, [], ◌++◌, length, take, flat_map, Option, Bool, false}
+use Rattle.std.specs.Prelude.{◌≡◌, ◌≢◌, ℕ, List, [], ◌++◌, length, take, flat_map, Option, Bool, true, false}
 use Rattle.std.specs.Io.KnownBytes.{Appends}
 
 -- what is due was written, but for its last bytes, which are held back
@@ -21,3 +21,7 @@ IsPrefix front text = take (length front) text ≡ front
 -- unless a call has failed, what was accepted was given, but for its last bytes, which are held back
 abbrev pub IsGivenBut : Bool → List ℕ → List ℕ → List ℕ → Type 0
 IsGivenBut broken accepted given held = broken ≡ false → accepted ≡ given ++ held
+
+-- once a call has failed nothing is held back
+abbrev pub IsLostBehind : Bool → List ℕ → Type 0
+IsLostBehind broken held = broken ≡ true → held ≡ []

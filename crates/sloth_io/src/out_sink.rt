@@ -1,6 +1,6 @@
 //! Standard output.
 ghost use Rattle.std.specs.Prelude.{◌≡◌, ◌≤◌, ◌++◌, [], Some, false, OnErr, OnOk};
-ghost use Rattle.sloth_io.specs.Buffered.{bytes_in, IsPrefix, IsGivenBut};
+ghost use Rattle.sloth_io.specs.Buffered.{bytes_in, IsPrefix, IsGivenBut, IsLostBehind};
 
 use crate::buffered::Buffered;
 use crate::history::History;
@@ -18,16 +18,18 @@ pub struct OutSink<'a, P> {
     accepted: History,
     pub ghost front: { IsPrefix (bytes_in to.to.given.items) (bytes_in accepted.items) },
     pub ghost but: { IsGivenBut broken (bytes_in accepted.items) (bytes_in to.to.given.items) to.backlog },
+    pub ghost lost: { IsLostBehind broken to.backlog },
 }
 
 impl<'a, P: Print> OutSink<'a, P> {
-    ghost use Rattle.sloth_io.specs.OutSink.{shown_output, accepted_bytes, given_bytes};
+    ghost use Rattle.sloth_io.specs.OutSink.{shown_output, accepted_bytes, given_bytes, held_back_bytes};
 
-    /// What this handle prints to, with no fault counted, and nothing put.
+    /// What this handle prints to, with no fault counted, nothing put and nothing held back.
     pub fn new(to: &'a P) -> OutSink<'a, P>
         ensures faults { (shown_output result).faults ≡ 0 }
         ensures accepted { accepted_bytes result ≡ [] }
         ensures given { given_bytes result ≡ [] }
+        ensures backlog { held_back_bytes result ≡ [] }
     {
         OutSink {
             to: Buffered::new(Printer {
@@ -96,6 +98,7 @@ impl<'a, P: Print> Sink for OutSink<'a, P> {
         ensures passed { OnOk result (IsPassedOn self.new) }
         ensures err { OnErr result (FailsToPassOn (shown_output self.old) (shown_output self.new)) }
         ensures never_falls { (shown_output self.old).faults ≤ (shown_output self.new).faults }
+        ensures backlog { held_back_bytes self.new ≡ [] }
     {
         let outcome = if self.broken {
             Err(SinkFault::Failed)
