@@ -34,11 +34,21 @@ use std::alloc::Global;
 use trace_text::read_arrivals;
 
 /// The texts that are built from, and the arrivals.
-#[derive(Drop)]
 pub struct Inputs {
     pub oil: Vec<u8>,
     pub src: Vec<u8>,
     pub arr: Vec<u8>,
+}
+
+// Written out: what is derived is proved anew wherever a value is let go.
+impl Drop for Inputs {
+    fn drop(self) {
+        let Inputs {
+            oil: _,
+            src: _,
+            arr: _,
+        } = self;
+    }
 }
 
 // The arrivals of a run; a command that runs nothing has none.
@@ -81,10 +91,19 @@ pub fn read_inputs<F: Store>(
 }
 
 /// What is built, and the arrivals.
-#[derive(Drop)]
 pub struct Judged {
     pub built: Built,
     pub arrivals: Vec<Arrival>,
+}
+
+// Written out: what is derived is proved anew wherever a value is let go.
+impl Drop for Judged {
+    fn drop(self) {
+        let Judged {
+            built: _,
+            arrivals: _,
+        } = self;
+    }
 }
 
 /// Judges the inputs, and builds the image.

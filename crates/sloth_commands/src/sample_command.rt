@@ -33,10 +33,19 @@ use std::alloc::Global;
 use tool_answers::Status;
 
 // What is built of generated texts, and the arrivals.
-#[derive(Drop)]
 struct Generated {
     built: Built,
     arrivals: List<Arrival>,
+}
+
+// Written out: what is derived is proved anew wherever a value is let go.
+impl Drop for Generated {
+    fn drop(self) {
+        let Generated {
+            built: _,
+            arrivals: _,
+        } = self;
+    }
 }
 
 // Generates an application, and builds its image.
