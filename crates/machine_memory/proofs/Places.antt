@@ -1,5 +1,6 @@
 -- Loads and stores by the place that they go to.
-use Rattle.std.proofs.Common.{◌≡◌, ℕ, ◌-◌, refl, true, false}
+use Rattle.std.proofs.Common.{◌≡◌, ℕ, ◌-◌, None, refl, true, false, arith, subst}
+use Rattle.std.proofs.lemmas.Bool.Decides.{nat_tests}
 use Rattle.sloth_base.specs.declared.app.Width.{Width}
 use Rattle.sloth_base.specs.declared.app.Width.TheVariants as width
 use Rattle.sloth_base.specs.Lines.{controller_byte, with_controller_byte}
@@ -7,7 +8,10 @@ use Rattle.std.specs.Prelude.{◌%◌}
 use Rattle.rv32_instr.specs.Memory.{Memory, in_ram, refusal, loaded_number, stored_memory}
 use Rattle.sloth_base.specs.Arithmetic.{size_of, extended_number}
 use Rattle.sloth_base.specs.MemoryMap.{memory_base, controller_base}
-use Rattle.machine_memory.specs.Place.{bare_memory, bytes_at, with_bytes}
+use Rattle.rv32_instr.specs.Ram.{word_at}
+use Rattle.machine_memory.specs.Place.{IsPlace, bare_memory, bytes_at, with_bytes}
+use Rattle.machine_memory.specs.declared.place.Place.{Place}
+use Rattle.machine_memory.specs.declared.place.Place.TheVariants as place
 
 -- a refusal depends on the controller's being there alone
 pub refusal_bare
@@ -54,3 +58,26 @@ stored_controller memory address width.Half value h s = cc
 stored_controller memory address width.Word value h s = cc
 stored_controller memory address width.ByteU value h s = rw h refl
 stored_controller memory address width.HalfU value h s = cc
+
+-- a word of RAM is fetched
+pub fetched : (memory : Memory) (address : ℕ) → loaded_number memory address width.Word ≡ word_at memory.ram (address - memory_base)
+unfolding loaded_number
+fetched memory address = refl
+
+aligned
+    : (address offset : ℕ) (w : Width) → refusal (bare_memory true) address w ≡ None → in_ram address (size_of w) ≡ true → offset ≡ address - memory_base
+    → offset % size_of w ≡ 0
+unfolding refusal
+aligned address offset width.Byte h i e = omega arith
+aligned address offset width.ByteU h i e = omega arith
+aligned address offset width.Half h i e = grind (arith, nat_tests)
+aligned address offset width.HalfU h i e = grind (arith, nat_tests)
+aligned address offset width.Word h i e = grind (arith, nat_tests)
+
+-- what is allowed in RAM is aligned there
+pub aligned_offset
+    : (address offset : ℕ) (w : Width) (p : Place) → refusal (bare_memory true) address w ≡ None → IsPlace true address w p → p ≡ place.Ram offset → offset % size_of w ≡ 0
+aligned_offset address offset w p h at is =
+    let P : Place → Type 0 = λ x. IsPlace true address w x in
+    let there = subst P is at in
+    aligned address offset w h there.0 there.1

@@ -1,3 +1,4 @@
+pub mod CodeRam
 pub mod Fresh
 pub mod Choice
 pub mod Place

@@ -4,11 +4,12 @@ ghost use Rattle.std.specs.Option.{ForSome};
 ghost use Rattle.sloth_base.specs.Choose.{IsChosen};
 ghost use Rattle.sloth_base.specs.Take.{without_pending};
 ghost use Rattle.rv32_instr.specs.Memory.{Memory, refusal, loaded_number, stored_memory};
+ghost use Rattle.rv32_instr.specs.Table.{Decode};
 ghost use Rattle.machine_memory.specs.Choice.{choice};
 ghost use Rattle.sloth_base.specs.declared.app.Width.TheVariants as kind;
 ghost use Rattle.sloth_base.specs.MemoryMap.{line_count};
 
-use rv32_instr::Bad;
+use rv32_instr::{Bad, Instr};
 use sloth_base::app::Width;
 use sloth_base::numbers::Line;
 
@@ -21,6 +22,12 @@ pub trait Bus {
         ensures ok { IfOk result (λ value. (refusal (memory self.old) address width ≡ None) × (value ≡ loaded_number (memory self.old) address width)) }
         ensures err { IfErr result (λ reason. refusal (memory self.old) address width ≡ Some reason) }
         ensures byte { IfOk result (λ value. width ≡ kind.ByteU → value < 256) }
+        ensures same { memory self.new ≡ memory self.old };
+
+    /// The instruction whose word stands at an address; none, where that word is none's. Nothing changes.
+    fn fetch(&mut self, address: u32) -> Result<Option<Instr>, Bad>
+        ensures ok { IfOk result (λ instr. (refusal (memory self.old) address kind.Word ≡ None) × (instr ≡ Decode (loaded_number (memory self.old) address kind.Word))) }
+        ensures err { IfErr result (λ reason. refusal (memory self.old) address kind.Word ≡ Some reason) }
         ensures same { memory self.new ≡ memory self.old };
 
     /// Writes the low bytes of a value. A pending or enable byte keeps 1 for a value that isn't zero.

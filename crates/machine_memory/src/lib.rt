@@ -2,10 +2,11 @@
 //!
 //! Each load and store is that of the definition, and refused exactly where that refuses it; the line that is chosen is the greatest that may be
 //! taken (`Bus`, `SlothBus`); the address of a line's vector word (`vector`). The memory as the machine starts: `specs/Fresh`; how the code has lines
-//! and places: `specs/Choice`, `specs/Place`. Loads and stores: `rv32_instr` (`Memory`, `Ram`); lines: `sloth_base` (`Lines`, `Choose`, `Take`).
+//! and places: `specs/Choice`, `specs/Place`; decoded words that are kept: `specs/CodeRam`. Loads and stores: `rv32_instr` (`Memory`, `Ram`); lines: `sloth_base` (`Lines`, `Choose`, `Take`).
 #![tactic(auto)]
 
 pub mod bus;
+mod code_ram;
 pub mod place;
 pub mod ram;
 pub mod sloth;

@@ -5,10 +5,10 @@ ghost use Rattle.sloth_base.specs.MemoryMap.{line_count};
 ghost use Rattle.machine_memory.specs.Fresh.{sloth_start};
 
 use crate::bus::Bus;
+use crate::code_ram::CodeRam;
 use crate::place::{Place, extended, locate};
-use crate::ram::Ram;
 use irq_ctrl::Controller;
-use rv32_instr::Bad;
+use rv32_instr::{Bad, Instr};
 use sloth_base::app::Width;
 use sloth_base::image::Image;
 use sloth_base::memory::NoMemory;
@@ -20,7 +20,7 @@ use std::marker::Model;
 /// RAM and a controller. Contracts see it as memory.
 #[derive(Drop)]
 pub struct SlothBus {
-    ram: Ram,
+    ram: CodeRam,
     controller: Controller,
 }
 
@@ -39,7 +39,7 @@ impl SlothBus {
         requires { InFormat image.now }
         ensures { IfOk result (λ bus. bus ≡ sloth_start image.now) }
     {
-        let ram = Ram::new(alloc, image.memory.items())?;
+        let ram = CodeRam::new(alloc, image.memory.items())?;
         Ok(SlothBus {
             ram,
             controller: Controller::new(),
@@ -104,6 +104,16 @@ impl Bus for SlothBus {
             Err(bad) => return Err(bad),
         }
         Ok(())
+    }
+
+    #[inline(always)]
+    #[tactic(auto, using(crate::proofs::Places::refusal_bare, crate::proofs::Places::fetched))]
+    fn fetch(&mut self, address: u32) -> Result<Option<Instr>, Bad> {
+        match locate(address, Width::Word, true) {
+            Ok(Place::Ram(offset)) => Ok(self.ram.instruction(offset)),
+            Ok(Place::Controller(_)) => unreachable!(),
+            Err(bad) => Err(bad),
+        }
     }
 
     fn choose(&self, level: u8) -> Option<Line> {

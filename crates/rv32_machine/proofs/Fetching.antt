@@ -40,13 +40,11 @@ pub step_illegal
 unfolding step
 step_illegal state h e = rw (h, e) refl
 
-pub step_performs
-    : (state : State) (kind : InstrKind) (word : ℕ) → in_ram state.pc 4 ≡ true → word_at_pc state ≡ word
-    → Decode word ≡ Some kind → Encode kind ≡ word
-    → step state ≡ perform (effect kind state.pc state.core.registers) word state.pc state.core
+pub step_does
+    : (state : State) (kind : InstrKind) → in_ram state.pc 4 ≡ true → Decode (word_at_pc state) ≡ Some kind
+    → step state ≡ perform (effect kind state.pc state.core.registers) (Encode kind) state.pc state.core
 unfolding step execute
-step_performs state kind word h w e c =
-    rw (h, w, e) (ap (λ v. perform (effect kind state.pc state.core.registers) v state.pc state.core) c)
+step_does state kind h d = rw (h, d) refl
 
 pub touched_is
     : (state : State) (kind : InstrKind) → Decode (word_at_pc state) ≡ Some kind
@@ -54,21 +52,21 @@ pub touched_is
 unfolding touched
 touched_is state kind e = rw e refl
 
--- what the fetch of a word, its decoding and the doing of its effect come to
+-- what the fetch of an instruction and the doing of its effect come to
 pub executed
-    : (old new : State) (kind : InstrKind) (word : ℕ) (asked : Effect) (next : Next)
-    → in_ram old.pc 4 ≡ true → word ≡ word_at_pc old → Decode word ≡ Some kind → Encode kind ≡ word → new ≡ old
-    → asked ≡ effect kind new.pc new.core.registers → perform asked word new.pc new.core ≡ next → step old ≡ next
-executed old new kind word asked next h w d c s a p =
-    step_performs old kind word h (sym w) d c
-    ∙ ap (λ x. perform (effect kind x.pc x.core.registers) word x.pc x.core) (sym s)
-    ∙ ap (λ x. perform x word new.pc new.core) (sym a)
+    : (old new : State) (kind : InstrKind) (asked : Effect) (next : Next)
+    → in_ram old.pc 4 ≡ true → Decode (word_at_pc old) ≡ Some kind → new ≡ old
+    → asked ≡ effect kind new.pc new.core.registers → perform asked (Encode kind) new.pc new.core ≡ next → step old ≡ next
+executed old new kind asked next h d s a p =
+    step_does old kind h d
+    ∙ ap (λ x. perform (effect kind x.pc x.core.registers) (Encode kind) x.pc x.core) (sym s)
+    ∙ ap (λ x. perform x (Encode kind) new.pc new.core) (sym a)
     ∙ p
 
 pub touched_executed
-    : (old new : State) (kind : InstrKind) (word : ℕ) (asked : Effect) (line : Option ℕ)
-    → word ≡ word_at_pc old → Decode word ≡ Some kind → new ≡ old → asked ≡ effect kind new.pc new.core.registers
+    : (old new : State) (kind : InstrKind) (asked : Effect) (line : Option ℕ)
+    → Decode (word_at_pc old) ≡ Some kind → new ≡ old → asked ≡ effect kind new.pc new.core.registers
     → line ≡ touched_line_by asked → line ≡ touched old
-touched_executed old new kind word asked line w d s a t =
+touched_executed old new kind asked line d s a t =
     t ∙ ap touched_line_by a ∙ ap (λ x. touched_line_by (effect kind x.pc x.core.registers)) s
-    ∙ sym (touched_is old kind (ap Decode (sym w) ∙ d))
+    ∙ sym (touched_is old kind d)

@@ -4,6 +4,7 @@ use Rattle.sloth_base.specs.declared.step.Step.{Step}
 use Rattle.sloth_base.specs.Machine.{State}
 use Rattle.sloth_base.specs.Take.{line_to_take, execution_state}
 use Rattle.rv32_instr.specs.declared.stop.Stop.{Stop}
+use Rattle.rv32_machine.specs.declared.step.StepFront.{StepFront}
 use Rattle.rv32_instr.specs.Ram.{word_at}
 use Rattle.rv32_instr.specs.Execute.{Next, Going, Stopped, step, touched}
 
@@ -37,6 +38,20 @@ observed_step count before after = record {
   cur_before = word_at before.core.ram 0;
   cur_after = word_at after.core.ram 0;
   touched = touched (execution_state before);
+  regs = after.core.registers;
+}
+
+-- the step of this front that leaves this state
+abbrev pub step_of : StepFront → State → Step
+step_of front after = record {
+  count = front.count;
+  pc = front.pc;
+  entered = front.entered;
+  enabled_before = front.enabled_before;
+  enabled_after = after.core.mie;
+  cur_before = front.cur_before;
+  cur_after = word_at after.core.ram 0;
+  touched = front.touched;
   regs = after.core.registers;
 }
 

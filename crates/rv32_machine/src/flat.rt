@@ -6,7 +6,7 @@ ghost use Rattle.rv32_machine.specs.Start.{flat_start};
 use machine_memory::Bus;
 use machine_memory::place::{Place, extended, locate};
 use machine_memory::ram::Ram;
-use rv32_instr::Bad;
+use rv32_instr::{Bad, Instr, decode};
 use sloth_base::app::Width;
 use sloth_base::image::Image;
 use sloth_base::memory::NoMemory;
@@ -54,6 +54,13 @@ impl Bus for FlatBus {
             Err(bad) => return Err(bad),
         }
         Ok(())
+    }
+
+    fn fetch(&mut self, address: u32) -> Result<Option<Instr>, Bad> {
+        match self.load(address, Width::Word) {
+            Ok(word) => Ok(decode(word)),
+            Err(bad) => Err(bad),
+        }
     }
 
     fn choose(&self, _level: u8) -> Option<Line> {

@@ -1,7 +1,7 @@
 //! The machine: an RV32I hart over a bus, with or without an interrupt controller.
 //!
-//! A step is one of the definition over any bus; where it stops nothing has changed (`Machine::step`, and `step_into`, which writes a record that is
-//! lent; `SlothBus`, `FlatBus`). Laws: one line is chosen, steps hang together, a run goes on or stops (`one_line_is_chosen`, `steps_hang_together`,
+//! A step is one of the definition over any bus; where it stops nothing has changed (`Machine::step`; `step_into`, which writes a record that is lent;
+//! `step_front` and `show`, which write it in two parts; `SlothBus`, `FlatBus`). Laws: one line is chosen, steps hang together, a run goes on or stops (`one_line_is_chosen`, `steps_hang_together`,
 //! `a_run_goes_on`, `a_run_stops`). A step: `specs/Advance`; runs: `specs/Run`; the start: `specs/Start`; steps that hang together: `specs/Coherent`;
 //! how the code has its state: `specs/Flat`, `specs/Lends`, `specs/State`. One instruction: `rv32_instr` (`Effect`, `Execute`); lines: `sloth_base`
 //! (`Choose`, `Take`, `Arrive`).
@@ -19,4 +19,4 @@ pub use machine::Machine;
 pub use machine_memory::{Bus, SlothBus};
 pub use rv32_instr::{Bad, Stop};
 pub use sloth_base::step::Step;
-pub use step::blank_step;
+pub use step::{StepFront, blank_step};

@@ -6,14 +6,15 @@ ghost use Rattle.sloth_base.specs.Limits.{count_limit};
 ghost use Rattle.sloth_base.specs.MemoryMap.{line_count};
 ghost use Rattle.rv32_instr.specs.Memory.{in_ram};
 ghost use Rattle.rv32_instr.specs.Ram.{word_at};
+ghost use Rattle.rv32_instr.specs.Table.{Decode};
 ghost use Rattle.rv32_instr.specs.Execute.{Going, Stopped, step, touched, touched_line_by, pending_line, word_at_pc};
 ghost use Rattle.rv32_instr.specs.declared.stop.Stop.TheVariants as stop;
-ghost use Rattle.rv32_machine.specs.Advance.{advance, blank_step, Goes, Halts};
+ghost use Rattle.rv32_machine.specs.Advance.{advance, blank_step, step_of, Goes, Halts};
 
 use crate::effect::effect;
 use crate::machine::{Hart, Machine};
 use machine_memory::{Bus, vector};
-use rv32_instr::{Effect, Stop, decode};
+use rv32_instr::{Effect, Instr, Stop};
 use sloth_base::app::Width;
 use sloth_base::memory_map::{CONTROLLER_BASE, LEVELS_OFFSET, LINE_COUNT, MEMORY_BASE};
 use sloth_base::numbers::Line;
@@ -21,6 +22,17 @@ use sloth_base::step::Step;
 
 /// The first level byte of the controller.
 const LEVELS: u32 = CONTROLLER_BASE + LEVELS_OFFSET as u32;
+
+/// What is seen of a step but what it leaves: MIE, the first word of memory and the registers after the instruction.
+#[derive(Clone, Copy)]
+pub struct StepFront {
+    pub count: u32,
+    pub pc: u32,
+    pub entered: Option<Line>,
+    pub enabled_before: bool,
+    pub cur_before: u32,
+    pub touched: Option<Line>,
+}
 
 /// The record of a step before one is written into it.
 pub fn blank_step() -> Step
@@ -112,6 +124,28 @@ impl<B: Bus> Machine<B> {
         ensures entered { OnOk result (ForSome shown.new.entered (λ line. line < line_count)) }
         ensures touched { OnOk result (ForSome shown.new.touched (λ line. line < line_count)) }
     {
+        match self.step_front() {
+            Ok(front) => {
+                self.show(&front, shown);
+                Ok(())
+            }
+            Err(stop) => Err(stop),
+        }
+    }
+
+    /// One step, of which the front is told: what it leaves is there to be read. A stop changes nothing.
+    #[inline(always)]
+    pub fn step_front(&mut self) -> Result<StepFront, Stop>
+        requires { self.old.count < count_limit }
+        ensures ok { IfOk result (λ front. advance self.old.count (state B.memory self.old) ≡ Goes (step_of front (state B.memory self.new)) (state B.memory self.new)) }
+        ensures err { IfErr result (λ stop. advance self.old.count (state B.memory self.old) ≡ Halts stop) }
+        ensures same { OnErr result (state B.memory self.new ≡ state B.memory self.old) }
+        ensures count { OnOk result (self.new.count ≡ self.old.count + 1) }
+        ensures stays { OnErr result (self.new.count ≡ self.old.count) }
+        ensures shown { IfOk result (λ front. front.count ≡ self.old.count) }
+        ensures entered { IfOk result (λ front. ForSome front.entered (λ line. line < line_count)) }
+        ensures touched { IfOk result (λ front. ForSome front.touched (λ line. line < line_count)) }
+    {
         let count = self.count;
         let enabled_before = self.hart.mie;
         let cur_before = self.cur();
@@ -119,21 +153,36 @@ impl<B: Bus> Machine<B> {
         let pc = self.pc_after(&entered);
         match self.execute_after(&entered) {
             Ok(touched) => {
-                let cur_after = self.cur();
-                shown.count = count;
-                shown.pc = pc;
-                shown.entered = entered;
-                shown.enabled_before = enabled_before;
-                shown.enabled_after = self.hart.mie;
-                shown.cur_before = cur_before;
-                shown.cur_after = cur_after;
-                shown.touched = touched;
-                shown.regs = self.hart.registers;
                 self.count += 1;
-                Ok(())
+                Ok(StepFront {
+                    count,
+                    pc,
+                    entered,
+                    enabled_before,
+                    cur_before,
+                    touched,
+                })
             }
             Err(stop) => Err(stop),
         }
+    }
+
+    /// The record of a step of this front that left the machine as it is.
+    pub fn show(&mut self, front: &StepFront, shown: &mut Step)
+        ensures shown { shown.new ≡ step_of front.now (state B.memory self.old) }
+        ensures state { state B.memory self.new ≡ state B.memory self.old }
+        ensures count { self.new.count ≡ self.old.count }
+    {
+        let cur_after = self.cur();
+        shown.count = front.count;
+        shown.pc = front.pc;
+        shown.entered = front.entered;
+        shown.enabled_before = front.enabled_before;
+        shown.enabled_after = self.hart.mie;
+        shown.cur_before = front.cur_before;
+        shown.cur_after = cur_after;
+        shown.touched = front.touched;
+        shown.regs = self.hart.registers;
     }
 
     /// The address of the next instruction: a line's vector, where one is to be taken before it.
@@ -283,34 +332,45 @@ impl<B: Bus> Machine<B> {
         ensures count { self.new.count ≡ self.old.count }
         ensures in_range { IfOk result (λ line. ForSome line (λ l. l < line_count)) }
     {
-        let word = match self.fetch() {
-            Ok(word) => word,
+        let instr = match self.fetch() {
+            Ok(Some(instr)) => instr,
+            Ok(None) => return Err(Stop::Illegal(self.word())),
             Err(stop) => return Err(stop),
-        };
-        let instr = match decode(word) {
-            Some(instr) => instr,
-            None => return Err(Stop::Illegal(word)),
         };
         let effect = effect(instr.kind(), self.hart.pc, &self.hart.registers);
         let line = touched(&effect);
-        match self.perform(effect, word) {
+        match self.perform(effect, &instr) {
             Ok(()) => Ok(line),
             Err(stop) => Err(stop),
         }
     }
 
-    /// The word that pc points to.
-    fn fetch(&mut self) -> Result<u32, Stop>
-        ensures ok { IfOk result (λ word. (in_ram (state B.memory self.old).pc 4 ≡ true) × (word ≡ word_at_pc (state B.memory self.old))) }
+    /// The instruction that pc points to, if the word there is one's.
+    fn fetch(&mut self) -> Result<Option<Instr>, Stop>
+        ensures ok { IfOk result (λ instr. (in_ram (state B.memory self.old).pc 4 ≡ true) × (instr ≡ Decode (word_at_pc (state B.memory self.old)))) }
         ensures err { IfErr result (λ reason. (in_ram (state B.memory self.old).pc 4 ≡ false) × (reason ≡ stop.Fetch (state B.memory self.old).pc)) }
         ensures state { state B.memory self.new ≡ state B.memory self.old }
         ensures hart { self.new.hart ≡ self.old.hart }
         ensures count { self.new.count ≡ self.old.count }
     {
         let pc = self.hart.pc;
-        match self.bus.load(pc, Width::Word) {
-            Ok(word) => Ok(word),
+        match self.bus.fetch(pc) {
+            Ok(instr) => Ok(instr),
             Err(_) => Err(Stop::Fetch(pc)),
+        }
+    }
+
+    /// The word that pc points to, where it is in RAM.
+    #[inline(never)]
+    fn word(&mut self) -> u32
+        requires { in_ram (state B.memory self.old).pc 4 ≡ true }
+        ensures is { result ≡ word_at_pc (state B.memory self.old) }
+        ensures state { state B.memory self.new ≡ state B.memory self.old }
+        ensures count { self.new.count ≡ self.old.count }
+    {
+        match self.bus.load(self.hart.pc, Width::Word) {
+            Ok(word) => word,
+            Err(_) => unreachable!(),
         }
     }
 }

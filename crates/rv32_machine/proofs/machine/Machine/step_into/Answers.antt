@@ -1,41 +1,12 @@
-use Rattle.std.proofs.Common.{refl}
-use Rattle.sloth_base.specs.Take.{entry_state}
+use Rattle.std.proofs.Common.{◌∙◌, ap, sym}
+use Rattle.sloth_base.specs.Machine.{State}
+use Rattle.sloth_base.specs.declared.step.Step.{Step}
+use Rattle.rv32_machine.specs.Advance.{Goes}
 use Rattle.rv32_machine.specs.State.{state}
-use Rattle.rv32_machine.proofs.Stepping.{advanced, halted}
 use Rattle.rv32_machine.proofs.machine.Machine.step_into.Goals as goal
 
+-- the record is shown of the machine as the step left it
 pub returns-in-Ok-clause-ok : goal.returns-in-Ok-clause-ok
 returns-in-Ok-clause-ok g c =
-    advanced
-    c.args.self.now.count
-    (state g.B.Bus.memory c.args.self.now)
-    (state g.B.Bus.memory c.cur-cur_before.new.self)
-    (entry_state c.line_to_take-entered.result (state g.B.Bus.memory c.cur-cur_before.new.self))
-    (state g.B.Bus.memory c.execute_after.new.self)
-    (state g.B.Bus.memory c.cur-cur_after.new.self)
-    c.line_to_take-entered.result
-    c.in-Ok.touched
-    c.pc_after-pc.result
-    c.cur-cur_before.result
-    c.cur-cur_after.result
-    c.cur-cur_before.ensures.state
-    refl
-    c.line_to_take-entered.ensures.is
-    c.pc_after-pc.ensures
-    c.cur-cur_before.ensures.is
-    c.in-Ok.ensures.ok
-    c.in-Ok.ensures.touched
-    c.cur-cur_after.ensures.state
-    c.cur-cur_after.ensures.is
-
-pub returns-in-Err-clause-err : goal.returns-in-Err-clause-err
-returns-in-Err-clause-err g c =
-    halted
-    c.args.self.now.count
-    (state g.B.Bus.memory c.args.self.now)
-    (state g.B.Bus.memory c.cur-cur_before.new.self)
-    c.line_to_take-entered.result
-    c.in-Err.stop
-    c.cur-cur_before.ensures.state
-    c.line_to_take-entered.ensures.is
-    c.in-Err.ensures.err
+    let behind = state g.B.Bus.memory c.step_front.new.self in
+    c.in-Ok.ensures.ok ∙ ap (λ (x : Step). Goes x behind) (sym c.show.ensures.shown) ∙ ap (λ (s : State). Goes c.show.new.shown s) (sym c.show.ensures.state)
