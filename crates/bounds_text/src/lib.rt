@@ -83,10 +83,19 @@ fn bound_lines(alloc: Global, tasks: &[TaskDecl], bounds: &[Bound]) -> Result<Ve
 }
 
 // Task code that keeps all rules, and the ranks of its functions.
-#[derive(Drop)]
 struct Checked {
     verified: Verified,
     ranks: Ranks,
+}
+
+// Written out: what is derived is proved anew wherever a value is let go.
+impl Drop for Checked {
+    fn drop(self) {
+        let Checked {
+            verified: _,
+            ranks: _,
+        } = self;
+    }
 }
 
 // Task code that is verified, with the ranks of its functions.
