@@ -20,7 +20,7 @@ use Rattle.masked_code.proofs.Routines.{masked}
 use Rattle.masked_code.proofs.Leave.{behind}
 use Rattle.block_parts.proofs.Landing.{lands}
 use Rattle.block_parts.proofs.Returning.{goes_back}
-use Rattle.block_parts.proofs.Serving.{opens}
+use Rattle.block_parts.proofs.Serving.{opens_within}
 use Rattle.alarm_gen.specs.ServicePieces.{unused_alarm_test, cycle_test, alarm_value_test, ticks_test, setting_code, state_refusal_code, refusing_code}
 use Rattle.alarm_gen.specs.CancelAlarm.{MayUse, left_ticks}
 use Rattle.alarm_gen.specs.SetAlarm.{CycleFits, TicksFit, AlarmValueFits, first_operand, ticks_until, with_alarm, SetAlarmEffect, MaySetAbsolute, IsSetRelAlarmCode, IsSetAbsAlarmCode}
@@ -220,8 +220,8 @@ module _ (offset alarm max least : ℕ) (max_fits : max < 2 ^ 32) (least_fits : 
             (cases_eq left1 0);
       }
 
-  runs_rel : FromOpening 22 (offset_state offset c) E1
-  runs_rel = opens offset 22 (rel_body alarm max least) c E1 h.goes_back.can_run h.goes_back.bases (omega arith) rel_owes
+  runs_rel : FromOpening 16 (offset_state offset c) E1
+  runs_rel = opens_within offset 16 (rel_body alarm max least) c E1 h.goes_back.can_run h.goes_back.bases (omega arith) rel_owes
 
 -- ---- SetAbsAlarm
 
@@ -328,8 +328,8 @@ module _ (offset alarm counter max least : ℕ) (max_fits : max < 2 ^ 31) (least
             (cases_eq left2 0);
       }
 
-  runs_abs : FromOpening 27 (offset_state offset c) E2
-  runs_abs = opens offset 27 (abs_body alarm counter max least) c E2 h.may_use.goes_back.can_run h.may_use.goes_back.bases (omega arith) abs_owes
+  runs_abs : FromOpening 21 (offset_state offset c) E2
+  runs_abs = opens_within offset 21 (abs_body alarm counter max least) c E2 h.may_use.goes_back.can_run h.may_use.goes_back.bases (omega arith) abs_owes
 
 -- the alarm is set by ticks from now, or is not, with the status that says why
 pub sets_relative : (alarm max least : ℕ) → max < 2 ^ 32 → least < 2 ^ 32 → IsSetRelAlarmCode alarm max least (masking ∷ rel_body alarm max least)

@@ -28,7 +28,6 @@ use Rattle.alarm_gen.specs.Pieces.{look_clearing_code, looks_code, basing_code, 
 use Rattle.alarm_gen.specs.Tick.{Ground, vector, next_value, counted_ground, alarms_ground, AreTaskBits, MayTick, TickEffect, IsTickCode}
 use Rattle.alarm_gen.proofs.Looking.{looks_owe}
 use Rattle.alarm_gen.proofs.Acting.{alarms_owe}
-use Rattle.alarm_gen.proofs.Lengths.{tick_few}
 
 -- what tells of tasks are bits behind a counter's new value too
 told_counted : (ram enabled pending : List ℕ) (counter v : ℕ) (tasks : List ℕ)
@@ -147,18 +146,14 @@ module _ (counter max : ℕ) (alarms : List NumberedAlarm) (small : counter < co
             (cases_eq v max);
       }
 
-  runs_it : Masked (12 + 34 * length alarms) (offset_state (vector (counter_line counter)) c) (WithArrivals (TickEffect counter max alarms) (offset_state (vector (counter_line counter)) c))
+  runs_it : Masked (suc (length (tick_code counter max alarms))) (offset_state (vector (counter_line counter)) c) (WithArrivals (TickEffect counter max alarms) (offset_state (vector (counter_line counter)) c))
   runs_it =
       let can = h.can_run in
-      let few = tick_few counter max alarms in
-      let n = 11 + 34 * length alarms in
-      let e : suc n ≡ 12 + 34 * length alarms = omega arith in
       let v = vector (counter_line counter) in
-      subst (λ k. Masked k (offset_state v c) (WithArrivals (TickEffect counter max alarms) (offset_state v c))) e
-      (jumps_in v offset n h.jump (tick_code counter max alarms) c (TickEffect counter max alarms) (offset_state v c) (omega arith) h.vector_word h.to_code
+      jumps_in v offset (length (tick_code counter max alarms)) h.jump (tick_code counter max alarms) c (TickEffect counter max alarms) (offset_state v c) (omega arith) h.vector_word h.to_code
       (record { masked = h.masked; there = can.controller; lines = can.lines; aligned = can.aligned; fits = can.inside; placed = can.placed })
-      few
-      (subst (λ x. Owes offset to offset (tick_code counter max alarms) 0 (TickEffect counter max alarms) (offset_state v x) x) (based_is c can.registers can.zero h.bases) owes))
+      (omega arith)
+      (subst (λ x. Owes offset to offset (tick_code counter max alarms) 0 (TickEffect counter max alarms) (offset_state v x) x) (based_is c can.registers can.zero h.bases) owes)
 
 -- from the vector word back to what it interrupts, for each counter with its alarms
 pub ticks : (counter max : ℕ) (alarms : List NumberedAlarm) → counter < counter_limit → max < 2 ^ 32 → AreAlarmsInRange alarms

@@ -69,11 +69,11 @@ pub record SetAlarmEffect (alarm : ℕ) (Fits : Core → Type 0) (ticks : Core �
   pub touches : touched ≡ []
   pub done : HasAlarm alarm start end ⊎ (HasNoFit alarm Fits start end ⊎ HasAlarmSet alarm Fits ticks start end)
 
--- Code of SetRelAlarm: behind its first instruction at most 22 more lead to its effect, whatever lines arrive.
+-- Code of SetRelAlarm: behind its first instruction at most 16 more lead to its effect, whatever lines arrive.
 abbrev pub IsSetRelAlarmCode : (alarm max least : ℕ) → List InstrKind → Type 0
 IsSetRelAlarmCode alarm max least code =
     IsServiceCode service.SetRelAlarm code ((offset : ℕ) (core : Core) → MayUse offset alarm code core
-    → FromOpening 22 (offset_state offset core) (SetAlarmEffect alarm (TicksFit max least) first_operand))
+    → FromOpening 16 (offset_state offset core) (SetAlarmEffect alarm (TicksFit max least) first_operand))
 
 -- the code can run; the counter's value is at most the greatest, and the value that is to come is a word
 pub record MaySetAbsolute (offset alarm counter max : ℕ) (code : List InstrKind) (core : Core) : Type 0 where
@@ -82,8 +82,8 @@ pub record MaySetAbsolute (offset alarm counter max : ℕ) (code : List InstrKin
   pub is_word : first_operand core < 2 ^ 32
   pub value : word_at core.ram (counter_value counter) ≤ max
 
--- Code of SetAbsAlarm: behind its first instruction at most 27 more lead to its effect, whatever lines arrive.
+-- Code of SetAbsAlarm: behind its first instruction at most 21 more lead to its effect, whatever lines arrive.
 abbrev pub IsSetAbsAlarmCode : (alarm counter max least : ℕ) → List InstrKind → Type 0
 IsSetAbsAlarmCode alarm counter max least code =
     IsServiceCode service.SetAbsAlarm code ((offset : ℕ) (core : Core) → MaySetAbsolute offset alarm counter max code core
-    → FromOpening 27 (offset_state offset core) (SetAlarmEffect alarm (AlarmValueFits max least) (ticks_until counter max)))
+    → FromOpening 21 (offset_state offset core) (SetAlarmEffect alarm (AlarmValueFits max least) (ticks_until counter max)))

@@ -1,5 +1,5 @@
 -- The tick of a counter (OSEK OS 2.2.3, section 9).
-use Rattle.std.specs.Prelude.{ℕ, ℤ, ◌+◌, ◌*◌, ◌≡◌, ◌<◌, ◌≤◌, ◌==◌, ◌&&◌, Bool, true, false, cond, negsuc, List, [], ◌∷◌, length, slice_index, slice_set, bit_and, bit_or}
+use Rattle.std.specs.Prelude.{ℕ, suc, ℤ, ◌+◌, ◌*◌, ◌≡◌, ◌<◌, ◌≤◌, ◌==◌, ◌&&◌, Bool, true, false, cond, negsuc, List, [], ◌∷◌, length, slice_index, slice_set, bit_and, bit_or}
 use Rattle.std.specs.List.{AllByRecursion}
 use Rattle.sloth_base.specs.declared.config.Action.{Action}
 use Rattle.sloth_base.specs.declared.config.Action.TheVariants.{Activate, Set}
@@ -134,9 +134,9 @@ pub record TickEffect (counter max : ℕ) (alarms : List NumberedAlarm) (touched
   pub x2 : slice_index end.core.registers 2 ≡ slice_index start.core.registers 2
   pub kept : (i : ℕ) → 5 ≤ i → slice_index end.core.registers i ≡ slice_index start.core.registers i
 
--- Code of a tick: with the jump of the vector word, at most 12 instructions and 34 for each alarm lead to its effect, whatever lines arrive.
+-- Code of a tick: the jump of the vector word, and at most as many instructions as it has, lead to its effect, whatever lines arrive.
 abbrev pub IsTickCode : (counter max : ℕ) → List NumberedAlarm → List InstrKind → Type 0
 IsTickCode counter max alarms code =
     (offset : ℕ) (core : Core) → MayTick offset counter alarms code core
-    → Masked (12 + 34 * length alarms) (offset_state (vector (counter_line counter)) core)
+    → Masked (suc (length code)) (offset_state (vector (counter_line counter)) core)
     (WithArrivals (TickEffect counter max alarms) (offset_state (vector (counter_line counter)) core))

@@ -1,5 +1,5 @@
 -- The code of WaitEvent has its effect.
-use Rattle.std.proofs.Common.{◌≡◌, ℕ, ◌+◌, ◌*◌, ◌%◌, ◌<◌, ◌≤◌, ◌⊎◌, List, ◌∷◌, ◌++◌, get_or, refl, sym, ap, ◌∙◌, subst, arith, inl, inr, ⊎_elim}
+use Rattle.std.proofs.Common.{◌≡◌, ◌≢◌, ℕ, zero, suc, ◌+◌, ◌*◌, ◌%◌, ◌<◌, ◌≤◌, ◌⊎◌, List, [], ◌∷◌, ◌++◌, length, get_or, refl, sym, ap, ◌∙◌, subst, arith, inl, inr, ⊎_elim}
 use Rattle.std.specs.Prelude.{set, pos, neg_ℤ}
 use Rattle.std.proofs.lemmas.Bool.{eq-eqb, cases_eq, ne_eqb}
 use Rattle.sloth_base.specs.Machine.{Core, State}
@@ -10,10 +10,10 @@ use Rattle.sloth_region.specs.Layout.{cur, active, events, wait, resume, below_w
 use Rattle.rv32_instr.specs.declared.InstrKind.{InstrKind}
 use Rattle.rv32_instr.specs.declared.InstrKind.TheVariants.{Addi}
 use Rattle.rv32_instr.specs.Ram.{word_at, with_word, with_words}
-use Rattle.masked_code.specs.Place.{offset_state}
+use Rattle.masked_code.specs.Place.{offset_state, InPlace}
 use Rattle.masked_code.specs.Masked.{FromOpening}
 use Rattle.masked_code.specs.Pieces.{saving_code, registers_from}
-use Rattle.masked_code.specs.Kernel.{IsContextBelow, leaving_code, masking}
+use Rattle.masked_code.specs.Kernel.{CanRun, IsContextBelow, leaving_code, masking}
 use Rattle.masked_code.proofs.Resumption.{IsResumedState}
 use Rattle.masked_code.proofs.Owes.{◌▸◌, writes, loads, stores, sets_enabled, IsApart, Owes}
 use Rattle.masked_code.proofs.Words.{word_at-other, word_at-others}
@@ -28,7 +28,7 @@ use Rattle.block_parts.specs.Pieces.{back_code}
 use Rattle.event_gen.proofs.Finding.{own_end, finds_by_x3}
 use Rattle.block_parts.specs.Events.{keeping_code}
 use Rattle.event_gen.specs.Pieces.{own_finding_code, set_events_test, controller_address_code, set_answer_code, resting_code, disabling_code}
-use Rattle.event_gen.specs.WaitEvent.{MayWait, WaitEventEffect, HasWaited, IsWaitEventCode, set_of, rested_ram, kept_ram}
+use Rattle.event_gen.specs.WaitEvent.{MayWait, WaitEventEffect, HasWaited, IsWaitEventCode, set_of, wait_length, rested_ram, kept_ram}
 
 -- the registers are saved before this code
 abbrev saved_first : List InstrKind → List InstrKind
@@ -37,6 +37,15 @@ saved_first rest = Addi 1 2 (neg_ℤ (pos context_bytes)) ∷ (saving_code 27 5 
 -- behind the saved registers
 abbrev saved_then : List InstrKind
 saved_then = keeping_code ++ (controller_address_code ++ (disabling_code ++ leaving_code))
+
+-- the code behind the masking instruction, up to the way back
+abbrev front : List InstrKind
+front = own_finding_code 3 ++ (set_events_test ++ (controller_address_code ++ (set_answer_code ++ (back_code ++ []))))
+
+-- where code stands, so does its first part
+in_place-front : (ram : List ℕ) (front rest : List InstrKind) (o : ℕ) → InPlace ram o (front ++ rest) → InPlace ram o front
+in_place-front ram [] rest o p = tt
+in_place-front ram (kind ∷ front) rest o p = (p.0, in_place-front ram front rest (o + 4) p.1)
 
 -- the code behind the masking instruction
 abbrev pub body : List InstrKind
@@ -204,14 +213,14 @@ module _ (offset task place own : ℕ) (c : Core) (h : MayWait offset task place
       ▸ stores (wait task) (record { is = omega arith; aligned = omega arith; inside = omega arith }) (inl (omega arith))
       ▸ go
 
-  -- the look at the events; whatever stands behind the way back
-  looked_owe : (rest : List InstrKind)
-      → (found ≡ 0 → Owes offset end (behind 12 (offset + 4)) rest 0 (WaitEventEffect task place own) st (record (masked (based c)) { registers = 0 ∷ own_end task ∷ sp ∷ found ∷ memory_base ∷ tail }))
-      → Owes offset end (offset + 4) (own_finding_code 3 ++ (set_events_test ++ (controller_address_code ++ (set_answer_code ++ (back_code ++ rest))))) 0 (WaitEventEffect task place own) st (masked (based c))
-  looked_owe rest go =
+  -- the look at the events; wherever the code ends, and whatever stands behind the way back
+  looked_owe : (to : ℕ) (rest : List InstrKind)
+      → (found ≡ 0 → Owes offset to (behind 12 (offset + 4)) rest 0 (WaitEventEffect task place own) st (record (masked (based c)) { registers = 0 ∷ own_end task ∷ sp ∷ found ∷ memory_base ∷ tail }))
+      → Owes offset to (offset + 4) (own_finding_code 3 ++ (set_events_test ++ (controller_address_code ++ (set_answer_code ++ (back_code ++ rest))))) 0 (WaitEventEffect task place own) st (masked (based c))
+  looked_owe to rest go =
       let small = h.is_task in
       let fits = h.goes_back.can_run.inside in
-      finds_by_x3 offset end task (WaitEventEffect task place own) st (set_events_test ++ (controller_address_code ++ (set_answer_code ++ (back_code ++ rest)))) (masked (based c)) (get_or c.registers 1 0) sp
+      finds_by_x3 offset to task (WaitEventEffect task place own) st (set_events_test ++ (controller_address_code ++ (set_answer_code ++ (back_code ++ rest)))) (masked (based c)) (get_or c.registers 1 0) sp
       controller_base tail small h.runs (offset + 4) (
       loads (events task) (record { is = omega arith; aligned = omega arith; inside = omega arith }) (word_at c.ram (events task)) refl
       ▸ writes found refl
@@ -236,13 +245,38 @@ module _ (offset task place own : ℕ) (c : Core) (h : MayWait offset task place
   body_owes =
       let fits = h.goes_back.can_run.inside in
       let near : behind 3 (behind 12 (offset + 4)) + 108 + 32 ≤ memory_bytes = omega arith in
-      looked_owe (resting_code ++ saved_first saved_then)
+      looked_owe end (resting_code ++ saved_first saved_then)
       (λ none. rested_owe (saved_first saved_then) (WaitEventEffect task place own) (behind 12 (offset + 4))
       (saved_owe saved_then (WaitEventEffect task place own) (behind 2 (behind 12 (offset + 4))) (own_end task) found (rested_ram (based c) task)
       (kept_owe (behind 3 (behind 12 (offset + 4)) + 108) near none)))
 
-  runs_it : FromOpening 85 (offset_state offset c) (WaitEventEffect task place own)
-  runs_it = opens_within offset 85 body c (WaitEventEffect task place own) h.goes_back.can_run h.goes_back.bases (omega arith) body_owes
+  front_can_run : CanRun offset (masking ∷ front) c
+  front_can_run =
+      let can = h.goes_back.can_run in
+      let fits = can.inside in
+      record {
+        controller = can.controller;
+        registers = can.registers;
+        zero = can.zero;
+        lines = can.lines;
+        aligned = can.aligned;
+        behind = can.behind;
+        inside = omega (arith, fits);
+        placed = in_place-front c.ram (masking ∷ front) (resting_code ++ saved_first saved_then) offset can.placed;
+      }
+
+  -- where one of the events is set, the code up to the way back is all that is executed
+  goes_on : found ≢ 0 → FromOpening 12 (offset_state offset c) (WaitEventEffect task place own)
+  goes_on some =
+      opens_within offset 12 front c (WaitEventEffect task place own) front_can_run h.goes_back.bases (omega arith)
+      (looked_owe (offset + 4 + 4 * length front) [] (λ none. absurd (some none)))
+
+  runs_it : FromOpening (wait_length found) (offset_state offset c) (WaitEventEffect task place own)
+  runs_it = by found refl
+    where
+      by : (n : ℕ) → found ≡ n → FromOpening (wait_length n) (offset_state offset c) (WaitEventEffect task place own)
+      by zero e = opens_within offset 85 body c (WaitEventEffect task place own) h.goes_back.can_run h.goes_back.bases (omega arith) body_owes
+      by (suc n) e = goes_on (λ none. absurd (let z : 0 ≡ suc n = sym none ∙ e in omega (arith, z)))
 
 -- the task goes to rest with its context, or goes on where one of the events is set
 pub waits : IsWaitEventCode (masking ∷ body)

@@ -1,5 +1,5 @@
 -- WaitEvent (OSEK OS 2.2.3, section 13.5.3.4).
-use Rattle.std.specs.Prelude.{ℕ, ◌+◌, ◌*◌, ◌%◌, ◌≡◌, ◌≢◌, ◌<◌, ◌≤◌, ◌⊎◌, List, [], length, slice_index, slice_set, bit_and}
+use Rattle.std.specs.Prelude.{ℕ, zero, suc, ◌+◌, ◌*◌, ◌%◌, ◌≡◌, ◌≢◌, ◌<◌, ◌≤◌, ◌⊎◌, List, [], length, slice_index, slice_set, bit_and}
 use Rattle.sloth_base.specs.declared.service.Service.TheVariants as service
 use Rattle.sloth_base.specs.Machine.{Core, State}
 use Rattle.sloth_base.specs.Status.{E_OK}
@@ -74,8 +74,13 @@ pub record WaitEventEffect (task place own : ℕ) (touched : List ℕ) (start en
   pub touches : touched ≡ []
   pub done : HasNotWaited task start end ⊎ HasWaited task place own start end
 
--- Code of WaitEvent: behind its first instruction at most 85 more lead to its effect, whatever lines arrive.
+-- how many instructions follow the first one at most, by the events of the mask that are set: 12 where there is one, and 85 where the task waits
+abbrev pub wait_length : ℕ → ℕ
+wait_length zero = 85
+wait_length (suc some) = 12
+
+-- Code of WaitEvent: behind its first instruction at most so many more lead to its effect, whatever lines arrive.
 abbrev pub IsWaitEventCode : List InstrKind → Type 0
 IsWaitEventCode code =
     IsServiceCode service.WaitEvent code ((offset task place own : ℕ) (core : Core) → MayWait offset task place own code core
-    → FromOpening 85 (offset_state offset core) (WaitEventEffect task place own))
+    → FromOpening (wait_length (set_of task core)) (offset_state offset core) (WaitEventEffect task place own))

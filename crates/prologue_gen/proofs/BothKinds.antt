@@ -1,8 +1,10 @@
 -- What the prologues of basic and of extended tasks have in common.
 use Rattle.std.proofs.Common.{ℕ, ◌+◌, ◌-◌, ◌%◌, ◌^◌, ◌≡◌, ◌<◌, ◌≤◌, Bool, true, false, List, ◌++◌, length, subst, arith}
+use Rattle.std.specs.Prelude.{max}
 use Rattle.sloth_base.specs.Machine.{Core}
 use Rattle.sloth_base.specs.MemoryMap.{memory_base}
 use Rattle.sloth_base.specs.Limits.{task_limit, level_count, frame_limit}
+use Rattle.code_lengths.specs.LongestPaths.{entry_path}
 use Rattle.rv32_instr.specs.declared.InstrKind.{InstrKind}
 use Rattle.masked_code.specs.Masked.{Masked, WithArrivals}
 use Rattle.masked_code.specs.Place.{offset_state}
@@ -45,11 +47,20 @@ pub size : (extended : Bool) (task level first frame words : ℕ) (code : List I
 size true task level first frame words code h = let n = h.size in (omega arith, omega arith)
 size false task level first frame words code h = let n = h.size in (omega arith, omega arith)
 
+-- how many instructions start a task at most, with the jump of the vector word: the way to a start passes what takes up a context
+abbrev pub anew_length : (extended : Bool) → (words : ℕ) → ℕ
+anew_length extended words = max (entry_path extended false words) (entry_path extended true words)
+
+-- it is one at least, and at most
+pub anew_few : (extended : Bool) (words : ℕ) → (1 ≤ anew_length extended words) × (anew_length extended words ≤ 78 + words)
+anew_few true words = (omega arith, omega arith)
+anew_few false words = (omega arith, omega arith)
+
 -- where no context is kept, both start the task
 pub starts : (extended : Bool) (task level first frame words : ℕ) (code : List InstrKind) → IsPrologueCode extended task level first frame words code
     → (offset place : ℕ) (core : Core) → first % 4 ≡ 0 → MayStart offset task place frame words code core
-    → Masked (109 + words) (offset_state (vector task) core) (WithArrivals (EntryEffect task level first place frame words) (offset_state (vector task) core))
+    → Masked (anew_length extended words) (offset_state (vector task) core) (WithArrivals (EntryEffect task level first place frame words) (offset_state (vector task) core))
 starts true task level first frame words code h = h.starts
 starts false task level first frame words code h = λ offset place core aligned may.
-    masked_more (74 + words) (109 + words) (offset_state (vector task) core) (WithArrivals (EntryEffect task level first place frame words) (offset_state (vector task) core)) (omega arith)
+    masked_more (74 + words) (anew_length false words) (offset_state (vector task) core) (WithArrivals (EntryEffect task level first place frame words) (offset_state (vector task) core)) (omega arith)
     (h.runs offset place core aligned may.enters)

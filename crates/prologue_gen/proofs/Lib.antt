@@ -1,4 +1,5 @@
 pub mod SavedRegisters
+pub mod Jumping
 pub mod Entering
 pub mod Starting
 pub mod Resuming

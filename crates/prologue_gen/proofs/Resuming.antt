@@ -1,6 +1,6 @@
 -- The code of an extended task's prologue has its effect.
-use Rattle.std.proofs.Common.{◌≡◌, ◌≢◌, ℕ, suc, ◌+◌, ◌-◌, ◌*◌, ◌%◌, ◌^◌, ◌<◌, ◌≤◌, ◌⊎◌, List, [], ◌∷◌, ◌++◌, length, get_or, refl, ap, ◌∙◌, subst, arith, inl, inr, lit<, lit≤}
-use Rattle.std.specs.Prelude.{ℤ, false, true, pos, set}
+use Rattle.std.proofs.Common.{◌≡◌, ◌≢◌, ℕ, zero, suc, ◌+◌, ◌-◌, ◌*◌, ◌%◌, ◌^◌, ◌<◌, ◌≤◌, ◌⊎◌, List, [], ◌∷◌, ◌++◌, length, get_or, refl, ap, ◌∙◌, subst, arith, inl, inr, ⊎_elim, lit<, lit≤}
+use Rattle.std.specs.Prelude.{ℤ, false, true, pos, set, max}
 use Rattle.std.proofs.lemmas.Bool.{ne_eqb}
 use Rattle.std.proofs.lemmas.List.{get_or-set_same, get_or-set_other, length-set}
 use Rattle.sloth_base.specs.Machine.{Core, State}
@@ -16,20 +16,21 @@ use Rattle.masked_code.specs.Kernel.{CanRun, HasBases}
 use Rattle.rv32_instr.specs.declared.InstrKind.TheVariants.{Jal}
 use Rattle.masked_code.specs.Masked.{Masked, WithArrivals}
 use Rattle.masked_code.proofs.Owes.{◌▸◌, writes, loads, stores, accesses, Owes}
-use Rattle.masked_code.specs.Pieces.{restoring_code}
+use Rattle.masked_code.specs.Pieces.{restoring_code, saving_code}
 use Rattle.masked_code.proofs.RegisterCode.{restored_registers}
 use Rattle.masked_code.proofs.Words.{word_at-other, word_at-others}
 use Rattle.masked_code.proofs.Spread.{based, based_is, spread_from}
 use Rattle.masked_code.proofs.Runs.{restores_owes, length-restored, restored_other, restored_at}
 use Rattle.masked_code.proofs.Leave.{behind}
-use Rattle.masked_code.proofs.Routines.{jumps_in}
-use Rattle.block_parts.specs.Prologues.{own_taking_code}
-use Rattle.prologue_gen.specs.Pieces.{wait_answer_code, kept_context_test}
+use Rattle.masked_code.proofs.Longest.{longest, longest_le}
+use Rattle.block_parts.specs.Prologues.{preempted_test, own_taking_code}
+use Rattle.prologue_gen.specs.Pieces.{csr_saving_code, words_saving_code, active_marking_code, beginning_code, wait_answer_code, kept_context_test}
 use Rattle.prologue_gen.specs.Fresh.{vector, EntryEffect, saved_registers}
 use Rattle.prologue_gen.specs.Resuming.{MayStart, MayResume, ResumeEffect, IsExtendedEntryCode, with_entry}
 use Rattle.prologue_gen.proofs.SavedRegisters.{few_saved}
+use Rattle.prologue_gen.proofs.Jumping.{in_place-front, jumps_within}
 use Rattle.prologue_gen.proofs.Entering.{enters_first, entered, enters_owe}
-use Rattle.prologue_gen.proofs.Starting.{starts, starts_owe, length-starts}
+use Rattle.prologue_gen.proofs.Starting.{last, starts, starts_owe, length-last, length-starts}
 
 -- what stands behind the entry, before the start
 abbrev pub asks_first : ℕ → List InstrKind → List InstrKind
@@ -38,6 +39,36 @@ asks_first task rest = kept_context_test task ++ (own_taking_code task ++ (resto
 -- behind the entry: the task goes on or starts anew
 abbrev pub either : ℕ → ℕ → ℕ → ℕ → List InstrKind
 either task frame words first = asks_first task (starts frame words first)
+
+-- how many instructions are executed at most, with the rest: of the look at what was running,
+tested_way : (code : List InstrKind) (k : ℕ) → longest code 0 ≤ k → longest code 27 ≤ k → longest (preempted_test ++ code) 0 ≤ 3 + k
+tested_way code k first passed = omega (arith, first, passed)
+
+-- where registers are saved, or passed
+saved_way : (count first base : ℕ) (rest : List InstrKind) (k : ℕ) → longest rest 0 ≤ k → longest (saving_code count first base ++ rest) 0 ≤ count + k
+saved_way zero first base rest k h = omega (arith, h)
+saved_way (suc count) first base rest k h = let behind = saved_way count (suc first) base rest k h in omega (arith, behind)
+
+passed_way : (rest : List InstrKind) (k : ℕ) → longest rest 0 ≤ k → longest (saving_code 27 5 1 ++ rest) 27 ≤ 27 + k
+passed_way rest k h = omega (arith, h)
+
+-- behind them
+marked_way : (task level : ℕ) (rest : List InstrKind) (n : ℕ) → longest rest 0 ≤ n → longest (csr_saving_code level ++ (words_saving_code ++ (active_marking_code task ++ rest))) 0 ≤ 12 + n
+marked_way task level rest n h = omega (arith, h)
+
+-- of the entry
+enters_way : (task level : ℕ) (rest : List InstrKind) (n : ℕ) → longest rest 0 ≤ n → longest (enters_first task level rest) 0 ≤ 3 + (27 + (12 + n))
+enters_way task level rest n h =
+    let tail = csr_saving_code level ++ (words_saving_code ++ (active_marking_code task ++ rest)) in
+    let behind = marked_way task level rest n h in
+    tested_way (saving_code 27 5 1 ++ tail) (27 + (12 + n)) (saved_way 27 5 1 tail (12 + n) behind) (passed_way tail (12 + n) behind)
+
+-- behind it 35 where the task goes on, and 7 and the last ones where it starts anew
+asks_way : (task frame first n : ℕ) (rest : List InstrKind) → longest rest 0 ≤ n → longest (asks_first task (beginning_code frame first ++ rest)) 0 ≤ max (7 + n) 35
+asks_way task frame first n rest h = omega (arith, h)
+
+start_most : (words : ℕ) → 3 + (27 + (12 + max (7 + (words + 26)) 35)) ≡ max (75 + words) 77
+start_most words = omega arith
 
 -- the whole prologue of an extended task
 abbrev pub code : ℕ → ℕ → ℕ → ℕ → ℕ → List InstrKind
@@ -241,21 +272,24 @@ module _ (task level first frame words : ℕ) (is_task : task < task_limit) (low
   abbrev rest : List InstrKind
   rest = either task (memory_base + frame) words first
 
-  -- from the vector word on
-  whole_runs : (E : List ℕ → State → State → Type 0) (jump : ℤ) → CanRun offset whole c → HasBases c.registers → c.mie ≡ false → InPlace c.ram (vector task) (Jal 0 jump ∷ [])
-      → plus (memory_base + vector task) jump ≡ memory_base + offset
-      → Owes offset (offset + 4 * length whole) offset whole 0 E (offset_state (vector task) (based c)) (based c)
-      → Masked (109 + words) (offset_state (vector task) c) (WithArrivals E (offset_state (vector task) c))
-  whole_runs E jump can bases masked vector_word to_code all =
-      let long = length-code task level (memory_base + frame) words first in
-      let n = words + 108 in
-      let e : suc n ≡ 109 + words = omega arith in
-      let to = offset + 4 * length whole in
-      subst (λ k. Masked k (offset_state (vector task) c) (WithArrivals E (offset_state (vector task) c))) e
-      (jumps_in (vector task) offset n jump whole c E (offset_state (vector task) c) (omega arith) vector_word to_code
+  -- from the vector word on, where no way through the code is longer
+  runs_within : (n : ℕ) (some : List InstrKind) (E : List ℕ → State → State → Type 0) (jump : ℤ) → longest some 0 ≤ n → CanRun offset some c → HasBases c.registers → c.mie ≡ false
+      → InPlace c.ram (vector task) (Jal 0 jump ∷ []) → plus (memory_base + vector task) jump ≡ memory_base + offset
+      → Owes offset (offset + 4 * length some) offset some 0 E (offset_state (vector task) (based c)) (based c)
+      → Masked (suc n) (offset_state (vector task) c) (WithArrivals E (offset_state (vector task) c))
+  runs_within n some E jump few can bases masked vector_word to_code all =
+      let to = offset + 4 * length some in
+      jumps_within (vector task) offset n jump some c E (offset_state (vector task) c) (omega arith) vector_word to_code
       (record { masked = masked; there = can.controller; lines = can.lines; aligned = can.aligned; fits = can.inside; placed = can.placed })
-      (omega arith)
-      (subst (λ x. Owes offset to offset whole 0 E (offset_state (vector task) x) x) (based_is c can.registers can.zero bases) all))
+      few
+      (subst (λ x. Owes offset to offset some 0 E (offset_state (vector task) x) x) (based_is c can.registers can.zero bases) all)
+
+  -- the way to a start passes what takes up a context
+  way_to_start : longest whole 0 ≤ max (75 + words) 77
+  way_to_start =
+      let most : longest (last words) 0 ≤ words + 26 = subst (λ k. longest (last words) 0 ≤ k) (length-last words) (longest_le (last words) 0) in
+      subst (λ k. longest whole 0 ≤ k) (start_most words)
+      (enters_way task level rest (max (7 + (words + 26)) 35) (asks_way task (memory_base + frame) first (words + 26) (last words) most))
 
   small_offset : CanRun offset whole c → offset + 168 ≤ memory_bytes
   small_offset can =
@@ -264,22 +298,48 @@ module _ (task level first frame words : ℕ) (is_task : task < task_limit) (low
       omega arith
 
   starts_it : first % 4 ≡ 0 → MayStart offset task place frame words whole c
-      → Masked (109 + words) (offset_state (vector task) c) (WithArrivals (EntryEffect task level first place frame words) (offset_state (vector task) c))
+      → Masked (max (76 + words) 78) (offset_state (vector task) c) (WithArrivals (EntryEffect task level first place frame words) (offset_state (vector task) c))
   starts_it first_aligned may =
       let h = may.enters in
       let can = h.taken.can_run in
       let to = offset + 4 * length whole in
       let E = EntryEffect task level first place frame words in
       let small = small_offset can in
-      whole_runs E h.taken.jump can h.taken.bases h.taken.masked h.taken.vector_word h.taken.to_code
+      let n : suc (max (75 + words) 77) ≡ max (76 + words) 78 = omega arith in
+      subst (λ k. Masked k (offset_state (vector task) c) (WithArrivals E (offset_state (vector task) c))) n
+      (runs_within (max (75 + words) 77) whole E h.taken.jump way_to_start can h.taken.bases h.taken.masked h.taken.vector_word h.taken.to_code
       (enters_owe offset to task level place c E (offset_state (vector task) (based c)) rest is_task h.taken.masked h.taken.x2 h.taken.aligned h.taken.behind h.taken.inside h.taken.apart can.behind offset (omega (arith, small))
       (λ o e. fresh_owe offset to task level first place frame words c is_task h.taken.behind may.kept_none o (memory_base + place) (omega (arith, small, e))
-      (λ o'. starts_owe offset to task level first place frame words c low_level first_fits first_aligned h.taken.masked h.taken.previous h.frame_aligned h.frame_inside h.frame_apart o' 0 1)))
+      (λ o'. starts_owe offset to task level first place frame words c low_level first_fits first_aligned h.taken.masked h.taken.previous h.frame_aligned h.frame_inside h.frame_apart o' 0 1))))
 
-  resumes_it : (own : ℕ) → MayResume offset task place own whole c → Masked (109 + words) (offset_state (vector task) c) (WithArrivals (ResumeEffect task level place own) (offset_state (vector task) c))
+  -- the code up to where a task goes on behind a wait
+  abbrev front : List InstrKind
+  front = enters_first task level (asks_first task [])
+
+  front_can_run : CanRun offset whole c → CanRun offset front c
+  front_can_run can =
+      let long = length-code task level (memory_base + frame) words first in
+      let fits = can.inside in
+      record {
+        controller = can.controller;
+        registers = can.registers;
+        zero = can.zero;
+        lines = can.lines;
+        aligned = can.aligned;
+        behind = can.behind;
+        inside = omega (arith, long, fits);
+        placed = in_place-front c.ram front (starts (memory_base + frame) words first) offset can.placed;
+      }
+
+  front_apart : (place + context_bytes ≤ offset) ⊎ (offset + 4 * length whole ≤ place) → (place + context_bytes ≤ offset) ⊎ (offset + 4 * length front ≤ place)
+  front_apart apart =
+      let long = length-code task level (memory_base + frame) words first in
+      ⊎_elim inl (λ behind. inr (omega (arith, long, behind))) apart
+
+  resumes_it : (own : ℕ) → MayResume offset task place own whole c → Masked 78 (offset_state (vector task) c) (WithArrivals (ResumeEffect task level place own) (offset_state (vector task) c))
   resumes_it own h =
       let can = h.taken.can_run in
-      let to = offset + 4 * length whole in
+      let to = offset + 4 * length front in
       let E = ResumeEffect task level place own in
       let small = small_offset can in
       let kept : IsKept offset task level place own c = record {
@@ -297,9 +357,9 @@ module _ (task level first frame words : ℕ) (is_task : task < task_limit) (low
         returns = h.returns;
         low = can.behind;
       } in
-      whole_runs E h.taken.jump can h.taken.bases h.taken.masked h.taken.vector_word h.taken.to_code
-      (enters_owe offset to task level place c E (offset_state (vector task) (based c)) rest is_task h.taken.masked h.taken.x2 h.taken.aligned h.taken.behind h.taken.inside h.taken.apart can.behind offset (omega (arith, small))
-      (λ o e. resumed_owe offset to task level place own c (starts (memory_base + frame) words first) kept o (memory_base + place) 1 (omega (arith, small, e))))
+      runs_within 77 front E h.taken.jump (omega arith) (front_can_run can) h.taken.bases h.taken.masked h.taken.vector_word h.taken.to_code
+      (enters_owe offset to task level place c E (offset_state (vector task) (based c)) (asks_first task []) is_task h.taken.masked h.taken.x2 h.taken.aligned h.taken.behind h.taken.inside (front_apart h.taken.apart) can.behind offset (omega (arith, small))
+      (λ o e. resumed_owe offset to task level place own c [] kept o (memory_base + place) 1 (omega (arith, small, e))))
 
 -- so the whole code does one of the two
 pub enters_or_resumes : (task level first frame words : ℕ) → task < task_limit → level < level_count → first < 2 ^ 32 → words ≤ frame_limit

@@ -125,12 +125,16 @@ module _ (from to task level first place frame words : ℕ) (c : Core) (low_leve
       ▸ accesses c.mepc refl masked
       ▸ zeroed_owe (behind 5 o)
 
--- how many instructions start a task
-pub length-starts : (frame words first : ℕ) → length (starts frame words first) ≡ words + 31
-length-starts frame words first =
+-- how many instructions clear and go
+pub length-last : (words : ℕ) → length (last words) ≡ words + 26
+length-last words =
     let e = length-append (words_clearing_code words 0 2) (clearing_code 25 5 ++ Mret ∷ []) in
     let f = length-clears_words words 0 2 in
-    omega arith
+    omega (arith, e, f)
+
+-- how many instructions start a task
+pub length-starts : (frame words first : ℕ) → length (starts frame words first) ≡ words + 31
+length-starts frame words first = let e = length-last words in omega (arith, e)
 
 length-code : (task level frame words first : ℕ) → length (code task level frame words first) ≡ words + 73
 length-code task level frame words first = let e = length-starts frame words first in omega arith

@@ -1,5 +1,5 @@
 -- The prologue of a task that goes on behind a wait: what was preempted is saved in a context, and the task's own is restored.
-use Rattle.std.specs.Prelude.{ℕ, ◌+◌, ◌*◌, ◌%◌, ◌≡◌, ◌≢◌, ◌<◌, ◌≤◌, ◌⊎◌, true, List, [], length, slice_index}
+use Rattle.std.specs.Prelude.{ℕ, ◌+◌, ◌*◌, ◌%◌, ◌≡◌, ◌≢◌, ◌<◌, ◌≤◌, ◌⊎◌, true, max, List, [], length, slice_index}
 use Rattle.sloth_base.specs.Machine.{Core, State}
 use Rattle.sloth_base.specs.Status.{E_OK}
 use Rattle.code_lengths.specs.CodeLengths.{prologue_length}
@@ -43,13 +43,13 @@ pub record ResumeEffect (task level place own : ℕ) (touched : List ℕ) (start
   pub status : slice_index end.core.registers 10 ≡ E_OK
   pub loaded : (i : ℕ) → 5 ≤ i → i < 32 → i ≢ 10 → slice_index end.core.registers i ≡ word_at start.core.ram (own + 4 * i)
 
--- Code of the prologue of an extended task: with the jump of the vector word, at most 109 + words instructions lead to a start
--- where no context is kept, and to the place of the wait where one is, whatever lines arrive.
+-- Code of the prologue of an extended task: with the jump of the vector word, at most 76 + words instructions, or 78 where that is more, lead to
+-- a start where no context is kept, and at most 78 to the place of the wait where one is, whatever lines arrive.
 pub record IsExtendedEntryCode (task level first frame words : ℕ) (code : List InstrKind) : Type 0 where
   pub size : length code ≡ prologue_length true words
   pub starts :
       (offset place : ℕ) (core : Core) → first % 4 ≡ 0 → MayStart offset task place frame words code core
-      → Masked (109 + words) (offset_state (vector task) core) (WithArrivals (EntryEffect task level first place frame words) (offset_state (vector task) core))
+      → Masked (max (76 + words) 78) (offset_state (vector task) core) (WithArrivals (EntryEffect task level first place frame words) (offset_state (vector task) core))
   pub resumes :
       (offset place own : ℕ) (core : Core) → MayResume offset task place own code core
-      → Masked (109 + words) (offset_state (vector task) core) (WithArrivals (ResumeEffect task level place own) (offset_state (vector task) core))
+      → Masked 78 (offset_state (vector task) core) (WithArrivals (ResumeEffect task level place own) (offset_state (vector task) core))

@@ -14,6 +14,8 @@ use Rattle.vector_gen.specs.Boot.{BootEffect}
 use Rattle.sim_induction.specs.Admits.{IsSetting, lines_at, with_admits}
 use Rattle.sim_induction.specs.PieceLaws.{BootLaw}
 use Rattle.sim_induction.proofs.Boot.{nothing_before}
+use Rattle.code_lengths.specs.CodeLengths.{boot_length}
+use Rattle.code_lengths.proofs.Short.{short_lines}
 use Rattle.sim_induction.proofs.Routes.{Booting, booting}
 use Rattle.sim_induction.proofs.Schedule.{owned_at}
 use Rattle.sim_induction.proofs.Traces.{lines_before, lines_trace}
@@ -36,12 +38,15 @@ module _ (b : Build) (view : View) (arrivals : List Arrival) (setting : IsSettin
   abbrev first : State
   first = start image
 
+  abbrev most : ℕ
+  most = boot_length b.config.tasks (length b.config.counters)
+
   in_ram : (i : ℕ) → slice_index first.core.ram i ≡ slice_index b.memory i
   in_ram i = ram_at image.memory i ∙ ap (λ m. slice_index m i) is.memory
 
-  route : Booting arrivals 136 first (BootEffect b.config.tasks (length b.config.counters) boot.levels (length b.config.tasks) b.idle)
+  route : Booting arrivals most first (BootEffect b.config.tasks (length b.config.counters) boot.levels (length b.config.tasks) b.idle)
   route =
-      booting arrivals 136 first (BootEffect b.config.tasks (length b.config.counters) boot.levels (length b.config.tasks) b.idle) (λ touched from last e. e.left.opened) refl
+      booting arrivals most first (BootEffect b.config.tasks (length b.config.counters) boot.levels (length b.config.tasks) b.idle) (λ touched from last e. e.left.opened) refl
       (boot.boots.runs 0x480 first.core fits.idle_address
       (record {
         masked = refl;
@@ -71,7 +76,8 @@ module _ (b : Build) (view : View) (arrivals : List Arrival) (setting : IsSettin
       let few : length b.config.tasks ≤ line_count = let f = fits.few_tasks in omega arith in
       record {
         more = route.more;
-        few = let f = route.few in omega arith;
+        few = let f = route.few in let lines = short_lines b.config.tasks in let tasks = fits.few_tasks in let counters = fits.few_counters in omega (arith, f, lines, tasks, counters);
+        within = route.few;
         trace = route.trace;
         end = route.end;
         steps = route.steps;

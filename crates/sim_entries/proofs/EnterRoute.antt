@@ -31,6 +31,8 @@ use Rattle.prologue_gen.specs.Fresh.{vector, IsTaken, MayEnter, EntryEffect}
 use Rattle.prologue_gen.specs.Resuming.{MayResume, ResumeEffect}
 use Rattle.prologue_gen.specs.Places.{IsPrologueCode}
 use Rattle.prologue_gen.proofs.BothKinds as kinds
+use Rattle.code_lengths.specs.LongestPaths.{entry_path, enter_path}
+use Rattle.event_weights.specs.Events.{has_frames, enter_counts, stretch_counts}
 use Rattle.sim_induction.specs.Admits.{IsSetting, lines_at, with_admits}
 use Rattle.sim_induction.specs.Advances.{Advances}
 use Rattle.sim_induction.specs.PieceLaws.{StretchLaw}
@@ -92,7 +94,7 @@ module _ (b : Build) (view : View) (arrivals : List Arrival) (setting : IsSettin
 
     -- ---- code with this effect, which has such a law
 
-    module _ (most : ℕ) (short : suc most ≤ stretch_limit b.config (Takes t)) (Effect : List ℕ → State → State → Type 0) (opens : Opens Effect)
+    module _ (most : ℕ) (short : suc most ≤ stretch_limit b.config (Takes t)) (within : suc most ≤ stretch_counts b.config b.app found (event.Enter t)) (Effect : List ℕ → State → State → Type 0) (opens : Opens Effect)
         (quiet : (lines : List ℕ) (from last : State) → Effect lines from last → lines ≡ [])
         (masked : Masked (suc most) (offset_state (vector t) core) (WithArrivals Effect (offset_state (vector t) core)))
         (law : (last : State) → Effect [] (take t now) last → OsekStep b.config b.app (event.Enter t) found after × Stands b last after) where
@@ -124,6 +126,9 @@ module _ (b : Build) (view : View) (arrivals : List Arrival) (setting : IsSettin
       enters : OsekStep b.config b.app (event.Enter t) found after × Stands b route.last after
       enters = law route.last effect
 
+      weight : suc route.more ≤ stretch_counts b.config b.app found (event.Enter t)
+      weight = let f = route.few in omega (arith, f, within)
+
       touches : IfSome (touched (execution_state now)) (Contains []) × AllByRecursion (Contains []) (touched_lines route.trace)
       touches = touches_parted [] (touched (execution_state now)) (touched_lines route.trace) (subst (AllByRecursion (Contains [])) (sym untouched) tt)
 
@@ -145,6 +150,7 @@ module _ (b : Build) (view : View) (arrivals : List Arrival) (setting : IsSettin
             what = event.Enter t;
             what_is = λ last p q. entered_event view count now route.next last t late_count taken (let v = ap (λ (o : Owners). o.tasks) setting.owners in let d = declared in omega arith);
             after = after;
+            within = subst (λ x. suc route.more ≤ stretch_counts b.config b.app (with_admits x found) (event.Enter t)) (sym nothing_early) weight;
             step_is = subst (λ x. OsekStep b.config b.app (event.Enter t) (with_admits x found) after) (sym nothing_early) enters.0;
             passes = λ past h. tt;
             related = subst (λ x. Stands b x (with_admits (late_arrivals route.trace) after)) (sym route.late_behind)
@@ -178,8 +184,31 @@ module _ (b : Build) (view : View) (arrivals : List Arrival) (setting : IsSettin
       sizes : (0 < length prologue.code) × (length prologue.code ≤ 108 + words)
       sizes = kinds.size (declaration b.config t).extended t (start_level b t) first frame words prologue.code prologue.enters
 
-      short : suc (108 + words) ≤ stretch_limit b.config (Takes t)
-      short = let w = prologue.few_words in let l = task_entry_limit b.config t declared in omega arith
+      abbrev extended : Bool
+      extended = (declaration b.config t).extended
+
+      abbrev most_anew : ℕ
+      most_anew = kinds.anew_length extended words - 1
+
+      anew_is : suc most_anew ≡ kinds.anew_length extended words
+      anew_is = let some = (kinds.anew_few extended words).0 in omega (arith, some)
+
+      short : suc most_anew ≤ stretch_limit b.config (Takes t)
+      short =
+          let few = (kinds.anew_few extended words).1 in
+          let w = prologue.few_words in
+          let l = task_entry_limit b.config t declared in
+          omega (arith, anew_is, few, w, l)
+
+      short_again : 78 ≤ stretch_limit b.config (Takes t)
+      short_again = let l = task_entry_limit b.config t declared in omega (arith, l)
+
+      anew_within : (frames : List Frame) → frames ≡ [] → suc most_anew ≤ enter_counts b.config b.app (has_frames frames) t
+      anew_within [] e = omega (arith, anew_is)
+      anew_within (frame ∷ outer) e = absurd (cc)
+
+      again_within : (resumed : Bool) → extended ≡ true → 78 ≤ enter_counts b.config b.app resumed t
+      again_within resumed e = let is : enter_path b.config b.app true t ≡ 78 = ap (λ x. entry_path x true words) e in omega (arith, is)
 
       can_run : CanRun prologue.offset prologue.code core
       can_run = record {
@@ -229,8 +258,8 @@ module _ (b : Build) (view : View) (arrivals : List Arrival) (setting : IsSettin
 
       enters_anew : (task found t).frames ≡ [] → StandsAlone b found t → Stretches
       enters_anew fresh alone =
-          stretches (108 + words) short (EntryEffect t (start_level b t) first place frame words) (λ lines from last e. e.left.opened) (λ lines from last e. e.touches)
-          (subst (λ n. Masked n (offset_state (vector t) core) (WithArrivals (EntryEffect t (start_level b t) first place frame words) (offset_state (vector t) core))) (omega arith)
+          stretches most_anew short (anew_within (task found t).frames fresh) (EntryEffect t (start_level b t) first place frame words) (λ lines from last e. e.left.opened) (λ lines from last e. e.touches)
+          (subst (λ n. Masked n (offset_state (vector t) core) (WithArrivals (EntryEffect t (start_level b t) first place frame words) (offset_state (vector t) core))) (sym anew_is)
           (kinds.starts (declaration b.config t).extended t (start_level b t) first frame words prologue.code prologue.enters prologue.offset place core
           (fits.items (body_of b.app.funcs t) 0)
           (record {
@@ -265,11 +294,10 @@ module _ (b : Build) (view : View) (arrivals : List Arrival) (setting : IsSettin
               returns = omega arith;
             }
 
-        enters_again : (declaration b.config t).extended ≡ true → Stretches
-        enters_again extended =
-            stretches (108 + words) short (ResumeEffect t (start_level b t) place has.place) (λ lines from last e. e.left.opened) (λ lines from last e. e.touches)
-            (subst (λ n. Masked n (offset_state (vector t) core) (WithArrivals (ResumeEffect t (start_level b t) place has.place) (offset_state (vector t) core))) (omega arith)
-            ((subst (λ (x : Bool). IsPrologueCode x t (start_level b t) first frame words prologue.code) extended prologue.enters).resumes prologue.offset place has.place core may_resume))
+        enters_again : extended ≡ true → Stretches
+        enters_again is =
+            stretches 77 short_again (again_within (has_frames (task found t).frames) is) (ResumeEffect t (start_level b t) place has.place) (λ lines from last e. e.left.opened) (λ lines from last e. e.touches)
+            ((subst (λ (x : Bool). IsPrologueCode x t (start_level b t) first frame words prologue.code) is prologue.enters).resumes prologue.offset place has.place core may_resume)
             (λ last e. again.resume_law b now last found t place has.place fits k sane declared chosen some (anew.there b.app (body_of b.app.funcs t) prologue.has_item) spot_is.1 has.rested.link e)
 
     -- Where the task is to start anew, the stretch is the event Enter, and the states at its end are related.

@@ -31,6 +31,7 @@ use Rattle.sim_induction.specs.Sound.{stands_before}
 use Rattle.sim_induction.specs.Admits.{Setting, IsSetting, lines_at, with_admits, admit_event, arrivals_before_event, arrivals_behind_event, arrivals_at_moment}
 use Rattle.sim_induction.proofs.Lines.{spans_admit, admit_behind}
 use Rattle.sim_induction.specs.Observed.{trace_of, IsTraced}
+use Rattle.sim_induction.specs.Weighed.{AreWeighedTo}
 use Rattle.sim_induction.specs.Advances.{RunTo, EachPair, IsInCounts}
 use Rattle.sim_induction.specs.PieceLaws.{BootLaw, seen_step_at}
 use Rattle.sim_induction.specs.Related.{IsSimulation}
@@ -45,7 +46,8 @@ use Rattle.sim_induction.proofs.Traces.{lines_behind, is_traced, lines_trace, st
 use Rattle.sim_induction.proofs.MaskedRun.{MaskedRun, masked_steps, masked_inside, masked_moment, none_taken, trace_long, Flags, flag_first}
 use Rattle.sim_induction.proofs.Cut.{cut_whole, cut_short}
 use Rattle.sim_induction.proofs.Induct.{sound_from, within_wider, pairs_apart}
-use Rattle.sim_induction.proofs.StretchPiece.{stretch_counts}
+use Rattle.sim_induction.proofs.StretchPiece.{stretch_arrivals}
+use Rattle.sim_induction.proofs.Weighing.{weighed-append, weighed_admits}
 use Rattle.sim_induction.proofs.WholeRun.{WholeRun}
 
 -- ---- a stretch that touches no line
@@ -178,6 +180,15 @@ module _ (given : Setting) (setting : IsSetting given) (R : State → System →
         (follows_admits given.config given.app (boot ∷ []) (arrivals_behind_event 0 law.trace) law.after setting.few_tasks after_booted owned_behind),
   )
 
+  weighed0 : AreWeighedTo given.config given.app E0 s z
+  weighed0 = (
+    law.after,
+    (let w = law.within in omega (arith, w)),
+    law.step_is,
+    subst (λ a. AreWeighedTo given.config given.app (map admit_event (arrivals_behind_event 0 law.trace)) law.after (with_admits a law.after)) (lines_behind 0 law.trace)
+        (weighed_admits given.config given.app (arrivals_behind_event 0 law.trace) law.after setting.few_tasks after_booted owned_behind),
+  )
+
   -- no line arrives at count 0
   late_from : AllByRecursion (IsFrom 1 J) (arrivals_behind_event 0 law.trace)
   late_from =
@@ -200,7 +211,7 @@ module _ (given : Setting) (setting : IsSetting given) (R : State → System →
   placed0 = (each_arrival (IsOrdered boot) (IsFrom 1 J) (λ a h. admit_behind a boot (let l : 0 < a.at = omega arith in l)) (arrivals_behind_event 0 law.trace) late_from, admit_pairs (arrivals_behind_event 0 law.trace))
 
   counted0 : (i t : ℕ) → admits_at i t E0 ≡ arrivals_at i t inside
-  counted0 i t = stretch_counts i t boot [] inside [] (arrivals_behind_event 0 law.trace) p refl none_early all_late
+  counted0 i t = stretch_arrivals i t boot [] inside [] (arrivals_behind_event 0 law.trace) p refl none_early all_late
 
   keeps0 : KeepsOrder inside E0
   keeps0 =
@@ -225,6 +236,7 @@ module _ (given : Setting) (setting : IsSetting given) (R : State → System →
     whole = refl;
     last = s;
     follows = refl;
+    weighed = refl;
     within = tt;
     placed = tt;
     to = 0;
@@ -258,6 +270,7 @@ module _ (given : Setting) (setting : IsSetting given) (R : State → System →
         whole = through.1;
         last = s;
         follows = subst (λ E. AreStepsBehind given.config given.app [] s E s) (sym obs) refl;
+        weighed = subst (λ E. AreWeighedTo given.config given.app E s s) (sym obs) refl;
         within = subst (AllByRecursion (IsInCounts 0 (suc n))) (sym obs) tt;
         placed = subst (EachPair IsOrdered) (sym obs) tt;
         to = 0;
@@ -297,6 +310,7 @@ module _ (given : Setting) (setting : IsSetting given) (R : State → System →
         whole = after_steps J n 0 A m (f ∷ r.steps) law.end runs ∙ ap (λ k. state_after_from n A k law.end) (omega arith) ∙ g.whole;
         last = g.last;
         follows = subst (λ u. AreStepsBehind given.config given.app [] s u g.last) (sym obs) (follows-append given.config given.app [] s z g.last E0 E follow0 g.follows);
+        weighed = subst (λ u. AreWeighedTo given.config given.app u s g.last) (sym obs) (weighed-append given.config given.app E0 E s z g.last weighed0 g.weighed);
         within = subst (AllByRecursion (IsInCounts 0 (J + n))) (sym obs)
             (each-append (IsInCounts 0 (J + n)) E0 E (within_wider 0 J 0 (J + n) E0 (omega arith) (omega arith) within0) (within_wider J (J + n) 0 (J + n) E (omega arith) (omega arith) g.within));
         placed = subst (EachPair IsOrdered) (sym obs) (pairs_apart 0 J (J + n) E0 E within0 g.within placed0 g.placed);

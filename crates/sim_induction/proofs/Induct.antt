@@ -23,6 +23,7 @@ use Rattle.sim_induction.specs.Sound.{stands_before}
 use Rattle.sim_induction.specs.Admits.{Setting, IsSetting, lines_at, with_admits, admit_event}
 use Rattle.sim_induction.proofs.Lines.{is_admitted, spans_admit, admit_before}
 use Rattle.sim_induction.specs.Advances.{EachPair, IsInCounts, found_events, Advances}
+use Rattle.sim_induction.specs.Weighed.{AreWeighedTo}
 use Rattle.sim_induction.specs.Related.{IsSimulation}
 use Rattle.sim_induction.proofs.Follow.{leads-append, follows-append, follows_leads, follows_admits}
 use Rattle.sim_induction.proofs.Events.{filter_all, filter_none, each_map, each_both, each-append, each_arrival, pairs-append, admit_pairs, moment_within, before, behind}
@@ -31,6 +32,7 @@ use Rattle.sim_induction.proofs.Counts.{admits-append, arrivals-append, admits_o
 use Rattle.sim_induction.proofs.Order.{orders-append, admits_order}
 use Rattle.sim_induction.proofs.Runs.{steps_from, run_steps, run_take, after_steps, goes_through}
 use Rattle.sim_induction.proofs.RunFrom.{events_from, ReachedAt, SoundFrom}
+use Rattle.sim_induction.proofs.Weighing.{weighed-append, weighed_admits}
 
 -- events of earlier counts stand before those of later ones
 ordered_apart : (mid from to : ℕ) (x y : Stamped) → IsInCounts from mid x → IsInCounts mid to y → IsOrdered x y
@@ -67,6 +69,9 @@ module _ (given : Setting) (setting : IsSetting given) (R : State → System →
   follow_mine : (past : List Stamped) (k : ℕ) (m : State) (s : System) → R m s → AreStepsBehind given.config given.app past s (mine k) (with_admits (lines_at A k) s)
   follow_mine past k m s r = follows_admits given.config given.app past (here k) s setting.few_tasks (simulation.booted m s r) (owned_here k)
 
+  weigh_mine : (k : ℕ) (m : State) (s : System) → R m s → AreWeighedTo given.config given.app (mine k) s (with_admits (lines_at A k) s)
+  weigh_mine k m s r = weighed_admits given.config given.app (here k) s setting.few_tasks (simulation.booted m s r) (owned_here k)
+
   mine_within : (k hi : ℕ) → k < hi → AllByRecursion (IsInCounts k hi) (mine k)
   mine_within k hi l = each_arrival (IsInCounts k hi) (λ a. a.at ≡ k) (λ a e. record { begins = omega arith; ordered = omega arith; ends = omega arith; spans = spans_admit a }) (here k) (moment_within k A)
 
@@ -87,6 +92,7 @@ module _ (given : Setting) (setting : IsSetting given) (R : State → System →
     whole = refl;
     last = s;
     follows = refl;
+    weighed = refl;
     within = tt;
     placed = tt;
     to = k;
@@ -146,6 +152,7 @@ module _ (given : Setting) (setting : IsSetting given) (R : State → System →
           whole = through.1;
           last = with_admits (lines_at A k) s;
           follows = subst (λ E. AreStepsBehind given.config given.app past s E (with_admits (lines_at A k) s)) (sym cut_observed) (follow_mine past k m s r);
+          weighed = subst (λ E. AreWeighedTo given.config given.app E s (with_admits (lines_at A k) s)) (sym cut_observed) (weigh_mine k m s r);
           within = subst (AllByRecursion (IsInCounts k (k + suc n))) (sym cut_observed) (mine_within k (k + suc n) (omega arith));
           placed = subst (EachPair IsOrdered) (sym cut_observed) (admit_pairs (here k));
           to = k + 1;
@@ -218,6 +225,9 @@ module _ (given : Setting) (setting : IsSetting given) (R : State → System →
     piece_leads : AreStepsTo given.config given.app (mine k ++ a.others) s a.after
     piece_leads = follows_leads given.config given.app past s (mine k ++ a.others) a.after piece_follows
 
+    piece_weighed : AreWeighedTo given.config given.app (mine k ++ a.others) s a.after
+    piece_weighed = weighed-append given.config given.app (mine k) a.others s (with_admits (lines_at A k) s) a.after (weigh_mine k m s r) a.weighed
+
     piece_within : AllByRecursion (IsInCounts k (k + j)) (mine k ++ a.others)
     piece_within = each-append (IsInCounts k (k + j)) (mine k) a.others (mine_within k (k + j) (omega arith)) a.stamps
 
@@ -239,6 +249,7 @@ module _ (given : Setting) (setting : IsSetting given) (R : State → System →
           whole = after_steps j n k A m (a.first ∷ a.rest) a.next a.runs ∙ g.whole;
           last = g.last;
           follows = subst (λ u. AreStepsBehind given.config given.app past s u g.last) (sym observed) (follows-append given.config given.app past s a.after g.last (mine k ++ a.others) E piece_follows g.follows);
+          weighed = subst (λ u. AreWeighedTo given.config given.app u s g.last) (sym observed) (weighed-append given.config given.app (mine k ++ a.others) E s a.after g.last piece_weighed g.weighed);
           within = subst (AllByRecursion (IsInCounts k (k + (j + n)))) (sym observed)
               (each-append (IsInCounts k (k + (j + n))) (mine k ++ a.others) E
               (within_wider k (k + j) k (k + (j + n)) (mine k ++ a.others) (omega arith) (omega arith) piece_within)

@@ -78,6 +78,7 @@ module _ (given : Setting) (setting : IsSetting given) (R : State → System →
     short_front = a.short_front;
     after = a.after;
     leads = a.leads;
+    weighed = a.weighed;
     follows = a.follows;
     progresses = a.progresses;
     related = record {
@@ -111,6 +112,7 @@ module _ (given : Setting) (setting : IsSetting given) (R : State → System →
       record {
         more = law.more;
         few = law.few;
+        within = law.within;
         trace = law.trace;
         end = law.end;
         steps = law.steps;

@@ -22,3 +22,4 @@ pub mod Passing
 pub mod Invariants
 pub mod Stretched
 pub mod Lines
+pub mod Weighing

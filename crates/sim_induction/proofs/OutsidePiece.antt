@@ -17,6 +17,7 @@ use Rattle.sim_induction.specs.Short.{passed_count}
 use Rattle.sim_induction.specs.Admits.{Setting, IsSetting, lines_at, with_admits}
 use Rattle.sim_induction.specs.Advances.{EachPair, IsInCounts, found_events, Advances}
 use Rattle.std.specs.List.{AllByRecursion}
+use Rattle.sim_induction.specs.Weighed.{AreWeighedTo}
 use Rattle.sim_induction.specs.PieceLaws.{OutsideLaw, IsOutsideStep, seen_step_at}
 use Rattle.sim_induction.proofs.Schedule.{owned_at, admits_are}
 use Rattle.sim_induction.proofs.Counts.{admits-append, admits_of, others_count}
@@ -46,6 +47,7 @@ record Alone (given : Setting) (k : ℕ) (whats : List Event) (s after : System)
   later : AllByRecursion (λ e. is_admit e ≡ true → k < e.stamp.at) (map (stamp k k) whats)
   placed : EachPair IsOrdered (map (stamp k k) whats)
   leads : AreStepsTo given.config given.app (map (stamp k k) whats) s after
+  weighed : AreWeighedTo given.config given.app (map (stamp k k) whats) s after
   follows : (past : List Stamped) → AreStepsBehind given.config given.app past s (map (stamp k k) whats) after
   passing : (before from to : ℕ) → before ≤ from → (whats ≡ [] → from < to) → passed_count whats before ≤ to
 
@@ -56,6 +58,7 @@ alone given k [] s after h w = record {
   later = tt;
   placed = tt;
   leads = w;
+  weighed = w;
   follows = λ past. w;
   passing = λ before from to l p. let q = p refl in omega arith;
 }
@@ -67,6 +70,7 @@ alone given k (what ∷ []) s after h w =
       later = ((λ e. let z : is_admit (stamp k k what) ≡ false = o in cc), tt);
       placed = (tt, tt);
       leads = (after, w, refl);
+      weighed = (after, omega arith, w, refl);
       follows = λ past. (after, w, single_passes given past s k what h.0, refl);
       passing = λ before from to l p. omega arith;
     }
@@ -110,6 +114,7 @@ outside_advances given setting R progress k m s x law =
       short_front = λ n l. absurd (omega arith);
       after = law.after;
       leads = a.leads;
+      weighed = a.weighed;
       follows = λ past h. a.follows past;
       progresses = λ before l. subst (λ v. passed_count v before ≤ progress x law.after) (sym law.whats_are) (a.passing before (progress m s) (progress x law.after) l law.progresses);
       related = law.related;

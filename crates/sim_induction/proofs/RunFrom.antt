@@ -13,6 +13,7 @@ use Rattle.osek_scheduler.specs.Runs.{AreStepsTo, AreStepsBehind}
 use Rattle.osek_scheduler.specs.InTime.{is_admit, admits_at, arrivals_at, IsOrdered, KeepsOrder}
 use Rattle.sim_induction.specs.Short.{AreShort, IsShortPiece, HasShortGaps}
 use Rattle.sim_induction.specs.Sound.{stands_before}
+use Rattle.sim_induction.specs.Weighed.{AreWeighedTo}
 use Rattle.sim_induction.specs.Admits.{Setting}
 use Rattle.sim_induction.specs.Advances.{EachPair, IsInCounts}
 use Rattle.sim_induction.proofs.Runs.{steps_from}
@@ -30,6 +31,7 @@ pub record SoundFrom (given : Setting) (R : State → System → Type 0) (progre
   pub whole : state_after_from n given.arrivals k m ≡ Some end
   pub last : System
   pub follows : AreStepsBehind given.config given.app past s (events_from given n k m) last
+  pub weighed : AreWeighedTo given.config given.app (events_from given n k m) s last
   pub within : AllByRecursion (IsInCounts k (k + n)) (events_from given n k m)
   pub placed : EachPair IsOrdered (events_from given n k m)
   pub to : ℕ

@@ -13,11 +13,12 @@ use Rattle.sloth_base.specs.Owners.{first_counter_line, owners_in}
 use Rattle.rv32_machine.specs.Start.{start}
 use Rattle.osek_scheduler.specs.State.{System}
 use Rattle.sim_induction.specs.Sound.{IsSoundRun, Sound}
+use Rattle.sim_induction.specs.Weighed.{Weighed}
 use Rattle.sim_induction.specs.Admits.{IsSetting}
 use Rattle.sim_induction.specs.PieceLaws.{BootLaw}
 use Rattle.sim_induction.specs.Related.{IsSimulation}
 use Rattle.sim_induction.proofs.Boot.{whole_run}
-use Rattle.sim_induction.proofs.WholeRun.{setting_of, sound_of}
+use Rattle.sim_induction.proofs.WholeRun.{setting_of, sound_of, weighed_of}
 
 pub is_setting : (config : Config) (app : App) (image : Image) (arrivals : List Arrival) → length config.tasks ≤ first_counter_line → length image.tasks ≡ length config.tasks → image.counters ≡ map (λ c. c.name) config.counters → AreArrivals (owners_in config) arrivals
     → IsSetting (setting_of config app image arrivals)
@@ -44,4 +45,16 @@ pub sound : (config : Config) (app : App) (image : Image) (R : State → System 
 sound config app image R progress few tasks counters laws = record {
   counters = counters;
   each = λ arrivals n are bound. sound_run config app image arrivals R progress (is_setting config app image arrivals few tasks counters are) (laws arrivals are).0 (laws arrivals are).1 n;
+}
+
+-- and no stretch of it takes more than its weight
+pub weighed : (config : Config) (app : App) (image : Image) (R : State → System → Type 0) (progress : State → System → ℕ) → length config.tasks ≤ first_counter_line → length image.tasks ≡ length config.tasks
+    → image.counters ≡ map (λ c. c.name) config.counters
+    → ((arrivals : List Arrival) → AreArrivals (owners_in config) arrivals → IsSimulation (setting_of config app image arrivals) R progress × BootLaw (setting_of config app image arrivals) R (start image))
+    → Weighed config app image
+weighed config app image R progress few tasks counters laws = record {
+  each = λ arrivals n are bound.
+      let given = setting_of config app image arrivals in
+      weighed_of config app image arrivals R n
+      (whole_run given (is_setting config app image arrivals few tasks counters are) R progress (laws arrivals are).0 (start image) (laws arrivals are).1 n);
 }

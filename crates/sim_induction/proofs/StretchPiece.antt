@@ -22,6 +22,7 @@ use Rattle.sim_induction.specs.Short.{AreShort, IsShortAt, TouchesOnly}
 use Rattle.sim_induction.specs.Admits.{Setting, IsSetting, lines_at, with_admits, admit_event, arrivals_before_event, arrivals_behind_event}
 use Rattle.sim_induction.proofs.Lines.{spans_admit, admit_before, admit_behind, admits_ordered}
 use Rattle.sim_induction.specs.Observed.{IsTraced}
+use Rattle.sim_induction.specs.Weighed.{AreWeighedTo}
 use Rattle.sim_induction.specs.Advances.{RunTo, EachPair, IsInCounts, found_events, Advances}
 use Rattle.std.specs.List.{AllByRecursion}
 use Rattle.sim_induction.specs.PieceLaws.{StretchLaw, seen_step_at}
@@ -36,6 +37,7 @@ use Rattle.sim_induction.proofs.Traces.{lines_before, lines_behind, is_traced, l
 use Rattle.std.proofs.lemmas.List.Elements.{All-from_recursion}
 use Rattle.sim_induction.proofs.MaskedRun.{MaskedRun, masked_steps, masked_inside, trace_long, going_moment, Flags, flag_first, ShowsState}
 use Rattle.sim_induction.proofs.Cut.{cut_whole, cut_short}
+use Rattle.sim_induction.proofs.Weighing.{weighed-append, weighed_admits}
 
 -- ---- the events of a stretch with this event
 
@@ -77,9 +79,9 @@ module _ (k j : ℕ) (t : Trace) (e : Stamped) (long : length t ≡ j) (from_is 
       (w, each_arrival (IsInCounts k (k + suc j)) (IsFrom k (k + suc j)) (within_admits k (k + suc j)) (arrivals_behind_event (k + 1) t) (behind_within k (k + suc j) (k + 1) t (omega arith) (omega arith)))
 
 -- the admits of a stretch whose inner arrivals are parted by a test
-pub stretch_counts : (i t : ℕ) (e : Stamped) (found inside before behind : List Arrival) (p : Arrival → Bool) → is_admit e ≡ false → filter p inside ≡ before → filter (λ a. not (p a)) inside ≡ behind
+pub stretch_arrivals : (i t : ℕ) (e : Stamped) (found inside before behind : List Arrival) (p : Arrival → Bool) → is_admit e ≡ false → filter p inside ≡ before → filter (λ a. not (p a)) inside ≡ behind
     → admits_at i t (map admit_event found ++ (map admit_event before ++ (e ∷ map admit_event behind))) ≡ arrivals_at i t (found ++ inside)
-stretch_counts i t e found inside before behind p other b c =
+stretch_arrivals i t e found inside before behind p other b c =
     let a1 = admits-append i t (map admit_event found) (map admit_event before ++ (e ∷ map admit_event behind)) in
     let a2 = admits-append i t (map admit_event before) (e ∷ map admit_event behind) in
     let a3 = other_counts i t e (map admit_event behind) other in
@@ -197,6 +199,16 @@ module _ (given : Setting) (setting : IsSetting given) (R : State → System →
         subst (λ a. AreStepsTo given.config given.app (map admit_event (arrivals_behind_event (k + 1) t)) law.after (with_admits a law.after)) (lines_behind (k + 1) t) (leads_admits given.config given.app (arrivals_behind_event (k + 1) t) law.after setting.few_tasks after_booted owned_behind),
       )
 
+  weighed_others : AreWeighedTo given.config given.app others s1 (with_admits (late_arrivals t) law.after)
+  weighed_others =
+      weighed-append given.config given.app (map admit_event (arrivals_before_event (k + 1) t)) (event ∷ map admit_event (arrivals_behind_event (k + 1) t)) s1 (with_admits (early_arrivals t) s1) (with_admits (late_arrivals t) law.after)
+      (subst (λ a. AreWeighedTo given.config given.app (map admit_event (arrivals_before_event (k + 1) t)) s1 (with_admits a s1)) (lines_before (k + 1) t) (weighed_admits given.config given.app (arrivals_before_event (k + 1) t) s1 setting.few_tasks s1_booted owned_before)) (
+        law.after,
+        (let w = law.within in omega (arith, w)),
+        law.step_is,
+        subst (λ a. AreWeighedTo given.config given.app (map admit_event (arrivals_behind_event (k + 1) t)) law.after (with_admits a law.after)) (lines_behind (k + 1) t) (weighed_admits given.config given.app (arrivals_behind_event (k + 1) t) law.after setting.few_tasks after_booted owned_behind),
+      )
+
   follow_others : (past : List Stamped) → AreStepsTo given.config given.app past (opening given.config given.app) s1 → AreStepsBehind given.config given.app past s1 others (with_admits (late_arrivals t) law.after)
   follow_others past h =
       follows-append given.config given.app past s1 (with_admits (early_arrivals t) s1) (with_admits (late_arrivals t) law.after) (map admit_event (arrivals_before_event (k + 1) t)) (event ∷ map admit_event (arrivals_behind_event (k + 1) t))
@@ -221,7 +233,7 @@ module _ (given : Setting) (setting : IsSetting given) (R : State → System →
   counts : (i u : ℕ) → admits_at i u (found_events given k ++ others) ≡ arrivals_at i u (moments k (k + suc (length r.steps)) A)
   counts i u =
       let n : k + suc (length r.steps) ≡ k + 1 + length r.steps = omega arith in
-      stretch_counts i u event (moments k (k + 1) A) (moments (k + 1) (k + 1 + length r.steps) A) (arrivals_before_event (k + 1) t) (arrivals_behind_event (k + 1) t) early_inside other inside_before inside_behind
+      stretch_arrivals i u event (moments k (k + 1) A) (moments (k + 1) (k + 1 + length r.steps) A) (arrivals_before_event (k + 1) t) (arrivals_behind_event (k + 1) t) early_inside other inside_before inside_behind
       ∙ ap (arrivals_at i u) (sym (moments-split 0 k (k + 1) (k + 1 + length r.steps) A (from_zero A setting.ordered) (omega arith) (omega arith)))
       ∙ ap (λ v. arrivals_at i u (moments k v A)) (sym n)
 
@@ -273,6 +285,7 @@ module _ (given : Setting) (setting : IsSetting given) (R : State → System →
         short_front = λ i l. short_at (take i r.steps) (let z = length-take i r.steps in omega arith) (each_step-take (TouchesOnly law.lines) i r.steps touching);
         after = with_admits (late_arrivals t) law.after;
         leads = lead_others;
+        weighed = weighed_others;
         follows = follow_others;
         progresses = λ before l. omega arith;
         related = law.related;

@@ -23,6 +23,7 @@ use Rattle.osek_scheduler.specs.State.{System, task}
 use Rattle.osek_scheduler.specs.Priority.{IsTop}
 use Rattle.osek_scheduler.specs.Steps.{OsekStep}
 use Rattle.osek_scheduler.specs.Runs.{PassesOver, PassesOverArrivals}
+use Rattle.event_weights.specs.Events.{stretch_counts}
 use Rattle.sim_induction.specs.Admits.{Setting, lines_at, with_admits, admit_event, arrivals_before_event}
 use Rattle.sim_induction.specs.PieceLaws.{StretchLaw, seen_step_at, served_event}
 use Rattle.std.specs.List.{AllByRecursion}
@@ -52,7 +53,7 @@ both_pass given past s k t called status true h = h
 both_pass given past s k t called status false h = h
 
 -- What is known of a service's code that begins at its opening mark with interrupts open, whose effect is such a one: where it begins, which
--- task calls, what it leaves, and that it is a step of the abstract scheduler to a state that is related again.
+-- task calls, what it leaves, and that it is a step of the abstract scheduler within its weight, to a state that is related again.
 pub record ServesFrom (given : Setting) (R : State → System → Type 0) (k : ℕ) (m : State) (s : System) (t : ℕ) (called : Service) (most : ℕ)
     (Effect : List ℕ → State → State → Type 0) (e : Masking given.arrivals most k m Effect) : Type 0 where
   -- the beginning
@@ -81,6 +82,7 @@ pub record ServesFrom (given : Setting) (R : State → System → Type 0) (k : �
   pub tasks_alone : AreTasks (owners_in given.config) (early_arrivals e.trace)
   -- the step
   pub after : System
+  pub within : suc e.more ≤ stretch_counts given.config given.app (with_admits (early_arrivals e.trace) (with_admits (lines_at given.arrivals k) s)) (served_event t called e.end)
   pub step_is : OsekStep given.config given.app (served_event t called e.end) (with_admits (early_arrivals e.trace) (with_admits (lines_at given.arrivals k) s)) after
   pub related : R (state_arrive (late_arrivals e.trace) e.last) (with_admits (late_arrivals e.trace) after)
 
@@ -114,6 +116,7 @@ service_law given R k m s t called most Effect e h =
           ∙ ap (λ v. cond (t + 1 == v) (event.Call t called (slice_index last.regs 10)) (event.Left t called)) cur
           ∙ ap (λ v. cond (t + 1 == word_at e.end.core.ram 0) (event.Call t called (slice_index v 10)) (event.Left t called)) regs;
       after = h.after;
+      within = h.within;
       step_is = h.step_is;
       passes = λ past p. both_pass given (past ++ map admit_event (arrivals_before_event (k + 1) e.trace)) (with_admits (early_arrivals e.trace) (with_admits admits s)) k t called
           (slice_index e.end.core.registers 10) (t + 1 == word_at e.end.core.ram 0)

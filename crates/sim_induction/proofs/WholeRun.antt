@@ -1,5 +1,5 @@
 -- What holds of a run from the start, and what follows from it.
-use Rattle.std.proofs.Common.{◌≡◌, ℕ, zero, suc, ◌+◌, ◌<◌, ◌≤◌, List, [], ◌∷◌, arith, Some, true, false, nat_le, nat_lt}
+use Rattle.std.proofs.Common.{◌≡◌, ℕ, zero, suc, ◌+◌, ◌<◌, ◌≤◌, List, [], ◌∷◌, subst, arith, Some, true, false, nat_le, nat_lt}
 use Rattle.std.specs.Prelude.{All, AllPairs, ◌&&◌}
 use Rattle.sloth_base.specs.declared.config.Config.{Config}
 use Rattle.sloth_base.specs.declared.app.App.{App}
@@ -18,7 +18,8 @@ use Rattle.osek_scheduler.specs.State.{System, opening}
 use Rattle.osek_scheduler.specs.Runs.{AreStepsBehind}
 use Rattle.osek_scheduler.specs.InTime.{InTime, IsStamped, is_admit, admits_at, arrivals_at, IsOrdered, KeepsOrder, longest_cut_off_stretch}
 use Rattle.sim_induction.specs.Short.{Short, AreShort, IsShortPiece, HasShortGaps}
-use Rattle.sim_induction.specs.Sound.{IsSoundRun}
+use Rattle.sim_induction.specs.Sound.{IsSoundRun, events_of}
+use Rattle.sim_induction.specs.Weighed.{AreWeighedTo, AreWithinWeights}
 use Rattle.sim_induction.specs.Admits.{Setting, IsSetting}
 use Rattle.sim_induction.specs.Advances.{EachPair, IsInCounts}
 use Rattle.sim_induction.specs.Related.{IsSimulation}
@@ -29,12 +30,14 @@ use Rattle.sim_induction.proofs.Order.{order_within}
 use Rattle.sim_induction.proofs.LeftOut.{left_out}
 use Rattle.sim_induction.proofs.Runs.{steps_from}
 use Rattle.sim_induction.proofs.RunFrom.{events_from, ReachedAt}
+use Rattle.sim_induction.proofs.Weighing.{found_within}
 
 pub record WholeRun (given : Setting) (R : State → System → Type 0) (n : ℕ) (m : State) : Type 0 where
   pub end : State
   pub whole : state_after_from n given.arrivals 0 m ≡ Some end
   pub last : System
   pub follows : AreStepsBehind given.config given.app [] (opening given.config given.app) (events_from given n 0 m) last
+  pub weighed : AreWeighedTo given.config given.app (events_from given n 0 m) (opening given.config given.app) last
   pub within : AllByRecursion (IsInCounts 0 n) (events_from given n 0 m)
   pub placed : EachPair IsOrdered (events_from given n 0 m)
   pub to : ℕ
@@ -89,3 +92,9 @@ sound_of config app image arrivals R progress setting simulation n w = record {
   short = short_of (setting_of config app image arrivals) R n (start image) w;
   mirrors = λ count state l after enabled. let z = w.mirrors count l state after enabled in (z.0, z.1, simulation.mirrors _ z.0 z.2);
 }
+
+pub weighed_of : (config : Config) (app : App) (image : Image) (arrivals : List Arrival) (R : State → System → Type 0) (n : ℕ) → WholeRun (setting_of config app image arrivals) R n (start image)
+    → AreWithinWeights config app (events_of image arrivals n)
+weighed_of config app image arrivals R n w = λ before behind e found is leads.
+    found_within config app before behind e (opening config app) w.last found
+    (subst (λ events. AreWeighedTo config app events (opening config app) w.last) is w.weighed) leads

@@ -16,6 +16,7 @@ use Rattle.osek_scheduler.specs.Runs.{AreStepsTo, AreStepsBehind}
 use Rattle.osek_scheduler.specs.InTime.{is_admit, admits_at, arrivals_at, HasSpanFor, IsOrdered, KeepsOrder}
 use Rattle.sim_induction.specs.Short.{AreShort, IsShortPiece, passed_length}
 use Rattle.sim_induction.specs.Admits.{Setting, lines_at, with_admits, admit_event}
+use Rattle.sim_induction.specs.Weighed.{AreWeighedTo}
 
 -- the instructions of the counts from this one on lead by these steps from the first state to the last
 abbrev pub RunTo : List Arrival → ℕ → ℕ → State → List Step → State → Type 0
@@ -65,6 +66,7 @@ pub record Advances (given : Setting) (R : State → System → Type 0) (progres
   pub short_front : (n : ℕ) → n < length rest → AreShort given.config (first ∷ take n rest)
   pub after : System
   pub leads : AreStepsTo given.config given.app others (with_admits (lines_at given.arrivals count) s) after
+  pub weighed : AreWeighedTo given.config given.app others (with_admits (lines_at given.arrivals count) s) after
   pub follows : (past : List Stamped) → AreStepsTo given.config given.app past (opening given.config given.app) (with_admits (lines_at given.arrivals count) s)
       → AreStepsBehind given.config given.app past (with_admits (lines_at given.arrivals count) s) others after
   pub progresses : (before : ℕ) → before ≤ progress state s → passed_length given.view piece before ≤ progress next after

@@ -20,6 +20,7 @@ use Rattle.observe.specs.Observe.{stretch_event, outside_events, mark_at}
 use Rattle.osek_scheduler.specs.State.{System, opening}
 use Rattle.osek_scheduler.specs.Steps.{OsekStep}
 use Rattle.osek_scheduler.specs.Runs.{AreStepsTo, PassesOverArrivals}
+use Rattle.event_weights.specs.Events.{stretch_counts}
 use Rattle.sim_induction.specs.Short.{TouchesOnly}
 use Rattle.sim_induction.specs.Admits.{Setting, lines_at, with_admits, admit_event, arrivals_before_event}
 
@@ -37,8 +38,8 @@ served_event t served end =
     cond (t + 1 == word_at end.core.ram 0) (event.Call t served (slice_index end.core.registers 10)) (event.Left t served)
 
 -- A stretch that begins at a count which finds MIE 1: its first instruction, which leads to `next`, and the masked ones behind it,
--- which lead on to `end`. Its event is a step from the system with the arrivals of the count and the early ones, and the states at
--- its end are related with the late ones.
+-- which lead on to `end`. Its event is a step from the system with the arrivals of the count and the early ones, within its weight
+-- there, and the states at its end are related with the late ones.
 pub record StretchLaw (given : Setting) (R : State → System → Type 0) (count : ℕ) (state : State) (s : System)
     (next : State) (trace : Trace) (end : State) : Type 0 where
   pub finds : state.core.mie ≡ true
@@ -57,6 +58,7 @@ pub record StretchLaw (given : Setting) (R : State → System → Type 0) (count
   pub what_is : (last : Step) → last.regs ≡ end.core.registers → last.cur_after ≡ word_at end.core.ram 0
       → stretch_event given.view (seen_step_at given count state next) last ≡ what
   pub after : System
+  pub within : suc more ≤ stretch_counts given.config given.app (with_admits (early_arrivals trace) (with_admits (lines_at given.arrivals count) s)) what
   pub step_is : OsekStep given.config given.app what (with_admits (early_arrivals trace) (with_admits (lines_at given.arrivals count) s)) after
   pub passes : (past : List Stamped) → AreStepsTo given.config given.app past (opening given.config given.app) (with_admits (lines_at given.arrivals count) s)
       → PassesOverArrivals given.config given.app (past ++ map admit_event (arrivals_before_event (count + 1) trace))
@@ -86,6 +88,7 @@ pub record OutsideLaw (given : Setting) (R : State → System → Type 0) (progr
 pub record BootLaw (given : Setting) (R : State → System → Type 0) (state : State) : Type 0 where
   pub more : ℕ
   pub few : suc more ≤ stretch_limit given.config Boots
+  pub within : suc more ≤ stretch_counts given.config given.app (opening given.config given.app) event.Boot
   pub trace : Trace
   pub end : State
   pub steps : Steps (suc more) 0 (lines_at given.arrivals) state trace end

@@ -6,7 +6,8 @@
 //! What it asks: of a stretch `StretchLaw`, of boot and of other instructions their laws (`specs/PieceLaws`); that each piece goes on to the next
 //! (`specs/Advances`, `specs/Related`). How short stretches and gaps are: `specs/Short`; that the controller mirrors the abstract scheduler:
 //! `specs/Mirror`; that the top task of a stretch's beginning stays so, but for those that arrive inside: `specs/Passing`; the trace of a stretch,
-//! told from what is seen of its steps: `specs/Observed`. Public laws: `top_task_stays`, `stretches_are_traced`.
+//! told from what is seen of its steps: `specs/Observed`; that no stretch takes more counts than its weight: `Weighed`
+//! (`specs/Weighed`), by the weights of `event_weights`. Public laws: `top_task_stays`, `stretches_are_traced`.
 #![tactic(auto)]
 
 pub mod laws;

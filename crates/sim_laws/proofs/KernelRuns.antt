@@ -22,6 +22,7 @@ use Rattle.observe.specs.Observe.{View, view_of_image}
 use Rattle.osek_scheduler.specs.State.{Frame, System, task, opening}
 use Rattle.osek_scheduler.specs.Runs.{AreStepsTo}
 use Rattle.sim_induction.specs.Sound.{Sound, events_of, stands_before}
+use Rattle.sim_induction.specs.Weighed.{Weighed}
 use Rattle.sim_induction.specs.Admits.{IsSetting, lines_at, with_admits, admit_event}
 use Rattle.sim_induction.specs.PieceLaws.{BootLaw}
 use Rattle.sim_induction.specs.Related.{IsSimulation}
@@ -29,7 +30,7 @@ use Rattle.sim_induction.proofs.Boot.{whole_run}
 use Rattle.sim_induction.proofs.Follow.{booted_admits, leads_admits}
 use Rattle.sim_induction.proofs.Invariants.{With, along_events, simulation_with, boot_with}
 use Rattle.sim_induction.proofs.Schedule.{owned_at}
-use Rattle.sim_induction.proofs.Simulated.{sound, is_setting}
+use Rattle.sim_induction.proofs.Simulated.{sound, weighed, is_setting}
 use Rattle.sim_relation.specs.Bounds.{AreBelow}
 use Rattle.sim_relation.specs.Build.{Build}
 use Rattle.sim_relation.specs.Stands.{Stands}
@@ -137,6 +138,11 @@ module _ (b : Build) (image : Image) (kernel : Kernel b image) where
   pub sound_kernel : Sound b.config b.app image
   sound_kernel =
       sound b.config b.app image R (progress_in b) kernel.fits.few_tasks kernel.tasks kernel.counters
+      (λ arrivals are. let setting = is_setting b.config b.app image arrivals kernel.fits.few_tasks kernel.tasks kernel.counters are in (simulation arrivals setting, booting arrivals setting))
+
+  pub weighed_kernel : Weighed b.config b.app image
+  weighed_kernel =
+      weighed b.config b.app image R (progress_in b) kernel.fits.few_tasks kernel.tasks kernel.counters
       (λ arrivals are. let setting = is_setting b.config b.app image arrivals kernel.fits.few_tasks kernel.tasks kernel.counters are in (simulation arrivals setting, booting arrivals setting))
 
   -- at each count that finds MIE 1 the relation stands

@@ -15,6 +15,7 @@ use Rattle.expansion_parts.specs.Expansion.{item_address, expansion}
 use Rattle.service_blocks.specs.Calls.{IsAnyServiceBlock}
 use Rattle.observe.specs.Observe.{View, view_of_image}
 use Rattle.sim_induction.specs.Sound.{Sound}
+use Rattle.sim_induction.specs.Weighed.{Weighed}
 use Rattle.sim_relation.specs.Bounds.{AreBelow}
 use Rattle.sim_relation.specs.Build.{Build, HasFittingPlaces}
 use Rattle.sim_relation.specs.Stands.{AreStacksApart}
@@ -91,3 +92,7 @@ pub record Kernel (b : Build) (image : Image) : Type 0 where
 -- Every run of such an image, whatever lines arrive, is one of the abstract scheduler.
 abbrev pub KernelIsSound : Type 0
 KernelIsSound = (b : Build) (image : Image) → Kernel b image → Sound b.config b.app image
+
+-- None has a stretch that takes more counts than its weight.
+abbrev pub KernelIsWeighed : Type 0
+KernelIsWeighed = (b : Build) (image : Image) → Kernel b image → Weighed b.config b.app image

@@ -1,5 +1,5 @@
 -- The stretches of services that go back to their callers, whatever lines arrive.
-use Rattle.std.proofs.Common.{◌≡◌, ℕ, suc, ◌<◌, ◌≤◌, List, ◌∷◌, length, sym, ap, ◌∙◌, subst, arith}
+use Rattle.std.proofs.Common.{◌≡◌, ℕ, suc, ◌<◌, ◌≤◌, List, ◌∷◌, length, refl, sym, ap, ◌∙◌, subst, arith}
 use Rattle.std.proofs.lemmas.Bool.{ltb-true}
 use Rattle.sloth_base.specs.declared.app.Call.{Call}
 use Rattle.sloth_base.specs.declared.app.Op.TheVariants as op
@@ -15,6 +15,7 @@ use Rattle.rv32_machine.specs.Run.{state_with_arrivals}
 use Rattle.masked_code.specs.Kernel.{masking}
 use Rattle.masked_code.specs.Masked.{FromOpening}
 use Rattle.masked_code.specs.Place.{offset_state}
+use Rattle.event_weights.specs.Events.{stretch_counts}
 use Rattle.observe.specs.Observe.{View}
 use Rattle.service_gen.specs.ActivateTask.{IsActivateTaskCode, ActivateTaskEffect}
 use Rattle.service_gen.specs.ChainTask.{IsChainTaskCode, ChainTaskEffect}
@@ -24,6 +25,7 @@ use Rattle.service_gen.specs.GetTaskState.{GetTaskStateEffect, IsGetTaskStateCod
 use Rattle.service_gen.specs.ReleaseResource.{IsReleaseResourceCode, ReleaseResourceEffect}
 use Rattle.osek_scheduler.specs.State.{Frame, Task, System, task}
 use Rattle.sim_induction.specs.Admits.{IsSetting, lines_at, with_admits}
+use Rattle.sim_induction.specs.PieceLaws.{served_event}
 use Rattle.sim_relation.specs.Build.{Build, HasFittingPlaces}
 use Rattle.sim_relation.specs.Placed.{setting_of}
 use Rattle.sim_relation.specs.Stands.{Stands}
@@ -41,6 +43,7 @@ use Rattle.sim_services.proofs.Raising.{active_bit, enabled_bit}
 use Rattle.sim_services.proofs.ServiceStretch.{k, can_serve, service_stretches}
 use Rattle.sim_services.proofs.StateTold.{tells_state}
 use Rattle.sim_services.proofs.Told.{tells}
+use Rattle.sim_services.proofs.Weighing.{call_within, either_within}
 use Rattle.sim_services.proofs.Touching.{touches_none, touches_one, chain_touches, state_touches}
 
 -- the same frame and call, where a task is said to stand at a service's opening twice
@@ -77,17 +80,21 @@ module _ (b : Build) (view : View) (arrivals : List Arrival) (count : ℕ) (stat
         names = o.names;
       }
 
-  -- the code runs as its contract says, and its effect is an answer
+  -- the code runs as its contract says, its effect is an answer, and it takes no more than its weight
   pub going_on_stretches : (most : ℕ) → suc most ≤ stretch_limit b.config Masks → (Effect : ℕ → List ℕ → State → State → Type 0) → ((place : ℕ) → TouchesTasks b (Effect place))
       → ((place : ℕ) → CanServe o.opens.block.offset o.opens.block.code t place n.core → FromOpening most (offset_state o.opens.block.offset n.core) (Effect place))
       → ((place : ℕ) (lines touched : List ℕ) (s2 : System) (end : State) → CanServe o.opens.block.offset o.opens.block.code t place n.core
       → MayGoOn b (state_arrive lines n) s2 t own served object → Effect place touched (state_arrive lines n) end → IsServiceAnswer b s2 t served touched end)
+      → ((place : ℕ) (lines touched : List ℕ) (s2 : System) (end : State) → CanServe o.opens.block.offset o.opens.block.code t place n.core
+      → MayGoOn b (state_arrive lines n) s2 t own served object → Effect place touched (state_arrive lines n) end → IsServiceAnswer b s2 t served touched end
+      → suc most ≤ stretch_counts b.config b.app s2 (served_event t served end))
       → HasStretch b view arrivals count state s
-  going_on_stretches most short Effect tasks_alone runs law =
+  going_on_stretches most short Effect tasks_alone runs law weighs =
       let found = can_serve b view arrivals count state s t served Contract fits setting after_boot stands o.opens masks in
       service_stretches b view arrivals count state s t served Contract fits setting after_boot stands o.opens masks
       most short (Effect found.0) (tasks_alone found.0) (runs found.0 found.1)
       (λ lines touched s2 end is effect. law found.0 lines touched s2 end found.1 (may_go_on lines s2 is) effect)
+      (λ lines touched s2 end is effect answer. weighs found.0 lines touched s2 end found.1 (may_go_on lines s2 is) effect answer)
 
 module _ (b : Build) (view : View) (arrivals : List Arrival) (count : ℕ) (state : State) (s : System) (t : ℕ) (fits : HasFittingPlaces b)
     (setting : IsSetting (setting_of b view arrivals)) (after_boot : 0 < count) (stands : Stands b state s) where
@@ -107,6 +114,7 @@ module _ (b : Build) (view : View) (arrivals : List Arrival) (count : ℕ) (stat
       (record { goes_back = can.goes_back; runs = can.current; is_task = can.is_task }))
       (λ place lines touched s2 end can may effect.
       tells b (state_arrive lines start) s2 t (task found t) o.opens.opening.block.call.object touched end fits may effect)
+      (λ place lines touched s2 end can may effect answer. call_within b t service.GetTaskID 5 s2 touched end (omega arith) (λ object mask. refl) answer)
 
   -- GetTaskState
   pub states_stretches : OpensGoingOn b view start found t service.GetTaskState IsGetTaskStateCode → HasStretch b view arrivals count state s
@@ -127,6 +135,7 @@ module _ (b : Build) (view : View) (arrivals : List Arrival) (count : ℕ) (stat
         enabled_bit = enabled_bit b start found there object declared;
       }))
       (λ place lines touched s2 end can may effect. tells_state b (state_arrive lines start) s2 t (task found t) object touched end fits may effect)
+      (λ place lines touched s2 end can may effect answer. call_within b t service.GetTaskState 10 s2 touched end (omega arith) (λ object mask. refl) answer)
 
   -- ActivateTask
   pub activates_stretches : OpensGoingOn b view start found t service.ActivateTask IsActivateTaskCode → HasStretch b view arrivals count state s
@@ -145,6 +154,7 @@ module _ (b : Build) (view : View) (arrivals : List Arrival) (count : ℕ) (stat
         enabled_bit = enabled_bit b start found there object declared;
       }))
       (λ place lines touched s2 end can may effect. activates b (state_arrive lines start) s2 t (task found t) object touched end fits may effect)
+      (λ place lines touched s2 end can may effect answer. call_within b t service.ActivateTask 11 s2 touched end (omega arith) (λ object mask. refl) answer)
 
   -- ChainTask, which may end its caller too
   pub chain_stretches : OpensChainTask b view start found t → HasStretch b view arrivals count state s
@@ -169,6 +179,7 @@ module _ (b : Build) (view : View) (arrivals : List Arrival) (count : ℕ) (stat
       (λ place lines touched s2 end can may effect.
       chain_answers b (state_arrive lines start) s2 t (task found t) object place touched end fits
       (record { goes_on = may; holds_nothing = o.holds_nothing; below = can.below.is }) effect)
+      (λ place lines touched s2 end can may effect answer. either_within b t service.ChainTask 59 s2 touched end (omega arith) (omega arith))
 
   -- GetResource
   pub takes_stretches : (level : ℕ) → OpensGetResource b view start found t level → HasStretch b view arrivals count state s
@@ -180,6 +191,7 @@ module _ (b : Build) (view : View) (arrivals : List Arrival) (count : ℕ) (stat
       (λ place can. block.serves.runs block.offset start.core
       (record { goes_back = can.goes_back; is_resource = let l = o.may.is_resource in omega arith; level = can.level }))
       (λ place lines touched s2 end can may effect. takes b (state_arrive lines start) s2 t (task found t) object level touched end fits may o.may effect)
+      (λ place lines touched s2 end can may effect answer. call_within b t service.GetResource 8 s2 touched end (omega arith) (λ object mask. refl) answer)
 
   -- ReleaseResource
   pub releases_stretches : OpensGoingOn b view start found t service.ReleaseResource IsReleaseResourceCode → HasStretch b view arrivals count state s
@@ -198,3 +210,4 @@ module _ (b : Build) (view : View) (arrivals : List Arrival) (count : ℕ) (stat
         level = saved_few b start found there t here.declared object o.names fits.few_tasks;
       }))
       (λ place lines touched s2 end can may effect. releases b (state_arrive lines start) s2 t (task found t) object touched end fits may effect)
+      (λ place lines touched s2 end can may effect answer. call_within b t service.ReleaseResource 5 s2 touched end (omega arith) (λ object mask. refl) answer)

@@ -2,6 +2,7 @@ pub mod Answered
 pub mod EndRam
 pub mod GoesOn
 pub mod GoingOnStretch
+pub mod Weighing
 pub mod ServiceStretch
 pub mod Terminate
 pub mod TerminateStretch

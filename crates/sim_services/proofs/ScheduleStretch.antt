@@ -1,5 +1,5 @@
 -- The stretches of Schedule and of the way back from it, whatever lines arrive.
-use Rattle.std.proofs.Common.{◌≡◌, ℕ, ◌+◌, ◌*◌, ◌%◌, ◌<◌, ◌≤◌, List, [], ◌∷◌, ◌++◌, length, sym, ap, ◌∙◌, subst, arith, None, cond, suc}
+use Rattle.std.proofs.Common.{◌≡◌, ℕ, ◌+◌, ◌*◌, ◌%◌, ◌<◌, ◌≤◌, List, [], ◌∷◌, ◌++◌, length, refl, sym, ap, ◌∙◌, subst, arith, None, cond, suc}
 use Rattle.std.specs.Prelude.{IfSome, Contains}
 use Rattle.std.specs.List.{AllByRecursion}
 use Rattle.sloth_base.specs.declared.event.Arrival.{Arrival}
@@ -50,6 +50,7 @@ use Rattle.sim_services.proofs.GivingWay.{gives_way}
 use Rattle.sim_services.proofs.GoingOnStretch.{going_on_stretches}
 use Rattle.sim_services.proofs.ServiceStretch.{k}
 use Rattle.sim_services.proofs.Touching.{touches_none}
+use Rattle.sim_services.proofs.Weighing.{call_within}
 
 -- Schedule, up to the count before the way back
 pub yields_stretches : (b : Build) (view : View) (arrivals : List Arrival) (count : ℕ) (state : State) (s : System) (t : ℕ)
@@ -74,6 +75,7 @@ yields_stretches b view arrivals count state s t fits setting after_boot stands 
       line = let l = there.lines.levels t here.declared in let f = fits.few_tasks in let m = level_of-few b.config (declaration b.config t).priority in omega arith;
     }))
     (λ place lines touched s2 end can may effect. gives_way b (state_arrive lines n) s2 t (task s1 t) object block.offset touched end fits may o.may effect)
+    (λ place lines touched s2 end can may effect answer. call_within b t service.Schedule 8 s2 touched end (omega arith) (λ object mask. refl) answer)
 
 module _ (b : Build) (view : View) (arrivals : List Arrival) (count : ℕ) (state : State) (s : System) (t : ℕ)
     (fits : HasFittingPlaces b) (setting : IsSetting (setting_of b view arrivals)) (after_boot : 0 < count) (stands : Stands b state s)
@@ -197,6 +199,7 @@ module _ (b : Build) (view : View) (arrivals : List Arrival) (count : ℕ) (stat
             ∙ ap (λ v. event.Back (running_task view.owners.tasks v)) opens.current
             ∙ ap (λ (v : ℕ). event.Back v) (task_is view.owners.tasks t (let v = ap (λ (o : Owners). o.tasks) setting.owners in let h = here.declared in omega arith));
         after = answer.after;
+        within = let l = e.few in omega (arith, l);
         step_is = subst (λ lines. OsekStep b.config b.app (event.Back t) (with_admits lines s1) answer.after) (sym no_early) answer.step_is;
         passes = λ past h. tt;
         related = subst (λ (x : State). Stands b x (with_admits (late_arrivals e.trace) answer.after)) (sym e.late_behind)

@@ -1,4 +1,4 @@
--- From its opening mark on, a service is a stretch of a run, whatever lines arrive: its contract and its own law are all that is asked.
+-- From its opening mark on, a service is a stretch of a run, whatever lines arrive: its contract, its own law and its weight are all that is asked.
 use Rattle.std.proofs.Common.{◌≡◌, ℕ, suc, ◌+◌, ◌*◌, ◌%◌, ◌<◌, ◌≤◌, List, [], ◌∷◌, length, sym, ap, ◌∙◌, subst, arith, None, cond}
 use Rattle.std.specs.Prelude.{slice_index}
 use Rattle.sloth_base.specs.declared.event.Arrival.{Arrival}
@@ -20,6 +20,7 @@ use Rattle.masked_code.specs.Place.{offset_state, InPlace}
 use Rattle.masked_code.specs.Trace.{touched_lines, early_arrivals, late_arrivals}
 use Rattle.masked_code.proofs.Machine.{touched_at}
 use Rattle.expansion_parts.specs.Expansion.{block_address, item_address, expansion}
+use Rattle.event_weights.specs.Events.{stretch_counts}
 use Rattle.observe.specs.Observe.{View, mark_at}
 use Rattle.osek_scheduler.specs.State.{System, task}
 use Rattle.osek_scheduler.specs.Priority.{IsTop}
@@ -45,7 +46,7 @@ use Rattle.sim_relation.proofs.Tops.{falling_head}
 use Rattle.sim_services.specs.Opening.{AtOpening, OpensService}
 use Rattle.sim_services.proofs.Servable.{CanServe}
 use Rattle.sim_services.specs.Served.{IsServed, IsServiceAnswer}
-use Rattle.sim_services.proofs.ServiceLaws.{ServiceLaw, TouchesTasks}
+use Rattle.sim_services.proofs.ServiceLaws.{ServiceLaw, ServiceWeight, TouchesTasks}
 use Rattle.sim_services.specs.Stretch.{HasStretch}
 
 module _ (b : Build) (view : View) (arrivals : List Arrival) (count : ℕ) (state : State) (s : System) (t : ℕ) (served : Service) (Contract : ℕ → List InstrKind → Type 0)
@@ -149,7 +150,7 @@ module _ (b : Build) (view : View) (arrivals : List Arrival) (count : ℕ) (stat
         )
 
     module _ (most : ℕ) (short : suc most ≤ stretch_limit b.config Masks) (Effect : List ℕ → State → State → Type 0) (tasks_alone : TouchesTasks b Effect)
-        (law : ServiceLaw b n t (task s1 t) served Effect) (e : Masking arrivals most count state Effect) where
+        (law : ServiceLaw b n t (task s1 t) served Effect) (weighs : ServiceWeight b n t (task s1 t) served most Effect) (e : Masking arrivals most count state Effect) where
       in_range : AreOwned (owners_in b.config) (early_arrivals e.trace) × AreOwned (owners_in b.config) (late_arrivals e.trace)
       in_range = lines_trace (IsOwned (owners_in b.config)) e.more (count + 1) (lines_at arrivals) e.next e.trace e.end all_owned e.steps
 
@@ -180,6 +181,12 @@ module _ (b : Build) (view : View) (arrivals : List Arrival) (count : ℕ) (stat
       a : IsServiceAnswer b s2 t served (touched_lines e.trace) e.last
       a = law (early_arrivals e.trace) (touched_lines e.trace) s2 e.last is_served e.effect
 
+      within : suc e.more ≤ stretch_counts b.config b.app s2 (served_event t served e.last)
+      within =
+          let few = e.few in
+          let weight = weighs (early_arrivals e.trace) (touched_lines e.trace) s2 e.last is_served e.effect a in
+          omega (arith, few, weight)
+
       stretch : StretchLaw (setting_of b view arrivals) (Stands b) count state s e.next e.trace e.end
       stretch =
           service_law (setting_of b view arrivals) (Stands b) count state s t served most Effect e
@@ -205,6 +212,7 @@ module _ (b : Build) (view : View) (arrivals : List Arrival) (count : ℕ) (stat
             few_tasks = fits.few_tasks;
             tasks_alone = early_tasks;
             after = a.after;
+            within = subst (λ (x : State). suc e.more ≤ stretch_counts b.config b.app s2 (served_event t served x)) (sym e.late_behind) within;
             step_is = subst (λ (x : State). OsekStep b.config b.app (served_event t served x) s2 a.after) (sym e.late_behind) a.step_is;
             related = stands_arrived b (late_arrivals e.trace) e.last a.after fits.few_tasks in_range.1 a.stands;
           })
@@ -213,10 +221,10 @@ module _ (b : Build) (view : View) (arrivals : List Arrival) (count : ℕ) (stat
   pub can_serve : (place : ℕ) × CanServe offset code t place n.core
   can_serve = let f = first_by_word b n s1 t k.stack k.running op.current in serves_from f.0 f.1
 
-  -- where the block has its effect from there on, and the service its law, it is a stretch
+  -- where the block has its effect from there on, and the service its law and its weight, it is a stretch
   pub service_stretches : (most : ℕ) → suc most ≤ stretch_limit b.config Masks → (Effect : List ℕ → State → State → Type 0) → TouchesTasks b Effect → FromOpening most (offset_state offset n.core) Effect
-      → ServiceLaw b n t (task s1 t) served Effect → HasStretch b view arrivals count state s
-  service_stretches most short Effect tasks_alone runs law =
+      → ServiceLaw b n t (task s1 t) served Effect → ServiceWeight b n t (task s1 t) served most Effect → HasStretch b view arrivals count state s
+  service_stretches most short Effect tasks_alone runs law weighs =
       let f = first_by_word b n s1 t k.stack k.running op.current in
       let e = masking arrivals most count state Effect none (subst (λ m. FromOpening most m Effect) (sym n_is) runs) in
-      (e.next, e.trace, e.end, stretch f.0 f.1 most short Effect tasks_alone law e)
+      (e.next, e.trace, e.end, stretch f.0 f.1 most short Effect tasks_alone law weighs e)

@@ -23,6 +23,7 @@ use Rattle.sim_services.specs.Stretch.{OpensGoingOn, HasStretch}
 use Rattle.sim_services.proofs.GoingOnStretch.{going_on_stretches, same_call}
 use Rattle.sim_services.proofs.Raising.{active_bit, enabled_bit}
 use Rattle.sim_services.proofs.ServiceStretch.{k}
+use Rattle.sim_services.proofs.Weighing.{call_within}
 use Rattle.sim_services.specs.EventStretch.{OpensWithMask}
 use Rattle.sim_services.proofs.Cleared.{clears}
 use Rattle.sim_services.proofs.Setting.{sets_events}
@@ -53,6 +54,7 @@ module _ (b : Build) (view : View) (arrivals : List Arrival) (count : ℕ) (stat
         enabled_bit = enabled_bit b start found there object declared;
       }))
       (λ place lines touched s2 end can may effect. tells_events b (state_arrive lines start) s2 t (task found t) object touched end fits may effect)
+      (λ place lines touched s2 end can may effect answer. call_within b t service.GetEvent 11 s2 touched end (omega arith) (λ object mask. refl) answer)
 
   -- ClearEvent
   pub clears_stretches : OpensWithMask b view start found t service.ClearEvent (λ object. IsClearEventCode) → HasStretch b view arrivals count state s
@@ -71,6 +73,7 @@ module _ (b : Build) (view : View) (arrivals : List Arrival) (count : ℕ) (stat
       }))
       (λ place lines touched s2 end can may effect.
       clears b (state_arrive lines start) s2 t (task found t) opening.block.call.object touched end fits may effect)
+      (λ place lines touched s2 end can may effect answer. call_within b t service.ClearEvent 12 s2 touched end (omega arith) (λ object mask. refl) answer)
 
   -- SetEvent
   pub sets_stretches : OpensWithMask b view start found t service.SetEvent IsSetEventCode → HasStretch b view arrivals count state s
@@ -97,3 +100,4 @@ module _ (b : Build) (view : View) (arrivals : List Arrival) (count : ℕ) (stat
         is_word = o.is_word;
       })
       effect)
+      (λ place lines touched s2 end can may effect answer. call_within b t service.SetEvent 19 s2 touched end (omega arith) (λ object mask. refl) answer)

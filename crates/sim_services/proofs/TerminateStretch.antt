@@ -1,5 +1,5 @@
 -- The stretch of TerminateTask, whatever lines arrive.
-use Rattle.std.proofs.Common.{ℕ, ◌<◌, List, arith}
+use Rattle.std.proofs.Common.{ℕ, ◌<◌, List, refl, arith}
 use Rattle.sloth_base.specs.declared.event.Arrival.{Arrival}
 use Rattle.sloth_base.specs.declared.service.Service.TheVariants as service
 use Rattle.sloth_base.specs.Arrive.{state_arrive}
@@ -17,6 +17,7 @@ use Rattle.sim_services.proofs.ServiceStretch.{k, can_serve, service_stretches}
 use Rattle.sim_services.proofs.Touching.{touches_one}
 use Rattle.sim_relation.proofs.Placed.{active_by_word}
 use Rattle.sim_services.proofs.Terminate.{terminate_ends}
+use Rattle.sim_services.proofs.Weighing.{left_within}
 
 pub terminate_stretches : (b : Build) (view : View) (arrivals : List Arrival) (count : ℕ) (state : State) (s : System) (t : ℕ)
     → HasFittingPlaces b → IsSetting (setting_of b view arrivals) → 0 < count → Stands b state s
@@ -36,3 +37,4 @@ terminate_stretches b view arrivals count state s t fits setting after_boot stan
     (λ lines touched s2 end is effect.
     terminate_ends b (state_arrive lines n) s2 t own found.0 touched end fits
     (record { is_served = is; holds_nothing = o.holds_nothing; below = can.below.is }) effect)
+    (λ lines touched s2 end is effect answer. left_within b t service.TerminateTask 48 s2 touched end (omega arith) (λ object mask. refl) answer)

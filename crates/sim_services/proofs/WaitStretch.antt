@@ -1,5 +1,5 @@
 -- The stretch of WaitEvent, whatever lines arrive.
-use Rattle.std.proofs.Common.{◌≡◌, ℕ, ◌+◌, ◌-◌, ◌*◌, ◌<◌, ◌≤◌, List, [], ◌∷◌, length, sym, subst, arith, ⊎_elim, inl, inr}
+use Rattle.std.proofs.Common.{◌≡◌, ◌≢◌, ℕ, zero, suc, ◌+◌, ◌-◌, ◌*◌, ◌<◌, ◌≤◌, List, [], ◌∷◌, length, refl, sym, subst, arith, ⊎_elim, inl, inr}
 use Rattle.std.specs.Prelude.{◌⊎◌, slice_index}
 use Rattle.sloth_base.specs.declared.event.Arrival.{Arrival}
 use Rattle.sloth_base.specs.declared.service.Service.TheVariants as service
@@ -11,7 +11,7 @@ use Rattle.sloth_region.specs.Layout.{context_bytes}
 use Rattle.rv32_instr.specs.declared.InstrKind.{InstrKind}
 use Rattle.rv32_machine.specs.Run.{state_with_arrivals}
 use Rattle.observe.specs.Observe.{View}
-use Rattle.event_gen.specs.WaitEvent.{IsWaitEventCode, WaitEventEffect, MayWait}
+use Rattle.event_gen.specs.WaitEvent.{IsWaitEventCode, HasNotWaited, HasWaited, WaitEventEffect, MayWait, set_of, wait_length}
 use Rattle.osek_scheduler.specs.State.{System, task}
 use Rattle.sim_induction.specs.Admits.{IsSetting, lines_at, with_admits}
 use Rattle.sim_relation.specs.Build.{Build, HasFittingPlaces}
@@ -27,8 +27,11 @@ use Rattle.sim_services.proofs.Servable.{CanServe}
 use Rattle.sim_services.specs.Stretch.{HasStretch}
 use Rattle.sim_services.proofs.GoingOnStretch.{going_on_stretches}
 use Rattle.sim_services.proofs.ServiceStretch.{k}
+use Rattle.sim_services.specs.EventServiceSteps.{MayWaitAt}
 use Rattle.sim_services.specs.EventStretch.{OpensWaitEvent}
-use Rattle.sim_services.proofs.Waiting.{wait_answers}
+use Rattle.sim_services.specs.ServiceSteps.{MayGoOn}
+use Rattle.sim_services.proofs.Waiting.{gone, wait_answers}
+use Rattle.sim_services.proofs.Weighing.{either_within, gone_within}
 
 -- where a chain begins, apart from what lies in the part of a task that is not in it
 chain_apart : (b : Build) (ram : List ℕ) (s : System) (t : ℕ) (below : List ℕ) (place own : ℕ) → HasFittingPlaces b → StacksApart b s → AreFalling b s (t ∷ below)
@@ -42,6 +45,15 @@ chain_apart b ram s t (u ∷ below) place own fits apart f l h c =
     let top = context_below b ram u (task s u) (thread_at ram place) (place + context_bytes) c.0.context in
     ⊎_elim (λ (z : b.top t ≤ b.low u). inl (omega arith)) (λ (z : b.top u ≤ b.low t). inr (omega arith))
     (apart t u here.declared there.declared (λ e. below_other b s t (u ∷ below) f u (is_in-head u below) (sym e)) (inl here.active) (inl there.active))
+
+-- where one of the events is set, and at most
+going_few : (some : ℕ) → some ≢ 0 → wait_length some ≤ 12
+going_few zero h = absurd (h refl)
+going_few (suc some) h = omega arith
+
+wait_few : (some : ℕ) → wait_length some ≤ 85
+wait_few zero = omega arith
+wait_few (suc some) = omega arith
 
 -- the offset of the context that is kept directly below x2
 abbrev kept_at : State → ℕ
@@ -97,16 +109,28 @@ wait_stretches b view arrivals count state s t fits setting after_boot stands o 
     let some : 0 < length block.code = subst (λ (c : List InstrKind). 0 < length c) (sym block.serves.masks.1) (omega arith) in
     let found : (place : ℕ) → CanServe block.offset block.code t place n.core → MayWait block.offset t place (kept_at n) block.code n.core =
     λ place can. may_wait b n s1 t block.offset place block.code fits there some block.placed can in
-    going_on_stretches b view arrivals count state s t service.WaitEvent (λ object. IsWaitEventCode) fits setting after_boot stands o.goes_on block.serves.masks
-    85 (omega arith) (λ place. WaitEventEffect t place (kept_at n)) (λ place touched from to e. touches_none b touched e.touches)
-    (λ place can. block.serves.runs block.offset t place (kept_at n) n.core (found place can))
-    (λ place lines touched s2 end can may effect.
-    wait_answers b (state_arrive lines n) s2 t (task s1 t) opens.opening.block.call.object place (kept_at n) touched end fits
-    (record {
+    let object = opens.opening.block.call.object in
+    let may_at : (place : ℕ) (lines : List ℕ) (s2 : System) → CanServe block.offset block.code t place n.core → MayGoOn b (state_arrive lines n) s2 t (task s1 t) service.WaitEvent object
+    → MayWaitAt b (state_arrive lines n) s2 t (task s1 t) object place (kept_at n) =
+    λ place lines s2 can may. record {
       goes_on = may;
       holds_nothing = o.holds_nothing;
       below = can.below.is;
       x2 = (found place can).x2;
       words = o.words;
-    })
-    effect)
+    } in
+    going_on_stretches b view arrivals count state s t service.WaitEvent (λ object. IsWaitEventCode) fits setting after_boot stands o.goes_on block.serves.masks
+    (wait_length (set_of t n.core)) (let few = wait_few (set_of t n.core) in omega (arith, few)) (λ place. WaitEventEffect t place (kept_at n)) (λ place touched from to e. touches_none b touched e.touches)
+    (λ place can. block.serves.runs block.offset t place (kept_at n) n.core (found place can))
+    (λ place lines touched s2 end can may effect.
+    wait_answers b (state_arrive lines n) s2 t (task s1 t) object place (kept_at n) touched end fits (may_at place lines s2 can may) effect)
+    (λ place lines touched s2 end can may effect answer.
+    let most = wait_length (set_of t n.core) in
+    ⊎_elim
+    (λ (h : HasNotWaited t (state_arrive lines n) end).
+    let few = going_few (set_of t n.core) h.one_set in either_within b t service.WaitEvent most s2 touched end (omega (arith, few)) (omega (arith, few)))
+    (λ (h : HasWaited t place (kept_at n) (state_arrive lines n) end).
+    let few = wait_few (set_of t n.core) in
+    gone_within b t service.WaitEvent most s2 touched end
+    (gone b (state_arrive lines n) s2 t (task s1 t) object place (kept_at n) touched end fits (may_at place lines s2 can may) effect h) (omega (arith, few)))
+    effect.done)

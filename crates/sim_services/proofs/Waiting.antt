@@ -220,7 +220,7 @@ module _ (b : Build) (state : State) (s : System) (t : ℕ) (own : Task) (object
     inside = let v = k.tidy.tasks in let d = here.declared in omega arith
 
     -- the task does not run any more
-    gone : word_at end.core.ram cur ≡ t + 1 → ⊥
+    pub gone : word_at end.core.ram cur ≡ t + 1 → ⊥
     gone now =
         let a = (active_by_word b end (settled_state waiting) t stands_waiting now).active in
         let c : (task (settled_state waiting) t).state ≡ mode.Waiting mask = ap (λ (o : Task). o.state) (this_task s t after inside) in

@@ -1,5 +1,5 @@
 -- The stretches of the services on alarms, whatever lines arrive.
-use Rattle.std.proofs.Common.{ℕ, ◌<◌, List, length, arith}
+use Rattle.std.proofs.Common.{ℕ, ◌<◌, List, length, refl, arith}
 use Rattle.std.proofs.lemmas.Bool.{ltb-true}
 use Rattle.sloth_base.specs.Arrive.{state_arrive}
 use Rattle.sloth_base.specs.Machine.{State}
@@ -22,6 +22,7 @@ use Rattle.sim_services.specs.Stretch.{HasStretch}
 use Rattle.sim_services.proofs.GoingOnStretch.{going_on_stretches}
 use Rattle.sim_services.proofs.ServiceStretch.{k}
 use Rattle.sim_services.proofs.Touching.{touches_none}
+use Rattle.sim_services.proofs.Weighing.{call_within}
 use Rattle.sim_ticks.specs.AlarmSteps.{OpensAlarm}
 use Rattle.sim_ticks.proofs.AlarmServing.{cancels, tells_left, sets_relative, sets_absolute}
 
@@ -43,11 +44,12 @@ module _ (b : Build) (view : View) (arrivals : List Arrival) (count : ℕ) (stat
       let a = o.goes_on.opens.opening.block.call.object in
       let there = ltb-true a (length b.config.alarms) o.goes_on.names in
       going_on_stretches b view arrivals count state s t service.SetRelAlarm (IsAlarmServiceBlock b.config service.SetRelAlarm) fits setting after_boot stands o.goes_on
-      block.serves.masks 22 (omega arith) (λ place. SetAlarmEffect a (TicksFit (counter_of b.config a).max (counter_of b.config a).min_cycle) first_operand)
+      block.serves.masks 16 (omega arith) (λ place. SetAlarmEffect a (TicksFit (counter_of b.config a).max (counter_of b.config a).min_cycle) first_operand)
       (λ place touched from to e. touches_none b touched e.touches)
       (λ place can. block.serves.runs block.offset start.core (record { goes_back = can.goes_back; is_alarm = few a there }))
       (λ place lines touched s2 end can may effect.
       sets_relative b (state_arrive lines start) s2 t (task found t) a touched end fits (record { range = o.range; goes_on = may; words = o.words }) effect)
+      (λ place lines touched s2 end can may effect answer. call_within b t service.SetRelAlarm 16 s2 touched end (omega arith) (λ object mask. refl) answer)
 
   -- SetAbsAlarm
   pub absolute_stretches : OpensAlarm b view start found t service.SetAbsAlarm → HasStretch b view arrivals count state s
@@ -59,7 +61,7 @@ module _ (b : Build) (view : View) (arrivals : List Arrival) (count : ℕ) (stat
       let on : c < length b.config.counters = (o.range.alarms a undeclared_alarm there).counter in
       let found_there = k b view arrivals count state s t service.SetAbsAlarm (IsAlarmServiceBlock b.config service.SetAbsAlarm) fits setting after_boot stands o.goes_on.opens block.serves.masks in
       going_on_stretches b view arrivals count state s t service.SetAbsAlarm (IsAlarmServiceBlock b.config service.SetAbsAlarm) fits setting after_boot stands o.goes_on
-      block.serves.masks 27 (omega arith)
+      block.serves.masks 21 (omega arith)
       (λ place. SetAlarmEffect a (AlarmValueFits (counter_of b.config a).max (counter_of b.config a).min_cycle) (ticks_until c (counter_of b.config a).max))
       (λ place touched from to e. touches_none b touched e.touches)
       (λ place can. block.serves.runs block.offset start.core (record {
@@ -70,6 +72,7 @@ module _ (b : Build) (view : View) (arrivals : List Arrival) (count : ℕ) (stat
       }))
       (λ place lines touched s2 end can may effect.
       sets_absolute b (state_arrive lines start) s2 t (task found t) a touched end fits (record { range = o.range; goes_on = may; words = o.words }) effect)
+      (λ place lines touched s2 end can may effect answer. call_within b t service.SetAbsAlarm 21 s2 touched end (omega arith) (λ object mask. refl) answer)
 
   -- CancelAlarm
   pub cancel_stretches : OpensAlarm b view start found t service.CancelAlarm → HasStretch b view arrivals count state s
@@ -83,6 +86,7 @@ module _ (b : Build) (view : View) (arrivals : List Arrival) (count : ℕ) (stat
       (λ place can. block.serves.runs block.offset start.core (record { goes_back = can.goes_back; is_alarm = few a there }))
       (λ place lines touched s2 end can may effect.
       cancels b (state_arrive lines start) s2 t (task found t) a touched end fits (record { range = o.range; goes_on = may; words = o.words }) effect)
+      (λ place lines touched s2 end can may effect answer. call_within b t service.CancelAlarm 7 s2 touched end (omega arith) (λ object mask. refl) answer)
 
   -- GetAlarm
   pub told_stretches : OpensAlarm b view start found t service.GetAlarm → HasStretch b view arrivals count state s
@@ -96,3 +100,4 @@ module _ (b : Build) (view : View) (arrivals : List Arrival) (count : ℕ) (stat
       (λ place can. block.serves.runs block.offset start.core (record { goes_back = can.goes_back; is_alarm = few a there }))
       (λ place lines touched s2 end can may effect.
       tells_left b (state_arrive lines start) s2 t (task found t) a touched end fits (record { range = o.range; goes_on = may; words = o.words }) effect)
+      (λ place lines touched s2 end can may effect answer. call_within b t service.GetAlarm 7 s2 touched end (omega arith) (λ object mask. refl) answer)

@@ -29,6 +29,7 @@ use Rattle.masked_code.specs.Trace.{Trace, lines_of, touched_lines, early_arriva
 use Rattle.observe.specs.Observe.{View, stretch_event, later_event, entry_event}
 use Rattle.alarm_gen.specs.declared.alarms.NumberedAlarm.{NumberedAlarm}
 use Rattle.alarm_gen.specs.Alarms.{counter_alarms, targets}
+use Rattle.alarm_gen.proofs.Lengths.{tick_long, tick_few}
 use Rattle.alarm_gen.specs.Tick.{vector, ground, AreTaskBits, MayTick, TickEffect}
 use Rattle.osek_scheduler.specs.State.{Clock, System, no_counter}
 use Rattle.osek_scheduler.specs.Priority.{IsNextTick}
@@ -171,13 +172,13 @@ module _ (b : Build) (view : View) (arrivals : List Arrival) (setting : IsSettin
       ap (λ p. record { pc = p; core = core }) e ∙ sym (ap (λ o. entry_state o now) taken)
 
   abbrev most : ℕ
-  most = 11 + 34 * length alarms
+  most = length tick.code
 
   route : Entering arrivals most count state Effect
   route =
       entering arrivals most count state Effect (λ lines from last e. e.left.opened) (ap (λ o. (entry_state o now).core.mie) taken)
       (subst (λ x. Masked (suc most) x (WithArrivals Effect x)) at_vector
-      (subst (λ n. Masked n (offset_state (vector line) core) (WithArrivals Effect (offset_state (vector line) core))) (omega arith) (tick.is_tick.ticks tick.offset core may_tick)))
+      (tick.is_tick.ticks tick.offset core may_tick))
 
   -- ---- what arrives inside
 
@@ -268,8 +269,11 @@ module _ (b : Build) (view : View) (arrivals : List Arrival) (setting : IsSettin
         few =
             let f = route.few in
             let n = as_many in
+            let size = tick.is_tick.size in
+            let long = tick_long c max b.config.alarms in
+            let short = tick_few c max alarms in
             let limit = counter_entry_limit b.config c fits.few_tasks may.declared in
-            subst (λ o. suc route.more ≤ stretch_limit b.config (later_beginning o)) (sym taken) (omega (arith, f, n, limit));
+            subst (λ o. suc route.more ≤ stretch_limit b.config (later_beginning o)) (sym taken) (omega (arith, f, n, size, long, short, limit));
         steps = route.steps;
         ends = route.ends;
         lines = targets alarms;
@@ -283,6 +287,7 @@ module _ (b : Build) (view : View) (arrivals : List Arrival) (setting : IsSettin
         what = event.Tick c;
         what_is = λ last p q. event_is last;
         after = after;
+        within = let f = route.few in let size = tick.is_tick.size in omega (arith, f, size);
         step_is = (may_then.stands.tidy.booted, next_then, refl);
         passes = λ past h. tt;
         related = subst (λ x. Stands b x (with_admits (late_arrivals route.trace) after)) (sym route.late_behind)

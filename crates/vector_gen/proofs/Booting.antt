@@ -18,8 +18,7 @@ use Rattle.masked_code.proofs.Owes.{◌▸◌, writes, raises, sets_enabled, set
 use Rattle.masked_code.proofs.Parts.{hi_lo}
 use Rattle.masked_code.proofs.Spread.{spread, spread_is, spread_from, others}
 use Rattle.masked_code.proofs.Routines.{handles}
-use Rattle.code_lengths.specs.CodeLengths.{lines_length}
-use Rattle.code_lengths.proofs.Short.{short_lines}
+use Rattle.code_lengths.specs.CodeLengths.{lines_length, boot_length}
 use Rattle.block_parts.specs.Boot.{line_code}
 use Rattle.vector_gen.specs.Boot.{register_code, line_start_code, lines_code, counters_code, finishing_code, IsUnused, MayBoot, BootEffect, IsBootCode}
 
@@ -301,16 +300,15 @@ module _ (tasks : List TaskDecl) (counters : ℕ) (levels : List ℕ) (top idle 
       (λ o2 y1. end_owes from to o2 (get_or c.registers 2 0) y1))
 
   -- from the first instruction to the idle loop
-  pub runs_it : Masked 136 (offset_state offset c) (WithArrivals (BootEffect tasks counters levels top idle) (offset_state offset c))
+  pub runs_it : Masked (boot_length tasks counters) (offset_state offset c) (WithArrivals (BootEffect tasks counters levels top idle) (offset_state offset c))
   runs_it =
       let can = h.can_run in
       let to = offset + 4 * length (boot_code tasks counters levels top idle) in
       let long = length-starts tasks 0 levels in
-      let bound = short_lines tasks in
       let all = length-append (lines_code 0 tasks levels) (counters_code counters first_counter_line (top + 1) ++ finishing_code idle) in
       let more = length-append (counters_code counters first_counter_line (top + 1)) (finishing_code idle) in
       let lasts = length-counters counters first_counter_line (top + 1) in
-      handles offset 136 (boot_code tasks counters levels top idle) c (BootEffect tasks counters levels top idle) (offset_state offset c)
+      handles offset (boot_length tasks counters) (boot_code tasks counters levels top idle) c (BootEffect tasks counters levels top idle) (offset_state offset c)
       (record { masked = h.masked; there = can.controller; lines = can.lines; aligned = can.aligned; fits = can.inside; placed = can.placed })
       (omega arith)
       (subst (λ x. Owes offset to offset (boot_code tasks counters levels top idle) 0 (BootEffect tasks counters levels top idle) (offset_state offset x) x) (spread_is c can.registers can.zero) (owes offset to))

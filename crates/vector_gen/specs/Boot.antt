@@ -80,9 +80,9 @@ pub record BootEffect (tasks : List TaskDecl) (counters : ℕ) (levels : List �
   pub x2 : slice_index end.core.registers 2 ≡ memory_base + (idle_context + context_bytes)
   pub kept : (i : ℕ) → 5 ≤ i → slice_index end.core.registers i ≡ slice_index start.core.registers i
 
--- Code of boot: at most 136 instructions lead to its effect, whatever lines arrive.
+-- Code of boot: at most as many instructions as it has lead to its effect, whatever lines arrive.
 pub record IsBootCode (tasks : List TaskDecl) (counters : ℕ) (levels : List ℕ) (top idle : ℕ) (code : List InstrKind) : Type 0 where
   pub size : length code ≡ boot_length tasks counters
   pub runs :
       (offset : ℕ) (core : Core) → idle % 4 ≡ 0 → MayBoot offset code core
-      → Masked 136 (offset_state offset core) (WithArrivals (BootEffect tasks counters levels top idle) (offset_state offset core))
+      → Masked (boot_length tasks counters) (offset_state offset core) (WithArrivals (BootEffect tasks counters levels top idle) (offset_state offset core))
