@@ -1,3 +1,4 @@
+pub mod Unread
 pub mod Exact
 pub mod Judging
 pub mod Refused

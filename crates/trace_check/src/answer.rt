@@ -2,7 +2,7 @@
 ghost use Rattle.std.specs.Prelude.{◌<◌, IfOk, length};
 ghost use Rattle.trace_check.specs.TraceAnswers.{IsTraceAnswer};
 
-use crate::inputs::{Inputs, read_inputs};
+use crate::inputs::read_inputs;
 use crate::verdict::{Verdict, check};
 use sloth_base::memory::NoMemory;
 use sloth_base::refusal::{BuildError, Refusal};
@@ -32,15 +32,18 @@ pub fn judge_trace(
     requires trace { length trace.now < 4294967295 }
     ensures { IfOk result (λ a. IsTraceAnswer oil.now src.now arr.now trace.now n a) }
 {
-    let Inputs {
-        config,
-        app,
-        arrivals,
-    } = match read_inputs(alloc, oil, src, arr) {
+    let inputs = match read_inputs(alloc, oil, src, arr) {
         Ok(inputs) => inputs,
         Err(BuildError::Refused(refusal)) => return Ok(TraceAnswer::Refused(refusal)),
         Err(BuildError::Memory) => return Err(NoMemory),
     };
-    let verdict = check(alloc, &config, &app, arrivals.as_slice(), trace, n)?;
+    let verdict = check(
+        alloc,
+        &inputs.config,
+        &inputs.app,
+        inputs.arrivals.as_slice(),
+        trace,
+        n,
+    )?;
     Ok(TraceAnswer::Judged(verdict))
 }

@@ -26,10 +26,19 @@ use std::alloc::Global;
 use std::marker::Model;
 
 /// The scheduler, and for each task that is Ready since an admit that admit's moment, else 0.
-#[derive(Drop)]
 pub struct Walk {
     osek: Osek,
     moments: [u32; LINE_COUNT],
+}
+
+// Written out: what is derived is proved anew wherever a value is let go.
+impl Drop for Walk {
+    fn drop(self) {
+        let Walk {
+            osek: _,
+            moments: _,
+        } = self;
+    }
 }
 
 impl Model for Walk {
