@@ -1,40 +1,35 @@
 -- What is told of a task is so, from the summaries of the lower tasks' bodies.
-use Rattle.std.proofs.Common.{◌≡◌, ℕ, zero, suc, ◌+◌, ◌<◌, ◌≤◌, ◌⊎◌, inl, inr, Bool, true, false, ltb, leb, ◌&&◌, cond, min, max, List, [], ◌∷◌, length, get_or, map, Option, Some, None, refl, sym, ap, ◌∙◌, subst, arith, ⊎_elim}
+use Rattle.std.proofs.Common.{◌≡◌, ℕ, zero, suc, ◌+◌, ◌<◌, ◌≤◌, ◌⊎◌, inl, inr, Bool, true, false, ltb, ◌&&◌, cond, min, List, [], ◌∷◌, length, Option, Some, None, refl, sym, ap, ◌∙◌, subst, arith, ⊎_elim}
 use Rattle.std.specs.Prelude.{MatchBool}
-use Rattle.std.proofs.lemmas.Bool.{cases_eq, and_parts, true≢false, false≢true, ltb-true, ltb-false, lt-ltb, le-leb, lt-leb}
+use Rattle.std.proofs.lemmas.Bool.{cases_eq, and_parts, true≢false, false≢true, ltb-true, ltb-false, lt-ltb}
 use Rattle.sloth_base.specs.declared.config.Config.{Config}
 use Rattle.sloth_base.specs.declared.config.TaskDecl.{TaskDecl}
 use Rattle.sloth_base.specs.declared.app.App.{App}
 use Rattle.sloth_base.specs.declared.app.Func.{Func}
-use Rattle.sloth_base.specs.Named.{body_of, declaration}
+use Rattle.sloth_base.specs.Named.{body_of}
 use Rattle.sloth_base.specs.Limits.{size_limit, count_limit}
 use Rattle.code_rules.specs.WellFormed.{WellFormed}
-use Rattle.osek_scheduler.specs.Priority.{greatest, highest_priority}
 use Rattle.osek_valid.specs.Apart.{static_priority}
 use Rattle.osek_valid.proofs.Facts.{Facts, facts}
-use Rattle.osek_valid.proofs.Stacks.{has_body}
 use Rattle.call_graph.specs.Reached.{any_below}
 use Rattle.call_graph.specs.Tables.{max_below}
 use Rattle.stack_bounds.proofs.Below.{max_below-at, max_below-some, last_or_before}
 use Rattle.raised_sections.specs.Walks.{Position}
-use Rattle.raised_sections.specs.Sections.{size_of_section, IsLower, IsSectionFor, NoneIsLarger, IsGreatestSize, IsBound, lowest, above, HasNoBound, ExceedsBound, greatest_told_bound}
+use Rattle.raised_sections.specs.Sections.{size_of_section, IsLower, IsSection, IsSectionFor, NoneIsLarger, IsGreatestSize, IsBound, lowest, above, HasNoBound, ExceedsBound, greatest_told_bound}
 use Rattle.bound_rules.specs.declared.bound.Bound.{Bound}
 use Rattle.bound_rules.specs.declared.bound.Bound.TheVariants as bound
 use Rattle.bound_rules.specs.declared.sizes.Summary.{Summary}
-use Rattle.section_sizes.specs.Parts.{called_level, CountsWithin}
-use Rattle.bound_rules.specs.Summaries.{summary_of}
-use Rattle.section_sizes.specs.Known.{IsExact, IsEndless, IsSummary, AreSummaries}
+use Rattle.section_sizes.specs.Parts.{WeighsWithin}
+use Rattle.section_sizes.specs.Known.{IsExact, IsEndless, IsSummary, AreSums, AreSummaries}
 use Rattle.block_bounds.specs.Bounds.{IsTold, is_below, is_some_unlimited, greatest_section, greatest_sections}
 use Rattle.bound_rules.specs.Tasks.{task_summary, told}
 use Rattle.section_sizes.proofs.Counting.{any_is, none_is}
-use Rattle.section_sizes.proofs.Decomposed.{L, section_part}
+use Rattle.bound_rules.specs.declared.weights.BodyWeights.{BodyWeights}
+use Rattle.section_sizes.specs.Weights.{AreWeights, item_weights}
+use Rattle.section_sizes.proofs.ItemWeights.{items_fit, list_fits}
+use Rattle.section_sizes.proofs.Decomposed.{L, section_part, section_size}
 use Rattle.section_sizes.proofs.Built.{section_within}
-
--- one of the tasks is no higher than the highest
-at_most_highest : (tasks : List TaskDecl) (h : ℕ) (d : TaskDecl) → h < length tasks → (get_or tasks h d).priority ≤ greatest (map (λ d. d.priority) tasks)
-at_most_highest [] h d lt = absurd (omega (arith, lt))
-at_most_highest (t ∷ tasks) zero d lt = omega arith
-at_most_highest (t ∷ tasks) (suc h) d lt = let le = at_most_highest tasks h d (omega (arith, lt)) in omega (arith, le)
+use Rattle.section_sizes.proofs.TaskLevels.{lower_summary}
 
 module _ (config : Config) (app : App) (w : Facts config app) (h : ℕ) (there : h < length config.tasks) (whole own : List Summary)
     (whole_is : AreSummaries config app None whole) (own_is : AreSummaries config app (Some (static_priority config h)) own) where
@@ -47,35 +42,9 @@ module _ (config : Config) (app : App) (w : Facts config app) (h : ℕ) (there :
   abbrev Level : ℕ → Option ℕ
   Level t = L config app h t []
 
-  -- a lower task that holds nothing is raised exactly where it is not preemptable
-  level_is : (t : ℕ) → IsLower config h t → Level t ≡ cond (declaration config t).non None (Some P)
-  level_is t low = by (declaration config t).non refl
-    where
-      top : P ≤ highest_priority config
-      top = at_most_highest config.tasks h _ there
-
-      by : (b : Bool) → (declaration config t).non ≡ b
-          → called_level (leb P (max (static_priority config t) (max 0 (cond (declaration config t).non (highest_priority config) 0)))) (Some P) ≡ cond (declaration config t).non None (Some P)
-      by true e =
-          let Q : Bool → Type 0 = λ b. called_level (leb P (max (static_priority config t) (max 0 (cond b (highest_priority config) 0)))) (Some P) ≡ cond b None (Some P) in
-          let le = top in
-          subst Q (sym e) (ap (λ b. called_level b (Some P)) (le-leb P (max (static_priority config t) (max 0 (highest_priority config))) (omega (arith, le))))
-      by false e =
-          let Q : Bool → Type 0 = λ b. called_level (leb P (max (static_priority config t) (max 0 (cond b (highest_priority config) 0)))) (Some P) ≡ cond b None (Some P) in
-          let lt = low.1 in
-          subst Q (sym e) (ap (λ b. called_level b (Some P)) (lt-leb P (max (static_priority config t) (max 0 0)) (omega (arith, lt))))
-
   -- the summary of a lower task's body is right at its level
-  summary_is : (t : ℕ) → IsLower config h t → IsSummary config app (Level t) (body_of app.funcs t) (S t)
-  summary_is t low =
-      subst (λ l. IsSummary config app l (body_of app.funcs t) (S t)) (sym (level_is t low)) (by (declaration config t).non)
-    where
-      body : body_of app.funcs t < length app.funcs
-      body = (has_body config app w t low.0).0
-
-      by : (b : Bool) → IsSummary config app (cond b None (Some P)) (body_of app.funcs t) (cond b (summary_of whole (body_of app.funcs t)) (summary_of own (body_of app.funcs t)))
-      by true = whole_is.each (body_of app.funcs t) body
-      by false = own_is.each (body_of app.funcs t) body
+  summary_is : (t : ℕ) → IsLower config h t → IsSummary config app (item_weights app) (Level t) (body_of app.funcs t) (S t)
+  summary_is t low = lower_summary config app h there w (item_weights app) whole own whole_is own_is t low
 
   below_is : (t : ℕ) → t < length config.tasks → is_below config.tasks P t ≡ true → IsLower config h t
   below_is t lt e = (lt, ltb-true (static_priority config t) P e)
@@ -84,11 +53,18 @@ module _ (config : Config) (app : App) (w : Facts config app) (h : ℕ) (there :
   is_low t low = lt-ltb (static_priority config t) P low.1
 
   -- a part of a lower task's body is a section for h
-  section : (t n : ℕ) → IsLower config h t → CountsWithin config app (Level t) (body_of app.funcs t) n
+  section : (t n : ℕ) → IsLower config h t → WeighsWithin config app (item_weights app) (Level t) (body_of app.funcs t) n
       → (positions : List Position) × IsSectionFor config app h positions × (size_of_section app positions ≡ n)
   section t n low part =
-      let s = section_within config app h t n part in
-      (s.0, record { task = t; lower = low; is_section = s.1 }, s.2)
+      let s = section_within config app (item_weights app) (items_fit app) h t n part in
+      (s.0, record { task = t; lower = low; is_section = s.1 }, sym (section_size config app h t w low.0 s.0 s.1) ∙ s.2)
+
+  -- and a section that is not empty is a part
+  part_of : (t : ℕ) (at : Position) (further : List Position) → t < length config.tasks → IsSection config app h t (at ∷ further)
+      → WeighsWithin config app (item_weights app) (Level t) (body_of app.funcs t) (size_of_section app (at ∷ further))
+  part_of t at further declared is =
+      subst (WeighsWithin config app (item_weights app) (Level t) (body_of app.funcs t)) (section_size config app h t w declared (at ∷ further) is)
+      (section_part config app h t (item_weights app) w declared at further is)
 
   -- ---- no limit
 
@@ -97,7 +73,7 @@ module _ (config : Config) (app : App) (w : Facts config app) (h : ℕ) (there :
       let f = any_is (length config.tasks) (λ t. is_below config.tasks P t && (S t).is_endless) e in
       let both = and_parts (is_below config.tasks P f.0) (S f.0).is_endless f.2 in
       let low = below_is f.0 f.1 both.0 in
-      let Q : Bool → Type 0 = λ b. MatchBool b (IsEndless config app (Level f.0) (body_of app.funcs f.0)) (IsExact config app (Level f.0) (body_of app.funcs f.0) (S f.0)) in
+      let Q : Bool → Type 0 = λ b. MatchBool b (IsEndless config app (item_weights app) (Level f.0) (body_of app.funcs f.0)) (IsExact config app (item_weights app) (Level f.0) (body_of app.funcs f.0) (S f.0)) in
       let part = (subst Q both.1 (summary_is f.0 low)) (suc n) in
       let s = section f.0 part.0 low part.1 in
       let le = part.2 in
@@ -107,10 +83,10 @@ module _ (config : Config) (app : App) (w : Facts config app) (h : ℕ) (there :
   -- ---- a limit
 
   module _ (bounded : is_some_unlimited config.tasks app.funcs whole own P ≡ false) where
-    exact : (t : ℕ) → IsLower config h t → IsExact config app (Level t) (body_of app.funcs t) (S t)
+    exact : (t : ℕ) → IsLower config h t → IsExact config app (item_weights app) (Level t) (body_of app.funcs t) (S t)
     exact t low =
         let none = none_is (length config.tasks) (λ t. is_below config.tasks P t && (S t).is_endless) bounded t low.0 in
-        let Q : Bool → Type 0 = λ b. MatchBool b (IsEndless config app (Level t) (body_of app.funcs t)) (IsExact config app (Level t) (body_of app.funcs t) (S t)) in
+        let Q : Bool → Type 0 = λ b. MatchBool b (IsEndless config app (item_weights app) (Level t) (body_of app.funcs t)) (IsExact config app (item_weights app) (Level t) (body_of app.funcs t) (S t)) in
         subst Q (second (is_below config.tasks P t) (S t).is_endless (is_low t low) none) (summary_is t low)
       where
         second : (a b : Bool) → a ≡ true → (a && b) ≡ false → b ≡ false
@@ -123,7 +99,7 @@ module _ (config : Config) (app : App) (w : Facts config app) (h : ℕ) (there :
     none_above : (positions : List Position) → IsSectionFor config app h positions → min size_limit (size_of_section app positions) ≤ M
     none_above [] s = omega arith
     none_above (at ∷ further) s =
-        let le = (exact s.task s.lower).most.none_larger (size_of_section app (at ∷ further)) (section_part config app h s.task w s.lower.0 at further s.is_section) in
+        let le = (exact s.task s.lower).most.none_larger (size_of_section app (at ∷ further)) (part_of s.task at further s.lower.0 s.is_section) in
         let more = max_below-at (length config.tasks) (greatest_section config.tasks app.funcs whole own P) s.task s.lower.0 in
         let is = ap (λ b. cond b (S s.task).most 0) (is_low s.task s.lower) in
         omega (arith, le, more, is)
@@ -169,7 +145,7 @@ module _ (config : Config) (app : App) (w : Facts config app) (h : ℕ) (there :
 
     -- no part of the first n tasks, where they are lower, is larger
     abbrev AreLimited : (n most : ℕ) → Type 0
-    AreLimited n most = (t k : ℕ) → t < n → IsLower config h t → CountsWithin config app (Level t) (body_of app.funcs t) k → k ≤ most
+    AreLimited n most = (t k : ℕ) → t < n → IsLower config h t → WeighsWithin config app (item_weights app) (Level t) (body_of app.funcs t) k → k ≤ most
 
     limit_of : (n : ℕ) → n ≤ length config.tasks → (most : ℕ) × AreLimited n most
     limit_of zero le = (0, λ t k lt low part. absurd (omega (arith, lt)))
@@ -188,14 +164,14 @@ module _ (config : Config) (app : App) (w : Facts config app) (h : ℕ) (there :
             let own_limit = (exact n lower).limited in (
               l.0 + own_limit.limit,
               λ t k lt low part. ⊎_elim
-                  (λ same. let more = own_limit.most k (subst (λ v. CountsWithin config app (Level v) (body_of app.funcs v) k) same part) in omega (arith, more))
+                  (λ same. let more = own_limit.most k (subst (λ v. WeighsWithin config app (item_weights app) (Level v) (body_of app.funcs v) k) same part) in omega (arith, more))
                   (λ less. let more = l.1 t k less low part in omega (arith, more))
                   (last_or_before t n lt),
             )
 
     none_beyond : (most : ℕ) → AreLimited (length config.tasks) most → (positions : List Position) → IsSectionFor config app h positions → size_of_section app positions ≤ most
     none_beyond most f [] s = omega arith
-    none_beyond most f (p ∷ further) s = f s.task (size_of_section app (p ∷ further)) s.lower.0 s.lower (section_part config app h s.task w s.lower.0 p further s.is_section)
+    none_beyond most f (p ∷ further) s = f s.task (size_of_section app (p ∷ further)) s.lower.0 s.lower (part_of s.task p further s.lower.0 s.is_section)
 
     huge : count_limit ≤ M → ExceedsBound config app h greatest_told_bound
     huge le =
@@ -251,3 +227,12 @@ module _ (config : Config) (app : App) (well : WellFormed config app) (h : ℕ) 
       let low = some_lower config h (sym (ap (λ (p : ℕ). any_below (length config.tasks) (is_below config.tasks p)) is) ∙ some) in
       subst (IsTold config app h) (sym (e ∙ ap told same))
       (told_is config app (facts config app well) h there whole own whole_is own_here (endless_here ∙ bounded) low.0 low.1)
+
+-- ---- the weights that count items
+
+pub weights_fit : (app : App) (weights : List BodyWeights) → weights ≡ item_weights app → AreWeights app weights
+weights_fit app weights e = list_fits app weights e
+
+pub items_summed : (config : Config) (app : App) (weights : List BodyWeights) (level : Option ℕ) (table : List Summary) → weights ≡ item_weights app
+    → AreSums config app weights level table → AreSummaries config app level table
+items_summed config app weights level table e sums = subst (λ (l : List BodyWeights). AreSums config app l level table) e sums

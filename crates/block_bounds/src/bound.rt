@@ -6,7 +6,8 @@ ghost use Rattle.call_graph.specs.Ranks.{RanksOf};
 ghost use Rattle.call_graph.specs.Reached.{any_below};
 ghost use Rattle.call_graph.specs.Tables.{HasTaskBody};
 ghost use Rattle.section_sizes.specs.CallOrder.{IsCallOrder};
-ghost use Rattle.section_sizes.specs.Known.{AreKnownBodies, AreSummaries};
+ghost use Rattle.section_sizes.specs.Known.{AreKnownBodies, AreSums, AreSummaries};
+ghost use Rattle.section_sizes.specs.Weights.{item_weights};
 ghost use Rattle.block_bounds.specs.Kept.{RunsKeepTold};
 ghost use Rattle.block_bounds.specs.Bounds.{IsTold, AreToldBounds, is_below, is_some_unlimited, greatest_section, greatest_sections};
 
@@ -14,10 +15,12 @@ use bound_rules::bodies::Body;
 pub use bound_rules::bound::Bound;
 use bound_rules::bound::{task_summary, told};
 use bound_rules::sizes::Summary;
+use bound_rules::weights::BodyWeights;
 use call_graph::ranking::Ranks;
 use section_sizes::bodies::bodies;
 use section_sizes::levels::{own_summaries, whole_summaries};
 use section_sizes::order::callees_first;
+use section_sizes::weights::item_weights;
 use sloth_base::app::{App, Func};
 use sloth_base::config::{Config, TaskDecl};
 use sloth_base::list::List;
@@ -145,6 +148,7 @@ fn bound_of(
     alloc: Global,
     config: &Config,
     app: &App,
+    weights: &[BodyWeights],
     bodies: &[Body],
     order: &[usize],
     whole: &[Summary],
@@ -152,14 +156,15 @@ fn bound_of(
 ) -> Result<Bound, NoMemory>
     requires well_formed { WellFormed config.now app.now }
     requires inside { task < length config.now.tasks }
+    requires weights { weights.now ≡ item_weights app.now }
     requires bodies { AreKnownBodies config.now app.now bodies.now }
     requires order { IsCallOrder app.now order.now }
-    requires whole { AreSummaries config.now app.now None whole.now }
+    requires whole { AreSums config.now app.now weights.now None whole.now }
     ensures { IfOk result (IsTold config.now app.now task) }
 {
     let priority = priority_of(config, task);
     if has_lower(config.tasks.items(), priority) {
-        let own = own_summaries(alloc, config, app, bodies, order, priority, whole)?;
+        let own = own_summaries(alloc, config, app, weights, bodies, order, priority, whole)?;
         Ok(bound_above(config, app, whole, &own, task, priority))
     } else {
         Ok(Bound::Items(0))
@@ -171,19 +176,21 @@ fn bounds_by(
     alloc: Global,
     config: &Config,
     app: &App,
+    weights: &[BodyWeights],
     bodies: &[Body],
     order: &[usize],
     whole: &[Summary],
 ) -> Result<Vec<Bound>, NoMemory>
     requires well_formed { WellFormed config.now app.now }
+    requires weights { weights.now ≡ item_weights app.now }
     requires bodies { AreKnownBodies config.now app.now bodies.now }
     requires order { IsCallOrder app.now order.now }
-    requires whole { AreSummaries config.now app.now None whole.now }
+    requires whole { AreSums config.now app.now weights.now None whole.now }
     ensures { IfOk result (λ bounds. AreToldBounds config.now app.now bounds.items) }
 {
     let mut bounds = Vec::new(alloc);
     for task in 0..config.tasks.items().len() {
-        let bound = bound_of(alloc, config, app, bodies, order, whole, task)?;
+        let bound = bound_of(alloc, config, app, weights, bodies, order, whole, task)?;
         push(&mut bounds, bound)?;
     }
     Ok(bounds)
@@ -202,8 +209,9 @@ fn bounds_of(
 {
     let order = callees_first(alloc, app, ranks)?;
     let bodies = bodies(alloc, config, app, &order)?;
-    let whole = whole_summaries(alloc, config, app, &bodies, &order)?;
-    bounds_by(alloc, config, app, &bodies, &order, &whole)
+    let weights = item_weights(alloc, app)?;
+    let whole = whole_summaries(alloc, config, app, &weights, &bodies, &order)?;
+    bounds_by(alloc, config, app, &weights, &bodies, &order, &whole)
 }
 
 /// The blocking bound of each task in items, or that it is above the greatest that is told, or that there is none.

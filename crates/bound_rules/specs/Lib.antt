@@ -1,3 +1,4 @@
 pub mod Summaries
 pub mod Items
 pub mod Tasks
+pub mod Weights

@@ -9,3 +9,4 @@ pub mod callees;
 pub mod items;
 pub mod marks;
 pub mod sizes;
+pub mod weights;

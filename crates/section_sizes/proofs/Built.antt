@@ -1,5 +1,5 @@
 -- Each part that is built item by item is a section of a walk.
-use Rattle.std.proofs.Common.{◌≡◌, ℕ, ◌+◌, ◌≤◌, true, false, cond, List, [], ◌∷◌, Option, None, refl, ap, ◌∙◌, subst, arith}
+use Rattle.std.proofs.Common.{◌≡◌, ℕ, ◌+◌, ◌≤◌, true, false, List, [], ◌∷◌, Option, None, refl, ap, sym, ◌∙◌, subst, arith}
 use Rattle.std.specs.List.{AllByRecursion}
 use Rattle.std.proofs.lemmas.Bool.{leb-true}
 use Rattle.sloth_base.specs.declared.config.Config.{Config}
@@ -10,8 +10,11 @@ use Rattle.sloth_base.specs.Named.{function, operation, body_of}
 use Rattle.code_rules.specs.Code.{IsItem}
 use Rattle.osek_valid.specs.Apart.{static_priority}
 use Rattle.raised_sections.specs.Walks.{Position, place, GoesOnInside, LeadsTo, IsPositionStep, AreConsecutive, chains_itself}
-use Rattle.raised_sections.specs.Sections.{priority_at, operation_at, is_schedule, is_counted, OnlyLastSchedules, IsSection, size_of_section}
-use Rattle.section_sizes.specs.Parts.{is_raised, called_level, is_plain, count_of, IsInnerStep, ReachesItem, reaches_first, reaches_inside, reaches_behind, IsRaisedStep, IsRaisedCall, CountsBack, CountsOn, back_returns, back_inside, back_passes, on_ends, on_inside, on_enters, on_passes, ReachesCall, level_behind, CountsOut, CountsWithin, out_here, out_behind, within_here, within_called, within_behind}
+use Rattle.raised_sections.specs.Sections.{priority_at, operation_at, is_schedule, OnlyLastSchedules, IsSection}
+use Rattle.bound_rules.specs.declared.weights.BodyWeights.{BodyWeights}
+use Rattle.bound_rules.specs.Weights.{going_weight}
+use Rattle.section_sizes.specs.Weights.{AreWeights, going_at, ending_at, sum_of}
+use Rattle.section_sizes.specs.Parts.{is_raised, called_level, is_plain, IsInnerStep, ReachesItem, reaches_first, reaches_inside, reaches_behind, IsRaisedStep, IsRaisedCall, WeighsBack, WeighsOn, back_returns, back_inside, back_passes, on_ends, on_inside, on_enters, on_passes, ReachesCall, level_behind, WeighsOut, WeighsWithin, out_here, out_behind, within_here, within_called, within_behind}
 use Rattle.raised_sections.proofs.Reached.{IsReached, walk_on, reached_next, reached_first}
 use Rattle.section_sizes.proofs.Decomposed.{L, level_raised, level_called}
 
@@ -38,27 +41,24 @@ step_inside : (app : App) (f i j : ℕ) (outer : Position) → IsInnerStep app f
 step_inside app f i j outer s =
     (s.operation, s.item, plain_leads app s.operation f i outer (place f j ∷ outer) s.plain (j, s.goes_on, ap (chains_itself (function app f)) s.item.is ∙ s.stays, refl))
 
-module _ (config : Config) (app : App) (h t : ℕ) where
+module _ (config : Config) (app : App) (weights : List BodyWeights) (fit : AreWeights app weights) (h t : ℕ) where
   abbrev IsRaisedAt : Position → Type 0
   IsRaisedAt at = static_priority config h ≤ priority_at config app t at
-
-  abbrev counts : Position → ℕ
-  counts at = cond (is_counted (operation_at app at)) 1 0
 
   abbrev Level : Position → Option ℕ
   Level outer = L config app h t outer
 
   -- raised positions from one to another, both among them, each leading to the next, none but the last a Schedule
   data Part : Position → ℕ → Position → Type 0 where
-    ends : (at : Position) → IsRaisedAt at → Part at (counts at) at
+    ends : (at : Position) → IsRaisedAt at → Part at (ending_at weights at) at
     goes : (at next to : Position) (n : ℕ) → IsRaisedAt at → is_schedule (operation_at app at) ≡ false → IsPositionStep app at next
-        → Part next n to → Part at (counts at + n) to
+        → Part next n to → Part at (going_at weights at + n) to
 
-  joined : (at mid next to : Position) (n k : ℕ) → is_schedule (operation_at app mid) ≡ false → IsPositionStep app mid next → Part at n mid → Part next k to
-      → Part at (n + k) to
-  joined at mid next to n k calm step (ends a raised) q = goes a next to k raised calm step q
-  joined at mid next to n k calm step (goes a then m size raised free first p) q =
-      subst (λ v. Part a v to) (omega arith) (goes a then to (size + k) raised free first (joined then m next to size k calm step p q))
+  joined : (at mid next to : Position) (n k : ℕ) → ending_at weights mid ≡ going_at weights mid → is_schedule (operation_at app mid) ≡ false → IsPositionStep app mid next
+      → Part at n mid → Part next k to → Part at (n + k) to
+  joined at mid next to n k same calm step (ends a raised) q = subst (λ v. Part a (v + k) to) (sym same) (goes a next to k raised calm step q)
+  joined at mid next to n k same calm step (goes a then m size raised free first p) q =
+      subst (λ v. Part a v to) (omega arith) (goes a then to (size + k) raised free first (joined then m next to size k same calm step p q))
 
   -- a section from a part
   record Listed (at : Position) (n : ℕ) : Type 0 where
@@ -66,7 +66,7 @@ module _ (config : Config) (app : App) (h t : ℕ) where
     consecutive : AreConsecutive app (at ∷ further)
     raised : AllByRecursion IsRaisedAt (at ∷ further)
     unbroken : OnlyLastSchedules app (at ∷ further)
-    size : size_of_section app (at ∷ further) ≡ n
+    size : sum_of weights (at ∷ further) ≡ n
 
   listed : (at to : Position) (n : ℕ) → Part at n to → Listed at n
   listed at to n (ends a raised) = record {
@@ -74,7 +74,7 @@ module _ (config : Config) (app : App) (h t : ℕ) where
     consecutive = (tt, tt);
     raised = (raised, tt);
     unbroken = (λ none. absurd (none refl), tt);
-    size = omega arith;
+    size = refl;
   }
   listed at to n (goes a next last size raised free step p) =
       let l = listed next last size p in
@@ -83,11 +83,11 @@ module _ (config : Config) (app : App) (h t : ℕ) where
         consecutive = (step, l.consecutive);
         raised = (raised, l.raised);
         unbroken = (λ _. free, l.unbroken);
-        size = ap (λ v. counts a + v) l.size;
+        size = ap (λ v. going_at weights a + v) l.size;
       }
 
   section_of : (at to : Position) (n : ℕ) → IsReached app t at → Part at n to
-      → (positions : List Position) × IsSection config app h t positions × (size_of_section app positions ≡ n)
+      → (positions : List Position) × IsSection config app h t positions × (sum_of weights positions ≡ n)
   section_of at to n r p =
       let l = listed at to n p in
       (at ∷ l.further, record { before = r.before; of_walk = walk_on app t r.before l.further at r.walk l.consecutive; raised = l.raised; unbroken = l.unbroken }, l.size)
@@ -115,23 +115,19 @@ module _ (config : Config) (app : App) (h t : ℕ) where
   not_schedule : (f i : ℕ) (o : Op) → IsItem app f i o → is_schedule o ≡ false → is_schedule (operation app f i) ≡ false
   not_schedule f i o item calm = ap is_schedule item.is ∙ calm
 
-  one : (f i : ℕ) (o : Op) → IsItem app f i o → is_counted o ≡ true → count_of app f i ≡ 1
-  one f i o item is = ap (λ p. cond (is_counted p) 1 0) item.is ∙ ap (λ b. cond b 1 0) is
-
   -- a plain item in front of a part
   inside_front : (l : Option ℕ) (f i j n : ℕ) (outer to : Position) → Level outer ≡ l → IsRaisedStep config app l f i j → Part (place f j ∷ outer) n to
-      → Part (place f i ∷ outer) (count_of app f i + n) to
+      → Part (place f i ∷ outer) (going_weight weights f i + n) to
   inside_front l f i j n outer to is p part =
       goes (place f i ∷ outer) (place f j ∷ outer) to n (up_raised l f i outer is p.raised) (not_schedule f i p.step.operation p.step.item p.no_schedule)
       (step_inside app f i j outer p.step) part
 
   -- a call in front of one
   call_front : (l : Option ℕ) (f i g n : ℕ) (outer to : Position) → Level outer ≡ l → IsRaisedCall config app l f i g → Part (place g 0 ∷ place f i ∷ outer) n to
-      → Part (place f i ∷ outer) (1 + n) to
+      → Part (place f i ∷ outer) (going_weight weights f i + n) to
   call_front l f i g n outer to is e part =
-      subst (λ v. Part (place f i ∷ outer) (v + n) to) (one f i (op.Invoke g) e.item refl)
-      (goes (place f i ∷ outer) (place g 0 ∷ place f i ∷ outer) to n (up_raised l f i outer is e.raised)
-      (not_schedule f i (op.Invoke g) e.item refl) (op.Invoke g, e.item, refl) part)
+      goes (place f i ∷ outer) (place g 0 ∷ place f i ∷ outer) to n (up_raised l f i outer is e.raised)
+      (not_schedule f i (op.Invoke g) e.item refl) (op.Invoke g, e.item, refl) part
 
   -- a part up to a `ret`
   record Returned (f i n : ℕ) (outer : Position) : Type 0 where
@@ -143,14 +139,14 @@ module _ (config : Config) (app : App) (h t : ℕ) where
   after_ret : (f i g q n k : ℕ) (outer from to : Position) → IsItem app g q op.Return → Part from n (place g q ∷ place f i ∷ outer) → Part (place f (i + 1) ∷ outer) k to
       → Part from (n + k) to
   after_ret f i g q n k outer from to ret part next =
-      joined from (place g q ∷ place f i ∷ outer) (place f (i + 1) ∷ outer) to n k (not_schedule g q op.Return ret refl) (op.Return, ret, refl) part next
+      joined from (place g q ∷ place f i ∷ outer) (place f (i + 1) ∷ outer) to n k (fit.same g q (ap is_plain ret.is)) (not_schedule g q op.Return ret refl) (op.Return, ret, refl) part next
 
-  back_part : (l : Option ℕ) (f i n : ℕ) (outer : Position) → Level outer ≡ l → CountsBack config app l f i n → Returned f i n outer
+  back_part : (l : Option ℕ) (f i n : ℕ) (outer : Position) → Level outer ≡ l → WeighsBack config app weights l f i n → Returned f i n outer
   back_part l f i n outer is (back_returns d g k ret u) =
       record {
         item = k;
         is = ret;
-        part = subst (λ v. Part (place g k ∷ outer) v (place g k ∷ outer)) (one g k op.Return ret refl) (ends (place g k ∷ outer) (up_raised d g k outer is u));
+        part = subst (λ v. Part (place g k ∷ outer) v (place g k ∷ outer)) (fit.same g k (ap is_plain ret.is)) (ends (place g k ∷ outer) (up_raised d g k outer is u));
       }
   back_part l f i n outer is (back_inside d g k j size p further) =
       let r = back_part d g j size outer is further in
@@ -170,7 +166,7 @@ module _ (config : Config) (app : App) (h t : ℕ) where
     to : Position
     part : Part at n to
 
-  on_part : (l : Option ℕ) (f i n : ℕ) (outer : Position) → Level outer ≡ l → CountsOn config app l f i n → Ended (place f i ∷ outer) n
+  on_part : (l : Option ℕ) (f i n : ℕ) (outer : Position) → Level outer ≡ l → WeighsOn config app weights l f i n → Ended (place f i ∷ outer) n
   on_part l f i n outer is (on_ends d g k item u) = record { to = place g k ∷ outer; part = ends (place g k ∷ outer) (up_raised d g k outer is u) }
   on_part l f i n outer is (on_inside d g k j size p further) =
       let r = on_part d g j size outer is further in
@@ -205,7 +201,7 @@ module _ (config : Config) (app : App) (h t : ℕ) where
   called_is l f i outer is = level_called config app h t f i outer ∙ ap (λ b. level_behind config app b f i) is
 
   out_part : (l : Option ℕ) (f n : ℕ) (outer : Position) → Level outer ≡ l → IsReached app t (place f 0 ∷ outer)
-      → CountsOut config app l f n → Left f n outer
+      → WeighsOut config app weights l f n → Left f n outer
   out_part l f n outer is from (out_here d g k size r b) =
       let p = back_part d g k size outer is b in
       record { at = place g k ∷ outer; reached = walk_inside g k outer r from; item = p.item; is = p.is; part = p.part }
@@ -227,7 +223,7 @@ module _ (config : Config) (app : App) (h t : ℕ) where
     part : Part at n to
 
   within_part : (l : Option ℕ) (f n : ℕ) (outer : Position) → Level outer ≡ l → IsReached app t (place f 0 ∷ outer)
-      → CountsWithin config app l f n → Found n
+      → WeighsWithin config app weights l f n → Found n
   within_part l f n outer is from (within_here d g k size r b) =
       let p = on_part d g k size outer is b in
       record { at = place g k ∷ outer; to = p.to; reached = walk_inside g k outer r from; part = p.part }
@@ -244,8 +240,8 @@ module _ (config : Config) (app : App) (h t : ℕ) where
       }
 
   -- what is within the task's body is a section of it
-  pub section_within : (n : ℕ) → CountsWithin config app (Level []) (body_of app.funcs t) n
-      → (positions : List Position) × IsSection config app h t positions × (size_of_section app positions ≡ n)
+  pub section_within : (n : ℕ) → WeighsWithin config app weights (Level []) (body_of app.funcs t) n
+      → (positions : List Position) × IsSection config app h t positions × (sum_of weights positions ≡ n)
   section_within n w =
       let f = within_part (Level []) (body_of app.funcs t) n [] refl (reached_first app t) w in
       section_of f.at f.to n f.reached f.part

@@ -8,8 +8,10 @@ pub mod Reaching
 mod Measured
 mod Summed
 mod Summaries
+pub mod ItemWeights
 pub mod Decomposed
 pub mod Built
+pub mod TaskLevels
 mod Unlimited
 mod Limited
 pub mod Bodily

@@ -17,9 +17,12 @@ use Rattle.bound_rules.specs.declared.bodies.Body.{Body}
 use Rattle.bound_rules.specs.declared.sizes.Summary.{Summary}
 use Rattle.section_sizes.specs.Graph.{ways_of, HasWay, AreInside, IsLoop, IsOrder}
 use Rattle.section_sizes.specs.Trails.{size_of_trail, IsEnded, IsLongest}
-use Rattle.section_sizes.specs.Parts.{is_raised, is_plain, count_of, ReachesItem, CanReturn, reaches_first, reaches_inside, reaches_behind, IsRaisedStep, IsRaisedCall, CountsBack, CountsOn, CountsWithin, back_returns, back_inside, back_passes, on_ends, on_inside, on_enters, on_passes, within_here, ReachesCall, level_behind, CountsOut, out_here, out_behind}
+use Rattle.section_sizes.specs.Parts.{is_raised, is_plain, ReachesItem, CanReturn, reaches_first, reaches_inside, reaches_behind, IsRaisedStep, IsRaisedCall, WeighsBack, WeighsOn, WeighsWithin, back_returns, back_inside, back_passes, on_ends, on_inside, on_enters, on_passes, within_here, ReachesCall, level_behind, WeighsOut, out_here, out_behind}
 use Rattle.bound_rules.specs.Items.{reaches_level, is_going}
-use Rattle.section_sizes.specs.Computed.{goes_past, item_ways, is_passed, joined, count, going_size, ending_size, leaving_size, is_alive}
+use Rattle.section_sizes.specs.Computed.{goes_past, item_ways, is_passed, is_alive}
+use Rattle.bound_rules.specs.declared.weights.BodyWeights.{BodyWeights}
+use Rattle.bound_rules.specs.Weights.{going_weight, ending_weight, joined, going_size, ending_size, leaving_size}
+use Rattle.section_sizes.specs.Weights.{AreWeights}
 use Rattle.bound_rules.specs.Summaries.{summary_of}
 use Rattle.section_sizes.specs.Known.{IsKnownBody, IsGreatestPart}
 use Rattle.section_sizes.proofs.Leading.{past_cases, plain_past, way_plain, LeadsOn, Led, led, leads, inside}
@@ -27,7 +30,7 @@ use Rattle.section_sizes.proofs.Reaching.{step_of, not_true}
 
 -- ---- parts
 
-module _ (config : Config) (app : App) where
+module _ (config : Config) (app : App) (weights : List BodyWeights) where
   -- where a part begins the task is raised
   pub record Begins (level : Option ℕ) (f i : ℕ) : Type 0 where
     pub item : IsItem app f i (operation app f i)
@@ -36,25 +39,25 @@ module _ (config : Config) (app : App) where
   pub itself : (f i : ℕ) (o : Op) → IsItem app f i o → IsItem app f i (operation app f i)
   itself f i o item = record { known = item.known; inside = item.inside; is = refl }
 
-  pub back_begins : (level : Option ℕ) (f i n : ℕ) → CountsBack config app level f i n → Begins level f i
+  pub back_begins : (level : Option ℕ) (f i n : ℕ) → WeighsBack config app weights level f i n → Begins level f i
   back_begins level f i n (back_returns l g k item raised) = record { item = itself g k op.Return item; raised = raised }
   back_begins level f i n (back_inside l g k j m p further) = record { item = itself g k p.step.operation p.step.item; raised = p.raised }
   back_begins level f i n (back_passes l a k g m q e inner further) = record { item = itself a k (op.Invoke g) e.item; raised = e.raised }
 
-  pub on_begins : (level : Option ℕ) (f i n : ℕ) → CountsOn config app level f i n → Begins level f i
+  pub on_begins : (level : Option ℕ) (f i n : ℕ) → WeighsOn config app weights level f i n → Begins level f i
   on_begins level f i n (on_ends l g k item raised) = record { item = item; raised = raised }
   on_begins level f i n (on_inside l g k j m p further) = record { item = itself g k p.step.operation p.step.item; raised = p.raised }
   on_begins level f i n (on_enters l a k g m e inner) = record { item = itself a k (op.Invoke g) e.item; raised = e.raised }
   on_begins level f i n (on_passes l a k g m q e inner further) = record { item = itself a k (op.Invoke g) e.item; raised = e.raised }
 
-  -- a part up to a `ret` counts it
-  pub back_some : (level : Option ℕ) (f i n : ℕ) → CountsBack config app level f i n → 0 < n
-  back_some level f i n (back_returns l g k item raised) = omega arith
-  back_some level f i n (back_inside l g k j m p further) = let more = back_some l g j m further in omega (arith, more)
-  back_some level f i n (back_passes l a k g m q e inner further) = omega arith
+  -- a part up to a `ret` weighs something
+  pub back_some : AreWeights app weights → (level : Option ℕ) (f i n : ℕ) → WeighsBack config app weights level f i n → 0 < n
+  back_some fit level f i n (back_returns l g k item raised) = fit.weighs g k op.Return item refl
+  back_some fit level f i n (back_inside l g k j m p further) = let more = back_some fit l g j m further in omega (arith, more)
+  back_some fit level f i n (back_passes l a k g m q e inner further) = let more = back_some fit l a (k + 1) q further in omega (arith, more)
 
   -- where it leads a walk returns
-  pub back_returned : (level : Option ℕ) (f i n : ℕ) → CountsBack config app level f i n → ReachesItem app f i → CanReturn app f
+  pub back_returned : (level : Option ℕ) (f i n : ℕ) → WeighsBack config app weights level f i n → ReachesItem app f i → CanReturn app f
   back_returned level f i n (back_returns l g k item raised) r = (k, r, item)
   back_returned level f i n (back_inside l g k j m p further) r = back_returned l g j m further (reaches_inside g k j r p.step)
   back_returned level f i n (back_passes l a k g m q e inner further) r =
@@ -62,41 +65,34 @@ module _ (config : Config) (app : App) where
       back_returned l a (k + 1) q further (reaches_behind a k g ret.0 r e.item ret.1 ret.2)
 
   -- it is a part that stays inside, too
-  pub back_on : (level : Option ℕ) (f i n : ℕ) → CountsBack config app level f i n → CountsOn config app level f i n
-  back_on level f i n (back_returns l g k item raised) =
-      subst (CountsOn config app l g k) (ap (λ o. cond (is_counted o) 1 0) item.is) (on_ends l g k (itself g k op.Return item) raised)
-  back_on level f i n (back_inside l g k j m p further) = on_inside l g k j m p (back_on l g j m further)
-  back_on level f i n (back_passes l a k g m q e inner further) = on_passes l a k g m q e inner (back_on l a (k + 1) q further)
+  pub back_on : AreWeights app weights → (level : Option ℕ) (f i n : ℕ) → WeighsBack config app weights level f i n → WeighsOn config app weights level f i n
+  back_on fit level f i n (back_returns l g k item raised) =
+      subst (WeighsOn config app weights l g k) (fit.same g k (ap is_plain item.is)) (on_ends l g k (itself g k op.Return item) raised)
+  back_on fit level f i n (back_inside l g k j m p further) = on_inside l g k j m p (back_on fit l g j m further)
+  back_on fit level f i n (back_passes l a k g m q e inner further) = on_passes l a k g m q e inner (back_on fit l a (k + 1) q further)
 
   -- where a part that ends with a `ret` began, the function was entered, and it returns
-  returned : (level : Option ℕ) (f n : ℕ) → CountsOut config app level f n → CanReturn app f
+  returned : (level : Option ℕ) (f n : ℕ) → WeighsOut config app weights level f n → CanReturn app f
   returned level f n (out_here l g i m r b) = back_returned l g i m b r
   returned level f n (out_behind l a i g m q c inner b) =
       let ret = returned (level_behind config app l a i) g m inner in
       back_returned l a (i + 1) q b (reaches_behind a i g ret.0 c.reached c.item ret.1 ret.2)
 
   -- behind a call through which one leads
-  pub reached_after : (level : Option ℕ) (f i g n : ℕ) → ReachesCall app f i g → CountsOut config app (level_behind config app level f i) g n → ReachesItem app f (i + 1)
+  pub reached_after : (level : Option ℕ) (f i g n : ℕ) → ReachesCall app f i g → WeighsOut config app weights (level_behind config app level f i) g n → ReachesItem app f (i + 1)
   reached_after level f i g n c o =
       let ret = returned (level_behind config app level f i) g n o in reaches_behind f i g ret.0 c.reached c.item ret.1 ret.2
 
 -- ---- what items add
 
--- an operation calls, or adds what it counts
-calls_or_not : (whole : List Summary) (o : Op) → ((g : ℕ) × (o ≡ op.Invoke g)) ⊎ ((going_size whole o ≡ count o) × (ending_size whole o ≡ count o))
-calls_or_not whole (op.Invoke g) = inl (g, refl)
-calls_or_not whole _ = inr (refl, refl)
+-- an operation calls, or adds what it weighs
+calls_or_not : (whole : List Summary) (going ending : ℕ) (o : Op) → ((g : ℕ) × (o ≡ op.Invoke g)) ⊎ ((going_size whole going o ≡ going) × (ending_size whole ending o ≡ ending))
+calls_or_not whole going ending (op.Invoke g) = inl (g, refl)
+calls_or_not whole going ending _ = inr (refl, refl)
 
-plain_adds : (whole : List Summary) (o : Op) → is_plain o ≡ true → going_size whole o ≡ count o
-plain_adds whole (op.Invoke g) e = absurd (false≢true e)
-plain_adds whole _ e = refl
-
-at_most_one : (o : Op) → count o ≤ 1
-at_most_one o = by (is_counted o)
-  where
-    by : (b : Bool) → cond b 1 0 ≤ 1
-    by true = omega arith
-    by false = omega arith
+plain_adds : (whole : List Summary) (weight : ℕ) (o : Op) → is_plain o ≡ true → going_size whole weight o ≡ weight
+plain_adds whole weight (op.Invoke g) e = absurd (false≢true e)
+plain_adds whole weight _ e = refl
 
 -- an item from which a walk goes on counts
 goes_counts : (o : Op) → (is_followed o ≡ true) ⊎ ((k : ℕ) × (way o ≡ Some k)) → is_counted o ≡ true
@@ -104,10 +100,10 @@ goes_counts (op.Serve call) (inl e) = e
 goes_counts (op.Serve call) (inr e) = let w = e.1 in absurd cc
 goes_counts _ e = refl
 
-returns_is : (o : Op) → 0 < leaving_size o → o ≡ op.Return
-returns_is op.Return lt = refl
-returns_is (op.Invoke g) lt = absurd (omega (arith, lt))
-returns_is _ lt = absurd (omega (arith, lt))
+returns_is : (weight : ℕ) (o : Op) → 0 < leaving_size weight o → o ≡ op.Return
+returns_is weight op.Return lt = refl
+returns_is weight (op.Invoke g) lt = absurd (omega (arith, lt))
+returns_is weight _ lt = absurd (omega (arith, lt))
 
 -- a trail is extended by a node
 going : (ways : List Ways) (steps ends : List ℕ) (i j u v : ℕ) → HasWay ways i j → IsLongest ways steps ends i u → IsLongest ways steps ends j v → 0 < v
@@ -121,8 +117,9 @@ going ways steps ends i j u v g a b pos =
 -- ---- one body
 
 -- what is computed of a body, and what is known of the functions that it calls
-pub record Measures (config : Config) (app : App) (level : Option ℕ) (f : ℕ) : Type 0 where
+pub record Measures (config : Config) (app : App) (weights : List BodyWeights) (level : Option ℕ) (f : ℕ) : Type 0 where
   pub facts : Facts config app
+  pub fit : AreWeights app weights
   pub known : f < length app.funcs
   pub body : Body
   pub is_body : IsKnownBody config app f body
@@ -138,21 +135,21 @@ pub record Measures (config : Config) (app : App) (level : Option ℕ) (f : ℕ)
   pub ways_count : length ways ≡ length (function app f).items
   pub ways_are : (i : ℕ) → i < length (function app f).items → ways_of ways i ≡ item_ways (function app f) passed going alive i
   -- the functions that are called where the task is raised
-  pub called_on : (i g : ℕ) → ReachesItem app f i → IsRaisedCall config app level f i g → IsGreatestPart (CountsOn config app None g 0) (summary_of whole g).on
-  pub called_back : (i g : ℕ) → ReachesItem app f i → IsRaisedCall config app level f i g → IsGreatestPart (CountsBack config app None g 0) (summary_of whole g).back
+  pub called_on : (i g : ℕ) → ReachesItem app f i → IsRaisedCall config app level f i g → IsGreatestPart (WeighsOn config app weights None g 0) (summary_of whole g).on
+  pub called_back : (i g : ℕ) → ReachesItem app f i → IsRaisedCall config app level f i g → IsGreatestPart (WeighsBack config app weights None g 0) (summary_of whole g).back
 
 -- the sizes of parts
-pub record Sizes (config : Config) (app : App) (level : Option ℕ) (f : ℕ) (m : Measures config app level f) : Type 0 where
+pub record Sizes (config : Config) (app : App) (weights : List BodyWeights) (level : Option ℕ) (f : ℕ) (m : Measures config app weights level f) : Type 0 where
   pub order : List ℕ
   pub is_order : IsOrder m.ways order
   pub steps : List ℕ
-  pub steps_are : (i : ℕ) → i < length (function app f).items → get_or steps i 0 ≡ going_size m.whole (operation app f i)
+  pub steps_are : (i : ℕ) → i < length (function app f).items → get_or steps i 0 ≡ going_size m.whole (going_weight weights f i) (operation app f i)
   pub ends : List ℕ
   pub ends_count : length ends ≡ length (function app f).items
-  pub ends_are : (i : ℕ) → i < length (function app f).items → get_or ends i 0 ≡ cond (get_or m.alive i false) (ending_size m.whole (operation app f i)) 0
+  pub ends_are : (i : ℕ) → i < length (function app f).items → get_or ends i 0 ≡ cond (get_or m.alive i false) (ending_size m.whole (ending_weight weights f i) (operation app f i)) 0
   pub leaves : List ℕ
   pub leaves_count : length leaves ≡ length (function app f).items
-  pub leaves_are : (i : ℕ) → i < length (function app f).items → get_or leaves i 0 ≡ cond (get_or m.alive i false) (leaving_size (operation app f i)) 0
+  pub leaves_are : (i : ℕ) → i < length (function app f).items → get_or leaves i 0 ≡ cond (get_or m.alive i false) (leaving_size (going_weight weights f i) (operation app f i)) 0
   pub on : List ℕ
   pub on_count : length on ≡ length m.ways
   pub on_is : (i : ℕ) → i < length m.ways → IsLongest m.ways steps ends i (get_or on i 0)
@@ -160,7 +157,7 @@ pub record Sizes (config : Config) (app : App) (level : Option ℕ) (f : ℕ) (m
   pub back_count : length back ≡ length m.ways
   pub back_is : (i : ℕ) → i < length m.ways → IsLongest m.ways steps leaves i (get_or back i 0)
 
-module _ (config : Config) (app : App) (level : Option ℕ) (f : ℕ) (m : Measures config app level f) where
+module _ (config : Config) (app : App) (weights : List BodyWeights) (level : Option ℕ) (f : ℕ) (m : Measures config app weights level f) where
   -- the item is reached and the task is raised before it
   pub record Lives (i : ℕ) : Type 0 where
     pub reached : ReachesItem app f i
@@ -264,41 +261,42 @@ module _ (config : Config) (app : App) (level : Option ℕ) (f : ℕ) (m : Measu
   pub to_there : AreInside m.ways
   to_there = inside (function app f) m.passed m.going m.alive m.ways m.ways_count m.ways_are m.alive_count
 
-  pub reached_behind : (i g n : ℕ) → ReachesItem app f i → IsItem app f i (op.Invoke g) → CountsBack config app None g 0 n → ReachesItem app f (i + 1)
+  pub reached_behind : (i g n : ℕ) → ReachesItem app f i → IsItem app f i (op.Invoke g) → WeighsBack config app weights None g 0 n → ReachesItem app f (i + 1)
   reached_behind i g n r item b =
-      let ret = back_returned config app None g 0 n b (reaches_first g) in
+      let ret = back_returned config app weights None g 0 n b (reaches_first g) in
       reaches_behind f i g ret.0 r item ret.1 ret.2
 
   -- ---- a loop
 
-  counts : (i j : ℕ) (o : Op) → IsItem app f i o → IsPathStep (function app f) i j → count_of app f i ≡ 1
-  counts i j o item (inl g) = ap (λ b. cond b 1 0) (goes_counts (operation app f i) (inl g.0))
-  counts i j o item (inr g) = ap (λ b. cond b 1 0) (goes_counts (operation app f i) (inr (g.0, g.1)))
+  something : (i j : ℕ) (o : Op) → IsItem app f i o → IsPathStep (function app f) i j → 0 < going_weight weights f i
+  something i j o item (inl g) = m.fit.weighs f i (operation app f i) (itself config app weights f i o item) (goes_counts (operation app f i) (inl g.0))
+  something i j o item (inr g) = m.fit.weighs f i (operation app f i) (itself config app weights f i o item) (goes_counts (operation app f i) (inr (g.0, g.1)))
 
   link_lives : (i j : ℕ) → Link i j → Lives i
   link_lives i j (link_inside p a b) = a
   link_lives i j (link_behind g e pos a next b) = a
 
-  further_on : (n i j k : ℕ) → Link i j → CountsOn config app level f j k → n ≤ k → (q : ℕ) × CountsOn config app level f i q × (suc n ≤ q)
+  further_on : (n i j k : ℕ) → Link i j → WeighsOn config app weights level f j k → n ≤ k → (q : ℕ) × WeighsOn config app weights level f i q × (suc n ≤ q)
   further_on n i j k (link_inside p a b) part le =
-      let one = counts i j p.step.operation p.step.item p.step.goes_on in
-      (count_of app f i + k, on_inside level f i j k p part, omega (arith, one, le))
+      let some = something i j p.step.operation p.step.item p.step.goes_on in
+      (going_weight weights f i + k, on_inside level f i j k p part, omega (arith, some, le))
   further_on n i j k (link_behind g e pos a next b) part le =
       let inner = (m.called_back i g a.reached e).attained pos in
-      (1 + (inner.0 + k), on_passes level f i g inner.0 k e inner.1 (subst (λ v. CountsOn config app level f v k) next part), omega (arith, le))
+      let some = m.fit.weighs f i (op.Invoke g) e.item refl in
+      (going_weight weights f i + (inner.0 + k), on_passes level f i g inner.0 k e inner.1 (subst (λ v. WeighsOn config app weights level f v k) next part), omega (arith, some, le))
 
   -- from each node of a loop there are parts as large as one likes
-  loops : (nodes : List ℕ) → IsLoop m.ways nodes → (n i : ℕ) → is_in i nodes ≡ true → (q : ℕ) × CountsOn config app level f i q × (n ≤ q)
+  loops : (nodes : List ℕ) → IsLoop m.ways nodes → (n i : ℕ) → is_in i nodes ≡ true → (q : ℕ) × WeighsOn config app weights level f i q × (n ≤ q)
   loops nodes loop zero i h =
       let g = loop.goes i h in
       let a = link_lives i g.0 (link i g.0 g.1) in
-      (count_of app f i, on_ends level f i a.item a.raised, omega arith)
+      (ending_weight weights f i, on_ends level f i a.item a.raised, omega arith)
   loops nodes loop (suc n) i h =
       let g = loop.goes i h in
       let rest = loops nodes loop n g.0 g.2 in
       further_on n i g.0 rest.0 (link i g.0 g.1) rest.1 rest.2
 
-  pub endless_loop : (nodes : List ℕ) → IsLoop m.ways nodes → (n : ℕ) → (q : ℕ) × CountsWithin config app level f q × (n ≤ q)
+  pub endless_loop : (nodes : List ℕ) → IsLoop m.ways nodes → (n : ℕ) → (q : ℕ) × WeighsWithin config app weights level f q × (n ≤ q)
   endless_loop nodes loop n =
       let i = loop.some.0 in
       let g = loop.goes i loop.some.1 in
@@ -308,25 +306,25 @@ module _ (config : Config) (app : App) (level : Option ℕ) (f : ℕ) (m : Measu
 
   -- ---- sizes
 
-  module _ (z : Sizes config app level f m) where
+  module _ (z : Sizes config app weights level f m) where
     abbrev on_at : ℕ → ℕ
     on_at i = get_or z.on i 0
 
     abbrev back_at : ℕ → ℕ
     back_at i = get_or z.back i 0
 
-    end_is : (i : ℕ) → Lives i → get_or z.ends i 0 ≡ ending_size m.whole (operation app f i)
-    end_is i a = z.ends_are i a.item.inside ∙ ap (λ b. cond b (ending_size m.whole (operation app f i)) 0) (alive_at i a)
+    end_is : (i : ℕ) → Lives i → get_or z.ends i 0 ≡ ending_size m.whole (ending_weight weights f i) (operation app f i)
+    end_is i a = z.ends_are i a.item.inside ∙ ap (λ b. cond b (ending_size m.whole (ending_weight weights f i) (operation app f i)) 0) (alive_at i a)
 
-    leave_is : (i : ℕ) → Lives i → get_or z.leaves i 0 ≡ leaving_size (operation app f i)
-    leave_is i a = z.leaves_are i a.item.inside ∙ ap (λ b. cond b (leaving_size (operation app f i)) 0) (alive_at i a)
+    leave_is : (i : ℕ) → Lives i → get_or z.leaves i 0 ≡ leaving_size (going_weight weights f i) (operation app f i)
+    leave_is i a = z.leaves_are i a.item.inside ∙ ap (λ b. cond b (leaving_size (going_weight weights f i) (operation app f i)) 0) (alive_at i a)
 
-    step_is : (i : ℕ) → Lives i → get_or z.steps i 0 ≡ going_size m.whole (operation app f i)
+    step_is : (i : ℕ) → Lives i → get_or z.steps i 0 ≡ going_size m.whole (going_weight weights f i) (operation app f i)
     step_is i a = z.steps_are i a.item.inside
 
     -- what adds something is alive
-    alive_of : (table : List ℕ) (size : Op → ℕ) → length table ≡ length (function app f).items
-        → ((i : ℕ) → i < length (function app f).items → get_or table i 0 ≡ cond (get_or m.alive i false) (size (operation app f i)) 0)
+    alive_of : (table : List ℕ) (size : ℕ → ℕ) → length table ≡ length (function app f).items
+        → ((i : ℕ) → i < length (function app f).items → get_or table i 0 ≡ cond (get_or m.alive i false) (size i) 0)
         → (i : ℕ) → 0 < get_or table i 0 → Lives i
     alive_of table size count are i pos = by (cases_lt i (length (function app f).items))
       where
@@ -334,7 +332,7 @@ module _ (config : Config) (app : App) (level : Option ℕ) (f : ℕ) (m : Measu
         by (inr le) = let e = get_or_past table i 0 (omega (arith, le, count)) in absurd (omega (arith, e, pos))
         by (inl lt) = at (get_or m.alive i false) refl (are i lt)
           where
-            at : (b : Bool) → get_or m.alive i false ≡ b → get_or table i 0 ≡ cond b (size (operation app f i)) 0 → Lives i
+            at : (b : Bool) → get_or m.alive i false ≡ b → get_or table i 0 ≡ cond b (size i) 0 → Lives i
             at true e h = lives i e
             at false e h = absurd (omega (arith, h, pos))
 
@@ -345,127 +343,127 @@ module _ (config : Config) (app : App) (level : Option ℕ) (f : ℕ) (m : Measu
         by (inl e) = omega (arith, e)
         by (inr n) = (z.on_is i (there i a)).none_longer [] (record { trail = tt; adds = omega (arith, n) })
 
-    pub alone : (i : ℕ) → Lives i → min size_limit (count_of app f i) ≤ on_at i
-    alone i a = by (calls_or_not m.whole (operation app f i))
+    pub alone : (i : ℕ) → Lives i → min size_limit (ending_weight weights f i) ≤ on_at i
+    alone i a = by (calls_or_not m.whole (going_weight weights f i) (ending_weight weights f i) (operation app f i))
       where
-        by : ((g : ℕ) × (operation app f i ≡ op.Invoke g)) ⊎ ((going_size m.whole (operation app f i) ≡ count (operation app f i)) × (ending_size m.whole (operation app f i) ≡ count (operation app f i)))
-            → min size_limit (count_of app f i) ≤ on_at i
+        by : ((g : ℕ) × (operation app f i ≡ op.Invoke g)) ⊎ ((going_size m.whole (going_weight weights f i) (operation app f i) ≡ going_weight weights f i) × (ending_size m.whole (ending_weight weights f i) (operation app f i) ≡ ending_weight weights f i))
+            → min size_limit (ending_weight weights f i) ≤ on_at i
         by (inl g) =
             let le = ends_enough i a in
-            let e = end_is i a ∙ ap (ending_size m.whole) g.1 in
-            let one = at_most_one (operation app f i) in
-            omega (arith, le, e, one)
+            let e = end_is i a ∙ ap (ending_size m.whole (ending_weight weights f i)) g.1 in
+            omega (arith, le, e)
         by (inr n) =
             let le = ends_enough i a in
             let e = end_is i a ∙ n.1 in
             omega (arith, le, e)
 
-    pub enters : (i g n : ℕ) → Lives i → IsRaisedCall config app level f i g → CountsOn config app None g 0 n → min size_limit (1 + n) ≤ on_at i
+    pub enters : (i g n : ℕ) → Lives i → IsRaisedCall config app level f i g → WeighsOn config app weights None g 0 n → min size_limit (going_weight weights f i + n) ≤ on_at i
     enters i g n a e inner =
         let le = ends_enough i a in
-        let is = end_is i a ∙ ap (ending_size m.whole) e.item.is in
+        let is = end_is i a ∙ ap (ending_size m.whole (ending_weight weights f i)) e.item.is in
+        let same = m.fit.same f i (ap is_plain e.item.is) in
         let small = (m.called_on i g a.reached e).none_larger n inner in
-        omega (arith, le, is, small)
+        omega (arith, le, is, same, small)
 
     -- ---- one step more
 
-    pub step_on : (i j q : ℕ) → IsRaisedStep config app level f i j → Lives i → Lives j → min size_limit q ≤ on_at j → min size_limit (count_of app f i + q) ≤ on_at i
+    pub step_on : (i j q : ℕ) → IsRaisedStep config app level f i j → Lives i → Lives j → min size_limit q ≤ on_at j → min size_limit (going_weight weights f i + q) ≤ on_at i
     step_on i j q p here next le = by (cases_eq (on_at j) 0)
       where
-        by : (on_at j ≡ 0) ⊎ (on_at j ≡ 0 → ⊥) → min size_limit (count_of app f i + q) ≤ on_at i
-        by (inl none) = let one = alone i here in omega (arith, le, none, one)
+        by : (on_at j ≡ 0) ⊎ (on_at j ≡ 0 → ⊥) → min size_limit (going_weight weights f i + q) ≤ on_at i
+        by (inl none) = let more = alone i here in let no_lighter = m.fit.no_lighter f i in omega (arith, le, none, more, no_lighter)
         by (inr n) =
             let more = going m.ways z.steps z.ends i j (on_at i) (on_at j) (goes_inside i j p here next) (z.on_is i (there i here)) (z.on_is j (there j next)) (omega (arith, n)) in
-            let step = step_is i here ∙ plain_adds m.whole (operation app f i) (ap is_plain p.step.item.is ∙ p.step.plain) in
+            let step = step_is i here ∙ plain_adds m.whole (going_weight weights f i) (operation app f i) (ap is_plain p.step.item.is ∙ p.step.plain) in
             omega (arith, le, more, step)
 
-    pub step_back : (i j q : ℕ) → IsRaisedStep config app level f i j → Lives i → Lives j → 0 < q → min size_limit q ≤ back_at j → min size_limit (count_of app f i + q) ≤ back_at i
+    pub step_back : (i j q : ℕ) → IsRaisedStep config app level f i j → Lives i → Lives j → 0 < q → min size_limit q ≤ back_at j → min size_limit (going_weight weights f i + q) ≤ back_at i
     step_back i j q p here next some le =
         let more = going m.ways z.steps z.leaves i j (back_at i) (back_at j) (goes_inside i j p here next) (z.back_is i (there i here)) (z.back_is j (there j next)) (omega (arith, le, some)) in
-        let step = step_is i here ∙ plain_adds m.whole (operation app f i) (ap is_plain p.step.item.is ∙ p.step.plain) in
+        let step = step_is i here ∙ plain_adds m.whole (going_weight weights f i) (operation app f i) (ap is_plain p.step.item.is ∙ p.step.plain) in
         omega (arith, le, more, step)
 
-    pub passed_some : (i g q : ℕ) → IsRaisedCall config app level f i g → Lives i → CountsBack config app None g 0 q → 0 < (summary_of m.whole g).back
+    pub passed_some : (i g q : ℕ) → IsRaisedCall config app level f i g → Lives i → WeighsBack config app weights None g 0 q → 0 < (summary_of m.whole g).back
     passed_some i g q e here inner =
         let small = (m.called_back i g here.reached e).none_larger q inner in
-        let some = back_some config app None g 0 q inner in
+        let some = back_some config app weights m.fit None g 0 q inner in
         omega (arith, small, some)
 
-    pub pass_on : (i g q s : ℕ) → IsRaisedCall config app level f i g → Lives i → Lives (i + 1) → CountsBack config app None g 0 q → min size_limit s ≤ on_at (i + 1)
-        → min size_limit (1 + (q + s)) ≤ on_at i
+    pub pass_on : (i g q s : ℕ) → IsRaisedCall config app level f i g → Lives i → Lives (i + 1) → WeighsBack config app weights None g 0 q → min size_limit s ≤ on_at (i + 1)
+        → min size_limit (going_weight weights f i + (q + s)) ≤ on_at i
     pass_on i g q s e here next inner le = by (cases_eq (on_at (i + 1)) 0)
       where
-        by : (on_at (i + 1) ≡ 0) ⊎ (on_at (i + 1) ≡ 0 → ⊥) → min size_limit (1 + (q + s)) ≤ on_at i
-        by (inl none) = let one = enters i g q here e (back_on config app None g 0 q inner) in omega (arith, le, none, one)
+        by : (on_at (i + 1) ≡ 0) ⊎ (on_at (i + 1) ≡ 0 → ⊥) → min size_limit (going_weight weights f i + (q + s)) ≤ on_at i
+        by (inl none) = let one = enters i g q here e (back_on config app weights m.fit None g 0 q inner) in omega (arith, le, none, one)
         by (inr n) =
             let small = (m.called_back i g here.reached e).none_larger q inner in
             let more = going m.ways z.steps z.ends i (i + 1) (on_at i) (on_at (i + 1)) (goes_behind i g e (passed_some i g q e here inner) here next)
             (z.on_is i (there i here)) (z.on_is (i + 1) (there (i + 1) next)) (omega (arith, n)) in
-            let step = step_is i here ∙ ap (going_size m.whole) e.item.is in
+            let step = step_is i here ∙ ap (going_size m.whole (going_weight weights f i)) e.item.is in
             omega (arith, le, more, step, small)
 
-    pub pass_back : (i g q s : ℕ) → IsRaisedCall config app level f i g → Lives i → Lives (i + 1) → CountsBack config app None g 0 q → 0 < s → min size_limit s ≤ back_at (i + 1)
-        → min size_limit (1 + (q + s)) ≤ back_at i
+    pub pass_back : (i g q s : ℕ) → IsRaisedCall config app level f i g → Lives i → Lives (i + 1) → WeighsBack config app weights None g 0 q → 0 < s → min size_limit s ≤ back_at (i + 1)
+        → min size_limit (going_weight weights f i + (q + s)) ≤ back_at i
     pass_back i g q s e here next inner some le =
         let small = (m.called_back i g here.reached e).none_larger q inner in
         let more = going m.ways z.steps z.leaves i (i + 1) (back_at i) (back_at (i + 1)) (goes_behind i g e (passed_some i g q e here inner) here next)
         (z.back_is i (there i here)) (z.back_is (i + 1) (there (i + 1) next)) (omega (arith, le, some)) in
-        let step = step_is i here ∙ ap (going_size m.whole) e.item.is in
+        let step = step_is i here ∙ ap (going_size m.whole (going_weight weights f i)) e.item.is in
         omega (arith, le, more, step, small)
 
-    pub leave : (i : ℕ) → Lives i → IsItem app f i op.Return → min size_limit 1 ≤ back_at i
+    pub leave : (i : ℕ) → Lives i → IsItem app f i op.Return → min size_limit (going_weight weights f i) ≤ back_at i
     leave i a item =
-        let e = leave_is i a ∙ ap leaving_size item.is in
-        let le = (z.back_is i (there i a)).none_longer [] (record { trail = tt; adds = omega (arith, e) }) in
+        let e = leave_is i a ∙ ap (leaving_size (going_weight weights f i)) item.is in
+        let some = m.fit.weighs f i op.Return item refl in
+        let le = (z.back_is i (there i a)).none_longer [] (record { trail = tt; adds = omega (arith, e, some) }) in
         omega (arith, le, e)
 
     -- ---- each size is attained
 
     abbrev OnOf : (i size : ℕ) → Type 0
-    OnOf i size = (n : ℕ) × CountsOn config app level f i n × (min size_limit n ≡ size)
+    OnOf i size = (n : ℕ) × WeighsOn config app weights level f i n × (min size_limit n ≡ size)
 
     abbrev BackOf : (i size : ℕ) → Type 0
-    BackOf i size = (n : ℕ) × CountsBack config app level f i n × (min size_limit n ≡ size)
+    BackOf i size = (n : ℕ) × WeighsBack config app weights level f i n × (min size_limit n ≡ size)
 
     ending : (i : ℕ) → Lives i → OnOf i (min size_limit (get_or z.ends i 0))
-    ending i a = by (calls_or_not m.whole (operation app f i))
+    ending i a = by (calls_or_not m.whole (going_weight weights f i) (ending_weight weights f i) (operation app f i))
       where
-        by : ((g : ℕ) × (operation app f i ≡ op.Invoke g)) ⊎ ((going_size m.whole (operation app f i) ≡ count (operation app f i)) × (ending_size m.whole (operation app f i) ≡ count (operation app f i)))
+        by : ((g : ℕ) × (operation app f i ≡ op.Invoke g)) ⊎ ((going_size m.whole (going_weight weights f i) (operation app f i) ≡ going_weight weights f i) × (ending_size m.whole (ending_weight weights f i) (operation app f i) ≡ ending_weight weights f i))
             → OnOf i (min size_limit (get_or z.ends i 0))
         by (inr n) =
             let e = end_is i a ∙ n.1 in
-            (count_of app f i, on_ends level f i a.item a.raised, omega (arith, e))
+            (ending_weight weights f i, on_ends level f i a.item a.raised, omega (arith, e))
         by (inl g) = at (cases_eq (summary_of m.whole g.0).on 0)
           where
             enter : IsRaisedCall config app level f i g.0
             enter = record { item = record { known = m.known; inside = a.item.inside; is = g.1 }; raised = a.raised }
 
-            is : get_or z.ends i 0 ≡ joined 1 (summary_of m.whole g.0).on
-            is = end_is i a ∙ ap (ending_size m.whole) g.1
+            is : get_or z.ends i 0 ≡ joined (ending_weight weights f i) (summary_of m.whole g.0).on
+            is = end_is i a ∙ ap (ending_size m.whole (ending_weight weights f i)) g.1
 
             at : ((summary_of m.whole g.0).on ≡ 0) ⊎ ((summary_of m.whole g.0).on ≡ 0 → ⊥) → OnOf i (min size_limit (get_or z.ends i 0))
-            at (inl none) =
-                let one : count_of app f i ≡ 1 = ap count g.1 in
-                (count_of app f i, on_ends level f i a.item a.raised, omega (arith, is, none, one))
+            at (inl none) = (ending_weight weights f i, on_ends level f i a.item a.raised, omega (arith, is, none))
             at (inr n) =
                 let inner = (m.called_on i g.0 a.reached enter).attained (omega (arith, n)) in
                 let e = inner.2 in
-                (1 + inner.0, on_enters level f i g.0 inner.0 enter inner.1, omega (arith, is, e))
+                let same = m.fit.same f i (ap is_plain g.1) in
+                (going_weight weights f i + inner.0, on_enters level f i g.0 inner.0 enter inner.1, omega (arith, is, e, same))
 
     on_front : (i j v : ℕ) → Link i j → OnOf j v → OnOf i (min size_limit (get_or z.steps i 0 + v))
     on_front i j v (link_inside p a b) further =
-        let e = step_is i a ∙ plain_adds m.whole (operation app f i) (ap is_plain p.step.item.is ∙ p.step.plain) in
+        let e = step_is i a ∙ plain_adds m.whole (going_weight weights f i) (operation app f i) (ap is_plain p.step.item.is ∙ p.step.plain) in
         let is = further.2 in
-        (count_of app f i + further.0, on_inside level f i j further.0 p further.1, omega (arith, e, is))
+        (going_weight weights f i + further.0, on_inside level f i j further.0 p further.1, omega (arith, e, is))
     on_front i j v (link_behind g en pos a next b) further =
         let inner = (m.called_back i g a.reached en).attained pos in
-        let e = step_is i a ∙ ap (going_size m.whole) en.item.is in
+        let e = step_is i a ∙ ap (going_size m.whole (going_weight weights f i)) en.item.is in
         let is = further.2 in
         let was = inner.2 in
-        (1 + (inner.0 + further.0), on_passes level f i g inner.0 further.0 en inner.1 (subst (λ k. CountsOn config app level f k further.0) next further.1), omega (arith, e, is, was))
+        (going_weight weights f i + (inner.0 + further.0), on_passes level f i g inner.0 further.0 en inner.1 (subst (λ k. WeighsOn config app weights level f k further.0) next further.1), omega (arith, e, is, was))
 
     on_trail : (further : List ℕ) (i : ℕ) → IsEnded m.ways z.ends i further → OnOf i (min size_limit (size_of_trail z.steps z.ends i further))
-    on_trail [] i e = ending i (alive_of z.ends (ending_size m.whole) z.ends_count z.ends_are i e.adds)
+    on_trail [] i e = ending i (alive_of z.ends (λ k. ending_size m.whole (ending_weight weights f k) (operation app f k)) z.ends_count z.ends_are i e.adds)
     on_trail (j ∷ further) i e =
         let rest = on_trail further j (record { trail = e.trail.1; adds = e.adds }) in
         let front = on_front i j (min size_limit (size_of_trail z.steps z.ends j further)) (link i j e.trail.0) rest in
@@ -474,24 +472,24 @@ module _ (config : Config) (app : App) (level : Option ℕ) (f : ℕ) (m : Measu
 
     back_front : (i j v : ℕ) → Link i j → BackOf j v → BackOf i (min size_limit (get_or z.steps i 0 + v))
     back_front i j v (link_inside p a b) further =
-        let e = step_is i a ∙ plain_adds m.whole (operation app f i) (ap is_plain p.step.item.is ∙ p.step.plain) in
+        let e = step_is i a ∙ plain_adds m.whole (going_weight weights f i) (operation app f i) (ap is_plain p.step.item.is ∙ p.step.plain) in
         let is = further.2 in
-        (count_of app f i + further.0, back_inside level f i j further.0 p further.1, omega (arith, e, is))
+        (going_weight weights f i + further.0, back_inside level f i j further.0 p further.1, omega (arith, e, is))
     back_front i j v (link_behind g en pos a next b) further =
         let inner = (m.called_back i g a.reached en).attained pos in
-        let e = step_is i a ∙ ap (going_size m.whole) en.item.is in
+        let e = step_is i a ∙ ap (going_size m.whole (going_weight weights f i)) en.item.is in
         let is = further.2 in
         let was = inner.2 in
-        (1 + (inner.0 + further.0), back_passes level f i g inner.0 further.0 en inner.1 (subst (λ k. CountsBack config app level f k further.0) next further.1), omega (arith, e, is, was))
+        (going_weight weights f i + (inner.0 + further.0), back_passes level f i g inner.0 further.0 en inner.1 (subst (λ k. WeighsBack config app weights level f k further.0) next further.1), omega (arith, e, is, was))
 
     back_trail : (further : List ℕ) (i : ℕ) → IsEnded m.ways z.leaves i further → BackOf i (min size_limit (size_of_trail z.steps z.leaves i further))
     back_trail [] i e =
-        let a = alive_of z.leaves leaving_size z.leaves_count z.leaves_are i e.adds in
+        let a = alive_of z.leaves (λ k. leaving_size (going_weight weights f k) (operation app f k)) z.leaves_count z.leaves_are i e.adds in
         let is = leave_is i a in
         let adds = e.adds in
-        let ret = returns_is (operation app f i) (omega (arith, is, adds)) in
-        let one : get_or z.leaves i 0 ≡ 1 = is ∙ ap leaving_size ret in
-        (1, back_returns level f i (record { known = m.known; inside = a.item.inside; is = ret }) a.raised, omega (arith, one))
+        let ret = returns_is (going_weight weights f i) (operation app f i) (omega (arith, is, adds)) in
+        let leaves : get_or z.leaves i 0 ≡ going_weight weights f i = is ∙ ap (leaving_size (going_weight weights f i)) ret in
+        (going_weight weights f i, back_returns level f i (record { known = m.known; inside = a.item.inside; is = ret }) a.raised, omega (arith, leaves))
     back_trail (j ∷ further) i e =
         let rest = back_trail further j (record { trail = e.trail.1; adds = e.adds }) in
         let front = back_front i j (min size_limit (size_of_trail z.steps z.leaves j further)) (link i j e.trail.0) rest in
@@ -507,11 +505,11 @@ module _ (config : Config) (app : App) (level : Option ℕ) (f : ℕ) (m : Measu
         by (inr le) = let e = get_or_past table i 0 (omega (arith, le, count)) in absurd (omega (arith, e, pos))
 
     first_lives : (further : List ℕ) (i : ℕ) → IsEnded m.ways z.ends i further → Lives i
-    first_lives [] i e = alive_of z.ends (ending_size m.whole) z.ends_count z.ends_are i e.adds
+    first_lives [] i e = alive_of z.ends (λ k. ending_size m.whole (ending_weight weights f k) (operation app f k)) z.ends_count z.ends_are i e.adds
     first_lives (j ∷ further) i e = link_lives i j (link i j e.trail.0)
 
     first_leaves : (further : List ℕ) (i : ℕ) → IsEnded m.ways z.leaves i further → Lives i
-    first_leaves [] i e = alive_of z.leaves leaving_size z.leaves_count z.leaves_are i e.adds
+    first_leaves [] i e = alive_of z.leaves (λ k. leaving_size (going_weight weights f k) (operation app f k)) z.leaves_count z.leaves_are i e.adds
     first_leaves (j ∷ further) i e = link_lives i j (link i j e.trail.0)
 
     pub on_attained : (i : ℕ) → 0 < on_at i → Lives i × OnOf i (on_at i)
@@ -528,33 +526,33 @@ module _ (config : Config) (app : App) (level : Option ℕ) (f : ℕ) (m : Measu
 
 -- ---- no part is larger
 
-module _ (config : Config) (app : App) where
-  pub living : (level : Option ℕ) (f i : ℕ) (m : Measures config app level f) → ReachesItem app f i → Begins config app level f i → Lives config app level f m i
+module _ (config : Config) (app : App) (weights : List BodyWeights) where
+  pub living : (level : Option ℕ) (f i : ℕ) (m : Measures config app weights level f) → ReachesItem app f i → Begins config app weights level f i → Lives config app weights level f m i
   living level f i m r b = record { reached = r; item = b.item; raised = b.raised }
 
-  pub on_none : (level : Option ℕ) (f i n : ℕ) (m : Measures config app level f) (z : Sizes config app level f m) → ReachesItem app f i → CountsOn config app level f i n
+  pub on_none : (level : Option ℕ) (f i n : ℕ) (m : Measures config app weights level f) (z : Sizes config app weights level f m) → ReachesItem app f i → WeighsOn config app weights level f i n
       → min size_limit n ≤ get_or z.on i 0
-  on_none level f i n m z r (on_ends l g k item raised) = alone config app l g m z k (record { reached = r; item = item; raised = raised })
+  on_none level f i n m z r (on_ends l g k item raised) = alone config app weights l g m z k (record { reached = r; item = item; raised = raised })
   on_none level f i n m z r (on_inside l g k j q p further) =
       let after = reaches_inside g k j r p.step in
-      step_on config app l g m z k j q p (living l g k m r (record { item = itself config app g k p.step.operation p.step.item; raised = p.raised }))
-      (living l g j m after (on_begins config app l g j q further)) (on_none l g j q m z after further)
+      step_on config app weights l g m z k j q p (living l g k m r (record { item = itself config app weights g k p.step.operation p.step.item; raised = p.raised }))
+      (living l g j m after (on_begins config app weights l g j q further)) (on_none l g j q m z after further)
   on_none level f i n m z r (on_enters l a k g q e inner) =
-      enters config app l a m z k g q (living l a k m r (record { item = itself config app a k (op.Invoke g) e.item; raised = e.raised })) e inner
+      enters config app weights l a m z k g q (living l a k m r (record { item = itself config app weights a k (op.Invoke g) e.item; raised = e.raised })) e inner
   on_none level f i n m z r (on_passes l a k g q s e inner further) =
-      let after = reached_behind config app l a m k g q r e.item inner in
-      pass_on config app l a m z k g q s e (living l a k m r (record { item = itself config app a k (op.Invoke g) e.item; raised = e.raised }))
-      (living l a (k + 1) m after (on_begins config app l a (k + 1) s further)) inner (on_none l a (k + 1) s m z after further)
+      let after = reached_behind config app weights l a m k g q r e.item inner in
+      pass_on config app weights l a m z k g q s e (living l a k m r (record { item = itself config app weights a k (op.Invoke g) e.item; raised = e.raised }))
+      (living l a (k + 1) m after (on_begins config app weights l a (k + 1) s further)) inner (on_none l a (k + 1) s m z after further)
 
-  pub back_none : (level : Option ℕ) (f i n : ℕ) (m : Measures config app level f) (z : Sizes config app level f m) → ReachesItem app f i → CountsBack config app level f i n
+  pub back_none : (level : Option ℕ) (f i n : ℕ) (m : Measures config app weights level f) (z : Sizes config app weights level f m) → ReachesItem app f i → WeighsBack config app weights level f i n
       → min size_limit n ≤ get_or z.back i 0
   back_none level f i n m z r (back_returns l g k item raised) =
-      leave config app l g m z k (record { reached = r; item = itself config app g k op.Return item; raised = raised }) item
+      leave config app weights l g m z k (record { reached = r; item = itself config app weights g k op.Return item; raised = raised }) item
   back_none level f i n m z r (back_inside l g k j q p further) =
       let after = reaches_inside g k j r p.step in
-      step_back config app l g m z k j q p (living l g k m r (record { item = itself config app g k p.step.operation p.step.item; raised = p.raised }))
-      (living l g j m after (back_begins config app l g j q further)) (back_some config app l g j q further) (back_none l g j q m z after further)
+      step_back config app weights l g m z k j q p (living l g k m r (record { item = itself config app weights g k p.step.operation p.step.item; raised = p.raised }))
+      (living l g j m after (back_begins config app weights l g j q further)) (back_some config app weights m.fit l g j q further) (back_none l g j q m z after further)
   back_none level f i n m z r (back_passes l a k g q s e inner further) =
-      let after = reached_behind config app l a m k g q r e.item inner in
-      pass_back config app l a m z k g q s e (living l a k m r (record { item = itself config app a k (op.Invoke g) e.item; raised = e.raised }))
-      (living l a (k + 1) m after (back_begins config app l a (k + 1) s further)) inner (back_some config app l a (k + 1) s further) (back_none l a (k + 1) s m z after further)
+      let after = reached_behind config app weights l a m k g q r e.item inner in
+      pass_back config app weights l a m z k g q s e (living l a k m r (record { item = itself config app weights a k (op.Invoke g) e.item; raised = e.raised }))
+      (living l a (k + 1) m after (back_begins config app weights l a (k + 1) s further)) inner (back_some config app weights m.fit l a (k + 1) s further) (back_none l a (k + 1) s m z after further)

@@ -7,26 +7,24 @@ use Rattle.sloth_base.specs.declared.app.Op.{Op}
 use Rattle.sloth_base.specs.declared.app.Op.TheVariants as op
 use Rattle.sloth_base.specs.Named.{item_of}
 use Rattle.sloth_base.specs.Limits.{size_limit}
-use Rattle.raised_sections.specs.Sections.{is_counted}
 use Rattle.section_sizes.specs.declared.graph.Ways.{Ways}
 use Rattle.bound_rules.specs.declared.sizes.Summary.{Summary}
 use Rattle.section_sizes.specs.Trails.{AreSizes, AreSizesInLimit, IsLongest}
-use Rattle.section_sizes.specs.Computed.{count, going_size, ending_size, leaving_size, is_return}
+use Rattle.bound_rules.specs.declared.weights.BodyWeights.{BodyWeights}
+use Rattle.bound_rules.specs.Weights.{going_size, ending_size, leaving_size}
 use Rattle.section_sizes.specs.Known.{IsGreatestPart}
 
-one_small : (b : Bool) → cond b 1 0 ≤ size_limit
-one_small true = omega arith
-one_small false = omega arith
+going_small : (whole : List Summary) (o : Op) (weight : ℕ) → weight ≤ size_limit → going_size whole weight o ≤ size_limit
+going_small whole (op.Invoke g) weight le = omega arith
+going_small whole _ weight le = le
 
-going_small : (whole : List Summary) (o : Op) → going_size whole o ≤ size_limit
-going_small whole (op.Invoke g) = omega arith
-going_small whole (op.Serve call) = one_small (is_counted (op.Serve call))
-going_small whole _ = omega arith
+ending_small : (whole : List Summary) (o : Op) (weight : ℕ) → weight ≤ size_limit → ending_size whole weight o ≤ size_limit
+ending_small whole (op.Invoke g) weight le = omega arith
+ending_small whole _ weight le = le
 
-ending_small : (whole : List Summary) (o : Op) → ending_size whole o ≤ size_limit
-ending_small whole (op.Invoke g) = omega arith
-ending_small whole (op.Serve call) = one_small (is_counted (op.Serve call))
-ending_small whole _ = omega arith
+leaving_small : (o : Op) (weight : ℕ) → weight ≤ size_limit → leaving_size weight o ≤ size_limit
+leaving_small op.Return weight le = le
+leaving_small _ weight le = omega arith
 
 if_small : (b : Bool) (n : ℕ) → n ≤ size_limit → cond b n 0 ≤ size_limit
 if_small true n le = le
@@ -39,26 +37,27 @@ table_small table n size count are small i = ⊎_elim
     (λ le. let e = get_or_past table i 0 (omega (arith, le, count)) in omega (arith, e))
     (cases_lt i n)
 
-module _ (f : Func) (ways : List Ways) (ways_count : length ways ≡ length f.items) (whole : List Summary) (alive : List Bool) (steps : List ℕ)
-    (steps_count : length steps ≡ length f.items) (steps_are : (i : ℕ) → i < length f.items → get_or steps i 0 ≡ going_size whole (item_of f i).op) where
-  pub ending_sizes : (ends : List ℕ) → length ends ≡ length f.items
-      → ((i : ℕ) → i < length f.items → get_or ends i 0 ≡ cond (get_or alive i false) (ending_size whole (item_of f i).op) 0) → AreSizes ways steps ends
-  ending_sizes ends count are = record {
+module _ (f : Func) (ways : List Ways) (ways_count : length ways ≡ length f.items) (whole : List Summary) (alive : List Bool) (weights : BodyWeights)
+    (going : AreSizesInLimit weights.going) (steps : List ℕ)
+    (steps_count : length steps ≡ length f.items) (steps_are : (i : ℕ) → i < length f.items → get_or steps i 0 ≡ going_size whole (get_or weights.going i 0) (item_of f i).op) where
+  pub ending_sizes : AreSizesInLimit weights.ending → (ends : List ℕ) → length ends ≡ length f.items
+      → ((i : ℕ) → i < length f.items → get_or ends i 0 ≡ cond (get_or alive i false) (ending_size whole (get_or weights.ending i 0) (item_of f i).op) 0) → AreSizes ways steps ends
+  ending_sizes ending ends count are = record {
     steps_count = steps_count ∙ sym ways_count;
     ends_count = count ∙ sym ways_count;
-    steps_small = table_small steps (length f.items) (λ i. going_size whole (item_of f i).op) steps_count steps_are (λ i. going_small whole (item_of f i).op);
-    ends_small = table_small ends (length f.items) (λ i. cond (get_or alive i false) (ending_size whole (item_of f i).op) 0) count are
-        (λ i. if_small (get_or alive i false) (ending_size whole (item_of f i).op) (ending_small whole (item_of f i).op));
+    steps_small = table_small steps (length f.items) (λ i. going_size whole (get_or weights.going i 0) (item_of f i).op) steps_count steps_are (λ i. going_small whole (item_of f i).op (get_or weights.going i 0) (going i));
+    ends_small = table_small ends (length f.items) (λ i. cond (get_or alive i false) (ending_size whole (get_or weights.ending i 0) (item_of f i).op) 0) count are
+        (λ i. if_small (get_or alive i false) (ending_size whole (get_or weights.ending i 0) (item_of f i).op) (ending_small whole (item_of f i).op (get_or weights.ending i 0) (ending i)));
   }
 
   pub leaving_sizes : (leaves : List ℕ) → length leaves ≡ length f.items
-      → ((i : ℕ) → i < length f.items → get_or leaves i 0 ≡ cond (get_or alive i false) (leaving_size (item_of f i).op) 0) → AreSizes ways steps leaves
+      → ((i : ℕ) → i < length f.items → get_or leaves i 0 ≡ cond (get_or alive i false) (leaving_size (get_or weights.going i 0) (item_of f i).op) 0) → AreSizes ways steps leaves
   leaving_sizes leaves count are = record {
     steps_count = steps_count ∙ sym ways_count;
     ends_count = count ∙ sym ways_count;
-    steps_small = table_small steps (length f.items) (λ i. going_size whole (item_of f i).op) steps_count steps_are (λ i. going_small whole (item_of f i).op);
-    ends_small = table_small leaves (length f.items) (λ i. cond (get_or alive i false) (leaving_size (item_of f i).op) 0) count are
-        (λ i. if_small (get_or alive i false) (leaving_size (item_of f i).op) (one_small (is_return (item_of f i).op)));
+    steps_small = table_small steps (length f.items) (λ i. going_size whole (get_or weights.going i 0) (item_of f i).op) steps_count steps_are (λ i. going_small whole (item_of f i).op (get_or weights.going i 0) (going i));
+    ends_small = table_small leaves (length f.items) (λ i. cond (get_or alive i false) (leaving_size (get_or weights.going i 0) (item_of f i).op) 0) count are
+        (λ i. if_small (get_or alive i false) (leaving_size (get_or weights.going i 0) (item_of f i).op) (leaving_small (item_of f i).op (get_or weights.going i 0) (going i)));
   }
 
 -- the longest trails

@@ -6,25 +6,26 @@ use Rattle.sloth_base.specs.declared.config.Config.{Config}
 use Rattle.sloth_base.specs.declared.app.App.{App}
 use Rattle.code_rules.specs.Code.{HasCall, is_in}
 use Rattle.bound_rules.specs.declared.sizes.Summary.{Summary}
+use Rattle.bound_rules.specs.declared.weights.BodyWeights.{BodyWeights}
 use Rattle.section_sizes.specs.CallOrder.{IsCallOrder}
 use Rattle.bound_rules.specs.Summaries.{summary_of, unknown, IsCountedUp}
-use Rattle.section_sizes.specs.Known.{IsSummary, AreSummaries}
+use Rattle.section_sizes.specs.Known.{IsSummary, AreSums}
 use Rattle.section_sizes.proofs.OrderSummaries.{AreSummariesOf}
 use Rattle.section_sizes.proofs.Ordering.{member, one_more}
 
 unknown_small : IsCountedUp unknown
 unknown_small = record { on = omega arith; back = omega arith; most = omega arith; out = omega arith }
 
-module _ (config : Config) (app : App) (level : Option ℕ) where
+module _ (config : Config) (app : App) (weights : List BodyWeights) (level : Option ℕ) where
   -- nothing is summarised
-  pub none_summed : (table : List Summary) → length table ≡ length app.funcs → ((g : ℕ) → summary_of table g ≡ unknown) → AreSummariesOf config app level [] table
+  pub none_summed : (table : List Summary) → length table ≡ length app.funcs → ((g : ℕ) → summary_of table g ≡ unknown) → AreSummariesOf config app weights level [] table
   none_summed table count none = record {
     count = count;
     small = λ g. subst IsCountedUp (sym (none g)) unknown_small;
     each = λ f h. absurd (false≢true h);
   }
 
-  module _ (order : List ℕ) (o : IsCallOrder app order) (table : List Summary) (k : ℕ) (s : AreSummariesOf config app level (take k order) table) (lt : k < length order) where
+  module _ (order : List ℕ) (o : IsCallOrder app order) (table : List Summary) (k : ℕ) (s : AreSummariesOf config app weights level (take k order) table) (lt : k < length order) where
     -- the next function
     pub next_known : get_or order k 0 < length app.funcs
     next_known = o.inside (get_or order k 0) (member order k lt)
@@ -33,11 +34,11 @@ module _ (config : Config) (app : App) (level : Option ℕ) where
     next_inside = let n = next_known in let c = s.count in omega (arith, n, c)
 
     -- the functions that it calls are summarised
-    pub called_summed : (g : ℕ) → HasCall app (get_or order k 0) g → IsSummary config app level g (summary_of table g)
+    pub called_summed : (g : ℕ) → HasCall app (get_or order k 0) g → IsSummary config app weights level g (summary_of table g)
     called_summed g calls = s.each g (o.behind k g lt calls)
 
-    pub one_summed : (summary : Summary) → IsSummary config app level (get_or order k 0) summary → IsCountedUp summary
-        → AreSummariesOf config app level (take (k + 1) order) (set table (get_or order k 0) summary)
+    pub one_summed : (summary : Summary) → IsSummary config app weights level (get_or order k 0) summary → IsCountedUp summary
+        → AreSummariesOf config app weights level (take (k + 1) order) (set table (get_or order k 0) summary)
     one_summed summary is small = record {
       count = length-set table x summary ∙ s.count;
       small = λ g. ⊎_elim
@@ -45,8 +46,8 @@ module _ (config : Config) (app : App) (level : Option ℕ) where
           (λ n. subst IsCountedUp (sym (get_or-set_other table x g summary unknown n)) (s.small g))
           (cases_eq g x);
       each = λ f h. ⊎_elim
-          (λ e. subst (λ y. IsSummary config app level y (summary_of (set table x summary) y)) (sym e) (subst (IsSummary config app level x) (sym here) is))
-          (λ n. subst (IsSummary config app level f) (sym (get_or-set_other table x f summary unknown n))
+          (λ e. subst (λ y. IsSummary config app weights level y (summary_of (set table x summary) y)) (sym e) (subst (IsSummary config app weights level x) (sym here) is))
+          (λ n. subst (IsSummary config app weights level f) (sym (get_or-set_other table x f summary unknown n))
           (s.each f (⊎_elim (λ g. g) (λ e. absurd (n (sym e))) (one_more order k f lt h))))
           (cases_eq f x);
     }
@@ -58,8 +59,8 @@ module _ (config : Config) (app : App) (level : Option ℕ) where
         here = get_or-set_same table x summary unknown next_inside
 
   -- all are
-  pub all_summed : (order : List ℕ) → IsCallOrder app order → (table : List Summary) (k : ℕ) → length order ≤ k → AreSummariesOf config app level (take k order) table
-      → AreSummaries config app level table
+  pub all_summed : (order : List ℕ) → IsCallOrder app order → (table : List Summary) (k : ℕ) → length order ≤ k → AreSummariesOf config app weights level (take k order) table
+      → AreSums config app weights level table
   all_summed order o table k le s = record {
     count = s.count;
     small = s.small;

@@ -13,9 +13,12 @@ use Rattle.call_graph.specs.Tables.{max_below}
 use Rattle.stack_bounds.proofs.Below.{max_below-at, max_below-some, last_or_before}
 use Rattle.bound_rules.specs.declared.bodies.Body.{Body}
 use Rattle.bound_rules.specs.declared.sizes.Summary.{Summary}
-use Rattle.section_sizes.specs.Parts.{is_raised, called_level, level_behind, ReachesItem, reaches_first, ReachesCall, IsRaisedCall, CountsBack, CountsOn, CountsOut, CountsWithin, out_here, out_behind, within_here, within_called, within_behind}
+use Rattle.section_sizes.specs.Parts.{is_raised, called_level, level_behind, ReachesItem, reaches_first, ReachesCall, IsRaisedCall, WeighsBack, WeighsOn, WeighsOut, WeighsWithin, out_here, out_behind, within_here, within_called, within_behind}
 use Rattle.bound_rules.specs.Items.{reaches_level}
-use Rattle.section_sizes.specs.Computed.{joined, KnownBody, known_body_of, callee, endless_call, calls_endless, called_most, most_at, most_of, joined_both, called_out, out_at, out_of}
+use Rattle.bound_rules.specs.declared.weights.BodyWeights.{BodyWeights}
+use Rattle.bound_rules.specs.Weights.{joined}
+use Rattle.section_sizes.specs.Weights.{AreWeights}
+use Rattle.section_sizes.specs.Computed.{KnownBody, known_body_of, callee, endless_call, calls_endless, called_most, most_at, most_of, joined_both, called_out, out_at, out_of}
 use Rattle.section_sizes.proofs.KnownRaised.{known_raised}
 use Rattle.bound_rules.specs.Summaries.{summary_of}
 use Rattle.section_sizes.specs.Known.{IsKnownBody, IsGreatestPart, HasLimit, IsExact, IsEndless, IsSummary}
@@ -24,9 +27,11 @@ use Rattle.section_sizes.proofs.Limited.{CalledLimit, has_limit}
 use Rattle.section_sizes.proofs.Measured.{Measures, Sizes, on_begins, back_begins, back_some, back_on, reached_after, on_none, back_none, on_attained, back_attained}
 
 -- a part that ends with a `ret` is one that stays, too
-pub out_within : (config : Config) (app : App) (level : Option ℕ) (f n : ℕ) → CountsOut config app level f n → CountsWithin config app level f n
-out_within config app level f n (out_here l g i k r b) = within_here l g i k r (back_on config app l g i k b)
-out_within config app level f n (out_behind l f' i g k m call inner b) = within_behind l f' i g k m call inner (back_on config app l f' (i + 1) m b)
+pub out_within : (config : Config) (app : App) (weights : List BodyWeights) → AreWeights app weights → (level : Option ℕ) (f n : ℕ) → WeighsOut config app weights level f n
+    → WeighsWithin config app weights level f n
+out_within config app weights fit level f n (out_here l g i k r b) = within_here l g i k r (back_on config app weights fit l g i k b)
+out_within config app weights fit level f n (out_behind l f' i g k m call inner b) =
+    within_behind l f' i g k m call inner (back_on config app weights fit l f' (i + 1) m b)
 
 -- ---- the greatest of two at each place
 
@@ -48,12 +53,12 @@ greatest_holds P N own called by_own by_called pos = by (max_below-some N (λ i.
     by (inr at_one) = subst P at_one.2 (from at_one.0 at_one.1 (let e = at_one.2 in omega (arith, e, pos)))
 
 -- the functions that a body calls
-pub record Called (config : Config) (app : App) (level : Option ℕ) (f : ℕ) (whole own : List Summary) : Type 0 where
-  pub whole_is : (g : ℕ) → HasCall app f g → IsSummary config app None g (summary_of whole g)
-  pub own_is : (g : ℕ) → HasCall app f g → IsSummary config app level g (summary_of own g)
+pub record Called (config : Config) (app : App) (weights : List BodyWeights) (level : Option ℕ) (f : ℕ) (whole own : List Summary) : Type 0 where
+  pub whole_is : (g : ℕ) → HasCall app f g → IsSummary config app weights None g (summary_of whole g)
+  pub own_is : (g : ℕ) → HasCall app f g → IsSummary config app weights level g (summary_of own g)
 
-module _ (config : Config) (app : App) (level : Option ℕ) (f : ℕ) (there : f < length app.funcs) (body : Body) (is_body : IsKnownBody config app f body)
-    (whole own : List Summary) (calls : Called config app level f whole own) where
+module _ (config : Config) (app : App) (weights : List BodyWeights) (level : Option ℕ) (f : ℕ) (there : f < length app.funcs) (body : Body) (is_body : IsKnownBody config app f body)
+    (whole own : List Summary) (calls : Called config app weights level f whole own) where
   abbrev K : KnownBody
   K = known_body_of (function app f) body level whole own
 
@@ -64,18 +69,18 @@ module _ (config : Config) (app : App) (level : Option ℕ) (f : ℕ) (there : f
   same_raised i lt = ap (reaches_level level) (is_body.ceilings i lt)
 
   -- the summary of a function that is called is right at its level
-  callee_is : (i g : ℕ) → IsItem app f i (op.Invoke g) → IsSummary config app (Level i) g (callee K i g)
+  callee_is : (i g : ℕ) → IsItem app f i (op.Invoke g) → IsSummary config app weights (Level i) g (callee K i g)
   callee_is i g item = by (is_raised config app level f i) refl
     where
       P : Bool → Type 0
-      P b = IsSummary config app (called_level b level) g (callee K i g)
+      P b = IsSummary config app weights (called_level b level) g (callee K i g)
 
       by : (b : Bool) → is_raised config app level f i ≡ b → P (is_raised config app level f i)
       by true e =
-          let Q : Bool → Type 0 = λ b. IsSummary config app None g (cond b (summary_of whole g) (summary_of own g)) in
+          let Q : Bool → Type 0 = λ b. IsSummary config app weights None g (cond b (summary_of whole g) (summary_of own g)) in
           subst P (sym e) (subst Q (sym (same_raised i item.inside ∙ e)) (calls.whole_is g (i, item)))
       by false e =
-          let Q : Bool → Type 0 = λ b. IsSummary config app level g (cond b (summary_of whole g) (summary_of own g)) in
+          let Q : Bool → Type 0 = λ b. IsSummary config app weights level g (cond b (summary_of whole g) (summary_of own g)) in
           subst P (sym e) (subst Q (sym (same_raised i item.inside ∙ e)) (calls.own_is g (i, item)))
 
   -- ---- a call of a function in which parts have no limit
@@ -84,12 +89,12 @@ module _ (config : Config) (app : App) (level : Option ℕ) (f : ℕ) (there : f
   is_endless_call i (op.Invoke g) e = let both = and_parts (get_or body.reached i false) (callee K i g).is_endless e in (g, refl, both.0, both.1)
   is_endless_call i _ e = absurd (false≢true e)
 
-  pub endless_callee : calls_endless K ≡ true → IsEndless config app level f
+  pub endless_callee : calls_endless K ≡ true → IsEndless config app weights level f
   endless_callee e n =
       let at = any_is (length (function app f).items) (λ i. endless_call K i (operation app f i)) e in
       let c = is_endless_call at.0 (operation app f at.0) at.2 in
       let item : IsItem app f at.0 (op.Invoke c.0) = record { known = there; inside = at.1; is = c.1 } in
-      let P : Bool → Type 0 = λ b. MatchBool b (IsEndless config app (Level at.0) c.0) (IsExact config app (Level at.0) c.0 (callee K at.0 c.0)) in
+      let P : Bool → Type 0 = λ b. MatchBool b (IsEndless config app weights (Level at.0) c.0) (IsExact config app weights (Level at.0) c.0 (callee K at.0 c.0)) in
       let endless = subst P c.3 (callee_is at.0 c.0 item) in
       let part = endless n in
       (part.0, within_called level f at.0 c.0 part.0 (record { reached = (is_body.reached at.0).0 c.2; item = item }) part.1, part.2)
@@ -98,11 +103,11 @@ module _ (config : Config) (app : App) (level : Option ℕ) (f : ℕ) (there : f
 
   module _ (bounded : calls_endless K ≡ false) where
     -- the summary of a function that is called at a reached item tells the greatest sizes
-    pub exact : (i g : ℕ) → ReachesCall app f i g → IsExact config app (Level i) g (callee K i g)
+    pub exact : (i g : ℕ) → ReachesCall app f i g → IsExact config app weights (Level i) g (callee K i g)
     exact i g c =
         let none = none_is (length (function app f).items) (λ i. endless_call K i (operation app f i)) bounded i c.item.inside in
         let e : endless_call K i (op.Invoke g) ≡ false = sym (ap (endless_call K i) c.item.is) ∙ none in
-        let P : Bool → Type 0 = λ b. MatchBool b (IsEndless config app (Level i) g) (IsExact config app (Level i) g (callee K i g)) in
+        let P : Bool → Type 0 = λ b. MatchBool b (IsEndless config app weights (Level i) g) (IsExact config app weights (Level i) g (callee K i g)) in
         subst P (second (get_or body.reached i false) (callee K i g).is_endless ((is_body.reached i).1 c.reached) e) (callee_is i g c.item)
       where
         second : (a b : Bool) → a ≡ true → (a && b) ≡ false → b ≡ false
@@ -110,17 +115,17 @@ module _ (config : Config) (app : App) (level : Option ℕ) (f : ℕ) (there : f
         second false b e f = absurd (false≢true e)
 
     -- where the task is raised it is that of the functions that are called so
-    entered : (i g : ℕ) → ReachesItem app f i → IsRaisedCall config app level f i g → IsExact config app None g (summary_of whole g)
+    entered : (i g : ℕ) → ReachesItem app f i → IsRaisedCall config app level f i g → IsExact config app weights None g (summary_of whole g)
     entered i g r e =
         let x = exact i g (record { reached = r; item = e.item }) in
-        let P : Bool → Type 0 = λ b. IsExact config app (called_level b level) g (callee K i g) in
-        let Q : Bool → Type 0 = λ b. IsExact config app None g (cond b (summary_of whole g) (summary_of own g)) in
+        let P : Bool → Type 0 = λ b. IsExact config app weights (called_level b level) g (callee K i g) in
+        let Q : Bool → Type 0 = λ b. IsExact config app weights None g (cond b (summary_of whole g) (summary_of own g)) in
         subst Q (same_raised i e.item.inside ∙ e.raised) (subst P e.raised x)
 
-    pub called_on : (i g : ℕ) → ReachesItem app f i → IsRaisedCall config app level f i g → IsGreatestPart (CountsOn config app None g 0) (summary_of whole g).on
+    pub called_on : (i g : ℕ) → ReachesItem app f i → IsRaisedCall config app level f i g → IsGreatestPart (WeighsOn config app weights None g 0) (summary_of whole g).on
     called_on i g r e = (entered i g r e).on
 
-    pub called_back : (i g : ℕ) → ReachesItem app f i → IsRaisedCall config app level f i g → IsGreatestPart (CountsBack config app None g 0) (summary_of whole g).back
+    pub called_back : (i g : ℕ) → ReachesItem app f i → IsRaisedCall config app level f i g → IsGreatestPart (WeighsBack config app weights None g 0) (summary_of whole g).back
     called_back i g r e = (entered i g r e).back
 
     -- ---- a limit of what is called
@@ -128,7 +133,7 @@ module _ (config : Config) (app : App) (level : Option ℕ) (f : ℕ) (there : f
     -- of the calls at the first n items
     pub record Below (n : ℕ) : Type 0 where
       pub limit : ℕ
-      pub each : (i g : ℕ) → i < n → ReachesCall app f i g → (x : HasLimit config app (Level i) g) × (x.limit ≤ limit)
+      pub each : (i g : ℕ) → i < n → ReachesCall app f i g → (x : HasLimit config app weights (Level i) g) × (x.limit ≤ limit)
 
     calls_or_not : (o : Op) → ((h : ℕ) × (o ≡ op.Invoke h)) ⊎ ((h : ℕ) → o ≡ op.Invoke h → ⊥)
     calls_or_not (op.Invoke h) = inl (h, refl)
@@ -166,8 +171,8 @@ module _ (config : Config) (app : App) (level : Option ℕ) (f : ℕ) (there : f
                   (λ e.
                   let c' = subst (λ v. ReachesCall app f v g) e c in
                   let same = same_callee (operation app f n) g call.0 c'.item.is call.1.item.is in
-                  let P : ℕ → Type 0 = λ v. (y : HasLimit config app (Level n) v) × (y.limit ≤ b.limit + x.limit) in
-                  let Q : ℕ → Type 0 = λ v. (y : HasLimit config app (Level v) g) × (y.limit ≤ b.limit + x.limit) in
+                  let P : ℕ → Type 0 = λ v. (y : HasLimit config app weights (Level n) v) × (y.limit ≤ b.limit + x.limit) in
+                  let Q : ℕ → Type 0 = λ v. (y : HasLimit config app weights (Level v) g) × (y.limit ≤ b.limit + x.limit) in
                   subst Q (sym e) (subst P same (x, omega arith)))
                   (λ less. let y = b.each i g less c in let le = y.1 in (y.0, omega (arith, le)))
                   (last_or_before i n lt);
@@ -176,12 +181,12 @@ module _ (config : Config) (app : App) (level : Option ℕ) (f : ℕ) (there : f
     pub all_calls : Below (length (function app f).items)
     all_calls = below (length (function app f).items) (omega arith)
 
-    entered_limit : (i g : ℕ) → ReachesItem app f i → IsRaisedCall config app level f i g → (x : HasLimit config app None g) × (x.limit ≤ all_calls.limit)
+    entered_limit : (i g : ℕ) → ReachesItem app f i → IsRaisedCall config app level f i g → (x : HasLimit config app weights None g) × (x.limit ≤ all_calls.limit)
     entered_limit i g r e =
-        let P : Bool → Type 0 = λ b. (x : HasLimit config app (called_level b level) g) × (x.limit ≤ all_calls.limit) in
+        let P : Bool → Type 0 = λ b. (x : HasLimit config app weights (called_level b level) g) × (x.limit ≤ all_calls.limit) in
         subst P e.raised (all_calls.each i g e.item.inside (record { reached = r; item = e.item }))
 
-    pub called_limit : CalledLimit config app level f all_calls.limit
+    pub called_limit : CalledLimit config app weights level f all_calls.limit
     called_limit = record {
       on = λ i g n r e part. let x = entered_limit i g r e in let le = x.0.on n part in let more = x.1 in omega (arith, le, more);
       back = λ i g n r e part. let x = entered_limit i g r e in let le = x.0.back n part in let more = x.1 in omega (arith, le, more);
@@ -191,21 +196,21 @@ module _ (config : Config) (app : App) (level : Option ℕ) (f : ℕ) (there : f
 
     -- ---- the greatest sizes of parts that begin anywhere
 
-    module _ (m : Measures config app level f) (z : Sizes config app level f m) where
+    module _ (m : Measures config app weights level f) (z : Sizes config app weights level f m) where
       abbrev AttainsWithin : ℕ → Type 0
-      AttainsWithin size = (n : ℕ) × CountsWithin config app level f n × (min size_limit n ≡ size)
+      AttainsWithin size = (n : ℕ) × WeighsWithin config app weights level f n × (min size_limit n ≡ size)
 
       abbrev AttainsOut : ℕ → Type 0
-      AttainsOut size = (n : ℕ) × CountsOut config app level f n × (min size_limit n ≡ size)
+      AttainsOut size = (n : ℕ) × WeighsOut config app weights level f n × (min size_limit n ≡ size)
 
       abbrev N : ℕ
       N = length (function app f).items
 
-      on_small : (i n : ℕ) → ReachesItem app f i → CountsOn config app level f i n → min size_limit n ≤ get_or z.on i 0
-      on_small i n r part = on_none config app level f i n m z r part
+      on_small : (i n : ℕ) → ReachesItem app f i → WeighsOn config app weights level f i n → min size_limit n ≤ get_or z.on i 0
+      on_small i n r part = on_none config app weights level f i n m z r part
 
-      begins : (i n : ℕ) → CountsOn config app level f i n → i < N
-      begins i n part = (on_begins config app level f i n part).item.inside
+      begins : (i n : ℕ) → WeighsOn config app weights level f i n → i < N
+      begins i n part = (on_begins config app weights level f i n part).item.inside
 
       -- what a reached call adds
       called_most_is : (i g : ℕ) → ReachesCall app f i g
@@ -220,47 +225,47 @@ module _ (config : Config) (app : App) (level : Option ℕ) (f : ℕ) (there : f
           ap (called_out K z.back i) c.item.is
           ∙ ap (λ b. cond b (joined_both (callee K i g).out (get_or z.back (i + 1) 0)) 0) ((is_body.reached i).1 c.reached)
 
-      pub most_is : IsGreatestPart (CountsWithin config app level f) (most_of K z.on)
+      pub most_is : IsGreatestPart (WeighsWithin config app weights level f) (most_of K z.on)
       most_is = record { none_larger = larger; attained = attains }
         where
           at : (i : ℕ) → i < N → most_at K z.on i ≤ most_of K z.on
           at i lt = max_below-at N (most_at K z.on) i lt
 
-          here : (i n : ℕ) → ReachesItem app f i → CountsOn config app level f i n → min size_limit n ≤ most_of K z.on
+          here : (i n : ℕ) → ReachesItem app f i → WeighsOn config app weights level f i n → min size_limit n ≤ most_of K z.on
           here i n r part = let le = on_small i n r part in let more = at i (begins i n part) in omega (arith, le, more)
 
-          called : (i g n : ℕ) → ReachesCall app f i g → CountsWithin config app (Level i) g n → min size_limit n ≤ most_of K z.on
+          called : (i g n : ℕ) → ReachesCall app f i g → WeighsWithin config app weights (Level i) g n → min size_limit n ≤ most_of K z.on
           called i g n c part =
               let le = (exact i g c).most.none_larger n part in
               let more = at i c.item.inside in
               let is = called_most_is i g c in
               omega (arith, le, more, is)
 
-          behind : (i g n q : ℕ) → ReachesCall app f i g → CountsOut config app (Level i) g n → CountsOn config app level f (i + 1) q → min size_limit (n + q) ≤ most_of K z.on
+          behind : (i g n q : ℕ) → ReachesCall app f i g → WeighsOut config app weights (Level i) g n → WeighsOn config app weights level f (i + 1) q → min size_limit (n + q) ≤ most_of K z.on
           behind i g n q c out part =
               let le = (exact i g c).out.none_larger n out in
-              let rest = on_small (i + 1) q (reached_after config app level f i g n c out) part in
+              let rest = on_small (i + 1) q (reached_after config app weights level f i g n c out) part in
               let more = at i c.item.inside in
               let is = called_most_is i g c in
               omega (arith, le, rest, more, is)
 
-          larger : (n : ℕ) → CountsWithin config app level f n → min size_limit n ≤ most_of K z.on
+          larger : (n : ℕ) → WeighsWithin config app weights level f n → min size_limit n ≤ most_of K z.on
           larger n w = cases_of level f n refl refl w
             where
-              cases_of : (l : Option ℕ) (h n : ℕ) → l ≡ level → h ≡ f → CountsWithin config app l h n → min size_limit n ≤ most_of K z.on
+              cases_of : (l : Option ℕ) (h n : ℕ) → l ≡ level → h ≡ f → WeighsWithin config app weights l h n → min size_limit n ≤ most_of K z.on
               cases_of l h n e d (within_here a b i q r part) =
-                  here i q (subst (λ v. ReachesItem app v i) d r) (subst (λ v. CountsOn config app level v i q) d (subst (λ v. CountsOn config app v b i q) e part))
+                  here i q (subst (λ v. ReachesItem app v i) d r) (subst (λ v. WeighsOn config app weights level v i q) d (subst (λ v. WeighsOn config app weights v b i q) e part))
               cases_of l h n e d (within_called a b i g q c part) =
                   called i g q (subst (λ v. ReachesCall app v i g) d c)
-                  (subst (λ v. CountsWithin config app (level_behind config app level v i) g q) d (subst (λ v. CountsWithin config app (level_behind config app v b i) g q) e part))
+                  (subst (λ v. WeighsWithin config app weights (level_behind config app level v i) g q) d (subst (λ v. WeighsWithin config app weights (level_behind config app v b i) g q) e part))
               cases_of l h n e d (within_behind a b i g q s c out part) =
                   behind i g q s (subst (λ v. ReachesCall app v i g) d c)
-                  (subst (λ v. CountsOut config app (level_behind config app level v i) g q) d (subst (λ v. CountsOut config app (level_behind config app v b i) g q) e out))
-                  (subst (λ v. CountsOn config app level v (i + 1) s) d (subst (λ v. CountsOn config app v b (i + 1) s) e part))
+                  (subst (λ v. WeighsOut config app weights (level_behind config app level v i) g q) d (subst (λ v. WeighsOut config app weights (level_behind config app v b i) g q) e out))
+                  (subst (λ v. WeighsOn config app weights level v (i + 1) s) d (subst (λ v. WeighsOn config app weights v b (i + 1) s) e part))
 
           from_on : (i : ℕ) → 0 < get_or z.on i 0 → AttainsWithin (get_or z.on i 0)
           from_on i pos =
-              let a = on_attained config app level f m z i pos in
+              let a = on_attained config app weights level f m z i pos in
               (a.1.0, within_here level f i a.1.0 a.0.reached a.1.1, a.1.2)
 
           -- the call that adds something is reached
@@ -284,7 +289,7 @@ module _ (config : Config) (app : App) (level : Option ℕ) (f : ℕ) (there : f
               → AttainsWithin (max (callee K i g).most (joined (callee K i g).out (get_or z.on (i + 1) 0)))
           from_call i g c pos = by (cases_lt (callee K i g).most (joined (callee K i g).out (get_or z.on (i + 1) 0))) (cases_eq (callee K i g).out 0) (cases_eq (get_or z.on (i + 1) 0) 0)
             where
-              x : IsExact config app (Level i) g (callee K i g)
+              x : IsExact config app weights (Level i) g (callee K i g)
               x = exact i g c
 
               by : ((callee K i g).most < joined (callee K i g).out (get_or z.on (i + 1) 0)) ⊎ (joined (callee K i g).out (get_or z.on (i + 1) 0) ≤ (callee K i g).most)
@@ -302,10 +307,10 @@ module _ (config : Config) (app : App) (level : Option ℕ) (f : ℕ) (there : f
               by (inl less) (inr out) (inl none) =
                   let a = x.out.attained (omega (arith, out)) in
                   let e = a.2 in
-                  (a.0, within_called level f i g a.0 c (out_within config app (Level i) g a.0 a.1), omega (arith, e, none, less))
+                  (a.0, within_called level f i g a.0 c (out_within config app weights m.fit (Level i) g a.0 a.1), omega (arith, e, none, less))
               by (inl less) (inr out) (inr some) =
                   let a = x.out.attained (omega (arith, out)) in
-                  let b = on_attained config app level f m z (i + 1) (omega (arith, some)) in
+                  let b = on_attained config app weights level f m z (i + 1) (omega (arith, some)) in
                   let e = a.2 in
                   let d = b.1.2 in
                   (a.0 + b.1.0, within_behind level f i g a.0 b.1.0 c a.1 b.1.1, omega (arith, e, d, less))
@@ -315,46 +320,46 @@ module _ (config : Config) (app : App) (level : Option ℕ) (f : ℕ) (there : f
               greatest_holds AttainsWithin N (λ i. get_or z.on i 0) (λ i. called_most K z.on i (operation app f i)) from_on
               (λ i lt pos. let a = adding i (operation app f i) lt refl pos in subst AttainsWithin (sym a.2) (from_call i a.0 a.1 (subst (λ n. 0 < n) a.2 pos)))
 
-      pub out_is : IsGreatestPart (CountsOut config app level f) (out_of K z.back)
+      pub out_is : IsGreatestPart (WeighsOut config app weights level f) (out_of K z.back)
       out_is = record { none_larger = larger; attained = attains }
         where
           at : (i : ℕ) → i < N → out_at K z.back i ≤ out_of K z.back
           at i lt = max_below-at N (out_at K z.back) i lt
 
-          here : (i n : ℕ) → ReachesItem app f i → CountsBack config app level f i n → min size_limit n ≤ out_of K z.back
+          here : (i n : ℕ) → ReachesItem app f i → WeighsBack config app weights level f i n → min size_limit n ≤ out_of K z.back
           here i n r part =
-              let le = back_none config app level f i n m z r part in
-              let more = at i (back_begins config app level f i n part).item.inside in
+              let le = back_none config app weights level f i n m z r part in
+              let more = at i (back_begins config app weights level f i n part).item.inside in
               omega (arith, le, more)
 
           both_is : (a b : ℕ) → 0 < a → 0 < b → joined_both a b ≡ joined a b
           both_is a b p q =
               ap (λ c. cond (c && ltb 0 b) (joined a b) 0) (lt-ltb 0 a p) ∙ ap (λ c. cond c (joined a b) 0) (lt-ltb 0 b q)
 
-          behind : (i g n q : ℕ) → ReachesCall app f i g → CountsOut config app (Level i) g n → CountsBack config app level f (i + 1) q → min size_limit (n + q) ≤ out_of K z.back
+          behind : (i g n q : ℕ) → ReachesCall app f i g → WeighsOut config app weights (Level i) g n → WeighsBack config app weights level f (i + 1) q → min size_limit (n + q) ≤ out_of K z.back
           behind i g n q c out part =
               let le = (exact i g c).out.none_larger n out in
               let some = out_some (Level i) g n out in
-              let more_some = back_some config app level f (i + 1) q part in
-              let rest = back_none config app level f (i + 1) q m z (reached_after config app level f i g n c out) part in
+              let more_some = back_some config app weights m.fit level f (i + 1) q part in
+              let rest = back_none config app weights level f (i + 1) q m z (reached_after config app weights level f i g n c out) part in
               let more = at i c.item.inside in
               let is = called_out_is i g c ∙ both_is (callee K i g).out (get_or z.back (i + 1) 0) (omega (arith, le, some)) (omega (arith, rest, more_some)) in
               omega (arith, le, rest, more, is)
             where
-              out_some : (l : Option ℕ) (g n : ℕ) → CountsOut config app l g n → 0 < n
-              out_some l g n (out_here k a j m r b) = back_some config app k a j m b
-              out_some l g n (out_behind k a j h m q c inner b) = let p = back_some config app k a (j + 1) q b in omega (arith, p)
+              out_some : (l : Option ℕ) (g n : ℕ) → WeighsOut config app weights l g n → 0 < n
+              out_some l g n (out_here k a j x r b) = back_some config app weights m.fit k a j x b
+              out_some l g n (out_behind k a j h x q c inner b) = let p = back_some config app weights m.fit k a (j + 1) q b in omega (arith, p)
 
-          larger : (n : ℕ) → CountsOut config app level f n → min size_limit n ≤ out_of K z.back
+          larger : (n : ℕ) → WeighsOut config app weights level f n → min size_limit n ≤ out_of K z.back
           larger n w = cases_of level f n refl refl w
             where
-              cases_of : (l : Option ℕ) (h n : ℕ) → l ≡ level → h ≡ f → CountsOut config app l h n → min size_limit n ≤ out_of K z.back
+              cases_of : (l : Option ℕ) (h n : ℕ) → l ≡ level → h ≡ f → WeighsOut config app weights l h n → min size_limit n ≤ out_of K z.back
               cases_of l h n e d (out_here a b i q r part) =
-                  here i q (subst (λ v. ReachesItem app v i) d r) (subst (λ v. CountsBack config app level v i q) d (subst (λ v. CountsBack config app v b i q) e part))
+                  here i q (subst (λ v. ReachesItem app v i) d r) (subst (λ v. WeighsBack config app weights level v i q) d (subst (λ v. WeighsBack config app weights v b i q) e part))
               cases_of l h n e d (out_behind a b i g q s c out part) =
                   behind i g q s (subst (λ v. ReachesCall app v i g) d c)
-                  (subst (λ v. CountsOut config app (level_behind config app level v i) g q) d (subst (λ v. CountsOut config app (level_behind config app v b i) g q) e out))
-                  (subst (λ v. CountsBack config app level v (i + 1) s) d (subst (λ v. CountsBack config app v b (i + 1) s) e part))
+                  (subst (λ v. WeighsOut config app weights (level_behind config app level v i) g q) d (subst (λ v. WeighsOut config app weights (level_behind config app v b i) g q) e out))
+                  (subst (λ v. WeighsBack config app weights level v (i + 1) s) d (subst (λ v. WeighsBack config app weights v b (i + 1) s) e part))
 
           adding : (i : ℕ) (o : Op) → i < N → operation app f i ≡ o → 0 < called_out K z.back i o
               → (g : ℕ) × ReachesCall app f i g × (called_out K z.back i o ≡ joined_both (callee K i g).out (get_or z.back (i + 1) 0))
@@ -391,7 +396,7 @@ module _ (config : Config) (app : App) (level : Option ℕ) (f : ℕ) (there : f
           from_call i g c pos =
               let s = both_some (callee K i g).out (get_or z.back (i + 1) 0) pos in
               let a = (exact i g c).out.attained s.0 in
-              let b = back_attained config app level f m z (i + 1) s.1 in
+              let b = back_attained config app weights level f m z (i + 1) s.1 in
               let e = a.2 in
               let d = b.1.2 in
               let is = s.2 in
@@ -399,7 +404,7 @@ module _ (config : Config) (app : App) (level : Option ℕ) (f : ℕ) (there : f
 
           from_back : (i : ℕ) → 0 < get_or z.back i 0 → AttainsOut (get_or z.back i 0)
           from_back i pos =
-              let a = back_attained config app level f m z i pos in
+              let a = back_attained config app weights level f m z i pos in
               (a.1.0, out_here level f i a.1.0 a.0.reached a.1.1, a.1.2)
 
           attains : 0 < out_of K z.back → AttainsOut (out_of K z.back)
@@ -409,23 +414,23 @@ module _ (config : Config) (app : App) (level : Option ℕ) (f : ℕ) (there : f
 
       -- ---- the summary
 
-      first_is : IsGreatestPart (CountsOn config app level f 0) (get_or z.on 0 0)
+      first_is : IsGreatestPart (WeighsOn config app weights level f 0) (get_or z.on 0 0)
       first_is = record {
         none_larger = λ n part. on_small 0 n (reaches_first f) part;
-        attained = λ pos. let a = on_attained config app level f m z 0 pos in a.1;
+        attained = λ pos. let a = on_attained config app weights level f m z 0 pos in a.1;
       }
 
-      first_back : IsGreatestPart (CountsBack config app level f 0) (get_or z.back 0 0)
+      first_back : IsGreatestPart (WeighsBack config app weights level f 0) (get_or z.back 0 0)
       first_back = record {
-        none_larger = λ n part. back_none config app level f 0 n m z (reaches_first f) part;
-        attained = λ pos. let a = back_attained config app level f m z 0 pos in a.1;
+        none_larger = λ n part. back_none config app weights level f 0 n m z (reaches_first f) part;
+        attained = λ pos. let a = back_attained config app weights level f m z 0 pos in a.1;
       }
 
-      pub summed : IsExact config app level f (record { is_endless = false; on = get_or z.on 0 0; back = get_or z.back 0 0; most = most_of K z.on; out = out_of K z.back })
+      pub summed : IsExact config app weights level f (record { is_endless = false; on = get_or z.on 0 0; back = get_or z.back 0 0; most = most_of K z.on; out = out_of K z.back })
       summed = record {
         on = first_is;
         back = first_back;
         most = most_is;
         out = out_is;
-        limited = has_limit config app level f m z all_calls.limit called_limit;
+        limited = has_limit config app weights level f m z all_calls.limit called_limit;
       }

@@ -1,20 +1,18 @@
--- What is computed of one body: its ways, and what its items add to parts.
-use Rattle.std.specs.Prelude.{ℕ, ◌+◌, ltb, min, max, cond, List, length, get_or, Bool, true, false, ◌&&◌, Option, Some, None}
+-- What is computed of one body: its ways, and what parts of sections in what it calls weigh.
+use Rattle.std.specs.Prelude.{ℕ, ◌+◌, ltb, max, cond, List, length, get_or, Bool, true, false, ◌&&◌, Option, Some, None}
 use Rattle.sloth_base.specs.declared.app.Func.{Func}
 use Rattle.sloth_base.specs.declared.app.Op.{Op}
 use Rattle.sloth_base.specs.declared.app.Op.TheVariants as op
 use Rattle.sloth_base.specs.Named.{item_of, label_of}
-use Rattle.sloth_base.specs.Limits.{size_limit}
 use Rattle.code_rules.specs.Code.{is_followed, way}
 use Rattle.call_graph.specs.Reached.{any_below}
 use Rattle.call_graph.specs.Tables.{max_below}
-use Rattle.raised_sections.specs.Sections.{is_counted}
 use Rattle.section_sizes.specs.declared.graph.Ways.{Ways}
 use Rattle.bound_rules.specs.declared.bodies.Body.{Body}
 use Rattle.bound_rules.specs.declared.sizes.Summary.{Summary}
 use Rattle.section_sizes.specs.Graph.{no_ways}
 use Rattle.bound_rules.specs.Items.{reaches_level, callee_of}
-use Rattle.bound_rules.specs.Summaries.{summary_of}
+use Rattle.bound_rules.specs.Weights.{joined}
 
 -- ---- ways
 
@@ -47,32 +45,10 @@ item_ways f passed going open_items i =
 abbrev pub is_passed : Summary → Bool
 is_passed s = ltb 0 s.back
 
--- a sum, counted up to the greatest size
-abbrev pub joined : ℕ → ℕ → ℕ
-joined one other = min size_limit (one + other)
-
--- what an operation adds
-abbrev pub count : Op → ℕ
-count o = cond (is_counted o) 1 0
-
--- what an operation adds to a part that goes on behind it
-abbrev pub going_size : List Summary → Op → ℕ
-going_size whole (op.Invoke g) = joined 1 (summary_of whole g).back
-going_size whole o = count o
-
--- what an operation adds to a part that ends with it, or in a function that it calls
-abbrev pub ending_size : List Summary → Op → ℕ
-ending_size whole (op.Invoke g) = joined 1 (summary_of whole g).on
-ending_size whole o = count o
-
 -- a `ret`
 abbrev pub is_return : Op → Bool
 is_return op.Return = true
 is_return _ = false
-
--- what an operation adds to a part that leaves the function with it
-abbrev pub leaving_size : Op → ℕ
-leaving_size o = cond (is_return o) 1 0
 
 -- ---- calls
 

@@ -7,8 +7,10 @@ use Rattle.sloth_base.specs.Limits.{size_limit}
 use Rattle.code_rules.specs.Code.{HasCall}
 use Rattle.bound_rules.specs.declared.bodies.Body.{Body}
 use Rattle.bound_rules.specs.declared.sizes.Summary.{Summary}
+use Rattle.bound_rules.specs.declared.weights.BodyWeights.{BodyWeights}
 use Rattle.section_sizes.specs.Graph.{HasMark}
-use Rattle.section_sizes.specs.Parts.{ceiling_before, ReachesItem, CanReturn, CountsBack, CountsOn, CountsOut, CountsWithin}
+use Rattle.section_sizes.specs.Weights.{item_weights}
+use Rattle.section_sizes.specs.Parts.{ceiling_before, ReachesItem, CanReturn, WeighsBack, WeighsOn, WeighsOut, WeighsWithin}
 use Rattle.bound_rules.specs.Summaries.{summary_of, AreCountedUp}
 
 -- ---- bodies
@@ -41,31 +43,35 @@ pub record IsGreatestPart (Kind : ℕ → Type 0) (size : ℕ) : Type 0 where
   pub attained : 0 < size → (n : ℕ) × Kind n × (min size_limit n ≡ size)
 
 -- no part of function f is larger than this, however it is counted
-pub record HasLimit (config : Config) (app : App) (level : Option ℕ) (f : ℕ) : Type 0 where
+pub record HasLimit (config : Config) (app : App) (weights : List BodyWeights) (level : Option ℕ) (f : ℕ) : Type 0 where
   pub limit : ℕ
-  pub on : (n : ℕ) → CountsOn config app level f 0 n → n ≤ limit
-  pub back : (n : ℕ) → CountsBack config app level f 0 n → n ≤ limit
-  pub most : (n : ℕ) → CountsWithin config app level f n → n ≤ limit
-  pub out : (n : ℕ) → CountsOut config app level f n → n ≤ limit
+  pub on : (n : ℕ) → WeighsOn config app weights level f 0 n → n ≤ limit
+  pub back : (n : ℕ) → WeighsBack config app weights level f 0 n → n ≤ limit
+  pub most : (n : ℕ) → WeighsWithin config app weights level f n → n ≤ limit
+  pub out : (n : ℕ) → WeighsOut config app weights level f n → n ≤ limit
 
 -- the greatest sizes of the parts of function f, which have a limit
-pub record IsExact (config : Config) (app : App) (level : Option ℕ) (f : ℕ) (s : Summary) : Type 0 where
-  pub on : IsGreatestPart (CountsOn config app level f 0) s.on
-  pub back : IsGreatestPart (CountsBack config app level f 0) s.back
-  pub most : IsGreatestPart (CountsWithin config app level f) s.most
-  pub out : IsGreatestPart (CountsOut config app level f) s.out
-  pub limited : HasLimit config app level f
+pub record IsExact (config : Config) (app : App) (weights : List BodyWeights) (level : Option ℕ) (f : ℕ) (s : Summary) : Type 0 where
+  pub on : IsGreatestPart (WeighsOn config app weights level f 0) s.on
+  pub back : IsGreatestPart (WeighsBack config app weights level f 0) s.back
+  pub most : IsGreatestPart (WeighsWithin config app weights level f) s.most
+  pub out : IsGreatestPart (WeighsOut config app weights level f) s.out
+  pub limited : HasLimit config app weights level f
 
 -- parts of function f have no limit
-abbrev pub IsEndless : Config → App → (level : Option ℕ) → (f : ℕ) → Type 0
-IsEndless config app level f = (n : ℕ) → (k : ℕ) × CountsWithin config app level f k × (n ≤ k)
+abbrev pub IsEndless : Config → App → (weights : List BodyWeights) → (level : Option ℕ) → (f : ℕ) → Type 0
+IsEndless config app weights level f = (n : ℕ) → (k : ℕ) × WeighsWithin config app weights level f k × (n ≤ k)
 
 -- the summary of function f at a level
-abbrev pub IsSummary : Config → App → (level : Option ℕ) → (f : ℕ) → Summary → Type 0
-IsSummary config app level f s = MatchBool s.is_endless (IsEndless config app level f) (IsExact config app level f s)
+abbrev pub IsSummary : Config → App → (weights : List BodyWeights) → (level : Option ℕ) → (f : ℕ) → Summary → Type 0
+IsSummary config app weights level f s = MatchBool s.is_endless (IsEndless config app weights level f) (IsExact config app weights level f s)
 
--- the summaries of all functions at a level
-pub record AreSummaries (config : Config) (app : App) (level : Option ℕ) (table : List Summary) : Type 0 where
+-- the summaries of all functions at a level, by these weights
+pub record AreSums (config : Config) (app : App) (weights : List BodyWeights) (level : Option ℕ) (table : List Summary) : Type 0 where
   pub count : length table ≡ length app.funcs
   pub small : AreCountedUp table
-  pub each : (f : ℕ) → f < length app.funcs → IsSummary config app level f (summary_of table f)
+  pub each : (f : ℕ) → f < length app.funcs → IsSummary config app weights level f (summary_of table f)
+
+-- the same by the number of items
+abbrev pub AreSummaries : Config → App → (level : Option ℕ) → List Summary → Type 0
+AreSummaries config app level table = AreSums config app (item_weights app) level table

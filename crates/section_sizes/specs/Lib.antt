@@ -3,6 +3,7 @@ pub mod Trails
 pub mod Search
 pub mod CallOrder
 pub mod Parts
+pub mod Weights
 pub mod Ceilings
 pub mod Computed
 pub mod Known

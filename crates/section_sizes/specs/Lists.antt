@@ -9,7 +9,9 @@ use Rattle.section_sizes.specs.declared.paths.TrailSizes.{TrailSizes}
 use Rattle.bound_rules.specs.declared.sizes.Summary.{Summary}
 use Rattle.section_sizes.specs.Graph.{ways_of, IsOrder}
 use Rattle.section_sizes.specs.Trails.{IsLongest}
-use Rattle.section_sizes.specs.Computed.{is_passed, item_ways, going_size, ending_size, leaving_size, is_alive}
+use Rattle.section_sizes.specs.Computed.{is_passed, item_ways, is_alive}
+use Rattle.bound_rules.specs.declared.weights.BodyWeights.{BodyWeights}
+use Rattle.bound_rules.specs.Weights.{going_size, ending_size, leaving_size}
 use Rattle.bound_rules.specs.Items.{is_going}
 use Rattle.bound_rules.specs.Summaries.{summary_of}
 
@@ -29,25 +31,25 @@ pub record ArePaths (func : Func) (body : Body) (level : Option ℕ) (whole : Li
   pub body_ways : AreBodyWays func body level whole paths.alive going passed paths.ways
 
 -- for each item the size of the longest trail from it
-pub record AreEndingTrails (func : Func) (whole : List Summary) (paths : Paths) (steps on : List ℕ) : Type 0 where
+pub record AreEndingTrails (func : Func) (weights : BodyWeights) (whole : List Summary) (paths : Paths) (steps on : List ℕ) : Type 0 where
   pub ends : List ℕ
   pub ends_count : length ends ≡ length func.items
-  pub ends_are : (i : ℕ) → i < length func.items → get_or ends i 0 ≡ cond (get_or paths.alive i false) (ending_size whole (item_of func i).op) 0
+  pub ends_are : (i : ℕ) → i < length func.items → get_or ends i 0 ≡ cond (get_or paths.alive i false) (ending_size whole (get_or weights.ending i 0) (item_of func i).op) 0
   pub on_count : length on ≡ length paths.ways
   pub on_is : (i : ℕ) → i < length paths.ways → IsLongest paths.ways steps ends i (get_or on i 0)
 
 -- the same of trails that end with the body's `ret`
-pub record AreLeavingTrails (func : Func) (paths : Paths) (steps back : List ℕ) : Type 0 where
+pub record AreLeavingTrails (func : Func) (weights : BodyWeights) (paths : Paths) (steps back : List ℕ) : Type 0 where
   pub leaves : List ℕ
   pub leaves_count : length leaves ≡ length func.items
-  pub leaves_are : (i : ℕ) → i < length func.items → get_or leaves i 0 ≡ cond (get_or paths.alive i false) (leaving_size (item_of func i).op) 0
+  pub leaves_are : (i : ℕ) → i < length func.items → get_or leaves i 0 ≡ cond (get_or paths.alive i false) (leaving_size (get_or weights.going i 0) (item_of func i).op) 0
   pub back_count : length back ≡ length paths.ways
   pub back_is : (i : ℕ) → i < length paths.ways → IsLongest paths.ways steps leaves i (get_or back i 0)
 
 -- both, and the order of the items in which they were found
-pub record AreTrailSizes (func : Func) (whole : List Summary) (paths : Paths) (order : List ℕ) (sizes : TrailSizes) : Type 0 where
+pub record AreTrailSizes (func : Func) (weights : BodyWeights) (whole : List Summary) (paths : Paths) (order : List ℕ) (sizes : TrailSizes) : Type 0 where
   pub is_order : IsOrder paths.ways order
   pub steps : List ℕ
-  pub steps_are : (i : ℕ) → i < length func.items → get_or steps i 0 ≡ going_size whole (item_of func i).op
-  pub ending : AreEndingTrails func whole paths steps sizes.on
-  pub leaving : AreLeavingTrails func paths steps sizes.back
+  pub steps_are : (i : ℕ) → i < length func.items → get_or steps i 0 ≡ going_size whole (get_or weights.going i 0) (item_of func i).op
+  pub ending : AreEndingTrails func weights whole paths steps sizes.on
+  pub leaving : AreLeavingTrails func weights paths steps sizes.back

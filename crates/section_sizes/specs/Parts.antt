@@ -1,5 +1,5 @@
--- Parts of sections inside a function's activation, built item by item, and their sizes.
-use Rattle.std.specs.Prelude.{ℕ, ◌+◌, ◌≡◌, cond, map, Bool, true, false, Option, None}
+-- Parts of sections inside a function's activation, built item by item, and what they weigh.
+use Rattle.std.specs.Prelude.{ℕ, ◌+◌, ◌≡◌, cond, map, Bool, true, false, List, Option, None}
 use Rattle.sloth_base.specs.declared.config.Config.{Config}
 use Rattle.sloth_base.specs.declared.app.App.{App}
 use Rattle.sloth_base.specs.declared.app.Op.{Op}
@@ -9,8 +9,10 @@ use Rattle.code_rules.specs.Code.{IsItem, IsPathStep}
 use Rattle.code_rules.specs.WellFormed.{held_list_before}
 use Rattle.osek_scheduler.specs.Priority.{greatest, ceiling}
 use Rattle.raised_sections.specs.Walks.{chains_itself}
-use Rattle.raised_sections.specs.Sections.{is_schedule, is_counted}
+use Rattle.raised_sections.specs.Sections.{is_schedule}
+use Rattle.bound_rules.specs.declared.weights.BodyWeights.{BodyWeights}
 use Rattle.bound_rules.specs.Items.{reaches_level}
+use Rattle.bound_rules.specs.Weights.{going_weight, ending_weight}
 
 -- ---- where the task is raised
 
@@ -33,10 +35,6 @@ abbrev pub is_plain : Op → Bool
 is_plain (op.Invoke g) = false
 is_plain op.Return = false
 is_plain _ = true
-
--- what item i of function f adds to a size
-abbrev pub count_of : App → (f i : ℕ) → ℕ
-count_of app f i = cond (is_counted (operation app f i)) 1 0
 
 -- from item i of function f, neither a call nor a `ret`, a walk goes on to item j
 pub record IsInnerStep (app : App) (f i j : ℕ) : Type 0 where
@@ -68,22 +66,22 @@ pub record IsRaisedCall (config : Config) (app : App) (level : Option ℕ) (f i 
   pub item : IsItem app f i (op.Invoke g)
   pub raised : is_raised config app level f i ≡ true
 
--- a part from item i of function f up to its `ret` counts n
-pub data CountsBack (config : Config) (app : App) : (level : Option ℕ) → (f i n : ℕ) → Type 0 where
-  back_returns : (level : Option ℕ) (f i : ℕ) → IsItem app f i op.Return → is_raised config app level f i ≡ true → CountsBack config app level f i 1
-  back_inside : (level : Option ℕ) (f i j n : ℕ) → IsRaisedStep config app level f i j → CountsBack config app level f j n
-      → CountsBack config app level f i (count_of app f i + n)
-  back_passes : (level : Option ℕ) (f i g n k : ℕ) → IsRaisedCall config app level f i g → CountsBack config app None g 0 n
-      → CountsBack config app level f (i + 1) k → CountsBack config app level f i (1 + (n + k))
+-- a part from item i of function f up to its `ret` weighs n
+pub data WeighsBack (config : Config) (app : App) (weights : List BodyWeights) : (level : Option ℕ) → (f i n : ℕ) → Type 0 where
+  back_returns : (level : Option ℕ) (f i : ℕ) → IsItem app f i op.Return → is_raised config app level f i ≡ true → WeighsBack config app weights level f i (going_weight weights f i)
+  back_inside : (level : Option ℕ) (f i j n : ℕ) → IsRaisedStep config app level f i j → WeighsBack config app weights level f j n
+      → WeighsBack config app weights level f i (going_weight weights f i + n)
+  back_passes : (level : Option ℕ) (f i g n k : ℕ) → IsRaisedCall config app level f i g → WeighsBack config app weights None g 0 n
+      → WeighsBack config app weights level f (i + 1) k → WeighsBack config app weights level f i (going_weight weights f i + (n + k))
 
--- a part from item i of function f that stays inside its activation counts n
-pub data CountsOn (config : Config) (app : App) : (level : Option ℕ) → (f i n : ℕ) → Type 0 where
+-- a part from item i of function f that stays inside its activation weighs n
+pub data WeighsOn (config : Config) (app : App) (weights : List BodyWeights) : (level : Option ℕ) → (f i n : ℕ) → Type 0 where
   on_ends : (level : Option ℕ) (f i : ℕ) → IsItem app f i (operation app f i) → is_raised config app level f i ≡ true
-      → CountsOn config app level f i (count_of app f i)
-  on_inside : (level : Option ℕ) (f i j n : ℕ) → IsRaisedStep config app level f i j → CountsOn config app level f j n → CountsOn config app level f i (count_of app f i + n)
-  on_enters : (level : Option ℕ) (f i g n : ℕ) → IsRaisedCall config app level f i g → CountsOn config app None g 0 n → CountsOn config app level f i (1 + n)
-  on_passes : (level : Option ℕ) (f i g n k : ℕ) → IsRaisedCall config app level f i g → CountsBack config app None g 0 n
-      → CountsOn config app level f (i + 1) k → CountsOn config app level f i (1 + (n + k))
+      → WeighsOn config app weights level f i (ending_weight weights f i)
+  on_inside : (level : Option ℕ) (f i j n : ℕ) → IsRaisedStep config app level f i j → WeighsOn config app weights level f j n → WeighsOn config app weights level f i (going_weight weights f i + n)
+  on_enters : (level : Option ℕ) (f i g n : ℕ) → IsRaisedCall config app level f i g → WeighsOn config app weights None g 0 n → WeighsOn config app weights level f i (going_weight weights f i + n)
+  on_passes : (level : Option ℕ) (f i g n k : ℕ) → IsRaisedCall config app level f i g → WeighsBack config app weights None g 0 n
+      → WeighsOn config app weights level f (i + 1) k → WeighsOn config app weights level f i (going_weight weights f i + (n + k))
 
 -- a walk that enters function f reaches its item i, a call of function g
 pub record ReachesCall (app : App) (f i g : ℕ) : Type 0 where
@@ -94,16 +92,16 @@ pub record ReachesCall (app : App) (f i g : ℕ) : Type 0 where
 abbrev pub level_behind : Config → App → (level : Option ℕ) → (f i : ℕ) → Option ℕ
 level_behind config app level f i = called_level (is_raised config app level f i) level
 
--- a part that begins in the activation of function f, in a function that it calls too, and ends with its `ret`, counts n
-pub data CountsOut (config : Config) (app : App) : (level : Option ℕ) → (f n : ℕ) → Type 0 where
-  out_here : (level : Option ℕ) (f i n : ℕ) → ReachesItem app f i → CountsBack config app level f i n → CountsOut config app level f n
-  out_behind : (level : Option ℕ) (f i g n k : ℕ) → ReachesCall app f i g → CountsOut config app (level_behind config app level f i) g n
-      → CountsBack config app level f (i + 1) k → CountsOut config app level f (n + k)
+-- a part that begins in the activation of function f, in a function that it calls too, and ends with its `ret`, weighs n
+pub data WeighsOut (config : Config) (app : App) (weights : List BodyWeights) : (level : Option ℕ) → (f n : ℕ) → Type 0 where
+  out_here : (level : Option ℕ) (f i n : ℕ) → ReachesItem app f i → WeighsBack config app weights level f i n → WeighsOut config app weights level f n
+  out_behind : (level : Option ℕ) (f i g n k : ℕ) → ReachesCall app f i g → WeighsOut config app weights (level_behind config app level f i) g n
+      → WeighsBack config app weights level f (i + 1) k → WeighsOut config app weights level f (n + k)
 
--- a part that begins and stays in the activation of function f counts n
-pub data CountsWithin (config : Config) (app : App) : (level : Option ℕ) → (f n : ℕ) → Type 0 where
-  within_here : (level : Option ℕ) (f i n : ℕ) → ReachesItem app f i → CountsOn config app level f i n → CountsWithin config app level f n
-  within_called : (level : Option ℕ) (f i g n : ℕ) → ReachesCall app f i g → CountsWithin config app (level_behind config app level f i) g n
-      → CountsWithin config app level f n
-  within_behind : (level : Option ℕ) (f i g n k : ℕ) → ReachesCall app f i g → CountsOut config app (level_behind config app level f i) g n
-      → CountsOn config app level f (i + 1) k → CountsWithin config app level f (n + k)
+-- a part that begins and stays in the activation of function f weighs n
+pub data WeighsWithin (config : Config) (app : App) (weights : List BodyWeights) : (level : Option ℕ) → (f n : ℕ) → Type 0 where
+  within_here : (level : Option ℕ) (f i n : ℕ) → ReachesItem app f i → WeighsOn config app weights level f i n → WeighsWithin config app weights level f n
+  within_called : (level : Option ℕ) (f i g n : ℕ) → ReachesCall app f i g → WeighsWithin config app weights (level_behind config app level f i) g n
+      → WeighsWithin config app weights level f n
+  within_behind : (level : Option ℕ) (f i g n k : ℕ) → ReachesCall app f i g → WeighsOut config app weights (level_behind config app level f i) g n
+      → WeighsOn config app weights level f (i + 1) k → WeighsWithin config app weights level f (n + k)

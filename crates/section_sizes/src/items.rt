@@ -1,21 +1,19 @@
 //! What the items of one body add to parts of sections.
-ghost use Rattle.std.specs.Prelude.{◌≡◌, ◌≤◌, ◌<◌, ℕ, not, cond, false, length, get_or, IfOk};
+ghost use Rattle.std.specs.Prelude.{◌≡◌, ◌<◌, ℕ, cond, false, length, get_or, IfOk};
 ghost use Rattle.sloth_base.specs.Named.{item_of};
-ghost use Rattle.sloth_base.specs.Limits.{size_limit};
-ghost use Rattle.raised_sections.specs.Sections.{is_counted};
 ghost use Rattle.bound_rules.specs.Items.{is_going};
-ghost use Rattle.section_sizes.specs.Computed.{is_alive, is_passed, joined, count, going_size, ending_size, leaving_size};
+ghost use Rattle.bound_rules.specs.Weights.{going_size, ending_size, leaving_size};
+ghost use Rattle.section_sizes.specs.Computed.{is_alive, is_passed};
+ghost use Rattle.section_sizes.specs.Trails.{AreSizesInLimit};
 ghost use Rattle.bound_rules.specs.Summaries.{summary_of, AreCountedUp};
 
 use bound_rules::bodies::Body;
-use bound_rules::callees::summary_of;
 use bound_rules::items::{is_going, reaches_level};
 use bound_rules::marks::{is_marked, number_at};
 use bound_rules::sizes::Summary;
-use sloth_base::app::{Call, Func, Op};
-use sloth_base::limits::SIZE_LIMIT;
+use bound_rules::weights::{ending_size, going_size, leaving_size};
+use sloth_base::app::Func;
 use sloth_base::memory::NoMemory;
-use sloth_base::service::Service;
 use std::alloc::Global;
 use text_pieces::growth::push;
 
@@ -66,60 +64,6 @@ pub fn passed_functions(alloc: Global, whole: &[Summary]) -> Result<Vec<bool>, N
     Ok(passed)
 }
 
-/// The sum, or the greatest size that is counted.
-pub fn joined(one: u32, other: u32) -> u32
-    requires one_small { one ≤ size_limit }
-    requires other_small { other ≤ size_limit }
-    ensures { result ≡ joined one other }
-{
-    let sum = one + other;
-    if sum < SIZE_LIMIT { sum } else { SIZE_LIMIT }
-}
-
-fn is_terminate(call: Call) -> bool
-    ensures { result ≡ not (is_counted (Op.Serve call)) }
-{
-    matches!(call.service, Service::TerminateTask)
-}
-
-fn count(op: Op) -> u32
-    ensures { result ≡ count op }
-{
-    match op {
-        Op::Serve(call) if is_terminate(call) => 0,
-        _ => 1,
-    }
-}
-
-fn going_size(whole: &[Summary], op: Op) -> u32
-    requires { AreCountedUp whole.now }
-    ensures { result ≡ going_size whole.now op }
-{
-    match op {
-        Op::Invoke { func } => joined(1, summary_of(whole, func).back),
-        _ => count(op),
-    }
-}
-
-fn ending_size(whole: &[Summary], op: Op) -> u32
-    requires { AreCountedUp whole.now }
-    ensures { result ≡ ending_size whole.now op }
-{
-    match op {
-        Op::Invoke { func } => joined(1, summary_of(whole, func).on),
-        _ => count(op),
-    }
-}
-
-fn leaving_size(op: Op) -> u32
-    ensures { result ≡ leaving_size op }
-{
-    match op {
-        Op::Return => 1,
-        _ => 0,
-    }
-}
-
 /// The size, where the item is alive.
 fn if_alive(alive: bool, size: u32) -> u32
     ensures { result ≡ cond alive size 0 }
@@ -128,16 +72,23 @@ fn if_alive(alive: bool, size: u32) -> u32
 }
 
 /// What each item adds to a part that goes on behind it.
-pub fn going_sizes(alloc: Global, func: &Func, whole: &[Summary]) -> Result<Vec<u32>, NoMemory>
-    requires { AreCountedUp whole.now }
+pub fn going_sizes(
+    alloc: Global,
+    func: &Func,
+    weights: &[u32],
+    whole: &[Summary],
+) -> Result<Vec<u32>, NoMemory>
+    requires whole { AreCountedUp whole.now }
+    requires small { AreSizesInLimit weights.now }
     ensures count { IfOk result (λ sizes. length sizes.items ≡ length func.now.items) }
     ensures exact { IfOk result (λ sizes. (i : ℕ) → i < length func.now.items
-        → get_or sizes.items i 0 ≡ going_size whole.now (item_of func.now i).op) }
+        → get_or sizes.items i 0 ≡ going_size whole.now (get_or weights.now i 0) (item_of func.now i).op) }
 {
     let mut sizes = Vec::new(alloc);
     for number in 0..func.items.items().len() {
+        let weight = number_at(weights, number);
         sizes
-            .push(going_size(whole, func.items.items()[number].op))
+            .push(going_size(whole, weight, func.items.items()[number].op))
             .map_err(|_| NoMemory)?;
     }
     Ok(sizes)
@@ -147,17 +98,20 @@ pub fn going_sizes(alloc: Global, func: &Func, whole: &[Summary]) -> Result<Vec<
 pub fn ending_sizes(
     alloc: Global,
     func: &Func,
+    weights: &[u32],
     alive: &[bool],
     whole: &[Summary],
 ) -> Result<Vec<u32>, NoMemory>
-    requires { AreCountedUp whole.now }
+    requires whole { AreCountedUp whole.now }
+    requires small { AreSizesInLimit weights.now }
     ensures count { IfOk result (λ sizes. length sizes.items ≡ length func.now.items) }
     ensures exact { IfOk result (λ sizes. (i : ℕ) → i < length func.now.items
-        → get_or sizes.items i 0 ≡ cond (get_or alive.now i false) (ending_size whole.now (item_of func.now i).op) 0) }
+        → get_or sizes.items i 0 ≡ cond (get_or alive.now i false) (ending_size whole.now (get_or weights.now i 0) (item_of func.now i).op) 0) }
 {
     let mut sizes = Vec::new(alloc);
     for number in 0..func.items.items().len() {
-        let size = ending_size(whole, func.items.items()[number].op);
+        let weight = number_at(weights, number);
+        let size = ending_size(whole, weight, func.items.items()[number].op);
         sizes
             .push(if_alive(is_marked(alive, number), size))
             .map_err(|_| NoMemory)?;
@@ -166,14 +120,20 @@ pub fn ending_sizes(
 }
 
 /// What each item adds to a part that leaves the function with it.
-pub fn leaving_sizes(alloc: Global, func: &Func, alive: &[bool]) -> Result<Vec<u32>, NoMemory>
+pub fn leaving_sizes(
+    alloc: Global,
+    func: &Func,
+    weights: &[u32],
+    alive: &[bool],
+) -> Result<Vec<u32>, NoMemory>
     ensures count { IfOk result (λ sizes. length sizes.items ≡ length func.now.items) }
     ensures exact { IfOk result (λ sizes. (i : ℕ) → i < length func.now.items
-        → get_or sizes.items i 0 ≡ cond (get_or alive.now i false) (leaving_size (item_of func.now i).op) 0) }
+        → get_or sizes.items i 0 ≡ cond (get_or alive.now i false) (leaving_size (get_or weights.now i 0) (item_of func.now i).op) 0) }
 {
     let mut sizes = Vec::new(alloc);
     for number in 0..func.items.items().len() {
-        let size = leaving_size(func.items.items()[number].op);
+        let weight = number_at(weights, number);
+        let size = leaving_size(weight, func.items.items()[number].op);
         sizes
             .push(if_alive(is_marked(alive, number), size))
             .map_err(|_| NoMemory)?;

@@ -3,12 +3,14 @@ ghost use Rattle.std.specs.Prelude.{◌≡◌, ℕ, ◌<◌, None, Some, length,
 ghost use Rattle.code_rules.specs.WellFormed.{WellFormed};
 ghost use Rattle.section_sizes.specs.CallOrder.{IsCallOrder};
 ghost use Rattle.bound_rules.specs.Summaries.{summary_of, unknown};
-ghost use Rattle.section_sizes.specs.Known.{no_body, AreKnownBodies, AreSummaries};
+ghost use Rattle.section_sizes.specs.Known.{no_body, AreKnownBodies, AreSums};
+ghost use Rattle.section_sizes.specs.Weights.{AreWeights};
 
 use crate::bodies::function_at;
 use crate::summary::summary;
 use bound_rules::bodies::Body;
 use bound_rules::sizes::{Summary, UNKNOWN};
+use bound_rules::weights::BodyWeights;
 use sloth_base::app::App;
 use sloth_base::config::Config;
 use sloth_base::memory::NoMemory;
@@ -39,13 +41,15 @@ pub fn whole_summaries(
     alloc: Global,
     config: &Config,
     app: &App,
+    weights: &[BodyWeights],
     bodies: &[Body],
     order: &[usize],
 ) -> Result<Vec<Summary>, NoMemory>
     requires well_formed { WellFormed config.now app.now }
+    requires weights { AreWeights app.now weights.now }
     requires bodies { AreKnownBodies config.now app.now bodies.now }
     requires order { IsCallOrder app.now order.now }
-    ensures { IfOk result (λ whole. AreSummaries config.now app.now None whole.items) }
+    ensures { IfOk result (λ whole. AreSums config.now app.now weights.now None whole.items) }
 {
     let mut whole = unknown(alloc, app.funcs.items().len())?;
     for number in order {
@@ -53,6 +57,7 @@ pub fn whole_summaries(
             alloc,
             config,
             app,
+            weights,
             *number,
             function_at(app, *number),
             body_at(bodies, *number),
@@ -70,16 +75,18 @@ pub fn own_summaries(
     alloc: Global,
     config: &Config,
     app: &App,
+    weights: &[BodyWeights],
     bodies: &[Body],
     order: &[usize],
     priority: u32,
     whole: &[Summary],
 ) -> Result<Vec<Summary>, NoMemory>
     requires well_formed { WellFormed config.now app.now }
+    requires weights { AreWeights app.now weights.now }
     requires bodies { AreKnownBodies config.now app.now bodies.now }
     requires order { IsCallOrder app.now order.now }
-    requires whole { AreSummaries config.now app.now None whole.now }
-    ensures { IfOk result (λ own. AreSummaries config.now app.now (Some priority) own.items) }
+    requires whole { AreSums config.now app.now weights.now None whole.now }
+    ensures { IfOk result (λ own. AreSums config.now app.now weights.now (Some priority) own.items) }
 {
     let mut own = unknown(alloc, app.funcs.items().len())?;
     for number in order {
@@ -87,6 +94,7 @@ pub fn own_summaries(
             alloc,
             config,
             app,
+            weights,
             *number,
             function_at(app, *number),
             body_at(bodies, *number),

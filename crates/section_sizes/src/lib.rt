@@ -1,9 +1,10 @@
-//! The greatest sizes of raised sections of each function, at each level, and whether they have any.
+//! The greatest sums of raised sections of each function, at each level, and whether they have any: for any weights of items, and for their number.
 //!
-//! Of well-formed task code, exactly (`whole_summaries`, `own_summaries`). Each body is searched once for each level (in an order of finish:
-//! `finish_order`, `longest`), functions behind those that they call (`callees_first`). Sections, built item by item: `specs/Parts`; the search:
-//! `specs/Graph`, `specs/Trails`, `specs/Search`, `specs/CallOrder`, `specs/Ceilings`; what is made and computed of a body, and when it is right:
-//! `specs/Lists`, `specs/Computed`, `specs/Known`. Sections: `raised_sections` (`Sections`).
+//! Of well-formed task code, exactly (`whole_summaries`, `own_summaries`, by a table of weights; `item_weights`). Each body is searched once for each
+//! level (in an order of finish: `finish_order`, `longest`), functions behind those that they call (`callees_first`). Sections, built item by item:
+//! `specs/Parts`; weights, and sums of positions: `specs/Weights`; the search: `specs/Graph`, `specs/Trails`, `specs/Search`, `specs/CallOrder`,
+//! `specs/Ceilings`; what is made and computed of a body, and when it is right: `specs/Lists`, `specs/Computed`, `specs/Known`. Sections:
+//! `raised_sections` (`Sections`).
 #![tactic(auto)]
 
 pub mod bodies;
@@ -17,3 +18,4 @@ pub mod order;
 pub mod paths;
 pub mod reach;
 pub mod summary;
+pub mod weights;

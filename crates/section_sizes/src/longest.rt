@@ -1,24 +1,14 @@
 //! The longest trails through nodes that stand in an order.
-ghost use Rattle.std.specs.Prelude.{◌≡◌, ℕ, ◌+◌, ◌<◌, ◌≤◌, length, get_or, min, max, Some, IfOk};
+ghost use Rattle.std.specs.Prelude.{◌≡◌, ℕ, ◌<◌, ◌≤◌, length, get_or, max, Some, IfOk};
 ghost use Rattle.sloth_base.specs.Limits.{size_limit};
 ghost use Rattle.section_sizes.specs.Graph.{HasWay, IsOrder};
 ghost use Rattle.section_sizes.specs.Trails.{along, longest_from, AreSizes, AreSizesInLimit, IsLongest};
 
 use crate::graph::Ways;
-use sloth_base::limits::SIZE_LIMIT;
+use bound_rules::weights::joined;
 use sloth_base::memory::NoMemory;
 use std::alloc::Global;
 use text_pieces::growth::push;
-
-/// The sum, or the greatest size that is counted.
-fn joined(one: u32, other: u32) -> u32
-    requires one_small { one ≤ size_limit }
-    requires other_small { other ≤ size_limit }
-    ensures { result ≡ min size_limit (one + other) }
-{
-    let sum = one + other;
-    if sum < SIZE_LIMIT { sum } else { SIZE_LIMIT }
-}
 
 fn larger(one: u32, other: u32) -> u32
     ensures { result ≡ max one other }

@@ -4,7 +4,7 @@ ghost use Rattle.sloth_base.specs.Named.{item_of};
 ghost use Rattle.section_sizes.specs.Graph.{IsOrder};
 ghost use Rattle.body_faults.specs.Ways.{HasBodyLabel};
 ghost use Rattle.section_sizes.specs.Trails.{AreSizesInLimit};
-ghost use Rattle.section_sizes.specs.Computed.{going_size};
+ghost use Rattle.bound_rules.specs.Weights.{going_size};
 ghost use Rattle.bound_rules.specs.Summaries.{AreCountedUp};
 ghost use Rattle.section_sizes.specs.Lists.{AreEndingTrails, AreLeavingTrails, ArePaths, AreTrailSizes};
 
@@ -16,6 +16,7 @@ use crate::links::body_ways;
 use crate::longest::longest;
 use bound_rules::bodies::Body;
 use bound_rules::sizes::Summary;
+use bound_rules::weights::BodyWeights;
 use sloth_base::app::Func;
 use sloth_base::list::List;
 use sloth_base::memory::NoMemory;
@@ -60,6 +61,7 @@ pub fn paths_of(
 fn ending_trails(
     alloc: Global,
     func: &Func,
+    weights: &BodyWeights,
     whole: &[Summary],
     paths: &Paths,
     order: &[usize],
@@ -68,12 +70,20 @@ fn ending_trails(
     requires order { IsOrder paths.now.ways order.now }
     requires count { length paths.now.ways ≡ length func.now.items }
     requires steps_count { length steps.now ≡ length func.now.items }
-    requires steps { (i : ℕ) → i < length func.now.items → get_or steps.now i 0 ≡ going_size whole.now (item_of func.now i).op }
+    requires steps { (i : ℕ) → i < length func.now.items → get_or steps.now i 0 ≡ going_size whole.now (get_or weights.now.going i 0) (item_of func.now i).op }
     requires whole { AreCountedUp whole.now }
-    ensures trails { IfOk result (λ on. AreEndingTrails func.now whole.now paths.now steps.now on.items) }
+    requires going { AreSizesInLimit weights.now.going }
+    requires ending { AreSizesInLimit weights.now.ending }
+    ensures trails { IfOk result (λ on. AreEndingTrails func.now weights.now whole.now paths.now steps.now on.items) }
     ensures small { IfOk result (λ on. AreSizesInLimit on.items) }
 {
-    let ends = ending_sizes(alloc, func, paths.alive.items(), whole)?;
+    let ends = ending_sizes(
+        alloc,
+        func,
+        weights.ending.items(),
+        paths.alive.items(),
+        whole,
+    )?;
     longest(alloc, paths.ways.items(), order, steps, &ends)
 }
 
@@ -81,6 +91,7 @@ fn ending_trails(
 fn leaving_trails(
     alloc: Global,
     func: &Func,
+    weights: &BodyWeights,
     whole: &[Summary],
     paths: &Paths,
     order: &[usize],
@@ -89,11 +100,12 @@ fn leaving_trails(
     requires order { IsOrder paths.now.ways order.now }
     requires count { length paths.now.ways ≡ length func.now.items }
     requires steps_count { length steps.now ≡ length func.now.items }
-    requires steps { (i : ℕ) → i < length func.now.items → get_or steps.now i 0 ≡ going_size whole.now (item_of func.now i).op }
-    ensures trails { IfOk result (λ back. AreLeavingTrails func.now paths.now steps.now back.items) }
+    requires steps { (i : ℕ) → i < length func.now.items → get_or steps.now i 0 ≡ going_size whole.now (get_or weights.now.going i 0) (item_of func.now i).op }
+    requires going { AreSizesInLimit weights.now.going }
+    ensures trails { IfOk result (λ back. AreLeavingTrails func.now weights.now paths.now steps.now back.items) }
     ensures small { IfOk result (λ back. AreSizesInLimit back.items) }
 {
-    let leaves = leaving_sizes(alloc, func, paths.alive.items())?;
+    let leaves = leaving_sizes(alloc, func, weights.going.items(), paths.alive.items())?;
     longest(alloc, paths.ways.items(), order, steps, &leaves)
 }
 
@@ -101,6 +113,7 @@ fn leaving_trails(
 pub fn trail_sizes(
     alloc: Global,
     func: &Func,
+    weights: &BodyWeights,
     whole: &[Summary],
     paths: &Paths,
     order: &[usize],
@@ -108,12 +121,14 @@ pub fn trail_sizes(
     requires order { IsOrder paths.now.ways order.now }
     requires count { length paths.now.ways ≡ length func.now.items }
     requires whole { AreCountedUp whole.now }
-    ensures trails { IfOk result (AreTrailSizes func.now whole.now paths.now order.now) }
+    requires going { AreSizesInLimit weights.now.going }
+    requires ending { AreSizesInLimit weights.now.ending }
+    ensures trails { IfOk result (AreTrailSizes func.now weights.now whole.now paths.now order.now) }
     ensures small { IfOk result (λ sizes. AreSizesInLimit sizes.on × AreSizesInLimit sizes.back) }
 {
-    let steps = going_sizes(alloc, func, whole)?;
-    let on = ending_trails(alloc, func, whole, paths, order, &steps)?;
-    let back = leaving_trails(alloc, func, whole, paths, order, &steps)?;
+    let steps = going_sizes(alloc, func, weights.going.items(), whole)?;
+    let on = ending_trails(alloc, func, weights, whole, paths, order, &steps)?;
+    let back = leaving_trails(alloc, func, weights, whole, paths, order, &steps)?;
     Ok(TrailSizes {
         on: List::from_vec(on),
         back: List::from_vec(back),

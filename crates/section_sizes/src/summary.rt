@@ -8,14 +8,15 @@ ghost use Rattle.section_sizes.specs.Trails.{AreSizesInLimit};
 ghost use Rattle.section_sizes.specs.Computed.{known_body_of, endless_call, calls_endless, called_most, most_of, joined_both, called_out, out_of, summary_by};
 ghost use Rattle.bound_rules.specs.Summaries.{summary_of, IsCountedUp, AreCountedUp};
 ghost use Rattle.section_sizes.specs.Known.{IsKnownBody, IsSummary};
+ghost use Rattle.section_sizes.specs.Weights.{AreWeights};
 
 use crate::graph::{Found, finish_order};
-use crate::items::joined;
 use crate::paths::{TrailSizes, paths_of, trail_sizes};
 use bound_rules::bodies::Body;
 use bound_rules::callees::callee;
 use bound_rules::marks::{is_marked, number_at};
 use bound_rules::sizes::{ENDLESS, Summary};
+use bound_rules::weights::{BodyWeights, joined, size_behind, weights_at};
 use sloth_base::app::{App, Func, Op};
 use sloth_base::config::Config;
 use sloth_base::memory::NoMemory;
@@ -83,9 +84,7 @@ fn called_most(
         Op::Invoke { func: called } => {
             if is_marked(body.reached.items(), number) {
                 let callee = callee(body, level, whole, own, number, called);
-                callee
-                    .most
-                    .max(joined(callee.out, number_at(on, number + 1)))
+                callee.most.max(joined(callee.out, size_behind(func.items.items(), on, number)))
             } else {
                 0
             }
@@ -149,7 +148,7 @@ fn called_out(
         Op::Invoke { func: called } => {
             if is_marked(body.reached.items(), number) {
                 let callee = callee(body, level, whole, own, number, called);
-                joined_both(callee.out, number_at(back, number + 1))
+                joined_both(callee.out, size_behind(func.items.items(), back, number))
             } else {
                 0
             }
@@ -210,6 +209,7 @@ pub fn summary(
     alloc: Global,
     config: &Config,
     app: &App,
+    weights: &[BodyWeights],
     number: usize,
     func: &Func,
     body: &Body,
@@ -218,14 +218,15 @@ pub fn summary(
     own: &[Summary],
 ) -> Result<Summary, NoMemory>
     requires well_formed { WellFormed config.now app.now }
+    requires weights { AreWeights app.now weights.now }
     requires known { number < length app.now.funcs }
     requires func { func.now ≡ function app.now number }
     requires body { IsKnownBody config.now app.now number body.now }
-    requires whole { (g : ℕ) → HasCall app.now number g → IsSummary config.now app.now None g (summary_of whole.now g) }
-    requires own { (g : ℕ) → HasCall app.now number g → IsSummary config.now app.now level g (summary_of own.now g) }
+    requires whole { (g : ℕ) → HasCall app.now number g → IsSummary config.now app.now weights.now None g (summary_of whole.now g) }
+    requires own { (g : ℕ) → HasCall app.now number g → IsSummary config.now app.now weights.now level g (summary_of own.now g) }
     requires whole_small { AreCountedUp whole.now }
     requires own_small { AreCountedUp own.now }
-    ensures is { IfOk result (λ summary. IsSummary config.now app.now level number summary) }
+    ensures is { IfOk result (λ summary. IsSummary config.now app.now weights.now level number summary) }
     ensures small { IfOk result IsCountedUp }
 {
     if calls_endless(func, body, level, whole, own) {
@@ -236,6 +237,13 @@ pub fn summary(
         Found::Loop => return Ok(ENDLESS),
         Found::Order(order) => order,
     };
-    let sizes = trail_sizes(alloc, func, whole, &paths, order.items())?;
+    let sizes = trail_sizes(
+        alloc,
+        func,
+        weights_at(weights, number),
+        whole,
+        &paths,
+        order.items(),
+    )?;
     Ok(summary_by(func, body, level, whole, own, &sizes))
 }

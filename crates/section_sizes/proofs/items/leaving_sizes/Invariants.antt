@@ -1,10 +1,10 @@
 use Rattle.std.proofs.Common.{◌≡◌, ℕ, ◌<◌, length, get_or, cond, false}
 use Rattle.sloth_base.specs.Named.{item_of}
-use Rattle.section_sizes.specs.Computed.{leaving_size}
+use Rattle.bound_rules.specs.Weights.{leaving_size}
 use Rattle.section_sizes.proofs.items.leaving_sizes.Given as goal
 
 abbrev pub invariant-loop-number : goal.invariant-loop-number
 invariant-loop-number l = record {
   count : length l.sizes.items ≡ l.number;
-  exact : (i : ℕ) → i < l.number → get_or l.sizes.items i 0 ≡ cond (get_or l.alive i false) (leaving_size (item_of l.func i).op) 0;
+  exact : (i : ℕ) → i < l.number → get_or l.sizes.items i 0 ≡ cond (get_or l.alive i false) (leaving_size (get_or l.weights i 0) (item_of l.func i).op) 0;
 }

@@ -3,4 +3,4 @@ use Rattle.section_sizes.proofs.OrderSummaries.{AreSummariesOf}
 use Rattle.section_sizes.proofs.levels.own_summaries.Given as goal
 
 abbrev pub invariant-loop-number : goal.invariant-loop-number
-invariant-loop-number l = AreSummariesOf l.config l.app (Some l.priority) (take l.number-index l.order) l.own.items
+invariant-loop-number l = AreSummariesOf l.config l.app l.weights (Some l.priority) (take l.number-index l.order) l.own.items
