@@ -1,0 +1,2 @@
+mod CountsFit
+mod Telling
