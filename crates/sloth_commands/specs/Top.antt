@@ -15,6 +15,7 @@ use Rattle.osek_blocking.specs.Protocol.{KeepsCeilingProtocol}
 use Rattle.run_bounds.specs.BlockingBounds.{KeepsBlockingBounds}
 use Rattle.osek_blocking.specs.NextEvents.{IsOnlyRun}
 use Rattle.sim_induction.specs.Sound.{Sound, events_of}
+use Rattle.sim_induction.specs.Weighed.{Weighed}
 use Rattle.sim_laws.specs.TaskStates.{HasTaskStates}
 use Rattle.sloth_io.specs.Counts.{Rose, Stays}
 use Rattle.sloth_io.specs.Sink.{Output, output_with, GainsPart, FailsToPassOn}
@@ -146,6 +147,8 @@ RunsAreOnly config app image = (n : ℕ) → n ≤ count_limit → IsOnlyRun con
 pub record IsBuiltImage (config : Config) (app : App) (image : Image) : Type 0 where
   -- every run of the image, whatever lines arrive, is one of the abstract scheduler
   pub sound : Sound config app image
+  -- no stretch of it takes more counts than its weight, by its event and the state that it finds
+  pub weighed : Weighed config app image
   -- and the machine shows the task states of the abstract scheduler at each count that finds interrupts open
   pub shows : HasTaskStates config app image
   -- so a Ready task is blocked by one lower task at most, and resources are held by one task at a time

@@ -8,6 +8,7 @@ returns-clause-image c =
     let built = c.in_ok-built.ensures in
     record {
       sound = built.sound;
+      weighed = built.weighed;
       shows = built.shows;
       protocol = runs-keep _ _ _ _ _ built.in_range built.accepted built.sound;
       bounds = runs-keep_bounds _ _ _ _ _ built.in_range built.accepted built.sound;
