@@ -1,0 +1,20 @@
+-- Segments as the code has them.
+use Rattle.std.specs.Prelude.{ℕ, ◌+◌, ◌≡◌, ◌≤◌}
+use Rattle.sloth_base.specs.MemoryMap.{memory_base, vectors_base}
+use Rattle.symbol_image.specs.Headers as headers
+use Rattle.symbol_image.specs.declared.borders.Borders.{Borders}
+use Rattle.symbol_image.specs.declared.headers.Segment.{Segment}
+
+-- a segment
+abbrev pub segment_of : Segment → headers.Segment
+segment_of s = record { from = s.from; to = s.to; end = s.end; flags = s.flags }
+
+-- the data begin behind the vector words, and the memory ends behind them
+pub record AreOrdered (borders : Borders) : Type 0 where
+  pub code : vectors_base ≤ borders.code_end
+  pub memory : borders.code_end ≤ borders.end
+
+-- the memory has so many bytes, up to its end; the data begin behind the vector words
+pub record IsMemoryWithin (memory : ℕ) (borders : Borders) : Type 0 where
+  pub ordered : AreOrdered borders
+  pub ends : borders.end ≡ memory_base + memory

@@ -1,0 +1,15 @@
+pub mod Borders
+pub mod DataLines
+pub mod FileParts
+pub mod FrameRows
+pub mod Frames
+pub mod HeaderViews
+pub mod Headers
+pub mod Layout
+pub mod LayoutViews
+pub mod Loading
+pub mod Reading
+pub mod SymbolFile
+pub mod SymbolTable
+pub mod Symbols
+pub mod WordSymbols

@@ -1,0 +1,350 @@
+//! The file of an image that debuggers read.
+ghost use Rattle.std.specs.Prelude.{◌≡◌, ◌≤◌, ◌<◌, ◌+◌, ◌^◌, ◌∷◌, [], IfOk, OnOk, codes, length};
+ghost use Rattle.sloth_base.specs.Limits.{item_limit};
+ghost use Rattle.sloth_base.specs.MemoryMap.{memory_base};
+ghost use Rattle.dwarf_sections.specs.LineRows.{item_count};
+ghost use Rattle.symbol_image.specs.FileParts.{MayShow};
+ghost use Rattle.symbol_image.specs.FrameRows.{HasFrames};
+ghost use Rattle.symbol_image.specs.HeaderViews.{AreOrdered, IsMemoryWithin};
+ghost use Rattle.symbol_image.specs.Layout.{all_laid, laid_with, padded, strings, with_names};
+ghost use Rattle.symbol_image.specs.LayoutViews.{laid_of};
+ghost use Rattle.symbol_image.specs.SymbolFile.{code_sections, data_sections, debugging_sections, entries_section, file_of, frames_section, kinds_section, laid_parts, lines_section, loaded, memory_between, part_sections, rows_of, stack_section, symbol_file, symbol_section, table_sections};
+ghost use Rattle.symbol_image.specs.Symbols.{locals_of, symbols_of};
+ghost use Rattle.symbol_image.specs.WordSymbols.{HasWords};
+
+use crate::borders::{Borders, borders_of};
+use crate::frames::frame_section;
+use crate::headers::{put_elf_header, put_segments};
+use crate::layout::{
+    FRONT, Laid, SectionFields, lay, lay_end, lay_names, lay_plain, lay_strings, none_laid,
+};
+use crate::parts::Parts;
+use crate::piece_symbols::{push_globals, push_locals};
+use crate::symbol::Symbol;
+use crate::symbol_table::{Tables, tables_of};
+use crate::word_symbols::push_words;
+use dwarf_sections::fields::put_bytes;
+use dwarf_sections::line_section::line_section;
+use dwarf_sections::{abbreviation_section, info_section};
+use map_text::Row;
+use sloth_base::memory::NoMemory;
+use sloth_base::memory_map::{MEMORY_BASE, VECTORS_BASE};
+use std::alloc::Global;
+
+/// A section is loaded and written, or loaded and executed.
+const WRITTEN: u32 = 3;
+
+const EXECUTED: u32 = 6;
+
+/// The memory from an address to another.
+#[derive(Clone, Copy)]
+struct Range {
+    from: u32,
+    to: u32,
+}
+
+// The bytes of memory from an address to another.
+fn memory_between(memory: &[u8], range: Range) -> &[u8]
+    requires { (memory_base ≤ range.from) × (range.from ≤ range.to) × (range.to ≤ memory_base + length memory.now) }
+    ensures { result.now ≡ memory_between memory.now range.from range.to }
+{
+    &memory[(range.from - MEMORY_BASE) as usize..(range.to - MEMORY_BASE) as usize]
+}
+
+// Lays out a part of the memory.
+fn lay_loaded(
+    laid: &mut Laid,
+    name: &[u8],
+    flags: u32,
+    memory: &[u8],
+    range: Range,
+) -> Result<(), NoMemory>
+    requires { (memory_base ≤ range.from) × (range.from ≤ range.to) × (range.to ≤ memory_base + length memory.now) }
+    ensures { OnOk result (laid_of laid.new ≡ laid_with (laid_of laid.old) (loaded name.now flags memory.now range.from range.to)) }
+{
+    let contents = memory_between(memory, range);
+    let fields = SectionFields {
+        kind: 1,
+        flags,
+        address: range.from,
+        size: contents.len(),
+        link: 0,
+        info: 0,
+        align: 4,
+        entry: 0,
+    };
+    lay(laid, name, fields, contents)
+}
+
+// Lays out the stacks.
+fn lay_stacks(laid: &mut Laid, borders: &Borders) -> Result<(), NoMemory>
+    ensures { OnOk result (laid_of laid.new ≡ laid_with (laid_of laid.old) (stack_section borders.now)) }
+{
+    let fields = SectionFields {
+        kind: 8,
+        flags: WRITTEN,
+        address: borders.stacks,
+        size: borders.top.saturating_sub(borders.stacks) as usize,
+        link: 0,
+        info: 0,
+        align: 16,
+        entry: 0,
+    };
+    lay(laid, b".stack", fields, b"")
+}
+
+// Lays out the words and the code.
+fn lay_code(laid: &mut Laid, memory: &[u8], borders: &Borders) -> Result<(), NoMemory>
+    requires { IsMemoryWithin (length memory.now) borders.now }
+    ensures { OnOk result (laid_of laid.new ≡ all_laid (laid_of laid.old) (code_sections memory.now borders.now)) }
+{
+    let words = Range {
+        from: MEMORY_BASE,
+        to: VECTORS_BASE,
+    };
+    let code = Range {
+        from: VECTORS_BASE,
+        to: borders.code_end,
+    };
+    lay_loaded(laid, b".words", WRITTEN, memory, words)?;
+    lay_loaded(laid, b".text", EXECUTED, memory, code)
+}
+
+// Lays out the data and the stacks.
+fn lay_data(laid: &mut Laid, memory: &[u8], borders: &Borders) -> Result<(), NoMemory>
+    requires { IsMemoryWithin (length memory.now) borders.now }
+    ensures { OnOk result (laid_of laid.new ≡ all_laid (laid_of laid.old) (data_sections memory.now borders.now)) }
+{
+    let data = Range {
+        from: borders.code_end,
+        to: borders.end,
+    };
+    lay_loaded(laid, b".data", WRITTEN, memory, data)?;
+    lay_stacks(laid, borders)
+}
+
+// Lays out the kinds of entries.
+fn lay_kinds(alloc: Global, laid: &mut Laid) -> Result<(), NoMemory>
+    ensures { OnOk result (laid_of laid.new ≡ laid_with (laid_of laid.old) kinds_section) }
+{
+    let kinds = abbreviation_section(alloc)?;
+    lay_plain(laid, b".debug_abbrev", kinds.as_slice())
+}
+
+// Lays out the entries.
+fn lay_entries(alloc: Global, laid: &mut Laid, parts: &Parts, code_end: u32) -> Result<(), NoMemory>
+    requires { item_count parts.now.app.funcs ≤ item_limit }
+    ensures { OnOk result (laid_of laid.new ≡ laid_with (laid_of laid.old) (entries_section parts.now code_end)) }
+{
+    let entries = info_section(
+        alloc,
+        parts.source,
+        parts.app,
+        &parts.map.places,
+        code_end,
+        parts.lines,
+    )?;
+    lay_plain(laid, b".debug_info", entries.as_slice())
+}
+
+// Lays out the lines.
+fn lay_lines(alloc: Global, laid: &mut Laid, parts: &Parts, code_end: u32) -> Result<(), NoMemory>
+    requires { item_count parts.now.app.funcs ≤ item_limit }
+    ensures { OnOk result (laid_of laid.new ≡ laid_with (laid_of laid.old) (lines_section parts.now code_end)) }
+{
+    let lines = line_section(alloc, parts.source, parts.app, &parts.map.places, code_end)?;
+    lay_plain(laid, b".debug_line", lines.as_slice())
+}
+
+// Lays out the frames.
+fn lay_frames(
+    alloc: Global,
+    laid: &mut Laid,
+    parts: &Parts,
+    code_end: u32,
+    rows: &[Row],
+) -> Result<(), NoMemory>
+    requires { HasFrames parts.now.app parts.now.map.places code_end }
+    ensures { OnOk result (laid_of laid.new ≡ laid_with (laid_of laid.old) (frames_section parts.now code_end rows.now)) }
+{
+    let frames = frame_section(
+        alloc,
+        parts.app,
+        &parts.map.places,
+        code_end,
+        parts.memory,
+        rows,
+    )?;
+    lay_plain(laid, b".debug_frame", frames.as_slice())
+}
+
+// Lays out what debuggers read.
+fn lay_debugging(
+    alloc: Global,
+    laid: &mut Laid,
+    parts: &Parts,
+    code_end: u32,
+    rows: &[Row],
+) -> Result<(), NoMemory>
+    requires { HasFrames parts.now.app parts.now.map.places code_end }
+    ensures { OnOk result (laid_of laid.new ≡ all_laid (laid_of laid.old) (debugging_sections parts.now code_end rows.now)) }
+{
+    lay_kinds(alloc, laid)?;
+    lay_entries(alloc, laid, parts, code_end)?;
+    lay_lines(alloc, laid, parts, code_end)?;
+    lay_frames(alloc, laid, parts, code_end, rows)
+}
+
+/// Symbols, and how many of them are local.
+#[derive(Drop)]
+struct Symbols {
+    all: Vec<Symbol>,
+    locals: usize,
+}
+
+// Appends all symbols, and says how many of them are local.
+fn push_symbols(
+    alloc: Global,
+    all: &mut Vec<Symbol>,
+    parts: &Parts,
+    rows: &[Row],
+) -> Result<usize, NoMemory>
+    requires words { HasWords parts.now.config }
+    requires none { all.now.items ≡ [] }
+    ensures all { IfOk result (λ locals. all.new.items ≡ symbols_of parts.now.config parts.now.app rows.now) }
+    ensures locals { IfOk result (λ locals. locals ≡ length (locals_of parts.now.config rows.now)) }
+    ensures few { IfOk result (λ locals. locals < 2 ^ 63) }
+{
+    push_words(alloc, all, parts.config)?;
+    push_locals(alloc, all, parts.config, rows)?;
+    let locals = all.len();
+    push_globals(alloc, all, parts.app, rows)?;
+    Ok(locals)
+}
+
+// All symbols.
+fn symbols_of(alloc: Global, parts: &Parts, rows: &[Row]) -> Result<Symbols, NoMemory>
+    requires words { HasWords parts.now.config }
+    ensures all { IfOk result (λ symbols. symbols.all.items ≡ symbols_of parts.now.config parts.now.app rows.now) }
+    ensures locals { IfOk result (λ symbols. symbols.locals ≡ length (locals_of parts.now.config rows.now)) }
+    ensures few { IfOk result (λ symbols. symbols.locals < 2 ^ 63) }
+{
+    let mut all = Vec::new(alloc);
+    let locals = push_symbols(alloc, &mut all, parts, rows)?;
+    Ok(Symbols { all, locals })
+}
+
+// Lays out the table of symbols, so many of which are local, and that of their names.
+fn lay_both(laid: &mut Laid, tables: &Tables, locals: usize) -> Result<(), NoMemory>
+    requires { locals < 2 ^ 63 }
+    ensures { OnOk result (laid_of laid.new
+        ≡ all_laid (laid_of laid.old) (symbol_section tables.now.symbols.items locals ∷ strings (codes ".strtab") tables.now.names.items ∷ [])) }
+{
+    let fields = SectionFields {
+        kind: 2,
+        flags: 0,
+        address: 0,
+        size: tables.symbols.len(),
+        link: 10,
+        info: 1 + locals,
+        align: 4,
+        entry: 16,
+    };
+    lay(laid, b".symtab", fields, tables.symbols.as_slice())?;
+    lay_strings(laid, b".strtab", tables.names.as_slice())
+}
+
+// Lays out symbols and their names.
+fn lay_tables(
+    alloc: Global,
+    laid: &mut Laid,
+    borders: &Borders,
+    symbols: &Symbols,
+) -> Result<(), NoMemory>
+    requires { symbols.now.locals < 2 ^ 63 }
+    ensures { OnOk result (laid_of laid.new
+        ≡ all_laid (laid_of laid.old) (table_sections borders.now symbols.now.all.items symbols.now.locals)) }
+{
+    let tables = tables_of(alloc, borders, symbols.all.as_slice())?;
+    lay_both(laid, &tables, symbols.locals)
+}
+
+// Lays out all symbols.
+fn lay_symbols(
+    alloc: Global,
+    laid: &mut Laid,
+    parts: &Parts,
+    borders: &Borders,
+    rows: &[Row],
+) -> Result<(), NoMemory>
+    requires words { HasWords parts.now.config }
+    ensures { OnOk result (laid_of laid.new
+        ≡ all_laid (laid_of laid.old) (table_sections borders.now (symbols_of parts.now.config parts.now.app rows.now)
+        (length (locals_of parts.now.config rows.now)))) }
+{
+    let symbols = symbols_of(alloc, parts, rows)?;
+    lay_tables(alloc, laid, borders, &symbols)
+}
+
+// Lays out all sections.
+fn lay_parts(
+    alloc: Global,
+    laid: &mut Laid,
+    parts: &Parts,
+    borders: &Borders,
+    rows: &[Row],
+) -> Result<(), NoMemory>
+    requires words { HasWords parts.now.config }
+    requires within { IsMemoryWithin (length parts.now.memory) borders.now }
+    requires frames { HasFrames parts.now.app parts.now.map.places borders.now.code_end }
+    ensures { OnOk result (laid_of laid.new ≡ padded (with_names (all_laid (laid_of laid.old) (part_sections parts.now borders.now rows.now)))) }
+{
+    lay_code(laid, parts.memory, borders)?;
+    lay_data(laid, parts.memory, borders)?;
+    lay_debugging(alloc, laid, parts, borders.code_end, rows)?;
+    lay_symbols(alloc, laid, parts, borders, rows)?;
+    lay_names(alloc, laid)?;
+    lay_end(laid)
+}
+
+// All sections, laid out.
+fn laid_parts(
+    alloc: Global,
+    parts: &Parts,
+    borders: &Borders,
+    rows: &[Row],
+) -> Result<Laid, NoMemory>
+    requires words { HasWords parts.now.config }
+    requires within { IsMemoryWithin (length parts.now.memory) borders.now }
+    requires frames { HasFrames parts.now.app parts.now.map.places borders.now.code_end }
+    ensures { IfOk result (λ laid. laid_of laid ≡ laid_parts parts.now borders.now rows.now) }
+{
+    let mut laid = none_laid(alloc)?;
+    lay_parts(alloc, &mut laid, parts, borders, rows)?;
+    Ok(laid)
+}
+
+// The file of sections that are laid out.
+fn file_of(alloc: Global, borders: &Borders, laid: &Laid) -> Result<Vec<u8>, NoMemory>
+    requires { AreOrdered borders.now }
+    ensures { IfOk result (λ file. file.items ≡ file_of borders.now (laid_of laid.now)) }
+{
+    let mut file = Vec::new(alloc);
+    put_elf_header(&mut file, FRONT + laid.contents.len())?;
+    put_segments(&mut file, borders)?;
+    put_bytes(&mut file, laid.contents.as_slice())?;
+    put_bytes(&mut file, laid.headers.as_slice())?;
+    Ok(file)
+}
+
+/// The file of an image that debuggers read: its memory in three segments, and what stands where, by the rows of its map.
+#[tactic(auto, unfolding(crate::specs::SymbolFile::symbol_file))]
+pub fn symbol_file(alloc: Global, parts: &Parts, rows: &[Row]) -> Result<Vec<u8>, NoMemory>
+    requires may { MayShow parts.now }
+    requires rows { rows.now ≡ rows_of parts.now }
+    ensures { IfOk result (λ file. file.items ≡ symbol_file parts.now) }
+{
+    let borders = borders_of(parts.map, parts.memory.len());
+    let laid = laid_parts(alloc, parts, &borders, rows)?;
+    file_of(alloc, &borders, &laid)
+}

@@ -1,0 +1,268 @@
+//! The section of frames.
+ghost use Rattle.std.specs.Prelude.{◌≡◌, ◌≤◌, ◌<◌, ◌+◌, ◌++◌, [], IfOk, OnOk, cond, get_or, length, ltb, take};
+ghost use Rattle.sloth_base.specs.Limits.{item_limit};
+ghost use Rattle.dwarf_sections.specs.LineRows.{item_count};
+ghost use Rattle.symbol_image.specs.FrameRows.{HasFrames};
+ghost use Rattle.symbol_image.specs.Frames.{body_entry, entry_of, first_loss, frame_section, has_result, loses, loss_rule, prologue_rules, row_entry, service_rules, word_at, writes, writes_csr};
+
+use dwarf_sections::body_frames::body_rules;
+use dwarf_sections::fields::{put_bytes, put_unsigned};
+use dwarf_sections::frame_entries::{put_common_entry, put_frame_entry, put_unknown};
+use map_text::{Kind, Row};
+use sloth_base::app::{App, Func};
+use sloth_base::memory::NoMemory;
+use sloth_base::memory_map::{MEMORY_BASE, WORD};
+use sloth_base::places::Places;
+use std::alloc::Global;
+
+/// The columns by which code goes back: items by x1, services by x31, what interrupts by mepc.
+const ITEMS: u32 = 1;
+
+const SERVICES: u32 = 31;
+
+const TAKEN: u32 = 4929;
+
+/// Where their common entries stand.
+const ITEMS_AT: u32 = 0;
+
+const SERVICES_AT: u32 = 20;
+
+const TAKEN_AT: u32 = 36;
+
+/// The number of mepc.
+const MEPC: u32 = 833;
+
+/// What loses the way back.
+#[derive(Clone, Copy)]
+pub enum Lost {
+    ByService,
+    ByPrologue,
+}
+
+// A byte of memory, or zero behind it.
+fn byte_at(memory: &[u8], at: usize) -> u32
+    ensures is { result ≡ get_or memory.now at 0 }
+    ensures small { result ≤ 255 }
+{
+    match memory.get(at) {
+        Some(byte) => u32::from(*byte),
+        None => 0,
+    }
+}
+
+// The number of four bytes.
+fn word_at(memory: &[u8], at: usize) -> u32
+    requires { at ≤ 8589934592 }
+    ensures { result ≡ word_at memory.now at }
+{
+    byte_at(memory, at)
+        + 256 * byte_at(memory, at + 1)
+        + 65_536 * byte_at(memory, at + 2)
+        + 16_777_216 * byte_at(memory, at + 3)
+}
+
+// Whether an instruction has a register of its result: it is no store, no branch and no fence.
+fn has_result(word: u32) -> bool
+    ensures { result ≡ has_result word }
+{
+    let opcode = word % 128;
+    !(opcode == 35 || opcode == 99 || opcode == 15)
+}
+
+// Whether that register is this one.
+fn writes(register: u32, word: u32) -> bool
+    ensures { result ≡ writes register word }
+{
+    has_result(word) && word / 128 % 32 == register
+}
+
+// Whether an instruction is a csrrw of this CSR.
+fn writes_csr(csr: u32, word: u32) -> bool
+    ensures { result ≡ writes_csr csr word }
+{
+    word % 128 == 115 && word / 4096 % 8 == 1 && word / 1_048_576 == csr
+}
+
+// Whether the way back is not known behind an instruction.
+fn loses(what: Lost, word: u32) -> bool
+    ensures { result ≡ loses what word }
+{
+    match what {
+        Lost::ByService => writes(2, word) || writes(31, word),
+        Lost::ByPrologue => writes(1, word) || writes_csr(MEPC, word),
+    }
+}
+
+// The first instruction behind which it is not, from one on, of so many that are left.
+fn first_loss(what: Lost, memory: &[u8], base: usize, from: usize, left: usize) -> Option<usize>
+    requires { (base < 4294967296) × (from + left ≤ 1073741824) }
+    ensures { result ≡ first_loss what memory.now base from left }
+{
+    for k in 0..left {
+        if loses(what, word_at(memory, base + 4 * (from + k))) {
+            return Some(from + k);
+        }
+    }
+    None
+}
+
+// Appends the rule of a loss, unless the piece of so many instructions ends there.
+fn put_loss(
+    rules: &mut Vec<u8>,
+    column: u32,
+    told: usize,
+    count: usize,
+    loss: Option<usize>,
+) -> Result<(), NoMemory>
+    ensures { OnOk result (rules.new.items ≡ rules.old.items ++ loss_rule column told count loss) }
+{
+    let Some(at) = loss else {
+        return Ok(());
+    };
+    if count.saturating_sub(at) <= 1 {
+        return Ok(());
+    }
+    put_bytes(rules, &[2, ((at + 1).saturating_sub(told) % 256) as u8])?;
+    put_unknown(rules, column)
+}
+
+// The rules of a service.
+fn service_rules(alloc: Global, memory: &[u8], base: u32, len: u32) -> Result<Vec<u8>, NoMemory>
+    ensures { IfOk result (λ rules. rules.items ≡ service_rules memory.now base len) }
+{
+    let base = base.saturating_sub(MEMORY_BASE) as usize;
+    let count = (len / WORD) as usize;
+    let loss = first_loss(Lost::ByService, memory, base, 0, count);
+    let mut rules = Vec::new(alloc);
+    put_loss(&mut rules, SERVICES, 0, count, loss)?;
+    Ok(rules)
+}
+
+// The rules of a prologue.
+fn prologue_rules(alloc: Global, memory: &[u8], base: u32, len: u32) -> Result<Vec<u8>, NoMemory>
+    ensures { IfOk result (λ rules. rules.items ≡ prologue_rules memory.now base len) }
+{
+    let base = base.saturating_sub(MEMORY_BASE) as usize;
+    let count = (len / WORD) as usize;
+    let loss = first_loss(Lost::ByPrologue, memory, base, 1, count.saturating_sub(1));
+    let mut rules = Vec::from_slice(alloc, &[2, 1, 12, 1])?;
+    put_unsigned(&mut rules, 128)?;
+    put_loss(&mut rules, TAKEN, 1, count, loss)?;
+    Ok(rules)
+}
+
+// Appends the entry of a row's bytes.
+fn put_entry(
+    alloc: Global,
+    section: &mut Vec<u8>,
+    common: u32,
+    rules: &[u8],
+    row: &Row,
+) -> Result<(), NoMemory>
+    ensures { OnOk result (section.new.items ≡ section.old.items ++ entry_of common rules.now row.now) }
+{
+    put_frame_entry(alloc, section, common, row.base, row.len, rules)
+}
+
+// The items of the first bodies, so many of them, together.
+fn items_before(funcs: &[Func], number: usize) -> usize
+    requires few { item_count (take number funcs.now) ≤ item_limit }
+    requires there { number ≤ length funcs.now }
+    ensures { result ≡ item_count (take number funcs.now) }
+{
+    let mut count = 0;
+    for func in &funcs[..number] {
+        count += func.items.items().len();
+    }
+    count
+}
+
+// Appends the entry of a body.
+fn put_body(
+    alloc: Global,
+    section: &mut Vec<u8>,
+    app: &App,
+    places: &Places,
+    code_end: u32,
+    row: &Row,
+) -> Result<(), NoMemory>
+    requires frames { HasFrames app.now places.now code_end }
+    requires there { row.now.number < length app.now.funcs }
+    ensures { OnOk result (section.new.items ≡ section.old.items ++ body_entry app.now places.now code_end row.now) }
+{
+    let funcs = app.funcs.items();
+    let first = items_before(funcs, row.number);
+    let rules = body_rules(alloc, app, places, code_end, first, &funcs[row.number])?;
+    put_entry(alloc, section, ITEMS_AT, rules.as_slice(), row)
+}
+
+// Appends the entry of a body, if there is one of the row's number.
+fn put_code(
+    alloc: Global,
+    section: &mut Vec<u8>,
+    app: &App,
+    places: &Places,
+    code_end: u32,
+    row: &Row,
+) -> Result<(), NoMemory>
+    requires { HasFrames app.now places.now code_end }
+    ensures { OnOk result (section.new.items
+        ≡ section.old.items ++ cond (ltb row.now.number (length app.now.funcs)) (body_entry app.now places.now code_end row.now) []) }
+{
+    if row.number < app.funcs.items().len() {
+        return put_body(alloc, section, app, places, code_end, row);
+    }
+    Ok(())
+}
+
+// Appends the entry of a row, if it is code.
+fn put_row(
+    alloc: Global,
+    section: &mut Vec<u8>,
+    app: &App,
+    places: &Places,
+    code_end: u32,
+    memory: &[u8],
+    row: &Row,
+) -> Result<(), NoMemory>
+    requires { HasFrames app.now places.now code_end }
+    ensures { OnOk result (section.new.items ≡ section.old.items ++ row_entry app.now places.now code_end memory.now row.now) }
+{
+    match row.kind {
+        Kind::Boot | Kind::Idle => put_entry(alloc, section, ITEMS_AT, &[], row),
+        Kind::Vectors | Kind::Tick => put_entry(alloc, section, TAKEN_AT, &[], row),
+        Kind::Prologue => {
+            let rules = prologue_rules(alloc, memory, row.base, row.len)?;
+            put_entry(alloc, section, TAKEN_AT, rules.as_slice(), row)
+        }
+        Kind::Service => {
+            let rules = service_rules(alloc, memory, row.base, row.len)?;
+            put_entry(alloc, section, SERVICES_AT, rules.as_slice(), row)
+        }
+        Kind::Code => put_code(alloc, section, app, places, code_end, row),
+        Kind::Words | Kind::Data | Kind::End | Kind::Shared | Kind::Stack | Kind::Between => Ok(()),
+    }
+}
+
+/// The section of the frames of all code.
+#[tactic(auto, unfolding(crate::specs::Frames::frame_section))]
+pub fn frame_section(
+    alloc: Global,
+    app: &App,
+    places: &Places,
+    code_end: u32,
+    memory: &[u8],
+    rows: &[Row],
+) -> Result<Vec<u8>, NoMemory>
+    requires { HasFrames app.now places.now code_end }
+    ensures { IfOk result (λ section. section.items ≡ frame_section app.now places.now code_end memory.now rows.now) }
+{
+    let mut section = Vec::new(alloc);
+    put_common_entry(alloc, &mut section, ITEMS, true)?;
+    put_common_entry(alloc, &mut section, SERVICES, false)?;
+    put_common_entry(alloc, &mut section, TAKEN, false)?;
+    for row in rows {
+        put_row(alloc, &mut section, app, places, code_end, memory, row)?;
+    }
+    Ok(section)
+}

@@ -1,0 +1,120 @@
+//! The ELF header and the program headers.
+ghost use Rattle.std.specs.Prelude.{◌≡◌, ◌≤◌, ◌++◌, OnOk};
+ghost use Rattle.std.specs.List.{flat_map};
+ghost use Rattle.image_file.specs.Fields.{two_bytes};
+ghost use Rattle.sloth_base.specs.MemoryMap.{memory_base};
+ghost use Rattle.symbol_image.specs.Headers.{elf_header, elf_kind, elf_places, segment_header, segment_headers};
+ghost use Rattle.symbol_image.specs.HeaderViews.{AreOrdered, segment_of};
+
+use crate::borders::Borders;
+use crate::layout::FRONT;
+use dwarf_sections::fields::{put_bytes, put_length};
+use elf_image::headers::put_words;
+use image_file::number_fields::put_u16;
+use sloth_base::memory::NoMemory;
+use sloth_base::memory_map::{BOOT_BASE, MEMORY_BASE, VECTORS_BASE};
+
+/// A segment may be read and written, or read and executed.
+const WRITTEN: u32 = 6;
+
+const EXECUTED: u32 = 5;
+
+/// A segment: its bytes stand in the file from an address to another, and it has memory up to an end.
+#[derive(Clone, Copy)]
+struct Segment {
+    from: u32,
+    to: u32,
+    end: u32,
+    flags: u32,
+}
+
+// Appends numbers, each in two bytes.
+fn put_halves(file: &mut Vec<u8>, halves: &[u16]) -> Result<(), NoMemory>
+    ensures { OnOk result (file.new.items ≡ file.old.items ++ flat_map two_bytes halves.now) }
+{
+    for half in halves {
+        put_u16(file, *half)?;
+    }
+    Ok(())
+}
+
+// Appends what kind of ELF file it is: an executable of 32 bits, low byte first, for RISC-V.
+fn put_kind(file: &mut Vec<u8>) -> Result<(), NoMemory>
+    ensures { OnOk result (file.new.items ≡ file.old.items ++ elf_kind) }
+{
+    put_bytes(file, b"\x7fELF")?;
+    put_bytes(file, &[1, 1, 1, 0, 0, 0, 0, 0, 0, 0, 0, 0])?;
+    put_halves(file, &[2, 243])
+}
+
+// Appends where the file begins, and where its headers stand.
+fn put_places(file: &mut Vec<u8>, sections_at: usize) -> Result<(), NoMemory>
+    ensures { OnOk result (file.new.items ≡ file.old.items ++ elf_places sections_at) }
+{
+    put_words(file, &[1, BOOT_BASE, 52])?;
+    put_length(file, sections_at)?;
+    put_words(file, &[0])
+}
+
+/// Appends the ELF header; the section headers stand at a place.
+pub fn put_elf_header(file: &mut Vec<u8>, sections_at: usize) -> Result<(), NoMemory>
+    ensures { OnOk result (file.new.items ≡ file.old.items ++ elf_header sections_at) }
+{
+    put_kind(file)?;
+    put_places(file, sections_at)?;
+    put_halves(file, &[52, 32, 3, 40, 12, 11])
+}
+
+// Appends the header of a segment.
+fn put_segment(file: &mut Vec<u8>, segment: Segment) -> Result<(), NoMemory>
+    requires { (memory_base ≤ segment.from) × (segment.from ≤ segment.to) × (segment.from ≤ segment.end) }
+    ensures { OnOk result (file.new.items ≡ file.old.items ++ segment_header (segment_of segment)) }
+{
+    put_words(file, &[1])?;
+    put_length(file, FRONT + (segment.from - MEMORY_BASE) as usize)?;
+    put_words(
+        file,
+        &[
+            segment.from,
+            segment.from,
+            segment.to - segment.from,
+            segment.end - segment.from,
+            segment.flags,
+            4,
+        ],
+    )
+}
+
+/// Appends the headers of the three segments.
+pub fn put_segments(file: &mut Vec<u8>, borders: &Borders) -> Result<(), NoMemory>
+    requires { AreOrdered borders.now }
+    ensures { OnOk result (file.new.items ≡ file.old.items ++ segment_headers borders.now) }
+{
+    put_segment(
+        file,
+        Segment {
+            from: MEMORY_BASE,
+            to: VECTORS_BASE,
+            end: VECTORS_BASE,
+            flags: WRITTEN,
+        },
+    )?;
+    put_segment(
+        file,
+        Segment {
+            from: VECTORS_BASE,
+            to: borders.code_end,
+            end: borders.code_end,
+            flags: EXECUTED,
+        },
+    )?;
+    put_segment(
+        file,
+        Segment {
+            from: borders.code_end,
+            to: borders.end,
+            end: borders.top.max(borders.end),
+            flags: WRITTEN,
+        },
+    )
+}

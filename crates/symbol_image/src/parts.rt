@@ -1,0 +1,33 @@
+//! What a file for debuggers is made from.
+
+use sloth_base::app::App;
+use sloth_base::config::Config;
+use sloth_region::map::Map;
+use std::marker::Model;
+
+/// The name of the source; what it means with its configuration; the map that is planned for it; the lines in which it declares its symbols;
+/// and the image's memory.
+#[derive(Drop)]
+pub struct Parts<'t> {
+    pub source: &'t [u8],
+    pub config: &'t Config,
+    pub app: &'t App,
+    pub map: &'t Map,
+    pub lines: &'t [u32],
+    pub memory: &'t [u8],
+}
+
+impl<'t> Model for Parts<'t> {
+    ghost use Rattle.symbol_image.specs.FileParts.{FileParts};
+
+    ghost Value = { FileParts };
+
+    ghost view = { λ parts. record {
+      source = parts.source.now;
+      config = parts.config.now;
+      app = parts.app.now;
+      map = parts.map.now;
+      lines = parts.lines.now;
+      memory = parts.memory.now;
+    } };
+}

@@ -1,0 +1,248 @@
+//! The symbols of the pieces of an image.
+ghost use Rattle.std.specs.Prelude.{◌≡◌, ◌++◌, IfOk, OnOk, get_or, length};
+ghost use Rattle.std.specs.List.{flat_map};
+ghost use Rattle.sloth_base.specs.Blocks.{block_object, block_service};
+ghost use Rattle.sloth_base.specs.Named.{no_symbol};
+ghost use Rattle.sloth_base.specs.ServiceCodes.{object_kind, service_name};
+ghost use Rattle.symbol_image.specs.Symbols.{block_symbol, global_at, global_symbols, joined, local_at, local_symbols, service_symbol};
+ghost use Rattle.symbol_image.specs.declared.symbol.SymbolKind.TheVariants as function;
+
+use crate::object_names::{
+    alarm_name, counter_name, function_name, resource_name, symbol_name, task_name,
+};
+use crate::symbol::{Binding, Symbol, SymbolKind, copied, joined};
+use map_text::{Kind, Row};
+use sloth_base::app::App;
+use sloth_base::config::Config;
+use sloth_base::list::List;
+use sloth_base::memory::NoMemory;
+use sloth_base::places::{BLOCK_COUNT, block_object, block_service};
+use sloth_base::service::{ObjectKind, Service};
+use std::alloc::Global;
+use text_pieces::growth::push;
+
+// A service joined to its object, or without one to the kernel.
+fn service_symbol(
+    alloc: Global,
+    config: &Config,
+    service: Service,
+    number: u32,
+) -> Result<List<u8>, NoMemory>
+    ensures { IfOk result (λ name. name ≡ service_symbol config.now (service_name service) (object_kind service) number) }
+{
+    let name = service.name();
+    match service.object_kind() {
+        ObjectKind::Nothing => joined(alloc, b"kernel", name),
+        ObjectKind::Task => joined(alloc, name, task_name(config, number as usize)),
+        ObjectKind::Resource => joined(alloc, name, resource_name(config, number)),
+        ObjectKind::Alarm => joined(alloc, name, alarm_name(config, number as usize)),
+    }
+}
+
+// The service with its object that has a place in the table of the services' code.
+#[tactic(auto, using(map_text::proofs::Services::no_service))]
+fn block_symbol(alloc: Global, config: &Config, number: usize) -> Result<List<u8>, NoMemory>
+    ensures { IfOk result (λ name. name ≡ block_symbol config.now (block_service number) (block_object number)) }
+{
+    if number >= BLOCK_COUNT {
+        return copied(alloc, b"-");
+    }
+    match block_service(number) {
+        Some(service) => service_symbol(alloc, config, service, block_object(number)),
+        None => copied(alloc, b"-"),
+    }
+}
+
+// Appends the local symbol of a row's bytes.
+fn push_local(
+    symbols: &mut Vec<Symbol>,
+    name: List<u8>,
+    kind: SymbolKind,
+    row: &Row,
+) -> Result<(), NoMemory>
+    ensures { OnOk result (symbols.new.items ≡ symbols.old.items ++ local_at name kind row.now) }
+{
+    push(
+        symbols,
+        Symbol {
+            name,
+            address: row.base,
+            size: row.len as usize,
+            kind,
+            binding: Binding::Local,
+        },
+    )
+}
+
+// Appends the symbol of a kernel's piece of which there is one.
+fn push_single(
+    alloc: Global,
+    symbols: &mut Vec<Symbol>,
+    name: &[u8],
+    kind: SymbolKind,
+    row: &Row,
+) -> Result<(), NoMemory>
+    ensures { OnOk result (symbols.new.items ≡ symbols.old.items ++ local_at name.now kind row.now) }
+{
+    let name = copied(alloc, name)?;
+    push_local(symbols, name, kind, row)
+}
+
+// Appends the symbol of a kernel's piece for an object.
+fn push_joined(
+    alloc: Global,
+    symbols: &mut Vec<Symbol>,
+    one: &[u8],
+    other: &[u8],
+    kind: SymbolKind,
+    row: &Row,
+) -> Result<(), NoMemory>
+    ensures { OnOk result (symbols.new.items ≡ symbols.old.items ++ local_at (joined one.now other.now) kind row.now) }
+{
+    let name = joined(alloc, one, other)?;
+    push_local(symbols, name, kind, row)
+}
+
+// Appends the symbol of the code of a service.
+fn push_service(
+    alloc: Global,
+    symbols: &mut Vec<Symbol>,
+    config: &Config,
+    row: &Row,
+) -> Result<(), NoMemory>
+    ensures { OnOk result (symbols.new.items
+        ≡ symbols.old.items ++ local_at (block_symbol config.now (block_service row.now.number) (block_object row.now.number)) function.Function row.now) }
+{
+    let name = block_symbol(alloc, config, row.number)?;
+    push_local(symbols, name, SymbolKind::Function, row)
+}
+
+// Appends the symbol of a row, if it is a piece of the kernel.
+fn push_local_of(
+    alloc: Global,
+    symbols: &mut Vec<Symbol>,
+    config: &Config,
+    row: &Row,
+) -> Result<(), NoMemory>
+    ensures { OnOk result (symbols.new.items ≡ symbols.old.items ++ local_symbols config.now row.now) }
+{
+    let code = SymbolKind::Function;
+    let data = SymbolKind::Object;
+    let number = row.number;
+    match row.kind {
+        Kind::Words | Kind::Code | Kind::Data | Kind::End | Kind::Between => Ok(()),
+        Kind::Vectors => push_single(alloc, symbols, b"kernel$vectors", code, row),
+        Kind::Boot => push_single(alloc, symbols, b"kernel$boot", code, row),
+        Kind::Idle => push_single(alloc, symbols, b"kernel$idle", code, row),
+        Kind::Prologue => {
+            let task = task_name(config, number);
+            push_joined(alloc, symbols, b"prologue", task, code, row)
+        }
+        Kind::Tick => {
+            let counter = counter_name(config, number);
+            push_joined(alloc, symbols, b"tick", counter, code, row)
+        }
+        Kind::Service => push_service(alloc, symbols, config, row),
+        Kind::Shared => push_single(alloc, symbols, b"kernel$stack", data, row),
+        Kind::Stack => {
+            let task = task_name(config, number);
+            push_joined(alloc, symbols, b"stack", task, data, row)
+        }
+    }
+}
+
+// The bytes that a symbol of the task code is declared with.
+fn declared_size(app: &App, number: usize) -> usize
+    ensures { result ≡ length (get_or app.now.symbols number no_symbol).bytes }
+{
+    match app.symbols.items().get(number) {
+        Some(symbol) => symbol.bytes.items().len(),
+        None => 0,
+    }
+}
+
+// Appends a global symbol of so many of a row's bytes.
+fn push_global(
+    alloc: Global,
+    symbols: &mut Vec<Symbol>,
+    name: &[u8],
+    kind: SymbolKind,
+    size: usize,
+    row: &Row,
+) -> Result<(), NoMemory>
+    ensures { OnOk result (symbols.new.items ≡ symbols.old.items ++ global_at name.now kind size row.now) }
+{
+    let name = copied(alloc, name)?;
+    push(
+        symbols,
+        Symbol {
+            name,
+            address: row.base,
+            size,
+            kind,
+            binding: Binding::Global,
+        },
+    )
+}
+
+// Appends the symbol of a row, if it is a body or data.
+fn push_global_of(
+    alloc: Global,
+    symbols: &mut Vec<Symbol>,
+    app: &App,
+    row: &Row,
+) -> Result<(), NoMemory>
+    ensures { OnOk result (symbols.new.items ≡ symbols.old.items ++ global_symbols app.now row.now) }
+{
+    match row.kind {
+        Kind::Code => {
+            let name = function_name(app, row.number);
+            push_global(
+                alloc,
+                symbols,
+                name,
+                SymbolKind::Function,
+                row.len as usize,
+                row,
+            )
+        }
+        Kind::Data => {
+            let name = symbol_name(app, row.number);
+            let size = declared_size(app, row.number);
+            push_global(alloc, symbols, name, SymbolKind::Object, size, row)
+        }
+        Kind::Words | Kind::Vectors | Kind::Boot | Kind::Idle | Kind::Prologue => Ok(()),
+        Kind::Tick | Kind::Service | Kind::End | Kind::Shared | Kind::Stack => Ok(()),
+        Kind::Between => Ok(()),
+    }
+}
+
+/// Appends the symbols of the kernel's pieces, in the order of the rows.
+pub fn push_locals(
+    alloc: Global,
+    symbols: &mut Vec<Symbol>,
+    config: &Config,
+    rows: &[Row],
+) -> Result<(), NoMemory>
+    ensures { OnOk result (symbols.new.items ≡ symbols.old.items ++ flat_map (local_symbols config.now) rows.now) }
+{
+    for row in rows {
+        push_local_of(alloc, symbols, config, row)?;
+    }
+    Ok(())
+}
+
+/// Appends the symbols of bodies and data, in the order of the rows.
+pub fn push_globals(
+    alloc: Global,
+    symbols: &mut Vec<Symbol>,
+    app: &App,
+    rows: &[Row],
+) -> Result<(), NoMemory>
+    ensures { OnOk result (symbols.new.items ≡ symbols.old.items ++ flat_map (global_symbols app.now) rows.now) }
+{
+    for row in rows {
+        push_global_of(alloc, symbols, app, row)?;
+    }
+    Ok(())
+}

@@ -1,0 +1,82 @@
+//! The table of symbols, and the table of their names.
+ghost use Rattle.std.specs.Prelude.{◌≡◌, ◌++◌, IfOk, OnOk};
+ghost use Rattle.symbol_image.specs.SymbolTable.{name_table, section_number, symbol_bytes, symbol_info, symbol_table};
+
+use crate::borders::Borders;
+use crate::symbol::{Binding, Symbol, SymbolKind};
+use dwarf_sections::fields::{put_bytes, put_length, put_text};
+use image_file::number_fields::{put_u16, put_u32};
+use sloth_base::memory::NoMemory;
+use sloth_base::memory_map::VECTORS_BASE;
+use std::alloc::Global;
+
+// The number of the section in which an address lies: words, code, data or stacks.
+fn section_number(borders: &Borders, address: u32) -> u16
+    ensures { result ≡ section_number borders.now address }
+{
+    if address < VECTORS_BASE {
+        1
+    } else if address < borders.code_end {
+        2
+    } else if address < borders.end {
+        3
+    } else {
+        4
+    }
+}
+
+// Binding and kind in one byte.
+fn symbol_info(symbol: &Symbol) -> u8
+    ensures { result ≡ symbol_info symbol.now }
+{
+    let binding = match symbol.binding {
+        Binding::Local => 0,
+        Binding::Global => 1,
+    };
+    let kind = match symbol.kind {
+        SymbolKind::Object => 1,
+        SymbolKind::Function => 2,
+    };
+    binding * 16 + kind
+}
+
+// Appends a symbol whose name stands at a place of the names.
+fn put_symbol(
+    table: &mut Vec<u8>,
+    borders: &Borders,
+    name: usize,
+    symbol: &Symbol,
+) -> Result<(), NoMemory>
+    ensures { OnOk result (table.new.items ≡ table.old.items ++ symbol_bytes borders.now name symbol.now) }
+{
+    put_length(table, name)?;
+    put_u32(table, symbol.address)?;
+    put_length(table, symbol.size)?;
+    put_bytes(table, &[symbol_info(symbol), 0])?;
+    put_u16(table, section_number(borders, symbol.address))
+}
+
+/// The two tables.
+#[derive(Drop)]
+pub struct Tables {
+    pub symbols: Vec<u8>,
+    pub names: Vec<u8>,
+}
+
+/// The tables of symbols.
+#[tactic(auto, unfolding(crate::specs::SymbolTable::symbol_table, crate::specs::SymbolTable::name_table))]
+pub fn tables_of(alloc: Global, borders: &Borders, symbols: &[Symbol]) -> Result<Tables, NoMemory>
+    ensures symbols { IfOk result (λ tables. tables.symbols.items ≡ symbol_table borders.now symbols.now) }
+    ensures names { IfOk result (λ tables. tables.names.items ≡ name_table symbols.now) }
+{
+    let mut table = Vec::from_slice(alloc, &[0; 16])?;
+    let mut names = Vec::from_slice(alloc, &[0])?;
+    for symbol in symbols {
+        put_symbol(&mut table, borders, names.len(), symbol)?;
+        put_text(&mut names, symbol.name.items())?;
+    }
+    Ok(Tables {
+        symbols: table,
+        names,
+    })
+}

@@ -1,0 +1,228 @@
+//! The symbols of the kernel's words.
+ghost use Rattle.std.specs.Prelude.{◌≡◌, ◌≤◌, ◌<◌, ◌++◌, ◌∷◌, [], OnOk, length};
+ghost use Rattle.sloth_base.specs.Limits.{alarm_limit, counter_limit, resource_limit, task_limit};
+ghost use Rattle.sloth_base.specs.ConfigRange.{scheduler_number};
+ghost use Rattle.sloth_region.specs.Layout.{saved_level};
+ghost use Rattle.symbol_image.specs.Symbols.{alarm_words, context_symbol, counter_words, first_words, joined, last_words, object_at, resume_words, saved_words, scheduler_word, scheduler_words, state_words, word_at, word_symbols};
+ghost use Rattle.symbol_image.specs.WordSymbols.{HasWords};
+
+use crate::symbol::{Binding, Symbol, SymbolKind, copied, joined};
+use sloth_base::config::{AlarmDecl, Config, CounterDecl, TaskDecl};
+use sloth_base::list::List;
+use sloth_base::memory::NoMemory;
+use sloth_base::memory_map::MEMORY_BASE;
+use sloth_base::name::Name;
+use sloth_base::numbers::RES_SCHEDULER;
+use sloth_region::layout::{
+    BELOW_WORD, CONTEXT_BYTES, CUR, IDLE_CONTEXT, active, alarm_cycle, alarm_left, counter_value,
+    events, resume, saved, wait,
+};
+use std::alloc::Global;
+use text_pieces::growth::push;
+
+/// The bytes of a word.
+const BYTES: usize = 4;
+
+// A local object of so many bytes at an offset.
+fn object_at(name: List<u8>, offset: u32, size: usize) -> Symbol
+    requires { offset ≤ 1023 }
+    ensures { result ≡ object_at name offset size }
+{
+    Symbol {
+        name,
+        address: MEMORY_BASE + offset,
+        size,
+        kind: SymbolKind::Object,
+        binding: Binding::Local,
+    }
+}
+
+// Appends a word, by two names that are joined.
+fn push_word(
+    alloc: Global,
+    symbols: &mut Vec<Symbol>,
+    one: &[u8],
+    other: &[u8],
+    offset: u32,
+) -> Result<(), NoMemory>
+    requires { offset ≤ 1023 }
+    ensures { OnOk result (symbols.new.items ≡ symbols.old.items ++ word_at (joined one.now other.now) offset ∷ []) }
+{
+    let name = joined(alloc, one, other)?;
+    push(symbols, object_at(name, offset, BYTES))
+}
+
+// Appends an object of the kernel alone.
+fn push_object(
+    alloc: Global,
+    symbols: &mut Vec<Symbol>,
+    name: &[u8],
+    offset: u32,
+    size: usize,
+) -> Result<(), NoMemory>
+    requires { offset ≤ 1023 }
+    ensures { OnOk result (symbols.new.items ≡ symbols.old.items ++ object_at name.now offset size ∷ []) }
+{
+    let name = copied(alloc, name)?;
+    push(symbols, object_at(name, offset, size))
+}
+
+// Appends the states of tasks.
+fn push_states(alloc: Global, symbols: &mut Vec<Symbol>, tasks: &[TaskDecl]) -> Result<(), NoMemory>
+    requires { length tasks.now ≤ task_limit }
+    ensures { OnOk result (symbols.new.items ≡ symbols.old.items ++ state_words 0 tasks.now) }
+{
+    for number in 0..tasks.len() {
+        let name = tasks[number].name.bytes();
+        let task = number as u8;
+        push_word(alloc, symbols, b"active", name, active(task) as u32)?;
+        push_word(alloc, symbols, b"events", name, events(task) as u32)?;
+        push_word(alloc, symbols, b"wait", name, wait(task) as u32)?;
+    }
+    Ok(())
+}
+
+// Appends the values of counters.
+fn push_counters(
+    alloc: Global,
+    symbols: &mut Vec<Symbol>,
+    counters: &[CounterDecl],
+) -> Result<(), NoMemory>
+    requires { length counters.now ≤ counter_limit }
+    ensures { OnOk result (symbols.new.items ≡ symbols.old.items ++ counter_words 0 counters.now) }
+{
+    for number in 0..counters.len() {
+        let name = counters[number].name.bytes();
+        push_word(
+            alloc,
+            symbols,
+            b"value",
+            name,
+            counter_value(number as u8) as u32,
+        )?;
+    }
+    Ok(())
+}
+
+// Appends what alarms have left, and their cycles.
+fn push_alarms(
+    alloc: Global,
+    symbols: &mut Vec<Symbol>,
+    alarms: &[AlarmDecl],
+) -> Result<(), NoMemory>
+    requires { length alarms.now ≤ alarm_limit }
+    ensures { OnOk result (symbols.new.items ≡ symbols.old.items ++ alarm_words 0 alarms.now) }
+{
+    for number in 0..alarms.len() {
+        let name = alarms[number].name.bytes();
+        let alarm = number as u8;
+        push_word(alloc, symbols, b"left", name, alarm_left(alarm) as u32)?;
+        push_word(alloc, symbols, b"cycle", name, alarm_cycle(alarm) as u32)?;
+    }
+    Ok(())
+}
+
+// Appends where the tasks' own contexts stand.
+fn push_resumes(
+    alloc: Global,
+    symbols: &mut Vec<Symbol>,
+    tasks: &[TaskDecl],
+) -> Result<(), NoMemory>
+    requires { length tasks.now ≤ task_limit }
+    ensures { OnOk result (symbols.new.items ≡ symbols.old.items ++ resume_words 0 tasks.now) }
+{
+    for number in 0..tasks.len() {
+        let name = tasks[number].name.bytes();
+        push_word(
+            alloc,
+            symbols,
+            b"resume",
+            name,
+            resume(number as u32) as u32,
+        )?;
+    }
+    Ok(())
+}
+
+// Appends the levels at which resources were taken.
+fn push_levels(alloc: Global, symbols: &mut Vec<Symbol>, resources: &[Name]) -> Result<(), NoMemory>
+    requires { length resources.now ≤ resource_limit }
+    ensures { OnOk result (symbols.new.items ≡ symbols.old.items ++ saved_words 0 resources.now) }
+{
+    for number in 0..resources.len() {
+        let name = resources[number].bytes();
+        push_word(alloc, symbols, b"saved", name, saved(number as u8) as u32)?;
+    }
+    Ok(())
+}
+
+// Where the level at which RES_SCHEDULER was taken stands.
+fn scheduler_level() -> u32
+    ensures { result ≡ saved_level scheduler_number }
+{
+    saved(RES_SCHEDULER as u8) as u32
+}
+
+// Appends the level at which RES_SCHEDULER was taken.
+fn push_scheduler_level(alloc: Global, symbols: &mut Vec<Symbol>) -> Result<(), NoMemory>
+    ensures { OnOk result (symbols.new.items ≡ symbols.old.items ++ scheduler_word ∷ []) }
+{
+    let level = scheduler_level();
+    push_word(alloc, symbols, b"saved", b"RES_SCHEDULER", level)
+}
+
+// The same, if RES_SCHEDULER exists.
+fn push_scheduler(alloc: Global, symbols: &mut Vec<Symbol>, exists: bool) -> Result<(), NoMemory>
+    ensures { OnOk result (symbols.new.items ≡ symbols.old.items ++ scheduler_words exists) }
+{
+    if exists {
+        return push_scheduler_level(alloc, symbols);
+    }
+    Ok(())
+}
+
+// Appends those of the words that say what runs, of the states of tasks, and of the clock.
+fn push_first(alloc: Global, symbols: &mut Vec<Symbol>, config: &Config) -> Result<(), NoMemory>
+    requires { HasWords config.now }
+    ensures { OnOk result (symbols.new.items ≡ symbols.old.items ++ first_words config.now) }
+{
+    push_object(alloc, symbols, b"kernel$cur", CUR as u32, BYTES)?;
+    push_states(alloc, symbols, config.tasks.items())?;
+    push_counters(alloc, symbols, config.counters.items())?;
+    push_alarms(alloc, symbols, config.alarms.items())
+}
+
+// Appends that of the context of the idle loop.
+fn push_context(alloc: Global, symbols: &mut Vec<Symbol>) -> Result<(), NoMemory>
+    ensures { OnOk result (symbols.new.items ≡ symbols.old.items ++ context_symbol ∷ []) }
+{
+    push_object(
+        alloc,
+        symbols,
+        b"kernel$idle_context",
+        IDLE_CONTEXT as u32,
+        CONTEXT_BYTES as usize,
+    )
+}
+
+// Appends those of the words behind them.
+fn push_last(alloc: Global, symbols: &mut Vec<Symbol>, config: &Config) -> Result<(), NoMemory>
+    requires { HasWords config.now }
+    ensures { OnOk result (symbols.new.items ≡ symbols.old.items ++ last_words config.now) }
+{
+    push_object(alloc, symbols, b"kernel$below", BELOW_WORD as u32, BYTES)?;
+    push_resumes(alloc, symbols, config.tasks.items())?;
+    push_levels(alloc, symbols, config.resources.items())?;
+    push_scheduler(alloc, symbols, config.res_scheduler)?;
+    push_context(alloc, symbols)
+}
+
+/// Appends the symbols of all service words, and that of the context of the idle loop.
+#[tactic(auto, unfolding(crate::specs::Symbols::word_symbols))]
+pub fn push_words(alloc: Global, symbols: &mut Vec<Symbol>, config: &Config) -> Result<(), NoMemory>
+    requires { HasWords config.now }
+    ensures { OnOk result (symbols.new.items ≡ symbols.old.items ++ word_symbols config.now) }
+{
+    push_first(alloc, symbols, config)?;
+    push_last(alloc, symbols, config)
+}
