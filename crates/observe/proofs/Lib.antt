@@ -9,3 +9,5 @@ pub mod Masking
 pub mod Places
 mod Rows
 mod LeavingRows
+mod PassingBy
+pub mod Marking

@@ -1,4 +1,5 @@
 pub mod Pieces
+pub mod MarkTable
 pub mod Observe
 pub mod Touches
 pub mod Progress

@@ -1,7 +1,10 @@
 -- An observer that is fed one step at a time.
-use Rattle.std.specs.Prelude.{ℕ, ◌≡◌, ◌+◌, ◌-◌, ◌≤◌, nat_le, not, if◌then◌else◌, List, [], ◌∷◌, ◌++◌, map, filter, take_while, length, take, drop, replicate, Option, Some, None}
+use Rattle.std.specs.Prelude.{ℕ, Bool, true, false, ◌≡◌, ◌+◌, ◌-◌, ◌≤◌, ◌==◌, ◌&&◌, ◌||◌, nat_le, not, is_some, if◌then◌else◌, List, [], ◌∷◌, ◌++◌, map, filter, take_while, length, take, drop, replicate, Option, Some, None}
 use Rattle.sloth_base.specs.declared.event.Arrival.{Arrival}
 use Rattle.sloth_base.specs.declared.event.Stamped.{Stamped}
+use Rattle.sloth_base.specs.declared.image.Mark.{Mark}
+use Rattle.sloth_base.specs.declared.image.MarkKind.{MarkKind}
+use Rattle.sloth_base.specs.declared.image.MarkKind.TheVariants as kind
 use Rattle.sloth_base.specs.declared.step.Step.{Step}
 use Rattle.sloth_base.specs.Arrivals.{AreRisingMoments}
 use Rattle.observe.specs.declared.observing.Observer.{Observer}
@@ -106,9 +109,13 @@ abbrev pub joined_progress : View → Progress → Step → Step → Progress
 joined_progress view p first step =
     if step.enabled_after then progress_behind_stretch view (noted_progress p step) first step else record (noted_progress p step) { first = Some first }
 
--- the step is counted, and its arrivals have passed
+-- a count and its arrivals have passed
+abbrev pub passed_count : Progress → ℕ → Progress
+passed_count p count = record p { expected = p.expected + 1; coming = arrivals_behind count p.coming; found = []; before = []; event = None; after = [] }
+
+-- those of a step
 abbrev pub passed_progress : Progress → Step → Progress
-passed_progress p step = record p { expected = p.expected + 1; coming = arrivals_behind step.count p.coming; found = []; before = []; event = None; after = [] }
+passed_progress p step = passed_count p step.count
 
 -- after the first step of a stretch
 abbrev pub begun_progress : Progress → Step → Progress
@@ -122,6 +129,17 @@ begun_progress p step = record (passed_progress p step) {
 abbrev pub only_element : List Stamped → Option Stamped
 only_element [] = None
 only_element (what ∷ more) = Some what
+
+-- a mark of this kind shows an event where no stretch is open
+abbrev pub is_shown_kind : MarkKind → Bool
+is_shown_kind kind.Item = true
+is_shown_kind kind.Idle = true
+is_shown_kind _ = false
+
+-- a step at this mark shows an event where no stretch is open: that of an item, or of the idle loop
+abbrev pub is_shown : Option Mark → Bool
+is_shown None = false
+is_shown (Some mark) = is_shown_kind mark.kind
 
 -- after a step outside the stretches
 abbrev pub outside_progress : View → Progress → Step → Progress
@@ -142,6 +160,26 @@ advanced_progress view p step = advanced_progress_from p.first view p step
 -- all but what is to be handed out
 abbrev pub settled_progress : Progress → Progress
 settled_progress p = record p { found = []; before = []; event = None; after = [] }
+
+-- ---- a step by its parts
+
+-- a stretch begins with a step of this count, line and MIE, where none is open
+abbrev pub begins_by : (count : ℕ) → Option ℕ → (enabled_before enabled_after : Bool) → Bool
+begins_by count entered enabled_before enabled_after = (count == 0) || is_some entered || (enabled_before && not enabled_after)
+
+-- the step of these parts
+abbrev pub step_of_parts : (count pc : ℕ) (entered : Option ℕ) (enabled_before enabled_after : Bool) (touched : Option ℕ) (cur_before cur_after : ℕ) → List ℕ → Step
+step_of_parts count pc entered enabled_before enabled_after touched cur_before cur_after regs = record {
+  count = count;
+  pc = pc;
+  entered = entered;
+  enabled_before = enabled_before;
+  enabled_after = enabled_after;
+  cur_before = cur_before;
+  cur_after = cur_after;
+  touched = touched;
+  regs = regs;
+}
 
 -- ---- what holds of an observer
 

@@ -1,5 +1,6 @@
 //! What a run is observed by, and the event of a part of a run.
 
+use crate::mark_table::MarkTable;
 use sloth_base::event::{Event, Stamp, Stamped};
 use sloth_base::image::{Mark, MarkKind};
 use sloth_base::lines::{FIRST_COUNTER_LINE, LineKind, Owners};
@@ -13,6 +14,8 @@ use std::marker::Model;
 pub struct ImageView<'a> {
     pub marks: &'a [Mark],
     pub owners: Owners,
+    /// Where the marks stand by their addresses, if that is known; else they are searched.
+    pub table: Option<MarkTable>,
 }
 
 impl<'a> Model for ImageView<'a> {
@@ -23,7 +26,10 @@ impl<'a> Model for ImageView<'a> {
 
     ghost view = { λ image. view_from image.marks.now image.owners };
 
-    ghost invariant = { λ image. AreAscending image.marks.now };
+    ghost use Rattle.std.specs.Prelude.{IfSome};
+    ghost use Rattle.observe.specs.MarkTable.{IsMarkTable};
+
+    ghost invariant = { λ image. AreAscending image.marks.now × IfSome image.table (IsMarkTable image.marks.now) };
 }
 
 impl ImageView<'_> {
@@ -31,10 +37,21 @@ impl ImageView<'_> {
     ghost use Rattle.observe.specs.Observe.{running_task, entry_event, arrival_event, mark_at, service_event, unentered_event, stretch_event, outside_events, stamp};
     ghost use Rattle.sloth_base.specs.Owners.{line_kind};
     ghost use Rattle.sloth_base.specs.ServiceCodes.{service_of};
-    ghost use Rattle.observe.specs.Progress.{only_element};
+    ghost use Rattle.observe.specs.Progress.{only_element, is_shown};
 
     // The mark on the instruction at this address.
+    #[inline(always)]
     fn mark(&self, address: u32) -> Option<Mark>
+        ensures { result ≡ mark_at self.now address }
+    {
+        match &self.table {
+            Some(table) => mark_of(self.marks, table.number(address)),
+            None => self.search(address),
+        }
+    }
+
+    // The same, by their order.
+    fn search(&self, address: u32) -> Option<Mark>
         ensures { result ≡ mark_at self.now address }
     {
         match self
@@ -76,6 +93,17 @@ impl ImageView<'_> {
             LineKind::Task(task) => Event::Enter(task),
             LineKind::Counter(counter) => Event::Tick(counter),
             LineKind::Unused => unused_event(line),
+        }
+    }
+
+    /// Whether a step at this address shows an event where no stretch is open.
+    #[inline(always)]
+    pub fn shows(&self, address: u32) -> bool
+        ensures { result ≡ is_shown (mark_at self.now address) }
+    {
+        match self.mark(address) {
+            Some(mark) => matches!(mark.kind, MarkKind::Item | MarkKind::Idle),
+            None => false,
         }
     }
 
@@ -149,7 +177,20 @@ impl ImageView<'_> {
 }
 
 ghost use Rattle.std.specs.Prelude.{◌≡◌, slice_index};
+ghost use Rattle.observe.specs.MarkTable.{mark_of};
 ghost use Rattle.observe.specs.Observe.{unused_event};
+
+// The mark whose place and 1 more is a number, or none.
+#[inline(always)]
+#[tactic(auto, using(crate::proofs::Marking::mark_of_number))]
+fn mark_of(marks: &[Mark], number: usize) -> Option<Mark>
+    ensures { result ≡ mark_of marks.now number }
+{
+    if number == 0 {
+        return None;
+    }
+    marks.get(number - 1).copied()
+}
 
 // The event of a stretch that begins with the taking of a line that is for nothing.
 fn unused_event(line: Line) -> Event

@@ -7,6 +7,7 @@
 
 pub mod image_view;
 pub mod laws;
+pub mod mark_table;
 pub mod observing;
 mod touches;
 

@@ -1,15 +1,18 @@
 //! An observer that is fed one step at a time.
-ghost use Rattle.std.specs.Prelude.{◌≡◌, ◌<◌, ◌+◌, ◌++◌, ◌∷◌, [], true, List, length, take_while, nat_le, IfSome, IfNone, OnSome, IsOk, IfOk, IsNone, ◌↔◌};
+ghost use Rattle.std.specs.Prelude.{◌≡◌, ◌<◌, ◌+◌, ◌++◌, ◌∷◌, [], true, false, ℕ, List, length, take_while, nat_le, IfSome, IfNone, OnSome, IsOk, IfOk, IsNone, ◌↔◌};
 ghost use Rattle.observe.specs.Pieces.{begins};
-ghost use Rattle.observe.specs.Observe.{admission, observe, view_of_image};
+ghost use Rattle.observe.specs.Progress.{begins_by};
+ghost use Rattle.observe.specs.Observe.{admission, mark_at, observe, view_of_image};
 ghost use Rattle.sloth_base.specs.ImageRange.{AreAscending};
 
 use crate::image_view::ImageView;
+use crate::mark_table::MarkTable;
 use crate::touches::{Touches, skip_early, skip_late};
 use sloth_base::event::{Arrival, Stamp, Stamped};
 use sloth_base::image::Image;
 use sloth_base::lines::Owners;
 use sloth_base::memory::NoMemory;
+use sloth_base::numbers::Line;
 use sloth_base::step::Step;
 use std::alloc::Global;
 
@@ -38,8 +41,9 @@ impl<'a> Observer<'a> {
     ghost use Rattle.sloth_base.specs.declared.step.Step.{Step as AnyStep};
     ghost use Rattle.sloth_base.specs.declared.event.Stamped.{Stamped as AnyStamped};
     ghost use Rattle.sloth_base.specs.Arrivals.{AreRisingMoments};
-    ghost use Rattle.observe.specs.Touches.{HasPlace};
-    ghost use Rattle.observe.specs.Progress.{Fed, progress_of, view_of, arrivals_of, expected_count, remaining, arrivals_due, passed_progress, joined_progress, progress_behind_stretch, advanced_progress, one_or_none, settled_progress, noted_progress};
+    ghost use Rattle.observe.specs.MarkTable.{IsMarkTable};
+    ghost use Rattle.observe.specs.Touches.{HasPlace, noted_touches};
+    ghost use Rattle.observe.specs.Progress.{Fed, progress_of, view_of, arrivals_of, expected_count, remaining, arrivals_due, passed_count, joined_progress, progress_behind_stretch, advanced_progress, one_or_none, settled_progress, begins_by, is_shown, step_of_parts};
 
     /// An observer of a run of the image with these arrivals, which has seen no step. It needs no memory of its own.
     pub fn new(
@@ -56,14 +60,50 @@ impl<'a> Observer<'a> {
         ensures expected { IfOk result (λ o. expected_count o ≡ 0) }
         ensures drained { IfOk result (λ o. remaining o ≡ []) }
     {
+        Ok(Observer::over(image, arrivals, None))
+    }
+
+    /// The same with a table of the marks, which takes memory for each word between the first and the last of them.
+    pub fn indexed(
+        alloc: Global,
+        image: &'a Image,
+        arrivals: &'a [Arrival],
+    ) -> Result<Observer<'a>, NoMemory>
+        requires ascending { AreAscending image.now.marks }
+        requires ordered { AreRisingMoments 0 arrivals.now }
+        ensures fed { IfOk result (λ o. Fed o [] []) }
+        ensures view { IfOk result (λ o. view_of o ≡ view_of_image image.now) }
+        ensures arrivals { IfOk result (λ o. arrivals_of o ≡ arrivals.now) }
+        ensures expected { IfOk result (λ o. expected_count o ≡ 0) }
+        ensures drained { IfOk result (λ o. remaining o ≡ []) }
+    {
+        let table = MarkTable::of(alloc, image.marks.items())?;
+        Ok(Observer::over(image, arrivals, table))
+    }
+
+    // An observer that has seen no step.
+    fn over(image: &'a Image, arrivals: &'a [Arrival], table: Option<MarkTable>) -> Observer<'a>
+        requires ascending { AreAscending image.now.marks }
+        requires ordered { AreRisingMoments 0 arrivals.now }
+        requires table { IfSome table (IsMarkTable image.now.marks) }
+        ensures fed { Fed result [] [] }
+        ensures view { view_of result ≡ view_of_image image.now }
+        ensures arrivals { arrivals_of result ≡ arrivals.now }
+        ensures expected { expected_count result ≡ 0 }
+        ensures drained { remaining result ≡ [] }
+    {
         let none: &[Arrival] = &[];
         let marks = image.marks.items();
         let owners = Owners {
             tasks: image.tasks.items().len(),
             counters: image.counters.items().len(),
         };
-        Ok(Observer {
-            view: ImageView { marks, owners },
+        Observer {
+            view: ImageView {
+                marks,
+                owners,
+                table,
+            },
             arrivals,
             expected: 0,
             coming: arrivals,
@@ -74,21 +114,21 @@ impl<'a> Observer<'a> {
             before: none,
             event: None,
             after: none,
-        })
+        }
     }
 
-    // Counts the step, and gives the arrivals of its moment.
+    // Counts the step of this count, and gives the arrivals of its moment.
     #[inline(always)]
-    fn pass(&mut self, step: &Step) -> &'a [Arrival]
-        requires expected { step.now.count ≡ expected_count self.old }
-        ensures passed { progress_of self.new ≡ passed_progress (progress_of self.old) step.now }
-        ensures here { result.now ≡ arrivals_due step.now.count self.old.coming.now }
+    fn pass(&mut self, count: u32) -> &'a [Arrival]
+        requires expected { count ≡ expected_count self.old }
+        ensures passed { progress_of self.new ≡ passed_count (progress_of self.old) count }
+        ensures here { result.now ≡ arrivals_due count self.old.coming.now }
         ensures view { view_of self.new ≡ view_of self.old }
         ensures arrivals { arrivals_of self.new ≡ arrivals_of self.old }
     {
         let none: &[Arrival] = &[];
-        let (here, behind) = self.coming.split_at(passing(self.coming, step.count));
-        self.expected = u64::from(step.count) + 1;
+        let (here, behind) = self.coming.split_at(passing(self.coming, count));
+        self.expected = u64::from(count) + 1;
         self.coming = behind;
         self.found = none;
         self.before = none;
@@ -105,7 +145,7 @@ impl<'a> Observer<'a> {
         ensures view { view_of self.new ≡ view_of self.old }
         ensures arrivals { arrivals_of self.new ≡ arrivals_of self.old }
     {
-        self.note(step);
+        self.note(&step.touched, step.count);
         if step.enabled_after {
             if let Some(first) = self.first {
                 self.close(&first, step);
@@ -135,15 +175,16 @@ impl<'a> Observer<'a> {
         self.after = within;
     }
 
-    // Notes the line that the step touches.
-    fn note(&mut self, step: &Step)
-        ensures place { HasPlace step.now }
-        ensures noted { progress_of self.new ≡ noted_progress (progress_of self.old) step.now }
+    // Notes the line that the step of this count touches, if it touches one.
+    #[inline(always)]
+    fn note(&mut self, touched: &Option<Line>, count: u32)
+        ensures place { IfSome touched.now (λ line. line < 256) }
+        ensures noted { progress_of self.new ≡ record (progress_of self.old) { touched = noted_touches touched.now count self.old.touched } }
         ensures view { view_of self.new ≡ view_of self.old }
         ensures arrivals { arrivals_of self.new ≡ arrivals_of self.old }
     {
-        if let Some(line) = &step.touched {
-            self.touched.note(line, step.count);
+        if let Some(line) = touched {
+            self.touched.note(line, count);
         }
     }
 
@@ -158,7 +199,7 @@ impl<'a> Observer<'a> {
         ensures arrivals { arrivals_of self.new ≡ arrivals_of self.old }
     {
         let coming = self.coming;
-        let here = self.pass(step);
+        let here = self.pass(step.count);
         if self.first.is_some() {
             self.join(step);
             return;
@@ -190,6 +231,75 @@ impl<'a> Observer<'a> {
         ensures expected { expected_count self.new ≡ expected_count self.old + 1 }
     {
         self.advance(step)
+    }
+
+    // Counts the step of this count inside the open stretch, unless it ends it.
+    #[inline(always)]
+    fn pass_inside(&mut self, count: u32, enabled_after: bool, touched: &Option<Line>) -> bool
+        requires expected { count ≡ expected_count self.old }
+        ensures passed { result ≡ true → (enabled_after ≡ false) × IfSome touched.now (λ line. line < 256)
+            × (progress_of self.new ≡ record (passed_count (progress_of self.old) count) { touched = noted_touches touched.now count self.old.touched }) }
+        ensures left { result ≡ false → self.new ≡ self.old }
+        ensures view { view_of self.new ≡ view_of self.old }
+        ensures arrivals { arrivals_of self.new ≡ arrivals_of self.old }
+    {
+        if enabled_after {
+            return false;
+        }
+        self.pass(count);
+        self.note(touched, count);
+        true
+    }
+
+    // Counts the step of this count outside the stretches, unless it begins one or shows an event.
+    #[inline(always)]
+    fn pass_outside(
+        &mut self,
+        count: u32,
+        pc: u32,
+        entered: &Option<Line>,
+        enabled_before: bool,
+        enabled_after: bool,
+    ) -> bool
+        requires expected { count ≡ expected_count self.old }
+        ensures passed { result ≡ true → (begins_by count entered.now enabled_before enabled_after ≡ false) × (is_shown (mark_at (view_of self.old) pc) ≡ false)
+            × (progress_of self.new ≡ record (passed_count (progress_of self.old) count) { found = arrivals_due count self.old.coming.now }) }
+        ensures left { result ≡ false → self.new ≡ self.old }
+        ensures view { view_of self.new ≡ view_of self.old }
+        ensures arrivals { arrivals_of self.new ≡ arrivals_of self.old }
+    {
+        if begins_by(count, entered, enabled_before, enabled_after) || self.view.shows(pc) {
+            return false;
+        }
+        self.found = self.pass(count);
+        true
+    }
+
+    /// Feeds the step of the expected count that is seen so, if no more of it is needed: it begins and ends no stretch, and has no mark that shows an
+    /// event. Else nothing is changed, and the step is still to be fed.
+    #[inline(always)]
+    pub fn pass_by(
+        &mut self,
+        count: u32,
+        pc: u32,
+        entered: &Option<Line>,
+        enabled_before: bool,
+        enabled_after: bool,
+        touched: &Option<Line>,
+    ) -> bool
+        requires expected { count ≡ expected_count self.old }
+        requires drained { remaining self.old ≡ [] }
+        ensures fed { result ≡ true → (cur_before cur_after : ℕ) (regs : List ℕ) (steps : List AnyStep) (events : List AnyStamped) → Fed self.old steps events
+            → Fed self.new (steps ++ step_of_parts count pc entered.now enabled_before enabled_after touched.now cur_before cur_after regs ∷ []) events }
+        ensures left { result ≡ false → self.new ≡ self.old }
+        ensures view { view_of self.new ≡ view_of self.old }
+        ensures arrivals { arrivals_of self.new ≡ arrivals_of self.old }
+        ensures expected { result ≡ true → expected_count self.new ≡ expected_count self.old + 1 }
+    {
+        if self.first.is_some() {
+            return self.pass_inside(count, enabled_after, touched);
+        }
+        self.pass_outside(count, pc, entered, enabled_before, enabled_after)
     }
 
     // Nothing is to be handed out, as after most steps.
@@ -270,6 +380,7 @@ impl<'a> Observer<'a> {
 }
 
 /// How many arrivals at the front are of this moment or an earlier one.
+#[inline(always)]
 pub fn passing(coming: &[Arrival], count: u32) -> usize
     ensures { result ≡ length (take_while (λ arrival. nat_le arrival.at count) coming.now) }
 {
@@ -280,10 +391,24 @@ pub fn passing(coming: &[Arrival], count: u32) -> usize
 }
 
 // A stretch begins with the step, where none is open.
+#[inline(always)]
 fn begins(step: &Step) -> bool
     ensures { result ≡ begins step.now }
 {
-    step.count == 0 || step.entered.is_some() || (step.enabled_before && !step.enabled_after)
+    begins_by(
+        step.count,
+        &step.entered,
+        step.enabled_before,
+        step.enabled_after,
+    )
+}
+
+// The same of a step that is seen so.
+#[inline(always)]
+fn begins_by(count: u32, entered: &Option<Line>, enabled_before: bool, enabled_after: bool) -> bool
+    ensures { result ≡ begins_by count entered.now enabled_before enabled_after }
+{
+    count == 0 || entered.is_some() || (enabled_before && !enabled_after)
 }
 
 fn admit(view: &ImageView, arrival: &Arrival) -> Stamped

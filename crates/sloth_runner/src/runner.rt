@@ -1,18 +1,21 @@
 //! Runs an image, and prints what is observed.
-ghost use Rattle.std.specs.Prelude.{◌≡◌, ◌<◌, ◌≤◌, ◌∷◌, [], OnOk, OnErr, IfOk, IfErr, IfSome, IfNone, OnSome, length};
+ghost use Rattle.std.specs.Prelude.{◌≡◌, ◌<◌, ◌≤◌, ◌+◌, ◌∷◌, ◌++◌, [], List, OnOk, OnErr, IfOk, IfErr, IfSome, IfNone, OnSome, length};
 ghost use Rattle.sloth_base.specs.ImageRange.{InFormat};
 ghost use Rattle.sloth_base.specs.Arrivals.{AreArrivals};
 ghost use Rattle.sloth_base.specs.Owners.{owners_named};
 ghost use Rattle.sloth_base.specs.Limits.{count_limit};
 ghost use Rattle.sloth_io.specs.Sink.{output_with, GainsPart};
 ghost use Rattle.trace_text.specs.Texts.{ends_idle, is_idle};
-ghost use Rattle.observe.specs.Progress.{remaining, view_of, arrivals_of, expected_count, arrivals_due};
+ghost use Rattle.observe.specs.Progress.{Fed, remaining, view_of, arrivals_of, expected_count, arrivals_due};
+ghost use Rattle.rv32_machine.specs.Advance.{step_of};
+ghost use Rattle.sloth_base.specs.declared.step.Step.{Step as AnyStep};
+ghost use Rattle.sloth_base.specs.declared.event.Stamped.{Stamped as AnyStamped};
 ghost use Rattle.sloth_runner.specs.Runner.{lines_of};
-ghost use Rattle.sloth_runner.specs.Moments.{IsHandedOut};
+ghost use Rattle.sloth_runner.specs.Moments.{IsHandedOut, sloth_state};
 
 use crate::arrivals::arrive_front;
 use observe::{Observer, passing};
-use rv32_machine::{Machine, SlothBus, Step, Stop, blank_step};
+use rv32_machine::{Machine, SlothBus, Step, StepFront, Stop, blank_step};
 use sloth_base::event::{Arrival, Event, Stamped};
 use sloth_base::image::Image;
 use sloth_base::memory::NoMemory;
@@ -119,7 +122,7 @@ impl<'a> Runner<'a> {
         ensures arrivals { IfOk result (λ runner. given_arrivals runner ≡ arrivals.now) }
     {
         let machine = Machine::starting(alloc, image)?;
-        let observer = Observer::new(alloc, image, arrivals)?;
+        let observer = Observer::indexed(alloc, image, arrivals)?;
         Ok(Runner {
             image,
             machine,
@@ -200,16 +203,65 @@ impl<'a> Runner<'a> {
         ensures arrivals { given_arrivals self.new ≡ given_arrivals self.old }
     {
         self.arrive_now();
-        match self.record() {
-            Ok(()) => {
-                self.observer.feed(&self.shown);
+        match self.machine.step_front() {
+            Ok(front) => {
+                self.tell(&front);
                 None
             }
-            Err(halt) => Some(RunEnd::Stopped {
-                pc: halt.pc,
-                stop: halt.stop,
+            Err(stop) => Some(RunEnd::Stopped {
+                pc: self.machine.next_pc(),
+                stop,
             }),
         }
+    }
+
+    // Feeds the observer the last step, of which this is the front: as much of it as it needs.
+    #[inline(always)]
+    fn tell(&mut self, front: &StepFront)
+        requires expected { front.now.count ≡ expected_count self.old.observer }
+        requires drained { remaining self.old.observer ≡ [] }
+        ensures fed { (steps : List AnyStep) (events : List AnyStamped) → Fed self.old.observer steps events
+            → Fed self.new.observer (steps ++ step_of front.now (sloth_state self.old.machine) ∷ []) events }
+        ensures view { view_of self.new.observer ≡ view_of self.old.observer }
+        ensures arrivals { arrivals_of self.new.observer ≡ arrivals_of self.old.observer }
+        ensures expected { expected_count self.new.observer ≡ expected_count self.old.observer + 1 }
+        ensures state { sloth_state self.new.machine ≡ sloth_state self.old.machine }
+        ensures count { count_of self.new ≡ count_of self.old }
+        ensures coming { self.new.coming.now ≡ self.old.coming.now }
+        ensures image { image_of self.new ≡ image_of self.old }
+    {
+        let enabled_after = self.machine.enabled();
+        let passed = self.observer.pass_by(
+            front.count,
+            front.pc,
+            &front.entered,
+            front.enabled_before,
+            enabled_after,
+            &front.touched,
+        );
+        if passed {
+            return;
+        }
+        self.feed(front);
+    }
+
+    // Feeds it the whole record of that step.
+    #[inline(never)]
+    fn feed(&mut self, front: &StepFront)
+        requires expected { front.now.count ≡ expected_count self.old.observer }
+        requires drained { remaining self.old.observer ≡ [] }
+        ensures fed { (steps : List AnyStep) (events : List AnyStamped) → Fed self.old.observer steps events
+            → Fed self.new.observer (steps ++ step_of front.now (sloth_state self.old.machine) ∷ []) events }
+        ensures view { view_of self.new.observer ≡ view_of self.old.observer }
+        ensures arrivals { arrivals_of self.new.observer ≡ arrivals_of self.old.observer }
+        ensures expected { expected_count self.new.observer ≡ expected_count self.old.observer + 1 }
+        ensures state { sloth_state self.new.machine ≡ sloth_state self.old.machine }
+        ensures count { count_of self.new ≡ count_of self.old }
+        ensures coming { self.new.coming.now ≡ self.old.coming.now }
+        ensures image { image_of self.new ≡ image_of self.old }
+    {
+        self.machine.show(front, &mut self.shown);
+        self.observer.feed(&self.shown);
     }
 
     // One instruction: the machine stops, or its events' lines are put.

@@ -8,8 +8,8 @@ use Rattle.rv32_machine.specs.Run.{run_from, state_after_from}
 use Rattle.sloth_runner.proofs.Turning.{weaker, controller-lines, first-fed, running-at}
 use Rattle.sloth_runner.proofs.runner.Runner.new.Goals as goal
 
-pub new-requires-clause-ordered : goal.new-requires-clause-ordered
-new-requires-clause-ordered c = weaker 1 0 c.args.arrivals.now (omega arith) c.requires.arrivals.ordered
+pub indexed-requires-clause-ordered : goal.indexed-requires-clause-ordered
+indexed-requires-clause-ordered c = weaker 1 0 c.args.arrivals.now (omega arith) c.requires.arrivals.ordered
 
 pub returns-clause-fresh : goal.returns-clause-fresh
 unfolding run_from state_after_from

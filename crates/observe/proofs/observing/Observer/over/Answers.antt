@@ -1,7 +1,7 @@
 use Rattle.std.proofs.Common.{refl, arith, sym}
 use Rattle.observe.specs.Observe.{observe}
 use Rattle.observe.proofs.Moments.{from-later}
-use Rattle.observe.proofs.observing.Observer.new.Goals as goal
+use Rattle.observe.proofs.observing.Observer.over.Goals as goal
 
 pub returns-clause-fed : goal.returns-clause-fed
 unfolding observe
