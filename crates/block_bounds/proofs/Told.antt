@@ -9,8 +9,8 @@ use Rattle.sloth_base.specs.declared.app.Func.{Func}
 use Rattle.sloth_base.specs.Named.{body_of}
 use Rattle.sloth_base.specs.Limits.{size_limit, count_limit}
 use Rattle.code_rules.specs.WellFormed.{WellFormed}
-use Rattle.osek_valid.specs.Apart.{static_priority}
-use Rattle.osek_valid.proofs.Facts.{Facts, facts}
+use Rattle.osek_scheduler.specs.Apart.{static_priority}
+use Rattle.osek_scheduler.proofs.Facts.{Facts, facts}
 use Rattle.call_graph.specs.Reached.{any_below}
 use Rattle.call_graph.specs.Tables.{max_below}
 use Rattle.stack_bounds.proofs.Below.{max_below-at, max_below-some, last_or_before}

@@ -1,7 +1,7 @@
 //! The blocking bound of each task.
 ghost use Rattle.std.specs.Prelude.{◌≡◌, ◌<◌, ℕ, true, length, Some, None, IfOk};
 ghost use Rattle.code_rules.specs.WellFormed.{WellFormed};
-ghost use Rattle.osek_valid.specs.Apart.{static_priority};
+ghost use Rattle.osek_scheduler.specs.Apart.{static_priority};
 ghost use Rattle.call_graph.specs.Ranks.{RanksOf};
 ghost use Rattle.call_graph.specs.Reached.{any_below};
 ghost use Rattle.call_graph.specs.Tables.{HasTaskBody};

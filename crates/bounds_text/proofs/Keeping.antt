@@ -10,7 +10,7 @@ use Rattle.sloth_base.specs.Events.{is_boot}
 use Rattle.sloth_base.specs.Named.{undeclared_task}
 use Rattle.sloth_base.specs.Stretches.{longest_stretch}
 use Rattle.code_rules.specs.WellFormed.{WellFormed}
-use Rattle.osek_valid.specs.Apart.{static_priority}
+use Rattle.osek_scheduler.specs.Apart.{static_priority}
 use Rattle.run_bounds.specs.Latency.{any_stretch, running_limit, latency, EntersBefore}
 use Rattle.run_bounds.proofs.Runs.{keeps_blocking_bounds}
 use Rattle.bound_rules.specs.declared.bound.Bound.{Bound}

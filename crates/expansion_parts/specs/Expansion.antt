@@ -19,7 +19,7 @@ use Rattle.sloth_base.specs.Blocks.{block_number}
 use Rattle.rv32_instr.specs.Access.{load, store}
 use Rattle.rv32_instr.specs.declared.InstrKind.{InstrKind}
 use Rattle.rv32_instr.specs.declared.InstrKind.TheVariants.{Lui, Auipc, Jal, Jalr, Beq, Bne, Blt, Bge, Bltu, Bgeu, Lw, Sw, Addi, Slti, Sltiu, Xori, Ori, Andi, Slli, Srli, Srai, Add, Sub, Sll, Slt, Sltu, Xor, Srl, Sra, Or, And}
-use Rattle.data_far.specs.Wide.{wide}
+use Rattle.expansion_parts.specs.FarAccesses.{wide}
 
 -- ---- addresses
 

@@ -2,10 +2,12 @@
 //! instructions of a call.
 //!
 //! The length of an operation, the lengths of a body with the least set of long branches, the instructions of a call (`size`, `shortest`, `call`;
-//! `specs/Long`; how the set is found: `specs/Passes`, `specs/Nothing`). Instructions: `rv32_instr`, `data_far`.
+//! `specs/Long`; how the set is found: `specs/Passes`, `specs/Nothing`). Accesses to data by an index under a wide mask: `far_accesses`.
+//! Instructions: `rv32_instr`.
 #![tactic(auto)]
 
 pub mod calls;
 pub mod draft;
+pub mod far_accesses;
 pub mod lengths;
 pub mod long_branches;

@@ -43,9 +43,9 @@ use Rattle.mem_map.proofs.Wanting.{all_places}
 use Rattle.mem_map.specs.Starts.{code_byte_count}
 use Rattle.mem_map.specs.Plan.{code_end, code_extents, idle_bytes}
 use Rattle.mem_map.specs.Wanted.{wanted_blocks}
-use Rattle.sim_image.specs.Generated.{HasBlockWith, HasCode, HasItemBlocks}
-use Rattle.sim_image.specs.Rooms.{FitRooms, FitsRoom, FollowClosely}
-use Rattle.sim_image.proofs.Housed.{blocks_follow_closely}
+use Rattle.sim_laws.specs.GeneratedZones.{HasBlockWith, HasCode, HasItemBlocks}
+use Rattle.sim_laws.specs.Rooms.{FitRooms, FitsRoom, FollowClosely}
+use Rattle.sim_laws.proofs.Housed.{blocks_follow_closely}
 use Rattle.image_gen.specs.Gathered.{MayGenerate, IsGathered, IsInFormat, MarksInFormat}
 use Rattle.sloth_link.specs.Image.{all_blocks}
 use Rattle.sloth_link.specs.Items.{HaveItems, IsOwnMark, MarksAreOfItems, item_block, item_blocks}

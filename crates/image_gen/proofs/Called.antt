@@ -27,7 +27,7 @@ use Rattle.service_blocks.specs.Calls.{IsOfKind, IsCalledWith}
 use Rattle.mem_map.specs.Wanted.{wanted_blocks}
 use Rattle.mem_map.proofs.Callers.{called, marked}
 use Rattle.mem_map.proofs.Wanting.{all_places, at_place}
-use Rattle.sim_image.specs.Zones.{RoomForCalls}
+use Rattle.sim_laws.specs.Zones.{RoomForCalls}
 use Rattle.image_gen.specs.Services.{AreServed}
 
 -- the bounds of stacks have room for each chain of calls

@@ -46,10 +46,10 @@ use Rattle.mem_map.specs.Wanted.{wanted_blocks}
 use Rattle.mem_map.specs.StackParts.{no_extent}
 use Rattle.mem_map.proofs.Starts.{end_above, length_starts, stands}
 use Rattle.mem_map.proofs.Wanting.{all_places, at_place}
-use Rattle.sim_image.proofs.Fitting.{end_of_code}
-use Rattle.sim_image.proofs.Serving.{some_code}
-use Rattle.sim_image.specs.Rooms.{FitRooms, FitsRoom, MarksRise}
-use Rattle.sim_image.proofs.Data.{extent_at, extents_long}
+use Rattle.sim_laws.proofs.Fitting.{end_of_code}
+use Rattle.sim_laws.proofs.Serving.{some_code}
+use Rattle.sim_laws.specs.Rooms.{FitRooms, FitsRoom, MarksRise}
+use Rattle.sim_laws.proofs.Data.{extent_at, extents_long}
 use Rattle.image_gen.specs.Gathered.{MayGenerate}
 use Rattle.sloth_link.specs.Items.{item_block, item_blocks}
 use Rattle.image_gen.specs.Prologues.{Each, IsPrologue}

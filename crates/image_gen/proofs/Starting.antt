@@ -14,7 +14,7 @@ use Rattle.prologue_gen.specs.Places.{IsStackTop}
 use Rattle.rv32_expand.specs.Sizes.{items_before}
 use Rattle.rv32_expand.proofs.Verified.{has_first}
 use Rattle.mem_map.specs.Starts.{code_byte_count}
-use Rattle.sim_image.proofs.Fitting.{part_inside, code_from, code_to}
+use Rattle.sim_laws.proofs.Fitting.{part_inside, code_from, code_to}
 use Rattle.mem_map.proofs.Starts.{length_starts}
 use Rattle.image_gen.specs.Prologues.{MayStartTasks}
 use Rattle.image_gen.specs.Gathered.{MayGenerate}

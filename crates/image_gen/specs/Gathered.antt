@@ -19,8 +19,8 @@ use Rattle.mem_map.specs.Plan.{code_end, code_extents}
 use Rattle.mem_map.specs.Planned.{IsPlanned}
 use Rattle.sloth_link.specs.Image.{all_blocks}
 use Rattle.sloth_link.specs.Items.{MarksAreOfItems}
-use Rattle.sim_image.specs.Generated.{HasCode, HasItemBlocks}
-use Rattle.sim_image.specs.Rooms.{FitRooms, FollowClosely}
+use Rattle.sim_laws.specs.GeneratedZones.{HasCode, HasItemBlocks}
+use Rattle.sim_laws.specs.Rooms.{FitRooms, FollowClosely}
 
 -- Well-formed task code with its levels, and its map by the bytes of stack that its tasks may need. The body of each task has the task's name.
 pub record MayGenerate (config : Config) (app : App) (levels : Levels) (map : Map) : Type 0 where

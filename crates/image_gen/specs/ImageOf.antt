@@ -14,9 +14,9 @@ use Rattle.sloth_link.specs.declared.datum.Datum.{Datum}
 use Rattle.stack_bounds.specs.Bounds.{AreBounds}
 use Rattle.mem_map.specs.Planned.{IsPlanned}
 use Rattle.mem_map.specs.Sections.{addresses, marks_of}
-use Rattle.sim_image.specs.Generated.{HasCode, HasItemBlocks}
-use Rattle.sim_image.specs.Rooms.{HasOwnMarks}
-use Rattle.sim_image.specs.Standing.{IsLinkedIn}
+use Rattle.sim_laws.specs.GeneratedZones.{HasCode, HasItemBlocks}
+use Rattle.sim_laws.specs.Rooms.{HasOwnMarks}
+use Rattle.sim_laws.specs.LinkedImages.{IsLinkedIn}
 use Rattle.image_gen.specs.Gathered.{MarksInFormat}
 
 -- these bytes and marks are those blocks and the data of the task code, linked

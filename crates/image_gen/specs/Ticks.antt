@@ -4,7 +4,7 @@ use Rattle.sloth_base.specs.declared.config.Config.{Config}
 use Rattle.sloth_base.specs.Owners.{counter_line}
 use Rattle.sloth_region.specs.declared.map.Map.{Map}
 use Rattle.rv32_instr.specs.declared.block.Block.{Block}
-use Rattle.sim_ticks.specs.TickSteps.{IsTick}
+use Rattle.sim_routines.specs.TickSteps.{IsTick}
 
 -- the tick of one counter
 pub record IsTickBlock (config : Config) (map : Map) (c : ℕ) (block : Block) : Type 0 where

@@ -15,8 +15,8 @@ use Rattle.osek_scheduler.specs.Priority.{IsTop}
 use Rattle.osek_scheduler.specs.Services.{activated_state, started_task, ServiceOutcome, GoesOn, Leaves}
 use Rattle.osek_scheduler.proofs.ServiceStates.{IsAfter}
 use Rattle.osek_scheduler.specs.Steps.{admitted_state, IsServiceStep, OsekStep}
-use Rattle.osek_valid.specs.Apart.{IsActive, TasksAreApart}
-use Rattle.osek_valid.proofs.Apart.{Same, Acts, admit_calm, enter_acts, run_acts, call_acts, left_acts, back_acts}
+use Rattle.osek_scheduler.specs.Apart.{IsActive, TasksAreApart}
+use Rattle.osek_scheduler.proofs.Apart.{Same, Acts, admit_calm, enter_acts, run_acts, call_acts, left_acts, back_acts}
 use Rattle.osek_scheduler.proofs.Outcomes.{by_suspended}
 use Rattle.osek_blocking.proofs.Staying.{Stays, own, readied, outcome_stays}
 

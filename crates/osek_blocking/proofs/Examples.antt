@@ -14,7 +14,7 @@ use Rattle.osek_scheduler.specs.Next.{is_ready}
 use Rattle.osek_scheduler.proofs.SystemAfter.{system_after}
 use Rattle.osek_scheduler.proofs.Examples.{full, system, body, code, serve, accepts}
 use Rattle.osek_scheduler.proofs.Next.{step_of}
-use Rattle.osek_valid.specs.Apart.{priority_of, static_priority}
+use Rattle.osek_scheduler.specs.Apart.{priority_of, static_priority}
 use Rattle.osek_blocking.specs.Blocking.{events_up_to_entry, IsRaisedTo, FindsFresh, IsBlockedBy, BlocksOnce}
 use Rattle.osek_blocking.specs.Protocol.{GetsResource}
 

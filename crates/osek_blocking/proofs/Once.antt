@@ -18,8 +18,8 @@ use Rattle.osek_scheduler.specs.Steps.{OsekStep}
 use Rattle.osek_scheduler.specs.Runs.{AreStepsTo, OsekRun}
 use Rattle.osek_scheduler.proofs.Leading.{follows_leads, leads-parts, one_step, one_end}
 use Rattle.osek_scheduler.proofs.Tests.{Decides-is_active, Decides-leb}
-use Rattle.osek_valid.specs.Apart.{priority_of, static_priority, IsActive, IsOver}
-use Rattle.osek_valid.proofs.Apart.{Same, rank_active, rank_ready}
+use Rattle.osek_scheduler.specs.Apart.{priority_of, static_priority, IsActive, IsOver}
+use Rattle.osek_scheduler.proofs.Apart.{Same, rank_active, rank_ready}
 use Rattle.osek_blocking.specs.Blocking.{is_entry_of, events_up_to_entry, IsOfLower, IsRaisedTo, FindsFresh, IsBlockedBy, BlocksOnce}
 use Rattle.osek_blocking.proofs.Effects.{IsReady, Ordered, Moves, Enters, Works, Calls, Effect}
 use Rattle.osek_blocking.proofs.Ordering.{effect, step_ordered, opening_ordered, leads_ordered}

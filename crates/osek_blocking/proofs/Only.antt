@@ -12,14 +12,14 @@ use Rattle.osek_scheduler.specs.Priority.{rank, IsDue, NoTicks, IsNextTick, IsTo
 use Rattle.osek_scheduler.specs.Steps.{OsekStep}
 use Rattle.osek_scheduler.specs.Runs.{AreStepsTo}
 use Rattle.osek_scheduler.proofs.Leading.{one_step}
-use Rattle.osek_valid.specs.Valid.{IsValid}
-use Rattle.osek_valid.specs.Apart.{TasksAreApart, HasExclusion, static_priority}
-use Rattle.osek_valid.proofs.Apart.{rank_active, rank_ready, opening_apart}
-use Rattle.osek_valid.proofs.ApartSteps.{step_apart}
-use Rattle.osek_valid.proofs.Excluding.{excludes}
-use Rattle.osek_valid.proofs.Facts.{Facts, facts}
-use Rattle.osek_valid.proofs.Steps.{step_valid, opening_valid}
-use Rattle.osek_valid.proofs.Reached.{run_valid}
+use Rattle.osek_scheduler.specs.Valid.{IsValid}
+use Rattle.osek_scheduler.specs.Apart.{TasksAreApart, HasExclusion, static_priority}
+use Rattle.osek_scheduler.proofs.Apart.{rank_active, rank_ready, opening_apart}
+use Rattle.osek_scheduler.proofs.ApartSteps.{step_apart}
+use Rattle.osek_scheduler.proofs.Excluding.{excludes}
+use Rattle.osek_scheduler.proofs.Facts.{Facts, facts}
+use Rattle.osek_scheduler.proofs.Steps.{step_valid, opening_valid}
+use Rattle.osek_scheduler.proofs.Reached.{run_valid}
 use Rattle.osek_blocking.specs.NextEvents.{IsNoAdmission, AreOwn, OneNextEvent, OneRun}
 use Rattle.osek_blocking.proofs.OfTask.{only, acting, task_settles}
 

@@ -10,9 +10,9 @@ use Rattle.osek_scheduler.specs.declared.state.TaskState.TheVariants as mode
 use Rattle.osek_scheduler.specs.State.{System, sleeping_task, opening}
 use Rattle.osek_scheduler.specs.Steps.{OsekStep}
 use Rattle.osek_scheduler.specs.Runs.{AreStepsTo}
-use Rattle.osek_valid.proofs.Apart.{boot_calm, tick_calm, opening_apart}
-use Rattle.osek_valid.proofs.ApartSteps.{step_apart}
-use Rattle.osek_valid.proofs.Steps.{length-autostarted, autostarted_at}
+use Rattle.osek_scheduler.proofs.Apart.{boot_calm, tick_calm, opening_apart}
+use Rattle.osek_scheduler.proofs.ApartSteps.{step_apart}
+use Rattle.osek_scheduler.proofs.Steps.{length-autostarted, autostarted_at}
 use Rattle.osek_blocking.proofs.Staying.{tick_stays}
 use Rattle.osek_blocking.proofs.Effects.{Ordered, Passes, Admits, Effect, task_effect, kept_count}
 

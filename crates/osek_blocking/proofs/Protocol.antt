@@ -17,10 +17,10 @@ use Rattle.osek_scheduler.specs.Outcomes.{outcome}
 use Rattle.osek_scheduler.specs.Steps.{IsServiceStep, OsekStep}
 use Rattle.osek_scheduler.specs.Runs.{AreStepsTo, OsekRun}
 use Rattle.osek_scheduler.proofs.Leading.{follows_leads}
-use Rattle.osek_valid.proofs.Apart.{opening_apart}
-use Rattle.osek_valid.proofs.Facts.{facts}
-use Rattle.osek_valid.proofs.Reached.{run_valid}
-use Rattle.osek_valid.proofs.Steps.{opening_valid}
+use Rattle.osek_scheduler.proofs.Apart.{opening_apart}
+use Rattle.osek_scheduler.proofs.Facts.{facts}
+use Rattle.osek_scheduler.proofs.Reached.{run_valid}
+use Rattle.osek_scheduler.proofs.Steps.{opening_valid}
 use Rattle.osek_blocking.specs.Protocol.{AlwaysExcludes, GetsResource, AlwaysGets, KeepsCeilingProtocol}
 use Rattle.osek_blocking.proofs.Once.{block_once}
 

@@ -11,7 +11,7 @@ use Rattle.osek_scheduler.proofs.ServiceStates.{IsAfter}
 use Rattle.osek_scheduler.specs.Outcomes.{decision, outcome}
 use Rattle.osek_scheduler.proofs.Outcomes.{KeptByOthers, outcome_keeps_all}
 use Rattle.osek_scheduler.proofs.Ticking.{parts_kept, ticked_keeps}
-use Rattle.osek_valid.proofs.Apart.{at_task}
+use Rattle.osek_scheduler.proofs.Apart.{at_task}
 
 -- as many tasks, and each that is Ready and not c stays so
 pub record Stays (c : ℕ) (s next : System) : Type 0 where

@@ -12,7 +12,7 @@ use Rattle.osek_scheduler.specs.State.{System, task, opening}
 use Rattle.code_rules.specs.Code.{is_in}
 use Rattle.osek_scheduler.specs.Steps.{OsekStep}
 use Rattle.osek_scheduler.specs.Runs.{AreStepsTo}
-use Rattle.osek_valid.specs.Apart.{priority_of, static_priority}
+use Rattle.osek_scheduler.specs.Apart.{priority_of, static_priority}
 
 -- ---- events
 

@@ -9,7 +9,7 @@ use Rattle.sloth_base.specs.declared.service.Service.TheVariants as service
 use Rattle.sloth_base.specs.Status.{E_OK}
 use Rattle.osek_scheduler.specs.State.{System, opening}
 use Rattle.osek_scheduler.specs.Runs.{AreStepsTo}
-use Rattle.osek_valid.specs.Apart.{HasExclusion}
+use Rattle.osek_scheduler.specs.Apart.{HasExclusion}
 use Rattle.osek_blocking.specs.Blocking.{BlocksOnce}
 
 -- In each state that the events lead through, the one before them and the one behind them included, no two tasks hold one resource, a task that

@@ -43,11 +43,11 @@ use Rattle.osek_scheduler.specs.Steps.{settled_state}
 use Rattle.osek_scheduler.specs.Next.{is_ready, is_top, is_position, operation_of, next_state}
 use Rattle.osek_scheduler.proofs.Next.{step_of}
 use Rattle.osek_scheduler.proofs.Tests.{if_true_some, on_some_from, Decides-is_top}
-use Rattle.osek_valid.specs.Valid.{IsFrame, IsCalledFrom, AreCalls, AreDistinct, IsValid}
-use Rattle.osek_valid.proofs.Apart.{at_task}
-use Rattle.osek_valid.proofs.Facts.{Facts, facts}
-use Rattle.osek_valid.proofs.Steps.{step_valid}
-use Rattle.osek_valid.proofs.Tidy.{tidy}
+use Rattle.osek_scheduler.specs.Valid.{IsFrame, IsCalledFrom, AreCalls, AreDistinct, IsValid}
+use Rattle.osek_scheduler.proofs.Apart.{at_task}
+use Rattle.osek_scheduler.proofs.Facts.{Facts, facts}
+use Rattle.osek_scheduler.proofs.Steps.{step_valid}
+use Rattle.osek_scheduler.proofs.Tidy.{tidy}
 use Rattle.osek_scheduler.specs.declared.change.TaskChange.TheVariants as change
 use Rattle.osek_scheduler.specs.declared.plan.Other.{Other}
 use Rattle.osek_scheduler.specs.declared.plan.Other.TheVariants as other

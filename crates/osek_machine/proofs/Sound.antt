@@ -14,10 +14,10 @@ use Rattle.osek_scheduler.specs.Services.{if_suspended, activated_state}
 use Rattle.osek_scheduler.specs.Steps.{OsekStep}
 use Rattle.osek_scheduler.specs.Next.{next_state}
 use Rattle.osek_scheduler.proofs.Next.{step_of, step_is}
-use Rattle.osek_valid.specs.Valid.{AreDistinct}
-use Rattle.osek_valid.proofs.ApartSteps.{step_apart}
-use Rattle.osek_valid.proofs.Facts.{facts}
-use Rattle.osek_valid.proofs.Steps.{step_valid}
+use Rattle.osek_scheduler.specs.Valid.{AreDistinct}
+use Rattle.osek_scheduler.proofs.ApartSteps.{step_apart}
+use Rattle.osek_scheduler.proofs.Facts.{facts}
+use Rattle.osek_scheduler.proofs.Steps.{step_valid}
 use Rattle.osek_blocking.specs.NextEvents.{IsNoAdmission}
 use Rattle.osek_machine.specs.Steps.{IsSound, Machine}
 use Rattle.osek_blocking.proofs.Only.{settles}

@@ -3,8 +3,8 @@ use Rattle.sloth_base.specs.declared.config.Config.{Config}
 use Rattle.sloth_base.specs.declared.app.App.{App}
 use Rattle.code_rules.specs.WellFormed.{WellFormed}
 use Rattle.osek_scheduler.specs.State.{System}
-use Rattle.osek_valid.specs.Valid.{IsValid, AreDistinct}
-use Rattle.osek_valid.specs.Apart.{TasksAreApart}
+use Rattle.osek_scheduler.specs.Valid.{IsValid, AreDistinct}
+use Rattle.osek_scheduler.specs.Apart.{TasksAreApart}
 
 -- a configuration, its task code, and the state of a run
 pub record Machine : Type 0 where

@@ -9,3 +9,7 @@ pub mod Runs
 pub mod InTime
 pub mod Next
 pub mod StepsDecided
+pub mod Valid
+pub mod Apart
+pub mod Tidy
+pub mod WellFormedRuns

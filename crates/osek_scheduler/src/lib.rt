@@ -6,6 +6,11 @@
 //! step has at most one next state, which a computed step finds (`step_is_computed`); ceilings are computed as they are defined (`ceiling`,
 //! `highest`). What a tick keeps is a lemma (`proofs/Ticking`, `ticked_keeps`). It stands on plain data of `sloth_base` (`Arithmetic`, `Named`,
 //! `ServiceCodes`), and on `code_rules` (`Code`) for held resources.
+//!
+//! What every step keeps of a system with well-formed task code, for all events and all sixteen services (`validity`): no two tasks hold one resource,
+//! no two Active tasks have one current priority; a task that runs is at an item that means something; there is always a next event
+//! (`steps_keep_valid`, `steps_keep_apart`, `runs_are_valid`, `items_mean`, `running_goes_on`, `runs_never_stick`, `tasks_are_tidy`, ..;
+//! `specs/Valid`, `specs/Apart`, `specs/Tidy`, `specs/WellFormedRuns`).
 #![tactic(auto)]
 
 pub mod ceilings;
@@ -13,3 +18,4 @@ pub mod change;
 pub mod laws;
 pub mod plan;
 pub mod state;
+pub mod validity;

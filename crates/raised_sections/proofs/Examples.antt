@@ -14,7 +14,7 @@ use Rattle.sloth_base.specs.declared.service.Service.TheVariants as service
 use Rattle.sloth_base.specs.Named.{function, operation}
 use Rattle.code_rules.specs.Code.{IsItem, IsPathStep, is_followed, way}
 use Rattle.osek_scheduler.proofs.Examples.{full, system, body, code, serve}
-use Rattle.osek_valid.specs.Apart.{static_priority}
+use Rattle.osek_scheduler.specs.Apart.{static_priority}
 use Rattle.raised_sections.specs.Walks.{Position, place, first_position, chains_itself, GoesOnInside, LeadsTo, IsPositionStep, IsPositionStepTo, AreConsecutive, IsWalk}
 use Rattle.raised_sections.specs.Sections.{priority_at, operation_at, is_counted, OnlyLastSchedules, IsSection, size_of_section, IsLower, IsSectionFor, NoneIsLarger, IsBound, lowest, above, HasNoBound}
 use Rattle.raised_sections.proofs.Reached.{IsReached, reached_next}

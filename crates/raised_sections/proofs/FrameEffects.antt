@@ -8,9 +8,9 @@ use Rattle.sloth_base.specs.declared.event.Stamped.{Stamped}
 use Rattle.osek_scheduler.specs.State.{System, task}
 use Rattle.osek_scheduler.specs.Steps.{OsekStep}
 use Rattle.osek_scheduler.specs.Runs.{AreStepsTo}
-use Rattle.osek_valid.specs.Valid.{IsValid}
-use Rattle.osek_valid.proofs.Facts.{Facts}
-use Rattle.osek_valid.proofs.Steps.{autostarted_at, step_valid}
+use Rattle.osek_scheduler.specs.Valid.{IsValid}
+use Rattle.osek_scheduler.proofs.Facts.{Facts}
+use Rattle.osek_scheduler.proofs.Steps.{autostarted_at, step_valid}
 use Rattle.raised_sections.proofs.Frames.{SameFrames, same_frames, KeepsFrames, ticked_frames}
 use Rattle.raised_sections.proofs.Placed.{Placed, FrameEffect, task_frames, step_placed}
 

@@ -20,7 +20,7 @@ use Rattle.osek_scheduler.specs.Outcomes.{planned_system, shown_outcome, decisio
 use Rattle.osek_scheduler.specs.Steps.{admitted_state}
 use Rattle.osek_scheduler.proofs.Outcomes.{by_suspended, on_tested, on_outcome, KeptByOthers, others_keep}
 use Rattle.osek_scheduler.proofs.Ticking.{parts_kept, ticked_keeps}
-use Rattle.osek_valid.proofs.Apart.{at_task}
+use Rattle.osek_scheduler.proofs.Apart.{at_task}
 
 -- the frames are the same, what is owed, and what is held
 pub record SameFrames (old new : Task) : Type 0 where

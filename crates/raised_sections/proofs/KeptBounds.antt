@@ -12,12 +12,12 @@ use Rattle.osek_scheduler.specs.State.{System, opening}
 use Rattle.osek_scheduler.specs.Steps.{OsekStep}
 use Rattle.osek_scheduler.specs.Runs.{AreStepsTo, OsekRun}
 use Rattle.osek_scheduler.proofs.Leading.{follows_leads, leads-parts, one_step, one_end}
-use Rattle.osek_valid.specs.Valid.{IsValid}
-use Rattle.osek_valid.specs.Apart.{static_priority}
-use Rattle.osek_valid.proofs.Apart.{opening_apart}
-use Rattle.osek_valid.proofs.Facts.{Facts, facts}
-use Rattle.osek_valid.proofs.Reached.{run_valid}
-use Rattle.osek_valid.proofs.Steps.{step_valid, opening_valid}
+use Rattle.osek_scheduler.specs.Valid.{IsValid}
+use Rattle.osek_scheduler.specs.Apart.{static_priority}
+use Rattle.osek_scheduler.proofs.Apart.{opening_apart}
+use Rattle.osek_scheduler.proofs.Facts.{Facts, facts}
+use Rattle.osek_scheduler.proofs.Reached.{run_valid}
+use Rattle.osek_scheduler.proofs.Steps.{step_valid, opening_valid}
 use Rattle.sloth_base.specs.Events.{working_task}
 use Rattle.osek_blocking.specs.Blocking.{is_entry_of, events_up_to_entry, IsOfLower, IsBlockedBy}
 use Rattle.osek_blocking.proofs.Effects.{IsReady, Ordered}

@@ -25,11 +25,11 @@ use Rattle.osek_scheduler.specs.State.{Frame, Task, System, sleeping_task, task,
 use Rattle.osek_scheduler.specs.Services.{started_task, moved_frames, ServiceOutcome, GoesOn, Leaves}
 use Rattle.osek_scheduler.specs.Outcomes.{plan, planned_system, IfSuspended, outcome_of, status_decision, leave_decision, outcome}
 use Rattle.osek_scheduler.specs.Steps.{OsekStep, IsServiceStep, IsItemStep}
-use Rattle.osek_valid.specs.Valid.{IsCalledFrom, IsValid}
-use Rattle.osek_valid.proofs.Facts.{Facts}
-use Rattle.osek_valid.proofs.Going.{running}
-use Rattle.osek_valid.proofs.Stacks.{has_body, in_body_alone}
-use Rattle.osek_valid.proofs.Steps.{asleep_at}
+use Rattle.osek_scheduler.specs.Valid.{IsCalledFrom, IsValid}
+use Rattle.osek_scheduler.proofs.Facts.{Facts}
+use Rattle.osek_scheduler.proofs.Going.{running}
+use Rattle.osek_scheduler.proofs.Stacks.{has_body, in_body_alone}
+use Rattle.osek_scheduler.proofs.Steps.{asleep_at}
 use Rattle.raised_sections.specs.Walks.{first_position, chains_itself, IsPositionStep}
 use Rattle.raised_sections.proofs.Reached.{IsReached, reached_next, reached_first}
 use Rattle.raised_sections.proofs.Frames.{KeepsOthers, KeepsFrames, own, admitted_keeps, Served, served_frames}

@@ -7,8 +7,8 @@ use Rattle.code_rules.specs.WellFormed.{held_list_before}
 use Rattle.osek_scheduler.specs.declared.state.TaskState.TheVariants as mode
 use Rattle.osek_scheduler.specs.State.{Frame, System, task}
 use Rattle.osek_scheduler.specs.Priority.{highest_priority, greatest, ceiling}
-use Rattle.osek_valid.specs.Valid.{held_by, InState, IsValid}
-use Rattle.osek_valid.specs.Apart.{priority_of, static_priority, IsActive}
+use Rattle.osek_scheduler.specs.Valid.{held_by, InState, IsValid}
+use Rattle.osek_scheduler.specs.Apart.{priority_of, static_priority, IsActive}
 use Rattle.raised_sections.specs.Sections.{held_list_along, priority_at}
 use Rattle.raised_sections.proofs.Stepping.{position_of}
 

@@ -13,7 +13,7 @@ use Rattle.code_rules.specs.Code.{is_in}
 use Rattle.osek_scheduler.specs.Priority.{is_active}
 use Rattle.osek_scheduler.specs.Runs.{AreStepsTo}
 use Rattle.osek_scheduler.proofs.Tests.{Decides-is_active}
-use Rattle.osek_valid.specs.Apart.{static_priority, IsActive}
+use Rattle.osek_scheduler.specs.Apart.{static_priority, IsActive}
 use Rattle.sloth_base.specs.Events.{working_task}
 use Rattle.osek_blocking.specs.Blocking.{is_entry_of, events_up_to_entry, IsRaisedTo, FindsFresh}
 use Rattle.osek_blocking.proofs.Effects.{Effect}

@@ -12,11 +12,11 @@ use Rattle.osek_scheduler.specs.State.{System, task}
 use Rattle.osek_scheduler.specs.Priority.{IsTop}
 use Rattle.osek_scheduler.specs.Steps.{OsekStep}
 use Rattle.osek_scheduler.specs.Runs.{AreStepsTo}
-use Rattle.osek_valid.specs.Valid.{IsValid}
-use Rattle.osek_valid.specs.Apart.{static_priority, IsActive}
-use Rattle.osek_valid.proofs.Apart.{rank_active, rank_ready}
-use Rattle.osek_valid.proofs.Facts.{Facts}
-use Rattle.osek_valid.proofs.Steps.{step_valid}
+use Rattle.osek_scheduler.specs.Valid.{IsValid}
+use Rattle.osek_scheduler.specs.Apart.{static_priority, IsActive}
+use Rattle.osek_scheduler.proofs.Apart.{rank_active, rank_ready}
+use Rattle.osek_scheduler.proofs.Facts.{Facts}
+use Rattle.osek_scheduler.proofs.Steps.{step_valid}
 use Rattle.sloth_base.specs.Events.{working_task}
 use Rattle.osek_blocking.specs.Blocking.{is_entry_of, events_up_to_entry, IsOfLower, IsBlockedBy}
 use Rattle.osek_blocking.proofs.Effects.{IsReady, Ordered, Effect}

@@ -5,7 +5,7 @@ use Rattle.sloth_base.specs.declared.app.App.{App}
 use Rattle.sloth_base.specs.declared.event.Stamped.{Stamped}
 use Rattle.osek_scheduler.specs.State.{System, opening}
 use Rattle.osek_scheduler.specs.Runs.{AreStepsTo}
-use Rattle.osek_valid.specs.Apart.{static_priority}
+use Rattle.osek_scheduler.specs.Apart.{static_priority}
 use Rattle.sloth_base.specs.Events.{working_task}
 use Rattle.osek_blocking.specs.Blocking.{events_up_to_entry, MakesReady}
 use Rattle.raised_sections.specs.Sections.{IsBound}

@@ -12,7 +12,7 @@ use Rattle.sloth_base.specs.Limits.{count_limit}
 use Rattle.code_rules.specs.Code.{ends_for_good}
 use Rattle.code_rules.specs.WellFormed.{held_list_before}
 use Rattle.osek_scheduler.specs.State.{sleeping_task}
-use Rattle.osek_valid.specs.Apart.{priority_of, static_priority}
+use Rattle.osek_scheduler.specs.Apart.{priority_of, static_priority}
 use Rattle.raised_sections.specs.Walks.{Position, IsWalk}
 
 -- ---- a position

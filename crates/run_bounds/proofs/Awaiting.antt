@@ -11,9 +11,9 @@ use Rattle.osek_scheduler.specs.declared.state.TaskState.{TaskState}
 use Rattle.osek_scheduler.specs.declared.state.TaskState.TheVariants as mode
 use Rattle.osek_scheduler.specs.State.{System, task}
 use Rattle.osek_scheduler.specs.Steps.{OsekStep}
-use Rattle.osek_valid.specs.Valid.{IsValid}
-use Rattle.osek_valid.proofs.Facts.{Facts}
-use Rattle.osek_valid.proofs.Steps.{step_valid}
+use Rattle.osek_scheduler.specs.Valid.{IsValid}
+use Rattle.osek_scheduler.proofs.Facts.{Facts}
+use Rattle.osek_scheduler.proofs.Steps.{step_valid}
 use Rattle.osek_blocking.specs.Blocking.{is_entry_of}
 use Rattle.osek_blocking.proofs.Effects.{IsReady, Ordered}
 use Rattle.osek_blocking.proofs.Ordering.{effect, step_ordered}

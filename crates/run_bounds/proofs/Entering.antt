@@ -19,10 +19,10 @@ use Rattle.osek_scheduler.specs.InTime.{IsOrdered, StandsBefore, is_admit}
 use Rattle.osek_scheduler.specs.Steps.{OsekStep}
 use Rattle.osek_scheduler.specs.Runs.{AreStepsTo, OsekRun}
 use Rattle.osek_scheduler.proofs.Leading.{follows_leads, leads-parts, one_step, one_end}
-use Rattle.osek_valid.proofs.Apart.{opening_apart}
-use Rattle.osek_valid.proofs.Facts.{Facts, facts}
-use Rattle.osek_valid.proofs.Reached.{run_valid}
-use Rattle.osek_valid.proofs.Steps.{step_valid, opening_valid}
+use Rattle.osek_scheduler.proofs.Apart.{opening_apart}
+use Rattle.osek_scheduler.proofs.Facts.{Facts, facts}
+use Rattle.osek_scheduler.proofs.Reached.{run_valid}
+use Rattle.osek_scheduler.proofs.Steps.{step_valid, opening_valid}
 use Rattle.osek_blocking.specs.Blocking.{is_entry_of, events_up_to_entry}
 use Rattle.osek_blocking.proofs.Ordering.{step_ordered, opening_ordered, leads_ordered}
 use Rattle.osek_blocking.proofs.Once.{block_once}

@@ -12,11 +12,11 @@ use Rattle.osek_scheduler.specs.declared.state.TaskState.TheVariants as mode
 use Rattle.osek_scheduler.specs.State.{System, task}
 use Rattle.osek_scheduler.specs.Priority.{greatest, ceiling, highest_priority, IsTop}
 use Rattle.osek_scheduler.specs.Steps.{OsekStep}
-use Rattle.osek_valid.specs.Valid.{InState}
-use Rattle.osek_valid.specs.Apart.{IsActive}
-use Rattle.osek_valid.proofs.Apart.{rank_active, rank_ready}
-use Rattle.osek_valid.proofs.Excluding.{among, excludes}
-use Rattle.osek_valid.proofs.Facts.{Facts}
+use Rattle.osek_scheduler.specs.Valid.{InState}
+use Rattle.osek_scheduler.specs.Apart.{IsActive}
+use Rattle.osek_scheduler.proofs.Apart.{rank_active, rank_ready}
+use Rattle.osek_scheduler.proofs.Excluding.{among, excludes}
+use Rattle.osek_scheduler.proofs.Facts.{Facts}
 use Rattle.sloth_base.specs.Events.{working_task, is_call}
 use Rattle.osek_blocking.specs.Blocking.{is_entry_of, IsRaisedTo}
 use Rattle.osek_blocking.proofs.Effects.{IsReady, Calls, Effect}

@@ -12,8 +12,8 @@ use Rattle.osek_scheduler.specs.State.{System, task}
 use Rattle.code_rules.specs.Code.{is_in}
 use Rattle.osek_scheduler.specs.Steps.{OsekStep}
 use Rattle.osek_scheduler.specs.Runs.{AreStepsTo}
-use Rattle.osek_valid.specs.Apart.{static_priority, priority_of, IsActive}
-use Rattle.osek_valid.proofs.Facts.{Facts}
+use Rattle.osek_scheduler.specs.Apart.{static_priority, priority_of, IsActive}
+use Rattle.osek_scheduler.proofs.Facts.{Facts}
 use Rattle.sloth_base.specs.Events.{working_task}
 use Rattle.osek_blocking.specs.Blocking.{is_entry_of, events_up_to_entry, IsRaisedTo, FindsFresh, IsBlockedBy}
 use Rattle.osek_blocking.proofs.Ordering.{effect}

@@ -12,7 +12,7 @@ use Rattle.sloth_base.specs.Limits.{item_counts}
 use Rattle.osek_scheduler.specs.State.{System, opening}
 use Rattle.osek_scheduler.specs.InTime.{is_admit}
 use Rattle.osek_scheduler.specs.Runs.{AreStepsTo}
-use Rattle.osek_valid.specs.Apart.{static_priority}
+use Rattle.osek_scheduler.specs.Apart.{static_priority}
 use Rattle.osek_blocking.specs.Blocking.{is_entry_of, events_up_to_entry, MakesReady}
 use Rattle.raised_sections.specs.Sections.{IsBound}
 use Rattle.raised_sections.specs.Pace.{entry_counts, own_counts}

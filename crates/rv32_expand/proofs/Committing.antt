@@ -15,7 +15,7 @@ use Rattle.sloth_base.specs.declared.app.Width.TheVariants as width
 use Rattle.rv32_instr.specs.Access.{load, store}
 use Rattle.rv32_instr.specs.declared.InstrKind.{InstrKind}
 use Rattle.rv32_instr.specs.declared.InstrKind.TheVariants.{Jal, Jalr}
-use Rattle.data_far.specs.Wide.{far_indexed}
+use Rattle.expansion_parts.specs.FarAccesses.{far_indexed}
 use Rattle.expansion_parts.specs.Expansion.{register_operation, number_operation, test, number_in, index_code, zeros, mask_of, distance, symbol_address, item_address, label_address, block_address}
 use Rattle.rv32_expand.specs.ItemLengths.{register_of, EndsWithRegister, LastCommits}
 

@@ -2,7 +2,7 @@
 ghost use Rattle.std.specs.Prelude.{◌≡◌, ◌≤◌, ◌<◌, ◌+◌, ◌*◌, ◌^◌, ◌++◌, ◌∷◌, [], length, pos};
 ghost use Rattle.sloth_base.specs.Arithmetic.{hi};
 ghost use Rattle.sloth_base.specs.Limits.{frame_limit};
-ghost use Rattle.data_far.specs.Wide.{wide, IsWide};
+ghost use Rattle.expansion_parts.specs.FarAccesses.{wide, IsWide};
 ghost use Rattle.rv32_instr.specs.Range.{IsSigned};
 ghost use Rattle.rv32_instr.specs.declared.InstrKind.TheVariants.{Lui, Addi, Lw, Jalr};
 ghost use Rattle.expansion_parts.specs.Expansion.{distance, block_address, index_code, branch_code, mask_of, service_jump, operation_code};
@@ -48,7 +48,7 @@ fn far_indexed(item: &Item, address: u32) -> Draft
     ensures { result ≡ wide item.now.op address }
 {
     let mut draft = Draft::of(&[]);
-    for instr in &data_far::wide(item, address)[..] {
+    for instr in &expansion_parts::far_accesses::wide(item, address)[..] {
         draft.push(instr.kind());
     }
     draft

@@ -10,8 +10,8 @@ use Rattle.sloth_base.specs.declared.app.Func.{Func}
 use Rattle.sloth_base.specs.Named.{body_of}
 use Rattle.sloth_base.specs.Limits.{size_limit, count_limit}
 use Rattle.code_rules.specs.WellFormed.{WellFormed}
-use Rattle.osek_valid.specs.Apart.{static_priority}
-use Rattle.osek_valid.proofs.Facts.{Facts, facts}
+use Rattle.osek_scheduler.specs.Apart.{static_priority}
+use Rattle.osek_scheduler.proofs.Facts.{Facts, facts}
 use Rattle.raised_sections.specs.Walks.{Position}
 use Rattle.raised_sections.specs.Sections.{IsSection, IsLower}
 use Rattle.bound_rules.specs.declared.sizes.Summary.{Summary}

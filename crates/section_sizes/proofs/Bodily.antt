@@ -10,7 +10,7 @@ use Rattle.sloth_base.specs.declared.app.Op.TheVariants as op
 use Rattle.sloth_base.specs.Named.{function, operation, item_of}
 use Rattle.code_rules.specs.Code.{HasCall, is_in}
 use Rattle.code_rules.specs.WellFormed.{WellFormed}
-use Rattle.osek_valid.proofs.Facts.{Facts, facts}
+use Rattle.osek_scheduler.proofs.Facts.{Facts, facts}
 use Rattle.body_faults.specs.Ways.{HasBodyLabel}
 use Rattle.body_faults.specs.Labels.{ArePlaced}
 use Rattle.body_faults.proofs.Tests.{leads}

@@ -12,9 +12,9 @@ use Rattle.sloth_base.specs.Named.{function, operation, body_of, declaration}
 use Rattle.code_rules.specs.Code.{IsItem, IsPathStep}
 use Rattle.code_rules.specs.WellFormed.{held_list_before}
 use Rattle.osek_scheduler.specs.Priority.{greatest, ceiling, highest_priority}
-use Rattle.osek_valid.specs.Apart.{static_priority}
-use Rattle.osek_valid.proofs.Facts.{Facts}
-use Rattle.osek_valid.proofs.Stacks.{has_body}
+use Rattle.osek_scheduler.specs.Apart.{static_priority}
+use Rattle.osek_scheduler.proofs.Facts.{Facts}
+use Rattle.osek_scheduler.proofs.Stacks.{has_body}
 use Rattle.section_sizes.proofs.Reaching.{called_known, reached_inside}
 use Rattle.raised_sections.specs.Walks.{Place, Position, place, GoesBack, GoesOnInside, LeadsTo, IsPositionStep, AreConsecutive, IsWalk, chains_itself}
 use Rattle.raised_sections.specs.Sections.{held_list_along, priority_at, operation_at, is_schedule, is_counted, OnlyLastSchedules, IsSection, size_of_section}

@@ -9,7 +9,7 @@ use Rattle.sloth_base.specs.declared.app.Op.TheVariants as op
 use Rattle.sloth_base.specs.Named.{function, operation}
 use Rattle.sloth_base.specs.Limits.{size_limit}
 use Rattle.code_rules.specs.Code.{IsItem, IsPathStep, is_followed, way, is_in}
-use Rattle.osek_valid.proofs.Facts.{Facts}
+use Rattle.osek_scheduler.proofs.Facts.{Facts}
 use Rattle.raised_sections.specs.Walks.{chains_itself}
 use Rattle.raised_sections.specs.Sections.{is_schedule, is_counted}
 use Rattle.section_sizes.specs.declared.graph.Ways.{Ways}

@@ -6,9 +6,9 @@ use Rattle.sloth_base.specs.declared.config.TaskDecl.{TaskDecl}
 use Rattle.sloth_base.specs.declared.app.App.{App}
 use Rattle.sloth_base.specs.Named.{body_of, declaration}
 use Rattle.osek_scheduler.specs.Priority.{greatest, highest_priority}
-use Rattle.osek_valid.specs.Apart.{static_priority}
-use Rattle.osek_valid.proofs.Facts.{Facts}
-use Rattle.osek_valid.proofs.Stacks.{has_body}
+use Rattle.osek_scheduler.specs.Apart.{static_priority}
+use Rattle.osek_scheduler.proofs.Facts.{Facts}
+use Rattle.osek_scheduler.proofs.Stacks.{has_body}
 use Rattle.raised_sections.specs.Sections.{IsLower}
 use Rattle.bound_rules.specs.declared.sizes.Summary.{Summary}
 use Rattle.bound_rules.specs.declared.weights.BodyWeights.{BodyWeights}

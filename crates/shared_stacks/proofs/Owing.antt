@@ -9,11 +9,11 @@ use Rattle.stack_bounds.specs.Bounds.{ReachesSchedule}
 use Rattle.osek_scheduler.specs.State.{System, opening}
 use Rattle.osek_scheduler.proofs.Ticking.{parts_kept, ticked_keeps}
 use Rattle.osek_scheduler.specs.Steps.{OsekStep}
-use Rattle.osek_valid.specs.Valid.{IsValid}
+use Rattle.osek_scheduler.specs.Valid.{IsValid}
 use Rattle.shared_stacks.specs.Together.{OwesBySchedule}
 use Rattle.shared_stacks.proofs.TaskOwing.{owes_besides, task_owes}
-use Rattle.osek_valid.proofs.Facts.{Facts}
-use Rattle.osek_valid.proofs.Steps.{autostarted_at, asleep_at}
+use Rattle.osek_scheduler.proofs.Facts.{Facts}
+use Rattle.osek_scheduler.proofs.Steps.{autostarted_at, asleep_at}
 
 module _ (app : App) (config : Config) (w : Facts config app) where
   pub step_owes : (e : Event) (s next : System) → OsekStep config app e s next → IsValid config app s → OwesBySchedule app s → OwesBySchedule app next

@@ -25,12 +25,12 @@ use Rattle.osek_scheduler.specs.declared.change.TaskChange.TheVariants as change
 use Rattle.osek_scheduler.specs.declared.plan.Plan.{Plan}
 use Rattle.osek_scheduler.proofs.Outcomes.{by_suspended, on_all, on_tested, KeptByOthers, outcome_keeps}
 use Rattle.osek_scheduler.specs.Steps.{OsekStep, IsServiceStep, admitted_state}
-use Rattle.osek_valid.specs.Valid.{IsValid}
+use Rattle.osek_scheduler.specs.Valid.{IsValid}
 use Rattle.shared_stacks.specs.Together.{OwesBySchedule}
-use Rattle.osek_valid.proofs.Apart.{at_task}
-use Rattle.osek_valid.proofs.Facts.{Facts}
-use Rattle.osek_valid.proofs.Going.{running}
-use Rattle.osek_valid.proofs.Stacks.{task_reaches}
+use Rattle.osek_scheduler.proofs.Apart.{at_task}
+use Rattle.osek_scheduler.proofs.Facts.{Facts}
+use Rattle.osek_scheduler.proofs.Going.{running}
+use Rattle.osek_scheduler.proofs.Stacks.{task_reaches}
 
 -- Schedule alone makes its caller owe a `back`
 abbrev is_pause : TaskChange → Bool

@@ -11,15 +11,15 @@ use Rattle.stack_bounds.proofs.Stacked as stacked
 use Rattle.osek_scheduler.specs.State.{System, task, opening}
 use Rattle.osek_scheduler.specs.Priority.{highest_priority, greatest, ceiling}
 use Rattle.osek_scheduler.specs.Runs.{AreStepsTo}
-use Rattle.osek_valid.specs.Valid.{IsValid, InState}
-use Rattle.osek_valid.specs.Apart.{IsActive, IsOver, TasksAreApart, static_priority}
+use Rattle.osek_scheduler.specs.Valid.{IsValid, InState}
+use Rattle.osek_scheduler.specs.Apart.{IsActive, IsOver, TasksAreApart, static_priority}
 use Rattle.shared_stacks.specs.Together.{OwesBySchedule, chosen_bytes}
-use Rattle.osek_valid.proofs.Apart.{at_least_static, opening_apart}
-use Rattle.osek_valid.proofs.ApartSteps.{step_apart}
-use Rattle.osek_valid.proofs.Excluding.{among}
-use Rattle.osek_valid.proofs.Facts.{Facts}
+use Rattle.osek_scheduler.proofs.Apart.{at_least_static, opening_apart}
+use Rattle.osek_scheduler.proofs.ApartSteps.{step_apart}
+use Rattle.osek_scheduler.proofs.Excluding.{among}
+use Rattle.osek_scheduler.proofs.Facts.{Facts}
 use Rattle.shared_stacks.proofs.Owing.{step_owes, opening_owes}
-use Rattle.osek_valid.proofs.Steps.{step_valid, opening_valid}
+use Rattle.osek_scheduler.proofs.Steps.{step_valid, opening_valid}
 
 raised_le : (own held high : ℕ) (raised : Bool) → raised ≡ true → high ≤ max own (max held (cond raised high 0))
 raised_le own held high raised e =

@@ -11,8 +11,8 @@ use Rattle.call_graph.specs.Tables.{sum_below}
 use Rattle.osek_scheduler.specs.State.{System, opening, task}
 use Rattle.osek_scheduler.specs.Steps.{OsekStep}
 use Rattle.osek_scheduler.specs.Runs.{AreStepsTo}
-use Rattle.osek_valid.specs.Valid.{IsValid}
-use Rattle.osek_valid.specs.Apart.{IsActive, IsOver}
+use Rattle.osek_scheduler.specs.Valid.{IsValid}
+use Rattle.osek_scheduler.specs.Apart.{IsActive, IsOver}
 
 -- a task owes a `back` only where it reaches a Schedule
 abbrev pub OwesBySchedule : App → System → Type 0

@@ -27,7 +27,7 @@ use Rattle.rv32_expand.specs.InPlace.{result_register, mark_of}
 use Rattle.observe.specs.Observe.{View}
 use Rattle.osek_scheduler.specs.State.{Frame, System, task, entry_frame}
 use Rattle.osek_scheduler.specs.Meaning.{ItemMeaning, meaning, if_true}
-use Rattle.osek_valid.specs.Valid.{AreCalls, IsCalledFrom}
+use Rattle.osek_scheduler.specs.Valid.{AreCalls, IsCalledFrom}
 use Rattle.code_rules.specs.Code.{IsCalledBy}
 use Rattle.sim_relation.specs.Build.{Build}
 use Rattle.sim_relation.specs.Position.{IsPosition, IsCalling, AreWords, AreOuterFrames, AreFrames, HasScratch, return_address, called_words, thread_of}

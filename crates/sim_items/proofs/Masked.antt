@@ -11,7 +11,7 @@ use Rattle.sloth_base.specs.declared.app.Width.TheVariants as width
 use Rattle.sloth_base.specs.declared.places.Places.{Places}
 use Rattle.rv32_instr.specs.Access.{load, store}
 use Rattle.masked_code.proofs.Parts.{hi_lo}
-use Rattle.data_far.specs.Wide.{far_indexed, wide}
+use Rattle.expansion_parts.specs.FarAccesses.{far_indexed, wide}
 use Rattle.expansion_parts.specs.Expansion.{symbol_address, index_code, operation_code}
 use Rattle.sim_items.specs.Place.{IsAccess, IsMasked}
 

@@ -17,7 +17,7 @@ use Rattle.sloth_base.specs.MemoryMap.{memory_base, memory_bytes}
 use Rattle.observe.specs.Observe.{View, mark_at}
 use Rattle.vector_gen.specs.Idle.{IsIdleCode}
 use Rattle.osek_scheduler.specs.State.{Frame, System}
-use Rattle.osek_valid.specs.Valid.{AreCalls}
+use Rattle.osek_scheduler.specs.Valid.{AreCalls}
 use Rattle.sim_induction.specs.Admits.{IsSetting, lines_at, with_admits}
 use Rattle.sim_induction.specs.PieceLaws.{OutsideLaw}
 use Rattle.sim_relation.specs.Build.{Build, HasFittingPlaces}

@@ -18,15 +18,15 @@ use Rattle.prio_levels.specs.Levels.{AreLevels, lists}
 use Rattle.osek_scheduler.specs.Priority.{greatest, highest_priority, ceiling}
 use Rattle.osek_scheduler.specs.State.{System, task}
 use Rattle.osek_scheduler.specs.Steps.{IsAt}
-use Rattle.osek_valid.specs.Valid.{IsValid, held_by}
-use Rattle.osek_valid.proofs.Excluding.{below_ceiling}
-use Rattle.osek_valid.proofs.Facts.{Facts}
-use Rattle.osek_valid.proofs.Going.{Running, running}
-use Rattle.osek_valid.proofs.Stacks.{is_in-append, outer_new, task_reaches}
+use Rattle.osek_scheduler.specs.Valid.{IsValid, held_by}
+use Rattle.osek_scheduler.proofs.Excluding.{below_ceiling}
+use Rattle.osek_scheduler.proofs.Facts.{Facts}
+use Rattle.osek_scheduler.proofs.Going.{Running, running}
+use Rattle.osek_scheduler.proofs.Stacks.{is_in-append, outer_new, task_reaches}
 use Rattle.sim_relation.specs.Build.{Build}
 use Rattle.sim_relation.proofs.Levels.{level_of-mono}
-use Rattle.sim_entries.proofs.Generated.{highest_level}
-use Rattle.sim_services.specs.ServiceSteps.{IsCeilingLevel, MayHaveResource}
+use Rattle.sim_routines.proofs.Generated.{highest_level}
+use Rattle.sim_routines.specs.ServiceSteps.{IsCeilingLevel, MayHaveResource}
 
 -- ---- levels of the greatest of priorities
 

@@ -32,8 +32,8 @@ use Rattle.sim_relation.proofs.Arrive.{stands_arrived}
 use Rattle.sim_relation.proofs.Choice.{taken_cases, taken_ready}
 use Rattle.sim_relation.proofs.Framing.{position_elim}
 use Rattle.sim_relation.proofs.Tops.{falling_head}
-use Rattle.sim_entries.specs.Range.{IsSane}
-use Rattle.sim_entries.proofs.EnterRoute.{enter_advances}
+use Rattle.sim_routines.specs.Range.{IsSane}
+use Rattle.sim_routines.proofs.EnterRoute.{enter_advances}
 use Rattle.sim_items.specs.Place.{AtItem, HasNumbers, IsStraight, IsFlow, IsCall, IsReturn}
 use Rattle.sim_relation.specs.Placed.{setting_of}
 use Rattle.sim_items.specs.Outside.{StandsAt, GoesOutside, JumpsToService, JumpsWithMask}
@@ -45,16 +45,16 @@ use Rattle.sim_items.proofs.Outside.{item_outside, idle_outside}
 use Rattle.sim_items.proofs.Inner.{inner_outside}
 use Rattle.sim_items.proofs.Jump.{jump_outside}
 use Rattle.sim_items.proofs.MaskedJump.{masked_outside}
-use Rattle.sim_services.specs.Opening.{StandsAtBlock, IsFollowed, OpensService}
-use Rattle.sim_services.specs.Stretch.{OpensGoingOn}
-use Rattle.sim_services.proofs.GoingOnStretch.{activates_stretches, chain_stretches, releases_stretches, states_stretches, takes_stretches, tells_stretches}
-use Rattle.sim_services.proofs.ScheduleStretch.{back_stretches, yields_stretches}
-use Rattle.sim_services.proofs.TerminateStretch.{terminate_stretches}
-use Rattle.sim_services.proofs.Stretches as on_events
-use Rattle.sim_services.proofs.WaitStretch.{wait_stretches}
-use Rattle.sim_ticks.specs.AlarmSteps.{OpensAlarm}
-use Rattle.sim_ticks.proofs.AlarmStretches.{relative_stretches, absolute_stretches, cancel_stretches, told_stretches}
-use Rattle.sim_ticks.proofs.TickRoute.{tick_advances}
+use Rattle.sim_routines.specs.Opening.{StandsAtBlock, IsFollowed, OpensService}
+use Rattle.sim_routines.specs.Stretch.{OpensGoingOn}
+use Rattle.sim_routines.proofs.GoingOnStretch.{activates_stretches, chain_stretches, releases_stretches, states_stretches, takes_stretches, tells_stretches}
+use Rattle.sim_routines.proofs.ScheduleStretch.{back_stretches, yields_stretches}
+use Rattle.sim_routines.proofs.TerminateStretch.{terminate_stretches}
+use Rattle.sim_routines.proofs.Stretches as on_events
+use Rattle.sim_routines.proofs.WaitStretch.{wait_stretches}
+use Rattle.sim_routines.specs.AlarmSteps.{OpensAlarm}
+use Rattle.sim_routines.proofs.AlarmStretches.{relative_stretches, absolute_stretches, cancel_stretches, told_stretches}
+use Rattle.sim_routines.proofs.TickRoute.{tick_advances}
 use Rattle.sim_laws.specs.Bounded.{IsBounded}
 use Rattle.sim_laws.specs.Kernel.{Kernel, IsServiceItem, IsComputingItem, IsCallItem, IsKnownItem}
 use Rattle.sim_laws.specs.Kernel.IsKnownItem.{computes, flows, invokes, returns, serves}
@@ -62,12 +62,12 @@ use Rattle.sim_laws.specs.Steady.{IsSteady}
 use Rattle.sim_laws.proofs.Masks.{call_jumps, is_word}
 use Rattle.sim_laws.proofs.Meeting.{meets}
 use Rattle.sim_laws.proofs.Steady.{basic_anew, ends_free, has_internal, pauses_free, valid_sizes}
-use Rattle.osek_valid.specs.Valid.{AreCalls, InState}
-use Rattle.osek_valid.proofs.Facts.{Facts, facts}
-use Rattle.osek_valid.proofs.Held.{falls_inside}
-use Rattle.osek_valid.proofs.Going.{running}
-use Rattle.osek_valid.proofs.Meaning.{there}
-use Rattle.osek_valid.proofs.Stacks.{has_body}
+use Rattle.osek_scheduler.specs.Valid.{AreCalls, InState}
+use Rattle.osek_scheduler.proofs.Facts.{Facts, facts}
+use Rattle.osek_scheduler.proofs.Held.{falls_inside}
+use Rattle.osek_scheduler.proofs.Going.{running}
+use Rattle.osek_scheduler.proofs.Meaning.{there}
+use Rattle.osek_scheduler.proofs.Stacks.{has_body}
 use Rattle.code_rules.specs.Code.{IsPausing, ends_for_good, IsEnding as EndsTask}
 use Rattle.osek_scheduler.specs.Services.{is_there}
 use Rattle.osek_scheduler.specs.Steps.{IsAt}

@@ -18,10 +18,10 @@ use Rattle.vector_gen.specs.Vectors.{AreJumps}
 use Rattle.prologue_gen.specs.Fresh.{vector}
 use Rattle.sim_relation.specs.Build.{Build}
 use Rattle.sim_relation.specs.Placed.{IsPlaced}
-use Rattle.sim_entries.specs.Codes.{PrologueStands}
-use Rattle.sim_entries.specs.Generated.{IsBuiltFrom}
-use Rattle.sim_entries.proofs.Generated.{enters_built}
-use Rattle.sim_ticks.specs.TickSteps.{TickStands}
+use Rattle.sim_routines.specs.Codes.{PrologueStands}
+use Rattle.sim_routines.specs.Generated.{IsBuiltFrom}
+use Rattle.sim_routines.proofs.Generated.{enters_built}
+use Rattle.sim_routines.specs.TickSteps.{TickStands}
 use Rattle.sim_laws.specs.Kernel.{Kernel}
 use Rattle.sim_laws.specs.Generated.{IsGenerated}
 

@@ -36,9 +36,9 @@ use Rattle.sim_relation.specs.Build.{Build}
 use Rattle.sim_relation.specs.Stands.{Stands}
 use Rattle.sim_relation.proofs.Arrive.{stands_arrived}
 use Rattle.sim_relation.proofs.MirrorOf.{mirror_of}
-use Rattle.sim_entries.proofs.Boot.{ram_at}
-use Rattle.sim_entries.proofs.BootRoute.{boot_stretch}
-use Rattle.sim_entries.proofs.Spot.{zero_at}
+use Rattle.sim_routines.proofs.Boot.{ram_at}
+use Rattle.sim_routines.proofs.BootRoute.{boot_stretch}
+use Rattle.sim_routines.proofs.Spot.{zero_at}
 use Rattle.sim_relation.specs.Placed.{setting_of}
 use Rattle.sim_items.specs.Progress.{passed_count_at, passed_count_in, progress_in}
 use Rattle.sim_laws.specs.Bounded.{IsBounded}

@@ -15,8 +15,8 @@ use Rattle.code_rules.specs.Code.{IsItem, is_followed}
 use Rattle.code_rules.specs.WellFormed as rule
 use Rattle.code_rules.specs.WellFormed.{WellFormed, at_item}
 use Rattle.observe.specs.Observe.{View}
-use Rattle.osek_valid.proofs.Facts.{Facts, facts}
-use Rattle.osek_valid.proofs.Held.{falls_inside, jumps_inside}
+use Rattle.osek_scheduler.proofs.Facts.{Facts, facts}
+use Rattle.osek_scheduler.proofs.Held.{falls_inside, jumps_inside}
 use Rattle.sim_relation.specs.Build.{Build}
 use Rattle.sim_items.specs.Place.{IsAccess, IsMasked, IsStraight, IsFlow}
 use Rattle.sim_laws.specs.Kernel.{IsKnownItem}

@@ -11,3 +11,13 @@ pub mod Items
 pub mod Known
 pub mod Ceilings
 pub mod Shown
+pub mod Following
+pub mod Data
+pub mod Fitting
+pub mod Images
+pub mod Apart
+pub mod Marks
+pub mod Generating
+pub mod Ready
+pub mod Housed
+pub mod Serving

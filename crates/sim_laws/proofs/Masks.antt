@@ -19,7 +19,7 @@ use Rattle.rv32_instr.specs.declared.InstrKind.{InstrKind}
 use Rattle.expansion_parts.specs.Expansion.{item_address, mask_of, number_in, is_long, operation_code, expansion}
 use Rattle.expansion_parts.proofs.Counts.{served_length}
 use Rattle.observe.specs.Observe.{View}
-use Rattle.osek_valid.proofs.Facts.{Facts}
+use Rattle.osek_scheduler.proofs.Facts.{Facts}
 use Rattle.sim_relation.specs.Build.{Build}
 use Rattle.sim_items.specs.Outside.{mask_register, JumpsToService, JumpsWithMask}
 use Rattle.sim_laws.specs.Kernel.{IsServiceItem}

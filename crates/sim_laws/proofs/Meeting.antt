@@ -9,9 +9,9 @@ use Rattle.osek_scheduler.specs.declared.state.TaskState.TheVariants as mode
 use Rattle.osek_scheduler.specs.State.{System, task}
 use Rattle.sloth_base.specs.Named.{declaration}
 use Rattle.sloth_base.specs.MemoryMap.{line_count}
-use Rattle.osek_valid.specs.Valid.{IsValid, InState}
+use Rattle.osek_scheduler.specs.Valid.{IsValid, InState}
 use Rattle.shared_stacks.specs.Together.{OwesBySchedule}
-use Rattle.osek_valid.proofs.Apart.{at_least_static}
+use Rattle.osek_scheduler.proofs.Apart.{at_least_static}
 use Rattle.shared_stacks.proofs.Together.{lower_may}
 use Rattle.sim_relation.specs.Build.{Build}
 use Rattle.sim_relation.specs.Stands.{Stands, IsAlive}

@@ -1,9 +1,9 @@
 -- The parts of the Active basic tasks lie one below the other, as the tasks were entered.
 use Rattle.std.proofs.Common.{ℕ, List, [], ◌∷◌, arith}
 use Rattle.osek_scheduler.specs.State.{System, task}
-use Rattle.osek_valid.specs.Valid.{IsValid}
+use Rattle.osek_scheduler.specs.Valid.{IsValid}
 use Rattle.shared_stacks.specs.Together.{OwesBySchedule}
-use Rattle.osek_valid.proofs.Apart.{at_least_static}
+use Rattle.osek_scheduler.proofs.Apart.{at_least_static}
 use Rattle.shared_stacks.proofs.Together.{lower_may}
 use Rattle.sim_relation.specs.Build.{Build}
 use Rattle.sim_relation.specs.Stands.{AreFalling}

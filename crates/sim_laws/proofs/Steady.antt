@@ -16,14 +16,14 @@ use Rattle.osek_scheduler.specs.declared.state.TaskState.TheVariants as mode
 use Rattle.osek_scheduler.specs.State.{Frame, System, task, opening}
 use Rattle.sloth_base.specs.Named.{declaration}
 use Rattle.osek_scheduler.specs.Steps.{IsAt, OsekStep}
-use Rattle.osek_valid.specs.Valid.{IsValid, InState, held_by}
-use Rattle.osek_valid.proofs.Apart.{opening_apart}
-use Rattle.osek_valid.proofs.ApartSteps.{step_apart}
-use Rattle.osek_valid.proofs.Facts.{Facts, facts}
-use Rattle.osek_valid.proofs.Going.{running}
+use Rattle.osek_scheduler.specs.Valid.{IsValid, InState, held_by}
+use Rattle.osek_scheduler.proofs.Apart.{opening_apart}
+use Rattle.osek_scheduler.proofs.ApartSteps.{step_apart}
+use Rattle.osek_scheduler.proofs.Facts.{Facts, facts}
+use Rattle.osek_scheduler.proofs.Going.{running}
 use Rattle.shared_stacks.proofs.Owing.{step_owes, opening_owes}
-use Rattle.osek_valid.proofs.Stacks.{in_body_alone, outer_free}
-use Rattle.osek_valid.proofs.Steps.{opening_valid, step_valid}
+use Rattle.osek_scheduler.proofs.Stacks.{in_body_alone, outer_free}
+use Rattle.osek_scheduler.proofs.Steps.{opening_valid, step_valid}
 use Rattle.sim_items.specs.Place.{HasSymbolSizes}
 use Rattle.sim_laws.specs.Steady.{IsSteady}
 

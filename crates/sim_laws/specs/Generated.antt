@@ -21,12 +21,12 @@ use Rattle.sim_relation.specs.Bounds.{AreBelow}
 use Rattle.sim_relation.specs.Build.{Build, HasFittingPlaces}
 use Rattle.sim_relation.specs.Placed.{IsPlaced}
 use Rattle.sim_relation.specs.Stands.{AreStacksApart}
-use Rattle.sim_entries.specs.Boot.{IsImage}
-use Rattle.sim_entries.specs.Entries.{body_frame_words}
-use Rattle.sim_entries.specs.Generated.{HasOneBody}
+use Rattle.sim_routines.specs.Boot.{IsImage}
+use Rattle.sim_routines.specs.Entries.{body_frame_words}
+use Rattle.sim_routines.specs.Generated.{HasOneBody}
 use Rattle.sim_items.specs.Place.{ItemStands}
 use Rattle.sim_items.specs.Outside.{HasIdle}
-use Rattle.sim_ticks.specs.TickSteps.{IsTick}
+use Rattle.sim_routines.specs.TickSteps.{IsTick}
 use Rattle.sim_laws.specs.Kernel.{Kernel, IsKnownItem, WayBackStands}
 use Rattle.sim_laws.specs.Nested.{HasNestedParts}
 

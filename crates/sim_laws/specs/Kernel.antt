@@ -19,13 +19,13 @@ use Rattle.sim_induction.specs.Weighed.{Weighed}
 use Rattle.sim_relation.specs.Bounds.{AreBelow}
 use Rattle.sim_relation.specs.Build.{Build, HasFittingPlaces}
 use Rattle.sim_relation.specs.Stands.{AreStacksApart}
-use Rattle.sim_entries.specs.Boot.{IsImage}
-use Rattle.sim_entries.specs.Codes.{BootStands, PrologueStands}
+use Rattle.sim_routines.specs.Boot.{IsImage}
+use Rattle.sim_routines.specs.Codes.{BootStands, PrologueStands}
 use Rattle.sim_items.specs.Place.{ItemStands, IsStraight, IsFlow}
 use Rattle.sim_items.specs.Outside.{HasIdle}
-use Rattle.sim_services.specs.Opening.{StandsAtBlock}
-use Rattle.sim_services.specs.Stretch.{HasWayBack}
-use Rattle.sim_ticks.specs.TickSteps.{TickStands}
+use Rattle.sim_routines.specs.Opening.{StandsAtBlock}
+use Rattle.sim_routines.specs.Stretch.{HasWayBack}
+use Rattle.sim_routines.specs.TickSteps.{TickStands}
 
 -- an item computes on registers, frame words and data, and isn't the last one of its function
 pub record IsComputingItem (b : Build) (func item : ℕ) : Type 0 where

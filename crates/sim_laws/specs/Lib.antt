@@ -6,3 +6,8 @@ pub mod Standing
 pub mod Generated
 pub mod Items
 pub mod TaskStates
+pub mod Zones
+pub mod Symbols
+pub mod LinkedImages
+pub mod GeneratedZones
+pub mod Rooms

@@ -5,8 +5,8 @@ use Rattle.sloth_base.specs.declared.event.Event.{Event}
 use Rattle.code_rules.specs.WellFormed.{WellFormed}
 use Rattle.osek_scheduler.specs.State.{System}
 use Rattle.osek_scheduler.specs.Steps.{OsekStep}
-use Rattle.osek_valid.specs.Valid.{IsValid}
-use Rattle.osek_valid.specs.Apart.{TasksAreApart}
+use Rattle.osek_scheduler.specs.Valid.{IsValid}
+use Rattle.osek_scheduler.specs.Apart.{TasksAreApart}
 use Rattle.shared_stacks.specs.Together.{OwesBySchedule}
 
 -- what each step keeps: the system is valid, and a task owes the way back only where it reaches a Schedule

@@ -10,9 +10,14 @@
 //!
 //! At each such count the machine shows each task's state in the abstract scheduler (`specs/TaskStates`). The goal: `sim_induction` (`Sound`); states:
 //! `sloth_inspect` (`States`).
+//!
+//! What is linked in the zones of a map, of code by the generators' contracts, is a kernel in place, with its items; blocks that fill extents with no
+//! hole between them follow one another (`zones`: `built_is_generated`, `built_is_in_place`, `blocks_follow_closely`, ..; `specs/Zones`,
+//! `specs/LinkedImages`, `specs/Rooms`, `specs/Symbols`, `specs/GeneratedZones`). The map: `mem_map` (`Zones`).
 #![tactic(auto)]
 
 pub mod states;
+pub mod zones;
 
 ghost use Rattle.sim_laws.specs.Bounded.{BoundsStay};
 ghost use Rattle.sim_laws.specs.Steady.{SteadyStays};

@@ -4,8 +4,8 @@ use Rattle.sloth_base.specs.declared.app.App.{App}
 use Rattle.sloth_base.specs.declared.config.Config.{Config}
 use Rattle.sloth_base.specs.Named.{body_of, IsBodyOf}
 use Rattle.code_rules.specs.WellFormed.{WellFormed}
-use Rattle.osek_valid.proofs.Facts.{facts}
-use Rattle.osek_valid.proofs.Stacks.{has_body}
+use Rattle.osek_scheduler.proofs.Facts.{facts}
+use Rattle.osek_scheduler.proofs.Stacks.{has_body}
 use Rattle.image_gen.specs.Gathered.{MayBuild}
 use Rattle.sloth_base.specs.declared.places.Bounds.{Bounds}
 use Rattle.stack_bounds.specs.Bounds.{AreBounds}

@@ -1,5 +1,5 @@
 use Rattle.shared_stacks.proofs.shared_stack_holds.Goals as goal
-use Rattle.osek_valid.proofs.Facts.{facts}
+use Rattle.osek_scheduler.proofs.Facts.{facts}
 use Rattle.shared_stacks.proofs.Together.{holds, reached}
 
 pub returns : goal.returns

@@ -1,5 +1,5 @@
 use Rattle.shared_stacks.proofs.steps_keep_owing.Goals as goal
-use Rattle.osek_valid.proofs.Facts.{facts}
+use Rattle.osek_scheduler.proofs.Facts.{facts}
 use Rattle.shared_stacks.proofs.Owing.{step_owes}
 
 pub returns : goal.returns

@@ -2,8 +2,8 @@ use Rattle.std.proofs.Common.{subst, sym}
 use Rattle.sloth_base.specs.declared.config.Config.{Config}
 use Rattle.sloth_base.specs.declared.app.App.{App}
 use Rattle.osek_scheduler.specs.State.{System, opening}
-use Rattle.osek_valid.proofs.Steps.{opening_valid}
-use Rattle.osek_valid.proofs.Apart.{opening_apart}
+use Rattle.osek_scheduler.proofs.Steps.{opening_valid}
+use Rattle.osek_scheduler.proofs.Apart.{opening_apart}
 use Rattle.osek_machine.specs.Steps.{IsSound}
 use Rattle.osek_machine.proofs.osek.Osek.boot.Goals as goal
 

@@ -1,6 +1,0 @@
-use Rattle.osek_valid.proofs.laws.running_goes_on.Goals as goal
-use Rattle.osek_valid.proofs.Facts.{facts}
-use Rattle.osek_valid.proofs.Meaning.{goes}
-
-pub returns : goal.returns
-returns c = λ config app s t w v a booted top active free. goes config app s t (facts config app w) v a booted top active free

@@ -1,4 +1,0 @@
-pub mod Valid
-pub mod Apart
-pub mod Tidy
-pub mod WellFormedRuns

@@ -1,5 +1,0 @@
-use Rattle.sim_entries.proofs.enter_law.Goals as goal
-use Rattle.sim_entries.proofs.Enter as enter
-
-pub returns : goal.returns
-returns c = λ b state end s t place fits k sane declared e fresh has_item alone x2 effect. enter.enter_law b state end s t place fits k sane declared e fresh has_item alone x2 effect

@@ -1,5 +1,0 @@
-use Rattle.sim_entries.proofs.generated_enters.Goals as goal
-use Rattle.sim_entries.proofs.Generated as generated
-
-pub returns : goal.returns
-returns c = λ b levels map t code fits built declared one enters. generated.enters_built b levels map t code fits built declared one enters

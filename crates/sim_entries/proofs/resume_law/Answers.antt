@@ -1,6 +1,0 @@
-use Rattle.sim_entries.proofs.resume_law.Goals as goal
-use Rattle.sim_entries.proofs.Resume as resume
-
-pub returns : goal.returns
-returns c = λ b state end s t place own fits k sane declared e some has_body x2 link effect.
-    resume.resume_law b state end s t place own fits k sane declared e some has_body x2 link effect

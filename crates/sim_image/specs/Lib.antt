@@ -1,5 +1,0 @@
-pub mod Zones
-pub mod Symbols
-pub mod Standing
-pub mod Generated
-pub mod Rooms

@@ -1,0 +1,5 @@
+use Rattle.sim_routines.proofs.event_services.get_event_stretches.Goals as goal
+use Rattle.sim_routines.proofs.Stretches.{tells_stretches}
+
+pub returns : goal.returns
+returns c = λ b view arrivals count state s t fits setting after_boot stands opens. tells_stretches b view arrivals count state s t fits setting after_boot stands opens

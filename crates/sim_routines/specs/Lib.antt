@@ -1,0 +1,14 @@
+pub mod Opening
+pub mod Served
+pub mod ServiceSteps
+pub mod Stretch
+pub mod EventServiceSteps
+pub mod EventStretch
+pub mod TickSteps
+pub mod AlarmSteps
+pub mod Range
+pub mod Entries
+pub mod Boot
+pub mod Codes
+pub mod Generated
+pub mod EntrySteps

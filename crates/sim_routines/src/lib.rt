@@ -1,0 +1,111 @@
+//! The generated routines in the simulation: boot, the entries of tasks, the services and the ticks. Each is a step of the abstract scheduler, said
+//! without arrivals, and then with any, and a stretch of a run.
+//!
+//! **Entries** (`entries`): boot and each entry of a task, anew or behind a wait (`boots_law`, `enter_law`, ..; `specs/EntrySteps`, `specs/Boot`,
+//! `specs/Entries`, `specs/Generated`). **Services** on tasks, resources and events, and the way back from Schedule: what all share stands once
+//! (`specs/Opening`, `specs/Served`, `proofs/ServiceStretch`); a service adds its own law, by the effect of its block in `service_gen` or
+//! `event_gen` (`terminate_task_ends`, `activate_task_goes_on`, `chain_task_answers`, `schedule_gives_way`, `schedule_returns`, `set_event_goes_on`,
+//! `wait_event_answers`, ..; `specs/ServiceSteps`, `specs/EventServiceSteps`). From a block's contract and a service's own law to its stretch:
+//! `specs/Stretch`, `specs/EventStretch`. A service touches lines of tasks alone (`specs/Served`), so the early arrivals of its stretch are those of
+//! tasks. **Ticks** and the services on alarms: `ticks`. The relation: `sim_relation` (`Stands`); a change of a task's events: `Changes` there.
+#![tactic(auto)]
+
+pub mod entries;
+pub mod event_services;
+pub mod ticks;
+
+ghost use Rattle.sim_routines.specs.ServiceSteps.{ActivateTaskGoesOn, ChainTaskAnswers, GetResourceGoesOn, GetTaskIDGoesOn, GetTaskStateGoesOn};
+ghost use Rattle.sim_routines.specs.ServiceSteps.{ReleaseResourceGoesOn, ScheduleGivesWay, ScheduleReturns, TerminateTaskEnds};
+ghost use Rattle.sim_routines.specs.Stretch.{ActivateTaskStretches, ChainTaskStretches, GetResourceStretches, GetTaskIDStretches};
+ghost use Rattle.sim_routines.specs.Stretch.{GetTaskStateStretches, ReleaseResourceStretches, ScheduleStretches, TerminateTaskStretches};
+ghost use Rattle.sim_routines.specs.Stretch.{WayBackStretches};
+
+/// TerminateTask ends the running task, and what runs below it goes on.
+pub fn terminate_task_ends()
+    ensures { TerminateTaskEnds }
+{}
+
+/// From its opening mark on, whatever lines arrive, the stretch of TerminateTask is its event.
+pub fn terminate_task_stretches()
+    ensures { TerminateTaskStretches }
+{}
+
+/// GetTaskID answers the running task's number, and the task goes on.
+pub fn get_task_id_goes_on()
+    ensures { GetTaskIDGoesOn }
+{}
+
+/// From its opening mark on, whatever lines arrive, the stretch of GetTaskID is its event.
+pub fn get_task_id_stretches()
+    ensures { GetTaskIDStretches }
+{}
+
+/// GetTaskState answers the number of a task's state, and the caller goes on.
+pub fn get_task_state_goes_on()
+    ensures { GetTaskStateGoesOn }
+{}
+
+/// From its opening mark on, whatever lines arrive, the stretch of GetTaskState is its event.
+pub fn get_task_state_stretches()
+    ensures { GetTaskStateStretches }
+{}
+
+/// ActivateTask makes a Suspended task Ready, and answers whether it was; the caller goes on.
+pub fn activate_task_goes_on()
+    ensures { ActivateTaskGoesOn }
+{}
+
+/// From its opening mark on, whatever lines arrive, the stretch of ActivateTask is its event.
+pub fn activate_task_stretches()
+    ensures { ActivateTaskStretches }
+{}
+
+/// ChainTask ends the caller and makes the other task Ready, or refuses, and the caller goes on.
+pub fn chain_task_answers()
+    ensures { ChainTaskAnswers }
+{}
+
+/// From its opening mark on, whatever lines arrive, the stretch of ChainTask is its event.
+pub fn chain_task_stretches()
+    ensures { ChainTaskStretches }
+{}
+
+/// GetResource takes the resource, and the task goes on at its ceiling at least.
+pub fn get_resource_goes_on()
+    ensures { GetResourceGoesOn }
+{}
+
+/// From its opening mark on, whatever lines arrive, the stretch of GetResource is its event.
+pub fn get_resource_stretches()
+    ensures { GetResourceStretches }
+{}
+
+/// ReleaseResource releases the resource that was taken last, and the task goes on at the level that ran before.
+pub fn release_resource_goes_on()
+    ensures { ReleaseResourceGoesOn }
+{}
+
+/// From its opening mark on, whatever lines arrive, the stretch of ReleaseResource is its event.
+pub fn release_resource_stretches()
+    ensures { ReleaseResourceStretches }
+{}
+
+/// Schedule gives the internal resource back, and the task owes the way back.
+pub fn schedule_gives_way()
+    ensures { ScheduleGivesWay }
+{}
+
+/// The way back takes the internal resource again, and the task goes on behind Schedule.
+pub fn schedule_returns()
+    ensures { ScheduleReturns }
+{}
+
+/// From its opening mark on, whatever lines arrive, the stretch of Schedule is its event.
+pub fn schedule_stretches()
+    ensures { ScheduleStretches }
+{}
+
+/// From its mark on, whatever lines arrive, the stretch of the way back is its event.
+pub fn way_back_stretches()
+    ensures { WayBackStretches }
+{}

@@ -1,0 +1,43 @@
+//! Ticks and the services on alarms as events of the abstract scheduler (OSEK OS 2.2.3, sections 9 and 13.6), by the effects of their code in
+//! `alarm_gen`: the tick of a counter is its event Tick, whatever ran and whatever lines arrive, and each service on alarms is its event Call.
+ghost use Rattle.sloth_base.specs.declared.service.Service.TheVariants.{SetRelAlarm, SetAbsAlarm, CancelAlarm, GetAlarm};
+ghost use Rattle.sim_routines.specs.TickSteps.{TickLaw, TickStretch};
+ghost use Rattle.sim_routines.specs.AlarmSteps.{SetRelAlarmGoesOn, SetAbsAlarmGoesOn, CancelAlarmGoesOn, GetAlarmGoesOn, AlarmStretches};
+
+/// The code of a tick does what the tick of the counter does.
+pub fn tick_law()
+    ensures { TickLaw }
+{}
+
+/// From the taking of a counter's line on there is a stretch, which is the event Tick.
+pub fn tick_stretch()
+    ensures { TickStretch }
+{}
+
+/// SetRelAlarm is a step of the abstract scheduler.
+pub fn set_rel_alarm_goes_on()
+    ensures { SetRelAlarmGoesOn }
+{}
+
+/// SetAbsAlarm is a step of the abstract scheduler.
+pub fn set_abs_alarm_goes_on()
+    ensures { SetAbsAlarmGoesOn }
+{}
+
+/// CancelAlarm is a step of the abstract scheduler.
+pub fn cancel_alarm_goes_on()
+    ensures { CancelAlarmGoesOn }
+{}
+
+/// GetAlarm is a step of the abstract scheduler.
+pub fn get_alarm_goes_on()
+    ensures { GetAlarmGoesOn }
+{}
+
+/// From the opening mark of a service on an alarm on there is a stretch, which is its event Call.
+pub fn alarm_services_stretch()
+    ensures relative { AlarmStretches SetRelAlarm }
+    ensures absolute { AlarmStretches SetAbsAlarm }
+    ensures cancel { AlarmStretches CancelAlarm }
+    ensures get { AlarmStretches GetAlarm }
+{}

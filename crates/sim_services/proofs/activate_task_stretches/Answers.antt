@@ -1,5 +1,0 @@
-use Rattle.sim_services.proofs.activate_task_stretches.Goals as goal
-use Rattle.sim_services.proofs.GoingOnStretch.{activates_stretches}
-
-pub returns : goal.returns
-returns c = λ b view arrivals count state s t fits setting after_boot stands opens. activates_stretches b view arrivals count state s t fits setting after_boot stands opens

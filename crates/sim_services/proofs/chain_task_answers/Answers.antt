@@ -1,5 +1,0 @@
-use Rattle.sim_services.proofs.chain_task_answers.Goals as goal
-use Rattle.sim_services.proofs.Chained.{chain_answers}
-
-pub returns : goal.returns
-returns c = λ b state s t own object place touched end fits may effect. chain_answers b state s t own object place touched end fits may effect

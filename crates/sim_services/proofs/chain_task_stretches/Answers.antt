@@ -1,5 +1,0 @@
-use Rattle.sim_services.proofs.chain_task_stretches.Goals as goal
-use Rattle.sim_services.proofs.GoingOnStretch.{chain_stretches}
-
-pub returns : goal.returns
-returns c = λ b view arrivals count state s t fits setting after_boot stands opens. chain_stretches b view arrivals count state s t fits setting after_boot stands opens

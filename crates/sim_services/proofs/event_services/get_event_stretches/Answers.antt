@@ -1,5 +1,0 @@
-use Rattle.sim_services.proofs.event_services.get_event_stretches.Goals as goal
-use Rattle.sim_services.proofs.Stretches.{tells_stretches}
-
-pub returns : goal.returns
-returns c = λ b view arrivals count state s t fits setting after_boot stands opens. tells_stretches b view arrivals count state s t fits setting after_boot stands opens

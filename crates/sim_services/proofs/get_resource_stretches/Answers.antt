@@ -1,5 +1,0 @@
-use Rattle.sim_services.proofs.get_resource_stretches.Goals as goal
-use Rattle.sim_services.proofs.GoingOnStretch.{takes_stretches}
-
-pub returns : goal.returns
-returns c = λ b view arrivals count state s t level fits setting after_boot stands opens. takes_stretches b view arrivals count state s t fits setting after_boot stands level opens

@@ -1,5 +1,0 @@
-use Rattle.sim_services.proofs.schedule_returns.Goals as goal
-use Rattle.sim_services.proofs.ComingBack.{comes_back}
-
-pub returns : goal.returns
-returns c = λ b state s t touched end fits may effect. comes_back b state s t touched end fits may effect

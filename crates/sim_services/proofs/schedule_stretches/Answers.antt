@@ -1,5 +1,0 @@
-use Rattle.sim_services.proofs.schedule_stretches.Goals as goal
-use Rattle.sim_services.proofs.ScheduleStretch.{yields_stretches}
-
-pub returns : goal.returns
-returns c = λ b view arrivals count state s t fits setting after_boot stands opens. yields_stretches b view arrivals count state s t fits setting after_boot stands opens

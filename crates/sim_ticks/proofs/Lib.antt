@@ -1,9 +1,0 @@
-pub mod Clocks
-pub mod Acting
-pub mod Alarms
-pub mod Ticked
-pub mod Targets
-pub mod TickRoute
-pub mod AlarmKept
-pub mod AlarmServing
-pub mod AlarmStretches

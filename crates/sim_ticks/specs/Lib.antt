@@ -1,2 +1,0 @@
-pub mod TickSteps
-pub mod AlarmSteps
