@@ -195,6 +195,12 @@ pub fn run_summed(
     list_sum(rt, &text)
 }
 
+/// Prints how many bytes the image file has, and their CRC-32 (IEEE 802.3).
+pub fn show_sum(rt: &impl Print, texts: &Texts) -> anyhow::Result<()> {
+    println!(rt; "{} bytes {:08x}", texts.img.len(), checksum(&texts.img))?;
+    Ok(())
+}
+
 /// Prints the image file as a text.
 pub fn show(rt: &(impl Print + AllocGlobal), texts: &Texts) -> anyhow::Result<()> {
     print!(rt; "{}", std::str::from_utf8(&texts.img)?)?;

@@ -3,7 +3,7 @@
 //! `%repeat N TEXT` in it stands for copies (`repeats`). Other lines behind `=== `:
 //! - `image HEX` makes the image file of these bytes, `change AT HEX` writes bytes over those from a place on, or behind the end, and
 //!   `exchange AT AT` exchanges two marks; `-AT` counts back from the end;
-//! - `text` prints the image file as a text;
+//! - `text` prints the image file as a text, `checksum` how many bytes it has and a checksum of them;
 //! - `cut`, and a command such as `exec img arr 10`: it is run with the image file cut to each length, and each new answer is printed;
 //! - `lengthened`, and a number and a command, such as `600 order oil src arr img 300`: it is run with 0 to 600 line feeds more behind each text,
 //!   and each new answer is printed;
@@ -56,7 +56,7 @@ mod task_code;
 mod texts;
 
 use crate::commands::{
-    run, run_both, run_cut, run_failing, run_kept, run_lengthened, run_summed, show,
+    run, run_both, run_cut, run_failing, run_kept, run_lengthened, run_summed, show, show_sum,
 };
 use crate::event_lines::list_summary;
 use crate::file_commands::{compare_picture, run_missing, run_over_inputs};
@@ -102,6 +102,7 @@ fn answer(
 ) -> anyhow::Result<()> {
     match word {
         "text" => show(rt, texts),
+        "checksum" => show_sum(rt, texts),
         "tokens" | "tree" | "config" | "counts" | "listing" | "sizes" | "stacks" | "generated" => {
             read(rt, asked, texts)
         }
