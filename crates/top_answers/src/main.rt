@@ -20,8 +20,8 @@
 //!   Nothing behind `=== ` is a command without words.
 //!
 //! What the readers alone make of a text is asked by a line behind it: `tokens`, `tree` and `config` of an OIL text, `counts`, `listing`, `sizes`
-//! and `stacks` of task source beside the last OIL text. `generated 7 2` asks for the application that is generated from the seed 7 with 2 tasks.
-//! The texts of `counts` and the like have no line feed behind their last line.
+//! and `stacks` of task source, and `load` of a load, beside the last OIL text. `generated 7 2` asks for the application that is generated from
+//! the seed 7 with 2 tasks. The texts of `counts` and the like have no line feed behind their last line.
 //!
 //! `calls texts` asks for what public calls give of the OIL text and the task source that no command shows, `calls image` of the image file;
 //! `calls stops`, `calls vectors`, `calls events` and `calls steps` of small image files (`images`).
@@ -39,6 +39,7 @@ mod file_commands;
 mod generated;
 mod generating;
 mod images;
+mod loads;
 mod machine;
 mod observed;
 mod readers;
@@ -103,9 +104,15 @@ fn answer(
     match word {
         "text" => show(rt, texts),
         "checksum" => show_sum(rt, texts),
-        "tokens" | "tree" | "config" | "counts" | "listing" | "sizes" | "stacks" | "generated" => {
-            read(rt, asked, texts)
-        }
+        "tokens"
+        | "tree"
+        | "config"
+        | "counts"
+        | "listing"
+        | "sizes"
+        | "stacks"
+        | "load"
+        | "generated" => { read(rt, asked, texts) }
         "both" => run_both(rt, rest, texts),
         "keep" => run_kept(rt, rest, texts),
         "lengthened" => run_lengthened(rt, rest, texts),

@@ -1,4 +1,4 @@
-//! What OIL texts and task source mean, or how they are refused.
+//! What OIL texts, task source and loads mean, or how they are refused.
 ghost use Rattle.std.specs.Prelude.{◌≤◌, IfOk, length};
 ghost use Rattle.sloth_base.specs.ConfigRange.{InRange};
 ghost use Rattle.code_rules.specs.AppRange.{IsTaskCode};
@@ -7,6 +7,7 @@ ghost use Rattle.stack_bounds.specs.Bounds.{AreBounds};
 
 use crate::configuration::list_config;
 use crate::generated::list_sample;
+use crate::loads::list_load;
 use crate::syntax::{list_tokens, list_tree};
 use crate::task_code::{list_app, list_counts, list_sizes, list_stacks};
 use asm_parse::parse_app;
@@ -85,6 +86,17 @@ fn answer_config(rt: &(impl Print + AllocGlobal), text: &[u8]) -> anyhow::Result
     }
 }
 
+// Answers what the text of a load says.
+fn answer_load(rt: &(impl Print + AllocGlobal), oil: &[u8], text: &[u8]) -> anyhow::Result<()>
+    requires oil { length oil.now ≤ 16000000 }
+    requires text { length text.now ≤ 16000000 }
+{
+    match config(rt.alloc(), oil) {
+        Ok(config) => list_load(rt, &config, text),
+        Err(error) => list_error(rt, error),
+    }
+}
+
 // Lists what the tasks of a configuration need of the stacks.
 fn list_offsets(
     rt: &(impl Print + AllocGlobal),
@@ -155,6 +167,8 @@ fn answer_asked(
         answer_config(rt, text)
     } else if asked == "stacks" {
         answer_stacks(rt, oil, text)
+    } else if asked == "load" {
+        answer_load(rt, oil, text)
     } else {
         answer_code(rt, asked, oil, text)
     }
