@@ -3,7 +3,9 @@ ghost use Rattle.std.specs.Prelude.{◌≡◌, ◌≤◌, IfOk, length};
 
 use crate::faults::Faults;
 use crate::repeats::number_before;
-use crate::texts::{LONGEST, Texts, refill};
+use crate::rows::{Piece, Rows};
+use crate::syntax::shown;
+use crate::texts::{LONGEST, Texts, add_text, append, refill};
 use sloth_base::list::List;
 use sloth_base::memory::NoMemory;
 use sloth_base::name::Name;
@@ -51,15 +53,15 @@ fn store(
 }
 
 /// The words of a line; an empty line has none.
-pub fn words(alloc: Global, line: &str) -> anyhow::Result<Vec<String>> {
+pub fn words(alloc: Global, line: &str) -> Vec<String> {
     let mut words = Vec::new(alloc);
     if line.is_empty() {
-        return Ok(words);
+        return words;
     }
     for word in line.split(' ') {
-        words.push(String::from_str(alloc, word)?)?;
+        add_text(alloc, &mut words, word);
     }
-    Ok(words)
+    words
 }
 
 /// What a command prints with how it ends, how many bytes it prints, and the image file behind it, which is the file `out` where that was written.
@@ -76,9 +78,13 @@ fn top(alloc: Global, words: &[String], files: &mut MemStore, out: &mut MemSink)
 }
 
 // What was printed, with how the command ended behind it.
-fn ended(alloc: Global, printed: &[u8], status: Status) -> anyhow::Result<String> {
-    let printed = std::str::from_utf8(printed)?;
-    Ok(format!(in alloc; "{printed}=== {status:?}\n")?)
+fn ended(alloc: Global, printed: &[u8], status: Status) -> String {
+    let mut rows = Rows::new(alloc);
+    rows.text(shown(printed));
+    rows.text("=== ");
+    rows.debug(&status);
+    rows.text("\n");
+    rows.into_text()
 }
 
 // The image file that a command left: the file `out`, unless it holds nothing.
@@ -90,19 +96,14 @@ fn image_left(files: &MemStore) -> &[u8] {
 }
 
 // What a command printed, how it ended, and the image file that it left.
-fn outcome_of(
-    alloc: Global,
-    printed: &[u8],
-    status: Status,
-    files: &MemStore,
-) -> anyhow::Result<Outcome> {
-    let text = ended(alloc, printed, status)?;
-    let img = Vec::from_slice(alloc, image_left(files))?;
-    Ok(Outcome {
-        text,
+fn outcome_of(alloc: Global, printed: &[u8], status: Status, files: &MemStore) -> Outcome {
+    let mut img = Vec::new(alloc);
+    append(&mut img, image_left(files));
+    Outcome {
+        text: ended(alloc, printed, status),
         printed: printed.len(),
         img,
-    })
+    }
 }
 
 // Runs the command of these words on these files.
@@ -112,10 +113,10 @@ fn answer_on(
     files: &mut MemStore,
     space: u32,
     faults: &Faults,
-) -> anyhow::Result<Outcome> {
+) -> Result<Outcome, NoMemory> {
     let mut out = MemSink::new(alloc, space, &faults.sink)?;
     let status = top(alloc, words, files, &mut out);
-    outcome_of(alloc, out.taken(), status, &*files)
+    Ok(outcome_of(alloc, out.taken(), status, &*files))
 }
 
 // Runs the command of these words on files that hold these bytes.
@@ -126,7 +127,7 @@ fn answer_words(
     img: &[u8],
     space: u32,
     faults: &Faults,
-) -> anyhow::Result<Outcome> {
+) -> Result<Outcome, NoMemory> {
     let mut files = store(alloc, texts, img, space, &faults.store)?;
     answer_on(alloc, words, &mut files, space, faults)
 }
@@ -139,8 +140,8 @@ fn answer(
     img: &[u8],
     space: u32,
     faults: &Faults,
-) -> anyhow::Result<Outcome> {
-    let words = words(alloc, line)?;
+) -> Result<Outcome, NoMemory> {
+    let words = words(alloc, line);
     answer_words(alloc, words.as_slice(), texts, img, space, faults)
 }
 
@@ -151,155 +152,151 @@ fn answer_whole(
     texts: &Texts,
     img: &[u8],
     space: u32,
-) -> anyhow::Result<Outcome> {
+) -> Result<Outcome, NoMemory> {
     let none = Faults::none(alloc);
     answer(alloc, line, texts, img, space, &none)
 }
 
 /// What the command of a line prints with how it ends, on these files, where no call fails.
-pub fn printed(alloc: Global, line: &str, texts: &Texts, img: &[u8]) -> anyhow::Result<String> {
+pub fn printed(alloc: Global, line: &str, texts: &Texts, img: &[u8]) -> Result<String, NoMemory> {
     let answer = answer_whole(alloc, line, texts, img, LITTLE)?;
     Ok(answer.text)
 }
 
 // Runs the command of a line, and keeps the image file that it leaves. Gives what it prints with how it ends.
-fn done(alloc: Global, line: &str, texts: &mut Texts) -> anyhow::Result<String> {
+fn done(alloc: Global, line: &str, texts: &mut Texts) -> Result<String, NoMemory> {
     let answer = answer_whole(alloc, line, texts, &texts.img, SPACE)?;
     texts.img = answer.img;
     Ok(answer.text)
 }
 
 /// Runs the command of a line, and prints what it prints and its status. The image file that it leaves is kept.
-pub fn run(rt: &(impl Print + AllocGlobal), line: &str, texts: &mut Texts) -> anyhow::Result<()> {
-    let text = done(rt.alloc(), line, texts)?;
-    print!(rt; "{text}")?;
-    Ok(())
+pub fn run(rows: &mut Rows, line: &str, texts: &mut Texts) {
+    match done(rows.alloc(), line, texts) {
+        Ok(text) => rows.text(text.as_str()),
+        Err(_) => rows.leave_out(),
+    }
 }
 
 // Prints how many lines a text has, their CRC-32 (IEEE 802.3), and the last of them.
-fn list_sum(rt: &impl Print, text: &str) -> anyhow::Result<()> {
+fn list_sum(rows: &mut Rows, text: &str) {
     let lines = text.lines().count();
     let status = text.lines().last().unwrap_or("");
-    println!(rt; "{lines} lines {:08x} {status}", checksum(text.as_bytes()))?;
-    Ok(())
+    rows.row(
+        Piece::Count(lines),
+        &[
+            Piece::Text("lines"),
+            Piece::Address(checksum(text.as_bytes())),
+            Piece::Text(status),
+        ],
+    );
 }
 
 /// Runs the command of a line, and prints how it ends, how many lines it prints, and their CRC-32 (IEEE 802.3). The image file that it
 /// leaves is kept.
-pub fn run_summed(
-    rt: &(impl Print + AllocGlobal),
-    line: &str,
-    texts: &mut Texts,
-) -> anyhow::Result<()> {
-    let text = done(rt.alloc(), line, texts)?;
-    list_sum(rt, &text)
+pub fn run_summed(rows: &mut Rows, line: &str, texts: &mut Texts) {
+    match done(rows.alloc(), line, texts) {
+        Ok(text) => list_sum(rows, text.as_str()),
+        Err(_) => rows.leave_out(),
+    }
 }
 
 /// Prints how many bytes the image file has, and their CRC-32 (IEEE 802.3).
-pub fn show_sum(rt: &impl Print, texts: &Texts) -> anyhow::Result<()> {
-    println!(rt; "{} bytes {:08x}", texts.img.len(), checksum(&texts.img))?;
-    Ok(())
+pub fn show_sum(rows: &mut Rows, texts: &Texts) {
+    rows.row(
+        Piece::Count(texts.img.len()),
+        &[Piece::Text("bytes"), Piece::Address(checksum(&texts.img))],
+    );
 }
 
 /// Prints the image file as a text.
-pub fn show(rt: &(impl Print + AllocGlobal), texts: &Texts) -> anyhow::Result<()> {
-    print!(rt; "{}", std::str::from_utf8(&texts.img)?)?;
-    Ok(())
+pub fn show(rows: &mut Rows, texts: &Texts) {
+    rows.text(shown(&texts.img));
 }
 
 /// Runs the command of a line, and puts what it prints in the place of the image file.
-pub fn run_kept(rt: &impl AllocGlobal, line: &str, texts: &mut Texts) -> anyhow::Result<()> {
-    let answer = answer_whole(rt.alloc(), line, texts, &texts.img, SPACE)?;
+pub fn run_kept(alloc: Global, line: &str, texts: &mut Texts) -> Result<(), NoMemory> {
+    let answer = answer_whole(alloc, line, texts, &texts.img, SPACE)?;
     let printed = answer.text.as_bytes().get(..answer.printed).unwrap_or(b"");
-    refill(&mut texts.img, printed)
+    refill(&mut texts.img, printed);
+    Ok(())
 }
 
 // Prints how many bytes two texts have that are the same, or that they are not.
-fn compare(rt: &impl Print, one: &str, other: &str) -> anyhow::Result<()> {
+fn compare(rows: &mut Rows, one: &str, other: &str) {
     if one == other {
-        println!(rt; "both {} bytes", one.len())?;
+        rows.row(
+            Piece::Text("both"),
+            &[Piece::Count(one.len()), Piece::Text("bytes")],
+        );
     } else {
-        println!(rt; "they differ")?;
+        rows.line("they differ");
     }
-    Ok(())
 }
 
 // Runs the command of a line, and compares what it prints with another text.
-fn run_other(
-    rt: &(impl Print + AllocGlobal),
-    line: &str,
-    texts: &Texts,
-    other: &str,
-) -> anyhow::Result<()> {
-    let answer = answer_whole(rt.alloc(), line, texts, &texts.img, SPACE)?;
-    compare(rt, other, &answer.text)
+fn run_other(rows: &mut Rows, line: &str, texts: &Texts, other: &str) {
+    match answer_whole(rows.alloc(), line, texts, &texts.img, SPACE) {
+        Ok(answer) => compare(rows, other, answer.text.as_str()),
+        Err(_) => rows.leave_out(),
+    }
 }
 
 /// Runs two commands, which ` / ` divides, one after the other, and prints how many bytes both answer, or that their answers differ.
-pub fn run_both(
-    rt: &(impl Print + AllocGlobal),
-    lines: &str,
-    texts: &mut Texts,
-) -> anyhow::Result<()> {
+pub fn run_both(rows: &mut Rows, lines: &str, texts: &mut Texts) {
     let Some((one, other)) = lines.split_once(" / ") else {
-        return Ok(());
+        return;
     };
-    let first = done(rt.alloc(), one, texts)?;
-    run_other(rt, other, texts, &first)
+    match done(rows.alloc(), one, texts) {
+        Ok(first) => run_other(rows, other, texts, first.as_str()),
+        Err(_) => rows.leave_out(),
+    }
 }
 
 // Prints a text behind a number of these things, and keeps it as the last one, unless it is that.
-fn show_new(
-    rt: &impl Print,
-    number: usize,
-    things: &str,
-    text: String,
-    last: &mut String,
-) -> anyhow::Result<()> {
+fn show_new(rows: &mut Rows, number: usize, things: &str, text: String, last: &mut String) {
     if text != *last {
-        print!(rt; "{number} {things}\n{text}")?;
+        rows.row(Piece::Count(number), &[Piece::Text(things)]);
+        rows.text(text.as_str());
         *last = text;
     }
-    Ok(())
 }
 
 /// Runs the command of a line with the image file cut to each length, from 0 to its whole. Where the answer is another one than with a
 /// byte less, prints the length and the answer.
-pub fn run_cut(rt: &(impl Print + AllocGlobal), line: &str, texts: &Texts) -> anyhow::Result<()> {
-    let mut last = String::new(rt.alloc());
+pub fn run_cut(rows: &mut Rows, line: &str, texts: &Texts) {
+    let mut last = String::new(rows.alloc());
     for size in 0..=texts.img.len() {
-        let text = printed(rt.alloc(), line, texts, &texts.img[..size])?;
-        show_new(rt, size, "bytes", text, &mut last)?;
+        match printed(rows.alloc(), line, texts, &texts.img[..size]) {
+            Ok(text) => show_new(rows, size, "bytes", text, &mut last),
+            Err(_) => rows.leave_out(),
+        }
     }
-    Ok(())
 }
 
 // Runs the command of a line with 0, 1, 2, .. line feeds behind each text, up to a number.
 fn lengthen_to(
-    rt: &(impl Print + AllocGlobal),
+    rows: &mut Rows,
     number: u32,
     line: &str,
     texts: &mut Texts,
-) -> anyhow::Result<()> {
-    let mut last = String::new(rt.alloc());
+) -> Result<(), NoMemory> {
+    let mut last = String::new(rows.alloc());
     for more in 0..=number {
-        let text = printed(rt.alloc(), line, texts, &texts.img)?;
-        show_new(rt, more as usize, "more", text, &mut last)?;
-        texts.lengthen()?;
+        let text = printed(rows.alloc(), line, texts, &texts.img)?;
+        show_new(rows, more as usize, "more", text, &mut last);
+        texts.lengthen();
     }
     Ok(())
 }
 
 /// Runs the command of a line with 0, 1, 2, .. line feeds behind each text, up to a number: `600 order oil src arr img 300`. Where the answer is
 /// another one than with a line feed less, prints how many there are and the answer.
-pub fn run_lengthened(
-    rt: &(impl Print + AllocGlobal),
-    asked: &str,
-    texts: &mut Texts,
-) -> anyhow::Result<()> {
-    match number_before(asked) {
-        Some((number, line)) => lengthen_to(rt, number, line, texts),
-        None => Ok(()),
+pub fn run_lengthened(rows: &mut Rows, asked: &str, texts: &mut Texts) {
+    if let Some((number, line)) = number_before(asked) {
+        if lengthen_to(rows, number, line, texts).is_err() {
+            rows.leave_out();
+        }
     }
 }
 
@@ -330,44 +327,40 @@ fn state(img: &[u8], before: &[u8], image: &[u8]) -> &'static str {
     }
 }
 
+// Prints an answer, and what the image file is.
+fn list_state(rows: &mut Rows, text: &str, img: &[u8], before: &[u8], image: &[u8]) {
+    rows.text(text);
+    rows.row(
+        Piece::Text("IMG"),
+        &[Piece::Text(state(img, before, image))],
+    );
+}
+
 // Runs the command of a line with failing calls, and prints the answer, and what the image file is beside the one that the command leaves where
 // no call fails.
-fn run_beside(
-    rt: &(impl Print + AllocGlobal),
-    line: &str,
-    texts: &Texts,
-    faults: &Faults,
-    image: &[u8],
-) -> anyhow::Result<()> {
-    let answer = answer(rt.alloc(), line, texts, &texts.img, LITTLE, faults)?;
-    let state = state(&answer.img, &texts.img, image);
-    print!(rt; "{}IMG {state}\n", answer.text)?;
-    Ok(())
+fn run_beside(rows: &mut Rows, line: &str, texts: &Texts, faults: &Faults, image: &[u8]) {
+    match answer(rows.alloc(), line, texts, &texts.img, LITTLE, faults) {
+        Ok(answer) => list_state(rows, answer.text.as_str(), &answer.img, &texts.img, image),
+        Err(_) => rows.leave_out(),
+    }
 }
 
 // The same, behind a run where no call fails.
-fn run_faulty(
-    rt: &(impl Print + AllocGlobal),
-    line: &str,
-    texts: &Texts,
-    faults: &Faults,
-) -> anyhow::Result<()> {
-    let whole = answer_whole(rt.alloc(), line, texts, &texts.img, LITTLE)?;
-    run_beside(rt, line, texts, faults, &whole.img)
+fn run_faulty(rows: &mut Rows, line: &str, texts: &Texts, faults: &Faults) {
+    match answer_whole(rows.alloc(), line, texts, &texts.img, LITTLE) {
+        Ok(whole) => run_beside(rows, line, texts, faults, &whole.img),
+        Err(_) => rows.leave_out(),
+    }
 }
 
 /// Runs a command with failing calls: of the store, ` / `, of the sink, ` / `, the command. Prints the answer, and what the image file is.
-pub fn run_failing(
-    rt: &(impl Print + AllocGlobal),
-    asked: &str,
-    texts: &Texts,
-) -> anyhow::Result<()> {
+pub fn run_failing(rows: &mut Rows, asked: &str, texts: &Texts) {
     let Some((store, rest)) = asked.split_once("/ ") else {
-        return Ok(());
+        return;
     };
     let Some((sink, line)) = rest.split_once("/ ") else {
-        return Ok(());
+        return;
     };
-    let faults = Faults::read(rt.alloc(), store, sink)?;
-    run_faulty(rt, line, texts, &faults)
+    let faults = Faults::read(rows.alloc(), store, sink);
+    run_faulty(rows, line, texts, &faults);
 }

@@ -1,23 +1,21 @@
 //! The listing of a configuration.
 ghost use Rattle.sloth_base.specs.ConfigRange.{InRange};
 
-use crate::rows::{Piece, row};
+use crate::rows::{Piece, Rows};
 use prio_levels::assign;
 use sloth_base::config::{Action, AlarmDecl, Config, CounterDecl, EventDecl, TaskDecl};
 use sloth_base::name::Name;
 use sloth_base::numbers::ResId;
 use sloth_base::places::Levels;
 
-fn list_listed(rt: &impl Print, resources: &[ResId]) -> anyhow::Result<()> {
+fn list_listed(rows: &mut Rows, resources: &[ResId]) {
     for resource in resources {
-        row(rt, Piece::Text("lists"), &[Piece::Number(resource.0)])?;
+        rows.row(Piece::Text("lists"), &[Piece::Number(resource.0)]);
     }
-    Ok(())
 }
 
-fn list_task(rt: &impl Print, task: &TaskDecl) -> anyhow::Result<()> {
-    row(
-        rt,
+fn list_task(rows: &mut Rows, task: &TaskDecl) {
+    rows.row(
         Piece::Text("task"),
         &[
             Piece::Bytes(task.name.bytes()),
@@ -25,9 +23,8 @@ fn list_task(rt: &impl Print, task: &TaskDecl) -> anyhow::Result<()> {
             Piece::Text("extended"),
             Piece::Flag(task.extended),
         ],
-    )?;
-    row(
-        rt,
+    );
+    rows.row(
         Piece::Text("non"),
         &[
             Piece::Flag(task.non),
@@ -36,55 +33,45 @@ fn list_task(rt: &impl Print, task: &TaskDecl) -> anyhow::Result<()> {
             Piece::Text("events"),
             Piece::Number(task.events),
         ],
-    )?;
-    list_listed(rt, task.resources.items())
+    );
+    list_listed(rows, task.resources.items())
 }
 
-fn list_tasks(rt: &impl Print, tasks: &[TaskDecl]) -> anyhow::Result<()> {
+fn list_tasks(rows: &mut Rows, tasks: &[TaskDecl]) {
     for task in tasks {
-        list_task(rt, task)?;
+        list_task(rows, task);
     }
-    Ok(())
 }
 
-fn list_resources(rt: &impl Print, resources: &[Name]) -> anyhow::Result<()> {
+fn list_resources(rows: &mut Rows, resources: &[Name]) {
     for resource in resources {
-        row(
-            rt,
-            Piece::Text("resource"),
-            &[Piece::Bytes(resource.bytes())],
-        )?;
+        rows.row(Piece::Text("resource"), &[Piece::Bytes(resource.bytes())]);
     }
-    Ok(())
 }
 
-fn list_events(rt: &impl Print, events: &[EventDecl]) -> anyhow::Result<()> {
+fn list_events(rows: &mut Rows, events: &[EventDecl]) {
     for event in events {
-        row(
-            rt,
+        rows.row(
             Piece::Text("event"),
             &[Piece::Bytes(event.name.bytes()), Piece::Number(event.mask)],
-        )?;
+        );
     }
-    Ok(())
 }
 
-fn list_counters(rt: &impl Print, counters: &[CounterDecl]) -> anyhow::Result<()> {
+fn list_counters(rows: &mut Rows, counters: &[CounterDecl]) {
     for counter in counters {
-        row(
-            rt,
+        rows.row(
             Piece::Text("counter"),
             &[
                 Piece::Bytes(counter.name.bytes()),
                 Piece::Number(counter.max),
                 Piece::Number(counter.min_cycle),
             ],
-        )?;
+        );
     }
-    Ok(())
 }
 
-fn list_alarm(rt: &impl Print, alarm: &AlarmDecl) -> anyhow::Result<()> {
+fn list_alarm(rows: &mut Rows, alarm: &AlarmDecl) {
     let name = Piece::Bytes(alarm.name.bytes());
     let counter = Piece::Number(alarm.counter);
     let time = Piece::Number(alarm.time);
@@ -92,8 +79,7 @@ fn list_alarm(rt: &impl Print, alarm: &AlarmDecl) -> anyhow::Result<()> {
     match alarm.action {
         Action::Activate(task) => {
             let (does, task) = (Piece::Text("activates"), Piece::Number(task.0));
-            row(
-                rt,
+            rows.row(
                 Piece::Text("alarm"),
                 &[name, counter, does, task, time, cycle],
             )
@@ -104,8 +90,7 @@ fn list_alarm(rt: &impl Print, alarm: &AlarmDecl) -> anyhow::Result<()> {
                 Piece::Number(task.0),
                 Piece::Number(mask),
             );
-            row(
-                rt,
+            rows.row(
                 Piece::Text("alarm"),
                 &[name, counter, does, task, mask, time, cycle],
             )
@@ -113,32 +98,40 @@ fn list_alarm(rt: &impl Print, alarm: &AlarmDecl) -> anyhow::Result<()> {
     }
 }
 
-fn list_alarms(rt: &impl Print, alarms: &[AlarmDecl]) -> anyhow::Result<()> {
+fn list_alarms(rows: &mut Rows, alarms: &[AlarmDecl]) {
     for alarm in alarms {
-        list_alarm(rt, alarm)?;
+        list_alarm(rows, alarm);
     }
-    Ok(())
 }
 
-fn list_objects(rt: &impl Print, config: &Config) -> anyhow::Result<()> {
-    list_tasks(rt, config.tasks.items())?;
-    list_resources(rt, config.resources.items())?;
-    list_events(rt, config.events.items())?;
-    list_counters(rt, config.counters.items())?;
-    list_alarms(rt, config.alarms.items())
+fn list_objects(rows: &mut Rows, config: &Config) {
+    list_tasks(rows, config.tasks.items());
+    list_resources(rows, config.resources.items());
+    list_events(rows, config.events.items());
+    list_counters(rows, config.counters.items());
+    list_alarms(rows, config.alarms.items())
 }
 
-fn list_levels(rt: &impl Print, levels: &Levels, scheduler: bool) -> anyhow::Result<()> {
-    println!(rt; "levels {:?}", levels.task)?;
-    println!(rt; "ceilings {:?}", levels.ceiling)?;
-    println!(rt; "top {} scheduler {scheduler}", levels.top)?;
-    Ok(())
+fn list_levels(rows: &mut Rows, levels: &Levels, scheduler: bool) {
+    rows.text("levels ");
+    rows.debug(&levels.task);
+    rows.text("\nceilings ");
+    rows.debug(&levels.ceiling);
+    rows.text("\n");
+    rows.row(
+        Piece::Text("top"),
+        &[
+            Piece::Number(levels.top.into()),
+            Piece::Text("scheduler"),
+            Piece::Flag(scheduler),
+        ],
+    );
 }
 
 /// Prints the tasks, resources, events, counters and alarms, and the levels of the tasks and of the resources' ceilings.
-pub fn list_config(rt: &impl Print, config: &Config) -> anyhow::Result<()>
+pub fn list_config(rows: &mut Rows, config: &Config)
     requires { InRange config.now }
 {
-    list_objects(rt, config)?;
-    list_levels(rt, &assign(config), config.res_scheduler)
+    list_objects(rows, config);
+    list_levels(rows, &assign(config), config.res_scheduler)
 }

@@ -1,7 +1,7 @@
 //! Lines of events and of summaries.
 ghost use Rattle.sloth_base.specs.ImageRange.{InFormat};
 
-use crate::rows::{Piece, row};
+use crate::rows::{Piece, Rows};
 use crate::syntax::shown;
 use sloth_base::event::{Event, Stamp, Stamped};
 use sloth_base::image::Image;
@@ -41,11 +41,11 @@ const EVENTS: [Event; 12] = [
 ];
 
 // The line of an event.
-fn list_line(rt: &impl Print, event: &Stamped, form: Form, image: &Image) -> anyhow::Result<()>
+fn list_line(rows: &mut Rows, event: &Stamped, form: Form, image: &Image)
     requires { InFormat image.now }
 {
     let line = print(event, form, image);
-    row(rt, Piece::Bytes(line.bytes()), &[])
+    rows.row(Piece::Bytes(line.bytes()), &[])
 }
 
 // Whether an event is read back from its line with its counts.
@@ -63,7 +63,7 @@ fn is_read_back(event: &Stamped, image: &Image) -> bool
 }
 
 // Both lines of an event, and whether it is read back.
-fn list_event(rt: &impl Print, event: Event, image: &Image) -> anyhow::Result<()>
+fn list_event(rows: &mut Rows, event: Event, image: &Image)
     requires { InFormat image.now }
 {
     let stamp = Stamp {
@@ -71,37 +71,35 @@ fn list_event(rt: &impl Print, event: Event, image: &Image) -> anyhow::Result<()
         at: 1_000_000,
     };
     let event = Stamped { stamp, event };
-    list_line(rt, &event, Form::Bare, image)?;
-    list_line(rt, &event, Form::Counted, image)?;
+    list_line(rows, &event, Form::Bare, image);
+    list_line(rows, &event, Form::Counted, image);
     let again = is_read_back(&event, image);
-    row(rt, Piece::Text("read back"), &[Piece::Flag(again)])
+    rows.row(Piece::Text("read back"), &[Piece::Flag(again)])
 }
 
-fn list_each(rt: &impl Print, events: &[Event], image: &Image) -> anyhow::Result<()>
+fn list_each(rows: &mut Rows, events: &[Event], image: &Image)
     requires { InFormat image.now }
 {
     for event in events {
-        list_event(rt, *event, image)?;
+        list_event(rows, *event, image);
     }
-    Ok(())
 }
 
 /// The lines of an event of each kind, with the names of an image.
-pub fn list_events(rt: &impl Print, image: &Image) -> anyhow::Result<()>
+pub fn list_events(rows: &mut Rows, image: &Image)
     requires { InFormat image.now }
 {
-    list_each(rt, &EVENTS, image)
+    list_each(rows, &EVENTS, image)
 }
 
-fn list_kinds(rt: &impl Print, counts: &[u32; 10]) -> anyhow::Result<()> {
+fn list_kinds(rows: &mut Rows, counts: &[u32; 10]) {
     for kind in 0..10 {
         let line = kind_line(counts, kind);
-        rt.print(shown(line.bytes()))?;
+        rows.text(shown(line.bytes()));
     }
-    Ok(())
 }
 
 /// The lines of a summary.
-pub fn list_summary(rt: &impl Print) -> anyhow::Result<()> {
-    list_kinds(rt, &[1, 20, 300, 4, 0, 6, 70, NONE, 0, 8])
+pub fn list_summary(rows: &mut Rows) {
+    list_kinds(rows, &[1, 20, 300, 4, 0, 6, 70, NONE, 0, 8])
 }

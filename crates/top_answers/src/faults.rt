@@ -1,4 +1,5 @@
 //! Calls that are to fail.
+use crate::texts::add;
 use std::alloc::Global;
 
 /// The calls of the store that are to fail, by their numbers from 1, and those of the sink, each with the bytes that it takes before.
@@ -9,25 +10,25 @@ pub struct Faults {
 }
 
 // The numbers among words.
-fn numbers(alloc: Global, words: &str) -> anyhow::Result<Vec<u32>> {
+fn numbers(alloc: Global, words: &str) -> Vec<u32> {
     let mut numbers = Vec::new(alloc);
     for word in words.split(' ') {
         if let Ok(number) = word.parse::<u32>() {
-            numbers.push(number)?;
+            add(&mut numbers, number);
         }
     }
-    Ok(numbers)
+    numbers
 }
 
 // The pairs among words such as `2:1`.
-fn pairs(alloc: Global, words: &str) -> anyhow::Result<Vec<(u32, u32)>> {
+fn pairs(alloc: Global, words: &str) -> Vec<(u32, u32)> {
     let mut pairs = Vec::new(alloc);
     for word in words.split(' ') {
         if let Some(pair) = pair(word) {
-            pairs.push(pair)?;
+            add(&mut pairs, pair);
         }
     }
-    Ok(pairs)
+    pairs
 }
 
 // The number of a call, and of the bytes that it takes before it fails.
@@ -46,9 +47,10 @@ impl Faults {
     }
 
     /// The calls of the store by words such as `3`, and those of the sink by words such as `2:1`. Other words name none.
-    pub fn read(alloc: Global, store: &str, sink: &str) -> anyhow::Result<Faults> {
-        let store = numbers(alloc, store)?;
-        let sink = pairs(alloc, sink)?;
-        Ok(Faults { store, sink })
+    pub fn read(alloc: Global, store: &str, sink: &str) -> Faults {
+        Faults {
+            store: numbers(alloc, store),
+            sink: pairs(alloc, sink),
+        }
     }
 }

@@ -1,6 +1,6 @@
 //! Commands on files of the system, and the picture of a run that the README shows.
 use crate::commands::words;
-use crate::rows::{Piece, numbers, row};
+use crate::rows::{Piece, Rows};
 use sloth_cli::program::run_words;
 use sloth_io::file_store::FileStore;
 use sloth_io::store::Store;
@@ -10,17 +10,30 @@ use std::rt::Files;
 /// The most bytes of a picture.
 const LIMIT: usize = 1_000_000;
 
-// Runs the command of a line, and gives the number of its status.
-fn status(rt: &(impl Files + Print + AllocGlobal), line: &str) -> anyhow::Result<u8> {
-    let words = words(rt.alloc(), line)?;
-    let status = run_words(rt, words.as_slice());
-    Ok(status.code())
+// Prints the number of a status.
+fn print_status(rt: &(impl Print + AllocGlobal), status: u8) {
+    let mut rows = Rows::new(rt.alloc());
+    rows.numbers("status", &[status.into()]);
+    rows.print(rt);
+}
+
+// Prints a text, and whether it is so.
+fn print_flag(rt: &(impl Print + AllocGlobal), text: &str, flag: bool) {
+    let mut rows = Rows::new(rt.alloc());
+    rows.row(Piece::Text(text), &[Piece::Flag(flag)]);
+    rows.print(rt);
+}
+
+// Runs the command of these words, and prints the number of its status.
+fn run_line(rt: &(impl Files + Print + AllocGlobal), words: &[String]) {
+    let status = run_words(rt, words);
+    print_status(rt, status.code());
 }
 
 // Runs the command of a line, and prints the number of its status.
-fn run(rt: &(impl Files + Print + AllocGlobal), line: &str) -> anyhow::Result<()> {
-    let status = status(rt, line)?;
-    numbers(rt, "status", &[status.into()])
+fn run(rt: &(impl Files + Print + AllocGlobal), line: &str) {
+    let words = words(rt.alloc(), line);
+    run_line(rt, words.as_slice());
 }
 
 // The bytes of a file; none where it cannot be read.
@@ -38,30 +51,26 @@ fn are_same(rt: &(impl Files + AllocGlobal), one: &str, other: &str) -> bool {
 }
 
 /// Draws the picture anew, and prints whether it is the one of the file `door.svg`.
-pub fn compare_picture(rt: &(impl Files + Print + AllocGlobal)) -> anyhow::Result<()> {
-    run(rt, "build door.oil door.src door.img")?;
-    run(rt, "picture door.img door.arr 0 1200 drawn.svg")?;
+pub fn compare_picture(rt: &(impl Files + Print + AllocGlobal)) {
+    run(rt, "build door.oil door.src door.img");
+    run(rt, "picture door.img door.arr 0 1200 drawn.svg");
     let same = are_same(rt, "drawn.svg", "door.svg");
-    row(
-        rt,
-        Piece::Text("door.svg is this picture"),
-        &[Piece::Flag(same)],
-    )
+    print_flag(rt, "door.svg is this picture", same);
 }
 
 /// Runs commands that would write over a file that they read: by its name, by another path, and by a link. It stays as it is.
-pub fn run_over_inputs(rt: &(impl Files + Print + AllocGlobal)) -> anyhow::Result<()> {
-    run(rt, "build door.oil door.src door.src")?;
-    run(rt, "run door.oil door.src door.arr ./door.arr 10")?;
-    symlink(rt, "door.img", "door.link")?;
-    run(rt, "elf door.link door.img")?;
-    run(rt, "infer door.oil ./door.src door.oil")?;
-    run(rt, "build door.oil door.src again.img")?;
+pub fn run_over_inputs(rt: &(impl Files + Print + AllocGlobal)) {
+    run(rt, "build door.oil door.src door.src");
+    run(rt, "run door.oil door.src door.arr ./door.arr 10");
+    let _ = symlink(rt, "door.img", "door.link");
+    run(rt, "elf door.link door.img");
+    run(rt, "infer door.oil ./door.src door.oil");
+    run(rt, "build door.oil door.src again.img");
     let same = are_same(rt, "again.img", "door.img");
-    row(rt, Piece::Text("door.img stays"), &[Piece::Flag(same)])
+    print_flag(rt, "door.img stays", same);
 }
 
 /// Runs a command of whose files one is missing.
-pub fn run_missing(rt: &(impl Files + Print + AllocGlobal)) -> anyhow::Result<()> {
-    run(rt, "build same.oil missing.src same.img")
+pub fn run_missing(rt: &(impl Files + Print + AllocGlobal)) {
+    run(rt, "build same.oil missing.src same.img");
 }

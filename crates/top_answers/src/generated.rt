@@ -1,4 +1,5 @@
 //! The listing of a generated application.
+use crate::rows::Rows;
 use crate::syntax::shown;
 use app_gen::application::Sample;
 use app_gen::sample;
@@ -12,25 +13,29 @@ fn number(digits: &[u8]) -> u32 {
     u32::try_from(value(digits, 10)).unwrap_or(0)
 }
 
-fn list_arrivals(rt: &impl Print, arrivals: &[Arrival]) -> anyhow::Result<()> {
+fn list_arrivals(rows: &mut Rows, arrivals: &[Arrival]) {
     for arrival in arrivals {
-        println!(rt; "{} T{}", arrival.at, arrival.line.0)?;
+        rows.value(arrival.at);
+        rows.text(" T");
+        rows.value(arrival.line.0);
+        rows.text("\n");
     }
-    Ok(())
 }
 
-fn list_texts(rt: &impl Print, sample: &Sample) -> anyhow::Result<()> {
-    rt.print(shown(sample.oil.items()))?;
-    rt.print(shown(sample.src.items()))?;
-    list_arrivals(rt, sample.arrivals.items())
+fn list_texts(rows: &mut Rows, sample: &Sample) {
+    rows.text(shown(sample.oil.items()));
+    rows.text(shown(sample.src.items()));
+    list_arrivals(rows, sample.arrivals.items())
 }
 
 /// Prints the two texts and the arrivals of the application that a seed and a number of tasks ask for.
-pub fn list_sample(rt: &(impl Print + AllocGlobal), asked: &[u8]) -> anyhow::Result<()> {
+pub fn list_sample(rows: &mut Rows, asked: &[u8]) {
     let tasks = number(behind(asked, b' '));
     if tasks < 1 || tasks > TASK_LIMIT as u32 {
-        return Ok(());
+        return;
     }
-    let sample = sample(rt.alloc(), number(before(asked, b' ')), tasks)?;
-    list_texts(rt, &sample)
+    match sample(rows.alloc(), number(before(asked, b' ')), tasks) {
+        Ok(sample) => list_texts(rows, &sample),
+        Err(_) => rows.leave_out(),
+    }
 }

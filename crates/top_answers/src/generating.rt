@@ -8,7 +8,7 @@ ghost use Rattle.rv32_expand.specs.Sizes.{AgreeWithSizes, HasWordAddresses, IsVe
 ghost use Rattle.sloth_link.specs.Image.{MayLink};
 ghost use Rattle.image_gen.specs.Gathered.{MayBuild, MayGenerate};
 
-use crate::rows::{Piece, numbers, row};
+use crate::rows::{Piece, Rows};
 use rv32_instr::Block;
 use sloth_base::app::{App, Item};
 use sloth_base::config::Config;
@@ -17,28 +17,20 @@ use sloth_base::places::{Bounds, Levels, Places};
 use sloth_region::map::Map;
 
 // The address of each routine, and how many words it has.
-fn list_blocks(rt: &impl Print, blocks: &[Block]) -> anyhow::Result<()> {
+fn list_blocks(rows: &mut Rows, blocks: &[Block]) {
     for block in blocks {
-        row(
-            rt,
+        rows.row(
             Piece::Text("routine"),
             &[
                 Piece::Address(block.at),
                 Piece::Count(block.code.items().len()),
             ],
-        )?;
+        );
     }
-    Ok(())
 }
 
 // The code of an item of the first function.
-fn list_item(
-    rt: &impl Print,
-    item: &Item,
-    index: u32,
-    app: &App,
-    places: &Places,
-) -> anyhow::Result<()>
+fn list_item(rows: &mut Rows, item: &Item, index: u32, app: &App, places: &Places)
     requires in_range { IsTaskCode app.now }
     requires verified { IsVerified app.now }
     requires is_item { IsAppItem app.now 0 index }
@@ -47,7 +39,7 @@ fn list_item(
     requires agree { AgreeWithSizes app.now places.now }
 {
     let code = rv32_expand::expand(item, 0, index, app, places);
-    numbers(rt, "item", &[code.len, rv32_expand::length(item, app)])
+    rows.numbers("item", &[code.len, rv32_expand::length(item, app)])
 }
 
 // The items of the first function.
@@ -58,26 +50,25 @@ fn first_items(app: &App) -> &[Item]
     app.funcs.items()[0].items.items()
 }
 
-fn list_first_item(rt: &impl Print, app: &App, places: &Places) -> anyhow::Result<()>
+fn list_first_item(rows: &mut Rows, app: &App, places: &Places)
     requires in_range { IsTaskCode app.now }
     requires verified { IsVerified app.now }
     requires covers { HasWordAddresses app.now places.now }
     requires agree { AgreeWithSizes app.now places.now }
 {
     if app.funcs.items().len() == 0 {
-        return Ok(());
+        return;
     }
     let items = first_items(app);
     if items.len() == 0 {
-        return Ok(());
+        return;
     }
-    list_item(rt, &items[0], 0, app, places)
+    list_item(rows, &items[0], 0, app, places)
 }
 
 // How long an image is.
-fn list_image(rt: &impl Print, image: &Image) -> anyhow::Result<()> {
-    row(
-        rt,
+fn list_image(rows: &mut Rows, image: &Image) {
+    rows.row(
         Piece::Text("image"),
         &[
             Piece::Count(image.memory.items().len()),
@@ -88,68 +79,50 @@ fn list_image(rt: &impl Print, image: &Image) -> anyhow::Result<()> {
 }
 
 // The image of these routines with the items and symbols of the task code.
-fn list_linked(
-    rt: &(impl Print + AllocGlobal),
-    config: &Config,
-    app: &App,
-    map: &Map,
-    blocks: &[Block],
-) -> anyhow::Result<()>
+fn list_linked(rows: &mut Rows, config: &Config, app: &App, map: &Map, blocks: &[Block])
     requires { MayLink config.now app.now map.now blocks.now }
 {
-    let image = sloth_link::link(rt.alloc(), blocks, app, config, map)?;
-    list_image(rt, &image)
+    match sloth_link::link(rows.alloc(), blocks, app, config, map) {
+        Ok(image) => list_image(rows, &image),
+        Err(_) => rows.leave_out(),
+    }
 }
 
-fn list_parts(
-    rt: &(impl Print + AllocGlobal),
-    config: &Config,
-    app: &App,
-    map: &Map,
-    blocks: &[Block],
-) -> anyhow::Result<()>
+fn list_parts(rows: &mut Rows, config: &Config, app: &App, map: &Map, blocks: &[Block])
     requires { MayLink config.now app.now map.now blocks.now }
 {
-    list_blocks(rt, blocks)?;
-    list_first_item(rt, app, &map.places)?;
-    list_linked(rt, config, app, map, blocks)
+    list_blocks(rows, blocks);
+    list_first_item(rows, app, &map.places);
+    list_linked(rows, config, app, map, blocks)
 }
 
 // The image by a map, and what it is made of.
-fn list_planned(
-    rt: &(impl Print + AllocGlobal),
-    config: &Config,
-    app: &App,
-    levels: &Levels,
-    map: &Map,
-) -> anyhow::Result<()>
+fn list_planned(rows: &mut Rows, config: &Config, app: &App, levels: &Levels, map: &Map)
     requires { MayGenerate config.now app.now levels.now map.now }
 {
-    let blocks = image_gen::gathering::gather(rt.alloc(), config, app, levels, map)?;
-    list_parts(rt, config, app, map, &blocks)
+    match image_gen::gathering::gather(rows.alloc(), config, app, levels, map) {
+        Ok(blocks) => list_parts(rows, config, app, map, blocks.as_slice()),
+        Err(_) => rows.leave_out(),
+    }
 }
 
 /// What the generators give of task code.
-pub fn list_generated(
-    rt: &(impl Print + AllocGlobal),
-    config: &Config,
-    app: &App,
-    bounds: &Bounds,
-) -> anyhow::Result<()>
+pub fn list_generated(rows: &mut Rows, config: &Config, app: &App, bounds: &Bounds)
     requires { MayBuild config.now app.now bounds.now }
 {
     let levels = prio_levels::assign(config);
-    let map = mem_map::plan(rt.alloc(), app, config, bounds)?;
-    list_planned(rt, config, app, &levels, &map)
+    match mem_map::plan(rows.alloc(), app, config, bounds) {
+        Ok(map) => list_planned(rows, config, app, &levels, &map),
+        Err(_) => rows.leave_out(),
+    }
 }
 
 /// The levels of the first two tasks, of the first ceiling, and the highest one.
-pub fn list_levels(rt: &impl Print, config: &Config) -> anyhow::Result<()>
+pub fn list_levels(rows: &mut Rows, config: &Config)
     requires { InRange config.now }
 {
     let levels = prio_levels::assign(config);
-    row(
-        rt,
+    rows.row(
         Piece::Text("levels"),
         &[
             Piece::Number(levels.task[0].into()),

@@ -8,7 +8,7 @@ use crate::event_lines::list_events;
 use crate::machine::{list_choice, list_first_step, list_flat_word};
 use crate::observed::list_observed;
 use crate::readers::list_error;
-use crate::rows::{Piece, numbers, row};
+use crate::rows::{Piece, Rows};
 use crate::stops::{list_controller_stops, list_stops};
 use crate::texts::{LONGEST, Texts};
 use image_file::{read_image, write_image};
@@ -29,10 +29,9 @@ fn is_read_back(alloc: Global, file: &[u8], memory: &[u8]) -> bool {
     }
 }
 
-fn list_written(rt: &(impl Print + AllocGlobal), file: &[u8], memory: &[u8]) -> anyhow::Result<()> {
-    let again = is_read_back(rt.alloc(), file, memory);
-    row(
-        rt,
+fn list_written(rows: &mut Rows, file: &[u8], memory: &[u8]) {
+    let again = is_read_back(rows.alloc(), file, memory);
+    rows.row(
         Piece::Text("file"),
         &[
             Piece::Count(file.len()),
@@ -43,28 +42,30 @@ fn list_written(rt: &(impl Print + AllocGlobal), file: &[u8], memory: &[u8]) -> 
 }
 
 // The length of an image as a file, and whether the same memory is read from it.
-fn list_file(rt: &(impl Print + AllocGlobal), image: &Image) -> anyhow::Result<()>
+fn list_file(rows: &mut Rows, image: &Image)
     requires { InFormat image.now }
 {
-    let file = write_image(rt.alloc(), image)?;
-    list_written(rt, &file, image.memory.items())
+    match write_image(rows.alloc(), image) {
+        Ok(file) => list_written(rows, &file, image.memory.items()),
+        Err(_) => rows.leave_out(),
+    }
 }
 
 // The first line of the listing of an image.
-fn list_listing_line(rt: &impl Print, image: &Image) -> anyhow::Result<()>
+fn list_listing_line(rows: &mut Rows, image: &Image)
     requires { InFormat image.now }
 {
     let line = listing_line(image, 0);
-    row(rt, Piece::Text("listing"), &[Piece::Bytes(line.bytes())])
+    rows.row(Piece::Text("listing"), &[Piece::Bytes(line.bytes())])
 }
 
 // Both buses and the machine.
-fn list_memories(rt: &(impl Print + AllocGlobal), image: &Image) -> anyhow::Result<()>
+fn list_memories(rows: &mut Rows, image: &Image)
     requires { InFormat image.now }
 {
-    list_flat_word(rt, image)?;
-    list_choice(rt, image)?;
-    list_first_step(rt, image)
+    list_flat_word(rows, image);
+    list_choice(rows, image);
+    list_first_step(rows, image)
 }
 
 // Whether a run of 400 instructions is whole. Its lines go to the output.
@@ -85,34 +86,34 @@ fn is_run(
     Ok(whole)
 }
 
-fn list_run_to(
-    rt: &(impl Print + AllocGlobal),
-    image: &Image,
-    arrivals: &[Arrival],
-    out: &mut MemSink,
-) -> anyhow::Result<()>
+// Whether a run is whole, and how many bytes it puts.
+fn list_end(rows: &mut Rows, whole: bool, count: usize) {
+    rows.row(
+        Piece::Text("run"),
+        &[Piece::Flag(whole), Piece::Count(count)],
+    );
+}
+
+fn list_run_to(rows: &mut Rows, image: &Image, arrivals: &[Arrival], out: MemSink)
     requires format { InFormat image.now }
     requires arrivals { AreArrivals (owners_named image.now) arrivals.now }
 {
-    let whole = is_run(rt.alloc(), image, arrivals, out)?;
-    row(
-        rt,
-        Piece::Text("run"),
-        &[Piece::Flag(whole), Piece::Count(out.taken().len())],
-    )
+    let mut out = out;
+    match is_run(rows.alloc(), image, arrivals, &mut out) {
+        Ok(whole) => list_end(rows, whole, out.taken().len()),
+        Err(_) => rows.leave_out(),
+    }
 }
 
 // What a run of 400 instructions puts.
-fn list_run(
-    rt: &(impl Print + AllocGlobal),
-    image: &Image,
-    arrivals: &[Arrival],
-) -> anyhow::Result<()>
+fn list_run(rows: &mut Rows, image: &Image, arrivals: &[Arrival])
     requires format { InFormat image.now }
     requires arrivals { AreArrivals (owners_named image.now) arrivals.now }
 {
-    let mut out = MemSink::new(rt.alloc(), 100_000, &[])?;
-    list_run_to(rt, image, arrivals, &mut out)
+    match MemSink::new(rows.alloc(), 100_000, &[]) {
+        Ok(out) => list_run_to(rows, image, arrivals, out),
+        Err(_) => rows.leave_out(),
+    }
 }
 
 // How many of its events are entries.
@@ -124,88 +125,71 @@ fn entries(alloc: Global, image: &Image, arrivals: &[Arrival]) -> Result<u32, No
     Ok(runner.tally(400).counts[2])
 }
 
-fn list_entries(
-    rt: &(impl Print + AllocGlobal),
-    image: &Image,
-    arrivals: &[Arrival],
-) -> anyhow::Result<()>
+fn list_entries(rows: &mut Rows, image: &Image, arrivals: &[Arrival])
     requires format { InFormat image.now }
     requires arrivals { AreArrivals (owners_named image.now) arrivals.now }
 {
-    let entries = entries(rt.alloc(), image, arrivals)?;
-    numbers(rt, "entries", &[entries])
+    match entries(rows.alloc(), image, arrivals) {
+        Ok(entries) => rows.numbers("entries", &[entries]),
+        Err(_) => rows.leave_out(),
+    }
 }
 
-fn list_arrived(
-    rt: &(impl Print + AllocGlobal),
-    image: &Image,
-    arrivals: &[Arrival],
-) -> anyhow::Result<()>
+fn list_arrived(rows: &mut Rows, image: &Image, arrivals: &[Arrival])
     requires format { InFormat image.now }
     requires arrivals { AreArrivals (owners_named image.now) arrivals.now }
 {
-    list_run(rt, image, arrivals)?;
-    list_entries(rt, image, arrivals)
+    list_run(rows, image, arrivals);
+    list_entries(rows, image, arrivals)
 }
 
-fn list_runs(rt: &(impl Print + AllocGlobal), image: &Image, text: &[u8]) -> anyhow::Result<()>
+fn list_runs(rows: &mut Rows, image: &Image, text: &[u8])
     requires format { InFormat image.now }
     requires text { length text.now < 4294967295 }
 {
     match trace_text::read_arrivals(
-        rt.alloc(),
+        rows.alloc(),
         text,
         image.tasks.items(),
         image.counters.items(),
     ) {
-        Ok(arrivals) => list_arrived(rt, image, arrivals.as_slice()),
-        Err(error) => list_error(rt, error),
+        Ok(arrivals) => list_arrived(rows, image, arrivals.as_slice()),
+        Err(error) => list_error(rows, error),
     }
 }
 
 // The image as a file, as lines, as memory, and as it runs with the arrivals of a text.
-fn list_image(rt: &(impl Print + AllocGlobal), image: &Image, text: &[u8]) -> anyhow::Result<()>
+fn list_image(rows: &mut Rows, image: &Image, text: &[u8])
     requires format { InFormat image.now }
     requires text { length text.now < 4294967295 }
 {
-    list_file(rt, image)?;
-    list_listing_line(rt, image)?;
-    list_memories(rt, image)?;
-    list_runs(rt, image, text)
+    list_file(rows, image);
+    list_listing_line(rows, image);
+    list_memories(rows, image);
+    list_runs(rows, image, text)
 }
 
-fn list_asked(
-    rt: &(impl Print + AllocGlobal),
-    asked: &str,
-    image: &Image,
-    text: &[u8],
-) -> anyhow::Result<()>
+fn list_asked(rows: &mut Rows, asked: &str, image: &Image, text: &[u8])
     requires { InFormat image.now }
 {
     if asked == "stops" {
-        list_stops(rt, image)
+        list_stops(rows, image)
     } else if asked == "vectors" {
-        list_controller_stops(rt, image)
+        list_controller_stops(rows, image)
     } else if asked == "events" {
-        list_events(rt, image)
+        list_events(rows, image)
     } else if asked == "steps" {
-        list_observed(rt, image)
+        list_observed(rows, image)
     } else if text.len() <= LONGEST {
-        list_image(rt, image, text)
-    } else {
-        Ok(())
+        list_image(rows, image, text)
     }
 }
 
 /// Answers what public calls give of the image file: how a machine over its memory stops (`stops`, and with a controller `vectors`), the lines of
 /// events with its names (`events`), the events of steps that are written out by hand, under its marks (`steps`), or all else (`image`).
-pub fn list_image_file(
-    rt: &(impl Print + AllocGlobal),
-    asked: &str,
-    texts: &Texts,
-) -> anyhow::Result<()> {
-    match read_image(rt.alloc(), &texts.img) {
-        Ok(image) => list_asked(rt, asked, &image, &texts.arr),
-        Err(_) => row(rt, Piece::Text("no image"), &[]),
+pub fn list_image_file(rows: &mut Rows, asked: &str, texts: &Texts) {
+    match read_image(rows.alloc(), &texts.img) {
+        Ok(image) => list_asked(rows, asked, &image, &texts.arr),
+        Err(_) => rows.line("no image"),
     }
 }

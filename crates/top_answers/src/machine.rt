@@ -3,7 +3,7 @@ ghost use Rattle.std.specs.Prelude.{◌<◌};
 ghost use Rattle.sloth_base.specs.ImageRange.{InFormat};
 ghost use Rattle.sloth_base.specs.Limits.{count_limit};
 
-use crate::rows::{Piece, row};
+use crate::rows::{Piece, Rows};
 use irq_ctrl::Controller;
 use rv32_instr::{Instr, InstrKind, decode, encode};
 use rv32_machine::{Bus, FlatBus, Machine, SlothBus};
@@ -28,7 +28,7 @@ fn again(word: u32) -> u32 {
 }
 
 /// An instruction as a word, and read back.
-pub fn list_instruction(rt: &impl Print) -> anyhow::Result<()> {
+pub fn list_instruction(rows: &mut Rows) {
     let kind = InstrKind::Addi {
         rd: Reg(5),
         rs1: Reg(0),
@@ -36,7 +36,7 @@ pub fn list_instruction(rt: &impl Print) -> anyhow::Result<()> {
     };
     let word = encode(Instr::of(kind));
     let again = Piece::Address(again(word));
-    row(rt, Piece::Text("addi"), &[Piece::Address(word), again])
+    rows.row(Piece::Text("addi"), &[Piece::Address(word), again])
 }
 
 // The number of a line, 32 for none.
@@ -48,11 +48,10 @@ fn number(line: Option<Line>) -> Piece<'static> {
 }
 
 // The line that is chosen, and the pending byte of line 3.
-fn list_lines(rt: &impl Print, lines: &Controller) -> anyhow::Result<()> {
+fn list_lines(rows: &mut Rows, lines: &Controller) {
     let line = number(lines.choose(1));
     let pending = Piece::Number(lines.load(3).into());
-    row(
-        rt,
+    rows.row(
         Piece::Text("line"),
         &[line, Piece::Text("pending"), pending],
     )
@@ -68,11 +67,11 @@ fn arrived() -> Controller {
 }
 
 /// A line that arrives, is chosen and is taken.
-pub fn list_controller(rt: &impl Print) -> anyhow::Result<()> {
+pub fn list_controller(rows: &mut Rows) {
     let mut lines = arrived();
-    list_lines(rt, &lines)?;
+    list_lines(rows, &lines);
     lines.take(Line(3));
-    list_lines(rt, &lines)
+    list_lines(rows, &lines)
 }
 
 /// Whether a byte or word is stored.
@@ -81,11 +80,10 @@ pub fn is_stored<B: Bus>(bus: &mut B, address: u32, width: Width, value: u32) ->
 }
 
 // A word that is stored and loaded again.
-fn list_word<B: Bus>(rt: &impl Print, bus: &mut B) -> anyhow::Result<()> {
+fn list_word<B: Bus>(rows: &mut Rows, bus: &mut B) {
     let stored = is_stored(bus, WORD, Width::Word, 42);
     let loaded = bus.load(WORD, Width::Word).unwrap_or(0);
-    row(
-        rt,
+    rows.row(
         Piece::Text("stored"),
         &[
             Piece::Flag(stored),
@@ -95,48 +93,61 @@ fn list_word<B: Bus>(rt: &impl Print, bus: &mut B) -> anyhow::Result<()> {
     )
 }
 
+fn list_word_in(rows: &mut Rows, memory: FlatBus) {
+    let mut memory = memory;
+    list_word(rows, &mut memory)
+}
+
 /// A word of a memory without a controller.
-pub fn list_flat_word(rt: &(impl Print + AllocGlobal), image: &Image) -> anyhow::Result<()>
+pub fn list_flat_word(rows: &mut Rows, image: &Image)
     requires { InFormat image.now }
 {
-    let mut memory = FlatBus::new(rt.alloc(), image)?;
-    list_word(rt, &mut memory)
+    match FlatBus::new(rows.alloc(), image) {
+        Ok(memory) => list_word_in(rows, memory),
+        Err(_) => rows.leave_out(),
+    }
 }
 
 // The line that a bus chooses.
-fn list_chosen<B: Bus>(rt: &impl Print, bus: &B) -> anyhow::Result<()> {
-    row(rt, Piece::Text("chosen"), &[number(bus.choose(1))])
+fn list_chosen<B: Bus>(rows: &mut Rows, bus: &B) {
+    rows.row(Piece::Text("chosen"), &[number(bus.choose(1))])
 }
 
 // The line that a bus chooses once line 1 is enabled at level 2, and none behind its taking.
-fn list_choices<B: Bus>(rt: &impl Print, bus: &mut B) -> anyhow::Result<()> {
+fn list_choices<B: Bus>(rows: &mut Rows, bus: &mut B) {
     let enabled = is_stored(bus, ENABLED, Width::Byte, 1);
     let leveled = is_stored(bus, LEVEL, Width::Byte, 2);
-    row(
-        rt,
+    rows.row(
         Piece::Text("enabled"),
         &[Piece::Flag(enabled), Piece::Flag(leveled)],
-    )?;
-    list_chosen(rt, &*bus)?;
+    );
+    list_chosen(rows, &*bus);
     bus.take(Line(1));
-    list_chosen(rt, &*bus)
+    list_chosen(rows, &*bus)
+}
+
+// The same of a bus at which line 1 arrives.
+fn list_choices_on(rows: &mut Rows, bus: SlothBus) {
+    let mut bus = bus;
+    bus.arrive(Line(1));
+    list_choices(rows, &mut bus)
 }
 
 /// The choices of a bus at which line 1 arrives.
-pub fn list_choice(rt: &(impl Print + AllocGlobal), image: &Image) -> anyhow::Result<()>
+pub fn list_choice(rows: &mut Rows, image: &Image)
     requires { InFormat image.now }
 {
-    let mut bus = SlothBus::new(rt.alloc(), image)?;
-    bus.arrive(Line(1));
-    list_choices(rt, &mut bus)
+    match SlothBus::new(rows.alloc(), image) {
+        Ok(bus) => list_choices_on(rows, bus),
+        Err(_) => rows.leave_out(),
+    }
 }
 
-fn list_step(rt: &impl Print, machine: &mut Machine<SlothBus>) -> anyhow::Result<()>
+fn list_step(rows: &mut Rows, machine: &mut Machine<SlothBus>)
     requires { machine.old.count < count_limit }
 {
     match machine.step() {
-        Ok(step) => row(
-            rt,
+        Ok(step) => rows.row(
             Piece::Text("step"),
             &[
                 Piece::Number(step.count),
@@ -144,27 +155,31 @@ fn list_step(rt: &impl Print, machine: &mut Machine<SlothBus>) -> anyhow::Result
                 Piece::Address(step.pc),
             ],
         ),
-        Err(_) => row(rt, Piece::Text("stopped"), &[]),
+        Err(_) => rows.line("stopped"),
     }
 }
 
 // The first step of a machine, and where the next one is behind an arrival.
-fn list_steps(rt: &impl Print, machine: &mut Machine<SlothBus>) -> anyhow::Result<()>
+fn list_steps(rows: &mut Rows, machine: &mut Machine<SlothBus>)
     requires { machine.old.count < count_limit }
 {
-    list_step(rt, machine)?;
+    list_step(rows, machine);
     machine.bus_mut().arrive(Line(1));
-    row(
-        rt,
-        Piece::Text("next"),
-        &[Piece::Address(machine.next_pc())],
-    )
+    rows.row(Piece::Text("next"), &[Piece::Address(machine.next_pc())])
+}
+
+// The same of a machine over a bus.
+fn list_steps_on(rows: &mut Rows, bus: SlothBus) {
+    let mut machine = Machine::new(bus);
+    list_steps(rows, &mut machine)
 }
 
 /// The first step of an image.
-pub fn list_first_step(rt: &(impl Print + AllocGlobal), image: &Image) -> anyhow::Result<()>
+pub fn list_first_step(rows: &mut Rows, image: &Image)
     requires { InFormat image.now }
 {
-    let mut machine = Machine::new(SlothBus::new(rt.alloc(), image)?);
-    list_steps(rt, &mut machine)
+    match SlothBus::new(rows.alloc(), image) {
+        Ok(bus) => list_steps_on(rows, bus),
+        Err(_) => rows.leave_out(),
+    }
 }

@@ -23,6 +23,9 @@
 //! and `stacks` of task source, and `load` of a load, beside the last OIL text. `generated 7 2` asks for the application that is generated from
 //! the seed 7 with 2 tasks. The texts of `counts` and the like have no line feed behind their last line.
 //!
+//! `instructions` asks for the instruction of each word that stands before it on a line, in hexadecimal. `words boot` and the like ask for the code of a
+//! kernel of the last OIL text (`kernel`).
+//!
 //! `calls texts` asks for what public calls give of the OIL text and the task source that no command shows, `calls image` of the image file;
 //! `calls stops`, `calls vectors`, `calls events` and `calls steps` of small image files (`images`).
 //!
@@ -39,6 +42,8 @@ mod file_commands;
 mod generated;
 mod generating;
 mod images;
+mod instructions;
+mod kernel;
 mod loads;
 mod machine;
 mod observed;
@@ -62,12 +67,15 @@ use crate::commands::{
 use crate::event_lines::list_summary;
 use crate::file_commands::{compare_picture, run_missing, run_over_inputs};
 use crate::images::list_image_file;
+use crate::instructions::list_instructions;
 use crate::machine::{list_controller, list_instruction};
-use crate::readers::answer_read;
+use crate::readers::{answer_read, answer_words};
 use crate::regions::list_regions;
 use crate::repeats::add_line;
+use crate::rows::Rows;
 use crate::sources::list_sources;
 use crate::sweeps::run_sweep;
+use crate::syntax::shown;
 use crate::system_files::list_outside;
 use crate::texts::{LONGEST, Texts};
 use sloth_cli::program::run_program;
@@ -76,34 +84,41 @@ use std::process::ExitCode;
 use std::rt::Files;
 
 // Answers what the readers make of the lines before the question.
-fn read(rt: &(impl Print + AllocGlobal), asked: &str, texts: &Texts) -> anyhow::Result<()> {
+fn read(rows: &mut Rows, asked: &str, texts: &Texts) {
     let text = texts.lines.strip_suffix(b"\n").unwrap_or(b"");
     if texts.oil.len() <= LONGEST && text.len() <= LONGEST {
-        answer_read(rt, asked, &texts.oil, text)?;
+        answer_read(rows, asked, &texts.oil, text);
     }
-    Ok(())
+}
+
+// Answers what code a kernel has.
+fn words(rows: &mut Rows, asked: &str, texts: &Texts) {
+    if texts.oil.len() <= LONGEST {
+        answer_words(rows, asked, &texts.oil);
+    }
 }
 
 // Answers what public calls give of the texts, or of the image file.
-fn call(rt: &(impl Print + AllocGlobal), asked: &str, texts: &Texts) -> anyhow::Result<()> {
+fn call(rows: &mut Rows, asked: &str, texts: &Texts) {
     if asked == "texts" {
-        list_sources(rt, texts)
+        list_sources(rows, texts)
     } else {
-        list_image_file(rt, asked, texts)
+        list_image_file(rows, asked, texts)
+    }
+}
+
+// Runs a command, and keeps what it prints.
+fn keep(rows: &mut Rows, rest: &str, texts: &mut Texts) {
+    if run_kept(rows.alloc(), rest, texts).is_err() {
+        rows.leave_out();
     }
 }
 
 // Answers a question, whose first word and further words these are.
-fn answer(
-    rt: &(impl Print + AllocGlobal),
-    asked: &str,
-    word: &str,
-    rest: &str,
-    texts: &mut Texts,
-) -> anyhow::Result<()> {
+fn answer(rows: &mut Rows, asked: &str, word: &str, rest: &str, texts: &mut Texts) {
     match word {
-        "text" => show(rt, texts),
-        "checksum" => show_sum(rt, texts),
+        "text" => show(rows, texts),
+        "checksum" => show_sum(rows, texts),
         "tokens"
         | "tree"
         | "config"
@@ -112,86 +127,82 @@ fn answer(
         | "sizes"
         | "stacks"
         | "load"
-        | "generated" => { read(rt, asked, texts) }
-        "both" => run_both(rt, rest, texts),
-        "keep" => run_kept(rt, rest, texts),
-        "lengthened" => run_lengthened(rt, rest, texts),
-        "failing" => run_failing(rt, rest, texts),
-        "sweep" => run_sweep(rt, rest, texts),
-        "summed" => run_summed(rt, rest, texts),
-        "cut" => run_cut(rt, rest, texts),
-        "calls" => call(rt, rest, texts),
-        _ => run(rt, asked, texts),
+        | "generated" => read(rows, asked, texts),
+        "both" => run_both(rows, rest, texts),
+        "keep" => keep(rows, rest, texts),
+        "lengthened" => run_lengthened(rows, rest, texts),
+        "failing" => run_failing(rows, rest, texts),
+        "sweep" => run_sweep(rows, rest, texts),
+        "summed" => run_summed(rows, rest, texts),
+        "cut" => run_cut(rows, rest, texts),
+        "calls" => call(rows, rest, texts),
+        "instructions" => list_instructions(rows, shown(&texts.lines)),
+        "words" => words(rows, rest, texts),
+        _ => run(rows, asked, texts),
     }
 }
 
 // Does what a line behind `=== ` asks for, with the lines before it.
-fn obey(rt: &(impl Print + AllocGlobal), asked: &str, texts: &mut Texts) -> anyhow::Result<()> {
+fn obey(rows: &mut Rows, asked: &str, texts: &mut Texts) {
     let (word, rest) = asked.split_once(' ').unwrap_or((asked, ""));
-    if texts.replace(asked)? || texts.alter(rt.alloc(), word, rest)? {
-        return Ok(());
+    if !texts.replace(asked) && !texts.alter(rows.alloc(), word, rest) {
+        answer(rows, asked, word, rest, texts);
     }
-    answer(rt, asked, word, rest, texts)
 }
 
 // Reads a line, and does what it asks for.
-fn answer_line(
-    rt: &(impl Print + AllocGlobal),
-    line: &[u8],
-    texts: &mut Texts,
-) -> anyhow::Result<()> {
-    let Some(asked) = line.strip_prefix(b"=== ") else {
-        return add_line(rt, &mut texts.lines, line);
-    };
-    obey(rt, std::str::from_utf8(asked)?, texts)?;
-    texts.lines.clear();
-    Ok(())
-}
-
-fn answer_lines(
-    rt: &(impl Print + AllocGlobal),
-    input: &[u8],
-    texts: &mut Texts,
-) -> anyhow::Result<()> {
-    for line in input.split(|byte| *byte == b'\n') {
-        answer_line(rt, line, texts)?;
+fn answer_line(rows: &mut Rows, line: &[u8], texts: &mut Texts) {
+    match line.strip_prefix(b"=== ") {
+        Some(asked) => {
+            obey(rows, shown(asked), texts);
+            texts.lines.clear();
+        }
+        None => add_line(rows.alloc(), &mut texts.lines, line),
     }
-    Ok(())
 }
 
-// What stands on standard input.
-fn input(rt: &(impl Input + AllocGlobal)) -> anyhow::Result<Vec<u8>> {
-    let mut input = Vec::new(rt.alloc());
-    rt.reader().read_to_end(&mut input)?;
-    Ok(input)
+fn answer_lines(rows: &mut Rows, input: &[u8], texts: &mut Texts) {
+    for line in input.split(|byte| *byte == b'\n') {
+        answer_line(rows, line, texts);
+    }
 }
 
-// Answers all that is asked on standard input.
-fn answer_all(rt: &(impl Input + Print + AllocGlobal)) -> anyhow::Result<()> {
-    let input = input(rt)?;
-    let mut texts = Texts::new(rt.alloc());
-    answer_lines(rt, &input, &mut texts)
+// Answers all that is asked on this input.
+fn answer_all(rows: &mut Rows, input: &[u8]) {
+    let mut texts = Texts::new(rows.alloc());
+    answer_lines(rows, input, &mut texts);
 }
 
 // What public calls give that need no text.
-fn list_lower(rt: &impl Print) -> anyhow::Result<()> {
-    list_regions(rt)?;
-    list_instruction(rt)?;
-    list_controller(rt)?;
-    list_summary(rt)
+fn list_lower(rows: &mut Rows) {
+    list_regions(rows);
+    list_instruction(rows);
+    list_controller(rows);
+    list_summary(rows);
+}
+
+// Prints the answers to what is asked on standard input, and what public calls give that need no text.
+fn list_answers(rt: &(impl Input + Print + AllocGlobal)) {
+    let mut rows = Rows::new(rt.alloc());
+    let mut input = Vec::new(rt.alloc());
+    if rt.reader().read_to_end(&mut input).is_err() {
+        rows.leave_out();
+    }
+    answer_all(&mut rows, &input);
+    list_lower(&mut rows);
+    rows.print(rt);
 }
 
 // What is done on files of the system.
-fn list_files(rt: &(impl Files + Print + AllocGlobal)) -> anyhow::Result<()> {
-    list_outside(rt)?;
-    compare_picture(rt)?;
-    run_over_inputs(rt)?;
-    run_missing(rt)
+fn list_files(rt: &(impl Files + Print + AllocGlobal)) {
+    list_outside(rt);
+    compare_picture(rt);
+    run_over_inputs(rt);
+    run_missing(rt);
 }
 
-fn main(rt: HostRuntime) -> anyhow::Result<ExitCode> {
-    answer_all(&rt)?;
-    list_lower(&rt)?;
-    list_files(&rt)?;
-    Ok(run_program(&rt))
+fn main(rt: HostRuntime) -> ExitCode {
+    list_answers(&rt);
+    list_files(&rt);
+    run_program(&rt)
 }

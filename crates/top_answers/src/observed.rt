@@ -1,8 +1,9 @@
 //! The events of a run whose steps are written out by hand.
-ghost use Rattle.std.specs.Prelude.{◌≡◌, ◌<◌, ◌^◌, [], length, OnOk};
+ghost use Rattle.std.specs.Prelude.{◌≡◌, ◌<◌, ◌^◌, [], length};
 ghost use Rattle.sloth_base.specs.ImageRange.{InFormat};
 ghost use Rattle.observe.specs.Progress.{expected_count, remaining};
 
+use crate::rows::Rows;
 use observe::Observer;
 use sloth_base::event::{Arrival, Stamped};
 use sloth_base::image::Image;
@@ -105,40 +106,52 @@ fn step_of(count: u32, before: (bool, u32), row: Row) -> Step
     }
 }
 
-fn list_event(rt: &impl Print, event: &Stamped) -> anyhow::Result<()> {
-    println!(rt; "{} {} {:?}", event.stamp.from, event.stamp.at, event.event)?;
-    Ok(())
+fn list_event(rows: &mut Rows, event: &Stamped) {
+    rows.value(event.stamp.from);
+    rows.text(" ");
+    rows.value(event.stamp.at);
+    rows.text(" ");
+    rows.debug(&event.event);
+    rows.text("\n");
 }
 
 // The events that are finished.
-fn drain(rt: &impl Print, observer: &mut Observer) -> anyhow::Result<()>
-    ensures drained { OnOk result (remaining observer.new ≡ []) }
+fn drain(rows: &mut Rows, observer: &mut Observer)
+    ensures drained { remaining observer.new ≡ [] }
     ensures expected { expected_count observer.new ≡ expected_count observer.old }
 {
     while let Some(event) = observer.next() {
-        list_event(rt, &event)?;
+        list_event(rows, &event);
     }
-    Ok(())
 }
 
-fn feed_all(rt: &impl Print, observer: &mut Observer, rows: &[Row]) -> anyhow::Result<()>
-    requires few { length rows.now < 2 ^ 32 }
+fn feed_all(rows: &mut Rows, observer: &mut Observer, steps: &[Row])
+    requires few { length steps.now < 2 ^ 32 }
     requires new { expected_count observer.old ≡ 0 }
     requires drained { remaining observer.old ≡ [] }
 {
     let mut before = (false, 0);
-    for (count, row) in rows.iter().enumerate() {
+    for (count, row) in steps.iter().enumerate() {
         observer.feed(&step_of(count as u32, before, *row));
-        drain(rt, observer)?;
+        drain(rows, observer);
         before = (row.2, row.3);
     }
-    Ok(())
+}
+
+fn feed_to(rows: &mut Rows, observer: Observer)
+    requires new { expected_count observer ≡ 0 }
+    requires drained { remaining observer ≡ [] }
+{
+    let mut observer = observer;
+    feed_all(rows, &mut observer, &ROWS)
 }
 
 /// The events of the steps above, under the marks of an image, with the arrivals above.
-pub fn list_observed(rt: &(impl Print + AllocGlobal), image: &Image) -> anyhow::Result<()>
+pub fn list_observed(rows: &mut Rows, image: &Image)
     requires { InFormat image.now }
 {
-    let mut observer = Observer::new(rt.alloc(), image, &ARRIVALS)?;
-    feed_all(rt, &mut observer, &ROWS)
+    match Observer::new(rows.alloc(), image, &ARRIVALS) {
+        Ok(observer) => feed_to(rows, observer),
+        Err(_) => rows.leave_out(),
+    }
 }

@@ -7,7 +7,9 @@ ghost use Rattle.stack_bounds.specs.Bounds.{AreBounds};
 
 use crate::configuration::list_config;
 use crate::generated::list_sample;
+use crate::kernel::list_kernel;
 use crate::loads::list_load;
+use crate::rows::Rows;
 use crate::syntax::{list_tokens, list_tree};
 use crate::task_code::{list_app, list_counts, list_sizes, list_stacks};
 use asm_parse::parse_app;
@@ -18,7 +20,7 @@ use oil_parse::tree::OilTree;
 use sloth_base::app::App;
 use sloth_base::config::Config;
 use sloth_base::places::Bounds;
-use sloth_base::refusal::BuildError;
+use sloth_base::refusal::{BuildError, Refusal};
 use sloth_source::read;
 use stack_bounds::offsets;
 use std::alloc::Global;
@@ -48,146 +50,142 @@ fn app(alloc: Global, oil: &[u8], text: &[u8]) -> Result<App, BuildError>
     parse_app(alloc, text, &config)
 }
 
+/// Prints the code of a kernel of the configuration of an OIL text.
+pub fn answer_words(rows: &mut Rows, asked: &str, oil: &[u8])
+    requires { length oil.now ≤ 16000000 }
+{
+    match config(rows.alloc(), oil) {
+        Ok(config) => list_kernel(rows, asked, &config),
+        Err(error) => list_error(rows, error),
+    }
+}
+
+fn list_refusal(rows: &mut Rows, refusal: &Refusal) {
+    rows.text("refused ");
+    rows.value(refusal.line);
+    rows.text(" ");
+    rows.debug(&refusal.code);
+    rows.text("\n");
+}
+
 /// Prints why a text has no meaning.
-pub fn list_error(rt: &impl Print, error: BuildError) -> anyhow::Result<()> {
+pub fn list_error(rows: &mut Rows, error: BuildError) {
     match error {
-        BuildError::Refused(refusal) => {
-            println!(rt; "refused {} {:?}", refusal.line, refusal.code)?;
-        }
-        BuildError::Memory => println!(rt; "no memory")?,
-    }
-    Ok(())
-}
-
-fn answer_tokens(rt: &(impl Print + AllocGlobal), text: &[u8]) -> anyhow::Result<()>
-    requires { length text.now ≤ 16000000 }
-{
-    match tokens(rt.alloc(), text) {
-        Ok(tokens) => list_tokens(rt, tokens.as_slice()),
-        Err(error) => list_error(rt, error),
+        BuildError::Refused(refusal) => list_refusal(rows, &refusal),
+        BuildError::Memory => rows.line("no memory"),
     }
 }
 
-fn answer_tree(rt: &(impl Print + AllocGlobal), text: &[u8]) -> anyhow::Result<()>
+fn answer_tokens(rows: &mut Rows, text: &[u8])
     requires { length text.now ≤ 16000000 }
 {
-    match tree(rt.alloc(), text) {
-        Ok(tree) => list_tree(rt, &tree),
-        Err(error) => list_error(rt, error),
+    match tokens(rows.alloc(), text) {
+        Ok(tokens) => list_tokens(rows, tokens.as_slice()),
+        Err(error) => list_error(rows, error),
     }
 }
 
-fn answer_config(rt: &(impl Print + AllocGlobal), text: &[u8]) -> anyhow::Result<()>
+fn answer_tree(rows: &mut Rows, text: &[u8])
     requires { length text.now ≤ 16000000 }
 {
-    match config(rt.alloc(), text) {
-        Ok(config) => list_config(rt, &config),
-        Err(error) => list_error(rt, error),
+    match tree(rows.alloc(), text) {
+        Ok(tree) => list_tree(rows, &tree),
+        Err(error) => list_error(rows, error),
+    }
+}
+
+fn answer_config(rows: &mut Rows, text: &[u8])
+    requires { length text.now ≤ 16000000 }
+{
+    match config(rows.alloc(), text) {
+        Ok(config) => list_config(rows, &config),
+        Err(error) => list_error(rows, error),
     }
 }
 
 // Answers what the text of a load says.
-fn answer_load(rt: &(impl Print + AllocGlobal), oil: &[u8], text: &[u8]) -> anyhow::Result<()>
+fn answer_load(rows: &mut Rows, oil: &[u8], text: &[u8])
     requires oil { length oil.now ≤ 16000000 }
     requires text { length text.now ≤ 16000000 }
 {
-    match config(rt.alloc(), oil) {
-        Ok(config) => list_load(rt, &config, text),
-        Err(error) => list_error(rt, error),
+    match config(rows.alloc(), oil) {
+        Ok(config) => list_load(rows, &config, text),
+        Err(error) => list_error(rows, error),
     }
 }
 
 // Lists what the tasks of a configuration need of the stacks.
-fn list_offsets(
-    rt: &(impl Print + AllocGlobal),
-    config: &Config,
-    app: &App,
-    bounds: &Bounds,
-) -> anyhow::Result<()>
+fn list_offsets(rows: &mut Rows, config: &Config, app: &App, bounds: &Bounds)
     requires well_formed { WellFormed config.now app.now }
     requires bounds { AreBounds config.now app.now bounds.now }
 {
-    let offsets = offsets(rt.alloc(), config, app, bounds)?;
-    list_stacks(rt, bounds, &offsets)
-}
-
-// Answers what the tasks of a text need of the stacks.
-fn answer_stacks(rt: &(impl Print + AllocGlobal), oil: &[u8], text: &[u8]) -> anyhow::Result<()>
-    requires oil { length oil.now ≤ 16000000 }
-    requires text { length text.now ≤ 16000000 }
-{
-    match read(rt.alloc(), oil, text) {
-        Ok(source) => list_offsets(rt, &source.config, &source.app, &source.bounds),
-        Err(error) => list_error(rt, error),
+    match offsets(rows.alloc(), config, app, bounds) {
+        Ok(offsets) => list_stacks(rows, bounds, &offsets),
+        Err(_) => rows.leave_out(),
     }
 }
 
-fn list_code(rt: &(impl Print + AllocGlobal), asked: &str, app: &App) -> anyhow::Result<()>
+// Answers what the tasks of a text need of the stacks.
+fn answer_stacks(rows: &mut Rows, oil: &[u8], text: &[u8])
+    requires oil { length oil.now ≤ 16000000 }
+    requires text { length text.now ≤ 16000000 }
+{
+    match read(rows.alloc(), oil, text) {
+        Ok(source) => list_offsets(rows, &source.config, &source.app, &source.bounds),
+        Err(error) => list_error(rows, error),
+    }
+}
+
+fn list_code(rows: &mut Rows, asked: &str, app: &App)
     requires { IsTaskCode app.now }
 {
     if asked == "listing" {
-        list_app(rt, app)
+        list_app(rows, app)
     } else if asked == "sizes" {
-        list_sizes(rt, app)
+        list_sizes(rows, app)
     } else {
-        list_counts(rt, app)
+        list_counts(rows, app)
     }
 }
 
 // Answers what task source means: its listing, its sizes, or how much there is of each kind.
-fn answer_code(
-    rt: &(impl Print + AllocGlobal),
-    asked: &str,
-    oil: &[u8],
-    text: &[u8],
-) -> anyhow::Result<()>
+fn answer_code(rows: &mut Rows, asked: &str, oil: &[u8], text: &[u8])
     requires oil { length oil.now ≤ 16000000 }
     requires text { length text.now ≤ 16000000 }
 {
-    match app(rt.alloc(), oil, text) {
-        Ok(app) => list_code(rt, asked, &app),
-        Err(error) => list_error(rt, error),
+    match app(rows.alloc(), oil, text) {
+        Ok(app) => list_code(rows, asked, &app),
+        Err(error) => list_error(rows, error),
     }
 }
 
-fn answer_asked(
-    rt: &(impl Print + AllocGlobal),
-    asked: &str,
-    oil: &[u8],
-    text: &[u8],
-) -> anyhow::Result<()>
+fn answer_asked(rows: &mut Rows, asked: &str, oil: &[u8], text: &[u8])
     requires oil { length oil.now ≤ 16000000 }
     requires text { length text.now ≤ 16000000 }
 {
     if asked == "tokens" {
-        answer_tokens(rt, text)
+        answer_tokens(rows, text)
     } else if asked == "tree" {
-        answer_tree(rt, text)
+        answer_tree(rows, text)
     } else if asked == "config" {
-        answer_config(rt, text)
+        answer_config(rows, text)
     } else if asked == "stacks" {
-        answer_stacks(rt, oil, text)
+        answer_stacks(rows, oil, text)
     } else if asked == "load" {
-        answer_load(rt, oil, text)
+        answer_load(rows, oil, text)
     } else {
-        answer_code(rt, asked, oil, text)
+        answer_code(rows, asked, oil, text)
     }
 }
 
 /// Answers what is asked of a text, or of a text beside an OIL text.
-pub fn answer_read(
-    rt: &(impl Print + AllocGlobal),
-    asked: &str,
-    oil: &[u8],
-    text: &[u8],
-) -> anyhow::Result<()>
+pub fn answer_read(rows: &mut Rows, asked: &str, oil: &[u8], text: &[u8])
     requires oil { length oil.now ≤ 16000000 }
     requires text { length text.now ≤ 16000000 }
 {
     match asked.strip_prefix("generated ") {
-        Some(numbers) => list_sample(rt, numbers.as_bytes())?,
-        None => answer_asked(rt, asked, oil, text)?,
+        Some(numbers) => list_sample(rows, numbers.as_bytes()),
+        None => answer_asked(rows, asked, oil, text),
     }
-    rt.println("===")?;
-    Ok(())
+    rows.line("===");
 }

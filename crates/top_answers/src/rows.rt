@@ -1,6 +1,7 @@
-//! Printed rows.
+//! Rows that are printed.
 use crate::syntax::shown;
-use std::io;
+use std::alloc::Global;
+use std::fmt::{Debug, Display};
 
 /// A piece of a row. Bytes are shown as text, an address in eight hexadecimal digits.
 #[derive(Clone, Copy)]
@@ -10,50 +11,130 @@ pub enum Piece<'a> {
     Number(u32),
     Count(usize),
     Sum(u64),
+    Signed(i64),
     Address(u32),
     Flag(bool),
 }
 
-fn put(rt: &impl Print, piece: Piece) -> io::Result<()> {
-    match piece {
-        Piece::Text(text) => rt.print(text),
-        Piece::Bytes(bytes) => rt.print(shown(bytes)),
-        Piece::Number(number) => rt.print(number),
-        Piece::Count(count) => rt.print(count),
-        Piece::Sum(sum) => rt.print(sum),
-        Piece::Address(address) => print!(rt; "{address:08x}"),
-        Piece::Flag(flag) => rt.print(flag),
+/// Rows that are not printed yet, and whether some are left out for want of memory.
+#[derive(Drop)]
+pub struct Rows {
+    alloc: Global,
+    text: String,
+    wanting: bool,
+}
+
+impl Rows {
+    /// No rows.
+    pub fn new(alloc: Global) -> Rows {
+        Rows {
+            alloc,
+            text: String::new(alloc),
+            wanting: false,
+        }
     }
-}
 
-// Prints pieces, each behind a space.
-fn put_rest(rt: &impl Print, pieces: &[Piece]) -> io::Result<()> {
-    for piece in pieces {
-        rt.print(" ")?;
-        put(rt, *piece)?;
+    /// The rows as a text.
+    pub fn into_text(self) -> String {
+        self.text
     }
-    Ok(())
-}
 
-/// Prints a line of pieces with a space between two of them.
-pub fn row(rt: &impl Print, first: Piece, rest: &[Piece]) -> anyhow::Result<()> {
-    put(rt, first)?;
-    put_rest(rt, rest)?;
-    rt.println("")?;
-    Ok(())
-}
-
-/// Prints a line of a text and a number.
-pub fn count(rt: &impl Print, text: &str, number: usize) -> anyhow::Result<()> {
-    row(rt, Piece::Text(text), &[Piece::Count(number)])
-}
-
-/// Prints a line of a text and numbers.
-pub fn numbers(rt: &impl Print, text: &str, numbers: &[u32]) -> anyhow::Result<()> {
-    rt.print(text)?;
-    for number in numbers {
-        print!(rt; " {number}")?;
+    /// Where memory comes from.
+    pub fn alloc(&self) -> Global {
+        self.alloc
     }
-    rt.println("")?;
-    Ok(())
+
+    /// Some rows are left out.
+    pub fn leave_out(&mut self) {
+        self.wanting = true;
+    }
+
+    /// Appends a text.
+    pub fn text(&mut self, text: &str) {
+        if self.text.push_str(text).is_err() {
+            self.leave_out();
+        }
+    }
+
+    /// Appends what is shown of a value.
+    pub fn value<T: Display + Drop>(&mut self, value: T) {
+        match format!(in self.alloc; "{value}") {
+            Ok(text) => self.text(&text),
+            Err(_) => self.leave_out(),
+        }
+    }
+
+    /// Appends what is shown of a value to whoever looks for a fault.
+    pub fn debug<T: Debug>(&mut self, value: &T) {
+        match format!(in self.alloc; "{value:?}") {
+            Ok(text) => self.text(&text),
+            Err(_) => self.leave_out(),
+        }
+    }
+
+    /// Appends an address in eight hexadecimal digits.
+    pub fn address(&mut self, address: u32) {
+        match format!(in self.alloc; "{address:08x}") {
+            Ok(text) => self.text(&text),
+            Err(_) => self.leave_out(),
+        }
+    }
+
+    fn put(&mut self, piece: Piece) {
+        match piece {
+            Piece::Text(text) => self.text(text),
+            Piece::Bytes(bytes) => self.text(shown(bytes)),
+            Piece::Number(number) => self.value(number),
+            Piece::Count(count) => self.value(count),
+            Piece::Sum(sum) => self.value(sum),
+            Piece::Signed(number) => self.value(number),
+            Piece::Address(address) => self.address(address),
+            Piece::Flag(flag) => self.value(flag),
+        }
+    }
+
+    /// Appends pieces, each behind a space, and ends the row.
+    pub fn end(&mut self, pieces: &[Piece]) {
+        for piece in pieces {
+            self.text(" ");
+            self.put(*piece);
+        }
+        self.text("\n");
+    }
+
+    /// Appends a row of pieces with a space between two of them.
+    pub fn row(&mut self, first: Piece, rest: &[Piece]) {
+        self.put(first);
+        self.end(rest);
+    }
+
+    /// Appends a row of one text.
+    pub fn line(&mut self, text: &str) {
+        self.text(text);
+        self.text("\n");
+    }
+
+    /// Appends a row of a text and a number.
+    pub fn count(&mut self, text: &str, number: usize) {
+        self.row(Piece::Text(text), &[Piece::Count(number)]);
+    }
+
+    /// Appends a row of a text and numbers.
+    pub fn numbers(&mut self, text: &str, numbers: &[u32]) {
+        self.text(text);
+        for number in numbers {
+            self.text(" ");
+            self.value(*number);
+        }
+        self.text("\n");
+    }
+
+    /// Prints the rows, and behind them where some are left out. What cannot be printed is missing where the output is compared.
+    pub fn print(&mut self, rt: &impl Print) {
+        if self.wanting {
+            self.text("rows are left out\n");
+        }
+        let _ = rt.print(self.text.as_str());
+        self.text.clear();
+    }
 }

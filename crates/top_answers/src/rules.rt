@@ -3,7 +3,7 @@ ghost use Rattle.code_rules.specs.AppRange.{AppInRange};
 ghost use Rattle.call_graph.specs.Ranks.{RanksOf};
 
 use crate::readers::list_error;
-use crate::rows::{Piece, count, row};
+use crate::rows::{Piece, Rows};
 use crate::task_code::list_stacks;
 use call_graph::ranking::Ranks;
 use sloth_base::app::App;
@@ -13,76 +13,64 @@ use task_verify::verified::Verified;
 use task_verify::verify;
 
 /// How many tasks there are in a copy of a configuration.
-pub fn list_copied_config(rt: &(impl Print + AllocGlobal), config: &Config) -> anyhow::Result<()> {
-    let again = config.copy(rt.alloc())?;
-    count(rt, "copied", again.tasks.items().len())
+pub fn list_copied_config(rows: &mut Rows, config: &Config) {
+    match config.copy(rows.alloc()) {
+        Ok(again) => rows.count("copied", again.tasks.items().len()),
+        Err(_) => rows.leave_out(),
+    }
 }
 
 /// How many functions there are in a copy of task code.
-pub fn list_copied_app(rt: &(impl Print + AllocGlobal), app: &App) -> anyhow::Result<()> {
-    let again = app.copy(rt.alloc())?;
-    count(rt, "copied", again.funcs.items().len())
+pub fn list_copied_app(rows: &mut Rows, app: &App) {
+    match app.copy(rows.alloc()) {
+        Ok(again) => rows.count("copied", again.funcs.items().len()),
+        Err(_) => rows.leave_out(),
+    }
 }
 
 // How many tasks and functions were verified.
-fn list_verified(rt: &impl Print, verified: &Verified) -> anyhow::Result<()> {
+fn list_verified(rows: &mut Rows, verified: &Verified) {
     let tasks = verified.config().tasks.items().len();
     let functions = verified.app().funcs.items().len();
-    row(
-        rt,
+    rows.row(
         Piece::Text("verified"),
         &[Piece::Count(tasks), Piece::Count(functions)],
     )
 }
 
 // The bytes of stack of the tasks, and of the stack that the basic tasks share.
-fn list_bounds(
-    rt: &(impl Print + AllocGlobal),
-    verified: &Verified,
-    ranks: &Ranks,
-) -> anyhow::Result<()>
+fn list_bounds(rows: &mut Rows, verified: &Verified, ranks: &Ranks)
     requires { RanksOf verified.now.app ranks.now }
 {
-    let bounds = bound(rt.alloc(), verified, ranks)?;
-    list_stacks(rt, &bounds, &[])
+    match bound(rows.alloc(), verified, ranks) {
+        Ok(bounds) => list_stacks(rows, &bounds, &[]),
+        Err(_) => rows.leave_out(),
+    }
 }
 
-fn list_accepted(
-    rt: &(impl Print + AllocGlobal),
-    verified: &Verified,
-    ranks: &Ranks,
-) -> anyhow::Result<()>
+fn list_accepted(rows: &mut Rows, verified: &Verified, ranks: &Ranks)
     requires { RanksOf verified.now.app ranks.now }
 {
-    list_verified(rt, verified)?;
-    list_bounds(rt, verified, ranks)
+    list_verified(rows, verified);
+    list_bounds(rows, verified, ranks)
 }
 
-fn list_ranked(
-    rt: &(impl Print + AllocGlobal),
-    config: &Config,
-    app: &App,
-    ranks: &Ranks,
-) -> anyhow::Result<()>
+fn list_ranked(rows: &mut Rows, config: &Config, app: &App, ranks: &Ranks)
     requires in_range { AppInRange config.now app.now }
     requires belong { RanksOf app.now ranks.now }
 {
-    match verify(rt.alloc(), config, app, ranks) {
-        Ok(verified) => list_accepted(rt, &verified, ranks),
-        Err(error) => list_error(rt, error),
+    match verify(rows.alloc(), config, app, ranks) {
+        Ok(verified) => list_accepted(rows, &verified, ranks),
+        Err(error) => list_error(rows, error),
     }
 }
 
 /// What the rules give of task code.
-pub fn list_judged(
-    rt: &(impl Print + AllocGlobal),
-    config: &Config,
-    app: &App,
-) -> anyhow::Result<()>
+pub fn list_judged(rows: &mut Rows, config: &Config, app: &App)
     requires { AppInRange config.now app.now }
 {
-    match call_graph::ranks(rt.alloc(), app) {
-        Ok(ranks) => list_ranked(rt, config, app, &ranks),
-        Err(error) => list_error(rt, error),
+    match call_graph::ranks(rows.alloc(), app) {
+        Ok(ranks) => list_ranked(rows, config, app, &ranks),
+        Err(error) => list_error(rows, error),
     }
 }

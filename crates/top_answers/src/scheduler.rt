@@ -1,7 +1,7 @@
 //! The abstract scheduler.
 ghost use Rattle.code_rules.specs.WellFormed.{WellFormed};
 
-use crate::rows::{Piece, row};
+use crate::rows::{Piece, Rows};
 use osek_machine::Osek;
 use sloth_base::app::App;
 use sloth_base::config::Config;
@@ -14,38 +14,40 @@ fn is_next(osek: &mut Osek, event: Event) -> bool {
 }
 
 // The state of a task, if there is one.
-fn list_state(rt: &impl Print, osek: &Osek, task: u32) -> anyhow::Result<()> {
+fn list_state(rows: &mut Rows, osek: &Osek, task: u32) {
     if (task as usize) < osek.task_count() {
-        println!(rt; "{:?}", osek.state(TaskId(task)))?;
+        rows.debug(&osek.state(TaskId(task)));
+        rows.text("\n");
     }
-    Ok(())
 }
 
 // The states of the first two tasks.
-fn list_states(rt: &impl Print, osek: &Osek) -> anyhow::Result<()> {
-    list_state(rt, osek, 0)?;
-    list_state(rt, osek, 1)
+fn list_states(rows: &mut Rows, osek: &Osek) {
+    list_state(rows, osek, 0);
+    list_state(rows, osek, 1)
 }
 
-fn list_steps(rt: &impl Print, osek: &mut Osek) -> anyhow::Result<()> {
+fn list_steps(rows: &mut Rows, osek: &mut Osek) {
     let booted = is_next(osek, Event::Boot);
     let early = is_next(osek, Event::Idle);
-    row(
-        rt,
+    rows.row(
         Piece::Text("boot"),
         &[Piece::Flag(booted), Piece::Text("idle"), Piece::Flag(early)],
-    )?;
-    list_states(rt, &*osek)
+    );
+    list_states(rows, &*osek)
+}
+
+fn list_steps_of(rows: &mut Rows, osek: Osek) {
+    let mut osek = osek;
+    list_steps(rows, &mut osek)
 }
 
 /// The first step of the abstract scheduler, and the states of the tasks after it.
-pub fn list_scheduler(
-    rt: &(impl Print + AllocGlobal),
-    config: &Config,
-    app: &App,
-) -> anyhow::Result<()>
+pub fn list_scheduler(rows: &mut Rows, config: &Config, app: &App)
     requires { WellFormed config.now app.now }
 {
-    let mut osek = Osek::boot(rt.alloc(), config, app)?;
-    list_steps(rt, &mut osek)
+    match Osek::boot(rows.alloc(), config, app) {
+        Ok(osek) => list_steps_of(rows, osek),
+        Err(_) => rows.leave_out(),
+    }
 }

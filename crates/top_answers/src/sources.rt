@@ -4,7 +4,7 @@ ghost use Rattle.image_gen.specs.Gathered.{MayBuild};
 
 use crate::generating::{list_generated, list_levels};
 use crate::readers::list_error;
-use crate::rows::{Piece, row};
+use crate::rows::{Piece, Rows};
 use crate::rules::{list_copied_app, list_copied_config, list_judged};
 use crate::scheduler::list_scheduler;
 use crate::texts::{LONGEST, Texts};
@@ -27,9 +27,8 @@ fn source_of(alloc: Global, oil: &[u8], src: &[u8]) -> Result<Source, BuildError
 }
 
 // How much there is of each kind.
-fn list_sizes(rt: &impl Print, config: &Config, app: &App) -> anyhow::Result<()> {
-    row(
-        rt,
+fn list_sizes(rows: &mut Rows, config: &Config, app: &App) {
+    rows.row(
         Piece::Text("tasks"),
         &[
             Piece::Count(config.tasks.items().len()),
@@ -42,55 +41,50 @@ fn list_sizes(rt: &impl Print, config: &Config, app: &App) -> anyhow::Result<()>
 }
 
 // Copies of both, and how much there is of each kind.
-fn list_copied(rt: &(impl Print + AllocGlobal), config: &Config, app: &App) -> anyhow::Result<()> {
-    list_sizes(rt, config, app)?;
-    list_copied_config(rt, config)?;
-    list_copied_app(rt, app)
+fn list_copied(rows: &mut Rows, config: &Config, app: &App) {
+    list_sizes(rows, config, app);
+    list_copied_config(rows, config);
+    list_copied_app(rows, app)
 }
 
 // What the rules, the generators and the abstract scheduler give of what both texts mean.
-fn list_meaning(
-    rt: &(impl Print + AllocGlobal),
-    config: &Config,
-    app: &App,
-    bounds: &Bounds,
-) -> anyhow::Result<()>
+fn list_meaning(rows: &mut Rows, config: &Config, app: &App, bounds: &Bounds)
     requires { MayBuild config.now app.now bounds.now }
 {
-    list_copied(rt, config, app)?;
-    list_levels(rt, config)?;
-    list_judged(rt, config, app)?;
-    list_generated(rt, config, app, bounds)?;
-    list_scheduler(rt, config, app)
+    list_copied(rows, config, app);
+    list_levels(rows, config);
+    list_judged(rows, config, app);
+    list_generated(rows, config, app, bounds);
+    list_scheduler(rows, config, app)
 }
 
-fn list_source(rt: &(impl Print + AllocGlobal), oil: &[u8], src: &[u8]) -> anyhow::Result<()>
+fn list_source(rows: &mut Rows, oil: &[u8], src: &[u8])
     requires oil { length oil.now ≤ 16000000 }
     requires src { length src.now ≤ 16000000 }
 {
-    match source_of(rt.alloc(), oil, src) {
-        Ok(source) => list_meaning(rt, &source.config, &source.app, &source.bounds),
-        Err(error) => list_error(rt, error),
+    match source_of(rows.alloc(), oil, src) {
+        Ok(source) => list_meaning(rows, &source.config, &source.app, &source.bounds),
+        Err(error) => list_error(rows, error),
     }
 }
 
 // What is built of both texts.
-fn list_built(rt: &(impl Print + AllocGlobal), oil: &[u8], src: &[u8]) -> anyhow::Result<()>
+fn list_built(rows: &mut Rows, oil: &[u8], src: &[u8])
     requires oil { length oil.now ≤ 16000000 }
     requires src { length src.now ≤ 16000000 }
 {
-    match build(rt.alloc(), oil, src) {
-        Ok(built) => list_sizes(rt, &built.config, &built.app),
-        Err(error) => list_error(rt, error),
+    match build(rows.alloc(), oil, src) {
+        Ok(built) => list_sizes(rows, &built.config, &built.app),
+        Err(error) => list_error(rows, error),
     }
 }
 
 /// What public calls give of the OIL text and the task source.
-pub fn list_sources(rt: &(impl Print + AllocGlobal), texts: &Texts) -> anyhow::Result<()> {
+pub fn list_sources(rows: &mut Rows, texts: &Texts) {
     let (oil, src) = (texts.oil.as_slice(), texts.src.as_slice());
     if oil.len() > LONGEST || src.len() > LONGEST {
-        return Ok(());
+        return;
     }
-    list_source(rt, oil, src)?;
-    list_built(rt, oil, src)
+    list_source(rows, oil, src);
+    list_built(rows, oil, src)
 }

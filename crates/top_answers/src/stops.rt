@@ -4,13 +4,11 @@ ghost use Rattle.sloth_base.specs.ImageRange.{InFormat};
 ghost use Rattle.sloth_base.specs.Limits.{count_limit};
 
 use crate::machine::is_stored;
-use crate::rows::{Piece, row};
+use crate::rows::{Piece, Rows};
 use rv32_machine::{Bus, FlatBus, Machine, SlothBus, Step, Stop};
 use sloth_base::app::Width;
 use sloth_base::image::Image;
-use sloth_base::memory::NoMemory;
 use sloth_base::numbers::Line;
-use std::alloc::Global;
 
 const NOP: u32 = 0x0000_0013;
 
@@ -56,64 +54,58 @@ fn second_step<B: Bus + Drop>(bus: B, first: u32, second: u32) -> Result<Step, S
     machine.step()
 }
 
-fn list_line(rt: &impl Print, line: Option<Line>) -> anyhow::Result<()> {
+fn list_line(rows: &mut Rows, line: Option<Line>) {
     match line {
-        Some(line) => row(rt, Piece::Text("touches"), &[Piece::Number(line.0.into())]),
-        None => row(rt, Piece::Text("touches none"), &[]),
+        Some(line) => rows.row(Piece::Text("touches"), &[Piece::Number(line.0.into())]),
+        None => rows.line("touches none"),
     }
 }
 
-fn list_stop(rt: &impl Print, stop: Stop) -> anyhow::Result<()> {
-    println!(rt; "{stop:?}")?;
-    Ok(())
+fn list_stop(rows: &mut Rows, stop: Stop) {
+    rows.debug(&stop);
+    rows.text("\n");
 }
 
-fn list_step(rt: &impl Print, step: Result<Step, Stop>) -> anyhow::Result<()> {
+fn list_step(rows: &mut Rows, step: Result<Step, Stop>) {
     match step {
-        Ok(step) => list_line(rt, step.touched),
-        Err(stop) => list_stop(rt, stop),
+        Ok(step) => list_line(rows, step.touched),
+        Err(stop) => list_stop(rows, stop),
     }
 }
 
 // How the second of two instructions stops over a memory without a controller.
-fn list_second(
-    rt: &(impl Print + AllocGlobal),
-    image: &Image,
-    first: u32,
-    second: u32,
-) -> anyhow::Result<()>
+fn list_second(rows: &mut Rows, image: &Image, first: u32, second: u32)
     requires { InFormat image.now }
 {
-    let bus = FlatBus::new(rt.alloc(), image)?;
-    list_step(rt, second_step(bus, first, second))
+    match FlatBus::new(rows.alloc(), image) {
+        Ok(bus) => list_step(rows, second_step(bus, first, second)),
+        Err(_) => rows.leave_out(),
+    }
 }
 
-fn list_each(
-    rt: &(impl Print + AllocGlobal),
-    image: &Image,
-    pairs: &[(u32, u32)],
-) -> anyhow::Result<()>
+fn list_each(rows: &mut Rows, image: &Image, pairs: &[(u32, u32)])
     requires { InFormat image.now }
 {
     for (first, second) in pairs {
-        list_second(rt, image, *first, *second)?;
+        list_second(rows, image, *first, *second);
     }
-    Ok(())
 }
 
 /// How the second of two instructions stops over a memory without a controller, for each of the pairs above.
-pub fn list_stops(rt: &(impl Print + AllocGlobal), image: &Image) -> anyhow::Result<()>
+pub fn list_stops(rows: &mut Rows, image: &Image)
     requires { InFormat image.now }
 {
-    list_each(rt, image, &PAIRS)
+    list_each(rows, image, &PAIRS)
 }
 
 // The line that the second of two instructions touches, which loads a byte of the controller.
-fn list_touched(rt: &(impl Print + AllocGlobal), image: &Image) -> anyhow::Result<()>
+fn list_touched(rows: &mut Rows, image: &Image)
     requires { InFormat image.now }
 {
-    let bus = SlothBus::new(rt.alloc(), image)?;
-    list_step(rt, second_step(bus, CONTROLLER, LOAD))
+    match SlothBus::new(rows.alloc(), image) {
+        Ok(bus) => list_step(rows, second_step(bus, CONTROLLER, LOAD)),
+        Err(_) => rows.leave_out(),
+    }
 }
 
 // Enables line 3 at level 2. The first instruction is one that enables interrupts.
@@ -123,50 +115,54 @@ fn enable<B: Bus>(bus: &mut B) {
     let _ = is_stored(bus, 0x8000_0480, Width::Word, ENABLE);
 }
 
-fn enabling(alloc: Global, image: &Image) -> Result<SlothBus, NoMemory>
-    requires { InFormat image.now }
-{
-    let mut bus = SlothBus::new(alloc, image)?;
-    enable(&mut bus);
-    Ok(bus)
-}
-
 // The address of the next instruction.
-fn list_address(rt: &impl Print, machine: &Machine<SlothBus>) -> anyhow::Result<()> {
-    row(
-        rt,
-        Piece::Text("next"),
-        &[Piece::Address(machine.next_pc())],
-    )
+fn list_address(rows: &mut Rows, machine: &Machine<SlothBus>) {
+    rows.row(Piece::Text("next"), &[Piece::Address(machine.next_pc())])
 }
 
 // How a step stops, or that it does not.
-fn list_next(rt: &impl Print, machine: &mut Machine<SlothBus>) -> anyhow::Result<()>
+fn list_next(rows: &mut Rows, machine: &mut Machine<SlothBus>)
     requires { machine.old.count < count_limit }
     ensures { machine.new.count ≤ machine.old.count + 1 }
 {
     match machine.step() {
-        Ok(_) => row(rt, Piece::Text("no stop"), &[]),
-        Err(stop) => list_stop(rt, stop),
+        Ok(_) => rows.line("no stop"),
+        Err(stop) => list_stop(rows, stop),
     }
 }
 
 // Three steps of a machine at which line 3 arrives, over that bus. No code stands at the line's vector.
-fn list_waiting(rt: &impl Print, machine: &mut Machine<SlothBus>) -> anyhow::Result<()>
+fn list_waiting(rows: &mut Rows, machine: &mut Machine<SlothBus>)
     requires { machine.old.count < 1000 }
 {
     machine.arrive(Line(3));
-    list_next(rt, machine)?;
-    list_next(rt, machine)?;
-    list_address(rt, &*machine)?;
-    list_next(rt, machine)
+    list_next(rows, machine);
+    list_next(rows, machine);
+    list_address(rows, &*machine);
+    list_next(rows, machine)
+}
+
+// The same of a machine over that bus.
+fn list_waiting_on(rows: &mut Rows, bus: SlothBus) {
+    let mut bus = bus;
+    enable(&mut bus);
+    let mut machine = Machine::new(bus);
+    list_waiting(rows, &mut machine)
+}
+
+fn list_vectors(rows: &mut Rows, image: &Image)
+    requires { InFormat image.now }
+{
+    match SlothBus::new(rows.alloc(), image) {
+        Ok(bus) => list_waiting_on(rows, bus),
+        Err(_) => rows.leave_out(),
+    }
 }
 
 /// What a controller adds: the line that an instruction touches, and stops at a vector where no code stands.
-pub fn list_controller_stops(rt: &(impl Print + AllocGlobal), image: &Image) -> anyhow::Result<()>
+pub fn list_controller_stops(rows: &mut Rows, image: &Image)
     requires { InFormat image.now }
 {
-    list_touched(rt, image)?;
-    let mut machine = Machine::new(enabling(rt.alloc(), image)?);
-    list_waiting(rt, &mut machine)
+    list_touched(rows, image);
+    list_vectors(rows, image)
 }

@@ -1,7 +1,9 @@
 //! A command that is run once for each moment of an arrival.
 use crate::commands::printed;
-use crate::repeats::number_before;
-use crate::texts::{Texts, refill};
+use crate::repeats::{number_before, push_number};
+use crate::rows::{Piece, Rows};
+use crate::texts::{Texts, add, add_text, append};
+use sloth_base::memory::NoMemory;
 use std::alloc::Global;
 
 // What is asked of the lines of all runs.
@@ -43,11 +45,10 @@ impl<'a> Question<'a> {
     }
 
     // Notes a line that was not seen before.
-    fn note(&mut self, alloc: Global, line: &str) -> anyhow::Result<()> {
+    fn note(&mut self, alloc: Global, line: &str) {
         if !self.seen.iter().any(|seen| seen.as_str() == line) {
-            self.seen.push(String::from_str(alloc, line)?)?;
+            add_text(alloc, &mut self.seen, line);
         }
-        Ok(())
     }
 
     // Whether the line of an event is asked for wherever it stands.
@@ -56,18 +57,17 @@ impl<'a> Question<'a> {
     }
 
     // Looks at the end of a run with so many lines that are asked for.
-    fn end(&mut self, alloc: Global, found: u32, last: &str) -> anyhow::Result<()> {
+    fn end(&mut self, alloc: Global, found: u32, last: &str) {
         if found == 1 {
             self.once = self.once.saturating_add(1);
         }
         if self.kind == Kind::Last && !last.is_empty() {
-            self.note(alloc, last)?;
+            self.note(alloc, last);
         }
-        Ok(())
     }
 
     // Looks at the events of a printed run, of which the last line is its status.
-    fn look(&mut self, alloc: Global, text: &str) -> anyhow::Result<()> {
+    fn look(&mut self, alloc: Global, text: &str) {
         let mut found: u32 = 0;
         let mut last = "";
         for line in text.lines() {
@@ -75,25 +75,32 @@ impl<'a> Question<'a> {
                 last = event;
                 if self.asks_for(event) {
                     found = found.saturating_add(1);
-                    self.note(alloc, event)?;
+                    self.note(alloc, event);
                 }
             }
         }
-        self.end(alloc, found, last)
+        self.end(alloc, found, last);
     }
 
     // Prints what was seen in so many runs.
-    fn print(&self, rt: &impl Print, runs: u32) -> anyhow::Result<()> {
+    fn print(&self, rows: &mut Rows, runs: u32) {
         for line in self.seen.iter() {
-            match self.kind {
-                Kind::Last => println!(rt; "last {line}")?,
-                _ => println!(rt; "{line}")?,
+            if self.kind == Kind::Last {
+                rows.text("last ");
             }
+            rows.line(line.as_str());
         }
         if self.kind == Kind::Once {
-            println!(rt; "once in {} of {runs} runs", self.once)?;
+            rows.row(
+                Piece::Text("once in"),
+                &[
+                    Piece::Number(self.once),
+                    Piece::Text("of"),
+                    Piece::Number(runs),
+                    Piece::Text("runs"),
+                ],
+            );
         }
-        Ok(())
     }
 }
 
@@ -112,17 +119,19 @@ fn moments(words: &str) -> Option<(u32, u32, &str)> {
 }
 
 // Puts one arrival of a task in the place of the arrivals.
-fn put_arrival(alloc: Global, moment: u32, task: &str, texts: &mut Texts) -> anyhow::Result<()> {
-    let arrival = format!(in alloc; "{moment} {task}\n")?;
-    refill(&mut texts.arr, arrival.as_bytes())
+fn put_arrival(alloc: Global, moment: u32, task: &str, arrivals: &mut Vec<u8>) {
+    arrivals.clear();
+    push_number(alloc, arrivals, moment);
+    append(arrivals, b" ");
+    append(arrivals, task.as_bytes());
+    append(arrivals, b"\n");
 }
 
 // Looks at a printed run for each question.
-fn look_all(alloc: Global, questions: &mut [Question], text: &str) -> anyhow::Result<()> {
+fn look_all(alloc: Global, questions: &mut [Question], text: &str) {
     for question in questions.iter_mut() {
-        question.look(alloc, text)?;
+        question.look(alloc, text);
     }
-    Ok(())
 }
 
 // Runs the command with one arrival of a task at a moment, and looks at its events for each question.
@@ -133,61 +142,78 @@ fn run_at(
     command: &str,
     texts: &mut Texts,
     questions: &mut [Question],
-) -> anyhow::Result<()> {
-    put_arrival(alloc, moment, task, texts)?;
+) -> Result<(), NoMemory> {
+    put_arrival(alloc, moment, task, &mut texts.arr);
     let text = printed(alloc, command, texts, &texts.img)?;
-    look_all(alloc, questions, &text)
-}
-
-// What words with ` / ` between them ask.
-fn questions<'a>(alloc: Global, words: &'a str) -> anyhow::Result<Vec<Question<'a>>> {
-    let mut questions = Vec::new(alloc);
-    for words in words.split(" / ") {
-        questions.push(Question::read(alloc, words))?;
-    }
-    Ok(questions)
-}
-
-// Prints what was seen in so many runs.
-fn print_all(rt: &impl Print, questions: &[Question], runs: u32) -> anyhow::Result<()> {
-    for question in questions {
-        question.print(rt, runs)?;
-    }
+    look_all(alloc, questions, text.as_str());
     Ok(())
 }
 
-// Runs the command for each of the moments, and prints what was asked.
+// What words with ` / ` between them ask.
+fn questions<'a>(alloc: Global, words: &'a str) -> Vec<Question<'a>> {
+    let mut questions = Vec::new(alloc);
+    for words in words.split(" / ") {
+        add(&mut questions, Question::read(alloc, words));
+    }
+    questions
+}
+
+// Prints what was seen in so many runs.
+fn print_all(rows: &mut Rows, questions: &[Question], runs: u32) {
+    for question in questions {
+        question.print(rows, runs);
+    }
+}
+
+// Runs the command for each of the moments, and gives how many they are.
 fn sweep(
-    rt: &(impl Print + AllocGlobal),
+    alloc: Global,
     words: &str,
     command: &str,
     texts: &mut Texts,
     questions: &mut [Question],
-) -> anyhow::Result<()> {
+) -> Result<u32, NoMemory> {
     let Some((first, last, task)) = moments(words) else {
-        return Ok(());
+        return Ok(0);
     };
     let mut runs: u32 = 0;
     for moment in first..=last {
-        run_at(rt.alloc(), moment, task, command, texts, questions)?;
+        run_at(alloc, moment, task, command, texts, questions)?;
         runs = runs.saturating_add(1);
     }
-    print_all(rt, &*questions, runs)
+    Ok(runs)
+}
+
+// Runs the command for each of the moments, and prints what was asked.
+fn sweep_all(
+    rows: &mut Rows,
+    words: &str,
+    command: &str,
+    texts: &mut Texts,
+    questions: Vec<Question>,
+) {
+    let mut questions = questions;
+    match sweep(
+        rows.alloc(),
+        words,
+        command,
+        texts,
+        questions.as_mut_slice(),
+    ) {
+        Ok(runs) => print_all(rows, questions.as_slice(), runs),
+        Err(_) => rows.leave_out(),
+    }
 }
 
 /// Runs a command once for each moment, with one arrival of a task then, and prints what was asked of the lines: behind words such as
 /// `1 400 High` stand the command and the questions, with ` / ` between them.
-pub fn run_sweep(
-    rt: &(impl Print + AllocGlobal),
-    asked: &str,
-    texts: &mut Texts,
-) -> anyhow::Result<()> {
+pub fn run_sweep(rows: &mut Rows, asked: &str, texts: &mut Texts) {
     let Some((words, rest)) = asked.split_once(" / ") else {
-        return Ok(());
+        return;
     };
     let Some((command, asked)) = rest.split_once(" / ") else {
-        return Ok(());
+        return;
     };
-    let mut questions = questions(rt.alloc(), asked)?;
-    sweep(rt, words, command, texts, questions.as_mut_slice())
+    let questions = questions(rows.alloc(), asked);
+    sweep_all(rows, words, command, texts, questions);
 }

@@ -1,5 +1,5 @@
 //! The listings of tokens and trees.
-use crate::rows::{Piece, row};
+use crate::rows::{Piece, Rows};
 use oil_lex::Token;
 use oil_parse::tree::{OilAttr, OilObject, OilTree, OilValue};
 
@@ -9,11 +9,13 @@ pub fn shown(bytes: &[u8]) -> &str {
 }
 
 /// Prints the line, the kind and the bytes of each token.
-pub fn list_tokens(rt: &impl Print, tokens: &[Token]) -> anyhow::Result<()> {
+pub fn list_tokens(rows: &mut Rows, tokens: &[Token]) {
     for token in tokens {
-        println!(rt; "{} {:?} {}", token.line, token.kind, shown(token.span))?;
+        rows.value(token.line);
+        rows.text(" ");
+        rows.debug(&token.kind);
+        rows.end(&[Piece::Bytes(token.span)]);
     }
-    Ok(())
 }
 
 fn shown_value(value: &OilValue) -> Piece<'_> {
@@ -24,9 +26,8 @@ fn shown_value(value: &OilValue) -> Piece<'_> {
     }
 }
 
-fn list_attr(rt: &impl Print, attr: &OilAttr) -> anyhow::Result<()> {
-    row(
-        rt,
+fn list_attr(rows: &mut Rows, attr: &OilAttr) {
+    rows.row(
         Piece::Number(attr.line),
         &[
             Piece::Number(attr.depth),
@@ -37,30 +38,27 @@ fn list_attr(rt: &impl Print, attr: &OilAttr) -> anyhow::Result<()> {
     )
 }
 
-fn list_attrs(rt: &impl Print, attrs: &[OilAttr]) -> anyhow::Result<()> {
+fn list_attrs(rows: &mut Rows, attrs: &[OilAttr]) {
     for attr in attrs {
-        list_attr(rt, attr)?;
+        list_attr(rows, attr);
     }
-    Ok(())
 }
 
-fn list_object(rt: &impl Print, object: &OilObject) -> anyhow::Result<()> {
-    row(
-        rt,
+fn list_object(rows: &mut Rows, object: &OilObject) {
+    rows.row(
         Piece::Number(object.line),
         &[
             Piece::Bytes(object.kind.bytes()),
             Piece::Bytes(object.name.bytes()),
         ],
-    )?;
-    list_attrs(rt, object.attrs.items())
+    );
+    list_attrs(rows, object.attrs.items())
 }
 
 /// Prints the line, kind and name of each object, and the line, depth, name and value of each of its attributes.
-pub fn list_tree(rt: &impl Print, tree: &OilTree) -> anyhow::Result<()> {
-    row(rt, Piece::Number(tree.cpu_line), &[Piece::Text("CPU")])?;
+pub fn list_tree(rows: &mut Rows, tree: &OilTree) {
+    rows.row(Piece::Number(tree.cpu_line), &[Piece::Text("CPU")]);
     for object in tree.objects.items() {
-        list_object(rt, object)?;
+        list_object(rows, object);
     }
-    Ok(())
 }

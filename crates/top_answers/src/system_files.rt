@@ -1,5 +1,5 @@
 //! Files of the system, and standard output.
-use crate::rows::{Piece, row};
+use crate::rows::{Piece, Rows};
 use sloth_io::file_store::FileStore;
 use sloth_io::mem_sink::MemSink;
 use sloth_io::out_sink::OutSink;
@@ -10,143 +10,153 @@ use std::fs::Permissions;
 use std::os::unix::fs::{PermissionsExt, symlink};
 use std::rt::Files;
 
-fn list_fault(rt: &impl Print, name: &str, fault: StoreFault) -> anyhow::Result<()> {
-    println!(rt; "{name} {fault:?}")?;
-    Ok(())
+fn list_fault(rows: &mut Rows, name: &str, fault: StoreFault) {
+    rows.text(name);
+    rows.text(" ");
+    rows.debug(&fault);
+    rows.text("\n");
 }
 
 // What is read of a file of at most this length, or why it is not read.
-fn list_read<R: Files + Print + AllocGlobal>(
-    rt: &R,
-    files: &mut FileStore<'_, R>,
-    name: &str,
-    limit: usize,
-) -> anyhow::Result<()> {
-    let mut bytes = Vec::new(rt.alloc());
+fn list_read<R: Files>(rows: &mut Rows, files: &mut FileStore<'_, R>, name: &str, limit: usize) {
+    let mut bytes = Vec::new(rows.alloc());
     match files.read(name, limit, &mut bytes) {
-        Ok(()) => row(rt, Piece::Text(name), &[Piece::Bytes(bytes.as_slice())]),
-        Err(fault) => list_fault(rt, name, fault),
+        Ok(()) => rows.row(Piece::Text(name), &[Piece::Bytes(bytes.as_slice())]),
+        Err(fault) => list_fault(rows, name, fault),
     }
 }
 
 // Whether a file is written.
-fn list_write<R: Files + Print>(
-    rt: &R,
-    files: &mut FileStore<'_, R>,
-    name: &str,
-) -> anyhow::Result<()> {
+fn list_write<R: Files>(rows: &mut Rows, files: &mut FileStore<'_, R>, name: &str) {
     let written = files.write(name, b"new").is_ok();
-    row(
-        rt,
+    rows.row(
         Piece::Text(name),
         &[Piece::Text("written"), Piece::Flag(written)],
-    )
+    );
 }
 
 // No call but a failed read is counted as one.
-fn list_count<R: Files + Print>(rt: &R, files: &FileStore<'_, R>) -> anyhow::Result<()> {
-    row(
-        rt,
+fn list_count<R: Files>(rows: &mut Rows, files: &FileStore<'_, R>) {
+    rows.row(
         Piece::Text("failed reads"),
         &[Piece::Sum(files.failed_reads())],
-    )
+    );
 }
 
 // A file that is not there, files that are written, and one that is too long and is not.
-fn list_files<R: Files + Print + AllocGlobal>(rt: &R) -> anyhow::Result<()> {
-    let mut files = FileStore::new(rt, rt.alloc());
-    list_read(rt, &mut files, "none", 9)?;
-    list_write(rt, &mut files, "made")?;
-    list_write(rt, &mut files, "no/folder")?;
-    list_read(rt, &mut files, "made", 2)?;
-    list_read(rt, &mut files, "made", 3)?;
-    list_count(rt, &files)
+fn list_files<R: Files>(rows: &mut Rows, files: &mut FileStore<'_, R>) {
+    list_read(rows, files, "none", 9);
+    list_write(rows, files, "made");
+    list_write(rows, files, "no/folder");
+    list_read(rows, files, "made", 2);
+    list_read(rows, files, "made", 3);
+    list_count(rows, &*files);
+}
+
+// The mode of a file.
+fn list_mode(rt: &impl Files, rows: &mut Rows, name: &str) {
+    if let Ok(found) = fs::metadata(rt, name) {
+        rows.row(
+            Piece::Text(name),
+            &[
+                Piece::Text("mode"),
+                Piece::Number(found.permissions().mode() & 0o777),
+            ],
+        );
+    }
 }
 
 // The mode of a file behind a write.
-fn list_mode<R: Files + Print>(
+fn list_kept_mode<R: Files>(
     rt: &R,
+    rows: &mut Rows,
     files: &mut FileStore<'_, R>,
     name: &str,
     mode: u32,
-) -> anyhow::Result<()> {
-    fs::set_permissions(rt, name, Permissions::from_mode(mode))?;
-    list_write(rt, files, name)?;
-    let mode = fs::metadata(rt, name)?.permissions().mode() & 0o777;
-    row(
-        rt,
-        Piece::Text(name),
-        &[Piece::Text("mode"), Piece::Number(mode)],
-    )
+) {
+    let _ = fs::set_permissions(rt, name, Permissions::from_mode(mode));
+    list_write(rows, files, name);
+    list_mode(rt, rows, name);
 }
 
 // A file is not written where one of the new one's name stands, and both stay as they are.
-fn list_standing<R: Files + Print + AllocGlobal>(
-    rt: &R,
-    files: &mut FileStore<'_, R>,
-) -> anyhow::Result<()> {
-    fs::write(rt, "old", b"old")?;
-    fs::write(rt, "old.new", b"mine")?;
-    list_write(rt, files, "old")?;
-    list_read(rt, files, "old", 9)?;
-    list_read(rt, files, "old.new", 9)
+fn list_standing<R: Files>(rt: &R, rows: &mut Rows, files: &mut FileStore<'_, R>) {
+    let _ = fs::write(rt, "old", b"old");
+    let _ = fs::write(rt, "old.new", b"mine");
+    list_write(rows, files, "old");
+    list_read(rows, files, "old", 9);
+    list_read(rows, files, "old.new", 9);
+}
+
+// Whether a link is one.
+fn list_is_link(rt: &impl Files, rows: &mut Rows, name: &str) {
+    if let Ok(found) = fs::symlink_metadata(rt, name) {
+        rows.row(
+            Piece::Text(name),
+            &[Piece::Text("stays"), Piece::Flag(found.is_symlink())],
+        );
+    }
 }
 
 // What a link leads to is written, and the link stays.
-fn list_link<R: Files + Print + AllocGlobal>(
-    rt: &R,
-    files: &mut FileStore<'_, R>,
-) -> anyhow::Result<()> {
-    symlink(rt, "linked", "link")?;
-    list_write(rt, files, "link")?;
-    list_read(rt, files, "linked", 9)?;
-    let stays = fs::symlink_metadata(rt, "link")?.is_symlink();
-    row(
-        rt,
-        Piece::Text("link"),
-        &[Piece::Text("stays"), Piece::Flag(stays)],
-    )
+fn list_link<R: Files>(rt: &R, rows: &mut Rows, files: &mut FileStore<'_, R>) {
+    let _ = symlink(rt, "linked", "link");
+    list_write(rows, files, "link");
+    list_read(rows, files, "linked", 9);
+    list_is_link(rt, rows, "link");
 }
 
 // Files that are replaced: their modes, what stands beside them, and links.
-fn list_replaced<R: Files + Print + AllocGlobal>(rt: &R) -> anyhow::Result<()> {
+fn list_replaced<R: Files>(rt: &R, rows: &mut Rows, files: &mut FileStore<'_, R>) {
+    list_kept_mode(rt, rows, files, "made", 0o640);
+    list_standing(rt, rows, files);
+    list_link(rt, rows, files);
+}
+
+fn list_store(rt: &(impl Files + AllocGlobal), rows: &mut Rows) {
     let mut files = FileStore::new(rt, rt.alloc());
-    list_mode(rt, &mut files, "made", 0o640)?;
-    list_standing(rt, &mut files)?;
-    list_link(rt, &mut files)
+    list_files(rows, &mut files);
+    list_replaced(rt, rows, &mut files);
 }
 
 // A line on standard output, which is held back until it is handed on.
-fn list_line(rt: &(impl Files + Print)) -> anyhow::Result<()> {
+fn list_line(rt: &impl Print, rows: &mut Rows) {
     let mut out = OutSink::new(rt);
     let put = out.put(b"a line\n").is_ok();
     let flushed = out.flush().is_ok();
-    row(
-        rt,
+    rows.row(
         Piece::Text("put"),
         &[
             Piece::Flag(put),
             Piece::Text("flushed"),
             Piece::Flag(flushed),
         ],
-    )
+    );
 }
 
 // A line that an output in memory takes.
-fn list_taken(rt: &(impl Print + AllocGlobal)) -> anyhow::Result<()> {
-    let mut out = MemSink::new(rt.alloc(), 100, &[])?;
+fn list_taken_by(rows: &mut Rows, out: MemSink) {
+    let mut out = out;
     let put = out.put(b"line\n").is_ok();
-    row(
-        rt,
+    rows.row(
         Piece::Text("put"),
         &[Piece::Flag(put), Piece::Count(out.taken().len())],
-    )
+    );
 }
 
-/// Files that are read and written, and lines that outputs take.
-pub fn list_outside(rt: &(impl Files + Print + AllocGlobal)) -> anyhow::Result<()> {
-    list_files(rt)?;
-    list_replaced(rt)?;
-    list_line(rt)?;
-    list_taken(rt)
+fn list_taken(rows: &mut Rows) {
+    match MemSink::new(rows.alloc(), 100, &[]) {
+        Ok(out) => list_taken_by(rows, out),
+        Err(_) => rows.leave_out(),
+    }
+}
+
+/// Prints files that are read and written, and lines that outputs take.
+pub fn list_outside(rt: &(impl Files + Print + AllocGlobal)) {
+    let mut rows = Rows::new(rt.alloc());
+    list_store(rt, &mut rows);
+    rows.print(rt);
+    list_line(rt, &mut rows);
+    list_taken(&mut rows);
+    rows.print(rt);
 }

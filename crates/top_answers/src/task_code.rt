@@ -1,7 +1,7 @@
 //! The listing of task code.
 ghost use Rattle.code_rules.specs.AppRange.{IsTaskCode};
 
-use crate::rows::{Piece, numbers, row};
+use crate::rows::{Piece, Rows};
 use crate::syntax::shown;
 use rv32_expand::sizes;
 use sloth_base::app::{App, Func, Item, Label, Symbol};
@@ -28,10 +28,9 @@ fn bytes_of(symbols: &[Symbol]) -> usize {
     bytes
 }
 
-fn list_bodies(rt: &impl Print, funcs: &[Func]) -> anyhow::Result<()> {
+fn list_bodies(rows: &mut Rows, funcs: &[Func]) {
     let (items, labels) = items_and_labels(funcs);
-    row(
-        rt,
+    rows.row(
         Piece::Text("bodies"),
         &[
             Piece::Count(funcs.len()),
@@ -43,9 +42,8 @@ fn list_bodies(rt: &impl Print, funcs: &[Func]) -> anyhow::Result<()> {
     )
 }
 
-fn list_symbols(rt: &impl Print, symbols: &[Symbol]) -> anyhow::Result<()> {
-    row(
-        rt,
+fn list_symbols(rows: &mut Rows, symbols: &[Symbol]) {
+    rows.row(
         Piece::Text("symbols"),
         &[
             Piece::Count(symbols.len()),
@@ -56,21 +54,19 @@ fn list_symbols(rt: &impl Print, symbols: &[Symbol]) -> anyhow::Result<()> {
 }
 
 /// Prints how many bodies, items, labels, symbols and bytes there are.
-pub fn list_counts(rt: &impl Print, app: &App) -> anyhow::Result<()> {
-    list_bodies(rt, app.funcs.items())?;
-    list_symbols(rt, app.symbols.items())
+pub fn list_counts(rows: &mut Rows, app: &App) {
+    list_bodies(rows, app.funcs.items());
+    list_symbols(rows, app.symbols.items())
 }
 
-fn list_held(rt: &impl Print, resources: &[ResId]) -> anyhow::Result<()> {
+fn list_held(rows: &mut Rows, resources: &[ResId]) {
     for resource in resources {
-        row(rt, Piece::Text("holds"), &[Piece::Number(resource.0)])?;
+        rows.row(Piece::Text("holds"), &[Piece::Number(resource.0)]);
     }
-    Ok(())
 }
 
-fn list_label(rt: &impl Print, label: &Label) -> anyhow::Result<()> {
-    row(
-        rt,
+fn list_label(rows: &mut Rows, label: &Label) {
+    rows.row(
         Piece::Text("label"),
         &[
             Piece::Bytes(label.name.bytes()),
@@ -79,27 +75,27 @@ fn list_label(rt: &impl Print, label: &Label) -> anyhow::Result<()> {
             Piece::Text("item"),
             Piece::Number(label.item),
         ],
-    )?;
-    list_held(rt, label.holds.items())
+    );
+    list_held(rows, label.holds.items())
 }
 
-fn list_labels(rt: &impl Print, labels: &[Label]) -> anyhow::Result<()> {
+fn list_labels(rows: &mut Rows, labels: &[Label]) {
     for label in labels {
-        list_label(rt, label)?;
+        list_label(rows, label);
     }
-    Ok(())
 }
 
-fn list_items(rt: &impl Print, items: &[Item]) -> anyhow::Result<()> {
+fn list_items(rows: &mut Rows, items: &[Item]) {
     for item in items {
-        println!(rt; "{} {:?}", item.line, item.op)?;
+        rows.value(item.line);
+        rows.text(" ");
+        rows.debug(&item.op);
+        rows.text("\n");
     }
-    Ok(())
 }
 
-fn list_head(rt: &impl Print, func: &Func) -> anyhow::Result<()> {
-    row(
-        rt,
+fn list_head(rows: &mut Rows, func: &Func) {
+    rows.row(
         Piece::Text("body"),
         &[
             Piece::Bytes(func.name.bytes()),
@@ -108,64 +104,65 @@ fn list_head(rt: &impl Print, func: &Func) -> anyhow::Result<()> {
             Piece::Text("frame"),
             Piece::Number(func.frame_words),
         ],
-    )?;
-    match func.task {
-        Some(task) => numbers(rt, "of task", &[task.0]),
-        None => Ok(()),
+    );
+    if let Some(task) = func.task {
+        rows.numbers("of task", &[task.0]);
     }
 }
 
-fn list_func(rt: &impl Print, func: &Func) -> anyhow::Result<()> {
-    list_head(rt, func)?;
-    list_items(rt, func.items.items())?;
-    list_labels(rt, func.labels.items())
+fn list_func(rows: &mut Rows, func: &Func) {
+    list_head(rows, func);
+    list_items(rows, func.items.items());
+    list_labels(rows, func.labels.items())
 }
 
-fn list_bytes(rt: &impl Print, symbols: &[Symbol]) -> anyhow::Result<()> {
+fn list_bytes(rows: &mut Rows, symbols: &[Symbol]) {
     for symbol in symbols {
-        let name = shown(symbol.name.bytes());
-        println!(rt; "symbol {name} {:?}", symbol.bytes.items())?;
+        rows.text("symbol ");
+        rows.text(shown(symbol.name.bytes()));
+        rows.text(" ");
+        rows.debug(&symbol.bytes.items());
+        rows.text("\n");
     }
-    Ok(())
 }
 
-fn list_funcs(rt: &impl Print, funcs: &[Func]) -> anyhow::Result<()> {
+fn list_funcs(rows: &mut Rows, funcs: &[Func]) {
     for func in funcs {
-        list_func(rt, func)?;
+        list_func(rows, func);
     }
-    Ok(())
 }
 
 /// Prints the symbols with their bytes, and the bodies with their items and labels.
-pub fn list_app(rt: &impl Print, app: &App) -> anyhow::Result<()> {
-    list_bytes(rt, app.symbols.items())?;
-    list_funcs(rt, app.funcs.items())
+pub fn list_app(rows: &mut Rows, app: &App) {
+    list_bytes(rows, app.symbols.items());
+    list_funcs(rows, app.funcs.items())
 }
 
-fn list_lengths(rt: &impl Print, sizes: &[u32]) -> anyhow::Result<()> {
+fn list_lengths(rows: &mut Rows, sizes: &[u32]) {
     let mut all: u64 = 0;
     for size in sizes {
         all = all.saturating_add(u64::from(*size));
     }
     let first = sizes.first().copied().unwrap_or(0);
-    row(
-        rt,
+    rows.row(
         Piece::Text("first"),
         &[Piece::Number(first), Piece::Text("all"), Piece::Sum(all)],
     )
 }
 
 /// Prints the number of instructions of the first item, and of all items.
-pub fn list_sizes(rt: &(impl Print + AllocGlobal), app: &App) -> anyhow::Result<()>
+pub fn list_sizes(rows: &mut Rows, app: &App)
     requires { IsTaskCode app.now }
 {
-    let sizes = sizes(rt.alloc(), app)?;
-    list_lengths(rt, &sizes)
+    match sizes(rows.alloc(), app) {
+        Ok(sizes) => list_lengths(rows, &sizes),
+        Err(_) => rows.leave_out(),
+    }
 }
 
 /// Prints the bytes of each task, the offset of its part in its stack, and the bytes of the shared stack.
-pub fn list_stacks(rt: &impl Print, bounds: &Bounds, offsets: &[u32]) -> anyhow::Result<()> {
-    numbers(rt, "bytes", bounds.bytes.items())?;
-    numbers(rt, "offsets", offsets)?;
-    numbers(rt, "shared", &[bounds.shared])
+pub fn list_stacks(rows: &mut Rows, bounds: &Bounds, offsets: &[u32]) {
+    rows.numbers("bytes", bounds.bytes.items());
+    rows.numbers("offsets", offsets);
+    rows.numbers("shared", &[bounds.shared])
 }

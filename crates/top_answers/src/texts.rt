@@ -14,11 +14,27 @@ pub struct Texts {
     pub lines: Vec<u8>,
 }
 
+/// Appends bytes. What memory is wanting for is missing where the output is compared, here and below.
+pub fn append(text: &mut Vec<u8>, bytes: &[u8]) {
+    let _ = text.extend_from_slice(bytes);
+}
+
+/// Adds a thing to a list.
+pub fn add<T: Drop>(list: &mut Vec<T>, thing: T) {
+    let _ = list.push(thing);
+}
+
+/// Adds a copy of a text to a list.
+pub fn add_text(alloc: Global, list: &mut Vec<String>, text: &str) {
+    if let Ok(text) = String::from_str(alloc, text) {
+        add(list, text);
+    }
+}
+
 /// Puts bytes in the place of those of a text.
-pub fn refill(text: &mut Vec<u8>, bytes: &[u8]) -> anyhow::Result<()> {
+pub fn refill(text: &mut Vec<u8>, bytes: &[u8]) {
     text.clear();
-    text.extend_from_slice(bytes)?;
-    Ok(())
+    append(text, bytes);
 }
 
 impl Texts {
@@ -34,32 +50,29 @@ impl Texts {
     }
 
     /// Puts the lines in the place of the file of this name, if there is one.
-    pub fn replace(&mut self, name: &str) -> anyhow::Result<bool> {
-        let put = match name {
+    pub fn replace(&mut self, name: &str) -> bool {
+        match name {
             "oil" => refill(&mut self.oil, &self.lines),
             "src" => refill(&mut self.src, &self.lines),
             "arr" => refill(&mut self.arr, &self.lines),
             "img" => refill(&mut self.img, &self.lines),
-            _ => return Ok(false),
-        };
-        put?;
-        Ok(true)
+            _ => return false,
+        }
+        true
     }
 
     /// Puts a line feed behind each text.
-    pub fn lengthen(&mut self) -> anyhow::Result<()> {
-        self.oil.push(b'\n')?;
-        self.src.push(b'\n')?;
-        self.arr.push(b'\n')?;
-        Ok(())
+    pub fn lengthen(&mut self) {
+        append(&mut self.oil, b"\n");
+        append(&mut self.src, b"\n");
+        append(&mut self.arr, b"\n");
     }
 
     // Takes a line out of the image file, by its number from 1.
-    fn drop_line(&mut self, alloc: Global, number: &str) -> anyhow::Result<()> {
+    fn drop_line(&mut self, alloc: Global, number: &str) {
         if let Ok(number) = number.parse::<usize>() {
-            self.img = without_line(alloc, &self.img, number)?;
+            self.img = without_line(alloc, &self.img, number);
         }
-        Ok(())
     }
 
     // The place in the image file that a number names; behind `-` it counts back from the end.
@@ -93,31 +106,27 @@ impl Texts {
     }
 
     // Writes bytes over those of the image file from a place on, and behind the last byte appends them.
-    fn put(&mut self, at: usize, bytes: &[u8]) -> anyhow::Result<()> {
+    fn put(&mut self, at: usize, bytes: &[u8]) {
         if at == self.img.len() {
-            self.img.extend_from_slice(bytes)?;
+            append(&mut self.img, bytes);
         } else {
             self.write(at, bytes);
         }
-        Ok(())
     }
 
     // Writes the bytes of these hexadecimal digits.
-    fn put_digits(&mut self, alloc: Global, place: &str, digits: &str) -> anyhow::Result<()> {
-        let Some(at) = self.place(place) else {
-            return Ok(());
-        };
-        match hex::decode(alloc, digits) {
-            Ok(bytes) => self.put(at, &bytes),
-            Err(_) => Ok(()),
+    fn put_digits(&mut self, alloc: Global, at: usize, digits: &str) {
+        if let Ok(bytes) = hex::decode(alloc, digits) {
+            self.put(at, &bytes);
         }
     }
 
     // Changes the image file: `AT HEX` writes these bytes over those from a place on, and behind the last byte appends them.
-    fn change(&mut self, alloc: Global, words: &str) -> anyhow::Result<()> {
-        match words.split_once(' ') {
-            Some((place, digits)) => self.put_digits(alloc, place, digits),
-            None => Ok(()),
+    fn change(&mut self, alloc: Global, words: &str) {
+        if let Some((place, digits)) = words.split_once(' ') {
+            if let Some(at) = self.place(place) {
+                self.put_digits(alloc, at, digits);
+            }
         }
     }
 
@@ -142,36 +151,35 @@ impl Texts {
     }
 
     /// Changes the image file, if that is what this word asks for.
-    pub fn alter(&mut self, alloc: Global, word: &str, rest: &str) -> anyhow::Result<bool> {
+    pub fn alter(&mut self, alloc: Global, word: &str, rest: &str) -> bool {
         match word {
             "image" => self.make(alloc, rest),
-            "change" => self.change(alloc, rest)?,
+            "change" => self.change(alloc, rest),
             "exchange" => self.exchange(rest),
-            "drop" => self.drop_line(alloc, rest)?,
+            "drop" => self.drop_line(alloc, rest),
             "shorten" => {
                 self.img.pop();
             }
-            _ => return Ok(false),
+            _ => return false,
         }
-        Ok(true)
+        true
     }
 }
 
 /// Appends a line with its line feed.
-pub fn push_line(text: &mut Vec<u8>, line: &[u8]) -> anyhow::Result<()> {
-    text.extend_from_slice(line)?;
-    text.push(b'\n')?;
-    Ok(())
+pub fn push_line(text: &mut Vec<u8>, line: &[u8]) {
+    append(text, line);
+    append(text, b"\n");
 }
 
 // The lines without the one of this number, from 1.
-fn without_line(alloc: Global, text: &[u8], number: usize) -> anyhow::Result<Vec<u8>> {
+fn without_line(alloc: Global, text: &[u8], number: usize) -> Vec<u8> {
     let mut kept = Vec::new(alloc);
     for (i, line) in text.split(|byte| *byte == b'\n').enumerate() {
         if Some(i) != number.checked_sub(1) {
-            push_line(&mut kept, line)?;
+            push_line(&mut kept, line);
         }
     }
     kept.pop();
-    Ok(kept)
+    kept
 }

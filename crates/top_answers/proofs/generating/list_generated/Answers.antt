@@ -4,7 +4,7 @@ use Rattle.image_gen.proofs.Planning.{may_generate}
 use Rattle.top_answers.proofs.generating.list_generated.Goals as goal
 
 pub list_planned-requires : goal.list_planned-requires
-list_planned-requires g c =
+list_planned-requires c =
     let long : length c.assign-levels.result.task ≡ task_limit = search rules in
-    may_generate c.args.config.now c.args.app.now c.args.bounds.now c.requires c.assign-levels.result c.in_ok-map.map c.assign-levels.ensures.levels long
-    c.assign-levels.ensures.within c.in_ok-map.ensures
+    may_generate c.args.config.now c.args.app.now c.args.bounds.now c.requires c.assign-levels.result c.in-Ok.map c.assign-levels.ensures.levels long
+    c.assign-levels.ensures.within c.in-Ok.ensures

@@ -3,7 +3,7 @@ use Rattle.observe.specs.Progress.{expected_count, remaining}
 use Rattle.top_answers.proofs.observed.drain.Given as goal
 
 abbrev pub invariant-loop-event : goal.invariant-loop-event
-invariant-loop-event g l = expected_count l.observer ≡ expected_count l.fn.observer
+invariant-loop-event l = expected_count l.observer ≡ expected_count l.fn.observer
 
 abbrev pub decreases-loop-event : goal.decreases-loop-event
-decreases-loop-event g l = length (remaining l.observer)
+decreases-loop-event l = length (remaining l.observer)

@@ -3,4 +3,4 @@ use Rattle.observe.specs.Progress.{expected_count, remaining}
 use Rattle.top_answers.proofs.observed.feed_all.Given as goal
 
 abbrev pub invariant-loop-count : goal.invariant-loop-count
-invariant-loop-count g l = record { expected : expected_count l.observer ≡ l.count; drained : remaining l.observer ≡ [] }
+invariant-loop-count l = record { expected : expected_count l.observer ≡ l.count; drained : remaining l.observer ≡ [] }

@@ -3,8 +3,8 @@ use Rattle.std.specs.Prelude.{ltb, set, replicate}
 use Rattle.std.proofs.lemmas.Bool.{ltb-true, cases_lt}
 use Rattle.std.proofs.lemmas.List.{get_or_past}
 use Rattle.sloth_base.specs.Limits.{task_limit}
-use Rattle.rv32_words.proofs.Every.{every_at}
-use Rattle.rv32_words.proofs.kernel.levels.Goals as goal
+use Rattle.top_answers.proofs.Every.{every_at}
+use Rattle.top_answers.proofs.kernel.levels.Goals as goal
 
 pub returns : goal.returns
 returns c =

@@ -1,5 +1,5 @@
 //! The listing of instructions.
-
+use crate::rows::{Piece, Rows};
 use rv32_instr::{InstrKind, decode, encode};
 use sloth_base::numbers::Reg;
 
@@ -111,39 +111,33 @@ fn fields(kind: &InstrKind) -> [i64; 3] {
     }
 }
 
-// Prints fields.
-fn list_fields(rt: &impl Print, fields: [i64; 3]) -> anyhow::Result<()> {
-    let [first, second, third] = fields;
-    println!(rt; "{first} {second} {third}")?;
-    Ok(())
-}
-
 // Prints a word, and the word, the mnemonic and the fields of the instruction that it is.
-fn list_instr(rt: &impl Print, word: u32, again: u32, kind: &InstrKind) -> anyhow::Result<()> {
-    print!(rt; "{word:08x} {again:08x} {} ", mnemonic(kind))?;
-    list_fields(rt, fields(kind))
+fn list_instr(rows: &mut Rows, word: u32, again: u32, kind: &InstrKind) {
+    let [first, second, third] = fields(kind);
+    rows.row(
+        Piece::Address(word),
+        &[
+            Piece::Address(again),
+            Piece::Text(mnemonic(kind)),
+            Piece::Signed(first),
+            Piece::Signed(second),
+            Piece::Signed(third),
+        ],
+    );
 }
 
-fn list_word(rt: &impl Print, word: u32) -> anyhow::Result<()> {
+fn list_word(rows: &mut Rows, word: u32) {
     match decode(word) {
-        Some(instr) => list_instr(rt, word, encode(instr), &instr.kind()),
-        None => {
-            println!(rt; "{word:08x} none")?;
-            Ok(())
+        Some(instr) => list_instr(rows, word, encode(instr), &instr.kind()),
+        None => rows.row(Piece::Address(word), &[Piece::Text("none")]),
+    }
+}
+
+/// Prints the instruction of each word of a text, which has a word on each line in hexadecimal.
+pub fn list_instructions(rows: &mut Rows, text: &str) {
+    for line in text.lines() {
+        if let Ok(word) = u32::from_str_radix(line, 16) {
+            list_word(rows, word);
         }
     }
-}
-
-// Prints the instruction of a word in hexadecimal.
-fn list_line(rt: &impl Print, line: &str) -> anyhow::Result<()> {
-    let word = u32::from_str_radix(line, 16)?;
-    list_word(rt, word)
-}
-
-/// Prints the instruction of each word on the input, which has a word on each line in hexadecimal.
-pub fn list_instructions(rt: &(impl Input + Print + AllocGlobal)) -> anyhow::Result<()> {
-    for line in rt.lines(rt.alloc()) {
-        list_line(rt, line?.as_str())?;
-    }
-    Ok(())
 }

@@ -2,8 +2,8 @@ use Rattle.std.proofs.Common.{◌%◌, get_or, refl}
 use Rattle.std.specs.Prelude.{ltb, leb, eqb, set, replicate}
 use Rattle.std.proofs.lemmas.Bool.{ltb-true, leb-true, eqb-true}
 use Rattle.sloth_base.specs.MemoryMap.{boot_base}
-use Rattle.rv32_words.proofs.Every.{every_at}
-use Rattle.rv32_words.proofs.kernel.map.Goals as goal
+use Rattle.top_answers.proofs.Every.{every_at}
+use Rattle.top_answers.proofs.kernel.map.Goals as goal
 
 pub returns-clause-reach : goal.returns-clause-reach
 returns-clause-reach c =
