@@ -23,7 +23,6 @@ pub enum Kind {
 }
 
 /// The names that a source may use, each kind in the order of its numbers.
-#[derive(Drop)]
 pub struct Scope<'t> {
     pub tasks: Names<'t>,
     pub resources: Names<'t>,
@@ -34,6 +33,22 @@ pub struct Scope<'t> {
     pub functions: Names<'t>,
     /// The functions that are no task's body.
     pub called: Names<'t>,
+}
+
+// Written out: what is derived is proved anew wherever a value is let go.
+impl Drop for Scope<'_> {
+    fn drop(self) {
+        let Scope {
+            tasks: _,
+            resources: _,
+            events: _,
+            alarms: _,
+            has_scheduler: _,
+            symbols: _,
+            functions: _,
+            called: _,
+        } = self;
+    }
 }
 
 // What an operand that names the object of a service names.
