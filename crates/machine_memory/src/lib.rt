@@ -1,8 +1,9 @@
 //! The memory of the machine: RAM and the controller's bytes, as loads and stores see them; and where the vector word of each interrupt line stands.
 //!
-//! Each load and store is that of the definition, and refused exactly where that refuses it; the line that is chosen is the greatest that may be
-//! taken (`Bus`, `SlothBus`); the address of a line's vector word (`vector`). The memory as the machine starts: `specs/Fresh`; how the code has lines
-//! and places: `specs/Choice`, `specs/Place`; decoded words that are kept: `specs/CodeRam`. Loads and stores: `rv32_instr` (`Memory`, `Ram`); lines: `sloth_base` (`Lines`, `Choose`, `Take`).
+//! Each load and store is that of the definition, and refused exactly where that refuses it, and a fetch gives the instruction of the word there; the
+//! line that is chosen is the greatest that may be taken (`Bus`, `SlothBus`); the address of a line's vector word (`vector`). The memory as the machine
+//! starts: `specs/Fresh`; how the code has lines and places: `specs/Choice`, `specs/Place`; instructions that are kept: `specs/CodeRam`. Loads and
+//! stores: `rv32_instr` (`Memory`, `Ram`); lines: `sloth_base` (`Lines`, `Choose`, `Take`).
 #![tactic(auto)]
 
 pub mod bus;
