@@ -2,7 +2,7 @@
 ghost use Rattle.dwarf_sections.specs.LineMachine.{OneMatrix, ProgramHasRows};
 ghost use Rattle.dwarf_sections.specs.EntryTree.{InfoHasCode};
 
-/// The program of rows makes exactly them on the standard's machine, and one end; bytes make one matrix at most.
+/// The program of rows whose addresses and lines do not fall makes exactly them on the standard's machine, and one end; bytes make one matrix at most.
 pub fn lines_are_rows()
     ensures makes { ProgramHasRows }
     ensures one { OneMatrix }

@@ -1,9 +1,10 @@
 //! What debuggers read of task code: source lines, data, bodies, labels and frames, as DWARF 4 has them.
 //!
 //! Each section is exactly the bytes of its definition (`line_section`, `abbreviation_section`, `info_section`; `specs/LineSection`,
-//! `specs/Abbreviations`, `specs/Entries`). On the standard's machine of lines the program makes exactly the rows (`lines_are_rows`, `specs/LineRows`,
-//! `specs/LineMachine`), and the entries read by the table of kinds (`entries_show_code`, `specs/EntryTree`, `specs/EntryBytes`). Rules of
-//! frames: `put_common_entry`, `put_frame_entry`, `body_rules`, `specs/FrameEntries`, `specs/BodyFrames`. Fields: `specs/Fields`.
+//! `specs/Abbreviations`, `specs/Entries`). On the standard's machine of lines the program of rows whose addresses and lines do not fall
+//! makes exactly them (`lines_are_rows`, `specs/LineRows`, `specs/LineMachine`), and the entries read by the table of kinds (`entries_show_code`,
+//! `specs/EntryTree`, `specs/EntryBytes`). Rules of frames: `put_common_entry`, `put_frame_entry`, `body_rules`, `specs/FrameEntries`,
+//! `specs/BodyFrames`. Fields: `specs/Fields`.
 #![tactic(auto)]
 
 pub mod abbreviations;

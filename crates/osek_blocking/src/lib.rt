@@ -9,7 +9,7 @@
 //!
 //! Admits and due counters aside one event at most comes next, the tick where a counter is due, and there is one run of each length at most; a run in
 //! time without arrivals is the only one of its length (`one_next_event`, `one_run`, `runs_without_arrivals`; `specs/NextEvents`). Runs and steps:
-//! `osek_scheduler` (`Runs`, `Steps`); `Apart`.
+//! `osek_scheduler` (`Runs`, `Steps`); priorities: `Apart` there.
 #![tactic(auto)]
 
 pub mod laws;

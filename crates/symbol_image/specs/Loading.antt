@@ -38,7 +38,7 @@ abbrev pub LoadedOnce : Type 0
 LoadedOnce = (parts : FileParts) → MayShow parts → (one other address a b : ℕ) → Loads (symbol_file parts) one address a
     → Loads (symbol_file parts) other address b → one ≡ other
 
--- and nothing else is loaded
+-- and no other byte of the file is loaded
 abbrev pub NothingElseIsLoaded : Type 0
 NothingElseIsLoaded = (parts : FileParts) → MayShow parts → (number address byte : ℕ) → Loads (symbol_file parts) number address byte
     → (memory_base ≤ address) × (address < memory_base + length parts.memory)

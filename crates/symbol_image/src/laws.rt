@@ -2,14 +2,14 @@
 ghost use Rattle.symbol_image.specs.Loading.{LoadedOnce, MemoryIsLoaded, NothingElseIsLoaded};
 ghost use Rattle.symbol_image.specs.Reading.{SymbolsReadBack};
 
-/// Each byte of an image's memory is loaded to its address, by one segment alone, and nothing else is loaded.
+/// Each byte of an image's memory is loaded to its address, by one segment alone, and no other byte of the file is loaded.
 pub fn memory_is_loaded_once()
     ensures loaded { MemoryIsLoaded }
     ensures once { LoadedOnce }
     ensures no_more { NothingElseIsLoaded }
 {}
 
-/// Each symbol reads back with its name, its address, its size and its kind, in the section that has its address.
+/// Each symbol reads back from its tables with its name, its address, its size and its kind, in the section that has its address.
 pub fn symbols_read_back()
     ensures { SymbolsReadBack }
 {}

@@ -1,11 +1,11 @@
 //! The file of an image that debuggers read: an ELF file with sections, symbols and source lines.
 //!
 //! `symbol_file` gives exactly the file of the definition (`specs/SymbolFile`) of what texts mean, their map and the image's memory
-//! (`specs/FileParts`). Its segments load each byte of the memory once, at its address, and nothing else (`memory_is_loaded_once`, `specs/Loading`);
-//! each symbol reads back with its name, address, size and kind (`symbols_read_back`, `specs/Reading`). Which symbols there are: `specs/Symbols`;
-//! their tables: `specs/SymbolTable`; sections one behind the other: `specs/Layout`; headers of the file and of segments: `specs/Headers`; where
-//! the zones of an image end: `specs/Borders`; frames: `specs/Frames`; the lines of data: `data_lines`, `specs/DataLines`. Source lines and entries:
-//! `dwarf_sections`; pieces of an image: `map_text` (`Rows`).
+//! (`specs/FileParts`). Its segments load each byte of the memory once, at its address, and no other byte of the file (`memory_is_loaded_once`,
+//! `specs/Loading`); each symbol reads back from its tables with its name, address, size and kind (`symbols_read_back`, `specs/Reading`). Which
+//! symbols there are: `specs/Symbols`; their tables: `specs/SymbolTable`; sections one behind the other: `specs/Layout`; headers of the file and of
+//! segments: `specs/Headers`; where the zones of an image end: `specs/Borders`; frames: `specs/Frames`; the lines of data: `data_lines`,
+//! `specs/DataLines`. Source lines and entries: `dwarf_sections`; pieces of an image: `map_text` (`Rows`).
 #![tactic(auto)]
 
 pub mod borders;
