@@ -1,5 +1,5 @@
 //! The abstract scheduler: the task model, the services, events, resources and the priority ceiling protocol, counters and alarms of OSEK OS 2.2.3,
-//! with no levels, interrupt lines, contexts or addresses. Definitions, which stand in `specs/`, and the law that the next state can be computed.
+//! with no levels, interrupt lines, contexts or addresses. Definitions, which stand in `specs/`, their laws, and what every step keeps.
 //!
 //! States and priorities: `specs/State`, `specs/Priority`; what items and services mean: `specs/Meaning`, `specs/Services`; a service's outcome is a
 //! plan and then its changes: `specs/Outcomes`, `specs/Changes`; steps and runs: `specs/Steps`, `specs/Runs`; where arrivals stand: `specs/InTime`. A
