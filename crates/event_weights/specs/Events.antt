@@ -1,4 +1,4 @@
--- How many counts the stretch of an event takes at most, by the event and the state that it finds. No stretch that a run of a built image ends takes
+-- How many counts the stretch of an event takes at most, by the event and the state that it finds. No run of a built image has a stretch that takes
 -- more. The longest path (`code_lengths`, LongestPaths) is less in three cases: of ChainTask where its caller goes on, 13, or chains itself, 54, and
 -- of the prologue of an extended task with less than two frame words.
 use Rattle.std.specs.Prelude.{ℕ, Bool, true, false, max, List, [], ◌∷◌}
