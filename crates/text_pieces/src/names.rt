@@ -10,10 +10,19 @@ use std::alloc::{AllocError, Global};
 use std::marker::Model;
 
 /// Names in order, each found by its bytes. Contracts see the list of the names.
-#[derive(Drop)]
 pub struct Names<'t> {
     list: Vec<&'t [u8]>,
     first: IndexMap<&'t [u8], usize>,
+}
+
+// Written out: what is derived is proved anew wherever a value is let go.
+impl Drop for Names<'_> {
+    fn drop(self) {
+        let Names {
+            list: _,
+            first: _,
+        } = self;
+    }
 }
 
 impl<'t> Model for Names<'t> {
