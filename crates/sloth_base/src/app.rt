@@ -174,8 +174,17 @@ pub struct Symbol {
 }
 
 /// All task code.
-#[derive(Drop)]
 pub struct App {
     pub funcs: List<Func>,
     pub symbols: List<Symbol>,
+}
+
+// Written out: what is derived is proved anew wherever a value is let go.
+impl Drop for App {
+    fn drop(self) {
+        let App {
+            funcs: _,
+            symbols: _,
+        } = self;
+    }
 }

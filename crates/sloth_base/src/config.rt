@@ -62,7 +62,6 @@ pub struct AlarmDecl {
 }
 
 /// A configuration.
-#[derive(Drop)]
 pub struct Config {
     /// The tasks, in the order of their numbers.
     pub tasks: List<TaskDecl>,
@@ -75,4 +74,18 @@ pub struct Config {
     pub counters: List<CounterDecl>,
     /// The alarms, in the order of their numbers.
     pub alarms: List<AlarmDecl>,
+}
+
+// Written out: what is derived is proved anew wherever a value is let go.
+impl Drop for Config {
+    fn drop(self) {
+        let Config {
+            tasks: _,
+            resources: _,
+            events: _,
+            res_scheduler: _,
+            counters: _,
+            alarms: _,
+        } = self;
+    }
 }
