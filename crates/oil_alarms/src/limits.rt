@@ -20,11 +20,21 @@ const WIDEST: Limits = Limits {
 };
 
 /// The counters among some objects, found by their names, and their limits.
-#[derive(Drop)]
 pub struct CounterLimits<'t> {
     objects: &'t [OilObject],
     names: Names<'t>,
     limits: Vec<Limits>,
+}
+
+// Written out: what is derived is proved anew wherever a value is let go.
+impl Drop for CounterLimits<'_> {
+    fn drop(self) {
+        let CounterLimits {
+            objects: _,
+            names: _,
+            limits: _,
+        } = self;
+    }
 }
 
 impl<'t> Model for CounterLimits<'t> {

@@ -18,11 +18,21 @@ use std::marker::Model;
 use text_pieces::names::Names;
 
 /// The tasks among some objects, found by their names, and the events that they list, each with the number of its task.
-#[derive(Drop)]
 pub struct TaskEvents<'t> {
     objects: &'t [OilObject],
     names: Names<'t>,
     listed: IndexSet<(usize, &'t [u8])>,
+}
+
+// Written out: what is derived is proved anew wherever a value is let go.
+impl Drop for TaskEvents<'_> {
+    fn drop(self) {
+        let TaskEvents {
+            objects: _,
+            names: _,
+            listed: _,
+        } = self;
+    }
 }
 
 impl<'t> Model for TaskEvents<'t> {
@@ -90,9 +100,9 @@ impl<'t> TaskEvents<'t> {
         ensures { IfOk result (λ tasks. tasks ≡ objects.now) }
     {
         let TaskEvents {
+            objects: _,
             names,
             mut listed,
-            ..
         } = self;
         if !is_of_kind(object, b"TASK") {
             return Ok(TaskEvents {

@@ -1,7 +1,7 @@
 //! The objects before one, and what of them bears on it.
-ghost use Rattle.std.specs.Prelude.{◌≡◌, ◌+◌, ◌<◌, ◌||◌, ◌==◌, ℕ, [], ◌∷◌, ◌++◌, if◌then◌else◌, IfOk, OnOk, codes, count_by};
+ghost use Rattle.std.specs.Prelude.{◌≡◌, ◌+◌, ◌<◌, ◌&&◌, ◌||◌, ◌==◌, ℕ, List, [], ◌∷◌, ◌++◌, if◌then◌else◌, IfOk, OnOk, bytes_eq, codes, count_by};
 ghost use Rattle.std.specs.List.{list_any};
-ghost use Rattle.oil_table.specs.Objects.{is_declared, is_of_kind};
+ghost use Rattle.oil_table.specs.Objects.{is_declaration, is_declared, is_of_kind};
 ghost use Rattle.oil_rules.specs.TaskFaults.{has_priority};
 ghost use Rattle.oil_rules.specs.Fronts.{priority_of};
 
@@ -14,7 +14,6 @@ use std::alloc::Global;
 use std::marker::Model;
 
 /// The objects before one: their kinds and names, the priorities of the tasks, and how many there are of a kind.
-#[derive(Drop)]
 pub struct Front<'t> {
     objects: &'t [OilObject],
     names: IndexSet<(&'t [u8], &'t [u8])>,
@@ -25,6 +24,23 @@ pub struct Front<'t> {
     counters: usize,
     alarms: usize,
     has_os: bool,
+}
+
+// Written out: what is derived is proved anew wherever a value is let go.
+impl Drop for Front<'_> {
+    fn drop(self) {
+        let Front {
+            objects: _,
+            names: _,
+            priorities: _,
+            tasks: _,
+            resources: _,
+            events: _,
+            counters: _,
+            alarms: _,
+            has_os: _,
+        } = self;
+    }
 }
 
 impl<'t> Model for Front<'t> {
@@ -68,6 +84,7 @@ impl<'t> Front<'t> {
         ensures { IfOk result (λ front. front ≡ objects.now) }
     {
         let Front {
+            objects: _,
             mut names,
             mut priorities,
             tasks,
@@ -76,10 +93,8 @@ impl<'t> Front<'t> {
             counters,
             alarms,
             has_os,
-            ..
         } = self;
-        insert(&mut names, (object.kind.bytes(), object.name.bytes()))?;
-        add_priority(&mut priorities, object)?;
+        add(&mut names, &mut priorities, object)?;
         Ok(Front {
             objects,
             names,
@@ -191,6 +206,17 @@ fn priority_of(object: &OilObject) -> Option<u32>
     }
 }
 
+/// The kind and the name of the object, if no other has them.
+fn add_name<'t>(
+    names: &mut IndexSet<(&'t [u8], &'t [u8])>,
+    object: &'t OilObject,
+) -> Result<(), NoMemory>
+    ensures { OnOk result ((kind name : List ℕ) → list_any (λ k. bytes_eq k.0.now kind && bytes_eq k.1.now name) names.new.keys
+        ≡ (list_any (λ k. bytes_eq k.0.now kind && bytes_eq k.1.now name) names.old.keys || is_declaration kind name object.now)) }
+{
+    insert(names, (object.kind.bytes(), object.name.bytes()))
+}
+
 fn add_priority(priorities: &mut IndexSet<u32>, object: &OilObject) -> Result<(), NoMemory>
     ensures { OnOk result ((priority : ℕ) → list_any (λ given. given == priority) priorities.new.keys
         ≡ (list_any (λ given. given == priority) priorities.old.keys || has_priority priority object.now)) }
@@ -200,4 +226,19 @@ fn add_priority(priorities: &mut IndexSet<u32>, object: &OilObject) -> Result<()
     };
     insert(priorities, priority)?;
     Ok(())
+}
+
+/// What is kept of the object in both sets.
+fn add<'t>(
+    names: &mut IndexSet<(&'t [u8], &'t [u8])>,
+    priorities: &mut IndexSet<u32>,
+    object: &'t OilObject,
+) -> Result<(), NoMemory>
+    ensures names { OnOk result ((kind name : List ℕ) → list_any (λ k. bytes_eq k.0.now kind && bytes_eq k.1.now name) names.new.keys
+        ≡ (list_any (λ k. bytes_eq k.0.now kind && bytes_eq k.1.now name) names.old.keys || is_declaration kind name object.now)) }
+    ensures priorities { OnOk result ((priority : ℕ) → list_any (λ given. given == priority) priorities.new.keys
+        ≡ (list_any (λ given. given == priority) priorities.old.keys || has_priority priority object.now)) }
+{
+    add_name(names, object)?;
+    add_priority(priorities, object)
 }
