@@ -37,11 +37,21 @@ use thiserror::Error;
 pub struct NotARun;
 
 /// The abstract scheduler of a configuration and its task code. Contracts see these and the system as it stands.
-#[derive(Drop)]
 pub struct Osek {
     config: Config,
     app: App,
     store: Store,
+}
+
+// Written out: what is derived is proved anew wherever a value is let go.
+impl Drop for Osek {
+    fn drop(self) {
+        let Osek {
+            config: _,
+            app: _,
+            store: _,
+        } = self;
+    }
 }
 
 impl Model for Osek {

@@ -7,10 +7,19 @@ use sloth_base::config::Config;
 use std::marker::Model;
 
 /// Well-formed task code with its configuration.
-#[derive(Drop)]
 pub struct Verified {
     config: Config,
     app: App,
+}
+
+// Written out: what is derived is proved anew wherever a value is let go.
+impl Drop for Verified {
+    fn drop(self) {
+        let Verified {
+            config: _,
+            app: _,
+        } = self;
+    }
 }
 
 impl Model for Verified {

@@ -19,7 +19,6 @@ use std::alloc::Global;
 use std::marker::Model;
 
 /// The arrivals of a run, and what is kept of its events to tell whether they are admitted in time.
-#[derive(Drop)]
 pub struct Timing<'a> {
     config: &'a Config,
     n: u32,
@@ -31,6 +30,21 @@ pub struct Timing<'a> {
     most: u32,
     // An event stands where none may.
     stopped: bool,
+}
+
+// Written out: what is derived is proved anew wherever a value is let go.
+impl Drop for Timing<'_> {
+    fn drop(self) {
+        let Timing {
+            config: _,
+            n: _,
+            arrivals: _,
+            pass: _,
+            admits: _,
+            most: _,
+            stopped: _,
+        } = self;
+    }
 }
 
 impl<'a> Model for Timing<'a> {
