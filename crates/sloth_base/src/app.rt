@@ -6,7 +6,7 @@ use crate::numbers::{FuncId, Reg, ResId, SymId, TaskId};
 use crate::service::Service;
 
 /// An operation on two registers.
-#[derive(Clone, Copy, Debug)]
+#[derive(Clone, Copy)]
 pub enum AluKind {
     Add,
     Sub,
@@ -21,7 +21,7 @@ pub enum AluKind {
 }
 
 /// An operation on a register and a number.
-#[derive(Clone, Copy, Debug)]
+#[derive(Clone, Copy)]
 pub enum ImmKind {
     Addi,
     Slti,
@@ -35,7 +35,7 @@ pub enum ImmKind {
 }
 
 /// A test of two registers.
-#[derive(Clone, Copy, Debug)]
+#[derive(Clone, Copy)]
 pub enum BranchKind {
     Beq,
     Bne,
@@ -46,7 +46,7 @@ pub enum BranchKind {
 }
 
 /// The width of an access, and for a load whether it extends the sign: `lb`, `lh`, `lw`, `lbu`, `lhu`.
-#[derive(Clone, Copy, Debug)]
+#[derive(Clone, Copy)]
 pub enum Width {
     Byte,
     Half,
@@ -56,7 +56,7 @@ pub enum Width {
 }
 
 /// A service with its operands: the task, resource or alarm, or 0; the mask of the events, or 0.
-#[derive(Clone, Copy, Debug)]
+#[derive(Clone, Copy)]
 pub struct Call {
     pub service: Service,
     pub object: u32,
@@ -64,7 +64,7 @@ pub struct Call {
 }
 
 /// What an item does.
-#[derive(Clone, Copy, Debug)]
+#[derive(Clone, Copy)]
 pub enum Op {
     Alu {
         kind: AluKind,

@@ -18,7 +18,7 @@ pub struct Stamp {
 }
 
 /// What is observed. A task or counter number of 4,294,967,295 is that of none.
-#[derive(Clone, Copy, Debug, PartialEq, Eq)]
+#[derive(Clone, Copy, PartialEq, Eq)]
 pub enum Event {
     Boot,
     Admit(u32),

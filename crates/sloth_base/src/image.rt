@@ -4,7 +4,7 @@ use crate::list::List;
 use crate::name::Name;
 
 /// What a mark says of the instruction at its address.
-#[derive(Clone, Copy, Debug)]
+#[derive(Clone, Copy)]
 pub enum MarkKind {
     /// It completes an item: `a` is the register of the result, `b` the function, `c` the item.
     Item,

@@ -4,7 +4,7 @@ use crate::limits::RESOURCE_LIMIT;
 use std::marker::Model;
 
 /// A task: its place among the TASK objects of the configuration, from 0. Its interrupt line has the same number.
-#[derive(Clone, Copy, Debug)]
+#[derive(Clone, Copy)]
 pub struct TaskId(pub u32);
 
 impl Model for TaskId {
@@ -21,7 +21,7 @@ impl Model for TaskId {
 pub const RES_SCHEDULER: u32 = RESOURCE_LIMIT as u32;
 
 /// A resource: its place among the RESOURCE objects of the configuration, from 0, or `RES_SCHEDULER`.
-#[derive(Clone, Copy, Debug, PartialEq, Eq)]
+#[derive(Clone, Copy, PartialEq, Eq)]
 pub struct ResId(pub u32);
 
 impl Model for ResId {
@@ -35,7 +35,7 @@ impl Model for ResId {
 }
 
 /// A function of the task code: its place among the bodies, from 0.
-#[derive(Clone, Copy, Debug)]
+#[derive(Clone, Copy)]
 pub struct FuncId(pub u32);
 
 impl Model for FuncId {
@@ -49,7 +49,7 @@ impl Model for FuncId {
 }
 
 /// A named piece of data of the task code: its place among the `data` statements, from 0.
-#[derive(Clone, Copy, Debug)]
+#[derive(Clone, Copy)]
 pub struct SymId(pub u32);
 
 impl Model for SymId {
@@ -77,7 +77,7 @@ impl Model for Line {
 }
 
 /// A register, x0 to x31.
-#[derive(Clone, Copy, Debug)]
+#[derive(Clone, Copy)]
 pub struct Reg(pub u8);
 
 impl Model for Reg {

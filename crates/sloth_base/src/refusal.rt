@@ -15,7 +15,7 @@ pub enum Part {
 
 /// The rule that is broken. The letter names the stage: O the configuration, A the task code, V the verifier, T the arrivals,
 /// L the load.
-#[derive(Clone, Copy, Debug)]
+#[derive(Clone, Copy)]
 pub enum Code {
     O1,
     O2,

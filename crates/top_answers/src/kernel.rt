@@ -9,6 +9,7 @@ ghost use Rattle.sloth_base.specs.ConfigRange.{InRange};
 ghost use Rattle.sloth_base.specs.Limits.{frame_limit, level_count};
 ghost use Rattle.vector_gen.specs.Vectors.{AreInReach};
 
+use crate::plain_values::mark_name;
 use crate::repeats::number_before;
 use crate::rows::{Piece, Rows};
 use prologue_gen::prologue;
@@ -148,7 +149,7 @@ fn list_marks(rows: &mut Rows, marks: &[Mark]) {
         rows.text("mark ");
         rows.address(mark.address);
         rows.text(" ");
-        rows.debug(&mark.kind);
+        rows.text(mark_name(&mark.kind));
         rows.end(&[
             Piece::Number(mark.a.into()),
             Piece::Number(mark.b.into()),

@@ -47,6 +47,7 @@ mod kernel;
 mod loads;
 mod machine;
 mod observed;
+mod plain_values;
 mod readers;
 mod regions;
 mod repeats;

@@ -3,6 +3,7 @@ ghost use Rattle.std.specs.Prelude.{◌≡◌, ◌<◌, ◌^◌, [], length};
 ghost use Rattle.sloth_base.specs.ImageRange.{InFormat};
 ghost use Rattle.observe.specs.Progress.{expected_count, remaining};
 
+use crate::plain_values::put_event;
 use crate::rows::Rows;
 use observe::Observer;
 use sloth_base::event::{Arrival, Stamped};
@@ -111,7 +112,7 @@ fn list_event(rows: &mut Rows, event: &Stamped) {
     rows.text(" ");
     rows.value(event.stamp.at);
     rows.text(" ");
-    rows.debug(&event.event);
+    put_event(rows, &event.event);
     rows.text("\n");
 }
 

@@ -9,6 +9,7 @@ use crate::configuration::list_config;
 use crate::generated::list_sample;
 use crate::kernel::list_kernel;
 use crate::loads::list_load;
+use crate::plain_values::code_name;
 use crate::rows::Rows;
 use crate::syntax::{list_tokens, list_tree};
 use crate::task_code::{list_app, list_counts, list_sizes, list_stacks};
@@ -64,7 +65,7 @@ fn list_refusal(rows: &mut Rows, refusal: &Refusal) {
     rows.text("refused ");
     rows.value(refusal.line);
     rows.text(" ");
-    rows.debug(&refusal.code);
+    rows.text(code_name(&refusal.code));
     rows.text("\n");
 }
 

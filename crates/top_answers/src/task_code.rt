@@ -1,6 +1,7 @@
 //! The listing of task code.
 ghost use Rattle.code_rules.specs.AppRange.{IsTaskCode};
 
+use crate::plain_values::put_op;
 use crate::rows::{Piece, Rows};
 use crate::syntax::shown;
 use rv32_expand::sizes;
@@ -89,7 +90,7 @@ fn list_items(rows: &mut Rows, items: &[Item]) {
     for item in items {
         rows.value(item.line);
         rows.text(" ");
-        rows.debug(&item.op);
+        put_op(rows, &item.op);
         rows.text("\n");
     }
 }
