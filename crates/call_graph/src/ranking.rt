@@ -3,7 +3,6 @@
 use sloth_base::list::List;
 
 /// What the calls of task code reach, function by function.
-#[derive(Drop)]
 pub struct Ranks {
     /// A rank above that of every function that it calls.
     pub rank: List<u32>,
@@ -13,4 +12,16 @@ pub struct Ranks {
     pub pauses: List<bool>,
     /// The tasks that reach it, as bits.
     pub users: List<u32>,
+}
+
+// Written out: what is derived is proved anew wherever a value is let go.
+impl Drop for Ranks {
+    fn drop(self) {
+        let Ranks {
+            rank: _,
+            resources: _,
+            pauses: _,
+            users: _,
+        } = self;
+    }
 }

@@ -26,10 +26,16 @@ pub struct Sample {
 }
 
 /// A run of an image, taken count by count. It keeps the image and the arrivals, lent, and no sample but the last one's tasks.
-#[derive(Drop)]
 pub struct Sampler<'a> {
     pub(crate) runner: Runner<'a>,
     pub(crate) last: Option<Seen>,
+}
+
+// Written out: what is derived is proved anew wherever a value is let go.
+impl Drop for Sampler<'_> {
+    fn drop(self) {
+        let Sampler { runner: _, last: _ } = self;
+    }
 }
 
 impl<'a> Sampler<'a> {

@@ -6,7 +6,6 @@ use sloth_base::memory_map::LINE_COUNT;
 use sloth_base::places::Places;
 
 /// The map of an image. The vector words stand at the base of the vectors, and boot at the base of boot.
-#[derive(Drop)]
 pub struct Map {
     /// All extents, in the order in which they were placed.
     pub extents: List<Extent>,
@@ -22,4 +21,19 @@ pub struct Map {
     pub idle: u32,
     /// For each line the address of the routine to which its vector word jumps: `idle` where the line has none.
     pub handlers: [u32; LINE_COUNT],
+}
+
+// Written out: what is derived is proved anew wherever a value is let go.
+impl Drop for Map {
+    fn drop(self) {
+        let Map {
+            extents: _,
+            places: _,
+            stacks: _,
+            tops: _,
+            words: _,
+            idle: _,
+            handlers: _,
+        } = self;
+    }
 }

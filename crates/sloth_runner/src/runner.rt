@@ -95,7 +95,6 @@ impl<'a> Printer<'a> {
 }
 
 /// An image in its run. It keeps the image and the arrivals, lent.
-#[derive(Drop)]
 pub struct Runner<'a> {
     pub(crate) image: &'a Image,
     pub(crate) machine: Machine<SlothBus>,
@@ -104,6 +103,19 @@ pub struct Runner<'a> {
     pub(crate) coming: &'a [Arrival],
     // The record of the last instruction.
     pub(crate) shown: Step,
+}
+
+// Written out: what is derived is proved anew wherever a value is let go.
+impl Drop for Runner<'_> {
+    fn drop(self) {
+        let Runner {
+            image: _,
+            machine: _,
+            observer: _,
+            coming: _,
+            shown: _,
+        } = self;
+    }
 }
 
 impl<'a> Runner<'a> {
