@@ -2,4 +2,3 @@ pub mod Command
 pub mod Words
 pub mod LastLine
 pub mod Tools
-pub mod StopLine

@@ -4,9 +4,9 @@ ghost use Rattle.trace_text.specs.declared.printing.Form.{Form as AnyForm};
 ghost use Rattle.command_line.specs.Command.{Command, Execution, Executes, IsCommand, NoCommand, ToolAtMost, word_of, words_of};
 ghost use Rattle.command_line.specs.Words.{command_of, execution_of};
 
-use crate::number::{instructions, number};
 use crate::tool::ToolWords;
 use crate::tool_words::tool_command;
+use line_words::number::{instructions, number};
 use trace_text::printing::Form;
 
 /// How an image is run.

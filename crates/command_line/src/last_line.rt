@@ -2,7 +2,6 @@
 ghost use Rattle.std.specs.Prelude.{◌≡◌, ◌≤◌, length};
 ghost use Rattle.command_line.specs.LastLine.{part_text, code_text, refusal_line, built_line, fault_text, no_image_line};
 
-pub use crate::stop_line::stopped_line;
 use image_file::fault::ImageFault;
 use itoa::Buffer;
 use sloth_base::refusal::{Code, Part, Refusal};

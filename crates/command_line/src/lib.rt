@@ -1,15 +1,12 @@
 //! The program's words, and the lines that say why a command ended.
 //!
 //! Exactly the command that the words are, if they are one, and they are one at most (`command`, `one_command`); each line that says why a command
-//! ended (the last lines). What words are a command: `specs/Command`, a row for each tool in `specs/Tools`, `specs/Words`, `specs/LastLine`. Numbers:
-//! exactly the one that a word is, if it is one up to a limit, and those in the line of a run that stopped (`number`, `number_below`, `instructions`,
-//! `stopped_line`; `specs/StopLine`). Stops: `rv32_instr` (`Execute`).
+//! ended (the last lines). What words are a command: `specs/Command`, a row for each tool in `specs/Tools`, `specs/Words`, `specs/LastLine`. Numbers,
+//! and the line of a run that stopped: `line_words` (`number`, `stop_line`).
 #![tactic(auto)]
 
 pub mod command;
 pub mod counts;
 pub mod last_line;
-pub mod number;
-pub mod stop_line;
 pub mod tool;
 mod tool_words;

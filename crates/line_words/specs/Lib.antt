@@ -1,3 +1,4 @@
 pub mod EventNumbers
 pub mod EventWords
 pub mod MarkWords
+pub mod StopLine

@@ -16,8 +16,8 @@ ghost use Rattle.sloth_commands.specs.Failures.{IsReadFailure, IsOutputFailure, 
 use crate::failure::Failure;
 use crate::inputs::fetch;
 use command_line::last_line::{no_image_line, refusal_line};
-use command_line::stop_line::stopped_line;
 use command_line::tool::ToolWords;
+use line_words::stop_line::stopped_line;
 use sloth_base::list::List;
 use sloth_io::sink::{Sink, SinkFault};
 use sloth_io::store::Store;

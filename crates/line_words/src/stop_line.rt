@@ -1,10 +1,10 @@
 //! The line of a run that stopped.
 ghost use Rattle.std.specs.Prelude.{◌≡◌, ◌+◌, ◌≤◌, ◌++◌, length};
 ghost use Rattle.line_words.specs.MarkWords.{word_text};
-ghost use Rattle.command_line.specs.StopLine.{cause_text, stopped_line};
+ghost use Rattle.line_words.specs.StopLine.{cause_text, stopped_line};
 
+use crate::line_text::LineText;
 use rv32_instr::Stop;
-use trace_text::line_text::LineText;
 
 // Appends a cause that has a number.
 fn push_numbered(line: &mut LineText, cause: &[u8], number: u32)

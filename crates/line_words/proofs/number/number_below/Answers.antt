@@ -1,6 +1,6 @@
 use Rattle.std.proofs.Common.{◌≡◌, ◌∙◌, sym, arith}
 use Rattle.std.proofs.lemmas.Fmt.{decimal_injective}
-use Rattle.command_line.proofs.number.number_below.Goals as goal
+use Rattle.line_words.proofs.number.number_below.Goals as goal
 
 pub returns-then-n-limit-clause-none : goal.returns-then-n-limit-clause-none
 returns-then-n-limit-clause-none c n le e =
