@@ -1,5 +1,5 @@
-//! The states of tasks, as the memory and the interrupt controller of the machine show them: exactly the definition (`specs/States`). Service words:
-//! `sloth_region` (`Layout`); memory: `rv32_instr` (`Memory`).
+//! The states of tasks, as the memory and the interrupt controller of the machine show them: exactly the definition (`specs/States`); and
+//! the number of each state (`specs/StateNumbers`). Service words: `sloth_region` (`Layout`); memory: `rv32_instr` (`Memory`).
 #![tactic(auto)]
 
 ghost use Rattle.std.specs.Prelude.{◌≡◌, ◌≤◌, ◌<◌, ◌+◌, ◌%◌};
@@ -7,6 +7,8 @@ ghost use Rattle.sloth_base.specs.Limits.{task_limit};
 ghost use Rattle.sloth_base.specs.MemoryMap.{memory_bytes};
 ghost use Rattle.rv32_instr.specs.Ram.{word_at};
 ghost use Rattle.sloth_inspect.specs.States.{state_in, states_in, running_number_in, pending_lines_in, levels_in};
+
+pub mod state_numbers;
 
 use osek_scheduler::state::TaskState;
 use rv32_machine::{Bus, SlothBus};

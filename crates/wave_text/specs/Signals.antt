@@ -1,11 +1,11 @@
 -- The signals of waves, and their values: a number, or none where the value is unknown.
 use Rattle.std.specs.Prelude.{ℕ, ◌≡◌, ◌<◌, ◌+◌, ◌==◌, Bool, false, cond, Option, Some, None, get_or}
 use Rattle.std.specs.Option.{option_map}
-use Rattle.osek_scheduler.specs.declared.state.TaskState.{TaskState}
 use Rattle.osek_scheduler.specs.declared.state.TaskState.TheVariants as mode
 use Rattle.run_samples.specs.declared.sampling.Sample.{Sample}
 use Rattle.sloth_base.specs.declared.lines.Owners.{Owners}
 use Rattle.sloth_base.specs.Limits.{task_limit, counter_limit}
+use Rattle.sloth_inspect.specs.StateNumbers.{state_number}
 use Rattle.sloth_runner.specs.declared.machine_states.Seen.{Seen}
 use Rattle.wave_text.specs.declared.signals.Scope.{Scope}
 use Rattle.wave_text.specs.declared.signals.Scope.TheVariants as scope
@@ -51,13 +51,6 @@ most_signals scope.Counters = counter_limit
 -- 1 for true, 0 for false
 abbrev pub bit : Bool → ℕ
 bit b = cond b 1 0
-
--- the number of a task's state
-abbrev pub state_number : TaskState → ℕ
-state_number mode.Suspended = 0
-state_number mode.Ready = 1
-state_number mode.Active = 2
-state_number (mode.Waiting mask) = 3
 
 -- the number of a task's state, where the tasks were seen
 abbrev pub state_value : Option Seen → ℕ → Option ℕ

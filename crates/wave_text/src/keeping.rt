@@ -2,12 +2,14 @@
 ghost use Rattle.std.specs.Prelude.{ℕ, ◌≡◌, ◌<◌, ◌≤◌, IsTrue, false, get_or};
 ghost use Rattle.sloth_base.specs.Limits.{task_limit, counter_limit};
 ghost use Rattle.osek_scheduler.specs.declared.state.TaskState.TheVariants as mode;
-ghost use Rattle.wave_text.specs.Signals.{KeepValues, most_signals, state_number, state_value, running_value, value_in};
+ghost use Rattle.sloth_inspect.specs.StateNumbers.{state_number};
+ghost use Rattle.wave_text.specs.Signals.{KeepValues, most_signals, state_value, running_value, value_in};
 
-use crate::signals::{Scope, state_number};
+use crate::signals::Scope;
 use osek_scheduler::state::TaskState;
 use run_samples::Sample;
 use sloth_base::limits::{COUNTER_LIMIT, TASK_LIMIT};
+use sloth_inspect::state_numbers::state_number;
 use sloth_runner::task_states::Seen;
 
 // Whether the states of the tasks have the same numbers.

@@ -1,9 +1,9 @@
 //! The signals of waves, and their values.
 ghost use Rattle.std.specs.Prelude.{◌≡◌, ◌<◌};
-ghost use Rattle.wave_text.specs.Signals.{first_code, width_of, most_signals, value_in, value_of, level_value, masked_value, state_number};
+ghost use Rattle.wave_text.specs.Signals.{first_code, width_of, most_signals, value_in, value_of, level_value, masked_value};
 
-use osek_scheduler::state::TaskState;
 use run_samples::Sample;
+use sloth_inspect::state_numbers::state_number;
 
 /// How many binary digits a signal has.
 #[derive(Clone, Copy)]
@@ -51,18 +51,6 @@ pub fn width_of(scope: Scope) -> Width
         Scope::Runs => Width::One,
         Scope::Pending => Width::One,
         Scope::Counters => Width::One,
-    }
-}
-
-/// The number of a task's state.
-pub fn state_number(state: TaskState) -> u8
-    ensures { result ≡ state_number state }
-{
-    match state {
-        TaskState::Suspended => 0,
-        TaskState::Ready => 1,
-        TaskState::Active => 2,
-        TaskState::Waiting(_) => 3,
     }
 }
 

@@ -1,6 +1,6 @@
 use Rattle.std.proofs.Common.{◌≡◌, ◌<◌, ℕ, get_or}
 use Rattle.osek_scheduler.specs.declared.state.TaskState.TheVariants as mode
-use Rattle.wave_text.specs.Signals.{state_number}
+use Rattle.sloth_inspect.specs.StateNumbers.{state_number}
 use Rattle.wave_text.proofs.keeping.same_states.Given as goal
 
 abbrev pub invariant-loop-task : goal.invariant-loop-task
