@@ -3,3 +3,4 @@ pub mod Arrivals
 pub mod Bars
 pub mod Scale
 pub mod Strips
+pub mod TaskLooks

@@ -1,18 +1,11 @@
 -- What a lane of a picture shows at a count.
 use Rattle.std.specs.Prelude.{ℕ, ◌+◌, ◌==◌, ◌||◌, is_some, Bool, cond, if◌then◌else◌, List, [], false, get_or, Option, Some, None}
-use Rattle.osek_scheduler.specs.declared.state.TaskState.{TaskState}
 use Rattle.osek_scheduler.specs.declared.state.TaskState.TheVariants as mode
 use Rattle.sloth_runner.specs.declared.machine_states.Seen.{Seen}
 use Rattle.run_samples.specs.declared.sampling.Sample.{Sample}
 use Rattle.lane_drawing.specs.declared.bars.Look.{Look}
 use Rattle.lane_drawing.specs.declared.bars.Look.TheVariants as look
-
--- an Active task runs, or is preempted; a Suspended one is not shown
-abbrev pub task_look : TaskState → (runs : Bool) → Option Look
-task_look mode.Suspended runs = None
-task_look mode.Ready runs = Some look.Ready
-task_look mode.Active runs = Some (cond runs look.Runs look.Preempted)
-task_look (mode.Waiting mask) runs = Some look.Waiting
+use Rattle.lane_drawing.specs.TaskLooks.{task_look}
 
 -- a task as it was seen; the running task is told by its number and 1 more
 abbrev pub state_look : Option Seen → ℕ → Option Look

@@ -1,23 +1,12 @@
 //! What a lane shows at a count.
 ghost use Rattle.std.specs.Prelude.{◌≡◌, ◌≤◌};
 ghost use Rattle.sloth_base.specs.Limits.{task_limit};
-ghost use Rattle.schedule_picture.specs.LaneLooks.{task_look, is_kernel, state_look, lane_look};
+ghost use Rattle.schedule_picture.specs.LaneLooks.{is_kernel, state_look, lane_look};
 
 use lane_drawing::Look;
-use osek_scheduler::state::TaskState;
+use lane_drawing::task_looks::task_look;
 use run_samples::Sample;
 use sloth_runner::task_states::Seen;
-
-fn task_look(state: TaskState, runs: bool) -> Option<Look>
-    ensures { result ≡ task_look state runs }
-{
-    match state {
-        TaskState::Suspended => None,
-        TaskState::Ready => Some(Look::Ready),
-        TaskState::Active => Some(if runs { Look::Runs } else { Look::Preempted }),
-        TaskState::Waiting(_) => Some(Look::Waiting),
-    }
-}
 
 fn state_look(seen: &Option<Seen>, task: usize) -> Option<Look>
     requires { task ≤ 29 }
