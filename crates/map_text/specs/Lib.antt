@@ -1,6 +1,2 @@
 pub mod ExactRows
-pub mod Listable
 pub mod MapText
-pub mod Rows
-pub mod PieceRows
-pub mod Totals

@@ -17,13 +17,13 @@ use Rattle.code_rules.specs.WellFormed.{WellFormed}
 use Rattle.stack_bounds.specs.Bounds.{AreBounds, bytes_of}
 use Rattle.mem_map.specs.Planned.{IsPlanned}
 use Rattle.sloth_source.specs.Texts.{AreAccepted}
-use Rattle.map_text.specs.Rows.{map_rows, sum_of}
-use Rattle.map_text.specs.Totals.{all_parts, filled_rows, part_sum}
-use Rattle.map_text.specs.declared.totals.Part.{Part}
-use Rattle.map_text.specs.declared.totals.Part.TheVariants as part
-use Rattle.map_text.specs.declared.piece_rows.Kind.{Kind}
-use Rattle.map_text.specs.declared.piece_rows.Kind.TheVariants as kind
-use Rattle.map_text.specs.declared.piece_rows.Row.{Row}
+use Rattle.map_rows.specs.Rows.{map_rows, sum_of}
+use Rattle.map_rows.specs.Totals.{all_parts, filled_rows, part_sum}
+use Rattle.map_rows.specs.declared.totals.Part.{Part}
+use Rattle.map_rows.specs.declared.totals.Part.TheVariants as part
+use Rattle.map_rows.specs.declared.piece_rows.Kind.{Kind}
+use Rattle.map_rows.specs.declared.piece_rows.Kind.TheVariants as kind
+use Rattle.map_rows.specs.declared.piece_rows.Row.{Row}
 
 -- ---- what stands in a row
 

@@ -4,9 +4,9 @@ ghost use Rattle.sloth_base.specs.Blocks.{block_object, block_service};
 ghost use Rattle.sloth_base.specs.Named.{alarm_declaration, counter_declaration, declaration, function, no_symbol};
 ghost use Rattle.map_text.specs.MapText.{behind_part, need_line, object_text, part_text, piece_text, resource_name, row_line, service_text, sum_line, total_line};
 
-use crate::piece_rows::{Kind, Row};
-use crate::totals::{Part, part_sum};
 use itoa::Buffer;
+use map_rows::piece_rows::{Kind, Row};
+use map_rows::totals::{Part, part_sum};
 use sloth_base::app::App;
 use sloth_base::config::Config;
 use sloth_base::memory::NoMemory;

@@ -9,9 +9,9 @@ use Rattle.dwarf_sections.specs.BodyFrames.{body_rules}
 use Rattle.dwarf_sections.specs.FrameEntries.{common_entry, frame_entry, is_unknown}
 use Rattle.dwarf_sections.specs.Fields.{unsigned_leb}
 use Rattle.dwarf_sections.specs.LineRows.{item_count}
-use Rattle.map_text.specs.declared.piece_rows.Kind.{Kind}
-use Rattle.map_text.specs.declared.piece_rows.Kind.TheVariants as kind
-use Rattle.map_text.specs.declared.piece_rows.Row.{Row}
+use Rattle.map_rows.specs.declared.piece_rows.Kind.{Kind}
+use Rattle.map_rows.specs.declared.piece_rows.Kind.TheVariants as kind
+use Rattle.map_rows.specs.declared.piece_rows.Row.{Row}
 use Rattle.symbol_image.specs.declared.frames.Lost.{Lost}
 use Rattle.symbol_image.specs.declared.frames.Lost.TheVariants as lost
 

@@ -5,8 +5,8 @@ use Rattle.dwarf_sections.specs.Abbreviations.{abbreviation_section}
 use Rattle.dwarf_sections.specs.Entries.{info_section}
 use Rattle.dwarf_sections.specs.LineRows.{line_rows}
 use Rattle.dwarf_sections.specs.LineSection.{line_section}
-use Rattle.map_text.specs.Rows.{map_rows}
-use Rattle.map_text.specs.declared.piece_rows.Row.{Row}
+use Rattle.map_rows.specs.Rows.{map_rows}
+use Rattle.map_rows.specs.declared.piece_rows.Row.{Row}
 use Rattle.symbol_image.specs.Borders.{borders_of}
 use Rattle.symbol_image.specs.FileParts.{FileParts}
 use Rattle.symbol_image.specs.Frames.{frame_section}

@@ -16,9 +16,9 @@ use Rattle.sloth_base.specs.declared.service.ObjectKind.TheVariants as object
 use Rattle.sloth_base.specs.declared.service.Service.{Service}
 use Rattle.sloth_region.specs.Layout.{active, alarm_cycle, alarm_left, below_word, context_bytes, counter_value, cur, events, idle_context, resume, saved_level, wait}
 use Rattle.map_text.specs.MapText.{resource_name}
-use Rattle.map_text.specs.declared.piece_rows.Kind.{Kind}
-use Rattle.map_text.specs.declared.piece_rows.Kind.TheVariants as kind
-use Rattle.map_text.specs.declared.piece_rows.Row.{Row}
+use Rattle.map_rows.specs.declared.piece_rows.Kind.{Kind}
+use Rattle.map_rows.specs.declared.piece_rows.Kind.TheVariants as kind
+use Rattle.map_rows.specs.declared.piece_rows.Row.{Row}
 use Rattle.symbol_image.specs.declared.symbol.Binding.TheVariants as binding
 use Rattle.symbol_image.specs.declared.symbol.Symbol.{Symbol}
 use Rattle.symbol_image.specs.declared.symbol.SymbolKind.{SymbolKind}

@@ -26,7 +26,7 @@ use crate::word_symbols::push_words;
 use dwarf_sections::fields::put_bytes;
 use dwarf_sections::line_section::line_section;
 use dwarf_sections::{abbreviation_section, info_section};
-use map_text::Row;
+use map_rows::Row;
 use sloth_base::memory::NoMemory;
 use sloth_base::memory_map::{MEMORY_BASE, VECTORS_BASE};
 use std::alloc::Global;

@@ -8,7 +8,7 @@ ghost use Rattle.symbol_image.specs.Frames.{body_entry, entry_of, first_loss, fr
 use dwarf_sections::body_frames::body_rules;
 use dwarf_sections::fields::{put_bytes, put_unsigned};
 use dwarf_sections::frame_entries::{put_common_entry, put_frame_entry, put_unknown};
-use map_text::{Kind, Row};
+use map_rows::{Kind, Row};
 use sloth_base::app::{App, Func};
 use sloth_base::memory::NoMemory;
 use sloth_base::memory_map::{MEMORY_BASE, WORD};

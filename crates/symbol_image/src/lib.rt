@@ -5,7 +5,7 @@
 //! `specs/Loading`); each symbol reads back from its tables with its name, address, size and kind (`symbols_read_back`, `specs/Reading`). Which
 //! symbols there are: `specs/Symbols`; their tables: `specs/SymbolTable`; sections one behind the other: `specs/Layout`; headers of the file and of
 //! segments: `specs/Headers`; where the zones of an image end: `specs/Borders`; frames: `specs/Frames`; the lines of data: `data_lines`,
-//! `specs/DataLines`. Source lines and entries: `dwarf_sections`; pieces of an image: `map_text` (`Rows`).
+//! `specs/DataLines`. Source lines and entries: `dwarf_sections`; pieces of an image: `map_rows` (`Rows`).
 #![tactic(auto)]
 
 pub mod borders;

@@ -11,7 +11,7 @@ use crate::object_names::{
     alarm_name, counter_name, function_name, resource_name, symbol_name, task_name,
 };
 use crate::symbol::{Binding, Symbol, SymbolKind, copied, joined};
-use map_text::{Kind, Row};
+use map_rows::{Kind, Row};
 use sloth_base::app::App;
 use sloth_base::config::Config;
 use sloth_base::list::List;

@@ -1,0 +1,3 @@
+pub mod OneRow
+pub mod OneTotal
+pub mod OnePieceRow

@@ -1,0 +1,4 @@
+pub mod Listable
+pub mod Rows
+pub mod PieceRows
+pub mod Totals
