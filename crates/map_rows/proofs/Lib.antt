@@ -1,3 +1,4 @@
 pub mod OneRow
 pub mod OneTotal
 pub mod OnePieceRow
+pub mod Services

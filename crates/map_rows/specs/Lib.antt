@@ -2,3 +2,5 @@ pub mod Listable
 pub mod Rows
 pub mod PieceRows
 pub mod Totals
+pub mod Borders
+pub mod PieceNames

@@ -2,4 +2,3 @@ pub mod ExactRows
 pub mod Listing
 pub mod OneNeed
 pub mod OneText
-pub mod Services

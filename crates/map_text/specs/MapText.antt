@@ -1,5 +1,5 @@
 -- The lines of the command `map`.
-use Rattle.std.specs.Prelude.{ℕ, zero, suc, ◌≡◌, ◌==◌, cond, List, [], ◌++◌, codes, decimal, length, get_or, Option, Some, None}
+use Rattle.std.specs.Prelude.{ℕ, zero, suc, ◌≡◌, List, [], ◌++◌, codes, decimal, length, get_or, Option, Some, None}
 use Rattle.std.specs.List.{flat_map}
 use Rattle.sloth_base.specs.declared.app.App.{App}
 use Rattle.sloth_base.specs.declared.config.Config.{Config}
@@ -8,7 +8,6 @@ use Rattle.sloth_base.specs.declared.service.ObjectKind.{ObjectKind}
 use Rattle.sloth_base.specs.declared.service.ObjectKind.TheVariants as object
 use Rattle.sloth_base.specs.declared.service.Service.{Service}
 use Rattle.sloth_base.specs.Blocks.{block_service, block_object}
-use Rattle.sloth_base.specs.ConfigRange.{scheduler_number}
 use Rattle.sloth_base.specs.Named.{alarm_declaration, counter_declaration, declaration, function, no_symbol}
 use Rattle.sloth_base.specs.ServiceCodes.{object_kind, service_name}
 use Rattle.sloth_region.specs.declared.map.Map.{Map}
@@ -17,6 +16,7 @@ use Rattle.code_rules.specs.WellFormed.{WellFormed}
 use Rattle.stack_bounds.specs.Bounds.{AreBounds, bytes_of}
 use Rattle.mem_map.specs.Planned.{IsPlanned}
 use Rattle.sloth_source.specs.Texts.{AreAccepted}
+use Rattle.map_rows.specs.PieceNames.{resource_name}
 use Rattle.map_rows.specs.Rows.{map_rows, sum_of}
 use Rattle.map_rows.specs.Totals.{all_parts, filled_rows, part_sum}
 use Rattle.map_rows.specs.declared.totals.Part.{Part}
@@ -26,10 +26,6 @@ use Rattle.map_rows.specs.declared.piece_rows.Kind.TheVariants as kind
 use Rattle.map_rows.specs.declared.piece_rows.Row.{Row}
 
 -- ---- what stands in a row
-
--- the name of a resource
-abbrev pub resource_name : Config → ℕ → List ℕ
-resource_name config r = cond (r == scheduler_number) (codes "RES_SCHEDULER") (get_or config.resources r [])
 
 -- the object of a service, if it has one, behind a blank
 abbrev pub object_text : Config → ObjectKind → ℕ → List ℕ

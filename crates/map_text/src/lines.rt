@@ -2,7 +2,8 @@
 ghost use Rattle.std.specs.Prelude.{◌≡◌, ◌<◌, ◌++◌, IfOk, OnOk, length, get_or};
 ghost use Rattle.sloth_base.specs.Blocks.{block_object, block_service};
 ghost use Rattle.sloth_base.specs.Named.{alarm_declaration, counter_declaration, declaration, function, no_symbol};
-ghost use Rattle.map_text.specs.MapText.{behind_part, need_line, object_text, part_text, piece_text, resource_name, row_line, service_text, sum_line, total_line};
+ghost use Rattle.map_rows.specs.PieceNames.{resource_name};
+ghost use Rattle.map_text.specs.MapText.{behind_part, need_line, object_text, part_text, piece_text, row_line, service_text, sum_line, total_line};
 
 use itoa::Buffer;
 use map_rows::piece_rows::{Kind, Row};
@@ -123,7 +124,7 @@ fn service_text(
 }
 
 // The service with its object that has a place in the table of the services' code.
-#[tactic(auto, using(crate::proofs::Services::no_service))]
+#[tactic(auto, using(map_rows::proofs::Services::no_service))]
 fn block_text(alloc: Global, config: &Config, number: usize) -> Result<Vec<u8>, NoMemory>
     ensures { IfOk result (λ text. text.items ≡ service_text config.now (block_service number) (block_object number)) }
 {

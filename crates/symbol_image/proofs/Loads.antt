@@ -14,7 +14,7 @@ use Rattle.symbol_image.specs.Layout.{Laid, Section, all_laid, laid_with, none_l
 use Rattle.symbol_image.specs.Loading.{IsLoad, Load, LoadedOnce, Loads, MemoryIsLoaded, NothingElseIsLoaded}
 use Rattle.symbol_image.specs.SymbolFile.{debugging_sections, laid_parts, loaded, memory_between, parts_borders, rows_of, stack_section, symbol_file, table_sections}
 use Rattle.symbol_image.specs.Symbols.{locals_of, symbols_of}
-use Rattle.symbol_image.specs.declared.borders.Borders.{Borders}
+use Rattle.map_rows.specs.declared.borders.Borders.{Borders}
 
 -- ---- headers
 

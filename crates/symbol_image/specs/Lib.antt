@@ -1,4 +1,3 @@
-pub mod Borders
 pub mod DataLines
 pub mod FileParts
 pub mod FrameRows

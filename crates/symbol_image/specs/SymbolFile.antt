@@ -7,14 +7,14 @@ use Rattle.dwarf_sections.specs.LineRows.{line_rows}
 use Rattle.dwarf_sections.specs.LineSection.{line_section}
 use Rattle.map_rows.specs.Rows.{map_rows}
 use Rattle.map_rows.specs.declared.piece_rows.Row.{Row}
-use Rattle.symbol_image.specs.Borders.{borders_of}
+use Rattle.map_rows.specs.Borders.{borders_of}
 use Rattle.symbol_image.specs.FileParts.{FileParts}
 use Rattle.symbol_image.specs.Frames.{frame_section}
 use Rattle.symbol_image.specs.Headers.{elf_header, segment_headers}
 use Rattle.symbol_image.specs.Layout.{Laid, Section, all_laid, front, none_laid, padded, plain, strings, with_names}
 use Rattle.symbol_image.specs.SymbolTable.{name_table, symbol_table}
 use Rattle.symbol_image.specs.Symbols.{locals_of, symbols_of}
-use Rattle.symbol_image.specs.declared.borders.Borders.{Borders}
+use Rattle.map_rows.specs.declared.borders.Borders.{Borders}
 use Rattle.symbol_image.specs.declared.symbol.Symbol.{Symbol}
 
 -- the rows of the map, and where its zones begin and end

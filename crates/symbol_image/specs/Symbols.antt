@@ -1,21 +1,17 @@
 -- The symbols of a file for debuggers: the kernel's words and pieces, and what the task code declares.
-use Rattle.std.specs.Prelude.{ℕ, ◌+◌, Bool, cond, List, [], ◌∷◌, ◌++◌, codes, length, get_or, Option, Some, None}
+use Rattle.std.specs.Prelude.{ℕ, ◌+◌, Bool, cond, List, [], ◌∷◌, ◌++◌, codes, length, get_or}
 use Rattle.std.specs.List.{flat_map}
 use Rattle.sloth_base.specs.Blocks.{block_object, block_service}
 use Rattle.sloth_base.specs.ConfigRange.{scheduler_number}
 use Rattle.sloth_base.specs.MemoryMap.{memory_base}
-use Rattle.sloth_base.specs.Named.{alarm_declaration, counter_declaration, declaration, function, no_symbol}
-use Rattle.sloth_base.specs.ServiceCodes.{object_kind, service_name}
+use Rattle.sloth_base.specs.Named.{counter_declaration, declaration, function, no_symbol}
 use Rattle.sloth_base.specs.declared.app.App.{App}
 use Rattle.sloth_base.specs.declared.config.AlarmDecl.{AlarmDecl}
 use Rattle.sloth_base.specs.declared.config.Config.{Config}
 use Rattle.sloth_base.specs.declared.config.CounterDecl.{CounterDecl}
 use Rattle.sloth_base.specs.declared.config.TaskDecl.{TaskDecl}
-use Rattle.sloth_base.specs.declared.service.ObjectKind.{ObjectKind}
-use Rattle.sloth_base.specs.declared.service.ObjectKind.TheVariants as object
-use Rattle.sloth_base.specs.declared.service.Service.{Service}
 use Rattle.sloth_region.specs.Layout.{active, alarm_cycle, alarm_left, below_word, context_bytes, counter_value, cur, events, idle_context, resume, saved_level, wait}
-use Rattle.map_text.specs.MapText.{resource_name}
+use Rattle.map_rows.specs.PieceNames.{block_symbol, joined}
 use Rattle.map_rows.specs.declared.piece_rows.Kind.{Kind}
 use Rattle.map_rows.specs.declared.piece_rows.Kind.TheVariants as kind
 use Rattle.map_rows.specs.declared.piece_rows.Row.{Row}
@@ -23,10 +19,6 @@ use Rattle.symbol_image.specs.declared.symbol.Binding.TheVariants as binding
 use Rattle.symbol_image.specs.declared.symbol.Symbol.{Symbol}
 use Rattle.symbol_image.specs.declared.symbol.SymbolKind.{SymbolKind}
 use Rattle.symbol_image.specs.declared.symbol.SymbolKind.TheVariants as symbol
-
--- two names, joined by `$`, which no name of a text has
-abbrev pub joined : (one other : List ℕ) → List ℕ
-joined one other = one ++ (codes "$" ++ other)
 
 -- ---- the kernel's words
 
@@ -94,18 +86,6 @@ unfoldable pub word_symbols : Config → List Symbol
 word_symbols config = first_words config ++ last_words config
 
 -- ---- pieces
-
--- a service joined to its object, or without one to the kernel
-abbrev pub service_symbol : Config → (service : List ℕ) → ObjectKind → ℕ → List ℕ
-service_symbol config service object.Nothing number = joined (codes "kernel") service
-service_symbol config service object.Task number = joined service (declaration config number).name
-service_symbol config service object.Resource number = joined service (resource_name config number)
-service_symbol config service object.Alarm number = joined service (alarm_declaration config number).name
-
--- the service with its object that has a place in the table of the services' code
-abbrev pub block_symbol : Config → Option Service → ℕ → List ℕ
-block_symbol config None number = codes "-"
-block_symbol config (Some service) number = service_symbol config (service_name service) (object_kind service) number
 
 -- the local symbol of a row's bytes
 abbrev pub local_at : (name : List ℕ) → SymbolKind → Row → List Symbol

@@ -12,7 +12,6 @@ ghost use Rattle.symbol_image.specs.SymbolFile.{code_sections, data_sections, de
 ghost use Rattle.symbol_image.specs.Symbols.{locals_of, symbols_of};
 ghost use Rattle.symbol_image.specs.WordSymbols.{HasWords};
 
-use crate::borders::{Borders, borders_of};
 use crate::frames::frame_section;
 use crate::headers::{put_elf_header, put_segments};
 use crate::layout::{
@@ -27,6 +26,7 @@ use dwarf_sections::fields::put_bytes;
 use dwarf_sections::line_section::line_section;
 use dwarf_sections::{abbreviation_section, info_section};
 use map_rows::Row;
+use map_rows::borders::{Borders, Range, borders_of, code_range};
 use sloth_base::memory::NoMemory;
 use sloth_base::memory_map::{MEMORY_BASE, VECTORS_BASE};
 use std::alloc::Global;
@@ -35,13 +35,6 @@ use std::alloc::Global;
 const WRITTEN: u32 = 3;
 
 const EXECUTED: u32 = 6;
-
-/// The memory from an address to another.
-#[derive(Clone, Copy)]
-struct Range {
-    from: u32,
-    to: u32,
-}
 
 // The bytes of memory from an address to another.
 fn memory_between(memory: &[u8], range: Range) -> &[u8]
@@ -102,10 +95,7 @@ fn lay_code(laid: &mut Laid, memory: &[u8], borders: &Borders) -> Result<(), NoM
         from: MEMORY_BASE,
         to: VECTORS_BASE,
     };
-    let code = Range {
-        from: VECTORS_BASE,
-        to: borders.code_end,
-    };
+    let code = code_range(borders);
     lay_loaded(laid, b".words", WRITTEN, memory, words)?;
     lay_loaded(laid, b".text", EXECUTED, memory, code)
 }

@@ -6,27 +6,14 @@ ghost use Rattle.sloth_base.specs.MemoryMap.{memory_base};
 ghost use Rattle.symbol_image.specs.Headers.{elf_header, elf_kind, elf_places, segment_header, segment_headers};
 ghost use Rattle.symbol_image.specs.HeaderViews.{AreOrdered, segment_of};
 
-use crate::borders::Borders;
 use crate::layout::FRONT;
 use dwarf_sections::fields::{put_bytes, put_length};
 use elf_image::headers::put_words;
 use image_file::number_fields::put_u16;
+use map_rows::borders::Borders;
+use map_rows::segments::{Segment, code_segment, data_segment, words_segment};
 use sloth_base::memory::NoMemory;
-use sloth_base::memory_map::{BOOT_BASE, MEMORY_BASE, VECTORS_BASE};
-
-/// A segment may be read and written, or read and executed.
-const WRITTEN: u32 = 6;
-
-const EXECUTED: u32 = 5;
-
-/// A segment: its bytes stand in the file from an address to another, and it has memory up to an end.
-#[derive(Clone, Copy)]
-struct Segment {
-    from: u32,
-    to: u32,
-    end: u32,
-    flags: u32,
-}
+use sloth_base::memory_map::{BOOT_BASE, MEMORY_BASE};
 
 // Appends numbers, each in two bytes.
 fn put_halves(file: &mut Vec<u8>, halves: &[u16]) -> Result<(), NoMemory>
@@ -90,31 +77,7 @@ pub fn put_segments(file: &mut Vec<u8>, borders: &Borders) -> Result<(), NoMemor
     requires { AreOrdered borders.now }
     ensures { OnOk result (file.new.items ≡ file.old.items ++ segment_headers borders.now) }
 {
-    put_segment(
-        file,
-        Segment {
-            from: MEMORY_BASE,
-            to: VECTORS_BASE,
-            end: VECTORS_BASE,
-            flags: WRITTEN,
-        },
-    )?;
-    put_segment(
-        file,
-        Segment {
-            from: VECTORS_BASE,
-            to: borders.code_end,
-            end: borders.code_end,
-            flags: EXECUTED,
-        },
-    )?;
-    put_segment(
-        file,
-        Segment {
-            from: borders.code_end,
-            to: borders.end,
-            end: borders.top.max(borders.end),
-            flags: WRITTEN,
-        },
-    )
+    put_segment(file, words_segment())?;
+    put_segment(file, code_segment(borders))?;
+    put_segment(file, data_segment(borders))
 }

@@ -4,18 +4,16 @@
 //! (`specs/FileParts`). Its segments load each byte of the memory once, at its address, and no other byte of the file (`memory_is_loaded_once`,
 //! `specs/Loading`); each symbol reads back from its tables with its name, address, size and kind (`symbols_read_back`, `specs/Reading`). Which
 //! symbols there are: `specs/Symbols`; their tables: `specs/SymbolTable`; sections one behind the other: `specs/Layout`; headers of the file and of
-//! segments: `specs/Headers`; where the zones of an image end: `specs/Borders`; frames: `specs/Frames`; the lines of data: `data_lines`,
-//! `specs/DataLines`. Source lines and entries: `dwarf_sections`; pieces of an image: `map_rows` (`Rows`).
+//! segments: `specs/Headers`; frames: `specs/Frames`; the lines of data: `data_lines`, `specs/DataLines`. Source lines and entries: `dwarf_sections`;
+//! pieces of an image, their names and where its zones end: `map_rows` (`Rows`, `PieceNames`, `Borders`).
 #![tactic(auto)]
 
-pub mod borders;
 pub mod declared_lines;
 pub mod file;
 pub mod frames;
 pub mod headers;
 pub mod laws;
 pub mod layout;
-pub mod object_names;
 pub mod parts;
 pub mod piece_symbols;
 pub mod symbol;

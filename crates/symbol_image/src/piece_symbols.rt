@@ -1,57 +1,22 @@
 //! The symbols of the pieces of an image.
-ghost use Rattle.std.specs.Prelude.{◌≡◌, ◌++◌, IfOk, OnOk, get_or, length};
+ghost use Rattle.std.specs.Prelude.{◌≡◌, ◌++◌, OnOk, get_or, length};
 ghost use Rattle.std.specs.List.{flat_map};
 ghost use Rattle.sloth_base.specs.Blocks.{block_object, block_service};
 ghost use Rattle.sloth_base.specs.Named.{no_symbol};
-ghost use Rattle.sloth_base.specs.ServiceCodes.{object_kind, service_name};
-ghost use Rattle.symbol_image.specs.Symbols.{block_symbol, global_at, global_symbols, joined, local_at, local_symbols, service_symbol};
+ghost use Rattle.map_rows.specs.PieceNames.{block_symbol, joined};
+ghost use Rattle.symbol_image.specs.Symbols.{global_at, global_symbols, local_at, local_symbols};
 ghost use Rattle.symbol_image.specs.declared.symbol.SymbolKind.TheVariants as function;
 
-use crate::object_names::{
-    alarm_name, counter_name, function_name, resource_name, symbol_name, task_name,
-};
-use crate::symbol::{Binding, Symbol, SymbolKind, copied, joined};
+use crate::symbol::{Binding, Symbol, SymbolKind};
+use map_rows::object_names::{counter_name, function_name, symbol_name, task_name};
+use map_rows::piece_names::{block_symbol, copied, joined};
 use map_rows::{Kind, Row};
 use sloth_base::app::App;
 use sloth_base::config::Config;
 use sloth_base::list::List;
 use sloth_base::memory::NoMemory;
-use sloth_base::places::{BLOCK_COUNT, block_object, block_service};
-use sloth_base::service::{ObjectKind, Service};
 use std::alloc::Global;
 use text_pieces::growth::push;
-
-// A service joined to its object, or without one to the kernel.
-fn service_symbol(
-    alloc: Global,
-    config: &Config,
-    service: Service,
-    number: u32,
-) -> Result<List<u8>, NoMemory>
-    ensures { IfOk result (λ name. name ≡ service_symbol config.now (service_name service) (object_kind service) number) }
-{
-    let name = service.name();
-    match service.object_kind() {
-        ObjectKind::Nothing => joined(alloc, b"kernel", name),
-        ObjectKind::Task => joined(alloc, name, task_name(config, number as usize)),
-        ObjectKind::Resource => joined(alloc, name, resource_name(config, number)),
-        ObjectKind::Alarm => joined(alloc, name, alarm_name(config, number as usize)),
-    }
-}
-
-// The service with its object that has a place in the table of the services' code.
-#[tactic(auto, using(map_text::proofs::Services::no_service))]
-fn block_symbol(alloc: Global, config: &Config, number: usize) -> Result<List<u8>, NoMemory>
-    ensures { IfOk result (λ name. name ≡ block_symbol config.now (block_service number) (block_object number)) }
-{
-    if number >= BLOCK_COUNT {
-        return copied(alloc, b"-");
-    }
-    match block_service(number) {
-        Some(service) => service_symbol(alloc, config, service, block_object(number)),
-        None => copied(alloc, b"-"),
-    }
-}
 
 // Appends the local symbol of a row's bytes.
 fn push_local(

@@ -1,10 +1,5 @@
-//! A symbol of the file, and names of symbols.
-ghost use Rattle.std.specs.Prelude.{◌≡◌, IfOk};
-ghost use Rattle.symbol_image.specs.Symbols.{joined};
-
+//! A symbol of the file.
 use sloth_base::list::List;
-use sloth_base::memory::NoMemory;
-use std::alloc::Global;
 
 /// What stands at a symbol's address.
 #[derive(Clone, Copy)]
@@ -28,22 +23,4 @@ pub struct Symbol {
     pub size: usize,
     pub kind: SymbolKind,
     pub binding: Binding,
-}
-
-/// Two names, joined by `$`, which no name of a text has.
-pub fn joined(alloc: Global, one: &[u8], other: &[u8]) -> Result<List<u8>, NoMemory>
-    ensures { IfOk result (λ name. name ≡ joined one.now other.now) }
-{
-    let mut name = Vec::from_slice(alloc, one)?;
-    name.extend_from_slice(b"$")?;
-    name.extend_from_slice(other)?;
-    Ok(List::from_vec(name))
-}
-
-/// A copy of a name.
-pub fn copied(alloc: Global, name: &[u8]) -> Result<List<u8>, NoMemory>
-    ensures { IfOk result (λ copy. copy ≡ name.now) }
-{
-    let name = Vec::from_slice(alloc, name)?;
-    Ok(List::from_vec(name))
 }

@@ -1,6 +1,7 @@
 use Rattle.std.proofs.Common.{◌∙◌, ℕ, [], ◌∷◌, ◌++◌, codes, ap}
 use Rattle.std.proofs.lemmas.Result.{on_ok_weaker}
-use Rattle.symbol_image.specs.Symbols.{joined, word_at}
+use Rattle.map_rows.specs.PieceNames.{joined}
+use Rattle.symbol_image.specs.Symbols.{word_at}
 use Rattle.symbol_image.proofs.word_symbols.push_scheduler_level.Goals as goal
 
 pub returns : goal.returns

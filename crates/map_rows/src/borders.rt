@@ -1,9 +1,9 @@
 //! Where the zones of an image begin and end.
 ghost use Rattle.std.specs.Prelude.{◌≡◌, ◌≤◌, ◌+◌, All, drop, length};
-ghost use Rattle.sloth_base.specs.MemoryMap.{memory_end};
-ghost use Rattle.symbol_image.specs.Borders.{HasBorders, borders_of, stacks_base, stacks_end};
+ghost use Rattle.sloth_base.specs.MemoryMap.{memory_end, vectors_base};
+ghost use Rattle.map_rows.specs.Borders.{HasBorders, borders_of, stacks_base, stacks_end};
 
-use sloth_base::memory_map::MEMORY_BASE;
+use sloth_base::memory_map::{MEMORY_BASE, VECTORS_BASE};
 use sloth_region::extent::Extent;
 use sloth_region::map::Map;
 
@@ -24,6 +24,13 @@ pub struct Borders {
     pub stacks: u32,
     /// The address behind the last stack.
     pub top: u32,
+}
+
+/// The memory from an address to another.
+#[derive(Clone, Copy)]
+pub struct Range {
+    pub from: u32,
+    pub to: u32,
 }
 
 // The stacks, which are the extents behind the zone of data.
@@ -69,5 +76,15 @@ pub fn borders_of(map: &Map, memory: usize) -> Borders
         end,
         stacks: stacks_base(stacks, end),
         top: stacks_end(stacks, end),
+    }
+}
+
+/// The memory of all code, with the vector words.
+pub fn code_range(borders: &Borders) -> Range
+    ensures { result ≡ record { from = vectors_base; to = borders.now.code_end } }
+{
+    Range {
+        from: VECTORS_BASE,
+        to: borders.code_end,
     }
 }

@@ -5,7 +5,7 @@ use Rattle.sloth_region.specs.declared.extent.Extent.{Extent}
 use Rattle.sloth_region.specs.declared.map.Map.{Map}
 use Rattle.mem_map.specs.Stacks.{address_behind_data}
 use Rattle.mem_map.specs.Zones.{all_stacks, data_zone}
-use Rattle.symbol_image.specs.declared.borders.Borders.{Borders}
+use Rattle.map_rows.specs.declared.borders.Borders.{Borders}
 
 -- the address of the first stack, or another where there is none
 abbrev pub stacks_base : List Extent → ℕ → ℕ

@@ -1,7 +1,7 @@
 //! The names of objects, bodies and symbols by their numbers, each empty where there is none of the number.
 ghost use Rattle.std.specs.Prelude.{◌≡◌, get_or};
 ghost use Rattle.sloth_base.specs.Named.{alarm_declaration, counter_declaration, declaration, function, no_symbol};
-ghost use Rattle.map_text.specs.MapText.{resource_name};
+ghost use Rattle.map_rows.specs.PieceNames.{resource_name};
 
 use sloth_base::app::App;
 use sloth_base::config::Config;
