@@ -93,6 +93,7 @@ tool-apart tool.Check = refl
 tool-apart tool.Bounds = refl
 tool-apart tool.Latency = refl
 tool-apart tool.Map = refl
+tool-apart tool.Symbols = refl
 
 apart : (t : Tool) (word : List ℕ) → stands word ≡ true → tool_word t ≡ word → ⊥
 apart t word stood e = let not : stands word ≡ false = subst (λ w. stands w ≡ false) e (tool-apart t) in true≢false (sym stood ∙ not)

@@ -18,7 +18,7 @@ use Rattle.command_line.specs.Tools.{ToolUse, tool_word, tool_words, input_count
 
 -- the tools
 abbrev all_tools : List Tool
-all_tools = tool.Elf ∷ tool.Unelf ∷ tool.Infer ∷ tool.At ∷ tool.Wave ∷ tool.Picture ∷ tool.Check ∷ tool.Bounds ∷ tool.Latency ∷ tool.Map ∷ []
+all_tools = tool.Elf ∷ tool.Unelf ∷ tool.Infer ∷ tool.At ∷ tool.Wave ∷ tool.Picture ∷ tool.Check ∷ tool.Bounds ∷ tool.Latency ∷ tool.Map ∷ tool.Symbols ∷ []
 
 -- the first of these that has a word and so many words
 abbrev first_with : List ℕ → ℕ → List Tool → Option Tool
@@ -36,6 +36,7 @@ found tool.Check = refl
 found tool.Bounds = refl
 found tool.Latency = refl
 found tool.Map = refl
+found tool.Symbols = refl
 
 pub same-tool : (t u : Tool) → tool_word t ≡ tool_word u → word_count t ≡ word_count u → t ≡ u
 same-tool t u e n =
@@ -59,6 +60,7 @@ word-limit tool.Check = omega arith
 word-limit tool.Bounds = tt
 word-limit tool.Latency = tt
 word-limit tool.Map = tt
+word-limit tool.Symbols = tt
 
 -- two lists of one length in front of others
 fronts : (xs ys : List (List ℕ)) (r s : List (List ℕ)) → length xs ≡ length ys → xs ++ r ≡ ys ++ s → (xs ≡ ys) × (r ≡ s)
@@ -160,6 +162,7 @@ counted tool.Check = refl
 counted tool.Bounds = refl
 counted tool.Latency = refl
 counted tool.Map = refl
+counted tool.Symbols = refl
 
 pub words-counted : (u : ToolUse) → IsToolUse u → length (tool_words u) ≡ word_count u.tool
 words-counted u is =

@@ -21,6 +21,7 @@ tool_word tool.Check = codes "check"
 tool_word tool.Bounds = codes "bounds"
 tool_word tool.Latency = codes "bounds"
 tool_word tool.Map = codes "map"
+tool_word tool.Symbols = codes "symbols"
 
 -- how many files it reads; their names are the next words
 abbrev pub input_count : Tool → ℕ
@@ -34,6 +35,7 @@ input_count tool.Check = 4
 input_count tool.Bounds = 2
 input_count tool.Latency = 2
 input_count tool.Map = 2
+input_count tool.Symbols = 2
 
 -- the word that stands behind the names of the files that it reads, if one does
 abbrev pub further_word : Tool → Option (List ℕ)
@@ -47,6 +49,7 @@ further_word tool.Check = None
 further_word tool.Bounds = None
 further_word tool.Latency = Some (codes "latency")
 further_word tool.Map = None
+further_word tool.Symbols = None
 
 -- which counts it takes as its next words, if it takes any
 abbrev pub counts_limit : Tool → Option Limit
@@ -60,6 +63,7 @@ counts_limit tool.Check = Some (limit.One count_limit)
 counts_limit tool.Bounds = None
 counts_limit tool.Latency = None
 counts_limit tool.Map = None
+counts_limit tool.Symbols = None
 
 -- whether its last word names a file that it writes
 abbrev pub writes_file : Tool → Bool
@@ -73,6 +77,7 @@ writes_file tool.Check = false
 writes_file tool.Bounds = false
 writes_file tool.Latency = false
 writes_file tool.Map = false
+writes_file tool.Symbols = true
 
 -- how many words it has
 abbrev pub word_count : Tool → ℕ
@@ -86,6 +91,7 @@ word_count tool.Check = 6
 word_count tool.Bounds = 3
 word_count tool.Latency = 4
 word_count tool.Map = 3
+word_count tool.Symbols = 4
 
 -- a tool with the files that it reads, its counts and the file that it writes, if it has them
 pub record ToolUse : Type 0 where

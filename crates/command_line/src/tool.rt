@@ -31,6 +31,8 @@ pub enum Tool {
     Latency,
     /// `map OIL SRC`: what the image takes of memory.
     Map,
+    /// `symbols OIL SRC OUT`: the file of the image that debuggers read.
+    Symbols,
 }
 
 impl Tool {
@@ -49,6 +51,7 @@ impl Tool {
             Tool::Bounds => 2,
             Tool::Latency => 2,
             Tool::Map => 2,
+            Tool::Symbols => 2,
         }
     }
 
@@ -67,6 +70,7 @@ impl Tool {
             Tool::Bounds => None,
             Tool::Latency => Some("latency"),
             Tool::Map => None,
+            Tool::Symbols => None,
         }
     }
 
@@ -88,6 +92,7 @@ impl Tool {
             Tool::Bounds => None,
             Tool::Latency => None,
             Tool::Map => None,
+            Tool::Symbols => None,
         }
     }
 
@@ -106,6 +111,7 @@ impl Tool {
             Tool::Bounds => false,
             Tool::Latency => false,
             Tool::Map => false,
+            Tool::Symbols => true,
         }
     }
 }
@@ -152,6 +158,9 @@ fn tool_of_four(word: &str) -> Option<Tool>
     }
     if word == "bounds" {
         return Some(Tool::Latency);
+    }
+    if word == "symbols" {
+        return Some(Tool::Symbols);
     }
     None
 }

@@ -1,5 +1,5 @@
 -- What the image of gathered code is, and by which map.
-use Rattle.std.specs.Prelude.{ℕ, ◌%◌, ◌≤◌, ◌≡◌, List, length, All}
+use Rattle.std.specs.Prelude.{ℕ, ◌+◌, ◌%◌, ◌≤◌, ◌≡◌, List, length, All}
 use Rattle.std.specs.List.Sorted.{IsPermutation, IsStrictlyIncreasing}
 use Rattle.sloth_base.specs.declared.app.App.{App}
 use Rattle.sloth_base.specs.declared.config.Config.{Config}
@@ -7,12 +7,14 @@ use Rattle.sloth_base.specs.declared.image.Image.{Image}
 use Rattle.sloth_base.specs.declared.image.Mark.{Mark}
 use Rattle.sloth_base.specs.declared.places.Bounds.{Bounds}
 use Rattle.sloth_base.specs.declared.places.Levels.{Levels}
+use Rattle.sloth_base.specs.MemoryMap.{memory_base}
 use Rattle.sloth_region.specs.declared.map.Map.{Map}
 use Rattle.rv32_instr.specs.declared.block.Block.{Block}
 use Rattle.sim_relation.specs.Bounds.{AreBelow}
 use Rattle.sloth_link.specs.declared.datum.Datum.{Datum}
 use Rattle.stack_bounds.specs.Bounds.{AreBounds}
 use Rattle.mem_map.specs.Planned.{IsPlanned}
+use Rattle.mem_map.specs.Stacks.{address_behind_data}
 use Rattle.mem_map.specs.Sections.{addresses, marks_of}
 use Rattle.sim_laws.specs.GeneratedZones.{HasCode, HasItemBlocks}
 use Rattle.sim_laws.specs.Rooms.{HasOwnMarks}
@@ -29,6 +31,8 @@ pub record IsImageOf (config : Config) (app : App) (levels : Levels) (map : Map)
   pub has_code : HasCode config app levels map blocks
   pub has_items : HasItemBlocks config app map.places blocks
   pub whole_words : size % 4 ≡ 0
+  -- the memory ends with the zone of data
+  pub ends : memory_base + length memory ≡ address_behind_data map
   pub few : length blocks ≤ 8192
   pub few_marks : All (λ b. length b.marks ≤ 2) blocks
   pub format : All (MarksInFormat config app) blocks

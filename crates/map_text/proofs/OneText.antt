@@ -26,7 +26,7 @@ use Rattle.map_rows.specs.declared.piece_rows.Start.{Start}
 
 module _ (config : Config) (m : Map) (tops : List ℕ) (words : Extent) where
   -- the map with other tops and words
-  abbrev other : Map
+  abbrev pub other : Map
   other = record m { tops = tops; words = words }
 
   starts_alike : starts_of config other ≡ starts_of config m
@@ -38,12 +38,12 @@ module _ (config : Config) (m : Map) (tops : List ℕ) (words : Extent) where
   own_alike zero = refl
   own_alike (suc t) = ap (λ l. l ++ cond (is_extended config.tasks t) (row_of kind.Stack t (stack_of m t) ∷ []) []) (own_alike t)
 
-  rows_alike : map_rows config other ≡ map_rows config m
+  pub rows_alike : map_rows config other ≡ map_rows config m
   rows_alike =
       ap (λ (l : List Start). rows_between l (address_behind_data m) ++ shared_rows config m ++ own_rows config other (length config.tasks)) starts_alike
       ∙ ap (λ (l : List Row). rows_between (starts_of config m) (address_behind_data m) ++ shared_rows config m ++ l) (own_alike (length config.tasks))
 
-same_rows : (config : Config) (m n : Map) → AreAlike m n → map_rows config m ≡ map_rows config n
+pub same_rows : (config : Config) (m n : Map) → AreAlike m n → map_rows config m ≡ map_rows config n
 same_rows config m n h =
     let whole : m ≡ record n { tops = m.tops; words = m.words } =
     ap (λ x. record m { extents = x }) h.extents ∙ ap (λ x. record m { extents = n.extents; places = x }) h.places
@@ -54,7 +54,7 @@ same_rows config m n h =
 
 -- ---- bounds
 
-same_bounds : (config : Config) (app : App) (a b : Bounds) → WellFormed config app → AreBounds config app a → AreBounds config app b → a ≡ b
+pub same_bounds : (config : Config) (app : App) (a b : Bounds) → WellFormed config app → AreBounds config app a → AreBounds config app b → a ≡ b
 same_bounds config app a b well p q =
     let count = p.count in
     let bytes : a.bytes ≡ b.bytes =

@@ -38,7 +38,7 @@ first-of files u (b ∷ rest) reads is read = (record { rest = rest; first = rea
 no-image-file : (files : Files) (u : ToolUse) (fault : ImageFault) → IsToolUse u → IsToolAnswer files u (tool_answer.NotAnImage fault)
     → IsNoImage files (Uses u) fault
 no-image-file files u fault is h =
-    let no = no-image u.tool u.counts h.inputs fault h.is in
+    let no = no-image u.tool u.counts u.inputs h.inputs fault h.is in
     let first = first-of files u h.inputs no.0 is h.read in
     record {
       file = input h.inputs 0;
@@ -133,12 +133,12 @@ module _ (old mid : Files) (sink : Output) (new : World) (u : ToolUse) (kept : K
 
 -- the answer to what was read
 pub answer-of : (old mid : Files) (u : ToolUse) (inputs slice : List (List ℕ)) (a : ToolAnswer) → AreToolInputs old u.inputs inputs
-    → AreDelivered old mid (input_deliveries u.inputs inputs) → slice ≡ inputs → IsAnswer u.tool u.counts slice a → IsToolAnswer (call_files old mid) u a
+    → AreDelivered old mid (input_deliveries u.inputs inputs) → slice ≡ inputs → IsAnswer u.tool u.counts u.inputs slice a → IsToolAnswer (call_files old mid) u a
 answer-of old mid u inputs slice a read delivered same is = record {
   inputs = inputs;
   read = tool-inputs-in_call old mid u.inputs inputs read;
   delivered = delivered-in_call old mid (input_deliveries u.inputs inputs) delivered;
-  is = subst (λ xs. IsAnswer u.tool u.counts xs a) same is;
+  is = subst (λ xs. IsAnswer u.tool u.counts u.inputs xs a) same is;
 }
 
 -- three facts of a call that succeeds

@@ -1,5 +1,5 @@
 -- Which answer a tool has, where the files that it reads are told.
-use Rattle.std.proofs.Common.{◌≡◌, ◌∙◌, inl, inr, ℕ, List, ◌∷◌, length, refl, ap, subst}
+use Rattle.std.proofs.Common.{◌≡◌, ◌∙◌, inl, inr, ℕ, List, ◌∷◌, length, refl, subst}
 use Rattle.std.specs.Prelude.{IsTrue, ◌⊎◌, Option, Some, None, codes}
 use Rattle.sloth_base.specs.Limits.{file_limit}
 use Rattle.sloth_io.specs.Counts.{Rose}
@@ -8,6 +8,8 @@ use Rattle.image_file.specs.declared.fault.ImageFault.{ImageFault}
 use Rattle.image_file.proofs.Faulted.{fault_is_one, none_is_both}
 use Rattle.command_line.specs.Command.{Command, Builds, Executes, Lists, Samples, Uses, IsCommand}
 use Rattle.command_line.specs.Tools.{ToolUse}
+use Rattle.command_line.specs.declared.counts.Counts.{Counts}
+use Rattle.command_line.specs.declared.tool.Tool.{Tool}
 use Rattle.command_line.proofs.Commands.{one-command}
 use Rattle.tool_commands.specs.Answers.{IsAnswer}
 use Rattle.tool_commands.specs.Lines.{tool_text}
@@ -18,7 +20,7 @@ use Rattle.tool_commands.proofs.OneAnswer.{HasImage, image-or-fault, no-image, o
 use Rattle.sloth_commands.specs.ImageFiles.{IsNoImage}
 use Rattle.tool_answers.specs.Statuses.{tool_status}
 use Rattle.sloth_commands.specs.ToolFiles.{AreToolInputs, IsToolAnswer, ReadsImageFirst}
-use Rattle.sloth_commands.specs.ToolAnswers.{IsToolTold, IsToolStatus, OutputWorks, ToolWorks, HasToolAnswer, HasToolDoneAnswer}
+use Rattle.sloth_commands.specs.ToolAnswers.{IsToolTold, IsToolStatus, OutputWorks, StandsFor, ToolWorks, HasToolAnswer, HasToolDoneAnswer}
 use Rattle.sloth_commands.specs.Top.{World, IsFailedRead, IsLongRead, FilesAfter, IsUnwrittenOutput, IsRequired, IsPutAnswer, IsTextTaken, IsTextBrokenOff, IsFullAnswer, IsTopAnswer}
 use Rattle.sloth_commands.specs.Top.{IsCommandDone, IsCommandRefused, IsCommandUnwritten, IsCommandStopped, ReadsWork}
 use Rattle.tool_answers.specs.declared.status.Status.{Status}
@@ -52,8 +54,8 @@ image-of-inputs : (old : Files) (u : ToolUse) (file : List ℕ) (b : ToolAnswer)
     → HasImage file ⊎ ((fault : ImageFault) × (b ≡ tool_answer.NotAnImage fault))
 image-of-inputs old u file b tells i inputs read answers =
     let same : inputs ≡ file ∷ i.rest = told-inputs old u.inputs inputs (file ∷ i.rest) tells read i.read in
-    let is = subst (λ xs. IsAnswer u.tool u.counts xs b) same answers in
-    image-or-fault u.tool u.counts (file ∷ i.rest) b i.first is
+    let is = subst (λ xs. IsAnswer u.tool u.counts u.inputs xs b) same answers in
+    image-or-fault u.tool u.counts u.inputs (file ∷ i.rest) b i.first is
 
 pub tool-image : (old : Files) (u : ToolUse) (file : List ℕ) (b : ToolAnswer) → IsTrue old.tells → ReadsImageFirst old u file → IsToolAnswer old u b
     → HasImage file ⊎ ((fault : ImageFault) × (b ≡ tool_answer.NotAnImage fault))
@@ -79,25 +81,23 @@ data Told (words : List (List ℕ)) (a : ToolAnswer) (output : Option (List ℕ)
 
 module _ (words : List (List ℕ)) (old new : World) (answer : Status) (u : ToolUse) (is : IsCommand words (Uses u)) (tells : IsTrue old.files.tells)
     (own_output : HasOwnOutput (Uses u)) (inputs : List (List ℕ)) (i : AreToolInputs old.files u.inputs inputs) (works : ReadsWork old.files new.files) (a : ToolAnswer)
-    (is_answer : IsAnswer u.tool u.counts inputs a) where
-  -- the tool's answer is this one
-  the-answer : (b : ToolAnswer) → IsToolAnswer old.files u b → b ≡ a
-  the-answer b h =
+    (is_answer : IsAnswer u.tool u.counts u.inputs inputs a) where
+  -- what the tool answers is an answer to these files
+  an-answer : (b : ToolAnswer) → IsToolAnswer old.files u b → IsAnswer u.tool u.counts u.inputs inputs b
+  an-answer b h =
       let same : h.inputs ≡ inputs = told-inputs old.files u.inputs h.inputs inputs tells h.read i in
-      one_answer u.tool u.counts inputs b a (subst (λ xs. IsAnswer u.tool u.counts xs b) same h.is) is_answer
+      subst (λ xs. IsAnswer u.tool u.counts u.inputs xs b) same h.is
 
   ended : (wanted : Status) (b : ToolAnswer) (text : List ℕ) → IsToolAnswer old.files u b → wanted ≡ tool_status b → text ≡ tool_text b
-      → FilesAfter b old.files new.files u.output → IsPutAnswer wanted answer old.sink new.sink text → Told words a u.output old new answer
-  ended wanted b text h status_is text_is after (inl p) =
-      let same = the-answer b h in
-      let P : ToolAnswer → Type 0 = λ x. FilesAfter x old.files new.files u.output in
-      Whole (record {
-        status_is = p.0 ∙ status_is ∙ ap tool_status same;
-        text = subst (λ x. IsTextTaken old.sink new.sink x) (text_is ∙ ap tool_text same) p.1;
-        files = subst P same after;
-      })
+      → FilesAfter b old.files new.files u.output → IsPutAnswer wanted answer old.sink new.sink text
+      → (c : ToolAnswer) × IsAnswer u.tool u.counts u.inputs inputs c × Told words c u.output old new answer
+  ended wanted b text h status_is text_is after (inl p) = (
+    b,
+    an-answer b h,
+    Whole (record { status_is = p.0 ∙ status_is; text = subst (λ x. IsTextTaken old.sink new.sink x) text_is p.1; files = after }),
+  )
   ended wanted b text h status_is text_is after (inr p) =
-      Broke p.0 (subst (λ x. IsTextBrokenOff old.sink new.sink x) (text_is ∙ ap tool_text (the-answer b h)) p.1)
+      (b, an-answer b h, Broke p.0 (subst (λ x. IsTextBrokenOff old.sink new.sink x) text_is p.1))
 
   own : (c : Command) (b : ToolAnswer) → IsCommand words c → AnswersAs old.files b c → IsToolAnswer old.files u b
   own c b other h = subst (AnswersAs old.files b) (one-command words c (Uses u) other is) h
@@ -110,21 +110,18 @@ module _ (words : List (List ℕ)) (old new : World) (answer : Status) (u : Tool
       by (inl image) = absurd (none_is_both n.file image.0 fault image.1 n.faulty)
       by (inr other) =
           let same : inputs ≡ n.file ∷ n.inputs.rest = told-inputs old.files u.inputs inputs (n.file ∷ n.inputs.rest) tells i n.inputs.read in
-          let is_no : IsAnswer u.tool u.counts (n.file ∷ n.inputs.rest) (tool_answer.NotAnImage other.0) =
-          subst (λ xs. IsAnswer u.tool u.counts xs (tool_answer.NotAnImage other.0)) same (subst (λ x. IsAnswer u.tool u.counts inputs x) other.1 is_answer) in
-          let fault_is : other.0 ≡ fault = fault_is_one n.file other.0 fault (no-image u.tool u.counts (n.file ∷ n.inputs.rest) other.0 is_no).1 n.faulty in
+          let is_no : IsAnswer u.tool u.counts u.inputs (n.file ∷ n.inputs.rest) (tool_answer.NotAnImage other.0) =
+          subst (λ xs. IsAnswer u.tool u.counts u.inputs xs (tool_answer.NotAnImage other.0)) same (subst (λ x. IsAnswer u.tool u.counts u.inputs inputs x) other.1 is_answer) in
+          let fault_is : other.0 ≡ fault = fault_is_one n.file other.0 fault (no-image u.tool u.counts u.inputs (n.file ∷ n.inputs.rest) other.0 is_no).1 n.faulty in
           record {
             inputs = n.file ∷ n.inputs.rest;
             read = n.inputs.read;
             delivered = n.delivered;
-            is = subst (λ f. IsAnswer u.tool u.counts (n.file ∷ n.inputs.rest) (tool_answer.NotAnImage f)) fault_is is_no;
+            is = subst (λ f. IsAnswer u.tool u.counts u.inputs (n.file ∷ n.inputs.rest) (tool_answer.NotAnImage f)) fault_is is_no;
           }
 
-  unwritten-for : (b : ToolAnswer) → b ≡ a → IsUnwrittenFor b u.output old.files new.files → IsUnwrittenFor a u.output old.files new.files
-  unwritten-for b same h = subst (λ x. IsUnwrittenFor x u.output old.files new.files) same h
-
   told-by : (wanted : Status) (text : List ℕ) → IsRequired wanted words old.files new.files text → IsPutAnswer wanted answer old.sink new.sink text
-      → Told words a u.output old new answer
+      → (b : ToolAnswer) × IsAnswer u.tool u.counts u.inputs inputs b × Told words b u.output old new answer
   told-by status.Done text q p =
       let d = subst (λ x. IsCommandDone old.files new.files x text) (one-command words q.0 (Uses u) q.1 is) q.2 in
       ended status.Done d.answer text d.is d.status_is d.text_is d.files p
@@ -140,11 +137,11 @@ module _ (words : List (List ℕ)) (old new : World) (answer : Status) (u : Tool
   told-by status.NotAnElf text q p = ended status.NotAnElf (tool_answer.NotAnElf q.2) text (own (Uses q.0) (tool_answer.NotAnElf q.2) q.1 q.3) refl q.4 q.5 p
   told-by status.BadTrace text q p = ended status.BadTrace (tool_answer.BadTrace q.2) text (own (Uses q.0) (tool_answer.BadTrace q.2) q.1 q.3) refl q.4 q.5 p
   told-by status.NoHolds text q p = ended status.NoHolds tool_answer.NoHolds text (own (Uses q.0) tool_answer.NoHolds q.1 q.2) refl q.3 q.4 p
-  told-by status.NoMemory text q (inl p) = Wanting (p.0, (text, q, p.1))
-  told-by status.NoMemory text q (inr p) = BrokeWanting p.0 (subst (λ x. IsTextBrokenOff old.sink new.sink x) q.2 p.1)
+  told-by status.NoMemory text q (inl p) = (a, is_answer, Wanting (p.0, (text, q, p.1)))
+  told-by status.NoMemory text q (inr p) = (a, is_answer, BrokeWanting p.0 (subst (λ x. IsTextBrokenOff old.sink new.sink x) q.2 p.1))
   told-by status.WriteFault text q p =
       let d = subst (IsCommandUnwritten old.files new.files) (one-command words q.0 (Uses u) q.1 is) q.2 in
-      Unwritten (write-fault p) (unwritten-for (tool_answer.Done d.outcome) (the-answer (tool_answer.Done d.outcome) d.is) d.failed)
+      (tool_answer.Done d.outcome, an-answer (tool_answer.Done d.outcome) d.is, Unwritten (write-fault p) d.failed)
     where
       write-fault : IsPutAnswer status.WriteFault answer old.sink new.sink text → answer ≡ status.WriteFault
       write-fault (inl p) = p.0
@@ -200,11 +197,24 @@ answers-done words a output old new answer works (Unwritten is h) = absurd (not-
 answers-done words a output old new answer works (Broke is h) = absurd (no-broken-put old.sink new.sink (tool_text a) works.text h)
 answers-done words a output old new answer works (BrokeWanting is h) = absurd (no-broken-put old.sink new.sink (codes "no memory\n") works.last_line h)
 
+-- answers to the same files stand for each other
+stands : (t : Tool) (counts : Option Counts) (names inputs : List (List ℕ)) (b a : ToolAnswer) → IsAnswer t counts names inputs b
+    → IsAnswer t counts names inputs a → StandsFor t b a
+stands t counts names inputs b a p q = λ d. one_answer t counts names inputs b a d p q
+
 pub tells-tool : (words : List (List ℕ)) (old new : World) (answer : Status) → IsTopAnswer words old new answer → HasToolAnswer words old new answer
 tells-tool words old new answer h u is tells own inputs i reads a is_answer =
-    answers-tool words a u.output old new answer (told-by words old new answer u is tells own inputs i reads a is_answer h.wanted h.text h.required h.puts)
+    let t = told-by words old new answer u is tells own inputs i reads a is_answer h.wanted h.text h.required h.puts in
+    (t.0, t.1, stands u.tool u.counts u.inputs inputs t.0 a t.1 is_answer, answers-tool words t.0 u.output old new answer t.2)
+
+-- what a call that works comes to, of one of the answers
+one-done : (P S Q : ToolAnswer → Type 0) (R : Type 0) (b : ToolAnswer) → P b → S b → Q b ⊎ R → ((c : ToolAnswer) × P c × S c × Q c) ⊎ R
+one-done P S Q R b p s (inl q) = inl (b, p, s, q)
+one-done P S Q R b p s (inr r) = inr r
 
 pub tells-tool-done : (words : List (List ℕ)) (old new : World) (answer : Status) → IsTopAnswer words old new answer → HasToolDoneAnswer words old new answer
 tells-tool-done words old new answer h u is tells own inputs i a is_answer works =
-    answers-done words a u.output old new answer works
-    (told-by words old new answer u is tells own inputs i works.reads a is_answer h.wanted h.text h.required h.puts)
+    let t = told-by words old new answer u is tells own inputs i (works a is_answer).reads a is_answer h.wanted h.text h.required h.puts in
+    one-done (λ b. IsAnswer u.tool u.counts u.inputs inputs b) (λ b. StandsFor u.tool b a) (λ b. IsToolTold b u.output old new answer)
+    (IsFullAnswer status.NoMemory words old new answer) t.0 t.1 (stands u.tool u.counts u.inputs inputs t.0 a t.1 is_answer)
+    (answers-done words t.0 u.output old new answer (works t.0 t.1) t.2)

@@ -4,7 +4,8 @@ use Rattle.sloth_io.specs.Counts.{Rose}
 use Rattle.sloth_io.specs.Store.{Files}
 use Rattle.command_line.specs.Command.{Uses, IsCommand}
 use Rattle.command_line.specs.Tools.{ToolUse}
-use Rattle.tool_commands.specs.Answers.{IsAnswer}
+use Rattle.command_line.specs.declared.tool.Tool.{Tool}
+use Rattle.tool_commands.specs.Answers.{IsAnswer, is_determined}
 use Rattle.tool_commands.specs.Lines.{tool_text}
 use Rattle.tool_answers.specs.declared.answer.ToolAnswer.{ToolAnswer}
 use Rattle.tool_answers.specs.declared.answer.ToolAnswer.TheVariants as tool_answer
@@ -42,17 +43,27 @@ pub record ToolWorks (a : ToolAnswer) (output : Option (List ℕ)) (old new : Wo
   pub text : PutsWork old.sink new.sink (tool_text a)
   pub last_line : PutsWork old.sink new.sink (codes "no memory\n")
 
--- The files are there, the tool's output is none of them, and this is the tool's answer to them: this answer.
+-- one answer stands for another: they are the same, unless the tool's answer is not determined by what it reads
+abbrev pub StandsFor : Tool → (one other : ToolAnswer) → Type 0
+StandsFor tool one other = IsTrue (is_determined tool) → one ≡ other
+
+-- The files are there, the tool's output is none of them, and this is the tool's answer to them: this answer, or that of one which stands for it.
 abbrev pub HasToolAnswer : List (List ℕ) → World → World → Status → Type 0
 HasToolAnswer words old new answer =
     (u : ToolUse) → IsCommand words (Uses u) → IsTrue old.files.tells → HasOwnOutput (Uses u) → (inputs : List (List ℕ))
     → AreToolInputs old.files u.inputs inputs
-    → ReadsWork old.files new.files → (a : ToolAnswer) → IsAnswer u.tool u.counts inputs a → IsToolStatus words a u.output old new answer
+    → ReadsWork old.files new.files → (a : ToolAnswer) → IsAnswer u.tool u.counts u.inputs inputs a
+    → (b : ToolAnswer) × IsAnswer u.tool u.counts u.inputs inputs b × StandsFor u.tool b a × IsToolStatus words b u.output old new answer
+
+-- no call fails for any answer of the tool to these files
+abbrev pub EachWorks : ToolUse → (inputs : List (List ℕ)) → World → World → Type 0
+EachWorks u inputs old new = (b : ToolAnswer) → IsAnswer u.tool u.counts u.inputs inputs b → ToolWorks b u.output old new
 
 -- And no call failed: this answer, or memory was wanting.
 abbrev pub HasToolDoneAnswer : List (List ℕ) → World → World → Status → Type 0
 HasToolDoneAnswer words old new answer =
     (u : ToolUse) → IsCommand words (Uses u) → IsTrue old.files.tells → HasOwnOutput (Uses u) → (inputs : List (List ℕ))
     → AreToolInputs old.files u.inputs inputs
-    → (a : ToolAnswer) → IsAnswer u.tool u.counts inputs a → ToolWorks a u.output old new
-    → IsToolTold a u.output old new answer ⊎ IsFullAnswer status.NoMemory words old new answer
+    → (a : ToolAnswer) → IsAnswer u.tool u.counts u.inputs inputs a → EachWorks u inputs old new
+    → ((b : ToolAnswer) × IsAnswer u.tool u.counts u.inputs inputs b × StandsFor u.tool b a × IsToolTold b u.output old new answer)
+    ⊎ IsFullAnswer status.NoMemory words old new answer

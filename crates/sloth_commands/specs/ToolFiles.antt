@@ -25,7 +25,7 @@ pub record IsToolAnswer (files : Files) (u : ToolUse) (answer : ToolAnswer) : Ty
   pub read : AreToolInputs files u.inputs inputs
   -- and exactly they were read, in this order
   pub delivered : files.reads ≡ input_deliveries u.inputs inputs
-  pub is : IsAnswer u.tool u.counts inputs answer
+  pub is : IsAnswer u.tool u.counts u.inputs inputs answer
 
 -- the tool reads an image file first, which has these bytes
 pub record ReadsImageFirst (files : Files) (u : ToolUse) (file : List ℕ) : Type 0 where

@@ -168,6 +168,12 @@ pub fn use_tool<F: Store, S: Sink>(
     ensures reads { AreFirstDelivered (F.seen files.old) (F.seen files.new) (inputs_of (Uses (use_of words.now))) }
 {
     let inputs = fetch_all(alloc, files, words.inputs)?;
-    let answer = judge(alloc, words.tool, words.counts, inputs.as_slice())?;
+    let answer = judge(
+        alloc,
+        words.tool,
+        words.counts,
+        words.inputs,
+        inputs.as_slice(),
+    )?;
     tell(files, out, words, &answer)
 }

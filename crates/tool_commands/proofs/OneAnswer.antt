@@ -26,22 +26,23 @@ use Rattle.tool_commands.proofs.SourceAnswers.{one_source}
 use Rattle.tool_commands.proofs.WaveAnswers.{Waves, one_waves}
 
 pub one_answer : OneAnswer
-one_answer tool.Elf counts inputs a b p q = elf-one (input inputs 0) a b p q
-one_answer tool.Unelf counts inputs a b p q = unelf-one (input inputs 0) a b p q
-one_answer tool.Infer counts inputs a b p q = infer-one (input inputs 0) (input inputs 1) a b p q
-one_answer tool.At counts inputs a b p q = at-one (input inputs 0) (input inputs 1) (number_of counts) a b p q
-one_answer tool.Wave counts inputs a b p q =
+one_answer tool.Elf counts names inputs a b d p q = elf-one (input inputs 0) a b p q
+one_answer tool.Unelf counts names inputs a b d p q = unelf-one (input inputs 0) a b p q
+one_answer tool.Infer counts names inputs a b d p q = infer-one (input inputs 0) (input inputs 1) a b p q
+one_answer tool.At counts names inputs a b d p q = at-one (input inputs 0) (input inputs 1) (number_of counts) a b p q
+one_answer tool.Wave counts names inputs a b d p q =
     let n = number_of counts in run-one (Waves n) (input inputs 0) (input inputs 1) n (one_waves n) a b p q
-one_answer tool.Picture counts inputs a b p q =
+one_answer tool.Picture counts names inputs a b d p q =
     let w = window_of counts in run-one (Pictures w.from w.to) (input inputs 0) (input inputs 1) w.to (one_pictures w.from w.to) a b p q
-one_answer tool.Check counts inputs a b p q =
+one_answer tool.Check counts names inputs a b d p q =
     one_check (input inputs 0) (input inputs 1) (input inputs 2) (input inputs 3) (number_of counts) a b p q
-one_answer tool.Bounds counts inputs a b p q =
+one_answer tool.Bounds counts names inputs a b d p q =
     let oil = input inputs 0 in let src = input inputs 1 in one_source oil src (BoundsSays oil src) (one_bounds oil src) a b p q
-one_answer tool.Latency counts inputs a b p q =
+one_answer tool.Latency counts names inputs a b d p q =
     let oil = input inputs 0 in let src = input inputs 1 in one_source oil src (LatencySays oil src) (one_latency oil src) a b p q
-one_answer tool.Map counts inputs a b p q =
+one_answer tool.Map counts names inputs a b d p q =
     let oil = input inputs 0 in let src = input inputs 1 in one_source oil src (MapSays oil src) (one_map oil src) a b p q
+one_answer tool.Symbols counts names inputs a b d p q = absurd (false≢true d)
 
 -- a tool that reads an image file reads a file
 pub reads-one : (t : Tool) → IsTrue (reads_image t) → 1 ≤ input_count t
@@ -55,42 +56,47 @@ reads-one tool.Check h = omega arith
 reads-one tool.Bounds h = omega arith
 reads-one tool.Latency h = omega arith
 reads-one tool.Map h = omega arith
+reads-one tool.Symbols h = omega arith
 
 -- only a tool that reads an image file says that it is none, by its first fault
-pub no-image : (t : Tool) (counts : Option Counts) (inputs : List (List ℕ)) (fault : ImageFault) → IsAnswer t counts inputs (answer.NotAnImage fault)
+pub no-image : (t : Tool) (counts : Option Counts) (names inputs : List (List ℕ)) (fault : ImageFault)
+    → IsAnswer t counts names inputs (answer.NotAnImage fault)
     → IsTrue (reads_image t) × IsFirstImageFault fault (input inputs 0)
-no-image tool.Elf counts inputs fault h = (refl, h)
-no-image tool.Unelf counts inputs fault h = absurd h
-no-image tool.Infer counts inputs fault h = absurd h
-no-image tool.At counts inputs fault h = (refl, h)
-no-image tool.Wave counts inputs fault h = (refl, h)
-no-image tool.Picture counts inputs fault h = (refl, h)
-no-image tool.Check counts inputs fault h = absurd h
-no-image tool.Bounds counts inputs fault h = absurd h
-no-image tool.Latency counts inputs fault h = absurd h
-no-image tool.Map counts inputs fault h = absurd h
+no-image tool.Elf counts names inputs fault h = (refl, h)
+no-image tool.Unelf counts names inputs fault h = absurd h
+no-image tool.Infer counts names inputs fault h = absurd h
+no-image tool.At counts names inputs fault h = (refl, h)
+no-image tool.Wave counts names inputs fault h = (refl, h)
+no-image tool.Picture counts names inputs fault h = (refl, h)
+no-image tool.Check counts names inputs fault h = absurd h
+no-image tool.Bounds counts names inputs fault h = absurd h
+no-image tool.Latency counts names inputs fault h = absurd h
+no-image tool.Map counts names inputs fault h = absurd h
+no-image tool.Symbols counts names inputs fault h = absurd h
 
 -- these bytes are an image's
 abbrev pub HasImage : List ℕ → Type 0
 HasImage file = (image : Image) × ImageText file image
 
 -- what an answer says of the image file that is read
-pub image-or-fault : (t : Tool) (counts : Option Counts) (inputs : List (List ℕ)) (a : ToolAnswer) → IsTrue (reads_image t) → IsAnswer t counts inputs a
+pub image-or-fault : (t : Tool) (counts : Option Counts) (names inputs : List (List ℕ)) (a : ToolAnswer) → IsTrue (reads_image t)
+    → IsAnswer t counts names inputs a
     → HasImage (input inputs 0) ⊎ ((fault : ImageFault) × (a ≡ answer.NotAnImage fault))
-image-or-fault tool.Elf counts inputs a reads h = by (elf-view (input inputs 0) a h)
+image-or-fault tool.Elf counts names inputs a reads h = by (elf-view (input inputs 0) a h)
   where
     by : Wrote (λ out. (image : Image) × ImageText (input inputs 0) image × ElfText out image) a ⊎ ((fault : ImageFault) × (a ≡ answer.NotAnImage fault) × IsFirstImageFault fault (input inputs 0))
         → HasImage (input inputs 0) ⊎ ((fault : ImageFault) × (a ≡ answer.NotAnImage fault))
     by (inl w) = inl (w.file.0, w.file.1)
     by (inr w) = inr (w.0, w.1)
-image-or-fault tool.Unelf counts inputs a reads h = absurd (false≢true reads)
-image-or-fault tool.Infer counts inputs a reads h = absurd (false≢true reads)
-image-or-fault tool.At counts inputs a reads h = at-image (input inputs 0) (input inputs 1) (number_of counts) a h
-image-or-fault tool.Wave counts inputs a reads h =
+image-or-fault tool.Unelf counts names inputs a reads h = absurd (false≢true reads)
+image-or-fault tool.Infer counts names inputs a reads h = absurd (false≢true reads)
+image-or-fault tool.At counts names inputs a reads h = at-image (input inputs 0) (input inputs 1) (number_of counts) a h
+image-or-fault tool.Wave counts names inputs a reads h =
     let n = number_of counts in run-image (Waves n) (input inputs 0) (input inputs 1) n (one_waves n) a h
-image-or-fault tool.Picture counts inputs a reads h =
+image-or-fault tool.Picture counts names inputs a reads h =
     let w = window_of counts in run-image (Pictures w.from w.to) (input inputs 0) (input inputs 1) w.to (one_pictures w.from w.to) a h
-image-or-fault tool.Check counts inputs a reads h = absurd (false≢true reads)
-image-or-fault tool.Bounds counts inputs a reads h = absurd (false≢true reads)
-image-or-fault tool.Latency counts inputs a reads h = absurd (false≢true reads)
-image-or-fault tool.Map counts inputs a reads h = absurd (false≢true reads)
+image-or-fault tool.Check counts names inputs a reads h = absurd (false≢true reads)
+image-or-fault tool.Bounds counts names inputs a reads h = absurd (false≢true reads)
+image-or-fault tool.Latency counts names inputs a reads h = absurd (false≢true reads)
+image-or-fault tool.Map counts names inputs a reads h = absurd (false≢true reads)
+image-or-fault tool.Symbols counts names inputs a reads h = absurd (false≢true reads)

@@ -1,5 +1,5 @@
 -- Which answer a tool has to the files that it reads: a row for each tool.
-use Rattle.std.specs.Prelude.{ℕ, ◌≡◌, List, [], Option, Bool, true, false, get_or}
+use Rattle.std.specs.Prelude.{ℕ, ◌≡◌, List, [], Option, Bool, true, false, IsTrue, get_or}
 use Rattle.command_line.specs.Tools.{number_of, window_of}
 use Rattle.command_line.specs.declared.counts.Counts.{Counts}
 use Rattle.command_line.specs.declared.tool.Tool.{Tool}
@@ -11,26 +11,28 @@ use Rattle.tool_commands.specs.InferAnswers.{IsInferAnswer}
 use Rattle.tool_commands.specs.AtAnswers.{IsAtAnswer}
 use Rattle.tool_commands.specs.MapAnswers.{IsMapAnswer}
 use Rattle.tool_commands.specs.PictureAnswers.{IsPictureAnswer}
+use Rattle.tool_commands.specs.SymbolsAnswers.{IsSymbolsAnswer}
 use Rattle.tool_commands.specs.WaveAnswers.{IsWaveAnswer}
 use Rattle.tool_answers.specs.declared.answer.ToolAnswer.{ToolAnswer}
 
--- the bytes of a file, by its place in the order of the words
+-- the bytes of a file, or its name, by its place in the order of the words
 abbrev pub input : List (List ℕ) → ℕ → List ℕ
 input inputs k = get_or inputs k []
 
--- the answer of a tool with these counts, if it takes any, to files of these bytes
-abbrev pub IsAnswer : Tool → Option Counts → List (List ℕ) → ToolAnswer → Type 0
-IsAnswer tool.Elf counts inputs answer = IsElfAnswer (input inputs 0) answer
-IsAnswer tool.Unelf counts inputs answer = IsUnelfAnswer (input inputs 0) answer
-IsAnswer tool.Infer counts inputs answer = IsInferAnswer (input inputs 0) (input inputs 1) answer
-IsAnswer tool.At counts inputs answer = IsAtAnswer (input inputs 0) (input inputs 1) (number_of counts) answer
-IsAnswer tool.Wave counts inputs answer = IsWaveAnswer (input inputs 0) (input inputs 1) (number_of counts) answer
-IsAnswer tool.Picture counts inputs answer = IsPictureAnswer (input inputs 0) (input inputs 1) (window_of counts) answer
-IsAnswer tool.Check counts inputs answer =
+-- the answer of a tool with these counts, if it takes any, to files of these names and bytes
+abbrev pub IsAnswer : Tool → Option Counts → (names inputs : List (List ℕ)) → ToolAnswer → Type 0
+IsAnswer tool.Elf counts names inputs answer = IsElfAnswer (input inputs 0) answer
+IsAnswer tool.Unelf counts names inputs answer = IsUnelfAnswer (input inputs 0) answer
+IsAnswer tool.Infer counts names inputs answer = IsInferAnswer (input inputs 0) (input inputs 1) answer
+IsAnswer tool.At counts names inputs answer = IsAtAnswer (input inputs 0) (input inputs 1) (number_of counts) answer
+IsAnswer tool.Wave counts names inputs answer = IsWaveAnswer (input inputs 0) (input inputs 1) (number_of counts) answer
+IsAnswer tool.Picture counts names inputs answer = IsPictureAnswer (input inputs 0) (input inputs 1) (window_of counts) answer
+IsAnswer tool.Check counts names inputs answer =
     IsCheckAnswer (input inputs 0) (input inputs 1) (input inputs 2) (input inputs 3) (number_of counts) answer
-IsAnswer tool.Bounds counts inputs answer = IsBoundsAnswer (input inputs 0) (input inputs 1) answer
-IsAnswer tool.Latency counts inputs answer = IsLatencyAnswer (input inputs 0) (input inputs 1) answer
-IsAnswer tool.Map counts inputs answer = IsMapAnswer (input inputs 0) (input inputs 1) answer
+IsAnswer tool.Bounds counts names inputs answer = IsBoundsAnswer (input inputs 0) (input inputs 1) answer
+IsAnswer tool.Latency counts names inputs answer = IsLatencyAnswer (input inputs 0) (input inputs 1) answer
+IsAnswer tool.Map counts names inputs answer = IsMapAnswer (input inputs 0) (input inputs 1) answer
+IsAnswer tool.Symbols counts names inputs answer = IsSymbolsAnswer (input inputs 0) (input inputs 1) (input names 1) answer
 
 -- the first file that it reads is to be an image file
 abbrev pub reads_image : Tool → Bool
@@ -44,9 +46,24 @@ reads_image tool.Check = false
 reads_image tool.Bounds = false
 reads_image tool.Latency = false
 reads_image tool.Map = false
+reads_image tool.Symbols = false
 
--- files have one answer
+-- its answer is determined by what it reads; the file of `symbols` by the image too, of which there may be more than one
+abbrev pub is_determined : Tool → Bool
+is_determined tool.Elf = true
+is_determined tool.Unelf = true
+is_determined tool.Infer = true
+is_determined tool.At = true
+is_determined tool.Wave = true
+is_determined tool.Picture = true
+is_determined tool.Check = true
+is_determined tool.Bounds = true
+is_determined tool.Latency = true
+is_determined tool.Map = true
+is_determined tool.Symbols = false
+
+-- files have one answer of such a tool
 abbrev pub OneAnswer : Type 0
 OneAnswer =
-    (t : Tool) (counts : Option Counts) (inputs : List (List ℕ)) (one other : ToolAnswer) → IsAnswer t counts inputs one → IsAnswer t counts inputs other
-    → one ≡ other
+    (t : Tool) (counts : Option Counts) (names inputs : List (List ℕ)) (one other : ToolAnswer) → IsTrue (is_determined t)
+    → IsAnswer t counts names inputs one → IsAnswer t counts names inputs other → one ≡ other

@@ -8,5 +8,6 @@ pub mod MapAnswers
 pub mod PictureAnswers
 pub mod RunAnswers
 pub mod SourceAnswers
+pub mod SymbolsAnswers
 pub mod WaveAnswers
 pub mod StatesText

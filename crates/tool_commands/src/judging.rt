@@ -1,8 +1,9 @@
 //! The answer of a tool.
-ghost use Rattle.std.specs.Prelude.{◌≡◌, ◌≤◌, IfOk, All, length};
+ghost use Rattle.std.specs.Prelude.{◌≡◌, ◌≤◌, ◌<◌, IfOk, All, length};
 ghost use Rattle.sloth_base.specs.Limits.{file_limit};
+ghost use Rattle.command_line.specs.Command.{words_of};
 ghost use Rattle.command_line.specs.Tools.{input_count, counts_limit, AreCounts};
-ghost use Rattle.tool_commands.specs.Answers.{IsAnswer};
+ghost use Rattle.tool_commands.specs.Answers.{IsAnswer, input};
 
 use crate::at_command::at;
 use crate::bounds_command::{bounds, latency};
@@ -10,6 +11,7 @@ use crate::elf_commands::{elf, unelf};
 use crate::infer_command::infer;
 use crate::map_command::map;
 use crate::picture_command::picture;
+use crate::symbols_command::symbols;
 use crate::wave_command::wave;
 use command_line::counts::{Counts, number_of, window_of};
 use command_line::tool::Tool;
@@ -19,17 +21,27 @@ use std::alloc::Global;
 use tool_answers::answer::ToolAnswer;
 use tool_answers::check_command::check;
 
-/// The answer of a tool with these counts, if it takes any, to files of these bytes.
+// The name of a file, by its place in the order of the words.
+fn name_of(names: &[String], place: usize) -> &[u8]
+    requires { place < length names.now }
+    ensures { result.now ≡ input (words_of names.now) place }
+{
+    names[place].as_str().as_bytes()
+}
+
+/// The answer of a tool with these counts, if it takes any, to files of these names and bytes.
 pub fn judge(
     alloc: Global,
     tool: Tool,
     counts: Option<Counts>,
+    names: &[String],
     inputs: &[List<u8>],
 ) -> Result<ToolAnswer, NoMemory>
+    requires named { length names.now ≡ input_count tool }
     requires counted { length inputs.now ≡ input_count tool }
     requires counts { AreCounts (counts_limit tool) counts }
     requires short { All (λ input. length input ≤ file_limit) inputs.now }
-    ensures { IfOk result (λ answer. IsAnswer tool counts inputs.now answer) }
+    ensures { IfOk result (λ answer. IsAnswer tool counts (words_of names.now) inputs.now answer) }
 {
     match tool {
         Tool::Elf => elf(alloc, inputs[0].items()),
@@ -64,5 +76,11 @@ pub fn judge(
         Tool::Bounds => bounds(alloc, inputs[0].items(), inputs[1].items()),
         Tool::Latency => latency(alloc, inputs[0].items(), inputs[1].items()),
         Tool::Map => map(alloc, inputs[0].items(), inputs[1].items()),
+        Tool::Symbols => symbols(
+            alloc,
+            inputs[0].items(),
+            inputs[1].items(),
+            name_of(names, 1),
+        ),
     }
 }

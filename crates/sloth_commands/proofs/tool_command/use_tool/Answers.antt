@@ -1,6 +1,7 @@
 use Rattle.std.proofs.Common.{◌≤◌, ◌∙◌, ℕ, List, ap, subst, sym, length}
-use Rattle.std.specs.Prelude.{All}
+use Rattle.std.specs.Prelude.{All, string_bytes}
 use Rattle.std.proofs.lemmas.Result.{err_from_is_err_and, IfErr-weaker}
+use Rattle.std.proofs.lemmas.List.{length-map}
 use Rattle.std.proofs.lemmas.List.Elements.{All-from_recursion}
 use Rattle.sloth_base.specs.Limits.{file_limit}
 use Rattle.command_line.specs.Command.{Uses, words_of}
@@ -12,6 +13,10 @@ use Rattle.sloth_commands.proofs.ToolCauses.{all-told, answer-of, tell-ends, too
 use Rattle.sloth_commands.proofs.CallFiles.{stays-kept}
 use Rattle.sloth_commands.proofs.ToolReads.{all-short, as-many}
 use Rattle.sloth_commands.proofs.tool_command.use_tool.Goals as goal
+
+-- they have as many names
+pub judge-requires-clause-named : goal.judge-requires-clause-named
+judge-requires-clause-named g c = sym (length-map c.args.words.now.inputs.now (λ w. string_bytes w)) ∙ c.requires.counted
 
 -- as many files are read as the tool asks for
 pub judge-requires-clause-counted : goal.judge-requires-clause-counted

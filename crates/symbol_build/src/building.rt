@@ -1,0 +1,126 @@
+//! The file of texts.
+ghost use Rattle.std.specs.Prelude.{◌≡◌, ◌≤◌, ◌<◌, IfErr, IfOk, length};
+ghost use Rattle.sloth_base.specs.Limits.{file_limit};
+ghost use Rattle.sloth_base.specs.declared.image.Image.{Image as AnyImage};
+ghost use Rattle.least_fault.specs.Order.{NoFault};
+ghost use Rattle.asm_lines.specs.Faults.{SourceLinesFault, source_lines};
+ghost use Rattle.image_gen.specs.Gathered.{MayBuild};
+ghost use Rattle.map_rows.specs.Listable.{IsListable};
+ghost use Rattle.sloth_source.specs.Texts.{SourcesErrorIs};
+ghost use Rattle.symbol_image.specs.DataLines.{data_lines};
+ghost use Rattle.symbol_image.specs.FileParts.{MayShow};
+ghost use Rattle.symbol_image.specs.SymbolFile.{symbol_file};
+ghost use Rattle.symbol_build.specs.SymbolFiles.{IsFileOfImage, IsSymbolFile, parts_of};
+
+use asm_lines::SourceLine;
+use image_gen::image::image;
+use map_rows::rows::map_rows;
+use mem_map::plan;
+use sloth_base::app::App;
+use sloth_base::config::Config;
+use sloth_base::list::List;
+use sloth_base::memory::NoMemory;
+use sloth_base::places::Bounds;
+use sloth_base::refusal::BuildError;
+use sloth_region::map::Map;
+use sloth_source::{Source, read};
+use std::alloc::Global;
+use symbol_image::{Parts, data_lines, symbol_file};
+
+// What the lines of a source are, in which there is no fault, so that only memory can be wanting.
+fn lines_of(alloc: Global, src: &[u8]) -> Result<List<SourceLine>, NoMemory>
+    requires short { length src.now < 4294967295 }
+    requires none { NoFault (SourceLinesFault src.now) }
+    ensures { IfOk result (λ lines. lines ≡ source_lines src.now) }
+{
+    match asm_lines::read(alloc, src) {
+        Ok(lines) => Ok(lines),
+        Err(_) => Err(NoMemory),
+    }
+}
+
+// The lines in which it declares its symbols.
+fn declaring_lines(alloc: Global, src: &[u8]) -> Result<Vec<u32>, NoMemory>
+    requires short { length src.now ≤ file_limit }
+    requires none { NoFault (SourceLinesFault src.now) }
+    ensures { IfOk result (λ found. found.items ≡ data_lines 1 (source_lines src.now)) }
+{
+    let lines = lines_of(alloc, src)?;
+    data_lines(alloc, lines.items())
+}
+
+// The file of these parts.
+fn file_of<'t>(
+    alloc: Global,
+    name: &'t [u8],
+    lines: &'t [u32],
+    config: &'t Config,
+    app: &'t App,
+    map: &'t Map,
+    memory: &'t [u8],
+) -> Result<Vec<u8>, NoMemory>
+    requires listable { IsListable config.now map.now }
+    requires may { MayShow (parts_of name.now lines.now config.now app.now map.now memory.now) }
+    ensures { IfOk result (λ file. file.items ≡ symbol_file (parts_of name.now lines.now config.now app.now map.now memory.now)) }
+{
+    let rows = map_rows(alloc, config, map)?;
+    let parts = Parts {
+        source: name,
+        config,
+        app,
+        map,
+        lines,
+        memory,
+    };
+    symbol_file(alloc, &parts, rows.as_slice())
+}
+
+// The file of the image of task code, whose source has this name.
+fn planned_file(
+    alloc: Global,
+    name: &[u8],
+    src: &[u8],
+    config: &Config,
+    app: &App,
+    bounds: &Bounds,
+) -> Result<Vec<u8>, NoMemory>
+    requires short { length src.now ≤ file_limit }
+    requires none { NoFault (SourceLinesFault src.now) }
+    requires may { MayBuild config.now app.now bounds.now }
+    ensures { IfOk result (λ file.
+        (image : AnyImage) × IsFileOfImage config.now app.now name.now (data_lines 1 (source_lines src.now)) image file.items) }
+{
+    let image = image(alloc, config, app, bounds)?;
+    let map = plan(alloc, app, config, bounds)?;
+    let lines = declaring_lines(alloc, src)?;
+    file_of(
+        alloc,
+        name,
+        lines.as_slice(),
+        config,
+        app,
+        &map,
+        image.memory.items(),
+    )
+}
+
+/// The file that debuggers read of an image of these texts, the second of which has this name, each of at most 4 MiB; or the first refusal.
+pub fn symbols_file(
+    alloc: Global,
+    oil: &[u8],
+    src: &[u8],
+    name: &[u8],
+) -> Result<Vec<u8>, BuildError>
+    requires oil { length oil.now ≤ file_limit }
+    requires src { length src.now ≤ file_limit }
+    ensures file { IfOk result (λ file. IsSymbolFile oil.now src.now name.now file.items) }
+    ensures refused { IfErr result (SourcesErrorIs oil.now src.now) }
+{
+    let Source {
+        config,
+        app,
+        bounds,
+    } = read(alloc, oil, src)?;
+    let file = planned_file(alloc, name, src, &config, &app, &bounds)?;
+    Ok(file)
+}
