@@ -1,8 +1,8 @@
--- Each byte of the memory is loaded once, and nothing else is.
-use Rattle.std.proofs.Common.{◌≡◌, ◌<◌, ◌≤◌, ◌+◌, ◌-◌, ◌%◌, ◌^◌, ◌∙◌, ◌⊎◌, inl, inr, ℕ, zero, suc, List, [], ◌∷◌, ◌++◌, length, get_or, take, drop, codes, refl, sym, ap, subst, arith, append_assoc}
+-- Each byte of the memory is loaded once, and nothing else is; sections and segments agree.
+use Rattle.std.proofs.Common.{◌≡◌, ◌<◌, ◌≤◌, ◌+◌, ◌-◌, ◌%◌, ◌^◌, ◌*◌, ◌∙◌, ◌⊎◌, inl, inr, ℕ, zero, suc, List, [], ◌∷◌, ◌++◌, length, get_or, take, drop, codes, refl, sym, ap, subst, arith, append_assoc}
 use Rattle.std.proofs.lemmas.Bool.{cases_lt}
 use Rattle.std.proofs.Math.Seq.{take-add}
-use Rattle.std.proofs.lemmas.List.{append-nil, get_or-drop, get_or_append_left, length-append, length-drop, length-take-le, take-append-drop, take_all}
+use Rattle.std.proofs.lemmas.List.{append-nil, drop-drop, drop_at, get_or-drop, get_or_append_left, length-append, length-drop, length-take-le, take-append-drop, take_all}
 use Rattle.dwarf_sections.specs.Fields.{text_bytes}
 use Rattle.elf_image.specs.ElfText.{padding}
 use Rattle.image_file.proofs.Unique.{four}
@@ -10,8 +10,9 @@ use Rattle.image_file.specs.Fields.{four_bytes, two_bytes}
 use Rattle.sloth_base.specs.MemoryMap.{memory_base, memory_bytes, vectors_base}
 use Rattle.symbol_image.specs.FileParts.{FileParts, MayShow}
 use Rattle.symbol_image.specs.Headers.{elf_header, place_of, segment_headers}
-use Rattle.symbol_image.specs.Layout.{Laid, Section, all_laid, laid_with, none_laid, padded, strings, whole, with_names}
+use Rattle.symbol_image.specs.Layout.{Laid, Section, all_laid, front, laid_with, none_laid, padded, section_header, strings, whole, with_names}
 use Rattle.symbol_image.specs.Loading.{IsLoad, Load, LoadedOnce, Loads, MemoryIsLoaded, NothingElseIsLoaded}
+use Rattle.symbol_image.specs.Sections.{IsSection, SectionsAgree, section_flags}
 use Rattle.symbol_image.specs.SymbolFile.{debugging_sections, laid_parts, loaded, memory_between, parts_borders, rows_of, stack_section, symbol_file, table_sections}
 use Rattle.symbol_image.specs.Symbols.{locals_of, symbols_of}
 use Rattle.map_rows.specs.declared.borders.Borders.{Borders}
@@ -29,6 +30,10 @@ module _ (at : ℕ) (b : Borders) (rest : List ℕ) where
   behind : drop 148 file ≡ rest
   unfolding four_bytes two_bytes
   behind = refl
+
+  headers-at : take 4 (drop 32 file) ≡ four_bytes at
+  unfolding four_bytes two_bytes
+  headers-at = refl
 
   words_load : IsLoad file 0 (load_of memory_base vectors_base)
   unfolding four_bytes two_bytes
@@ -55,6 +60,113 @@ grows_all laid (s ∷ sections) =
     let one = grows laid s in
     let rest = grows_all (laid_with laid s) sections in
     (one.0 ++ rest.0, rest.1 ∙ ap (λ l. l ++ rest.0) one.1 ∙ append_assoc laid.contents one.0 rest.0)
+
+-- ---- the headers of the sections
+
+-- one is put behind those that are there
+heads : (laid : Laid) (s : Section) → (more : List ℕ) × ((laid_with laid s).headers ≡ laid.headers ++ more)
+unfolding laid_with
+heads laid s = (section_header (length laid.names) (front + length (whole laid.contents)) s, refl)
+
+heads_all : (laid : Laid) (sections : List Section) → (more : List ℕ) × ((all_laid laid sections).headers ≡ laid.headers ++ more)
+heads_all laid [] = ([], sym (append-nil laid.headers))
+heads_all laid (s ∷ sections) =
+    let one = heads laid s in
+    let rest = heads_all (laid_with laid s) sections in
+    (one.0 ++ rest.0, rest.1 ∙ ap (λ l. l ++ rest.0) one.1 ∙ append_assoc laid.headers one.0 rest.0)
+
+-- the header at a place of these: the flags, the address, the place of the bytes, and how many they are
+record HasHeader (headers : List ℕ) (at flags address place bytes : ℕ) : Type 0 where
+  flags_are : take 4 (drop (at + 8) headers) ≡ four_bytes flags
+  address_is : take 4 (drop (at + 12) headers) ≡ four_bytes address
+  place_is : take 4 (drop (at + 16) headers) ≡ four_bytes place
+  bytes_are : take 4 (drop (at + 20) headers) ≡ four_bytes bytes
+
+-- the same by other terms for place and number
+same-header : (headers : List ℕ) (at flags address place bytes there long : ℕ) → place ≡ there → bytes ≡ long
+    → HasHeader headers at flags address place bytes → HasHeader headers at flags address there long
+same-header headers at flags address place bytes there long p b h = record {
+  flags_are = h.flags_are;
+  address_is = h.address_is;
+  place_is = h.place_is ∙ ap four_bytes p;
+  bytes_are = h.bytes_are ∙ ap four_bytes b;
+}
+
+-- those of three sections, behind the header of zeros
+module _ (n p m q k r : ℕ) (one two third : Section) (more : List ℕ) where
+  abbrev three-heads : List ℕ
+  three-heads = (((none_laid.headers ++ section_header n p one) ++ section_header m q two) ++ section_header k r third) ++ more
+
+  one-header : HasHeader three-heads 40 one.flags one.address p one.size
+  unfolding four_bytes
+  one-header = record { flags_are = refl; address_is = refl; place_is = refl; bytes_are = refl }
+
+  two-header : HasHeader three-heads 80 two.flags two.address q two.size
+  unfolding four_bytes
+  two-header = record { flags_are = refl; address_is = refl; place_is = refl; bytes_are = refl }
+
+  third-header : HasHeader three-heads 120 third.flags third.address r third.size
+  unfolding four_bytes
+  third-header = record { flags_are = refl; address_is = refl; place_is = refl; bytes_are = refl }
+
+module _ (memory : List ℕ) (b : Borders) where
+  -- words, code and data, and what is laid out with each of them
+  abbrev words_section : Section
+  words_section = loaded (codes ".words") 3 memory memory_base vectors_base
+
+  abbrev code_section : Section
+  code_section = loaded (codes ".text") 6 memory vectors_base b.code_end
+
+  abbrev data_section : Section
+  data_section = loaded (codes ".data") 3 memory b.code_end b.end
+
+  abbrev words_laid : Laid
+  words_laid = laid_with none_laid words_section
+
+  abbrev code_laid : Laid
+  code_laid = laid_with words_laid code_section
+
+  abbrev data_laid : Laid
+  data_laid = laid_with code_laid data_section
+
+  -- the headers of these three, and what stands behind them
+  abbrev those : (more : List ℕ) → List ℕ
+  those more =
+      three-heads (length none_laid.names) (front + length (whole none_laid.contents)) (length words_laid.names) (front + length (whole words_laid.contents))
+      (length code_laid.names) (front + length (whole code_laid.contents)) words_section code_section data_section more
+
+  those-are : (more : List ℕ) → data_laid.headers ++ more ≡ those more
+  unfolding laid_with
+  those-are more = refl
+
+  words-said : (more : List ℕ)
+      → HasHeader (those more) 40 3 memory_base (front + length (whole none_laid.contents)) (length (memory_between memory memory_base vectors_base))
+  words-said more =
+      one-header (length none_laid.names) (front + length (whole none_laid.contents)) (length words_laid.names) (front + length (whole words_laid.contents))
+      (length code_laid.names) (front + length (whole code_laid.contents)) words_section code_section data_section more
+
+  code-said : (more : List ℕ)
+      → HasHeader (those more) 80 6 vectors_base (front + length (whole words_laid.contents)) (length (memory_between memory vectors_base b.code_end))
+  code-said more =
+      two-header (length none_laid.names) (front + length (whole none_laid.contents)) (length words_laid.names) (front + length (whole words_laid.contents))
+      (length code_laid.names) (front + length (whole code_laid.contents)) words_section code_section data_section more
+
+  data-said : (more : List ℕ)
+      → HasHeader (those more) 120 3 b.code_end (front + length (whole code_laid.contents)) (length (memory_between memory b.code_end b.end))
+  data-said more =
+      third-header (length none_laid.names) (front + length (whole none_laid.contents)) (length words_laid.names) (front + length (whole words_laid.contents))
+      (length code_laid.names) (front + length (whole code_laid.contents)) words_section code_section data_section more
+
+  all-heads : (sections : List Section)
+      → (more : List ℕ) × ((padded (with_names (all_laid none_laid (words_section ∷ code_section ∷ data_section ∷ sections)))).headers
+      ≡ data_laid.headers ++ more)
+  all-heads sections =
+      let rest = heads_all data_laid sections in
+      let laid = all_laid data_laid sections in
+      let named = heads laid (strings (codes ".shstrtab") (laid.names ++ text_bytes (codes ".shstrtab"))) in
+      (rest.0 ++ named.0, named.1 ∙ ap (λ l. l ++ named.0) rest.1 ∙ append_assoc data_laid.headers rest.0 named.0)
+
+-- ---- where the bytes of the sections stand
 
 -- nothing stands behind a multiple of 4
 no-padding : (bytes : List ℕ) → length bytes % 4 ≡ 0 → whole bytes ≡ bytes
@@ -124,6 +236,49 @@ module _ (memory : List ℕ) (b : Borders) (text : vectors_base ≤ b.code_end) 
         ap (λ l. l ++ zeros) (named.1 ∙ ap (λ l. l ++ named.0) (rest.1 ∙ ap (λ l. l ++ rest.0) begins) ∙ append_assoc memory rest.0 named.0)
             ∙ append_assoc memory (rest.0 ++ named.0) zeros,
       )
+
+  code-length : length code ≡ b.code_end - vectors_base
+  code-length =
+      let l = length-append words code in let w = words-length in let f = front-length in
+      omega (arith, l, w, f, text)
+
+  data-length : length data_bytes ≡ b.end - b.code_end
+  data-length =
+      let a = ap (λ (l : List ℕ). length l) all-are in
+      let l = length-append (words ++ code) data_bytes in
+      let f = front-length in
+      omega (arith, a, l, f, end, text, data_behind)
+
+  -- so each begins where the one before it ends
+  words-whole : whole (words_laid memory b).contents ≡ words
+  unfolding laid_with
+  words-whole = no-padding words (let l = words-length in omega (arith, l))
+
+  code-whole : whole (code_laid memory b).contents ≡ words ++ code
+  unfolding laid_with
+  code-whole = ap (λ l. whole (l ++ code)) words-whole ∙ no-padding (words ++ code) (let l = front-length in omega (arith, l, even, text))
+
+  -- and has the bytes of a segment
+  words-header : (more : List ℕ) → HasHeader ((data_laid memory b).headers ++ more) 40 3 memory_base (place_of memory_base) (vectors_base - memory_base)
+  words-header more =
+      let place : front + length (whole none_laid.contents) ≡ place_of memory_base = refl in
+      subst (λ (h : List ℕ). HasHeader h 40 3 memory_base (place_of memory_base) (vectors_base - memory_base)) (sym (those-are memory b more))
+      (same-header (those memory b more) 40 3 memory_base (front + length (whole none_laid.contents)) (length words) (place_of memory_base) (vectors_base - memory_base) place words-length
+      (words-said memory b more))
+
+  code-header : (more : List ℕ) → HasHeader ((data_laid memory b).headers ++ more) 80 6 vectors_base (place_of vectors_base) (b.code_end - vectors_base)
+  code-header more =
+      let place : front + length (whole (words_laid memory b).contents) ≡ place_of vectors_base = (let a = ap (λ (l : List ℕ). length l) words-whole in let l = words-length in omega (arith, a, l)) in
+      subst (λ (h : List ℕ). HasHeader h 80 6 vectors_base (place_of vectors_base) (b.code_end - vectors_base)) (sym (those-are memory b more))
+      (same-header (those memory b more) 80 6 vectors_base (front + length (whole (words_laid memory b).contents)) (length code) (place_of vectors_base) (b.code_end - vectors_base) place code-length
+      (code-said memory b more))
+
+  data-header : (more : List ℕ) → HasHeader ((data_laid memory b).headers ++ more) 120 3 b.code_end (place_of b.code_end) (b.end - b.code_end)
+  data-header more =
+      let place : front + length (whole (code_laid memory b).contents) ≡ place_of b.code_end = (let a = ap (λ (l : List ℕ). length l) code-whole in let l = front-length in omega (arith, a, l)) in
+      subst (λ (h : List ℕ). HasHeader h 120 3 b.code_end (place_of b.code_end) (b.end - b.code_end)) (sym (those-are memory b more))
+      (same-header (those memory b more) 120 3 b.code_end (front + length (whole (code_laid memory b).contents)) (length data_bytes) (place_of b.code_end) (b.end - b.code_end) place data-length
+      (data-said memory b more))
 
 -- ---- what is loaded
 
@@ -271,6 +426,71 @@ module _ (parts : FileParts) (may : MayShow parts) where
       by (inr (inl x)) = let p = x.1 in let q = x.2 in let d = data_behind in (omega (arith, p), omega (arith, q, d))
       by (inr (inr x)) = let p = x.1 in let q = x.2 in let t = text in (omega (arith, p, t), omega (arith, q))
 
+  -- the headers of the sections stand behind their bytes
+  behind-bytes : (o : ℕ) → drop (148 + length laid.contents + o) whole_file ≡ drop o laid.headers
+  behind-bytes o =
+      let n = length laid.contents in
+      let on : 148 + n + o ≡ 148 + (n + o) = omega arith in
+      ap (λ m. drop m whole_file) on
+      ∙ sym (drop-drop (n + o) 148 whole_file)
+      ∙ ap (drop (n + o)) (behind (148 + n) b rest)
+      ∙ sym (drop-drop o n rest)
+      ∙ ap (drop o) (drop_at laid.contents laid.headers n refl)
+
+  section-is : (number flags address place bytes : ℕ) → length whole_file < 2 ^ 32 → HasHeader laid.headers (40 * number) flags address place bytes
+      → IsSection whole_file number flags address place bytes
+  section-is number flags address place bytes few h =
+      let n = 148 + length laid.contents in
+      let at : (o : ℕ) → drop (n + 40 * number + o) whole_file ≡ drop (40 * number + o) laid.headers =
+      λ o. let on : n + 40 * number + o ≡ n + (40 * number + o) = omega arith in ap (λ m. drop m whole_file) on ∙ behind-bytes (40 * number + o) in
+      record {
+        headers = n;
+        few =
+            let long = ap (λ (l : List ℕ). length l) (behind n b rest) in
+            let d = length-drop 148 whole_file in
+            let a = length-append laid.contents laid.headers in
+            omega (arith, long, d, a, few);
+        headers_at = headers-at n b rest;
+        flags_are = ap (take 4) (at 8) ∙ h.flags_are;
+        address_is = ap (take 4) (at 12) ∙ h.address_is;
+        place_is = ap (take 4) (at 16) ∙ h.place_is;
+        bytes_are = ap (take 4) (at 20) ∙ h.bytes_are;
+      }
+
+  heads-begun : (more : List ℕ) × (laid.headers ≡ (data_laid memory b).headers ++ more)
+  heads-begun =
+      all-heads memory b
+      (stack_section b ∷ (debugging_sections parts b.code_end (rows_of parts)
+      ++ table_sections b (symbols_of parts.config parts.app (rows_of parts)) (length (locals_of parts.config (rows_of parts)))))
+
+  -- a header among the first three
+  among : (at flags address place bytes : ℕ) → HasHeader ((data_laid memory b).headers ++ heads-begun.0) at flags address place bytes
+      → HasHeader laid.headers at flags address place bytes
+  among at flags address place bytes h = subst (λ (l : List ℕ). HasHeader l at flags address place bytes) (sym heads-begun.1) h
+
+  agree : length whole_file < 2 ^ 32 → (segment : ℕ) → segment < 3
+      → (load : Load) × IsLoad whole_file segment load
+      × IsSection whole_file (segment + 1) (section_flags segment) load.address load.place load.bytes
+  agree few zero h = (
+    load_of memory_base vectors_base,
+    words_load (148 + length laid.contents) b rest,
+    section-is 1 3 memory_base (place_of memory_base) (vectors_base - memory_base) few
+        (among 40 3 memory_base (place_of memory_base) (vectors_base - memory_base) (words-header memory b text data_behind refl may.borders.even heads-begun.0)),
+  )
+  agree few (suc zero) h = (
+    load_of vectors_base b.code_end,
+    code_load (148 + length laid.contents) b rest,
+    section-is 2 6 vectors_base (place_of vectors_base) (b.code_end - vectors_base) few
+        (among 80 6 vectors_base (place_of vectors_base) (b.code_end - vectors_base) (code-header memory b text data_behind refl may.borders.even heads-begun.0)),
+  )
+  agree few (suc (suc zero)) h = (
+    load_of b.code_end b.end,
+    data_load (148 + length laid.contents) b rest,
+    section-is 3 3 b.code_end (place_of b.code_end) (b.end - b.code_end) few
+        (among 120 3 b.code_end (place_of b.code_end) (b.end - b.code_end) (data-header memory b text data_behind refl may.borders.even heads-begun.0)),
+  )
+  agree few (suc (suc (suc k))) h = absurd (omega (arith, h))
+
 pub memory_is_loaded : MemoryIsLoaded
 memory_is_loaded parts may i h =
     let one = loaded-by parts may i h (cases_lt i 1024) in
@@ -284,3 +504,9 @@ loaded_once parts may one other address a c h k =
 pub nothing_else : NothingElseIsLoaded
 nothing_else parts may number address byte l =
     no-more parts may number address byte (subst (λ (file : List ℕ). Loads file number address byte) (file-is parts may) l)
+
+pub sections_agree : SectionsAgree
+sections_agree parts may few segment h =
+    let P : List ℕ → Type 0 = λ file. (load : Load) × IsLoad file segment load
+    × IsSection file (segment + 1) (section_flags segment) load.address load.place load.bytes in
+    subst P (sym (file-is parts may)) (agree parts may (subst (λ (file : List ℕ). length file < 2 ^ 32) (file-is parts may) few) segment h)

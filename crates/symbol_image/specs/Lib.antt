@@ -8,6 +8,7 @@ pub mod Layout
 pub mod LayoutViews
 pub mod Loading
 pub mod Reading
+pub mod Sections
 pub mod SymbolFile
 pub mod SymbolTable
 pub mod Symbols

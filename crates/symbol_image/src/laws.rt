@@ -1,6 +1,7 @@
 //! Laws of the definitions.
 ghost use Rattle.symbol_image.specs.Loading.{LoadedOnce, MemoryIsLoaded, NothingElseIsLoaded};
 ghost use Rattle.symbol_image.specs.Reading.{SymbolsReadBack};
+ghost use Rattle.symbol_image.specs.Sections.{SectionsAgree};
 
 /// Each byte of an image's memory is loaded to its address, by one segment alone, and no other byte of the file is loaded.
 pub fn memory_is_loaded_once()
@@ -12,4 +13,9 @@ pub fn memory_is_loaded_once()
 /// Each symbol reads back from its tables with its name, its address, its size and its kind, in the section that has its address.
 pub fn symbols_read_back()
     ensures { SymbolsReadBack }
+{}
+
+/// The sections of words, code and data have the bytes of the segments, at the same addresses.
+pub fn sections_and_segments_agree()
+    ensures { SectionsAgree }
 {}

@@ -2,9 +2,10 @@
 //!
 //! `symbol_file` gives exactly the file of the definition (`specs/SymbolFile`) of what texts mean, their map and the image's memory
 //! (`specs/FileParts`). Its segments load each byte of the memory once, at its address, and no other byte of the file (`memory_is_loaded_once`,
-//! `specs/Loading`); each symbol reads back from its tables with its name, address, size and kind (`symbols_read_back`, `specs/Reading`). Which
-//! symbols there are: `specs/Symbols`; their tables: `specs/SymbolTable`; sections one behind the other: `specs/Layout`; headers of the file and of
-//! segments: `specs/Headers`; frames: `specs/Frames`; the lines of data: `data_lines`, `specs/DataLines`. Source lines and entries: `dwarf_sections`;
+//! `specs/Loading`); sections of words, code and data have the bytes of the segments (`sections_and_segments_agree`, `specs/Sections`); each symbol
+//! reads back from its tables with its name, address, size and kind (`symbols_read_back`, `specs/Reading`). Which symbols there are:
+//! `specs/Symbols`; their tables: `specs/SymbolTable`; sections one behind the other: `specs/Layout`; headers of the file and of segments:
+//! `specs/Headers`; frames: `specs/Frames`; the lines of data: `data_lines`, `specs/DataLines`. Source lines and entries: `dwarf_sections`;
 //! pieces of an image, their names and where its zones end: `map_rows` (`Rows`, `PieceNames`, `Borders`).
 #![tactic(auto)]
 
