@@ -1,3 +1,7 @@
+pub mod LocalNames
 pub mod OneFile
-pub mod Shown
 pub mod OwnFile
+pub mod PieceNames
+pub mod RisingNames
+pub mod Shown
+pub mod WordNames

@@ -1,1 +1,2 @@
 pub mod SymbolFiles
+pub mod SymbolNames
