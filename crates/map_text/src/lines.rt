@@ -1,84 +1,21 @@
 //! The lines of a map.
-ghost use Rattle.std.specs.Prelude.{◌≡◌, ◌<◌, ◌++◌, IfOk, OnOk, length, get_or};
+ghost use Rattle.std.specs.Prelude.{◌≡◌, ◌<◌, ◌++◌, IfOk, OnOk, length};
 ghost use Rattle.sloth_base.specs.Blocks.{block_object, block_service};
-ghost use Rattle.sloth_base.specs.Named.{alarm_declaration, counter_declaration, declaration, function, no_symbol};
-ghost use Rattle.map_rows.specs.PieceNames.{resource_name};
 ghost use Rattle.map_text.specs.MapText.{behind_part, need_line, object_text, part_text, piece_text, row_line, service_text, sum_line, total_line};
 
 use itoa::Buffer;
+use map_rows::object_names::{
+    alarm_name, counter_name, function_name, resource_name, symbol_name, task_name,
+};
 use map_rows::piece_rows::{Kind, Row};
 use map_rows::totals::{Part, part_sum};
 use sloth_base::app::App;
 use sloth_base::config::Config;
 use sloth_base::memory::NoMemory;
-use sloth_base::numbers::RES_SCHEDULER;
 use sloth_base::places::{BLOCK_COUNT, Bounds, block_object, block_service};
 use sloth_base::service::{ObjectKind, Service};
 use std::alloc::Global;
 use trace_text::line_text::LineText;
-
-// The name of a task.
-fn task_name(config: &Config, number: usize) -> &[u8]
-    ensures { result.now ≡ (declaration config.now number).name }
-{
-    match config.tasks.items().get(number) {
-        Some(task) => task.name.bytes(),
-        None => b"",
-    }
-}
-
-// The name of a counter.
-fn counter_name(config: &Config, number: usize) -> &[u8]
-    ensures { result.now ≡ (counter_declaration config.now number).name }
-{
-    match config.counters.items().get(number) {
-        Some(counter) => counter.name.bytes(),
-        None => b"",
-    }
-}
-
-// The name of a function.
-fn function_name(app: &App, number: usize) -> &[u8]
-    ensures { result.now ≡ (function app.now number).name }
-{
-    match app.funcs.items().get(number) {
-        Some(func) => func.name.bytes(),
-        None => b"",
-    }
-}
-
-// The name of a symbol.
-fn symbol_name(app: &App, number: usize) -> &[u8]
-    ensures { result.now ≡ (get_or app.now.symbols number no_symbol).name }
-{
-    match app.symbols.items().get(number) {
-        Some(symbol) => symbol.name.bytes(),
-        None => b"",
-    }
-}
-
-// The name of a resource.
-fn resource_name(config: &Config, number: u32) -> &[u8]
-    ensures { result.now ≡ resource_name config.now number }
-{
-    if number == RES_SCHEDULER {
-        return b"RES_SCHEDULER";
-    }
-    match config.resources.items().get(number as usize) {
-        Some(name) => name.bytes(),
-        None => b"",
-    }
-}
-
-// The name of an alarm.
-fn alarm_name(config: &Config, number: usize) -> &[u8]
-    ensures { result.now ≡ (alarm_declaration config.now number).name }
-{
-    match config.alarms.items().get(number) {
-        Some(alarm) => alarm.name.bytes(),
-        None => b"",
-    }
-}
 
 // Appends two texts.
 fn push_both(text: &mut Vec<u8>, one: &[u8], other: &[u8]) -> Result<(), NoMemory>

@@ -15,10 +15,7 @@ pub struct Verified {
 // Written out: what is derived is proved anew wherever a value is let go.
 impl Drop for Verified {
     fn drop(self) {
-        let Verified {
-            config: _,
-            app: _,
-        } = self;
+        let Verified { config: _, app: _ } = self;
     }
 }
 

@@ -18,10 +18,7 @@ pub struct Names<'t> {
 // Written out: what is derived is proved anew wherever a value is let go.
 impl Drop for Names<'_> {
     fn drop(self) {
-        let Names {
-            list: _,
-            first: _,
-        } = self;
+        let Names { list: _, first: _ } = self;
     }
 }
 
