@@ -1,5 +1,5 @@
 -- The table of the marks finds what a search among them finds.
-use Rattle.std.proofs.Common.{◌≡◌, ◌≢◌, ◌∙◌, ℕ, zero, suc, ◌<◌, ◌≤◌, ◌+◌, ◌-◌, ◌*◌, ◌++◌, List, [], ◌∷◌, length, get_or, set, take, Bool, true, false, cond, Option, Some, None, ⊎_elim, refl, sym, ap, subst, arith, eq-eqb, ne_eqb}
+use Rattle.std.proofs.Common.{◌≡◌, ◌≢◌, ◌∙◌, ℕ, zero, suc, ◌<◌, ◌+◌, ◌-◌, ◌*◌, ◌++◌, List, [], ◌∷◌, length, get_or, set, take, Bool, cond, Option, Some, None, ⊎_elim, refl, sym, ap, subst, arith}
 use Rattle.std.specs.Prelude.{find, slice_get, ◌==◌}
 use Rattle.std.specs.Option.{option_or}
 use Rattle.std.proofs.lemmas.Bool.Decides.{eqb_tells, nat_tests}
@@ -7,7 +7,7 @@ use Rattle.std.proofs.lemmas.List.{take_more, get_or-set_same, get_or-set_other}
 use Rattle.std.proofs.lemmas.List.Folds.{find-append}
 use Rattle.std.proofs.lemmas.Option.{slice_get-get_or}
 use Rattle.sloth_base.specs.declared.image.Mark.{Mark}
-use Rattle.observe.specs.MarkTable.{Table, entry_place, number_in, mark_of, AreNumbers, IsMarkTable, IsPlaced}
+use Rattle.observe.specs.MarkTable.{entry_place, number_in, mark_of, AreNumbers, IsMarkTable, IsPlaced}
 
 -- an address has its own place
 place_is : (from address place : ℕ) → entry_place from address ≡ Some place → address ≡ from + place * 4

@@ -28,40 +28,40 @@ object_at name offset size =
     record { name = name; address = memory_base + offset; size = size; kind = symbol.Object; binding = binding.Local }
 
 -- a word
-abbrev pub word_at : (name : List ℕ) → (offset : ℕ) → Symbol
-word_at name offset = object_at name offset 4
+abbrev pub word_symbol : (name : List ℕ) → (offset : ℕ) → Symbol
+word_symbol name offset = object_at name offset 4
 
 -- the state of tasks, the first of which has this number
 abbrev pub state_words : (task : ℕ) → List TaskDecl → List Symbol
 state_words t [] = []
 state_words t (d ∷ tasks) =
-    word_at (joined (codes "active") d.name) (active t) ∷ word_at (joined (codes "events") d.name) (events t)
-    ∷ word_at (joined (codes "wait") d.name) (wait t) ∷ state_words (t + 1) tasks
+    word_symbol (joined (codes "active") d.name) (active t) ∷ word_symbol (joined (codes "events") d.name) (events t)
+    ∷ word_symbol (joined (codes "wait") d.name) (wait t) ∷ state_words (t + 1) tasks
 
 -- the values of counters
 abbrev pub counter_words : (counter : ℕ) → List CounterDecl → List Symbol
 counter_words c [] = []
-counter_words c (d ∷ counters) = word_at (joined (codes "value") d.name) (counter_value c) ∷ counter_words (c + 1) counters
+counter_words c (d ∷ counters) = word_symbol (joined (codes "value") d.name) (counter_value c) ∷ counter_words (c + 1) counters
 
 -- the ticks that alarms have left, and their cycles
 abbrev pub alarm_words : (alarm : ℕ) → List AlarmDecl → List Symbol
 alarm_words a [] = []
 alarm_words a (d ∷ alarms) =
-    word_at (joined (codes "left") d.name) (alarm_left a) ∷ word_at (joined (codes "cycle") d.name) (alarm_cycle a) ∷ alarm_words (a + 1) alarms
+    word_symbol (joined (codes "left") d.name) (alarm_left a) ∷ word_symbol (joined (codes "cycle") d.name) (alarm_cycle a) ∷ alarm_words (a + 1) alarms
 
 -- where the tasks' own contexts stand
 abbrev pub resume_words : (task : ℕ) → List TaskDecl → List Symbol
 resume_words t [] = []
-resume_words t (d ∷ tasks) = word_at (joined (codes "resume") d.name) (resume t) ∷ resume_words (t + 1) tasks
+resume_words t (d ∷ tasks) = word_symbol (joined (codes "resume") d.name) (resume t) ∷ resume_words (t + 1) tasks
 
 -- the levels at which resources were taken
 abbrev pub saved_words : (resource : ℕ) → List (List ℕ) → List Symbol
 saved_words r [] = []
-saved_words r (name ∷ resources) = word_at (joined (codes "saved") name) (saved_level r) ∷ saved_words (r + 1) resources
+saved_words r (name ∷ resources) = word_symbol (joined (codes "saved") name) (saved_level r) ∷ saved_words (r + 1) resources
 
 -- and that of RES_SCHEDULER, if it exists
 abbrev pub scheduler_word : Symbol
-scheduler_word = word_at (joined (codes "saved") (codes "RES_SCHEDULER")) (saved_level scheduler_number)
+scheduler_word = word_symbol (joined (codes "saved") (codes "RES_SCHEDULER")) (saved_level scheduler_number)
 
 abbrev pub scheduler_words : Bool → List Symbol
 scheduler_words exists = cond exists (scheduler_word ∷ []) []
@@ -73,12 +73,12 @@ context_symbol = object_at (codes "kernel$idle_context") idle_context context_by
 -- the words that say what runs, those of the states of tasks, and those of the clock
 abbrev pub first_words : Config → List Symbol
 first_words config =
-    word_at (codes "kernel$cur") cur ∷ (state_words 0 config.tasks ++ (counter_words 0 config.counters ++ alarm_words 0 config.alarms))
+    word_symbol (codes "kernel$cur") cur ∷ (state_words 0 config.tasks ++ (counter_words 0 config.counters ++ alarm_words 0 config.alarms))
 
 -- those of what was preempted, of contexts and of levels, and the context of the idle loop
 abbrev pub last_words : Config → List Symbol
 last_words config =
-    word_at (codes "kernel$below") below_word
+    word_symbol (codes "kernel$below") below_word
     ∷ (resume_words 0 config.tasks ++ (saved_words 0 config.resources ++ (scheduler_words config.res_scheduler ++ context_symbol ∷ [])))
 
 -- all service words, by their uses, and the context of the idle loop

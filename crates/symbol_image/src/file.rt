@@ -32,9 +32,9 @@ use sloth_base::memory_map::{MEMORY_BASE, VECTORS_BASE};
 use std::alloc::Global;
 
 /// A section is loaded and written, or loaded and executed.
-const WRITTEN: u32 = 3;
+const SECTION_WRITTEN: u32 = 3;
 
-const EXECUTED: u32 = 6;
+const SECTION_EXECUTED: u32 = 6;
 
 // The bytes of memory from an address to another.
 fn memory_between(memory: &[u8], range: Range) -> &[u8]
@@ -75,7 +75,7 @@ fn lay_stacks(laid: &mut Laid, borders: &Borders) -> Result<(), NoMemory>
 {
     let fields = SectionFields {
         kind: 8,
-        flags: WRITTEN,
+        flags: SECTION_WRITTEN,
         address: borders.stacks,
         size: borders.top.saturating_sub(borders.stacks) as usize,
         link: 0,
@@ -96,8 +96,8 @@ fn lay_code(laid: &mut Laid, memory: &[u8], borders: &Borders) -> Result<(), NoM
         to: VECTORS_BASE,
     };
     let code = code_range(borders);
-    lay_loaded(laid, b".words", WRITTEN, memory, words)?;
-    lay_loaded(laid, b".text", EXECUTED, memory, code)
+    lay_loaded(laid, b".words", SECTION_WRITTEN, memory, words)?;
+    lay_loaded(laid, b".text", SECTION_EXECUTED, memory, code)
 }
 
 // Lays out the data and the stacks.
@@ -109,7 +109,7 @@ fn lay_data(laid: &mut Laid, memory: &[u8], borders: &Borders) -> Result<(), NoM
         from: borders.code_end,
         to: borders.end,
     };
-    lay_loaded(laid, b".data", WRITTEN, memory, data)?;
+    lay_loaded(laid, b".data", SECTION_WRITTEN, memory, data)?;
     lay_stacks(laid, borders)
 }
 

@@ -4,7 +4,7 @@ ghost use Rattle.sloth_base.specs.Limits.{alarm_limit, counter_limit, resource_l
 ghost use Rattle.sloth_base.specs.ConfigRange.{scheduler_number};
 ghost use Rattle.sloth_region.specs.Layout.{saved_level};
 ghost use Rattle.map_rows.specs.PieceNames.{joined};
-ghost use Rattle.symbol_image.specs.Symbols.{alarm_words, context_symbol, counter_words, first_words, last_words, object_at, resume_words, saved_words, scheduler_word, scheduler_words, state_words, word_at, word_symbols};
+ghost use Rattle.symbol_image.specs.Symbols.{alarm_words, context_symbol, counter_words, first_words, last_words, object_at, resume_words, saved_words, scheduler_word, scheduler_words, state_words, word_symbol, word_symbols};
 ghost use Rattle.symbol_image.specs.WordSymbols.{HasWords};
 
 use crate::symbol::{Binding, Symbol, SymbolKind};
@@ -48,7 +48,7 @@ fn push_word(
     offset: u32,
 ) -> Result<(), NoMemory>
     requires { offset ≤ 1023 }
-    ensures { OnOk result (symbols.new.items ≡ symbols.old.items ++ word_at (joined one.now other.now) offset ∷ []) }
+    ensures { OnOk result (symbols.new.items ≡ symbols.old.items ++ word_symbol (joined one.now other.now) offset ∷ []) }
 {
     let name = joined(alloc, one, other)?;
     push(symbols, object_at(name, offset, BYTES))

@@ -2,7 +2,7 @@
 ghost use Rattle.std.specs.Prelude.{ℕ, ◌≡◌, ◌<◌, ◌≤◌, ◌∷◌, [], All, IfOk, length, slice_index};
 ghost use Rattle.alarm_gen.specs.Block.{HasAlarmBlock};
 ghost use Rattle.code_lengths.specs.Bodies.{IsBodyPlace};
-ghost use Rattle.event_gen.specs.Block.{HasEventBlock as HasEventBlock};
+ghost use Rattle.event_gen.specs.Block.{HasEventBlock};
 ghost use Rattle.prologue_gen.specs.Places.{IsStackTop};
 ghost use Rattle.service_gen.specs.Block.{HasBlock};
 ghost use Rattle.sloth_base.specs.ConfigRange.{InRange};

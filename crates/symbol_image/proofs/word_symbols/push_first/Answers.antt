@@ -4,7 +4,7 @@ use Rattle.sloth_base.specs.declared.config.AlarmDecl.{AlarmDecl}
 use Rattle.sloth_base.specs.declared.config.CounterDecl.{CounterDecl}
 use Rattle.sloth_base.specs.declared.config.TaskDecl.{TaskDecl}
 use Rattle.sloth_region.specs.Layout.{cur}
-use Rattle.symbol_image.specs.Symbols.{alarm_words, counter_words, state_words, word_at}
+use Rattle.symbol_image.specs.Symbols.{alarm_words, counter_words, state_words, word_symbol}
 use Rattle.symbol_image.specs.declared.symbol.Symbol.{Symbol}
 use Rattle.symbol_image.proofs.Put.{two_put}
 use Rattle.symbol_image.proofs.word_symbols.push_first.Goals as goal
@@ -18,7 +18,7 @@ returns c =
     let states = state_words 0 config.tasks in
     let counters = counter_words 0 config.counters in
     let alarms = alarm_words 0 config.alarms in
-    let first : List Symbol = word_at (codes "kernel$cur") cur ∷ [] in
+    let first : List Symbol = word_symbol (codes "kernel$cur") cur ∷ [] in
     let put_states : b ≡ a ++ states = c.in_ok-push_states.ensures ∙ ap (λ (l : List TaskDecl). a ++ state_words 0 l) c.items.ensures in
     let put_counters : d ≡ b ++ counters = c.in_ok-push_counters.ensures ∙ ap (λ (l : List CounterDecl). b ++ counter_words 0 l) c.items-2.ensures in
     on_ok_weaker c.push_alarms.result

@@ -2,7 +2,7 @@ use Rattle.std.proofs.Common.{◌≡◌, ◌∙◌, ℕ, List, [], ◌∷◌, �
 use Rattle.std.proofs.lemmas.Result.{on_ok_weaker}
 use Rattle.sloth_base.specs.declared.config.TaskDecl.{TaskDecl}
 use Rattle.sloth_region.specs.Layout.{below_word}
-use Rattle.symbol_image.specs.Symbols.{context_symbol, resume_words, saved_words, scheduler_words, word_at}
+use Rattle.symbol_image.specs.Symbols.{context_symbol, resume_words, saved_words, scheduler_words, word_symbol}
 use Rattle.symbol_image.specs.declared.symbol.Symbol.{Symbol}
 use Rattle.symbol_image.proofs.Put.{two_put}
 use Rattle.symbol_image.proofs.word_symbols.push_last.Goals as goal
@@ -17,7 +17,7 @@ returns c =
     let resumes = resume_words 0 config.tasks in
     let levels = saved_words 0 config.resources in
     let scheduler = scheduler_words config.res_scheduler in
-    let first : List Symbol = word_at (codes "kernel$below") below_word ∷ [] in
+    let first : List Symbol = word_symbol (codes "kernel$below") below_word ∷ [] in
     let last : List Symbol = context_symbol ∷ [] in
     let put_resumes : b ≡ a ++ resumes = c.in_ok-push_resumes.ensures ∙ ap (λ (l : List TaskDecl). a ++ resume_words 0 l) c.items.ensures in
     let put_levels : d ≡ b ++ levels = c.in_ok-push_levels.ensures ∙ ap (λ (l : List (List ℕ)). b ++ saved_words 0 l) c.items-2.ensures in

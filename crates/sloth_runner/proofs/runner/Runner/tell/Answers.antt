@@ -1,5 +1,4 @@
 use Rattle.std.proofs.Common.{◌≡◌, ◌∙◌, ◌+◌, Bool, [], ◌∷◌, ◌++◌, ap, sym, subst}
-use Rattle.sloth_base.specs.declared.step.Step.{Step}
 use Rattle.rv32_instr.specs.Ram.{word_at}
 use Rattle.observe.specs.Progress.{Fed, expected_count, step_of_parts}
 use Rattle.observe.specs.declared.observing.Observer.{Observer}
