@@ -19,7 +19,7 @@ use Rattle.masked_code.proofs.Owes.{◌▸◌, writes, loads, stores, sets_enabl
 use Rattle.masked_code.proofs.Words.{word_at-other, word_at-others}
 use Rattle.masked_code.proofs.Spread.{based, spread_from}
 use Rattle.masked_code.proofs.Runs.{saves_owes}
-use Rattle.masked_code.proofs.Routines.{masked}
+use Rattle.masked_code.proofs.Routines.{in_place-front, masked}
 use Rattle.masked_code.proofs.Leave.{leave_owes, behind}
 use Rattle.block_parts.proofs.Returning.{goes_back}
 use Rattle.block_parts.proofs.Landing.{lands}
@@ -41,11 +41,6 @@ saved_then = keeping_code ++ (controller_address_code ++ (disabling_code ++ leav
 -- the code behind the masking instruction, up to the way back
 abbrev front : List InstrKind
 front = own_finding_code 3 ++ (set_events_test ++ (controller_address_code ++ (set_answer_code ++ (back_code ++ []))))
-
--- where code stands, so does its first part
-in_place-front : (ram : List ℕ) (front rest : List InstrKind) (o : ℕ) → InPlace ram o (front ++ rest) → InPlace ram o front
-in_place-front ram [] rest o p = tt
-in_place-front ram (kind ∷ front) rest o p = (p.0, in_place-front ram front rest (o + 4) p.1)
 
 -- the code behind the masking instruction
 abbrev pub body : List InstrKind

@@ -1,5 +1,5 @@
 -- Whole routines: handlers, which are entered masked, and services, whose first instruction masks.
-use Rattle.std.proofs.Common.{◌≡◌, ℕ, suc, ◌+◌, ◌*◌, ◌%◌, ◌≤◌, List, [], ◌∷◌, length, refl, sym, ap, ◌∙◌, subst, arith, None}
+use Rattle.std.proofs.Common.{◌≡◌, ℕ, suc, ◌+◌, ◌*◌, ◌%◌, ◌≤◌, List, [], ◌∷◌, ◌++◌, length, refl, sym, ap, ◌∙◌, subst, arith, None}
 use Rattle.std.specs.Prelude.{ℤ, All, Bool, true, false, bit_and}
 use Rattle.sloth_base.specs.Machine.{Core, State}
 use Rattle.sloth_base.specs.Arrive.{core_arrive, state_arrive}
@@ -95,10 +95,15 @@ in_place ram o [] h w = tt
 in_place ram o (kind ∷ code) h w =
     (ap Decode w.0 ∙ decode_encode kind (h 0 kind (omega arith)), in_place ram (o + 4) code (λ k d below. h (suc k) d (omega arith)) w.1)
 
--- a handler behind the jump of a vector word
-pub jumps_in : (v o n : ℕ) (imm : ℤ) (code : List InstrKind) (c : Core) (E : List ℕ → State → State → Type 0) (start : State) → v + 4 ≤ memory_bytes → InPlace c.ram v (Jal 0 imm ∷ []) → plus (memory_base + v) imm ≡ memory_base + o → IsEntered o code c → length code ≤ n → Owes o (o + 4 * length code) o code 0 E start c → Masked (suc n) (offset_state v c) (WithArrivals E start)
+-- where code stands, so does its first part
+pub in_place-front : (ram : List ℕ) (front rest : List InstrKind) (o : ℕ) → InPlace ram o (front ++ rest) → InPlace ram o front
+in_place-front ram [] rest o p = tt
+in_place-front ram (kind ∷ front) rest o p = (p.0, in_place-front ram front rest (o + 4) p.1)
+
+-- a handler behind the jump of a vector word, where no way through its code is longer than so many instructions
+pub jumps_within : (v o n : ℕ) (imm : ℤ) (code : List InstrKind) (c : Core) (E : List ℕ → State → State → Type 0) (start : State) → v + 4 ≤ memory_bytes → InPlace c.ram v (Jal 0 imm ∷ []) → plus (memory_base + v) imm ≡ memory_base + o → IsEntered o code c → longest code 0 ≤ n → Owes o (o + 4 * length code) o code 0 E start c → Masked (suc n) (offset_state v c) (WithArrivals E start)
 unfolding perform touched_line_by
-jumps_in v o n imm code c E start fit p there e le h =
+jumps_within v o n imm code c E start fit p there e few h =
     let al = e.aligned in
     masked_step n (offset_state v c) (WithArrivals E start) e.masked (λ a.
     let d = core_arrive a c in
@@ -107,5 +112,9 @@ jumps_in v o n imm code c E start fit p there e le h =
     subst (λ x. OnGoing x (λ next. Masked n next (λ trace end. WithArrivals E start ((a, touched (offset_state v d)) ∷ trace) end))) (sym s)
     (subst (λ k. Masked n (offset_state o d) (λ trace end. WithArrivals E start ((a, k) ∷ trace) end)) (sym t)
     (masked_map n (offset_state o d) _ _ (λ trace end x. with_arrivals E start ((a, None) ∷ trace) end x)
-    (run o (o + 4 * length code) c.ram e.fits code 0 n o o c a E start (few code n le) (omega arith) al (omega arith) (omega arith) e.placed
+    (run o (o + 4 * length code) c.ram e.fits code 0 n o o c a E start few (omega arith) al (omega arith) (omega arith) e.placed
     (record { masked = e.masked; there = e.there; lines = e.lines; same = record { by = λ i a b. refl } }) h))))
+
+-- a handler behind the jump of a vector word, of so many instructions
+pub jumps_in : (v o n : ℕ) (imm : ℤ) (code : List InstrKind) (c : Core) (E : List ℕ → State → State → Type 0) (start : State) → v + 4 ≤ memory_bytes → InPlace c.ram v (Jal 0 imm ∷ []) → plus (memory_base + v) imm ≡ memory_base + o → IsEntered o code c → length code ≤ n → Owes o (o + 4 * length code) o code 0 E start c → Masked (suc n) (offset_state v c) (WithArrivals E start)
+jumps_in v o n imm code c E start fit p there e le = jumps_within v o n imm code c E start fit p there e (few code n le)

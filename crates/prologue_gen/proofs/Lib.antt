@@ -1,5 +1,4 @@
 pub mod SavedRegisters
-pub mod Jumping
 pub mod Entering
 pub mod Starting
 pub mod Resuming

@@ -23,12 +23,12 @@ use Rattle.masked_code.proofs.Spread.{based, based_is, spread_from}
 use Rattle.masked_code.proofs.Runs.{restores_owes, length-restored, restored_other, restored_at}
 use Rattle.masked_code.proofs.Leave.{behind}
 use Rattle.masked_code.proofs.Longest.{longest, longest_le}
+use Rattle.masked_code.proofs.Routines.{in_place-front, jumps_within}
 use Rattle.block_parts.specs.Prologues.{preempted_test, own_taking_code}
 use Rattle.prologue_gen.specs.Pieces.{csr_saving_code, words_saving_code, active_marking_code, beginning_code, wait_answer_code, kept_context_test}
 use Rattle.prologue_gen.specs.Fresh.{vector, EntryEffect, saved_registers}
 use Rattle.prologue_gen.specs.Resuming.{MayStart, MayResume, ResumeEffect, IsExtendedEntryCode, with_entry}
 use Rattle.prologue_gen.proofs.SavedRegisters.{few_saved}
-use Rattle.prologue_gen.proofs.Jumping.{in_place-front, jumps_within}
 use Rattle.prologue_gen.proofs.Entering.{enters_first, entered, enters_owe}
 use Rattle.prologue_gen.proofs.Starting.{last, starts, starts_owe, length-last, length-starts}
 
