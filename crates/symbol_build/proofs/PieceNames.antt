@@ -205,32 +205,52 @@ module _ (config : Config) (app : App) (bounds : Bounds) (m : Map) (well : WellF
       let same : i ≡ 0 + i = omega arith in
       subst (λ k. IsServed config k) same (called i (omega (arith, l, long, count)) (λ none. some (omega (arith, size, none))))))
 
-  code_and_data : Rises config 1700 1700 (flat_map (local_symbols config)
-      (rows_of kind.Code 0 (items_at planned.lengths) (function_bytes app.funcs (map code_byte_count planned.lengths.items))
-      ++ rows_of kind.Data 0 (code_end planned.lengths) (map symbol_bytes app.symbols) ++ row_alone kind.End (behind_symbols app planned.lengths) 4 ∷ []))
-  code_and_data =
-      both config range 1700 1700 1700 (rows_of kind.Code 0 (items_at planned.lengths) (function_bytes app.funcs (map code_byte_count planned.lengths.items)))
-      (rows_of kind.Data 0 (code_end planned.lengths) (map symbol_bytes app.symbols) ++ row_alone kind.End (behind_symbols app planned.lengths) 4 ∷ [])
-      (subst (λ (symbols : List Symbol). Rises config 1700 1700 symbols) (sym (no_code config range 0 (items_at planned.lengths) (function_bytes app.funcs (map code_byte_count planned.lengths.items)))) (omega arith))
-      (both config range 1700 1700 1700 (rows_of kind.Data 0 (code_end planned.lengths) (map symbol_bytes app.symbols))
-      (row_alone kind.End (behind_symbols app planned.lengths) 4 ∷ [])
-      (subst (λ (symbols : List Symbol). Rises config 1700 1700 symbols) (sym (no_data config range 0 (code_end planned.lengths) (map symbol_bytes app.symbols))) (omega arith)) (omega arith))
+  abbrev prologue_rows : List Row
+  prologue_rows = rows_of kind.Prologue 0 (prologues_at planned.lengths) (map code_byte_count planned.lengths.prologues)
 
-  code_rises : Rises config 703 1700 (flat_map (local_symbols config)
-      (rows_of kind.Prologue 0 (prologues_at planned.lengths) (map code_byte_count planned.lengths.prologues)
-      ++ rows_of kind.Tick 0 (ticks_at planned.lengths) (map code_byte_count planned.lengths.ticks)
-      ++ rows_of kind.Service 0 (services_at planned.lengths) (map code_byte_count planned.lengths.services)
-      ++ rows_of kind.Code 0 (items_at planned.lengths) (function_bytes app.funcs (map code_byte_count planned.lengths.items))
-      ++ rows_of kind.Data 0 (code_end planned.lengths) (map symbol_bytes app.symbols) ++ row_alone kind.End (behind_symbols app planned.lengths) 4 ∷ []))
+  abbrev tick_rows : List Row
+  tick_rows = rows_of kind.Tick 0 (ticks_at planned.lengths) (map code_byte_count planned.lengths.ticks)
+
+  abbrev service_rows : List Row
+  service_rows = rows_of kind.Service 0 (services_at planned.lengths) (map code_byte_count planned.lengths.services)
+
+  abbrev code_rows : List Row
+  code_rows = rows_of kind.Code 0 (items_at planned.lengths) (function_bytes app.funcs (map code_byte_count planned.lengths.items))
+
+  abbrev data_rows : List Row
+  data_rows = rows_of kind.Data 0 (code_end planned.lengths) (map symbol_bytes app.symbols)
+
+  abbrev end_rows : List Row
+  end_rows = row_alone kind.End (behind_symbols app planned.lengths) 4 ∷ []
+
+  code : Rises config 1700 1700 (flat_map (local_symbols config) code_rows)
+  code =
+      subst (λ (symbols : List Symbol). Rises config 1700 1700 symbols)
+      (sym (no_code config range 0 (items_at planned.lengths) (function_bytes app.funcs (map code_byte_count planned.lengths.items)))) (omega arith)
+
+  data_rise : Rises config 1700 1700 (flat_map (local_symbols config) data_rows)
+  data_rise =
+      subst (λ (symbols : List Symbol). Rises config 1700 1700 symbols)
+      (sym (no_data config range 0 (code_end planned.lengths) (map symbol_bytes app.symbols))) (omega arith)
+
+  code_rises : Rises config 703 1700
+      (flat_map (local_symbols config) (prologue_rows ++ tick_rows ++ service_rows ++ code_rows ++ data_rows ++ end_rows))
   code_rises =
-      rise_from config 703 800 1700 _ (omega arith)
-      (both config range 800 900 1700 _ _ prologues (both config range 900 1000 1700 _ _ ticks (both config range 1000 1700 1700 _ _ services code_and_data)))
+      let two = both config range 800 900 1000 prologue_rows tick_rows prologues ticks in
+      let third = both config range 800 1000 1700 (prologue_rows ++ tick_rows) service_rows two services in
+      let four = both config range 800 1700 1700 (prologue_rows ++ tick_rows ++ service_rows) code_rows third code in
+      let five = both config range 800 1700 1700 (prologue_rows ++ tick_rows ++ service_rows ++ code_rows) data_rows four data_rise in
+      rise_from config 703 800 1700 (flat_map (local_symbols config) (prologue_rows ++ tick_rows ++ service_rows ++ code_rows ++ data_rows ++ end_rows)) (omega arith)
+      (both config range 800 1700 1700 (prologue_rows ++ tick_rows ++ service_rows ++ code_rows ++ data_rows) end_rows five (omega arith))
 
-  stacks : Rises config 1700 3000 (flat_map (local_symbols config) (shared_rows config m ++ own_rows config m (length config.tasks)))
-  stacks =
+  shared_rise : Rises config 1700 1800 (flat_map (local_symbols config) (shared_rows config m))
+  shared_rise = shared config range (has_basic config.tasks) m
+
+  own_rise : Rises config 1800 3000 (flat_map (local_symbols config) (own_rows config m (length config.tasks)))
+  own_rise =
       let few = range.few_tasks in
-      both config range 1700 1800 3000 (shared_rows config m) (own_rows config m (length config.tasks)) (shared config range (has_basic config.tasks) m)
-      (rise_to config 1800 (1800 + length config.tasks) 3000 _ (omega (arith, few)) (own_stacks config range m (length config.tasks) (omega arith)))
+      rise_to config 1800 (1800 + length config.tasks) 3000 (flat_map (local_symbols config) (own_rows config m (length config.tasks))) (omega (arith, few))
+      (own_stacks config range m (length config.tasks) (omega arith))
 
   pieces_rise : Rises config 700 3000 (flat_map (local_symbols config) (exact_rows app planned.lengths ++ shared_rows config m ++ own_rows config m (length config.tasks)))
   pieces_rise = record {
@@ -245,7 +265,11 @@ module _ (config : Config) (app : App) (bounds : Bounds) (m : Map) (well : WellF
         key = 702;
         above = omega arith;
         is = local config range Kernel 5 _ (omega arith) refl;
-        rest = both config range 703 1700 3000 _ (shared_rows config m ++ own_rows config m (length config.tasks)) code_rises stacks;
+        rest =
+            both config range 703 1800 3000 (prologue_rows ++ tick_rows ++ service_rows ++ code_rows ++ data_rows ++ end_rows ++ shared_rows config m)
+            (own_rows config m (length config.tasks))
+            (both config range 703 1700 1800 (prologue_rows ++ tick_rows ++ service_rows ++ code_rows ++ data_rows ++ end_rows) (shared_rows config m) code_rises shared_rise)
+            own_rise;
       };
     };
   }
