@@ -172,7 +172,7 @@ module _ (b : Build) (view : View) (arrivals : List Arrival) (count : ℕ) (stat
       let a = all in
       let pc = item.here.pc in
       let z = none_done in
-      instruction_outside b view arrivals count state s here t item.current item.frame item.outer item.frames call.placed 0 (omega arith)
+      instruction_outside b view arrivals count state s here t item.current item.frame item.outer item.frames item.free call.placed 0 (omega arith)
       [] (lowers words) _ (call_expands b item.frame.func item.frame.item callee call.is) refl 1 (omega arith) (omega arith) core_now
       (λ offset word e l m. performs offset word l) quiet passes
 
@@ -325,7 +325,7 @@ module _ (b : Build) (view : View) (arrivals : List Arrival) (count : ℕ) (stat
       let v = at_word from size to word l in
       let a = count_is in
       let pc = c.pc in
-      instruction_outside b view arrivals count state s here t item.current item.frame item.outer item.frames call.placed (word + 1) (omega arith)
+      instruction_outside b view arrivals count state s here t item.current item.frame item.outer item.frames c.free call.placed (word + 1) (omega arith)
       (lowers size ∷ zeros word 0) (clears word) v.rest (expands ∙ v.is) v.long 1 (omega arith) (omega arith) (core_stored word 0 (omega arith))
       (λ offset code_word q to_end even. store_performs word 0 (omega arith) 0 offset code_word stands.fixed.zero to_end) (store_quiet word 0 (omega arith) 0)
       (λ offset q.
@@ -383,7 +383,7 @@ module _ (b : Build) (view : View) (arrivals : List Arrival) (count : ℕ) (stat
   link_goes e =
       let a = count_is in
       let pc = c.pc in
-      instruction_outside b view arrivals count state s here t item.current item.frame item.outer item.frames call.placed (size + 1) (omega arith)
+      instruction_outside b view arrivals count state s here t item.current item.frame item.outer item.frames c.free call.placed (size + 1) (omega arith)
       (lowers size ∷ zeros size 0) links _ expands (behind_words size) 1 (omega arith) (omega arith) core_linked
       (λ offset word q to_end even. link_performs offset word q to_end) link_quiet (λ offset q. link_passes (offset + 4 * 1) (omega arith) e)
 
@@ -395,7 +395,7 @@ module _ (b : Build) (view : View) (arrivals : List Arrival) (count : ℕ) (stat
       let r = return_is in
       let in_ram = from_ram.to in
       let placed_end = item_end in
-      instruction_outside b view arrivals count state s here t item.current item.frame item.outer item.frames call.placed (size + 2) (omega arith)
+      instruction_outside b view arrivals count state s here t item.current item.frame item.outer item.frames c.free call.placed (size + 2) (omega arith)
       (lowers size ∷ (zeros size 0 ++ (links ∷ []))) (stores_link size) _ (expands ∙ at_store from size to) (behind_link size) 1 (omega arith) (omega arith) (core_stored size link (omega arith))
       (λ offset word q to_end even. store_performs size link (omega arith) 31 offset word (c.linked (omega arith)) to_end) (store_quiet size link (omega arith) 31)
       (λ offset q.

@@ -39,7 +39,7 @@ module _ (b : Build) (view : View) (arrivals : List Arrival) (count : ℕ) (stat
   -- one that leaves x30 and x31 as the expansion has them
   pub prepared_outside : Prepares b n (task s1 t).registers item.frame long this item.here.done → GoesOutside b view arrivals (progress_in b) count state s
   prepared_outside v =
-      instruction_outside b view arrivals count state s here t item.current item.frame item.outer item.frames placed item.here.done item.here.pc v.before v.kind v.rest v.expands v.reached
+      instruction_outside b view arrivals count state s here t item.current item.frame item.outer item.frames item.free placed item.here.done item.here.pc v.before v.kind v.rest v.expands v.reached
       v.steps v.some v.within (record n.core { registers = v.registers }) (λ offset word e. v.performs offset word) v.quiet
       (λ offset e.
       scratch_passes b n s1 t now item (offset + 4 * v.steps) v.registers v.same

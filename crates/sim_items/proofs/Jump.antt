@@ -15,7 +15,6 @@ use Rattle.sloth_base.specs.declared.image.Mark.{Mark}
 use Rattle.sloth_base.specs.declared.app.Call.{Call}
 use Rattle.sloth_base.specs.declared.app.Op.TheVariants as op
 use Rattle.sloth_base.specs.MemoryMap.{memory_base}
-use Rattle.sloth_base.specs.Limits.{unseen_counts}
 use Rattle.observe.specs.Observe.{View, mark_at, events_of_kind}
 use Rattle.osek_scheduler.specs.State.{System}
 use Rattle.sim_induction.specs.PieceLaws.{seen_step_at}
@@ -132,7 +131,7 @@ module _ (b : Build) (view : View) (arrivals : List Arrival) (count : ℕ) (stat
   }))
 
   stands_next : Stands b next s1
-  stands_next = passes_stand b view arrivals count state s here t item.current item.frame item.outer item.frames next passes
+  stands_next = passes_stand b view arrivals count state s here t item.current item.frame item.outer item.frames item.free next passes
 
   abbrev size : ℕ
   size = length (expansion b.app b.places item.frame.func item.frame.item)
@@ -140,9 +139,9 @@ module _ (b : Build) (view : View) (arrivals : List Arrival) (count : ℕ) (stat
   rises : progress_in b state s < progress_in b next s1
   rises =
       let first : progress_in b state s ≡ item.here.done =
-      progress_now b view arrivals count state s here t item.current item.frame item.outer item.frames item.here.done item.here.pc item.here.within in
-      let last : progress_in b next s1 ≡ unseen_counts =
-      progress_next b view arrivals count state s here t item.current item.frame item.outer item.frames next passes
+      progress_now b view arrivals count state s here t item.current item.frame item.outer item.frames item.free item.here.done item.here.pc item.here.within in
+      let last : progress_in b next s1 ≡ size =
+      progress_next b view arrivals count state s here t item.current item.frame item.outer item.frames item.free next passes
       ∙ at_none address size (memory_base + jump.block)
       (⊎_elim (λ (l : memory_base + jump.block < address). inl l) (λ (l : address + 4 ≤ memory_base + jump.block). inr (let c = one in omega arith)) jump.apart) in
       let w = item.here.within in

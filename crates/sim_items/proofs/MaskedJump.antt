@@ -11,7 +11,6 @@ use Rattle.sloth_base.specs.declared.event.Arrival.{Arrival}
 use Rattle.sloth_base.specs.declared.image.Mark.{Mark}
 use Rattle.code_rules.specs.AppRange.{IsRegister}
 use Rattle.sloth_base.specs.MemoryMap.{memory_base, memory_bytes}
-use Rattle.sloth_base.specs.Limits.{unseen_counts}
 use Rattle.rv32_instr.specs.Effect.{effect}
 use Rattle.rv32_instr.specs.Encode.{Encode}
 use Rattle.rv32_instr.specs.Execute.{Going, step, touched, touched_line_by, perform, next_at_target}
@@ -198,17 +197,18 @@ module _ (b : Build) (view : View) (arrivals : List Arrival) (count : ℕ) (stat
     }))
 
     stands_next : Stands b next s1
-    stands_next = passes_stand b view arrivals count state s here t item.current item.frame item.outer item.frames next passes
+    stands_next = passes_stand b view arrivals count state s here t item.current item.frame item.outer item.frames item.free next passes
 
     rises : progress_in b state s < progress_in b next s1
     rises =
         let now_is : progress_in b state s ≡ item.here.done =
-        progress_now b view arrivals count state s here t item.current item.frame item.outer item.frames item.here.done item.here.pc item.here.within in
-        let last : progress_in b next s1 ≡ unseen_counts =
-        progress_next b view arrivals count state s here t item.current item.frame item.outer item.frames next passes
+        progress_now b view arrivals count state s here t item.current item.frame item.outer item.frames item.free item.here.done item.here.pc item.here.within in
+        let last : progress_in b next s1 ≡ size =
+        progress_next b view arrivals count state s here t item.current item.frame item.outer item.frames item.free next passes
         ∙ at_none address size (memory_base + jump.block)
         (⊎_elim (λ (l : memory_base + jump.block < address). inl l) (λ (l : address + 12 ≤ memory_base + jump.block). inr (let c = three in omega arith)) jump.apart) in
         let d = two in
+        let c = three in
         omega arith
 
     abbrev mark : Mark

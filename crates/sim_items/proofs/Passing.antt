@@ -1,11 +1,10 @@
 -- An instruction before the last one of an item shows nothing, and makes progress.
-use Rattle.std.proofs.Common.{◌≡◌, ℕ, ◌+◌, ◌-◌, ◌*◌, ◌/◌, ◌%◌, ◌<◌, ◌≤◌, List, [], ◌∷◌, length, refl, sym, ap, ◌∙◌, subst, arith, true, cond, inl, inr, None, ◌++◌}
+use Rattle.std.proofs.Common.{◌≡◌, ℕ, suc, ◌+◌, ◌-◌, ◌*◌, ◌/◌, ◌%◌, ◌<◌, ◌≤◌, List, [], ◌∷◌, length, refl, sym, ap, ◌∙◌, subst, arith, true, false, cond, inl, inr, ⊎_elim, None, ◌++◌}
 use Rattle.std.specs.Prelude.{◌⊎◌, slice_index}
-use Rattle.std.proofs.lemmas.Bool.{le-leb, lt-ltb, lt-leb, le-ltb, and_from, and_left, and_right}
+use Rattle.std.proofs.lemmas.Bool.{cases_lt, le-leb, lt-ltb, lt-leb, le-ltb, and_from, and_left, and_right}
 use Rattle.std.proofs.lemmas.List.{set-get_or}
 use Rattle.sloth_base.specs.declared.event.Arrival.{Arrival}
 use Rattle.sloth_base.specs.Machine.{Core, State}
-use Rattle.sloth_base.specs.Limits.{unseen_counts}
 use Rattle.sloth_base.specs.MemoryMap.{memory_base, memory_bytes}
 use Rattle.sloth_region.specs.Layout.{cur, context_bytes}
 use Rattle.rv32_instr.specs.Execute.{Going, step, touched, touched_line_by, perform}
@@ -28,7 +27,7 @@ use Rattle.sim_relation.proofs.TaskSteps.{task_steps}
 use Rattle.sim_relation.proofs.Placed.{first_by_word, active_by_word}
 use Rattle.sim_items.specs.Place.{ItemStands}
 use Rattle.sim_items.specs.Outside.{StandsAt, GoesOutside}
-use Rattle.sim_items.specs.Progress.{passed_count_at, passed_count_in, progress_in}
+use Rattle.sim_items.specs.Progress.{passed_count_at, passed_count_in, passed_count_by, progress_in}
 use Rattle.rv32_instr.specs.declared.InstrKind.{InstrKind}
 use Rattle.rv32_instr.specs.Encode.{Encode}
 use Rattle.rv32_instr.specs.Effect.{effect}
@@ -43,13 +42,35 @@ use Rattle.sim_items.proofs.Outside as outside
 pub at_done : (address count done : ℕ) → done < count → passed_count_at address count (address + 4 * done) ≡ done
 at_done address count done h =
     let z : (address + 4 * done - address) / 4 ≡ done = omega arith in
-    ap (λ b. cond b ((address + 4 * done - address) / 4) unseen_counts)
+    ap (λ b. cond b ((address + 4 * done - address) / 4) count)
     (and_from _ _ (le-leb address (address + 4 * done) (omega arith)) (lt-ltb (address + 4 * done) (address + 4 * count) (omega arith))) ∙ z
 
--- elsewhere the measure has its greatest value
-pub at_none : (address count pc : ℕ) → (pc < address) ⊎ (address + 4 * count ≤ pc) → passed_count_at address count pc ≡ unseen_counts
-at_none address count pc (inl h) = ap (λ b. cond b ((pc - address) / 4) unseen_counts) (and_left _ _ (lt-leb address pc h))
-at_none address count pc (inr h) = ap (λ b. cond b ((pc - address) / 4) unseen_counts) (and_right _ _ (le-ltb pc (address + 4 * count) h))
+-- elsewhere all are
+pub at_none : (address count pc : ℕ) → (pc < address) ⊎ (address + 4 * count ≤ pc) → passed_count_at address count pc ≡ count
+at_none address count pc (inl h) = ap (λ b. cond b ((pc - address) / 4) count) (and_left _ _ (lt-leb address pc h))
+at_none address count pc (inr h) = ap (λ b. cond b ((pc - address) / 4) count) (and_right _ _ (le-ltb pc (address + 4 * count) h))
+
+-- no more are passed than there are
+pub passed_few : (address count pc : ℕ) → passed_count_at address count pc ≤ count
+passed_few address count pc =
+    ⊎_elim
+    (λ (h : pc < address). let e = at_none address count pc (inl h) in omega (arith, e))
+    (λ (h : address ≤ pc).
+    ⊎_elim
+    (λ (l : pc < address + 4 * count).
+    let e : passed_count_at address count pc ≡ (pc - address) / 4 =
+    ap (λ b. cond b ((pc - address) / 4) count) (and_from _ _ (le-leb address pc h) (lt-ltb pc (address + 4 * count) l)) in
+    omega (arith, e, l))
+    (λ (l : address + 4 * count ≤ pc). let e = at_none address count pc (inr l) in omega (arith, e))
+    (cases_lt pc (address + 4 * count)))
+    (cases_lt pc address)
+
+-- of the task that the word names, which owes nothing, by the item at which its innermost frame stands
+by_word : (b : Build) (pc : ℕ) (s : System) (word t : ℕ) (frame : Frame) (outer : List Frame) → word ≡ t + 1 → (task s t).owed ≡ false → (task s t).frames ≡ frame ∷ outer
+    → passed_count_by b pc s word ≡ passed_count_at (item_address b.places frame.func frame.item) (length (expansion b.app b.places frame.func frame.item)) pc
+by_word b pc s word t frame outer named free frames =
+    let one : word ≡ suc t = omega (arith, named) in
+    ap (passed_count_by b pc s) one ∙ ap {B = ℕ} (λ o. cond o 0 (passed_count_in b pc (task s t).frames)) free ∙ ap (passed_count_in b pc) frames
 
 -- ---- what it leaves
 
@@ -68,7 +89,8 @@ pub record Passes (b : Build) (n next : State) (s : System) (t : ℕ) : Type 0 w
 
 module _ (b : Build) (view : View) (arrivals : List Arrival) (count : ℕ) (state : State) (s : System) (here : StandsAt b view arrivals count state s)
     (t : ℕ) (current : word_at (outside.n b view arrivals (progress_in b) count state s here).core.ram cur ≡ t + 1)
-    (frame : Frame) (outer : List Frame) (frames : (task (outside.s1 b view arrivals (progress_in b) count state s here) t).frames ≡ frame ∷ outer) where
+    (frame : Frame) (outer : List Frame) (frames : (task (outside.s1 b view arrivals (progress_in b) count state s here) t).frames ≡ frame ∷ outer)
+    (free : (task (outside.s1 b view arrivals (progress_in b) count state s here) t).owed ≡ false) where
   abbrev n : State
   n = outside.n b view arrivals (progress_in b) count state s here
 
@@ -124,21 +146,20 @@ module _ (b : Build) (view : View) (arrivals : List Arrival) (count : ℕ) (stat
         (stands_fresh b next (moved_system s1 t (task s1 t) s1.symbols) s1.fresh
         (task_steps b n next s1 now here.fits t found.0 found.1 (task s1 t) s1.symbols task_step))
 
-    current_next : word_at next.core.ram cur - 1 ≡ t
-    current_next = let c = current in let e = word_kept n.core.ram next.core.ram 0 1024 cur passes.kept.low (omega arith) (omega arith) in omega arith
+    current_next : word_at next.core.ram cur ≡ t + 1
+    current_next = word_kept n.core.ram next.core.ram 0 1024 cur passes.kept.low (omega arith) (omega arith) ∙ current
 
     pub progress_next : progress_in b next s1 ≡ passed_count_at address size next.pc
-    progress_next = ap (passed_count_in b next.pc) (ap (λ v. (task s1 v).frames) current_next ∙ frames)
+    progress_next = by_word b next.pc s1 (word_at next.core.ram cur) t frame outer current_next free frames
 
-  -- the task's frames, found by the word at 0x80000000 before the arrivals of the count
-  frames_of : (task s (word_at state.core.ram cur - 1)).frames ≡ frame ∷ outer
-  frames_of =
-      let e : word_at state.core.ram cur - 1 ≡ t = let c = current in omega arith in
-      let a = (active_by_word b state s t here.stands current).active in
-      ap (λ v. (task s v).frames) e ∙ sym (ap (λ v. v.frames) (kept_admits (lines_at arrivals count) t s (not_suspended (task s t).state a))) ∙ frames
+  -- the task's record before the arrivals of the count
+  own_before : task s1 t ≡ task s t
+  own_before = let a = (active_by_word b state s t here.stands current).active in kept_admits (lines_at arrivals count) t s (not_suspended (task s t).state a)
 
   pub progress_now : (done : ℕ) → n.pc ≡ address + 4 * done → done < size → progress_in b state s ≡ done
-  progress_now done pc l = ap (passed_count_in b state.pc) frames_of ∙ ap (passed_count_at address size) pc ∙ at_done address size done l
+  progress_now done pc l =
+      by_word b state.pc s (word_at state.core.ram cur) t frame outer current (sym (ap (λ (v : Task). v.owed) own_before) ∙ free) (sym (ap (λ (v : Task). v.frames) own_before) ∙ frames)
+      ∙ ap (passed_count_at address size) pc ∙ at_done address size done l
 
   -- ---- the instruction
 

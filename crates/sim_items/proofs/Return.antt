@@ -161,7 +161,7 @@ module _ (b : Build) (view : View) (arrivals : List Arrival) (count : ℕ) (stat
       let a = three in
       let pc = item.here.pc in
       let z = none_done in
-      instruction_outside b view arrivals count state s here t item.current item.frame item.outer item.frames back.placed 0 (omega arith)
+      instruction_outside b view arrivals count state s here t item.current item.frame item.outer item.frames item.free back.placed 0 (omega arith)
       [] (loads_link words) _ expands refl 1 (omega arith) (omega arith) core_now
       (λ offset word e l m. performs offset word l) quiet (λ offset e. passes (offset + 4 * 1) (omega arith))
 
@@ -261,7 +261,7 @@ module _ (b : Build) (view : View) (arrivals : List Arrival) (count : ℕ) (stat
     raise_goes : m.pc ≡ from + 4 → GoesOutside b view arrivals (progress_in b) count state s
     raise_goes pc =
         let a = count_is in
-        instruction_outside b view arrivals count state s here t item.current item.frame item.outer item.frames back.placed 1 (omega arith)
+        instruction_outside b view arrivals count state s here t item.current item.frame item.outer item.frames r.free back.placed 1 (omega arith)
         (loads_link size ∷ []) (raises size) _ expansion_is refl 1 (omega arith) (omega arith) core_raised
         (λ offset word e l even. raise_performs offset word l) raise_quiet (λ offset e. raise_passes (offset + 4 * 1) (omega arith))
 

@@ -1,7 +1,6 @@
 -- Every run of a kernel in place is one of the abstract scheduler.
-use Rattle.std.proofs.Common.{◌≡◌, ℕ, ◌+◌, ◌-◌, ◌*◌, ◌/◌, ◌<◌, ◌≤◌, Bool, List, [], ◌∷◌, length, sym, ◌∙◌, subst, arith, true, false, ⊎_elim, filter, Some}
-use Rattle.std.specs.Prelude.{◌&&◌, map, replicate, nat_le, nat_lt, if◌then◌else◌}
-use Rattle.std.proofs.lemmas.Bool.{cases_lt, le-ltb}
+use Rattle.std.proofs.Common.{◌≡◌, ℕ, zero, suc, ◌+◌, ◌<◌, ◌≤◌, Bool, List, [], ◌∷◌, length, sym, ◌∙◌, arith, true, false, cond, filter, Some}
+use Rattle.std.specs.Prelude.{map, replicate}
 use Rattle.sloth_base.specs.declared.event.Arrival.{Arrival}
 use Rattle.sloth_base.specs.declared.image.Image.{Image}
 use Rattle.sloth_base.specs.Owners.{owners_in}
@@ -40,7 +39,8 @@ use Rattle.sim_routines.proofs.Boot.{ram_at}
 use Rattle.sim_routines.proofs.BootRoute.{boot_stretch}
 use Rattle.sim_routines.proofs.Spot.{zero_at}
 use Rattle.sim_relation.specs.Placed.{setting_of}
-use Rattle.sim_items.specs.Progress.{passed_count_at, passed_count_in, progress_in}
+use Rattle.sim_items.specs.Progress.{passed_count_in, passed_count_by, progress_in}
+use Rattle.sim_items.proofs.Passing.{passed_few}
 use Rattle.sim_laws.specs.Bounded.{IsBounded}
 use Rattle.sim_laws.specs.Kernel.{Kernel}
 use Rattle.sim_laws.specs.Standing.{StandsNested}
@@ -49,23 +49,6 @@ use Rattle.sim_laws.proofs.Bounded.{arrive_fits, bounds_stay}
 use Rattle.sim_laws.proofs.Steady.{steady_stays, opening_steady}
 use Rattle.sim_laws.proofs.Dispatch.{advance}
 use Rattle.sim_laws.proofs.Nesting.{stack_nested}
-
--- ---- the measure is at most `unseen_counts`
-
-at_most : (x : Bool) (a b : ℕ) → a ≤ unseen_counts → b ≤ unseen_counts → (if x then a else b) ≤ unseen_counts
-at_most true a b h l = h
-at_most false a b h l = l
-
-other_at_most : (x : Bool) (a : ℕ) → (if x && false then a else unseen_counts) ≤ unseen_counts
-other_at_most true a = omega arith
-other_at_most false a = omega arith
-
-passed_small : (address count pc : ℕ) → count ≤ unseen_counts → passed_count_at address count pc ≤ unseen_counts
-passed_small address count pc l =
-    ⊎_elim
-    (λ (h : pc < address + 4 * count). at_most (nat_le address pc && nat_lt pc (address + 4 * count)) ((pc - address) / 4) unseen_counts (omega arith) (omega arith))
-    (λ (h : address + 4 * count ≤ pc). subst (λ v. (if nat_le address pc && v then (pc - address) / 4 else unseen_counts) ≤ unseen_counts) (sym (le-ltb pc (address + 4 * count) h)) (other_at_most (nat_le address pc) ((pc - address) / 4)))
-    (cases_lt pc (address + 4 * count))
 
 -- ---- the start
 
@@ -106,7 +89,18 @@ module _ (b : Build) (image : Image) (kernel : Kernel b image) where
   in_frames : (pc : ℕ) (frames : List Frame) → passed_count_in b pc frames ≤ unseen_counts
   in_frames pc [] = omega arith
   in_frames pc (frame ∷ outer) =
-      passed_small (item_address b.places frame.func frame.item) (length (expansion b.app b.places frame.func frame.item)) pc (few_instructions frame.func frame.item)
+      let few = few_instructions frame.func frame.item in
+      let most = passed_few (item_address b.places frame.func frame.item) (length (expansion b.app b.places frame.func frame.item)) pc in
+      omega (arith, few, most)
+
+  -- the measure is at most `unseen_counts`
+  passed_small : (pc : ℕ) (s : System) (current : ℕ) → passed_count_by b pc s current ≤ unseen_counts
+  passed_small pc s zero = omega arith
+  passed_small pc s (suc t) = by (task s t).owed
+    where
+      by : (owed : Bool) → cond owed 0 (passed_count_in b pc (task s t).frames) ≤ unseen_counts
+      by true = omega arith
+      by false = in_frames pc (task s t).frames
 
   abbrev R : State → System → Type 0
   R = With (Stands b) IsBounded (IsSteady b.config b.app)
@@ -126,7 +120,7 @@ module _ (b : Build) (image : Image) (kernel : Kernel b image) where
         (λ count state h. arrive_fits (lines_at arrivals count) state h)
         (λ state s w. w.base.tidy.booted)
         (λ state s w. mirror_of b state s w.base)
-        (λ state s w. in_frames state.pc (task s (word_at state.core.ram cur - 1)).frames)
+        (λ state s w. passed_small state.pc s (word_at state.core.ram cur))
 
     booting : BootLaw (setting_of b view arrivals) R (start image)
     booting =
