@@ -18,7 +18,7 @@ use Rattle.sim_induction.specs.Admits.{Setting, IsSetting, lines_at, with_admits
 use Rattle.sim_induction.specs.Advances.{EachPair, IsInCounts, found_events, Advances}
 use Rattle.std.specs.List.{AllByRecursion}
 use Rattle.sim_induction.specs.Weighed.{AreWeighedTo}
-use Rattle.sim_induction.specs.PieceLaws.{OutsideLaw, IsOutsideStep, seen_step_at}
+use Rattle.sim_induction.specs.PieceLaws.{OutsideLaw, IsOutsideStep, MakesProgress, seen_step_at}
 use Rattle.sim_induction.proofs.Schedule.{owned_at, admits_are}
 use Rattle.sim_induction.proofs.Counts.{admits-append, admits_of, others_count}
 use Rattle.sim_induction.proofs.Order.{orders-append, admits_order, others_order}
@@ -49,7 +49,7 @@ record Alone (given : Setting) (k : ℕ) (whats : List Event) (s after : System)
   leads : AreStepsTo given.config given.app (map (stamp k k) whats) s after
   weighed : AreWeighedTo given.config given.app (map (stamp k k) whats) s after
   follows : (past : List Stamped) → AreStepsBehind given.config given.app past s (map (stamp k k) whats) after
-  passing : (before from to : ℕ) → before ≤ from → (whats ≡ [] → from < to) → passed_count whats before ≤ to
+  passing : (before from to : ℕ) → before ≤ from → MakesProgress given.size whats from to → passed_count whats before ≤ to
 
 alone : (given : Setting) (k : ℕ) (whats : List Event) (s after : System) → AreSingle whats → IsOutsideStep given whats s after → Alone given k whats s after
 alone given k [] s after h w = record {
@@ -60,7 +60,7 @@ alone given k [] s after h w = record {
   leads = w;
   weighed = w;
   follows = λ past. w;
-  passing = λ before from to l p. let q = p refl in omega arith;
+  passing = λ before from to l p. let less : from < to = p in omega (arith, l, less);
 }
 alone given k (what ∷ []) s after h w =
     let o = single_other what k h.0 in

@@ -13,6 +13,7 @@ use Rattle.sloth_base.specs.Owners.{first_counter_line, owners_in}
 use Rattle.rv32_machine.specs.Start.{start}
 use Rattle.osek_scheduler.specs.State.{System}
 use Rattle.sim_induction.specs.Sound.{IsSoundRun, Sound}
+use Rattle.event_weights.specs.Pace.{ItemSizes}
 use Rattle.sim_induction.specs.Weighed.{Weighed}
 use Rattle.sim_induction.specs.Admits.{IsSetting}
 use Rattle.sim_induction.specs.PieceLaws.{BootLaw}
@@ -20,9 +21,9 @@ use Rattle.sim_induction.specs.Related.{IsSimulation}
 use Rattle.sim_induction.proofs.Boot.{whole_run}
 use Rattle.sim_induction.proofs.WholeRun.{setting_of, sound_of, weighed_of}
 
-pub is_setting : (config : Config) (app : App) (image : Image) (arrivals : List Arrival) → length config.tasks ≤ first_counter_line → length image.tasks ≡ length config.tasks → image.counters ≡ map (λ c. c.name) config.counters → AreArrivals (owners_in config) arrivals
-    → IsSetting (setting_of config app image arrivals)
-is_setting config app image arrivals few tasks counters are =
+pub is_setting : (config : Config) (app : App) (size : ItemSizes) (image : Image) (arrivals : List Arrival) → length config.tasks ≤ first_counter_line → length image.tasks ≡ length config.tasks → image.counters ≡ map (λ c. c.name) config.counters → AreArrivals (owners_in config) arrivals
+    → IsSetting (setting_of config app size image arrivals)
+is_setting config app size image arrivals few tasks counters are =
     let counted : length image.counters ≡ length config.counters = ap length counters ∙ length-map config.counters (λ (c : CounterDecl). c.name) in
     record {
       owners = ap (λ (n : ℕ). record { tasks = n; counters = length image.counters }) tasks ∙ ap (λ (n : ℕ). record { tasks = length config.tasks; counters = n }) counted;
@@ -31,30 +32,30 @@ is_setting config app image arrivals few tasks counters are =
       lines = are.lines_owned;
     }
 
-pub sound_run : (config : Config) (app : App) (image : Image) (arrivals : List Arrival) (R : State → System → Type 0) (progress : State → System → ℕ)
-    → IsSetting (setting_of config app image arrivals) → IsSimulation (setting_of config app image arrivals) R progress → BootLaw (setting_of config app image arrivals) R (start image)
+pub sound_run : (config : Config) (app : App) (size : ItemSizes) (image : Image) (arrivals : List Arrival) (R : State → System → Type 0) (progress : State → System → ℕ)
+    → IsSetting (setting_of config app size image arrivals) → IsSimulation (setting_of config app size image arrivals) R progress → BootLaw (setting_of config app size image arrivals) R (start image)
     → (n : ℕ) → IsSoundRun config app image arrivals n
-sound_run config app image arrivals R progress setting simulation boot n =
-    sound_of config app image arrivals R progress setting simulation n
-    (whole_run (setting_of config app image arrivals) setting R progress simulation (start image) boot n)
+sound_run config app size image arrivals R progress setting simulation boot n =
+    sound_of config app size image arrivals R progress setting simulation n
+    (whole_run (setting_of config app size image arrivals) setting R progress simulation (start image) boot n)
 
-pub sound : (config : Config) (app : App) (image : Image) (R : State → System → Type 0) (progress : State → System → ℕ) → length config.tasks ≤ first_counter_line → length image.tasks ≡ length config.tasks
+pub sound : (config : Config) (app : App) (size : ItemSizes) (image : Image) (R : State → System → Type 0) (progress : State → System → ℕ) → length config.tasks ≤ first_counter_line → length image.tasks ≡ length config.tasks
     → image.counters ≡ map (λ c. c.name) config.counters
-    → ((arrivals : List Arrival) → AreArrivals (owners_in config) arrivals → IsSimulation (setting_of config app image arrivals) R progress × BootLaw (setting_of config app image arrivals) R (start image))
+    → ((arrivals : List Arrival) → AreArrivals (owners_in config) arrivals → IsSimulation (setting_of config app size image arrivals) R progress × BootLaw (setting_of config app size image arrivals) R (start image))
     → Sound config app image
-sound config app image R progress few tasks counters laws = record {
+sound config app size image R progress few tasks counters laws = record {
   counters = counters;
-  each = λ arrivals n are bound. sound_run config app image arrivals R progress (is_setting config app image arrivals few tasks counters are) (laws arrivals are).0 (laws arrivals are).1 n;
+  each = λ arrivals n are bound. sound_run config app size image arrivals R progress (is_setting config app size image arrivals few tasks counters are) (laws arrivals are).0 (laws arrivals are).1 n;
 }
 
 -- and no stretch of it takes more than its weight
-pub weighed : (config : Config) (app : App) (image : Image) (R : State → System → Type 0) (progress : State → System → ℕ) → length config.tasks ≤ first_counter_line → length image.tasks ≡ length config.tasks
+pub weighed : (config : Config) (app : App) (size : ItemSizes) (image : Image) (R : State → System → Type 0) (progress : State → System → ℕ) → length config.tasks ≤ first_counter_line → length image.tasks ≡ length config.tasks
     → image.counters ≡ map (λ c. c.name) config.counters
-    → ((arrivals : List Arrival) → AreArrivals (owners_in config) arrivals → IsSimulation (setting_of config app image arrivals) R progress × BootLaw (setting_of config app image arrivals) R (start image))
+    → ((arrivals : List Arrival) → AreArrivals (owners_in config) arrivals → IsSimulation (setting_of config app size image arrivals) R progress × BootLaw (setting_of config app size image arrivals) R (start image))
     → Weighed config app image
-weighed config app image R progress few tasks counters laws = record {
+weighed config app size image R progress few tasks counters laws = record {
   each = λ arrivals n are bound.
-      let given = setting_of config app image arrivals in
-      weighed_of config app image arrivals R n
-      (whole_run given (is_setting config app image arrivals few tasks counters are) R progress (laws arrivals are).0 (start image) (laws arrivals are).1 n);
+      let given = setting_of config app size image arrivals in
+      weighed_of config app size image arrivals R n
+      (whole_run given (is_setting config app size image arrivals few tasks counters are) R progress (laws arrivals are).0 (start image) (laws arrivals are).1 n);
 }

@@ -19,6 +19,7 @@ use Rattle.osek_scheduler.specs.Runs.{AreStepsBehind}
 use Rattle.osek_scheduler.specs.InTime.{InTime, IsStamped, is_admit, admits_at, arrivals_at, IsOrdered, KeepsOrder, longest_cut_off_stretch}
 use Rattle.sim_induction.specs.Short.{Short, AreShort, IsShortPiece, HasShortGaps}
 use Rattle.sim_induction.specs.Sound.{IsSoundRun, events_of}
+use Rattle.event_weights.specs.Pace.{ItemSizes}
 use Rattle.sim_induction.specs.Weighed.{AreWeighedTo, AreWithinWeights}
 use Rattle.sim_induction.specs.Admits.{Setting, IsSetting}
 use Rattle.sim_induction.specs.Advances.{EachPair, IsInCounts}
@@ -79,22 +80,22 @@ short_of given R n m w = record {
 }
 
 -- how a run of an image is observed
-abbrev pub setting_of : Config → App → Image → List Arrival → Setting
-setting_of config app image arrivals = record { config = config; app = app; view = view_of_image image; arrivals = arrivals }
+abbrev pub setting_of : Config → App → ItemSizes → Image → List Arrival → Setting
+setting_of config app size image arrivals = record { config = config; app = app; size = size; view = view_of_image image; arrivals = arrivals }
 
-pub sound_of : (config : Config) (app : App) (image : Image) (arrivals : List Arrival) (R : State → System → Type 0) (progress : State → System → ℕ)
-    → IsSetting (setting_of config app image arrivals) → IsSimulation (setting_of config app image arrivals) R progress → (n : ℕ) → WholeRun (setting_of config app image arrivals) R n (start image)
+pub sound_of : (config : Config) (app : App) (size : ItemSizes) (image : Image) (arrivals : List Arrival) (R : State → System → Type 0) (progress : State → System → ℕ)
+    → IsSetting (setting_of config app size image arrivals) → IsSimulation (setting_of config app size image arrivals) R progress → (n : ℕ) → WholeRun (setting_of config app size image arrivals) R n (start image)
     → IsSoundRun config app image arrivals n
-sound_of config app image arrivals R progress setting simulation n w = record {
+sound_of config app size image arrivals R progress setting simulation n w = record {
   whole = stop_none n arrivals 0 (start image) w.end w.whole;
   osek = (w.last, w.follows);
-  in_time = in_time (setting_of config app image arrivals) setting R n (start image) w;
-  short = short_of (setting_of config app image arrivals) R n (start image) w;
+  in_time = in_time (setting_of config app size image arrivals) setting R n (start image) w;
+  short = short_of (setting_of config app size image arrivals) R n (start image) w;
   mirrors = λ count state l after enabled. let z = w.mirrors count l state after enabled in (z.0, z.1, simulation.mirrors _ z.0 z.2);
 }
 
-pub weighed_of : (config : Config) (app : App) (image : Image) (arrivals : List Arrival) (R : State → System → Type 0) (n : ℕ) → WholeRun (setting_of config app image arrivals) R n (start image)
+pub weighed_of : (config : Config) (app : App) (size : ItemSizes) (image : Image) (arrivals : List Arrival) (R : State → System → Type 0) (n : ℕ) → WholeRun (setting_of config app size image arrivals) R n (start image)
     → AreWithinWeights config app (events_of image arrivals n)
-weighed_of config app image arrivals R n w = λ before behind e found is leads.
+weighed_of config app size image arrivals R n w = λ before behind e found is leads.
     found_within config app before behind e (opening config app) w.last found
     (subst (λ events. AreWeighedTo config app events (opening config app) w.last) is w.weighed) leads

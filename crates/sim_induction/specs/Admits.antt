@@ -11,12 +11,14 @@ use Rattle.sloth_base.specs.Owners.{first_counter_line, owners_in, IsOwned}
 use Rattle.observe.specs.Observe.{View, stamp}
 use Rattle.osek_scheduler.specs.State.{System}
 use Rattle.osek_scheduler.specs.Steps.{admitted_state, due_state}
+use Rattle.event_weights.specs.Pace.{ItemSizes}
 use Rattle.masked_code.specs.Trace.{Trace, touched_lines_of, untouched_lines_of}
 
--- what is fixed in a run: the system, what the run is observed by, and what arrives
+-- what is fixed in a run: the system, how long its items are, what the run is observed by, and what arrives
 pub record Setting : Type 0 where
   pub config : Config
   pub app : App
+  pub size : ItemSizes
   pub view : View
   pub arrivals : List Arrival
 

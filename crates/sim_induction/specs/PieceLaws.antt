@@ -21,6 +21,7 @@ use Rattle.osek_scheduler.specs.State.{System, opening}
 use Rattle.osek_scheduler.specs.Steps.{OsekStep}
 use Rattle.osek_scheduler.specs.Runs.{AreStepsTo, PassesOverArrivals}
 use Rattle.event_weights.specs.Events.{stretch_counts}
+use Rattle.event_weights.specs.Pace.{ItemSizes, single_counts}
 use Rattle.sim_induction.specs.Short.{TouchesOnly}
 use Rattle.sim_induction.specs.Admits.{Setting, lines_at, with_admits, admit_event, arrivals_before_event}
 
@@ -71,7 +72,12 @@ IsOutsideStep given [] s after = after ≡ s
 IsOutsideStep given (what ∷ []) s after = OsekStep given.config given.app what s after
 IsOutsideStep given (what ∷ other ∷ more) s after = ⊥
 
--- an instruction outside the stretches, at a count that finds MIE 1; where it shows nothing, it makes progress
+-- Where an instruction shows nothing, the measure grows; where it shows an event, the measure was below what that event may take.
+abbrev pub MakesProgress : ItemSizes → List Event → (from to : ℕ) → Type 0
+MakesProgress size [] from to = from < to
+MakesProgress size (what ∷ more) from to = from < single_counts size what
+
+-- an instruction outside the stretches, at a count that finds MIE 1
 pub record OutsideLaw (given : Setting) (R : State → System → Type 0) (progress : State → System → ℕ)
     (count : ℕ) (state : State) (s : System) (next : State) : Type 0 where
   pub goes : step (execution_state (state_with_arrivals given.arrivals count state)) ≡ Going next
@@ -81,7 +87,7 @@ pub record OutsideLaw (given : Setting) (R : State → System → Type 0) (progr
   pub whats_are : outside_events (mark_at given.view (seen_step_at given count state next).pc) given.view (seen_step_at given count state next) ≡ whats
   pub after : System
   pub shows : IsOutsideStep given whats (with_admits (lines_at given.arrivals count) s) after
-  pub progresses : whats ≡ [] → progress state s < progress next after
+  pub progresses : MakesProgress given.size whats (progress state s) (progress next after)
   pub related : R next after
 
 -- The first stretch, from count 0 on, touches no line, and its event is Boot.

@@ -44,7 +44,7 @@ use Rattle.sim_items.proofs.CallCode.{lowers, clears, links, stores_link, jumps_
 use Rattle.sim_items.proofs.Distances.{arrives, jumps_to, IsInRam, item_in_ram}
 use Rattle.sim_items.proofs.InRam as code
 use Rattle.sim_items.proofs.Keeping.{part_keeps, part_data, words_from}
-use Rattle.sim_items.proofs.Passing.{Passes, instruction_outside}
+use Rattle.sim_items.proofs.Passing.{Passes, last_passed, instruction_outside}
 use Rattle.sim_items.proofs.Scratch.{registers_pass}
 use Rattle.sim_items.proofs.Turning.{turns}
 use Rattle.sim_items.proofs.Outside as outside
@@ -464,6 +464,7 @@ module _ (b : Build) (view : View) (arrivals : List Arrival) (count : ℕ) (stat
       (jump_quiet (memory_base + offset))))
       call.placed (outside.last_at b view arrivals (progress_in b) count state s here item.frame.func item.frame.item c.done c.pc (omega arith))
       (λ address. call_mark b item.frame.func item.frame.item c.callee address (operation b.app item.frame.func item.frame.item) call.is)
+      (last_passed b view arrivals count state s here t item.current item.frame item.outer item.frames c.free c.done c.pc (omega arith) item.inside)
 
   -- each further one
   pub call_goes_on : GoesOutside b view arrivals (progress_in b) count state s

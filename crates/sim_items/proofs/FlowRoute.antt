@@ -20,6 +20,7 @@ use Rattle.sim_items.specs.Outside.{StandsAt, GoesOutside}
 use Rattle.sim_items.specs.Progress.{progress_in}
 use Rattle.sim_items.proofs.InRam as code
 use Rattle.sim_items.proofs.Inner.{prepared_outside}
+use Rattle.sim_items.proofs.Passing.{last_passed}
 use Rattle.sim_items.proofs.Registers.{own_agrees}
 use Rattle.sim_items.proofs.Turning.{turns}
 use Rattle.sim_items.proofs.Outside as outside
@@ -70,6 +71,7 @@ module _ (b : Build) (view : View) (arrivals : List Arrival) (count : ℕ) (stat
       (code.untouched b view n s1 here.fits now frame.func frame.item placed item.here.done item.here.pc v.before v.kind [] v.expands v.reached (v.quiet (memory_base + offset))))
       placed (outside.last_at b view arrivals (progress_in b) count state s here frame.func frame.item item.here.done item.here.pc last)
       (λ address. flow_mark b.app frame.func frame.item address this is)
+      (last_passed b view arrivals count state s here t item.current item.frame item.outer item.frames item.free item.here.done item.here.pc item.here.within item.inside)
 
   pub flow_outside : GoesOutside b view arrivals (progress_in b) count state s
   flow_outside =

@@ -157,5 +157,5 @@ module _ (b : Build) (view : View) (arrivals : List Arrival) (count : ℕ) (stat
     outside.one_instruction b view arrivals (progress_in b) count state s here next [] s1 stepped untouched
         (outside.marked_shows b view arrivals (progress_in b) count state s here next mark [] (ap (mark_at view) (pc_is ∙ sym last_is) ∙ placed.marked)
         (ap (λ o. events_of_kind (mark_kind o) view mark (seen_step_at (outside.given b view arrivals (progress_in b) count state s here) count state next)) jump.is))
-        refl (λ e. rises) stands_next,
+        refl rises stands_next,
   )

@@ -24,7 +24,7 @@ use Rattle.osek_scheduler.specs.State.{System}
 use Rattle.osek_scheduler.specs.Priority.{IsTop}
 use Rattle.osek_scheduler.specs.Steps.{settled_state}
 use Rattle.sim_induction.specs.Admits.{Setting, lines_at, with_admits}
-use Rattle.sim_induction.specs.PieceLaws.{OutsideLaw, IsOutsideStep, seen_step_at}
+use Rattle.sim_induction.specs.PieceLaws.{OutsideLaw, IsOutsideStep, MakesProgress, seen_step_at}
 use Rattle.sim_induction.proofs.Routes.{begins_none}
 use Rattle.sim_induction.proofs.Schedule.{owned_at}
 use Rattle.sim_induction.proofs.Stretched.{task_is}
@@ -37,7 +37,7 @@ use Rattle.sim_relation.proofs.Choice.{quiet, running_top, none_due}
 use Rattle.sim_items.proofs.Cases.{mark_shows}
 use Rattle.sim_items.specs.Place.{AtItem, ItemStands, IsStraight, HasNumbers}
 use Rattle.sim_items.specs.ItemSteps.{RunsItem}
-use Rattle.sim_relation.specs.Placed.{setting_of}
+use Rattle.sim_relation.specs.Placed.{item_words, setting_of}
 use Rattle.sim_items.specs.Outside.{StandsAt, GoesOutside, HasIdle}
 use Rattle.sim_items.proofs.Straight.{straight_run}
 
@@ -63,7 +63,7 @@ module _ (b : Build) (view : View) (arrivals : List Arrival) (progress : State �
   -- any instruction after which the relation stands
   pub one_instruction : (next : State) (whats : List Event) (after : System) → step n ≡ Going next → touched n ≡ None
       → outside_events (mark_at view n.pc) view (seen_step_at given count state next) ≡ whats → IsOutsideStep given whats s1 after
-      → (whats ≡ [] → progress state s < progress next after) → Stands b next after → OutsideLaw given (Stands b) progress count state s next
+      → MakesProgress (item_words b) whats (progress state s) (progress next after) → Stands b next after → OutsideLaw given (Stands b) progress count state s next
   one_instruction next whats after goes quiet shown shows rises related = record {
     goes = ap (λ o. step (entry_state o n)) none ∙ goes;
     outside = begins_none count n next here.after_boot none related.fixed.open_to_lines;
@@ -89,7 +89,8 @@ module _ (b : Build) (view : View) (arrivals : List Arrival) (progress : State �
   module _ (t : ℕ) (current : word_at n.core.ram cur ≡ t + 1) (func item : ℕ) (runs : RunsItem b n s1 t func item) (placed : ItemStands b view func item)
       (at_last : n.pc ≡ last_address b.app b.places func item)
       (is_item : (address : ℕ) → mark_of (operation b.app func item) address func item
-      ≡ record { address = address; kind = kind.Item; a = result_register (operation b.app func item); b = func; c = item }) where
+      ≡ record { address = address; kind = kind.Item; a = result_register (operation b.app func item); b = func; c = item })
+      (early : progress state s < item_words b func item) where
     abbrev mark : Mark
     mark = item_mark b.app b.places func item
 
@@ -107,7 +108,7 @@ module _ (b : Build) (view : View) (arrivals : List Arrival) (progress : State �
     committed_outside = (
       runs.next,
       one_instruction runs.next _ runs.after runs.goes runs.untouched
-          (marked_shows runs.next mark _ (ap (mark_at view) at_last ∙ placed.marked) shown) runs.step_is (λ e. cc) runs.stands,
+          (marked_shows runs.next mark _ (ap (mark_at view) at_last ∙ placed.marked) shown) runs.step_is early runs.stands,
     )
 
   pub last_at : (func item done : ℕ) → n.pc ≡ item_address b.places func item + 4 * done → done + 1 ≡ length (expansion b.app b.places func item) → n.pc ≡ last_address b.app b.places func item
@@ -117,7 +118,7 @@ module _ (b : Build) (view : View) (arrivals : List Arrival) (progress : State �
   module _ (t : ℕ) (item : AtItem b n s1 t) (numbers : HasNumbers b n s1) (is : IsStraight b.app item.frame.func (operation b.app item.frame.func item.frame.item))
       (placed : ItemStands b view item.frame.func item.frame.item)
       (last : item.here.done + 1 ≡ length (expansion b.app b.places item.frame.func item.frame.item))
-      (more : item.frame.item + 1 < length (function b.app item.frame.func).items) where
+      (more : item.frame.item + 1 < length (function b.app item.frame.func).items) (early : progress state s < item_words b item.frame.func item.frame.item) where
     -- the last instruction of an item
     pub item_outside : GoesOutside b view arrivals progress count state s
     item_outside =
@@ -125,9 +126,10 @@ module _ (b : Build) (view : View) (arrivals : List Arrival) (progress : State �
         (straight_run b view n s1 t here.fits now item (top_here t item.current) numbers is placed last more) placed
         (last_at item.frame.func item.frame.item item.here.done item.here.pc last)
         (λ address. mark_shows b.app item.frame.func address item.frame.item (operation b.app item.frame.func item.frame.item) is)
+        early
 
   -- the idle loop
-  module _ (idle_word : word_at state.core.ram cur ≡ 0) (idle : HasIdle b view) where
+  module _ (idle_word : word_at state.core.ram cur ≡ 0) (idle : HasIdle b view) (still : progress state s ≡ 0) where
     empty : now.stack ≡ []
     empty = by now.stack refl
       where
@@ -160,5 +162,5 @@ module _ (b : Build) (view : View) (arrivals : List Arrival) (progress : State �
       one_instruction n (event.Idle ∷ []) (settled_state s1) stays (ap touched n_is ∙ idle.idles.untouched idle.offset n.core placed)
           (marked_shows n idle.mark (event.Idle ∷ []) (ap (mark_at view) runs_idle.pc ∙ idle.marked)
           (ap (λ k. events_of_kind k view idle.mark (seen_step_at given count state n)) idle.shows))
-          (now.tidy.booted, none_due b n s1 now few here.none empty, quiet b n s1 now here.none, refl) (λ e. cc) (stands_fresh b n s1 [] now),
+          (now.tidy.booted, none_due b n s1 now few here.none empty, quiet b n s1 now here.none, refl) (let less : progress state s < 1 = omega (arith, still) in less) (stands_fresh b n s1 [] now),
     )

@@ -10,6 +10,7 @@ use Rattle.sloth_region.specs.Layout.{cur, context_bytes}
 use Rattle.rv32_instr.specs.Execute.{Going, step, touched, touched_line_by, perform}
 use Rattle.rv32_instr.specs.Ram.{word_at}
 use Rattle.expansion_parts.specs.Expansion.{item_address, expansion}
+use Rattle.sloth_base.specs.Named.{function}
 use Rattle.observe.specs.Observe.{View, mark_at, outside_events}
 use Rattle.osek_scheduler.specs.State.{Frame, Task, System, task, sleeping_task}
 use Rattle.sim_induction.specs.Admits.{lines_at}
@@ -25,6 +26,7 @@ use Rattle.sim_relation.proofs.Contexts.{data_kept}
 use Rattle.sim_relation.proofs.Framing.{word_kept}
 use Rattle.sim_relation.proofs.TaskSteps.{task_steps}
 use Rattle.sim_relation.proofs.Placed.{first_by_word, active_by_word}
+use Rattle.sim_relation.specs.Placed.{item_words}
 use Rattle.sim_items.specs.Place.{ItemStands}
 use Rattle.sim_items.specs.Outside.{StandsAt, GoesOutside}
 use Rattle.sim_items.specs.Progress.{passed_count_at, passed_count_in, passed_count_by, progress_in}
@@ -86,6 +88,10 @@ pub record Passes (b : Build) (n next : State) (s : System) (t : ℕ) : Type 0 w
   pub position : IsPosition b next.core.ram t (task s t) (thread_of next) place
   pub room : b.low t + context_bytes ≤ place
   pub aligned : place % 4 ≡ 0
+
+-- the idle loop has passed nothing
+pub none_passed : (b : Build) (state : State) (s : System) → word_at state.core.ram cur ≡ 0 → progress_in b state s ≡ 0
+none_passed b state s none = ap (passed_count_by b state.pc s) none
 
 module _ (b : Build) (view : View) (arrivals : List Arrival) (count : ℕ) (state : State) (s : System) (here : StandsAt b view arrivals count state s)
     (t : ℕ) (current : word_at (outside.n b view arrivals (progress_in b) count state s here).core.ram cur ≡ t + 1)
@@ -161,6 +167,13 @@ module _ (b : Build) (view : View) (arrivals : List Arrival) (count : ℕ) (stat
       by_word b state.pc s (word_at state.core.ram cur) t frame outer current (sym (ap (λ (v : Task). v.owed) own_before) ∙ free) (sym (ap (λ (v : Task). v.frames) own_before) ∙ frames)
       ∙ ap (passed_count_at address size) pc ∙ at_done address size done l
 
+  -- before the last instruction of an item less is passed than it has
+  pub last_passed : (done : ℕ) → n.pc ≡ address + 4 * done → done < size → frame.item < length (function b.app frame.func).items → progress_in b state s < item_words b frame.func frame.item
+  last_passed done pc l inside =
+      let first = progress_now done pc l in
+      let whole : item_words b frame.func frame.item ≡ size = ap {B = ℕ} (λ v. cond v size 0) (lt-ltb frame.item (length (function b.app frame.func).items) inside) in
+      omega (arith, first, whole, l)
+
   -- ---- the instruction
 
   -- it passes some instructions of the item
@@ -181,7 +194,7 @@ module _ (b : Build) (view : View) (arrivals : List Arrival) (count : ℕ) (stat
       next,
       outside.one_instruction b view arrivals (progress_in b) count state s here next [] s1 stepped untouched
           (ap (λ m. outside_events m view (seen_step_at (outside.given b view arrivals (progress_in b) count state s here) count state next)) unmarked)
-          refl (λ e. rises) (passes_stand next passes),
+          refl rises (passes_stand next passes),
     )
 
   -- the instruction behind these of the item

@@ -35,7 +35,7 @@ use Rattle.sim_items.proofs.Access.{IsPlaceOf, load_at, load_at_quiet, word_numb
 use Rattle.sim_items.proofs.CallCode.{call_size}
 use Rattle.sim_items.proofs.Distances.{jumps_to, IsInRam, item_in_ram}
 use Rattle.sim_items.proofs.InRam as code
-use Rattle.sim_items.proofs.Passing.{Passes, instruction_outside}
+use Rattle.sim_items.proofs.Passing.{Passes, last_passed, instruction_outside}
 use Rattle.sim_items.proofs.Scratch.{registers_pass}
 use Rattle.sim_items.proofs.Turning.{turns}
 use Rattle.sim_items.proofs.Outside as outside
@@ -320,6 +320,7 @@ module _ (b : Build) (view : View) (arrivals : List Arrival) (count : ℕ) (stat
       (code.untouched b view m s2 here.fits stands item.frame.func item.frame.item back.placed 2 at_pc before goes_back [] expansion_is refl (jump_quiet (memory_base + offset))))
       back.placed (outside.last_at b view arrivals (progress_in b) count state s here item.frame.func item.frame.item 2 at_pc (omega arith))
       (λ address. return_mark b item.frame.func item.frame.item address (operation b.app item.frame.func item.frame.item) back.is)
+      (last_passed b view arrivals count state s here t item.current item.frame item.outer item.frames r.free 2 at_pc (omega arith) item.inside)
 
   -- each further one
   pub return_goes_on : GoesOutside b view arrivals (progress_in b) count state s

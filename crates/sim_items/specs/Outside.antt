@@ -44,13 +44,13 @@ GoesOutside b view arrivals progress count state s = (next : State) × OutsideLa
 
 -- its last instruction advances the run
 abbrev pub StraightItemsGoOn : Type 0
-StraightItemsGoOn = (b : Build) (view : View) (arrivals : List Arrival) (progress : State → System → ℕ) (count : ℕ) (state : State) (s : System) (t : ℕ)
+StraightItemsGoOn = (b : Build) (view : View) (arrivals : List Arrival) (count : ℕ) (state : State) (s : System) (t : ℕ)
     → StandsAt b view arrivals count state s → (here : AtItem b (state_with_arrivals arrivals count state) (with_admits (lines_at arrivals count) s) t)
     → HasNumbers b (state_with_arrivals arrivals count state) (with_admits (lines_at arrivals count) s)
     → IsStraight b.app here.frame.func (operation b.app here.frame.func here.frame.item) → ItemStands b view here.frame.func here.frame.item
     → here.here.done + 1 ≡ length (expansion b.app b.places here.frame.func here.frame.item)
     → here.frame.item + 1 < length (function b.app here.frame.func).items
-    → GoesOutside b view arrivals progress count state s
+    → GoesOutside b view arrivals (progress_in b) count state s
 
 -- an instruction before its last one shows nothing, and makes progress
 abbrev pub ExpansionsGoOn : Type 0
@@ -154,5 +154,5 @@ pub record HasIdle (b : Build) (view : View) : Type 0 where
 
 -- an instruction of the idle loop advances the run
 abbrev pub IdleGoesOn : Type 0
-IdleGoesOn = (b : Build) (view : View) (arrivals : List Arrival) (progress : State → System → ℕ) (count : ℕ) (state : State) (s : System)
-    → StandsAt b view arrivals count state s → word_at state.core.ram cur ≡ 0 → HasIdle b view → GoesOutside b view arrivals progress count state s
+IdleGoesOn = (b : Build) (view : View) (arrivals : List Arrival) (count : ℕ) (state : State) (s : System)
+    → StandsAt b view arrivals count state s → word_at state.core.ram cur ≡ 0 → HasIdle b view → GoesOutside b view arrivals (progress_in b) count state s

@@ -42,6 +42,7 @@ use Rattle.sim_items.proofs.Call.{call_begins, call_goes_on}
 use Rattle.sim_items.proofs.Return.{return_begins, return_goes_on}
 use Rattle.sim_items.proofs.FlowRoute.{flow_outside}
 use Rattle.sim_items.proofs.Outside.{item_outside, idle_outside}
+use Rattle.sim_items.proofs.Passing.{none_passed, last_passed}
 use Rattle.sim_items.proofs.Inner.{inner_outside}
 use Rattle.sim_items.proofs.Jump.{jump_outside}
 use Rattle.sim_items.proofs.MaskedJump.{masked_outside}
@@ -232,7 +233,8 @@ module _ (b : Build) (image : Image) (kernel : Kernel b image) where
               (λ (l : e.done + 1 < size). outside (inner_outside b view arrivals count state s here t (at_item e) placed h.straight l))
               (λ (l : size ≤ e.done + 1).
               let w = e.within in
-              outside (item_outside b view arrivals (progress_in b) count state s here t (at_item e) numbers h.straight placed (omega arith) h.more))
+              outside (item_outside b view arrivals (progress_in b) count state s here t (at_item e) numbers h.straight placed (omega arith) h.more
+              (last_passed b view arrivals count state s here t run.current p.frame p.outer p.frames q.free e.done e.pc w p.inside)))
               (cases_lt (e.done + 1) size)
 
           -- a call
@@ -466,7 +468,7 @@ module _ (b : Build) (image : Image) (kernel : Kernel b image) where
       by_stack : (stack : List ℕ) → k.stack ≡ stack → Goes
       by_stack [] e =
           let r : RunsIdle b n = subst (RunsFirst b n s1) e k.running in
-          outside (idle_outside b view arrivals (progress_in b) count state s here r.current kernel.idle)
+          outside (idle_outside b view arrivals (progress_in b) count state s here r.current kernel.idle (none_passed b state s r.current))
       by_stack (t ∷ below) e = task_goes t below e
 
     sane : IsSane n

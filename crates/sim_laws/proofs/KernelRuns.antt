@@ -38,7 +38,7 @@ use Rattle.sim_relation.proofs.MirrorOf.{mirror_of}
 use Rattle.sim_routines.proofs.Boot.{ram_at}
 use Rattle.sim_routines.proofs.BootRoute.{boot_stretch}
 use Rattle.sim_routines.proofs.Spot.{zero_at}
-use Rattle.sim_relation.specs.Placed.{setting_of}
+use Rattle.sim_relation.specs.Placed.{item_words, setting_of}
 use Rattle.sim_items.specs.Progress.{passed_count_in, passed_count_by, progress_in}
 use Rattle.sim_items.proofs.Passing.{passed_few}
 use Rattle.sim_laws.specs.Bounded.{IsBounded}
@@ -131,13 +131,13 @@ module _ (b : Build) (image : Image) (kernel : Kernel b image) where
 
   pub sound_kernel : Sound b.config b.app image
   sound_kernel =
-      sound b.config b.app image R (progress_in b) kernel.fits.few_tasks kernel.tasks kernel.counters
-      (λ arrivals are. let setting = is_setting b.config b.app image arrivals kernel.fits.few_tasks kernel.tasks kernel.counters are in (simulation arrivals setting, booting arrivals setting))
+      sound b.config b.app (item_words b) image R (progress_in b) kernel.fits.few_tasks kernel.tasks kernel.counters
+      (λ arrivals are. let setting = is_setting b.config b.app (item_words b) image arrivals kernel.fits.few_tasks kernel.tasks kernel.counters are in (simulation arrivals setting, booting arrivals setting))
 
   pub weighed_kernel : Weighed b.config b.app image
   weighed_kernel =
-      weighed b.config b.app image R (progress_in b) kernel.fits.few_tasks kernel.tasks kernel.counters
-      (λ arrivals are. let setting = is_setting b.config b.app image arrivals kernel.fits.few_tasks kernel.tasks kernel.counters are in (simulation arrivals setting, booting arrivals setting))
+      weighed b.config b.app (item_words b) image R (progress_in b) kernel.fits.few_tasks kernel.tasks kernel.counters
+      (λ arrivals are. let setting = is_setting b.config b.app (item_words b) image arrivals kernel.fits.few_tasks kernel.tasks kernel.counters are in (simulation arrivals setting, booting arrivals setting))
 
   -- at each count that finds MIE 1 the relation stands
   pub stands_kernel : (arrivals : List Arrival) (n count : ℕ) (state : State) → AreArrivals (owners_in b.config) arrivals → n ≤ count_limit → count < n
@@ -145,7 +145,7 @@ module _ (b : Build) (image : Image) (kernel : Kernel b image) where
       → (s : System) × AreStepsTo b.config b.app (filter (stands_before count) (events_of image arrivals n)) (opening b.config b.app) s
       × StandsNested b (state_with_arrivals arrivals count state) s
   stands_kernel arrivals n count state are bound before after enabled =
-      let setting = is_setting b.config b.app image arrivals kernel.fits.few_tasks kernel.tasks kernel.counters are in
+      let setting = is_setting b.config b.app (item_words b) image arrivals kernel.fits.few_tasks kernel.tasks kernel.counters are in
       let whole = whole_run (setting_of b view arrivals) setting R (progress_in b) (simulation arrivals setting) (start image) (booting arrivals setting) n in
       let found = whole.mirrors count before state after enabled in
       let related = found.2 in (
