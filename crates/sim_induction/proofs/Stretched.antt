@@ -25,7 +25,7 @@ use Rattle.osek_scheduler.specs.Steps.{OsekStep}
 use Rattle.osek_scheduler.specs.Runs.{PassesOver, PassesOverArrivals}
 use Rattle.event_weights.specs.Events.{stretch_counts}
 use Rattle.sim_induction.specs.Admits.{Setting, lines_at, with_admits, admit_event, arrivals_before_event}
-use Rattle.sim_induction.specs.PieceLaws.{StretchLaw, seen_step_at, served_event}
+use Rattle.sim_induction.specs.PieceLaws.{StretchLaw, IsNamed, seen_step_at, served_event}
 use Rattle.std.specs.List.{AllByRecursion}
 use Rattle.sim_induction.proofs.Follow.{booted_admits}
 use Rattle.sim_induction.proofs.Traces.{lines_before}
@@ -51,6 +51,11 @@ both_pass : (given : Setting) (past : List Stamped) (s : System) (k t : ℕ) (ca
     → PassesOverArrivals given.config given.app past s k (cond b (event.Call t called status) (event.Left t called))
 both_pass given past s k t called status true h = h
 both_pass given past s k t called status false h = h
+
+-- either is of the calling task
+both_named : (current t : ℕ) (called : Service) (status : ℕ) (b : Bool) → current ≡ t + 1 → IsNamed current (cond b (event.Call t called status) (event.Left t called))
+both_named current t called status true h = h
+both_named current t called status false h = h
 
 -- What is known of a service's code that begins at its opening mark with interrupts open, whose effect is such a one: where it begins, which
 -- task calls, what it leaves, and that it is a step of the abstract scheduler within its weight, to a state that is related again.
@@ -107,6 +112,7 @@ service_law given R k m s t called most Effect e h =
       touches_first = subst (λ o. IfSome o (Contains h.lines)) (sym h.untouched) tt;
       touches = h.touches;
       what = served_event t called e.end;
+      named = both_named (word_at m.core.ram 0) t called (slice_index e.end.core.registers 10) (t + 1 == word_at e.end.core.ram 0) h.runs;
       what_is = λ last regs cur.
           opened_event given.view k n e.next last h.mark h.after_boot h.none h.at_mark
           ∙ ap (λ v. marked_event v given.view h.mark first last) h.opens

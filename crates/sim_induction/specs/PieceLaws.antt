@@ -38,6 +38,15 @@ abbrev pub served_event : (task : ℕ) → Service → State → Event
 served_event t served end =
     cond (t + 1 == word_at end.core.ram 0) (event.Call t served (slice_index end.core.registers 10)) (event.Left t served)
 
+-- an event of a stretch behind boot: one of a task's turn is of the task that the word at 0x80000000 names
+abbrev pub IsNamed : (current : ℕ) → Event → Type 0
+IsNamed current (event.Call t served status) = current ≡ t + 1
+IsNamed current (event.Left t served) = current ≡ t + 1
+IsNamed current (event.Back t) = current ≡ t + 1
+IsNamed current (event.Enter t) = Unit {0}
+IsNamed current (event.Tick c) = Unit {0}
+IsNamed current _ = ⊥
+
 -- A stretch that begins at a count which finds MIE 1: its first instruction, which leads to `next`, and the masked ones behind it,
 -- which lead on to `end`. Its event is a step from the system with the arrivals of the count and the early ones, within its weight
 -- there, and the states at its end are related with the late ones.
@@ -56,6 +65,7 @@ pub record StretchLaw (given : Setting) (R : State → System → Type 0) (count
   pub touches_first : TouchesOnly lines (seen_step_at given count state next)
   pub touches : AllByRecursion (Contains lines) (touched_lines trace)
   pub what : Event
+  pub named : IsNamed (word_at state.core.ram 0) what
   pub what_is : (last : Step) → last.regs ≡ end.core.registers → last.cur_after ≡ word_at end.core.ram 0
       → stretch_event given.view (seen_step_at given count state next) last ≡ what
   pub after : System

@@ -148,6 +148,7 @@ module _ (b : Build) (view : View) (arrivals : List Arrival) (setting : IsSettin
             touches_first = touches.0;
             touches = touches.1;
             what = event.Enter t;
+            named = tt;
             what_is = λ last p q. entered_event view count now route.next last t late_count taken (let v = ap (λ (o : Owners). o.tasks) setting.owners in let d = declared in omega arith);
             after = after;
             within = subst (λ x. suc route.more ≤ stretch_counts b.config b.app (with_admits x found) (event.Enter t)) (sym nothing_early) weight;

@@ -192,6 +192,7 @@ module _ (b : Build) (view : View) (arrivals : List Arrival) (count : ℕ) (stat
         touches_first = subst (λ o. IfSome o (Contains [])) (sym (untouched_at owing.pc)) tt;
         touches = subst (AllByRecursion (Contains [])) (sym e.effect.touches) tt;
         what = event.Back t;
+        named = opens.current;
         what_is = λ last regs current.
             opened_event view count n e.next last opens.way.mark after_boot none
             (ap (λ o. mark_at view (entry_state o n).pc) none ∙ ap (mark_at view) owing.pc ∙ opens.way.marked)

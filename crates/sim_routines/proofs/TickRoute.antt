@@ -285,6 +285,7 @@ module _ (b : Build) (view : View) (arrivals : List Arrival) (setting : IsSettin
         touches_first = touches.0;
         touches = touches.1;
         what = event.Tick c;
+        named = tt;
         what_is = λ last p q. event_is last;
         after = after;
         within = let f = route.few in let size = tick.is_tick.size in omega (arith, f, size);
