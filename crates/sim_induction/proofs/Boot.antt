@@ -2,7 +2,7 @@
 use Rattle.std.proofs.Common.{◌≡◌, ℕ, zero, suc, ◌+◌, ◌-◌, ◌<◌, ◌≤◌, List, [], ◌∷◌, ◌++◌, length, take, refl, sym, ap, ◌∙◌, subst, arith, append_assoc, Bool, true, false, cond, Option, Some, None, ⊎_elim, filter}
 use Rattle.std.specs.Prelude.{map, not, ◌||◌, Contains}
 use Rattle.std.specs.List.{flat_map, AllByRecursion}
-use Rattle.std.proofs.lemmas.Bool.{cases_lt}
+use Rattle.std.proofs.lemmas.Bool.{cases_lt, true≢false}
 use Rattle.std.proofs.lemmas.List.{length-take}
 use Rattle.std.proofs.lemmas.List.Elements.{filter-append, All-from_recursion}
 use Rattle.sloth_base.specs.declared.event.Arrival.{Arrival}
@@ -31,7 +31,9 @@ use Rattle.sim_induction.specs.Sound.{stands_before}
 use Rattle.sim_induction.specs.Admits.{Setting, IsSetting, lines_at, with_admits, admit_event, arrivals_before_event, arrivals_behind_event, arrivals_at_moment}
 use Rattle.sim_induction.proofs.Lines.{spans_admit, admit_behind}
 use Rattle.sim_induction.specs.Observed.{trace_of, IsTraced}
+use Rattle.raised_sections.specs.Pace.{last_count}
 use Rattle.sim_induction.specs.Weighed.{AreWeighedTo}
+use Rattle.sim_induction.specs.Paced.{ArePacedTo}
 use Rattle.sim_induction.specs.Advances.{RunTo, EachPair, IsInCounts}
 use Rattle.sim_induction.specs.PieceLaws.{BootLaw, seen_step_at}
 use Rattle.sim_induction.specs.Related.{IsSimulation}
@@ -48,6 +50,7 @@ use Rattle.sim_induction.proofs.Cut.{cut_whole, cut_short}
 use Rattle.sim_induction.proofs.Induct.{sound_from, within_wider, pairs_apart}
 use Rattle.sim_induction.proofs.StretchPiece.{stretch_arrivals}
 use Rattle.sim_induction.proofs.Weighing.{weighed-append, weighed_admits}
+use Rattle.sim_induction.proofs.Pacing.{last-append, last_admits, paced-append, paced_admits}
 use Rattle.sim_induction.proofs.WholeRun.{WholeRun}
 
 -- ---- a stretch that touches no line
@@ -189,6 +192,19 @@ module _ (given : Setting) (setting : IsSetting given) (R : State → System →
         (weighed_admits given.config given.app (arrivals_behind_event 0 law.trace) law.after setting.few_tasks after_booted owned_behind),
   )
 
+  -- boot itself is not asked for
+  paced0 : (longest : ℕ) → ArePacedTo given.config given.app given.size longest 0 E0 s z
+  paced0 longest = (
+    law.after,
+    (λ other later. absurd (true≢false later)),
+    law.step_is,
+    subst (λ a. ArePacedTo given.config given.app given.size longest law.more (map admit_event (arrivals_behind_event 0 law.trace)) law.after (with_admits a law.after)) (lines_behind 0 law.trace)
+        (paced_admits given.config given.app given.size longest law.more (arrivals_behind_event 0 law.trace) law.after setting.few_tasks after_booted owned_behind),
+  )
+
+  last0 : last_count 0 E0 ≡ law.more
+  last0 = last_admits law.more (arrivals_behind_event 0 law.trace)
+
   -- no line arrives at count 0
   late_from : AllByRecursion (IsFrom 1 J) (arrivals_behind_event 0 law.trace)
   late_from =
@@ -237,6 +253,8 @@ module _ (given : Setting) (setting : IsSetting given) (R : State → System →
     last = s;
     follows = refl;
     weighed = refl;
+    paced = λ longest most. refl;
+    reaches = λ longest most some. absurd (let none : 0 < 0 = some in omega (arith, none));
     within = tt;
     placed = tt;
     to = 0;
@@ -271,6 +289,8 @@ module _ (given : Setting) (setting : IsSetting given) (R : State → System →
         last = s;
         follows = subst (λ E. AreStepsBehind given.config given.app [] s E s) (sym obs) refl;
         weighed = subst (λ E. AreWeighedTo given.config given.app E s s) (sym obs) refl;
+        paced = λ longest most. subst (λ E. ArePacedTo given.config given.app given.size longest 0 E s s) (sym obs) refl;
+        reaches = λ longest most some. absurd (let none = ap (λ (E : List Stamped). length E) obs in omega (arith, none, some));
         within = subst (AllByRecursion (IsInCounts 0 (suc n))) (sym obs) tt;
         placed = subst (EachPair IsOrdered) (sym obs) tt;
         to = 0;
@@ -311,6 +331,12 @@ module _ (given : Setting) (setting : IsSetting given) (R : State → System →
         last = g.last;
         follows = subst (λ u. AreStepsBehind given.config given.app [] s u g.last) (sym obs) (follows-append given.config given.app [] s z g.last E0 E follow0 g.follows);
         weighed = subst (λ u. AreWeighedTo given.config given.app u s g.last) (sym obs) (weighed-append given.config given.app E0 E s z g.last weighed0 g.weighed);
+        paced = λ longest most. subst (λ u. ArePacedTo given.config given.app given.size longest 0 u s g.last) (sym obs)
+            (paced-append given.config given.app given.size longest E0 E 0 law.more s z g.last last0 (paced0 longest) (g.paced longest law.more most (omega arith)).0);
+        reaches = λ longest most some.
+            let far = (g.paced longest law.more most (omega arith)).1 in
+            let last : last_count 0 (events_from given (J + n) 0 m) ≡ last_count law.more E = ap (last_count 0) obs ∙ last-append 0 E0 E ∙ ap (λ v. last_count v E) last0 in
+            omega (arith, far, last);
         within = subst (AllByRecursion (IsInCounts 0 (J + n))) (sym obs)
             (each-append (IsInCounts 0 (J + n)) E0 E (within_wider 0 J 0 (J + n) E0 (omega arith) (omega arith) within0) (within_wider J (J + n) 0 (J + n) E (omega arith) (omega arith) g.within));
         placed = subst (EachPair IsOrdered) (sym obs) (pairs_apart 0 J (J + n) E0 E within0 g.within placed0 g.placed);

@@ -23,7 +23,9 @@ use Rattle.sim_induction.specs.Sound.{stands_before}
 use Rattle.sim_induction.specs.Admits.{Setting, IsSetting, lines_at, with_admits, admit_event}
 use Rattle.sim_induction.proofs.Lines.{is_admitted, spans_admit, admit_before}
 use Rattle.sim_induction.specs.Advances.{EachPair, IsInCounts, found_events, Advances}
+use Rattle.raised_sections.specs.Pace.{last_count}
 use Rattle.sim_induction.specs.Weighed.{AreWeighedTo}
+use Rattle.sim_induction.specs.Paced.{ArePacedTo}
 use Rattle.sim_induction.specs.Related.{IsSimulation}
 use Rattle.sim_induction.proofs.Follow.{leads-append, follows-append, follows_leads, follows_admits}
 use Rattle.sim_induction.proofs.Events.{filter_all, filter_none, each_map, each_both, each-append, each_arrival, pairs-append, admit_pairs, moment_within, before, behind}
@@ -33,6 +35,7 @@ use Rattle.sim_induction.proofs.Order.{orders-append, admits_order}
 use Rattle.sim_induction.proofs.Runs.{steps_from, run_steps, run_take, after_steps, goes_through}
 use Rattle.sim_induction.proofs.RunFrom.{events_from, ReachedAt, SoundFrom}
 use Rattle.sim_induction.proofs.Weighing.{weighed-append, weighed_admits}
+use Rattle.sim_induction.proofs.Pacing.{last-append, last_admits, paced-append, paced_admits}
 
 -- events of earlier counts stand before those of later ones
 ordered_apart : (mid from to : ℕ) (x y : Stamped) → IsInCounts from mid x → IsInCounts mid to y → IsOrdered x y
@@ -72,6 +75,9 @@ module _ (given : Setting) (setting : IsSetting given) (R : State → System →
   weigh_mine : (k : ℕ) (m : State) (s : System) → R m s → AreWeighedTo given.config given.app (mine k) s (with_admits (lines_at A k) s)
   weigh_mine k m s r = weighed_admits given.config given.app (here k) s setting.few_tasks (simulation.booted m s r) (owned_here k)
 
+  pace_mine : (longest at k : ℕ) (m : State) (s : System) → R m s → ArePacedTo given.config given.app given.size longest at (mine k) s (with_admits (lines_at A k) s)
+  pace_mine longest at k m s r = paced_admits given.config given.app given.size longest at (here k) s setting.few_tasks (simulation.booted m s r) (owned_here k)
+
   mine_within : (k hi : ℕ) → k < hi → AllByRecursion (IsInCounts k hi) (mine k)
   mine_within k hi l = each_arrival (IsInCounts k hi) (λ a. a.at ≡ k) (λ a e. record { begins = omega arith; ordered = omega arith; ends = omega arith; spans = spans_admit a }) (here k) (moment_within k A)
 
@@ -85,14 +91,15 @@ module _ (given : Setting) (setting : IsSetting given) (R : State → System →
   none_mine k = moments-none k A
 
   -- nothing has run
-  none : (k : ℕ) (m : State) (s : System) (past : List Stamped) → SoundFrom given R progress 0 k m s past
+  none : (k : ℕ) (m : State) (s : System) (past : List Stamped) → R m s → SoundFrom given R progress 0 k m s past
   unfolding run_from state_after_from observe
-  none k m s past = record {
+  none k m s past r = record {
     end = m;
     whole = refl;
     last = s;
     follows = refl;
     weighed = refl;
+    paced = λ longest at most near. (refl, (let few = (simulation.measured m s r).few longest most in omega (arith, near, few)));
     within = tt;
     placed = tt;
     to = k;
@@ -153,6 +160,13 @@ module _ (given : Setting) (setting : IsSetting given) (R : State → System →
           last = with_admits (lines_at A k) s;
           follows = subst (λ E. AreStepsBehind given.config given.app past s E (with_admits (lines_at A k) s)) (sym cut_observed) (follow_mine past k m s r);
           weighed = subst (λ E. AreWeighedTo given.config given.app E s (with_admits (lines_at A k) s)) (sym cut_observed) (weigh_mine k m s r);
+          paced = λ longest at most near. (
+            subst (λ E. ArePacedTo given.config given.app given.size longest at E s (with_admits (lines_at A k) s)) (sym cut_observed) (pace_mine longest at k m s r),
+            (let last : last_count at (events_from given (suc n) k m) ≡ at = ap (last_count at) cut_observed ∙ last_admits at (here k) in
+                let few = (simulation.measured m s r).few longest most in
+                let short = a.few in
+                omega (arith, near, few, short, last, l)),
+          );
           within = subst (AllByRecursion (IsInCounts k (k + suc n))) (sym cut_observed) (mine_within k (k + suc n) (omega arith));
           placed = subst (EachPair IsOrdered) (sym cut_observed) (admit_pairs (here k));
           to = k + 1;
@@ -228,6 +242,18 @@ module _ (given : Setting) (setting : IsSetting given) (R : State → System →
     piece_weighed : AreWeighedTo given.config given.app (mine k ++ a.others) s a.after
     piece_weighed = weighed-append given.config given.app (mine k) a.others s (with_admits (lines_at A k) s) a.after (weigh_mine k m s r) a.weighed
 
+    -- and ends in pace
+    last_piece : (at : ℕ) → last_count at (mine k ++ a.others) ≡ last_count at a.others
+    last_piece at = last-append at (mine k) a.others ∙ ap (λ v. last_count v a.others) (last_admits at (here k))
+
+    last_whole : (at : ℕ) → last_count at (events_from given (j + n) k m) ≡ last_count (last_count at a.others) E
+    last_whole at = ap (last_count at) observed ∙ last-append at (mine k ++ a.others) E ∙ ap (λ v. last_count v E) (last_piece at)
+
+    piece_paced : (longest at : ℕ) → ArePacedTo given.config given.app given.size longest at a.others (with_admits (lines_at A k) s) a.after
+        → ArePacedTo given.config given.app given.size longest at (mine k ++ a.others) s a.after
+    piece_paced longest at h =
+        paced-append given.config given.app given.size longest (mine k) a.others at at s (with_admits (lines_at A k) s) a.after (last_admits at (here k)) (pace_mine longest at k m s r) h
+
     piece_within : AllByRecursion (IsInCounts k (k + j)) (mine k ++ a.others)
     piece_within = each-append (IsInCounts k (k + j)) (mine k) a.others (mine_within k (k + j) (omega arith)) a.stamps
 
@@ -250,6 +276,14 @@ module _ (given : Setting) (setting : IsSetting given) (R : State → System →
           last = g.last;
           follows = subst (λ u. AreStepsBehind given.config given.app past s u g.last) (sym observed) (follows-append given.config given.app past s a.after g.last (mine k ++ a.others) E piece_follows g.follows);
           weighed = subst (λ u. AreWeighedTo given.config given.app u s g.last) (sym observed) (weighed-append given.config given.app (mine k ++ a.others) E s a.after g.last piece_weighed g.weighed);
+          paced = λ longest at most near.
+              let front = a.paced longest at most near in
+              let rest = g.paced longest (last_count at a.others) most front.1 in (
+                subst (λ u. ArePacedTo given.config given.app given.size longest at u s g.last) (sym observed)
+                    (paced-append given.config given.app given.size longest (mine k ++ a.others) E at (last_count at a.others) s a.after g.last (last_piece at)
+                    (piece_paced longest at front.0) rest.0),
+                (let far = rest.1 in let last = last_whole at in omega (arith, far, last)),
+              );
           within = subst (AllByRecursion (IsInCounts k (k + (j + n)))) (sym observed)
               (each-append (IsInCounts k (k + (j + n))) (mine k ++ a.others) E
               (within_wider k (k + j) k (k + (j + n)) (mine k ++ a.others) (omega arith) (omega arith) piece_within)
@@ -298,7 +332,7 @@ module _ (given : Setting) (setting : IsSetting given) (R : State → System →
 
   -- Every run from a count at which R holds is sound.
   pub sound_from : (fuel n k : ℕ) (m : State) (s : System) (past : List Stamped) → n ≤ fuel → 0 < k → R m s → AreStepsTo given.config given.app past (opening given.config given.app) s → SoundFrom given R progress n k m s past
-  sound_from fuel zero k m s past h z r l = none k m s past
+  sound_from fuel zero k m s past h z r l = none k m s past r
   sound_from zero (suc n) k m s past h z r l = absurd (omega arith)
   sound_from (suc fuel) (suc n) k m s past h z r l =
       let a = simulation.advances k m s z r in

@@ -20,7 +20,7 @@ use Rattle.osek_scheduler.specs.Runs.{AreStepsTo}
 use Rattle.sim_induction.specs.Mirror.{Mirror}
 use Rattle.sim_induction.specs.Admits.{Setting, IsSetting, lines_at, with_admits, admit_event, arrivals_behind_event}
 use Rattle.sim_induction.specs.Advances.{RunTo, Advances}
-use Rattle.sim_induction.specs.PieceLaws.{BootLaw}
+use Rattle.sim_induction.specs.PieceLaws.{BootLaw, IsMeasure}
 use Rattle.sim_induction.specs.Related.{IsSimulation}
 use Rattle.sim_induction.proofs.Follow.{leads_admits}
 use Rattle.sim_induction.proofs.Schedule.{owned_at}
@@ -79,6 +79,7 @@ module _ (given : Setting) (setting : IsSetting given) (R : State → System →
     after = a.after;
     leads = a.leads;
     weighed = a.weighed;
+    paced = a.paced;
     follows = a.follows;
     progresses = a.progresses;
     related = record {
@@ -94,13 +95,15 @@ module _ (given : Setting) (setting : IsSetting given) (R : State → System →
       → ((count : ℕ) (state : State) → I state → I (state_with_arrivals given.arrivals count state))
       → ((state : State) (s : System) → With R I J state s → s.booted ≡ true)
       → ((state : State) (s : System) → With R I J state s → Mirror given.config state.core s)
+      → ((state : State) (s : System) → With R I J state s → IsMeasure given progress state s)
       → ((state : State) (s : System) → With R I J state s → progress state s ≤ unseen_counts)
       → IsSimulation given (With R I J) progress
-  simulation_with advances arrives kept booted mirrors bounded = record {
+  simulation_with advances arrives kept booted mirrors measured bounded = record {
     advances = λ k m s z w. strengthen k m s (booted m s w) w (advances k m s z w);
     arrives = λ k m s w. record { base = arrives k m s w; machine = kept k m w.machine; system = admits_keep k s (booted m s w) w.system };
     booted = booted;
     mirrors = mirrors;
+    measured = measured;
     bounded = bounded;
   }
 

@@ -23,3 +23,4 @@ pub mod Invariants
 pub mod Stretched
 pub mod Lines
 pub mod Weighing
+pub mod Pacing

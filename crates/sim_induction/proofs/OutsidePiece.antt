@@ -17,7 +17,10 @@ use Rattle.sim_induction.specs.Short.{passed_count}
 use Rattle.sim_induction.specs.Admits.{Setting, IsSetting, lines_at, with_admits}
 use Rattle.sim_induction.specs.Advances.{EachPair, IsInCounts, found_events, Advances}
 use Rattle.std.specs.List.{AllByRecursion}
+use Rattle.raised_sections.specs.Pace.{last_count}
+use Rattle.event_weights.specs.Pace.{single_counts, paced_counts}
 use Rattle.sim_induction.specs.Weighed.{AreWeighedTo}
+use Rattle.sim_induction.specs.Paced.{ArePacedTo}
 use Rattle.sim_induction.specs.PieceLaws.{OutsideLaw, IsOutsideStep, MakesProgress, seen_step_at}
 use Rattle.sim_induction.proofs.Schedule.{owned_at, admits_are}
 use Rattle.sim_induction.proofs.Counts.{admits-append, admits_of, others_count}
@@ -40,6 +43,13 @@ single_passes given past s k (event.Run t func item result) h = tt
 single_passes given past s k event.Idle h = tt
 single_passes given past s k what h = absurd h
 
+-- it ends in pace where no more has shown nothing before it than it may take
+single_paced : (given : Setting) (longest : ℕ) (s : System) (what : Event) → IsSingle what → (at from k : ℕ) → k ≤ at + 1 + from → from < single_counts given.size what
+    → k ≤ at + paced_counts given.config given.app given.size longest s what
+single_paced given longest s (event.Run t func item result) h at from k near less = omega (arith, near, less)
+single_paced given longest s event.Idle h at from k near less = omega (arith, near, less)
+single_paced given longest s what h at from k near less = absurd h
+
 -- what its events are: none or one
 record Alone (given : Setting) (k : ℕ) (whats : List Event) (s after : System) : Type 0 where
   stamps : AllByRecursion (IsInCounts k (k + 1)) (map (stamp k k) whats)
@@ -50,6 +60,8 @@ record Alone (given : Setting) (k : ℕ) (whats : List Event) (s after : System)
   weighed : AreWeighedTo given.config given.app (map (stamp k k) whats) s after
   follows : (past : List Stamped) → AreStepsBehind given.config given.app past s (map (stamp k k) whats) after
   passing : (before from to : ℕ) → before ≤ from → MakesProgress given.size whats from to → passed_count whats before ≤ to
+  paced : (longest at from to : ℕ) → k ≤ at + 1 + from → MakesProgress given.size whats from to
+      → ArePacedTo given.config given.app given.size longest at (map (stamp k k) whats) s after × (k + 1 ≤ last_count at (map (stamp k k) whats) + 1 + to)
 
 alone : (given : Setting) (k : ℕ) (whats : List Event) (s after : System) → AreSingle whats → IsOutsideStep given whats s after → Alone given k whats s after
 alone given k [] s after h w = record {
@@ -61,6 +73,7 @@ alone given k [] s after h w = record {
   weighed = w;
   follows = λ past. w;
   passing = λ before from to l p. let less : from < to = p in omega (arith, l, less);
+  paced = λ longest at from to near p. (w, (let less : from < to = p in omega (arith, near, less)));
 }
 alone given k (what ∷ []) s after h w =
     let o = single_other what k h.0 in
@@ -73,6 +86,10 @@ alone given k (what ∷ []) s after h w =
       weighed = (after, omega arith, w, refl);
       follows = λ past. (after, w, single_passes given past s k what h.0, refl);
       passing = λ before from to l p. omega arith;
+      paced = λ longest at from to near p. (
+        (after, (λ other later. single_paced given longest s what h.0 at from k near p), w, refl),
+        (let last : cond (is_admit (stamp k k what)) at k ≡ k = ap (λ b. cond b at k) o in omega (arith, last)),
+      );
     }
 alone given k (what ∷ other ∷ more) s after h w = absurd w
 
@@ -116,6 +133,7 @@ outside_advances given setting R progress k m s x law =
       leads = a.leads;
       weighed = a.weighed;
       follows = λ past h. a.follows past;
+      paced = λ longest at most near. a.paced longest at (progress m s) (progress x law.after) near law.progresses;
       progresses = λ before l. subst (λ v. passed_count v before ≤ progress x law.after) (sym law.whats_are) (a.passing before (progress m s) (progress x law.after) l law.progresses);
       related = law.related;
     }

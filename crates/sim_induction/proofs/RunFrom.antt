@@ -13,7 +13,10 @@ use Rattle.osek_scheduler.specs.Runs.{AreStepsTo, AreStepsBehind}
 use Rattle.osek_scheduler.specs.InTime.{is_admit, admits_at, arrivals_at, IsOrdered, KeepsOrder}
 use Rattle.sim_induction.specs.Short.{AreShort, IsShortPiece, HasShortGaps}
 use Rattle.sim_induction.specs.Sound.{stands_before}
+use Rattle.raised_sections.specs.Pace.{last_count}
+use Rattle.event_weights.specs.Pace.{AreAtMost}
 use Rattle.sim_induction.specs.Weighed.{AreWeighedTo}
+use Rattle.sim_induction.specs.Paced.{ArePacedTo}
 use Rattle.sim_induction.specs.Admits.{Setting}
 use Rattle.sim_induction.specs.Advances.{EachPair, IsInCounts}
 use Rattle.sim_induction.proofs.Runs.{steps_from}
@@ -32,6 +35,9 @@ pub record SoundFrom (given : Setting) (R : State → System → Type 0) (progre
   pub last : System
   pub follows : AreStepsBehind given.config given.app past s (events_from given n k m) last
   pub weighed : AreWeighedTo given.config given.app (events_from given n k m) s last
+  pub paced : (longest at : ℕ) → AreAtMost given.size longest → k ≤ at + 1 + progress m s
+      → ArePacedTo given.config given.app given.size longest at (events_from given n k m) s last
+      × (k + n ≤ last_count at (events_from given n k m) + longest + longest_stretch given.config)
   pub within : AllByRecursion (IsInCounts k (k + n)) (events_from given n k m)
   pub placed : EachPair IsOrdered (events_from given n k m)
   pub to : ℕ

@@ -15,11 +15,12 @@ use Rattle.osek_scheduler.specs.State.{System}
 use Rattle.sim_induction.specs.Sound.{IsSoundRun, Sound}
 use Rattle.event_weights.specs.Pace.{ItemSizes}
 use Rattle.sim_induction.specs.Weighed.{Weighed}
+use Rattle.sim_induction.specs.Paced.{Paced}
 use Rattle.sim_induction.specs.Admits.{IsSetting}
 use Rattle.sim_induction.specs.PieceLaws.{BootLaw}
 use Rattle.sim_induction.specs.Related.{IsSimulation}
 use Rattle.sim_induction.proofs.Boot.{whole_run}
-use Rattle.sim_induction.proofs.WholeRun.{setting_of, sound_of, weighed_of}
+use Rattle.sim_induction.proofs.WholeRun.{setting_of, sound_of, weighed_of, paced_of}
 
 pub is_setting : (config : Config) (app : App) (size : ItemSizes) (image : Image) (arrivals : List Arrival) → length config.tasks ≤ first_counter_line → length image.tasks ≡ length config.tasks → image.counters ≡ map (λ c. c.name) config.counters → AreArrivals (owners_in config) arrivals
     → IsSetting (setting_of config app size image arrivals)
@@ -57,5 +58,17 @@ weighed config app size image R progress few tasks counters laws = record {
   each = λ arrivals n are bound.
       let given = setting_of config app size image arrivals in
       weighed_of config app size image arrivals R n
+      (whole_run given (is_setting config app size image arrivals few tasks counters are) R progress (laws arrivals are).0 (start image) (laws arrivals are).1 n);
+}
+
+-- and its events keep the pace
+pub paced : (config : Config) (app : App) (size : ItemSizes) (image : Image) (R : State → System → Type 0) (progress : State → System → ℕ) → length config.tasks ≤ first_counter_line → length image.tasks ≡ length config.tasks
+    → image.counters ≡ map (λ c. c.name) config.counters
+    → ((arrivals : List Arrival) → AreArrivals (owners_in config) arrivals → IsSimulation (setting_of config app size image arrivals) R progress × BootLaw (setting_of config app size image arrivals) R (start image))
+    → Paced config app size image
+paced config app size image R progress few tasks counters laws = record {
+  each = λ arrivals n longest are bound most.
+      let given = setting_of config app size image arrivals in
+      paced_of config app size image arrivals R n longest most
       (whole_run given (is_setting config app size image arrivals few tasks counters are) R progress (laws arrivals are).0 (start image) (laws arrivals are).1 n);
 }

@@ -22,10 +22,13 @@ use Rattle.sim_induction.specs.Short.{AreShort, IsShortAt, TouchesOnly}
 use Rattle.sim_induction.specs.Admits.{Setting, IsSetting, lines_at, with_admits, admit_event, arrivals_before_event, arrivals_behind_event}
 use Rattle.sim_induction.proofs.Lines.{spans_admit, admit_before, admit_behind, admits_ordered}
 use Rattle.sim_induction.specs.Observed.{IsTraced}
+use Rattle.raised_sections.specs.Pace.{last_count}
+use Rattle.event_weights.specs.Pace.{AreAtMost, EndsInPace}
 use Rattle.sim_induction.specs.Weighed.{AreWeighedTo}
+use Rattle.sim_induction.specs.Paced.{ArePacedTo}
 use Rattle.sim_induction.specs.Advances.{RunTo, EachPair, IsInCounts, found_events, Advances}
 use Rattle.std.specs.List.{AllByRecursion}
-use Rattle.sim_induction.specs.PieceLaws.{StretchLaw, seen_step_at}
+use Rattle.sim_induction.specs.PieceLaws.{StretchLaw, IsMeasure, seen_step_at}
 use Rattle.sim_induction.proofs.Follow.{leads-append, follows-append, booted_admits, follows_admits, leads_admits}
 use Rattle.sim_induction.proofs.Events.{IsFrom, each-append, each_arrival, admit_pairs, pairs-append, before_within, behind_within}
 use Rattle.sim_induction.proofs.Runs.{one_after}
@@ -38,6 +41,7 @@ use Rattle.std.proofs.lemmas.List.Elements.{All-from_recursion}
 use Rattle.sim_induction.proofs.MaskedRun.{MaskedRun, masked_steps, masked_inside, trace_long, going_moment, Flags, flag_first, ShowsState}
 use Rattle.sim_induction.proofs.Cut.{cut_whole, cut_short}
 use Rattle.sim_induction.proofs.Weighing.{weighed-append, weighed_admits}
+use Rattle.sim_induction.proofs.Pacing.{gap_enough, last_admits, last_between, paced-append, paced_admits}
 
 -- ---- the events of a stretch with this event
 
@@ -97,7 +101,8 @@ stretch_arrivals i t e found inside before behind p other b c =
 -- ---- the piece
 
 module _ (given : Setting) (setting : IsSetting given) (R : State → System → Type 0) (progress : State → System → ℕ) (k : ℕ) (late_k : 0 < k) (m : State) (s : System)
-    (x1 : State) (t : Trace) (x : State) (law : StretchLaw given R k m s x1 t x) (s_booted : s.booted ≡ true) (after_booted : law.after.booted ≡ true) where
+    (x1 : State) (t : Trace) (x : State) (law : StretchLaw given R k m s x1 t x) (s_booted : s.booted ≡ true) (after_booted : law.after.booted ≡ true)
+    (measure : IsMeasure given progress m s) where
   abbrev A : List Arrival
   A = given.arrivals
 
@@ -209,6 +214,34 @@ module _ (given : Setting) (setting : IsSetting given) (R : State → System →
         subst (λ a. AreWeighedTo given.config given.app (map admit_event (arrivals_behind_event (k + 1) t)) law.after (with_admits a law.after)) (lines_behind (k + 1) t) (weighed_admits given.config given.app (arrivals_behind_event (k + 1) t) law.after setting.few_tasks after_booted owned_behind),
       )
 
+  ends : (longest at : ℕ) → AreAtMost given.size longest → k ≤ at + 1 + progress m s
+      → EndsInPace given.config given.app given.size longest at (with_admits (early_arrivals t) s1) event
+  ends longest at most near other later =
+      let gap = gap_enough given progress m s measure longest most (lines_at A k) (early_arrivals t) law.what law.named in
+      let span = law.within in
+      omega (arith, near, gap, span)
+
+  paced_others : (longest at : ℕ) → AreAtMost given.size longest → k ≤ at + 1 + progress m s
+      → ArePacedTo given.config given.app given.size longest at others s1 (with_admits (late_arrivals t) law.after)
+  paced_others longest at most near =
+      paced-append given.config given.app given.size longest (map admit_event (arrivals_before_event (k + 1) t)) (event ∷ map admit_event (arrivals_behind_event (k + 1) t)) at at s1
+      (with_admits (early_arrivals t) s1) (with_admits (late_arrivals t) law.after) (last_admits at (arrivals_before_event (k + 1) t))
+      (subst (λ a. ArePacedTo given.config given.app given.size longest at (map admit_event (arrivals_before_event (k + 1) t)) s1 (with_admits a s1)) (lines_before (k + 1) t)
+      (paced_admits given.config given.app given.size longest at (arrivals_before_event (k + 1) t) s1 setting.few_tasks s1_booted owned_before)) (
+        law.after,
+        ends longest at most near,
+        law.step_is,
+        subst (λ a. ArePacedTo given.config given.app given.size longest (cond (is_admit event) at event.stamp.at) (map admit_event (arrivals_behind_event (k + 1) t)) law.after (with_admits a law.after))
+            (lines_behind (k + 1) t)
+            (paced_admits given.config given.app given.size longest (cond (is_admit event) at event.stamp.at) (arrivals_behind_event (k + 1) t) law.after setting.few_tasks after_booted owned_behind),
+      )
+
+  reaches : (at to : ℕ) → k + suc (length r.steps) ≤ last_count at others + 1 + to
+  reaches at to =
+      let last : last_count at others ≡ k + law.more = last_between at (arrivals_before_event (k + 1) t) (arrivals_behind_event (k + 1) t) event other in
+      let n = r.long in
+      omega (arith, last, n)
+
   follow_others : (past : List Stamped) → AreStepsTo given.config given.app past (opening given.config given.app) s1 → AreStepsBehind given.config given.app past s1 others (with_admits (late_arrivals t) law.after)
   follow_others past h =
       follows-append given.config given.app past s1 (with_admits (early_arrivals t) s1) (with_admits (late_arrivals t) law.after) (map admit_event (arrivals_before_event (k + 1) t)) (event ∷ map admit_event (arrivals_behind_event (k + 1) t))
@@ -287,6 +320,7 @@ module _ (given : Setting) (setting : IsSetting given) (R : State → System →
         leads = lead_others;
         weighed = weighed_others;
         follows = follow_others;
+        paced = λ longest at most near. (paced_others longest at most near, reaches at (progress x (with_admits (late_arrivals t) law.after)));
         progresses = λ before l. omega arith;
         related = law.related;
       }

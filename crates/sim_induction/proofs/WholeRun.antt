@@ -1,5 +1,5 @@
 -- What holds of a run from the start, and what follows from it.
-use Rattle.std.proofs.Common.{◌≡◌, ℕ, zero, suc, ◌+◌, ◌<◌, ◌≤◌, List, [], ◌∷◌, subst, arith, Some, true, false, nat_le, nat_lt}
+use Rattle.std.proofs.Common.{◌≡◌, ℕ, zero, suc, ◌+◌, ◌<◌, ◌≤◌, List, [], ◌∷◌, length, subst, arith, Some, true, false, nat_le, nat_lt}
 use Rattle.std.specs.Prelude.{All, AllPairs, ◌&&◌}
 use Rattle.sloth_base.specs.declared.config.Config.{Config}
 use Rattle.sloth_base.specs.declared.app.App.{App}
@@ -8,6 +8,7 @@ use Rattle.sloth_base.specs.declared.event.Arrival.{Arrival}
 use Rattle.sloth_base.specs.declared.event.Stamped.{Stamped}
 use Rattle.sloth_base.specs.Machine.{State}
 use Rattle.sloth_base.specs.Arrivals.{moments}
+use Rattle.sloth_base.specs.Stretches.{longest_stretch}
 use Rattle.rv32_machine.specs.Run.{state_after_from}
 use Rattle.rv32_machine.specs.Start.{start}
 use Rattle.rv32_machine.proofs.Runs.{stop_none}
@@ -19,8 +20,10 @@ use Rattle.osek_scheduler.specs.Runs.{AreStepsBehind}
 use Rattle.osek_scheduler.specs.InTime.{InTime, IsStamped, is_admit, admits_at, arrivals_at, IsOrdered, KeepsOrder, longest_cut_off_stretch}
 use Rattle.sim_induction.specs.Short.{Short, AreShort, IsShortPiece, HasShortGaps}
 use Rattle.sim_induction.specs.Sound.{IsSoundRun, events_of}
-use Rattle.event_weights.specs.Pace.{ItemSizes}
+use Rattle.raised_sections.specs.Pace.{last_count}
+use Rattle.event_weights.specs.Pace.{ItemSizes, AreAtMost}
 use Rattle.sim_induction.specs.Weighed.{AreWeighedTo, AreWithinWeights}
+use Rattle.sim_induction.specs.Paced.{ArePacedTo, KeepsPace}
 use Rattle.sim_induction.specs.Admits.{Setting, IsSetting}
 use Rattle.sim_induction.specs.Advances.{EachPair, IsInCounts}
 use Rattle.sim_induction.specs.Related.{IsSimulation}
@@ -32,6 +35,7 @@ use Rattle.sim_induction.proofs.LeftOut.{left_out}
 use Rattle.sim_induction.proofs.Runs.{steps_from}
 use Rattle.sim_induction.proofs.RunFrom.{events_from, ReachedAt}
 use Rattle.sim_induction.proofs.Weighing.{found_within}
+use Rattle.sim_induction.proofs.Pacing.{found_paced}
 
 pub record WholeRun (given : Setting) (R : State → System → Type 0) (n : ℕ) (m : State) : Type 0 where
   pub end : State
@@ -39,6 +43,9 @@ pub record WholeRun (given : Setting) (R : State → System → Type 0) (n : ℕ
   pub last : System
   pub follows : AreStepsBehind given.config given.app [] (opening given.config given.app) (events_from given n 0 m) last
   pub weighed : AreWeighedTo given.config given.app (events_from given n 0 m) (opening given.config given.app) last
+  pub paced : (longest : ℕ) → AreAtMost given.size longest → ArePacedTo given.config given.app given.size longest 0 (events_from given n 0 m) (opening given.config given.app) last
+  pub reaches : (longest : ℕ) → AreAtMost given.size longest → 0 < length (events_from given n 0 m)
+      → n ≤ last_count 0 (events_from given n 0 m) + longest + longest_stretch given.config
   pub within : AllByRecursion (IsInCounts 0 n) (events_from given n 0 m)
   pub placed : EachPair IsOrdered (events_from given n 0 m)
   pub to : ℕ
@@ -99,3 +106,12 @@ pub weighed_of : (config : Config) (app : App) (size : ItemSizes) (image : Image
 weighed_of config app size image arrivals R n w = λ before behind e found is leads.
     found_within config app before behind e (opening config app) w.last found
     (subst (λ events. AreWeighedTo config app events (opening config app) w.last) is w.weighed) leads
+
+pub paced_of : (config : Config) (app : App) (size : ItemSizes) (image : Image) (arrivals : List Arrival) (R : State → System → Type 0) (n longest : ℕ) → AreAtMost size longest
+    → WholeRun (setting_of config app size image arrivals) R n (start image) → KeepsPace config app size longest n (events_of image arrivals n)
+paced_of config app size image arrivals R n longest most w = record {
+  each = λ before behind e found is leads.
+      found_paced config app size longest before behind e 0 (opening config app) w.last found
+      (subst (λ events. ArePacedTo config app size longest 0 events (opening config app) w.last) is (w.paced longest most)) leads;
+  reaches = λ some. w.reaches longest most some;
+}

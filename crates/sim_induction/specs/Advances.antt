@@ -16,7 +16,10 @@ use Rattle.osek_scheduler.specs.Runs.{AreStepsTo, AreStepsBehind}
 use Rattle.osek_scheduler.specs.InTime.{is_admit, admits_at, arrivals_at, HasSpanFor, IsOrdered, KeepsOrder}
 use Rattle.sim_induction.specs.Short.{AreShort, IsShortPiece, passed_length}
 use Rattle.sim_induction.specs.Admits.{Setting, lines_at, with_admits, admit_event}
+use Rattle.raised_sections.specs.Pace.{last_count}
+use Rattle.event_weights.specs.Pace.{AreAtMost}
 use Rattle.sim_induction.specs.Weighed.{AreWeighedTo}
+use Rattle.sim_induction.specs.Paced.{ArePacedTo}
 
 -- the instructions of the counts from this one on lead by these steps from the first state to the last
 abbrev pub RunTo : List Arrival → ℕ → ℕ → State → List Step → State → Type 0
@@ -67,6 +70,10 @@ pub record Advances (given : Setting) (R : State → System → Type 0) (progres
   pub after : System
   pub leads : AreStepsTo given.config given.app others (with_admits (lines_at given.arrivals count) s) after
   pub weighed : AreWeighedTo given.config given.app others (with_admits (lines_at given.arrivals count) s) after
+  -- behind events that ended at count `at`, where no more instructions have shown nothing since than the measure says
+  pub paced : (longest at : ℕ) → AreAtMost given.size longest → count ≤ at + 1 + progress state s
+      → ArePacedTo given.config given.app given.size longest at others (with_admits (lines_at given.arrivals count) s) after
+      × (count + suc (length rest) ≤ last_count at others + 1 + progress next after)
   pub follows : (past : List Stamped) → AreStepsTo given.config given.app past (opening given.config given.app) (with_admits (lines_at given.arrivals count) s)
       → AreStepsBehind given.config given.app past (with_admits (lines_at given.arrivals count) s) others after
   pub progresses : (before : ℕ) → before ≤ progress state s → passed_length given.view piece before ≤ progress next after

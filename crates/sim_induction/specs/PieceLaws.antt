@@ -17,11 +17,11 @@ use Rattle.masked_code.specs.Masked.{Steps}
 use Rattle.masked_code.specs.Trace.{Trace, touched_lines, early_arrivals, late_arrivals}
 use Rattle.observe.specs.Pieces.{begins}
 use Rattle.observe.specs.Observe.{stretch_event, outside_events, mark_at}
-use Rattle.osek_scheduler.specs.State.{System, opening}
+use Rattle.osek_scheduler.specs.State.{System, task, opening}
 use Rattle.osek_scheduler.specs.Steps.{OsekStep}
 use Rattle.osek_scheduler.specs.Runs.{AreStepsTo, PassesOverArrivals}
 use Rattle.event_weights.specs.Events.{stretch_counts}
-use Rattle.event_weights.specs.Pace.{ItemSizes, single_counts}
+use Rattle.event_weights.specs.Pace.{ItemSizes, AreAtMost, next_size_of, single_counts}
 use Rattle.sim_induction.specs.Short.{TouchesOnly}
 use Rattle.sim_induction.specs.Admits.{Setting, lines_at, with_admits, admit_event, arrivals_before_event}
 
@@ -86,6 +86,13 @@ IsOutsideStep given (what ∷ other ∷ more) s after = ⊥
 abbrev pub MakesProgress : ItemSizes → List Event → (from to : ℕ) → Type 0
 MakesProgress size [] from to = from < to
 MakesProgress size (what ∷ more) from to = from < single_counts size what
+
+-- The measure of the instructions that show nothing: of the task that runs it is at most its next item, whatever has arrived, and of any at most
+-- the longest item.
+pub record IsMeasure (given : Setting) (progress : State → System → ℕ) (state : State) (s : System) : Type 0 where
+  pub turn : (t : ℕ) → word_at state.core.ram 0 ≡ t + 1 → (found early : List ℕ)
+      → progress state s ≤ next_size_of given.size (task (with_admits early (with_admits found s)) t)
+  pub few : (longest : ℕ) → AreAtMost given.size longest → progress state s ≤ longest
 
 -- an instruction outside the stretches, at a count that finds MIE 1
 pub record OutsideLaw (given : Setting) (R : State → System → Type 0) (progress : State → System → ℕ)

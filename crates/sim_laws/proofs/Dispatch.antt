@@ -43,6 +43,7 @@ use Rattle.sim_items.proofs.Return.{return_begins, return_goes_on}
 use Rattle.sim_items.proofs.FlowRoute.{flow_outside}
 use Rattle.sim_items.proofs.Outside.{item_outside, idle_outside}
 use Rattle.sim_items.proofs.Passing.{none_passed, last_passed}
+use Rattle.sim_laws.proofs.Measured.{measured}
 use Rattle.sim_items.proofs.Inner.{inner_outside}
 use Rattle.sim_items.proofs.Jump.{jump_outside}
 use Rattle.sim_items.proofs.MaskedJump.{masked_outside}
@@ -174,7 +175,7 @@ module _ (b : Build) (image : Image) (kernel : Kernel b image) where
     stretch : (next : State) × (trace : Trace) × (end : State) × StretchLaw (setting_of b view arrivals) (Stands b) count state s next trace end → Goes
     stretch h =
         stretch_advances (setting_of b view arrivals) setting (Stands b) (progress_in b) count after_boot state s h.0 h.1 h.2 h.3 stands.tidy.booted
-        (sym (booted_admits (late_arrivals h.1) h.3.after) ∙ h.3.related.tidy.booted)
+        (sym (booted_admits (late_arrivals h.1) h.3.after) ∙ h.3.related.tidy.booted) (measured b state s stands view arrivals)
 
     module _ (none : choose n.core ≡ None) where
       here : StandsAt b view arrivals count state s
@@ -479,7 +480,7 @@ module _ (b : Build) (image : Image) (kernel : Kernel b image) where
     enters t l chosen =
         let r = taken_ready b n s1 k few t l chosen in
         enter_advances b view arrivals setting kernel.fits count after_boot state s stands sane t l chosen (basic_anew b.config b.app s1 t steady.valid l r)
-        (λ fresh u h ne alive. kernel.stacks t u l h ne (meets b n s1 k few steady.valid steady.owing t l chosen u h alive)) (kernel.prologues t l) (progress_in b)
+        (λ fresh u h ne alive. kernel.stacks t u l h ne (meets b n s1 k few steady.valid steady.owing t l chosen u h alive)) (kernel.prologues t l) (progress_in b) (measured b state s stands view arrivals)
 
     -- a counter's line is taken: the counter ticks
     ticks : (c : ℕ) → c < length b.config.counters → choose n.core ≡ Some (counter_line c) → Goes
@@ -492,7 +493,7 @@ module _ (b : Build) (image : Image) (kernel : Kernel b image) where
           value = steady.valid.clock.values c;
           bytes = bounded.core.bytes;
         })
-        (kernel.ticks c l) (progress_in b)
+        (kernel.ticks c l) (progress_in b) (measured b state s stands view arrivals)
 
     takes : (line : ℕ) → choose n.core ≡ Some line → Goes
     takes line chosen =

@@ -22,6 +22,7 @@ use Rattle.osek_scheduler.specs.State.{Frame, System, task, opening}
 use Rattle.osek_scheduler.specs.Runs.{AreStepsTo}
 use Rattle.sim_induction.specs.Sound.{Sound, events_of, stands_before}
 use Rattle.sim_induction.specs.Weighed.{Weighed}
+use Rattle.sim_induction.specs.Paced.{Paced}
 use Rattle.sim_induction.specs.Admits.{IsSetting, lines_at, with_admits, admit_event}
 use Rattle.sim_induction.specs.PieceLaws.{BootLaw}
 use Rattle.sim_induction.specs.Related.{IsSimulation}
@@ -29,7 +30,7 @@ use Rattle.sim_induction.proofs.Boot.{whole_run}
 use Rattle.sim_induction.proofs.Follow.{booted_admits, leads_admits}
 use Rattle.sim_induction.proofs.Invariants.{With, along_events, simulation_with, boot_with}
 use Rattle.sim_induction.proofs.Schedule.{owned_at}
-use Rattle.sim_induction.proofs.Simulated.{sound, weighed, is_setting}
+use Rattle.sim_induction.proofs.Simulated.{sound, weighed, paced, is_setting}
 use Rattle.sim_relation.specs.Bounds.{AreBelow}
 use Rattle.sim_relation.specs.Build.{Build}
 use Rattle.sim_relation.specs.Stands.{Stands}
@@ -47,6 +48,7 @@ use Rattle.sim_laws.specs.Standing.{StandsNested}
 use Rattle.sim_laws.specs.Steady.{IsSteady}
 use Rattle.sim_laws.proofs.Bounded.{arrive_fits, bounds_stay}
 use Rattle.sim_laws.proofs.Steady.{steady_stays, opening_steady}
+use Rattle.sim_laws.proofs.Measured.{measured}
 use Rattle.sim_laws.proofs.Dispatch.{advance}
 use Rattle.sim_laws.proofs.Nesting.{stack_nested}
 
@@ -120,6 +122,7 @@ module _ (b : Build) (image : Image) (kernel : Kernel b image) where
         (λ count state h. arrive_fits (lines_at arrivals count) state h)
         (λ state s w. w.base.tidy.booted)
         (λ state s w. mirror_of b state s w.base)
+        (λ state s w. measured b state s w.base view arrivals)
         (λ state s w. passed_small state.pc s (word_at state.core.ram cur))
 
     booting : BootLaw (setting_of b view arrivals) R (start image)
@@ -137,6 +140,11 @@ module _ (b : Build) (image : Image) (kernel : Kernel b image) where
   pub weighed_kernel : Weighed b.config b.app image
   weighed_kernel =
       weighed b.config b.app (item_words b) image R (progress_in b) kernel.fits.few_tasks kernel.tasks kernel.counters
+      (λ arrivals are. let setting = is_setting b.config b.app (item_words b) image arrivals kernel.fits.few_tasks kernel.tasks kernel.counters are in (simulation arrivals setting, booting arrivals setting))
+
+  pub paced_kernel : Paced b.config b.app (item_words b) image
+  paced_kernel =
+      paced b.config b.app (item_words b) image R (progress_in b) kernel.fits.few_tasks kernel.tasks kernel.counters
       (λ arrivals are. let setting = is_setting b.config b.app (item_words b) image arrivals kernel.fits.few_tasks kernel.tasks kernel.counters are in (simulation arrivals setting, booting arrivals setting))
 
   -- at each count that finds MIE 1 the relation stands

@@ -4,6 +4,7 @@ pub mod Steady
 pub mod Masks
 pub mod Meeting
 pub mod Nesting
+pub mod Measured
 pub mod Dispatch
 pub mod KernelRuns
 pub mod Generated

@@ -16,8 +16,10 @@ use Rattle.service_blocks.specs.Calls.{IsAnyServiceBlock}
 use Rattle.observe.specs.Observe.{View, view_of_image}
 use Rattle.sim_induction.specs.Sound.{Sound}
 use Rattle.sim_induction.specs.Weighed.{Weighed}
+use Rattle.sim_induction.specs.Paced.{Paced}
 use Rattle.sim_relation.specs.Bounds.{AreBelow}
 use Rattle.sim_relation.specs.Build.{Build, HasFittingPlaces}
+use Rattle.sim_relation.specs.Placed.{item_words}
 use Rattle.sim_relation.specs.Stands.{AreStacksApart}
 use Rattle.sim_routines.specs.Boot.{IsImage}
 use Rattle.sim_routines.specs.Codes.{BootStands, PrologueStands}
@@ -96,3 +98,7 @@ KernelIsSound = (b : Build) (image : Image) → Kernel b image → Sound b.confi
 -- None has a stretch that takes more counts than its weight.
 abbrev pub KernelIsWeighed : Type 0
 KernelIsWeighed = (b : Build) (image : Image) → Kernel b image → Weighed b.config b.app image
+
+-- And in each the events end soon behind one another, by their weights and the items of the task code.
+abbrev pub KernelIsPaced : Type 0
+KernelIsPaced = (b : Build) (image : Image) → Kernel b image → Paced b.config b.app (item_words b) image

@@ -2,10 +2,9 @@
 //! code makes such a kernel (`specs/Generated`, `specs/Items`).
 //!
 //! A kernel is of any configuration in range, with counters and alarms, and of well-formed task code of any items and services. Every run of an image
-//! in which one stands is sound, and its stretches are within their weights (`kernel_is_sound`, `kernel_is_weighed`, `generated_is_kernel`,
-//! `steady_stays`, `bounds_stay`, `marks_are_found`, `items_stand`); each item of such code that is no service is one of the known ones
-//! (`items_are_known`). What each step keeps of the system: `specs/Bounded`,
-//! `specs/Steady`; the relation at each count at which interrupts are open, with the Active basic tasks' parts of the shared stack one below the
+//! in which one stands is sound, its stretches are within their weights and its events keep the pace (`kernel_is_sound`, `kernel_is_weighed`,
+//! `kernel_is_paced`, `generated_is_kernel`, `steady_stays`, `bounds_stay`, `marks_are_found`, `items_stand`); each item of such code that is no
+//! service is one of the known ones (`items_are_known`). What each step keeps of the system: `specs/Bounded`, `specs/Steady`; the relation at each count at which interrupts are open, with the Active basic tasks' parts of the shared stack one below the
 //! other in the order of entry: `specs/Standing`, `specs/Nested`.
 //!
 //! At each such count the machine shows each task's state in the abstract scheduler (`specs/TaskStates`). The goal: `sim_induction` (`Sound`); states:
@@ -21,7 +20,7 @@ pub mod zones;
 
 ghost use Rattle.sim_laws.specs.Bounded.{BoundsStay};
 ghost use Rattle.sim_laws.specs.Steady.{SteadyStays};
-ghost use Rattle.sim_laws.specs.Kernel.{KernelIsSound, KernelIsWeighed};
+ghost use Rattle.sim_laws.specs.Kernel.{KernelIsSound, KernelIsWeighed, KernelIsPaced};
 ghost use Rattle.sim_laws.specs.Standing.{KernelStands};
 ghost use Rattle.sim_laws.specs.Generated.{GeneratedIsKernel};
 ghost use Rattle.sim_laws.specs.Items.{ItemsAreKnown, ItemsStand, MarksAreFound};
@@ -44,6 +43,11 @@ pub fn kernel_is_sound()
 /// No stretch of such a run takes more counts than its weight (`event_weights`, `specs/Events`).
 pub fn kernel_is_weighed()
     ensures { KernelIsWeighed }
+{}
+
+/// Each event of such a run ends soon behind the one before it, by its weight and the items of the task code (`event_weights`, `specs/Pace`).
+pub fn kernel_is_paced()
+    ensures { KernelIsPaced }
 {}
 
 /// At each count of such a run that finds interrupts open the machine stands as the system says that the events before it lead to.

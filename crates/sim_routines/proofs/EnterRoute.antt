@@ -35,7 +35,7 @@ use Rattle.code_lengths.specs.LongestPaths.{entry_path, enter_path}
 use Rattle.event_weights.specs.Events.{has_frames, enter_counts, stretch_counts}
 use Rattle.sim_induction.specs.Admits.{IsSetting, lines_at, with_admits}
 use Rattle.sim_induction.specs.Advances.{Advances}
-use Rattle.sim_induction.specs.PieceLaws.{StretchLaw}
+use Rattle.sim_induction.specs.PieceLaws.{StretchLaw, IsMeasure}
 use Rattle.std.specs.List.{AllByRecursion}
 use Rattle.sim_induction.proofs.Follow.{booted_admits}
 use Rattle.sim_induction.proofs.Routes.{Opens, Entering, entering, touches_parted, begins_entered, entered_event}
@@ -322,8 +322,8 @@ module _ (b : Build) (view : View) (arrivals : List Arrival) (setting : IsSettin
       by_frames (frame ∷ outer) e = let some : (task found t).frames ≢ [] = λ z. cc in resume_stretch some (waited some) prologue
 
       -- the run goes on from the taken line to where the task runs
-      pub enter_advances : (progress : State → System → ℕ) → Advances (setting_of b view arrivals) (Stands b) progress count state s
-      enter_advances progress =
+      pub enter_advances : (progress : State → System → ℕ) → IsMeasure (setting_of b view arrivals) progress state s → Advances (setting_of b view arrivals) (Stands b) progress count state s
+      enter_advances progress measure =
           let h = by_frames (task found t).frames refl in
           stretch_advances (setting_of b view arrivals) setting (Stands b) progress count late_count state s h.0 h.1 h.2 h.3
-          stands.tidy.booted (sym (booted_admits (late_arrivals h.1) h.3.after) ∙ h.3.related.tidy.booted)
+          stands.tidy.booted (sym (booted_admits (late_arrivals h.1) h.3.after) ∙ h.3.related.tidy.booted) measure

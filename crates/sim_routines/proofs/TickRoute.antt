@@ -37,7 +37,7 @@ use Rattle.osek_scheduler.specs.Services.{ticked_state}
 use Rattle.osek_scheduler.specs.Steps.{settled_state}
 use Rattle.sim_induction.specs.Admits.{IsSetting, lines_at, with_admits}
 use Rattle.sim_induction.specs.Advances.{Advances}
-use Rattle.sim_induction.specs.PieceLaws.{StretchLaw}
+use Rattle.sim_induction.specs.PieceLaws.{StretchLaw, IsMeasure}
 use Rattle.sim_induction.proofs.Follow.{booted_admits}
 use Rattle.sim_induction.proofs.Passing.{same_clock}
 use Rattle.sim_induction.proofs.Routes.{Entering, entering, touches_parted, begins_entered}
@@ -299,8 +299,8 @@ module _ (b : Build) (view : View) (arrivals : List Arrival) (setting : IsSettin
   stretches = (route.next, route.trace, route.end, stretch)
 
   -- the run goes on from the taken line to where interrupts are open again
-  pub tick_advances : (progress : State → System → ℕ) → Advances (setting_of b view arrivals) (Stands b) progress count state s
-  tick_advances progress =
+  pub tick_advances : (progress : State → System → ℕ) → IsMeasure (setting_of b view arrivals) progress state s → Advances (setting_of b view arrivals) (Stands b) progress count state s
+  tick_advances progress measure =
       let h = stretches in
       stretch_advances (setting_of b view arrivals) setting (Stands b) progress count late_count state s h.0 h.1 h.2 h.3
-      stands.tidy.booted (sym (booted_admits (late_arrivals h.1) h.3.after) ∙ h.3.related.tidy.booted)
+      stands.tidy.booted (sym (booted_admits (late_arrivals h.1) h.3.after) ∙ h.3.related.tidy.booted) measure
