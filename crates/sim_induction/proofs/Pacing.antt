@@ -1,9 +1,10 @@
 -- Steps in pace: joined, those of arrivals, and one among others.
-use Rattle.std.proofs.Common.{◌≡◌, ◌∙◌, ◌≤◌, ℕ, List, [], ◌∷◌, ◌++◌, length, cond, refl, sym, ap, subst, true, false}
+use Rattle.std.proofs.Common.{◌≡◌, ◌∙◌, ◌≤◌, ℕ, List, [], ◌∷◌, ◌++◌, length, Bool, cond, refl, sym, ap, subst, arith, true, false}
 use Rattle.std.specs.Prelude.{map}
 use Rattle.std.proofs.lemmas.Bool.{true≢false}
 use Rattle.sloth_base.specs.declared.app.App.{App}
 use Rattle.sloth_base.specs.declared.config.Config.{Config}
+use Rattle.sloth_base.specs.declared.image.Image.{Image}
 use Rattle.sloth_base.specs.declared.event.Arrival.{Arrival}
 use Rattle.sloth_base.specs.declared.event.Event.{Event}
 use Rattle.sloth_base.specs.declared.event.Event.TheVariants as event
@@ -11,14 +12,14 @@ use Rattle.sloth_base.specs.declared.event.Stamped.{Stamped}
 use Rattle.sloth_base.specs.Machine.{State}
 use Rattle.sloth_base.specs.Owners.{first_counter_line, owners_in, AreOwned}
 use Rattle.rv32_instr.specs.Ram.{word_at}
-use Rattle.osek_scheduler.specs.State.{System}
+use Rattle.osek_scheduler.specs.State.{Frame, Task, System, task}
 use Rattle.osek_scheduler.specs.InTime.{is_admit}
 use Rattle.osek_scheduler.specs.Runs.{AreStepsTo}
 use Rattle.osek_scheduler.proofs.Leading.{one_step}
 use Rattle.raised_sections.specs.Pace.{last_count}
-use Rattle.event_weights.specs.Pace.{ItemSizes, AreAtMost, gap_counts, EndsInPace}
+use Rattle.event_weights.specs.Pace.{ItemSizes, AreAtMost, next_size, next_size_of, gap_counts, EndsInPace}
 use Rattle.sim_induction.specs.Admits.{Setting, with_arrival, with_admits, admit_event}
-use Rattle.sim_induction.specs.Paced.{ArePacedTo}
+use Rattle.sim_induction.specs.Paced.{ArePacedTo, Paced}
 use Rattle.sim_induction.specs.PieceLaws.{IsNamed, IsMeasure}
 use Rattle.sim_induction.proofs.Follow.{booted_arrival}
 use Rattle.sim_induction.proofs.Lines.{is_admitted, arrival_steps}
@@ -84,3 +85,40 @@ gap_enough given progress m s measure longest most found early (event.Back t) na
 gap_enough given progress m s measure longest most found early (event.Enter t) named = measure.few longest most
 gap_enough given progress m s measure longest most found early (event.Tick c) named = measure.few longest most
 gap_enough given progress m s measure longest most found early what named = absurd named
+
+-- ---- longer items
+
+module _ (config : Config) (app : App) (size wider : ItemSizes) (longer : (func item : ℕ) → size func item ≤ wider func item) where
+  next_wider : (own : Task) → next_size_of size own ≤ next_size_of wider own
+  next_wider own = by own.owed own.frames
+    where
+      by : (owed : Bool) (frames : List Frame) → cond owed 0 (next_size size frames) ≤ cond owed 0 (next_size wider frames)
+      by true frames = omega arith
+      by false [] = omega arith
+      by false (frame ∷ outer) = longer frame.func frame.item
+
+  gap_wider : (longest : ℕ) (found : System) (what : Event) → gap_counts size longest found what ≤ gap_counts wider longest found what
+  gap_wider longest found (event.Run t func item result) = longer func item
+  gap_wider longest found (event.Call t served status) = next_wider (task found t)
+  gap_wider longest found (event.Left t served) = next_wider (task found t)
+  gap_wider longest found (event.Back t) = next_wider (task found t)
+  gap_wider longest found (event.Enter t) = omega arith
+  gap_wider longest found (event.Tick c) = omega arith
+  gap_wider longest found event.Idle = omega arith
+  gap_wider longest found event.Boot = omega arith
+  gap_wider longest found (event.Admit t) = omega arith
+  gap_wider longest found (event.Due c) = omega arith
+  gap_wider longest found event.Stray = omega arith
+
+  pub paced_wider : (image : Image) → Paced config app size image → Paced config app wider image
+  paced_wider image paced = record {
+    each = λ arrivals n longest are bound most.
+        let keeps = paced.each arrivals n longest are bound (λ func item. let less = longer func item in let few = most func item in omega (arith, less, few)) in
+        record {
+          each = λ before behind e found is leads other later.
+              let soon = keeps.each before behind e found is leads other later in
+              let gap = gap_wider longest found e.event in
+              omega (arith, soon, gap);
+          reaches = keeps.reaches;
+        };
+  }

@@ -14,6 +14,7 @@ use Rattle.osek_scheduler.specs.InTime.{is_admit}
 use Rattle.osek_scheduler.specs.Steps.{OsekStep}
 use Rattle.osek_scheduler.specs.Runs.{AreStepsTo}
 use Rattle.raised_sections.specs.Pace.{last_count}
+use Rattle.event_weights.specs.Items.{length_of, AreLengths}
 use Rattle.event_weights.specs.Pace.{ItemSizes, AreAtMost, EndsInPace}
 use Rattle.sim_induction.specs.Sound.{events_of}
 
@@ -36,3 +37,7 @@ pub record KeepsPace (config : Config) (app : App) (size : ItemSizes) (longest n
 pub record Paced (config : Config) (app : App) (size : ItemSizes) (image : Image) : Type 0 where
   pub each : (arrivals : List Arrival) (n longest : ℕ) → AreArrivals (owners_in config) arrivals → n ≤ count_limit → AreAtMost size longest
       → KeepsPace config app size longest n (events_of image arrivals n)
+
+-- by the lengths of the items of the task code
+pub record InPace (config : Config) (app : App) (image : Image) : Type 0 where
+  pub paced : (lengths : List (List ℕ)) → AreLengths app lengths → Paced config app (length_of lengths) image

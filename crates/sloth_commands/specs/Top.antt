@@ -16,6 +16,7 @@ use Rattle.run_bounds.specs.BlockingBounds.{KeepsBlockingBounds}
 use Rattle.osek_blocking.specs.NextEvents.{IsOnlyRun}
 use Rattle.sim_induction.specs.Sound.{Sound, events_of}
 use Rattle.sim_induction.specs.Weighed.{Weighed}
+use Rattle.sim_induction.specs.Paced.{InPace}
 use Rattle.sim_laws.specs.TaskStates.{HasTaskStates}
 use Rattle.sloth_io.specs.Counts.{Rose, Stays}
 use Rattle.sloth_io.specs.Sink.{Output, output_with, GainsPart, FailsToPassOn}
@@ -149,6 +150,8 @@ pub record IsBuiltImage (config : Config) (app : App) (image : Image) : Type 0 w
   pub sound : Sound config app image
   -- no stretch of it takes more counts than its weight, by its event and the state that it finds
   pub weighed : Weighed config app image
+  -- and each event ends soon behind the one before it, by its weight and the lengths of the items
+  pub paced : InPace config app image
   -- and the machine shows the task states of the abstract scheduler at each count that finds interrupts open
   pub shows : HasTaskStates config app image
   -- so a Ready task is blocked by one lower task at most, and resources are held by one task at a time

@@ -9,7 +9,7 @@ use Rattle.mem_map.specs.Sections.{marks_of}
 use Rattle.image_gen.specs.Gathered.{MayGenerate}
 use Rattle.image_gen.specs.ImageOf.{IsImageOf}
 use Rattle.image_gen.proofs.Formed.{in_format}
-use Rattle.image_gen.proofs.Linking.{linked_image, sound, weighed, shows}
+use Rattle.image_gen.proofs.Linking.{linked_image, sound, weighed, paced, shows}
 use Rattle.sloth_base.specs.Limits.{task_limit}
 use Rattle.image_gen.proofs.Planning.{may_generate}
 use Rattle.image_gen.proofs.image.image.Goals.{In_ok-image}
@@ -58,6 +58,7 @@ returns c =
     record {
       sound = sound config app levels map may image is h.tasks h.functions h.counters;
       weighed = weighed config app levels map may image is h.tasks h.functions h.counters;
+      paced = paced config app levels map may image is h.tasks h.functions h.counters;
       shows = shows config app levels map may image is h.tasks h.functions h.counters;
       items = h.items;
       format = in_format config app levels map may image is h.tasks h.functions h.counters;

@@ -9,6 +9,7 @@ returns-clause-image c =
     record {
       sound = built.sound;
       weighed = built.weighed;
+      paced = built.paced;
       shows = built.shows;
       protocol = runs-keep _ _ _ _ _ built.in_range built.accepted built.sound;
       bounds = runs-keep_bounds _ _ _ _ _ built.in_range built.accepted built.sound;
