@@ -1,9 +1,11 @@
 -- How many counts of its task an item takes at most: its expansion, and of a service its code.
-use Rattle.std.specs.Prelude.{ℕ, ◌<◌, ◌≡◌, max, List, [], length, get_or}
+use Rattle.std.specs.Prelude.{ℕ, ◌<◌, ◌≡◌, max, false, List, [], length, get_or}
 use Rattle.sloth_base.specs.declared.app.App.{App}
 use Rattle.sloth_base.specs.declared.app.Func.{Func}
 use Rattle.sloth_base.specs.declared.app.Op.{Op}
 use Rattle.sloth_base.specs.declared.app.Op.TheVariants as op
+use Rattle.sloth_base.specs.declared.service.Service.{Service}
+use Rattle.sloth_base.specs.declared.service.Service.TheVariants as service
 use Rattle.sloth_base.specs.Named.{function}
 use Rattle.expansion_parts.specs.Passes.{AreShortest}
 use Rattle.code_lengths.specs.LongestPaths.{served_path, leaving_path}
@@ -22,9 +24,15 @@ pub record AreLengths (app : App) (lengths : List (List ℕ)) : Type 0 where
 
 -- ---- services
 
+-- What a service adds to its caller's counts where the caller goes on. Whether it does is told on the way through ChainTask, so of that one the longer
+-- way counts.
+abbrev pub served_counts : Service → ℕ
+served_counts service.ChainTask = leaving_path service.ChainTask false
+served_counts served = served_path served
+
 -- what an operation adds to the length of its item where its task goes on
 abbrev pub going_counts : Op → ℕ
-going_counts (op.Serve call) = served_path call.service
+going_counts (op.Serve call) = served_counts call.service
 going_counts _ = 0
 
 -- and where the task leaves with it, if it may

@@ -1,7 +1,7 @@
 //! The counts of items.
 ghost use Rattle.std.specs.Prelude.{ℕ, ◌≡◌, ◌≤◌, get_or, IfOk};
 ghost use Rattle.code_rules.specs.AppRange.{IsTaskCode};
-ghost use Rattle.event_weights.specs.Items.{length_of, AreLengths, going_counts, leaving_counts, ending_counts};
+ghost use Rattle.event_weights.specs.Items.{length_of, AreLengths, served_counts, going_counts, leaving_counts, ending_counts};
 
 use bound_rules::items::chains_itself;
 use code_lengths::{leaving_path, served_path};
@@ -9,6 +9,7 @@ use expansion_parts::long_branches::shortest;
 use sloth_base::app::{App, Func, Op};
 use sloth_base::list::List;
 use sloth_base::memory::NoMemory;
+use sloth_base::service::Service;
 use std::alloc::Global;
 use text_pieces::growth::push;
 
@@ -34,13 +35,23 @@ pub fn lengths(alloc: Global, app: &App) -> Result<ItemLengths, NoMemory>
     })
 }
 
+fn served_counts(served: Service) -> u32
+    ensures is { result ≡ served_counts served }
+    ensures short { result ≤ 86 }
+{
+    match served {
+        Service::ChainTask => leaving_path(served, false),
+        _ => served_path(served),
+    }
+}
+
 /// What an operation adds to the length of its item where its task goes on.
 pub fn going_counts(op: &Op) -> u32
     ensures is { result ≡ going_counts op.now }
-    ensures short { result ≤ 22 }
+    ensures short { result ≤ 86 }
 {
     match op {
-        Op::Serve(call) => served_path(call.service),
+        Op::Serve(call) => served_counts(call.service),
         _ => 0,
     }
 }

@@ -12,9 +12,9 @@ use Rattle.sloth_base.specs.Named.{function, item_of, operation}
 use Rattle.code_rules.specs.Code.{IsItem}
 use Rattle.expansion_parts.specs.Long.{size, no_places}
 use Rattle.expansion_parts.proofs.Counts.{expanded_some}
-use Rattle.code_lengths.specs.LongestPaths.{served_path, leaving_path}
+use Rattle.code_lengths.specs.LongestPaths.{leaving_path}
 use Rattle.raised_sections.specs.Walks.{chains_itself}
-use Rattle.event_weights.specs.Items.{length_of, AreLengths, going_counts, ending_counts}
+use Rattle.event_weights.specs.Items.{length_of, AreLengths, served_counts, going_counts, ending_counts}
 use Rattle.bound_rules.specs.declared.weights.BodyWeights.{BodyWeights}
 use Rattle.bound_rules.specs.Weights.{no_weights, going_weight, ending_weight}
 use Rattle.section_sizes.specs.Parts.{is_plain}
@@ -23,7 +23,8 @@ use Rattle.section_counts.specs.Counts.{AreCountsBy}
 
 -- ---- services
 
-served_few : (s : Service) → served_path s ≤ 22
+served_few : (s : Service) → served_counts s ≤ 60
+served_few service.ChainTask = omega arith
 served_few service.Schedule = omega arith
 served_few _ = omega arith
 
