@@ -7,6 +7,7 @@ use Rattle.sloth_base.specs.declared.config.Config.{Config}
 use Rattle.sloth_base.specs.declared.image.Image.{Image}
 use Rattle.sloth_region.specs.declared.map.Map.{Map}
 use Rattle.rv32_expand.specs.InPlace.{ItemsInPlace}
+use Rattle.sim_induction.specs.Paced.{InPace}
 use Rattle.sim_induction.specs.Sound.{Sound}
 use Rattle.sim_induction.specs.Weighed.{Weighed}
 use Rattle.sim_laws.specs.TaskStates.{HasTaskStates}
@@ -18,11 +19,12 @@ use Rattle.symbol_image.specs.FileParts.{FileParts}
 use Rattle.symbol_image.specs.SymbolFile.{symbol_file}
 
 -- An image of a configuration and its task code, as it is built: each of its runs is one of the abstract scheduler, no stretch takes more than its
--- weight, the machine shows its task states, its items are in place, its numbers and names are those of an image file, and each of its pieces stands
--- where the planned map has it.
+-- weight, its events keep the pace, the machine shows its task states, its items are in place, its numbers and names are those of an image file, and
+-- each of its pieces stands where the planned map has it.
 pub record IsBuilt (config : Config) (app : App) (image : Image) : Type 0 where
   pub sound : Sound config app image
   pub weighed : Weighed config app image
+  pub paced : InPace config app image
   pub shows : HasTaskStates config app image
   pub items : ItemsInPlace image config app
   pub format : InFormat image

@@ -34,6 +34,7 @@ returns c =
         is_built = record {
           sound = h.sound;
           weighed = h.weighed;
+          paced = h.paced;
           shows = h.shows;
           items = h.items;
           format = h.format;
