@@ -2,3 +2,5 @@ pub mod NoFields
 pub mod Gains
 pub mod Passing
 pub mod Files
+pub mod Reading
+pub mod Delivering

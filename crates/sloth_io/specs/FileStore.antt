@@ -1,7 +1,9 @@
 -- Files of the system.
-use Rattle.std.specs.Prelude.{◌≡◌, ◌≤◌, ◌<◌, ℕ, List, ◌++◌, length, Option, None, false}
+use Rattle.std.specs.Prelude.{◌≡◌, ◌+◌, ◌≤◌, ◌<◌, ℕ, min, List, [], ◌∷◌, ◌++◌, length, Option, None, Result, Ok, Err, false}
 use Rattle.std.specs.Io.KnownBytes.{Appends, Consumes, IsAtEnd}
 use Rattle.sloth_io.specs.Store.{Files}
+use Rattle.sloth_io.specs.declared.store.StoreFault.{StoreFault}
+use Rattle.sloth_io.specs.declared.store.StoreFault.TheVariants.{Failed, TooLong, Memory}
 use Rattle.sloth_io.specs.declared.file_store.FileStore.{FileStore}
 
 -- a store that does not tell its files, with these counts, and these reads and writes
@@ -21,6 +23,13 @@ untold_files failed_reads overlong_reads failed_writes reads writes = record {
 -- what files of the system show
 abbrev pub shown_files : {R : Type 0} → FileStore R → Files
 shown_files store = untold_files store.failed_reads store.overlong_reads store.failed_writes store.reads.items store.writes.items
+
+-- what they show behind a read with this outcome, which delivered these bytes where it was done
+abbrev pub files_after_read : {T : Type 0} → Result T StoreFault → List ℕ → List ℕ → Files → Files
+files_after_read (Ok _) name bytes old = record old { reads = old.reads ++ (name, bytes) ∷ [] }
+files_after_read (Err Failed) name bytes old = record old { failed_reads = min (old.failed_reads + 1) 18446744073709551615 }
+files_after_read (Err TooLong) name bytes old = record old { overlong_reads = min (old.overlong_reads + 1) 18446744073709551615 }
+files_after_read (Err Memory) name bytes old = old
 
 -- how many bytes the last call took from a file or wrote to it
 abbrev pub taken_bytes : {R : Type 0} → FileStore R → ℕ

@@ -1,6 +1,6 @@
 -- A store in memory.
-use Rattle.std.specs.Prelude.{◌≡◌, ◌==◌, ◌&&◌, ℕ, not, List, [], ◌∷◌, length, map}
-use Rattle.std.specs.Prelude.{Option, Some, None, Bool, true, false, if◌then◌else◌, nat_lt}
+use Rattle.std.specs.Prelude.{◌≡◌, ◌≤◌, ◌==◌, ◌&&◌, ℕ, not, List, [], ◌∷◌, ◌++◌, length, map}
+use Rattle.std.specs.Prelude.{Option, Some, None, Result, Ok, Err, Bool, true, false, if◌then◌else◌, nat_lt}
 use Rattle.std.specs.List.{list_any}
 use Rattle.sloth_io.specs.Slots.{file_of, bytes_named, space_named}
 use Rattle.sloth_io.specs.Slots.{has_space}
@@ -28,6 +28,26 @@ length_fault (Some bytes) limit = if nat_lt limit (length bytes) then Some TooLo
 abbrev pub read_fault : MemStore → List ℕ → ℕ → Option StoreFault
 read_fault store name limit =
     if is_next_call_failed store then Some Failed else length_fault (bytes_named name (files_of store)) limit
+
+-- the same, where it is known whether the call is to fail and what the file holds
+abbrev pub fault_by : Bool → Option (List ℕ) → ℕ → Option StoreFault
+fault_by fails held limit = if fails then Some Failed else length_fault held limit
+
+-- the bytes of the file, at most `limit`, stand behind the old ones
+abbrev pub IsDelivered : Option (List ℕ) → ℕ → List ℕ → List ℕ → Type 0
+IsDelivered held limit old new = (bytes : List ℕ) × (held ≡ Some bytes) × (new ≡ old ++ bytes) × (length bytes ≤ limit)
+
+-- a read was refused as too long
+abbrev pub is_overlong : {T : Type 0} → Result T StoreFault → Bool
+is_overlong (Ok _) = false
+is_overlong (Err Failed) = false
+is_overlong (Err TooLong) = true
+is_overlong (Err Memory) = false
+
+-- what was read, behind a read with this outcome, which delivered these bytes where it was done
+abbrev pub reads_after : {T : Type 0} → Result T StoreFault → List ℕ → List ℕ → List (List ℕ × List ℕ) → List (List ℕ × List ℕ)
+reads_after (Ok _) name bytes reads = reads ++ (name, bytes) ∷ []
+reads_after (Err _) name bytes reads = reads
 
 -- the read is refused as too long
 abbrev pub is_too_long : Option StoreFault → Bool

@@ -1,10 +1,10 @@
 //! The system's files.
-ghost use Rattle.std.specs.Prelude.{◌≡◌, ◌≢◌, ◌<◌, ◌+◌, [], IsTrue, true, OnErr, OnOk, length};
+ghost use Rattle.std.specs.Prelude.{◌≡◌, ◌≢◌, ◌<◌, ◌+◌, [], IsTrue, true, OnErr, OnOk, length, take};
 ghost use Rattle.std.specs.Io.{appended_bytes};
 ghost use Rattle.sloth_io.specs.Store.{IsAppended, IsMissing, IsTooLong, IsUnwritten, IsFileWritten, MayBeOneFile};
 ghost use Rattle.sloth_io.specs.Store.{KeepsOthers, KeepsFiles, KeepsReads};
 ghost use Rattle.sloth_io.specs.FileStore.{IsGivenTo, IsWholeRest, HasPrefix, HasPrefixBeyond, HasPrefixWithin};
-ghost use Rattle.sloth_io.specs.FileStore.{shown_files, taken_bytes, untold_files};
+ghost use Rattle.sloth_io.specs.FileStore.{shown_files, taken_bytes, untold_files, files_after_read};
 
 use crate::history::History;
 use crate::replaced_files::replace_file;
@@ -52,6 +52,22 @@ impl<'a, R: Files> FileStore<'a, R> {
     {
         self.failed_reads
     }
+
+    // Tells what a read delivered that was done, and counts one that was not.
+    fn tell_read(&mut self, outcome: Result<(), StoreFault>, name: &str, bytes: &[u8])
+        ensures told { shown_files self.new ≡ files_after_read outcome name.now bytes.now (shown_files self.old) }
+        ensures keeps { KeepsFiles (shown_files self.old) (shown_files self.new) }
+        ensures taken { taken_bytes self.new ≡ taken_bytes self.old }
+    {
+        match outcome {
+            Ok(()) => self.reads = self.reads.and(name.as_bytes(), bytes),
+            Err(StoreFault::Failed) => self.failed_reads = self.failed_reads.saturating_add(1),
+            Err(StoreFault::TooLong) => {
+                self.overlong_reads = self.overlong_reads.saturating_add(1);
+            }
+            Err(StoreFault::Memory) => {}
+        }
+    }
 }
 
 // Opens a file and reads it whole.
@@ -71,6 +87,17 @@ fn read_file<R: Files>(
         return Err(StoreFault::Failed);
     };
     read_whole(&mut file, limit, into)
+}
+
+// Takes back what a read appended that was not done.
+fn take_back(outcome: Result<(), StoreFault>, before: usize, into: &mut Vec<u8>)
+    ensures ok { OnOk outcome (into.new.items ≡ into.old.items) }
+    ensures err { OnErr outcome (into.new.items ≡ take before into.old.items) }
+{
+    match outcome {
+        Ok(()) => {}
+        Err(_) => into.truncate(before),
+    }
 }
 
 // Both names are of one plain file: what they lead to has one device and one number there.
@@ -108,20 +135,8 @@ impl<'a, R: Files> Store for FileStore<'a, R> {
         let before = into.len();
         let outcome = read_file(self.rt, name, limit, into);
         self.taken = into.len() - before;
-        match outcome {
-            Ok(()) => {
-                self.reads = self.reads.and(name.as_bytes(), &into[before..]);
-                return Ok(());
-            }
-            Err(StoreFault::Failed) => {
-                self.failed_reads = self.failed_reads.saturating_add(1);
-            }
-            Err(StoreFault::TooLong) => {
-                self.overlong_reads = self.overlong_reads.saturating_add(1);
-            }
-            Err(StoreFault::Memory) => {}
-        }
-        into.truncate(before);
+        self.tell_read(outcome, name, &into[before..]);
+        take_back(outcome, before, into);
         outcome
     }
 

@@ -6,6 +6,7 @@ ghost use Rattle.sloth_io.specs.Counts.{count_after_call, next_call};
 ghost use Rattle.sloth_io.specs.Slots.{bytes_named, files_with};
 ghost use Rattle.sloth_io.specs.MemStore.{IsFreshStore, is_next_call_failed, files_of, IsStoreCalled};
 ghost use Rattle.sloth_io.specs.MemStore.{is_too_long, read_fault, shown_files, is_next_write_done};
+ghost use Rattle.sloth_io.specs.MemStore.{IsDelivered, fault_by, is_overlong, reads_after};
 ghost use Rattle.sloth_io.specs.Store.{IsAppended, IsMissing, IsTooLong, IsUnwritten, IsFileWritten, MayBeOneFile};
 ghost use Rattle.sloth_io.specs.Store.{KeepsOthers, KeepsFiles, KeepsReads};
 
@@ -67,6 +68,71 @@ impl MemStore {
         self.calls = self.calls.saturating_add(1);
         self.fails.contains(&self.calls)
     }
+
+    // Counts a call that reads, and says whether it is to fail, which is counted too.
+    fn begin_read(&mut self) -> bool
+        ensures fails { result ≡ is_next_call_failed self.old }
+        ensures rest { self.new ≡ record self.old {
+          calls = next_call self.old.calls;
+          failed_reads = count_after_call result self.old.failed_reads;
+        } }
+        ensures rising { self.old.failed_reads ≤ self.new.failed_reads }
+    {
+        let fails = self.call();
+        if fails {
+            self.failed_reads = self.failed_reads.saturating_add(1);
+        }
+        fails
+    }
+
+    // Appends the bytes of a file of at most `limit` bytes, where the call is not to fail.
+    fn deliver(
+        &self,
+        fails: bool,
+        name: &str,
+        limit: usize,
+        into: &mut Vec<u8>,
+    ) -> Result<(), StoreFault>
+        ensures refused { MatchOption (fault_by fails (bytes_named name.now (files_of self.now)) limit)
+            (IsOkUnless result StoreFault.Memory) (λ fault. result ≡ Err fault) }
+        ensures ok { OnOk result (IsDelivered (bytes_named name.now (files_of self.now)) limit into.old.items into.new.items) }
+        ensures err { OnErr result (into.new.items ≡ into.old.items) }
+    {
+        if fails {
+            return Err(StoreFault::Failed);
+        }
+        let Some(bytes) = self.file(name) else {
+            return Err(StoreFault::Failed);
+        };
+        if bytes.len() > limit {
+            return Err(StoreFault::TooLong);
+        }
+        if into.extend_from_slice(bytes).is_err() {
+            return Err(StoreFault::Memory);
+        }
+        Ok(())
+    }
+
+    // Tells what a read delivered that was done, and counts one that was too long.
+    fn tell_read(&mut self, outcome: Result<(), StoreFault>, name: &str, bytes: &[u8])
+        ensures slots { self.new.slots ≡ self.old.slots }
+        ensures failing { self.new.fails ≡ self.old.fails }
+        ensures calls { self.new.calls ≡ self.old.calls }
+        ensures failed_reads { self.new.failed_reads ≡ self.old.failed_reads }
+        ensures overlong_reads { self.new.overlong_reads ≡ count_after_call (is_overlong outcome) self.old.overlong_reads }
+        ensures rising { self.old.overlong_reads ≤ self.new.overlong_reads }
+        ensures failed_writes { self.new.failed_writes ≡ self.old.failed_writes }
+        ensures reads { self.new.reads.items ≡ reads_after outcome name.now bytes.now self.old.reads.items }
+        ensures writes { self.new.writes.items ≡ self.old.writes.items }
+    {
+        match outcome {
+            Ok(()) => self.reads = self.reads.and(name.as_bytes(), bytes),
+            Err(StoreFault::TooLong) => {
+                self.overlong_reads = self.overlong_reads.saturating_add(1);
+            }
+            Err(_) => {}
+        }
+    }
 }
 
 impl Store for MemStore {
@@ -92,23 +158,11 @@ impl Store for MemStore {
         ensures called { IsStoreCalled self.old self.new }
         ensures files { files_of self.new ≡ files_of self.old }
     {
-        if self.call() {
-            self.failed_reads = self.failed_reads.saturating_add(1);
-            return Err(StoreFault::Failed);
-        }
-        let Some(bytes) = self.file(name) else {
-            return Err(StoreFault::Failed);
-        };
-        if bytes.len() > limit {
-            self.overlong_reads = self.overlong_reads.saturating_add(1);
-            return Err(StoreFault::TooLong);
-        }
+        let fails = self.begin_read();
         let before = into.len();
-        if into.extend_from_slice(bytes).is_err() {
-            return Err(StoreFault::Memory);
-        }
-        self.reads = self.reads.and(name.as_bytes(), &into[before..]);
-        Ok(())
+        let outcome = self.deliver(fails, name, limit, into);
+        self.tell_read(outcome, name, &into[before..]);
+        outcome
     }
 
     fn write(&mut self, name: &str, bytes: &[u8]) -> Result<(), StoreFault>
