@@ -1,2 +1,2 @@
-mod CountsFit
+pub mod CountsFit
 mod Telling

@@ -1,0 +1,6 @@
+pub mod Staged
+pub mod Lowers
+pub mod Weighed
+pub mod Summed
+pub mod Counted
+pub mod Spending
