@@ -5,3 +5,10 @@ pub mod PieceNames
 pub mod RisingNames
 pub mod Shown
 pub mod WordNames
+pub mod Built
+pub mod RisingLines
+pub mod RisingRows
+pub mod Rows
+pub mod SourceFiles
+pub mod Standing
+pub mod StandingSymbols

@@ -1,0 +1,23 @@
+-- The source lines of a planned map.
+use Rattle.std.specs.Prelude.{ℕ, ◌≤◌, List, length}
+use Rattle.sloth_base.specs.Limits.{file_limit}
+use Rattle.sloth_base.specs.declared.app.App.{App}
+use Rattle.sloth_base.specs.declared.config.Config.{Config}
+use Rattle.sloth_base.specs.declared.places.Bounds.{Bounds}
+use Rattle.sloth_region.specs.declared.map.Map.{Map}
+use Rattle.sloth_source.specs.Texts.{AreAccepted}
+use Rattle.mem_map.specs.Planned.{IsPlanned}
+use Rattle.mem_map.specs.Zones.{data_zone}
+use Rattle.dwarf_sections.specs.LineMachine.{HasMatrix, wanted_matrix}
+use Rattle.dwarf_sections.specs.LineRows.{line_rows}
+use Rattle.dwarf_sections.specs.LineSection.{line_program}
+use Rattle.dwarf_sections.specs.declared.line_rows.LineRow.{LineRow}
+
+-- the rows of task code by its map
+abbrev pub rows_by : App → Map → List LineRow
+rows_by app m = line_rows m.places (data_zone m).base 0 app.funcs
+
+-- where texts are accepted, the program makes exactly their rows, and one end behind all code
+abbrev pub SourceLinesAreRows : Type 0
+SourceLinesAreRows = (oil src : List ℕ) (config : Config) (app : App) (bounds : Bounds) (m : Map) → length src ≤ file_limit → AreAccepted oil src config app
+    → IsPlanned config app bounds m → HasMatrix (line_program (rows_by app m) (data_zone m).base) (wanted_matrix (rows_by app m) (data_zone m).base)
