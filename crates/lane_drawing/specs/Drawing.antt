@@ -14,6 +14,7 @@ use Rattle.lane_drawing.specs.Scale.{place, pixels, axis_step, first_multiple, l
 -- the class of a look, which has its colours
 abbrev pub look_class : Look → List ℕ
 look_class look.Runs = codes "run"
+look_class look.Served = codes "ser"
 look_class look.Preempted = codes "pre"
 look_class look.Ready = codes "ready"
 look_class look.Waiting = codes "wait"
@@ -22,6 +23,7 @@ look_class look.Kernel = codes "k"
 -- the word of a look
 abbrev pub look_word : Look → List ℕ
 look_word look.Runs = codes "runs"
+look_word look.Served = codes "runs kernel code"
 look_word look.Preempted = codes "preempted"
 look_word look.Ready = codes "ready"
 look_word look.Waiting = codes "waiting"
@@ -30,6 +32,7 @@ look_word look.Kernel = codes "code"
 -- the height of a bar, in pixels
 abbrev pub look_height : Look → ℕ
 look_height look.Runs = 24
+look_height look.Served = 24
 look_height look.Preempted = 12
 look_height look.Ready = 12
 look_height look.Waiting = 2
@@ -48,15 +51,15 @@ bar_line scale name middle bar =
 
 -- ---- lanes
 
--- the middle of a row, in pixels from the top
+-- The middle of a row, in pixels from the top. A row is 40 pixels high: a bar of 24 in its middle, with room for marks above and below.
 abbrev pub row_middle : ℕ → ℕ
-row_middle row = 61 + 34 * row
+row_middle row = 64 + 40 * row
 
 -- the name of a lane, and the line below it
 unfoldable pub lane_line : Scale → (name : List ℕ) (middle : ℕ) → List ℕ
 lane_line scale name middle =
-    codes "<text x=\"" ++ decimal (scale.left - 12) ++ codes "\" y=\"" ++ decimal (middle + 5) ++ codes "\" text-anchor=\"end\">" ++ name
-    ++ codes "</text><path class=\"g\" d=\"M" ++ decimal scale.left ++ codes " " ++ decimal (middle + 17) ++ codes "h1020\"/>\n"
+    codes "<text class=\"n\" x=\"" ++ decimal (scale.left - 12) ++ codes "\" y=\"" ++ decimal (middle + 5) ++ codes "\" text-anchor=\"end\">" ++ name
+    ++ codes "</text><path class=\"g\" d=\"M" ++ decimal scale.left ++ codes " " ++ decimal (middle + 20) ++ codes "h1020\"/>\n"
 
 -- a lane with its bars and arrivals
 abbrev pub lane_text : Scale → (name : List ℕ) (middle : ℕ) → List Bar → List Arrival → List ℕ
@@ -78,30 +81,31 @@ shown_arrivals scale arrivals task = filter (is_shown scale task) arrivals
 
 -- ---- the frame
 
--- how far the lanes begin from the left, for the length of the longest name
+-- how far the lanes begin from the left, for the length of the longest name: 8 pixels for each letter, all of one width
 abbrev pub left_margin : (longest : ℕ) → ℕ
 left_margin longest = 24 + 8 * longest
 
 -- the first line, with the size in pixels: so many rows behind the axis, and the legend
 unfoldable pub head_line : Scale → (rows : ℕ) → List ℕ
 head_line scale rows =
-    codes "<svg xmlns=\"http://www.w3.org/2000/svg\" width=\"" ++ decimal (scale.left + 1052) ++ codes "\" height=\"" ++ decimal (94 + 34 * rows)
-    ++ codes "\" viewBox=\"0 0 " ++ decimal (scale.left + 1052) ++ codes " " ++ decimal (94 + 34 * rows)
+    codes "<svg xmlns=\"http://www.w3.org/2000/svg\" width=\"" ++ decimal (scale.left + 1052) ++ codes "\" height=\"" ++ decimal (94 + 40 * rows)
+    ++ codes "\" viewBox=\"0 0 " ++ decimal (scale.left + 1052) ++ codes " " ++ decimal (94 + 40 * rows)
     ++ codes "\" font-family=\"system-ui, sans-serif\" font-size=\"13\">\n"
 
 -- lines, one behind the other
 abbrev pub all_lines : List (List ℕ) → List ℕ
 all_lines lines = flat_map (λ line. line) lines
 
--- how each class looks, on light and on dark screens, and what is behind all
+-- how each class looks, on light and on dark screens, what is behind all, and the unit of the axis, above its end
 abbrev pub style_lines : List ℕ
 style_lines = all_lines (
     codes "<style>\n"
     ∷ codes "text,.a{fill:#1a2433}\n"
+    ∷ codes ".n{font-family:ui-monospace,monospace}\n"
     ∷ codes ".p{fill:#fff}\n"
     ∷ codes ".g{stroke:#d8dee6}\n"
     ∷ codes ".run{fill:#2266aa}\n"
-    ∷ codes ".pre{fill:#9dbfe0;stroke:#2266aa;stroke-width:.6}\n"
+    ∷ codes ".pre,.ser{fill:#9dbfe0;stroke:#2266aa;stroke-width:.6}\n"
     ∷ codes ".ready{fill:none;stroke:#2266aa;stroke-width:1.4;stroke-dasharray:4 3}\n"
     ∷ codes ".wait{fill:#8a94a3}\n"
     ∷ codes ".k{fill:#c2571a}\n"
@@ -110,20 +114,21 @@ style_lines = all_lines (
     ∷ codes ".p{fill:#12161c}\n"
     ∷ codes ".g{stroke:#2c3542}\n"
     ∷ codes ".run{fill:#5aa2e6}\n"
-    ∷ codes ".pre{fill:#2f4d6e;stroke:#5aa2e6}\n"
+    ∷ codes ".pre,.ser{fill:#2f4d6e;stroke:#5aa2e6}\n"
     ∷ codes ".ready{stroke:#5aa2e6}\n"
     ∷ codes ".wait{fill:#7b8796}\n"
     ∷ codes ".k{fill:#e08a4d}\n"
     ∷ codes "}\n"
     ∷ codes "</style>\n"
     ∷ codes "<rect class=\"p\" width=\"100%\" height=\"100%\"/>\n"
+    ∷ codes "<text x=\"100%\" y=\"16\" dx=\"-32\" text-anchor=\"end\" font-size=\"11\">instructions</text>\n"
     ∷ []
     )
 
 -- a count on the axis, with a line down through so many rows
 unfoldable pub count_line : Scale → (rows count : ℕ) → List ℕ
 count_line scale rows count =
-    codes "<path class=\"g\" d=\"M" ++ pixels (place scale count) ++ codes " 38V" ++ decimal (44 + 34 * rows)
+    codes "<path class=\"g\" d=\"M" ++ pixels (place scale count) ++ codes " 38V" ++ decimal (44 + 40 * rows)
     ++ codes "\"/><text x=\"" ++ pixels (place scale count) ++ codes "\" y=\"32\" text-anchor=\"middle\" font-size=\"11\">" ++ decimal count
     ++ codes "</text>\n"
 
@@ -137,17 +142,18 @@ axis_lines scale rows = flat_map (axis_line scale rows) (range_with_len (first_m
 
 -- where the legend stands, below so many rows
 unfoldable pub legend_line : Scale → (rows : ℕ) → List ℕ
-legend_line scale rows = codes "<g transform=\"translate(" ++ decimal scale.left ++ codes " " ++ decimal (60 + 34 * rows) ++ codes ")\">\n"
+legend_line scale rows = codes "<g transform=\"translate(" ++ decimal scale.left ++ codes " " ++ decimal (60 + 40 * rows) ++ codes ")\">\n"
 
 -- what the looks and the marks mean
 abbrev pub legend_lines : Scale → (rows : ℕ) → List ℕ
 legend_lines scale rows = legend_line scale rows ++ all_lines (
     codes "<rect class=\"run\" x=\"0\" y=\"0\" width=\"28\" height=\"24\"/><text x=\"36\" y=\"16\">runs</text>\n"
-    ∷ codes "<rect class=\"pre\" x=\"96\" y=\"6\" width=\"28\" height=\"12\"/><text x=\"132\" y=\"16\">preempted</text>\n"
-    ∷ codes "<rect class=\"ready\" x=\"237\" y=\"6\" width=\"28\" height=\"12\"/><text x=\"273\" y=\"16\">ready</text>\n"
-    ∷ codes "<rect class=\"wait\" x=\"342\" y=\"11\" width=\"28\" height=\"2\"/><text x=\"378\" y=\"16\">waiting</text>\n"
-    ∷ codes "<rect class=\"k\" x=\"465\" y=\"6\" width=\"28\" height=\"12\"/><text x=\"501\" y=\"16\">kernel code</text>\n"
-    ∷ codes "<path class=\"a\" d=\"M616 16l-5 -9h10z\"/><text x=\"628\" y=\"16\">arrival</text>\n"
+    ∷ codes "<rect class=\"ser\" x=\"96\" y=\"0\" width=\"28\" height=\"24\"/><text x=\"132\" y=\"16\">runs kernel code</text>\n"
+    ∷ codes "<rect class=\"pre\" x=\"262\" y=\"6\" width=\"28\" height=\"12\"/><text x=\"298\" y=\"16\">preempted</text>\n"
+    ∷ codes "<rect class=\"ready\" x=\"390\" y=\"6\" width=\"28\" height=\"12\"/><text x=\"426\" y=\"16\">ready</text>\n"
+    ∷ codes "<rect class=\"wait\" x=\"488\" y=\"11\" width=\"28\" height=\"2\"/><text x=\"524\" y=\"16\">waiting</text>\n"
+    ∷ codes "<rect class=\"k\" x=\"596\" y=\"6\" width=\"28\" height=\"12\"/><text x=\"632\" y=\"16\">kernel code</text>\n"
+    ∷ codes "<path class=\"a\" d=\"M734 16l-4 -6h8z\"/><text x=\"746\" y=\"16\">arrival</text>\n"
     ∷ codes "</g>\n"
     ∷ []
     )

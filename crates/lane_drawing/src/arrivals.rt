@@ -13,17 +13,18 @@ use trace_text::line_text::LineText;
 pub fn arrival_line(scale: Scale, name: &[u8], middle: u32, arrival: Arrival) -> LineText
     requires scale { IsScale scale }
     requires name { length name.now ≤ name_limit }
-    requires low { 12 ≤ middle }
+    requires low { 13 ≤ middle }
     requires behind { scale.from ≤ arrival.at }
     requires within { arrival.at ≤ scale.to }
     ensures { result ≡ arrival_line scale name.now middle arrival }
 {
+    let (left, top) = (scale.place(arrival.at), middle - 13);
     let mut line = LineText::new();
     line.push(b"<path class=\"a\" d=\"M");
-    push_pixels(&mut line, scale.place(arrival.at));
+    push_pixels(&mut line, left);
     line.push(b" ");
-    line.push_number(middle - 12);
-    line.push(b"l-5 -8h10z\"><title>");
+    line.push_number(top);
+    line.push(b"l-4 -6h8z\"><title>");
     line.push(name);
     line.push(b" arrives at ");
     line.push_number(arrival.at);

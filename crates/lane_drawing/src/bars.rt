@@ -1,9 +1,10 @@
 //! The bars of a lane.
 
-/// What a bar shows: the state of a task, or generated kernel code.
+/// What a bar shows: the state of a task, and of a running one whose code is executed, its own or the kernel's; or generated kernel code.
 #[derive(Clone, Copy, PartialEq, Eq)]
 pub enum Look {
     Runs,
+    Served,
     Preempted,
     Ready,
     Waiting,

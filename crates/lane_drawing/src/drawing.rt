@@ -20,6 +20,7 @@ fn look_class(look: Look) -> &'static [u8]
 {
     match look {
         Look::Runs => b"run",
+        Look::Served => b"ser",
         Look::Preempted => b"pre",
         Look::Ready => b"ready",
         Look::Waiting => b"wait",
@@ -29,10 +30,11 @@ fn look_class(look: Look) -> &'static [u8]
 
 fn look_word(look: Look) -> &'static [u8]
     ensures is { result.now ≡ look_word look }
-    ensures short { length result.now ≤ 9 }
+    ensures short { length result.now ≤ 16 }
 {
     match look {
         Look::Runs => b"runs",
+        Look::Served => b"runs kernel code",
         Look::Preempted => b"preempted",
         Look::Ready => b"ready",
         Look::Waiting => b"waiting",
@@ -45,7 +47,7 @@ fn look_height(look: Look) -> u32
     ensures low { result ≤ 24 }
 {
     match look {
-        Look::Runs => 24,
+        Look::Runs | Look::Served => 24,
         Look::Preempted | Look::Ready | Look::Kernel => 12,
         Look::Waiting => 2,
     }
@@ -96,9 +98,9 @@ fn lane_line(scale: Scale, name: &[u8], middle: u32) -> LineText
     requires low { middle ≤ 2000 }
     ensures { result ≡ lane_line scale name.now middle }
 {
-    let (end, base, rule) = (scale.left - 12, middle + 5, middle + 17);
+    let (end, base, rule) = (scale.left - 12, middle + 5, middle + 20);
     let mut line = LineText::new();
-    line.push(b"<text x=\"");
+    line.push(b"<text class=\"n\" x=\"");
     line.push_number(end);
     line.push(b"\" y=\"");
     line.push_number(base);
@@ -152,7 +154,7 @@ pub fn push_arrivals(
 ) -> Result<(), NoMemory>
     requires scale { IsScale scale }
     requires name { length name.now ≤ name_limit }
-    requires high { 12 ≤ middle }
+    requires high { 13 ≤ middle }
     ensures { OnOk result (text.new.items ≡ text.old.items
         ++ flat_map (arrival_line scale name.now middle) (shown_arrivals scale arrivals.now task)) }
 {

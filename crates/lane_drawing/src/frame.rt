@@ -14,7 +14,7 @@ fn head_line(scale: Scale, rows: u32) -> LineText
     requires rows { rows ≤ 31 }
     ensures { result ≡ head_line scale rows }
 {
-    let (width, height) = (scale.left + 1052, 94 + 34 * rows);
+    let (width, height) = (scale.left + 1052, 94 + 40 * rows);
     let mut line = LineText::new();
     line.push(b"<svg xmlns=\"http://www.w3.org/2000/svg\" width=\"");
     line.push_number(width);
@@ -28,14 +28,15 @@ fn head_line(scale: Scale, rows: u32) -> LineText
     line
 }
 
-// How each class looks, on light and on dark screens, and what is behind all.
-const STYLE: [&[u8]; 21] = [
+// How each class looks, on light and on dark screens, what is behind all, and the unit of the axis, above its end.
+const STYLE: [&[u8]; 23] = [
     b"<style>\n",
     b"text,.a{fill:#1a2433}\n",
+    b".n{font-family:ui-monospace,monospace}\n",
     b".p{fill:#fff}\n",
     b".g{stroke:#d8dee6}\n",
     b".run{fill:#2266aa}\n",
-    b".pre{fill:#9dbfe0;stroke:#2266aa;stroke-width:.6}\n",
+    b".pre,.ser{fill:#9dbfe0;stroke:#2266aa;stroke-width:.6}\n",
     b".ready{fill:none;stroke:#2266aa;stroke-width:1.4;stroke-dasharray:4 3}\n",
     b".wait{fill:#8a94a3}\n",
     b".k{fill:#c2571a}\n",
@@ -44,13 +45,14 @@ const STYLE: [&[u8]; 21] = [
     b".p{fill:#12161c}\n",
     b".g{stroke:#2c3542}\n",
     b".run{fill:#5aa2e6}\n",
-    b".pre{fill:#2f4d6e;stroke:#5aa2e6}\n",
+    b".pre,.ser{fill:#2f4d6e;stroke:#5aa2e6}\n",
     b".ready{stroke:#5aa2e6}\n",
     b".wait{fill:#7b8796}\n",
     b".k{fill:#e08a4d}\n",
     b"}\n",
     b"</style>\n",
     b"<rect class=\"p\" width=\"100%\" height=\"100%\"/>\n",
+    b"<text x=\"100%\" y=\"16\" dx=\"-32\" text-anchor=\"end\" font-size=\"11\">instructions</text>\n",
 ];
 
 // Appends lines.
@@ -63,7 +65,7 @@ fn push_lines(text: &mut Vec<u8>, lines: &[&[u8]]) -> Result<(), NoMemory>
     Ok(())
 }
 
-/// Appends the first line, and how each class looks, on light and on dark screens.
+/// Appends the first line, how each class looks, on light and on dark screens, and the unit of the axis.
 pub fn push_head(text: &mut Vec<u8>, scale: Scale, rows: u32) -> Result<(), NoMemory>
     requires scale { IsScale scale }
     requires rows { rows ≤ 31 }
@@ -86,7 +88,7 @@ fn count_line(scale: Scale, rows: u32, count: u32) -> LineText
     line.push(b"<path class=\"g\" d=\"M");
     push_pixels(&mut line, scale.place(count));
     line.push(b" 38V");
-    line.push_number(44 + 34 * rows);
+    line.push_number(44 + 40 * rows);
     line.push(b"\"/><text x=\"");
     push_pixels(&mut line, scale.place(count));
     line.push(b"\" y=\"32\" text-anchor=\"middle\" font-size=\"11\">");
@@ -130,19 +132,20 @@ fn legend_line(scale: Scale, rows: u32) -> LineText
     line.push(b"<g transform=\"translate(");
     line.push_number(scale.left);
     line.push(b" ");
-    line.push_number(60 + 34 * rows);
+    line.push_number(60 + 40 * rows);
     line.push(b")\">\n");
     line
 }
 
 // What the looks and the marks mean.
-const LEGEND: [&[u8]; 7] = [
+const LEGEND: [&[u8]; 8] = [
     b"<rect class=\"run\" x=\"0\" y=\"0\" width=\"28\" height=\"24\"/><text x=\"36\" y=\"16\">runs</text>\n",
-    b"<rect class=\"pre\" x=\"96\" y=\"6\" width=\"28\" height=\"12\"/><text x=\"132\" y=\"16\">preempted</text>\n",
-    b"<rect class=\"ready\" x=\"237\" y=\"6\" width=\"28\" height=\"12\"/><text x=\"273\" y=\"16\">ready</text>\n",
-    b"<rect class=\"wait\" x=\"342\" y=\"11\" width=\"28\" height=\"2\"/><text x=\"378\" y=\"16\">waiting</text>\n",
-    b"<rect class=\"k\" x=\"465\" y=\"6\" width=\"28\" height=\"12\"/><text x=\"501\" y=\"16\">kernel code</text>\n",
-    b"<path class=\"a\" d=\"M616 16l-5 -9h10z\"/><text x=\"628\" y=\"16\">arrival</text>\n",
+    b"<rect class=\"ser\" x=\"96\" y=\"0\" width=\"28\" height=\"24\"/><text x=\"132\" y=\"16\">runs kernel code</text>\n",
+    b"<rect class=\"pre\" x=\"262\" y=\"6\" width=\"28\" height=\"12\"/><text x=\"298\" y=\"16\">preempted</text>\n",
+    b"<rect class=\"ready\" x=\"390\" y=\"6\" width=\"28\" height=\"12\"/><text x=\"426\" y=\"16\">ready</text>\n",
+    b"<rect class=\"wait\" x=\"488\" y=\"11\" width=\"28\" height=\"2\"/><text x=\"524\" y=\"16\">waiting</text>\n",
+    b"<rect class=\"k\" x=\"596\" y=\"6\" width=\"28\" height=\"12\"/><text x=\"632\" y=\"16\">kernel code</text>\n",
+    b"<path class=\"a\" d=\"M734 16l-4 -6h8z\"/><text x=\"746\" y=\"16\">arrival</text>\n",
     b"</g>\n",
 ];
 

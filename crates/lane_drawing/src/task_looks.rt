@@ -1,18 +1,27 @@
 //! What a bar shows of a task's state.
 ghost use Rattle.std.specs.Prelude.{◌≡◌};
-ghost use Rattle.lane_drawing.specs.TaskLooks.{task_look};
+ghost use Rattle.lane_drawing.specs.TaskLooks.{active_look, task_look};
 
 use crate::bars::Look;
 use osek_scheduler::state::TaskState;
 
-/// The look of a task: an Active one runs, or is preempted; a Suspended one has none.
-pub fn task_look(state: TaskState, runs: bool) -> Option<Look>
-    ensures { result ≡ task_look state runs }
+fn active_look(runs: bool, kernel: bool) -> Look
+    ensures { result ≡ active_look runs kernel }
+{
+    if !runs {
+        return Look::Preempted;
+    }
+    if kernel { Look::Served } else { Look::Runs }
+}
+
+/// The look of a task: an Active one runs, its own code or the kernel's, or is preempted; a Suspended one has none.
+pub fn task_look(state: TaskState, runs: bool, kernel: bool) -> Option<Look>
+    ensures { result ≡ task_look state runs kernel }
 {
     match state {
         TaskState::Suspended => None,
         TaskState::Ready => Some(Look::Ready),
-        TaskState::Active => Some(if runs { Look::Runs } else { Look::Preempted }),
+        TaskState::Active => Some(active_look(runs, kernel)),
         TaskState::Waiting(_) => Some(Look::Waiting),
     }
 }

@@ -88,9 +88,9 @@ fn tasks_above(levels: &[u8; TASK_LIMIT], tasks: usize, task: usize) -> u32
 // The middle of a row, in pixels from the top.
 fn row_middle(row: u32) -> u32
     requires { row ≤ task_limit }
-    ensures { result ≡ 61 + 34 * row }
+    ensures { result ≡ 64 + 40 * row }
 {
-    61 + 34 * row
+    64 + 40 * row
 }
 
 // The bars of a lane.
