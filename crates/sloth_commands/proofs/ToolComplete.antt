@@ -50,7 +50,7 @@ no-long-tool-read old new u inputs tells i =
 
 -- what an answer says of the image file that a tool reads first
 image-of-inputs : (old : Files) (u : ToolUse) (file : List ℕ) (b : ToolAnswer) → IsTrue old.tells → ReadsImageFirst old u file
-    → (inputs : List (List ℕ)) → AreToolInputs old u.inputs inputs → IsAnswer u.tool u.counts inputs b
+    → (inputs : List (List ℕ)) → AreToolInputs old u.inputs inputs → IsAnswer u.tool u.counts u.inputs inputs b
     → HasImage file ⊎ ((fault : ImageFault) × (b ≡ tool_answer.NotAnImage fault))
 image-of-inputs old u file b tells i inputs read answers =
     let same : inputs ≡ file ∷ i.rest = told-inputs old u.inputs inputs (file ∷ i.rest) tells read i.read in
