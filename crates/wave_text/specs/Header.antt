@@ -39,9 +39,10 @@ abbrev pub scope_text : Scope → (tasks counters : List (List ℕ)) → List �
 scope_text s tasks counters =
     scope_line s ++ variable_lines s tasks (length tasks) ++ variable_lines scope.Counters counters (length counters) ++ codes "$upscope $end\n"
 
--- what a time unit is, and the signals in their scopes, with the names of an image
+-- What a time unit is and what the values mean, and the signals in their scopes, with the names of an image. An instruction stands for a second,
+-- which nobody takes for real time.
 unfoldable pub header : Image → List ℕ
 header image =
-    codes "$comment One time unit is one instruction. $end\n$timescale 1 ns $end\n"
+    codes "$comment\n One time unit is one instruction, not a second.\n state: 0 suspended, 1 ready, 2 active, 3 waiting. runs: 1 for the task that runs. Both are unknown while boot runs.\n pending: 1 where the line of the task or counter is pending.\n level: the level that runs, 0 in the idle loop. masked: 1 where interrupts are masked.\n$end\n$timescale 1 s $end\n"
     ++ scope_text scope.State image.tasks [] ++ scope_text scope.Runs image.tasks [] ++ scope_text scope.Pending image.tasks image.counters
     ++ codes "$scope module kernel $end\n$var wire 8 { level $end\n$var wire 1 | masked $end\n$upscope $end\n$enddefinitions $end\n"

@@ -107,7 +107,7 @@ pub fn header(alloc: Global, image: &Image) -> Result<Vec<u8>, NoMemory>
 {
     let mut text = Vec::from_slice(
         alloc,
-        b"$comment One time unit is one instruction. $end\n$timescale 1 ns $end\n",
+        b"$comment\n One time unit is one instruction, not a second.\n state: 0 suspended, 1 ready, 2 active, 3 waiting. runs: 1 for the task that runs. Both are unknown while boot runs.\n pending: 1 where the line of the task or counter is pending.\n level: the level that runs, 0 in the idle loop. masked: 1 where interrupts are masked.\n$end\n$timescale 1 s $end\n",
     )?;
     let tasks = image.tasks.items();
     let none: &[Name] = &[];
