@@ -37,8 +37,8 @@ fn is_below(tasks: &[TaskDecl], priority: u32, task: usize) -> bool
     tasks[task].priority < priority
 }
 
-/// Whether some task is.
-fn has_lower(tasks: &[TaskDecl], priority: u32) -> bool
+/// Whether some task is lower than this priority.
+pub fn has_lower(tasks: &[TaskDecl], priority: u32) -> bool
     ensures { result ≡ any_below (length tasks.now) (is_below tasks.now priority) }
 {
     let mut lower = false;

@@ -3,3 +3,5 @@ pub mod Meaning
 pub mod OneText
 mod Keeping
 pub mod OneLatency
+mod CountLines
+pub mod OneLowerCounts

@@ -1,3 +1,4 @@
 pub mod BoundsText
 pub mod KeptRuns
 pub mod Latency
+pub mod LowerCounts

@@ -92,6 +92,7 @@ tool-apart tool.Picture = refl
 tool-apart tool.Check = refl
 tool-apart tool.Bounds = refl
 tool-apart tool.Latency = refl
+tool-apart tool.LowerCounts = refl
 tool-apart tool.Map = refl
 tool-apart tool.Symbols = refl
 

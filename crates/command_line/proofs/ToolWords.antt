@@ -1,8 +1,9 @@
 -- The words of a tool are those of one use.
 use Rattle.std.proofs.Common.{Global, zero, suc, ◌≡◌, ◌≤◌, ◌+◌, ◌-◌, ◌∙◌, ℕ, List, [], ◌∷◌, ◌++◌, Option, None, Some, refl, sym, ap, subst, get_or, arith, length, take, drop}
-use Rattle.std.specs.Prelude.{decimal, Bool, true, false, ◌&&◌, ◌==◌, if◌then◌else◌, IfNone, slice_get, string_bytes, String, option_to_list, cond}
+use Rattle.std.specs.Prelude.{decimal, Bool, true, false, not, ◌&&◌, ◌==◌, if◌then◌else◌, IfNone, slice_get, string_bytes, String, option_to_list, cond}
 use Rattle.std.specs.Str.{bytes_eq}
 use Rattle.std.proofs.Math.Seq.{take-append_seam, drop-append_seam}
+use Rattle.std.proofs.lemmas.Bool.{true≢false, false≢true}
 use Rattle.std.proofs.lemmas.List.{length-append, length-map, drop-map}
 use Rattle.std.proofs.Math.Numerals.{add-one}
 use Rattle.std.proofs.lemmas.Fmt.{decimal_injective}
@@ -14,34 +15,61 @@ use Rattle.command_line.specs.declared.counts.Window.{Window}
 use Rattle.command_line.specs.declared.tool.Tool.{Tool}
 use Rattle.command_line.specs.declared.tool.Tool.TheVariants as tool
 use Rattle.command_line.specs.Command.{IsCommand, NoTool, Uses, words_of}
-use Rattle.command_line.specs.Tools.{ToolUse, tool_word, tool_words, input_count, further_word, word_count, counts_limit, writes_file, counts_words, output_words, AreCounts, IsOutput, IsToolUse, IsWindow}
+use Rattle.command_line.specs.Tools.{ToolUse, asks_counts, IsAskedFor, tool_word, tool_words, input_count, further_word, word_count, counts_limit, writes_file, counts_words, output_words, AreCounts, IsOutput, IsToolUse, IsWindow}
 
 -- the tools
 abbrev all_tools : List Tool
-all_tools = tool.Elf ∷ tool.Unelf ∷ tool.Infer ∷ tool.At ∷ tool.Wave ∷ tool.Picture ∷ tool.Check ∷ tool.Bounds ∷ tool.Latency ∷ tool.Map ∷ tool.Symbols ∷ []
+all_tools = tool.Elf ∷ tool.Unelf ∷ tool.Infer ∷ tool.At ∷ tool.Wave ∷ tool.Picture ∷ tool.Check ∷ tool.Bounds ∷ tool.Latency ∷ tool.LowerCounts ∷ tool.Map ∷ tool.Symbols ∷ []
 
--- the first of these that has a word and so many words
-abbrev first_with : List ℕ → ℕ → List Tool → Option Tool
-first_with word count [] = None
-first_with word count (t ∷ rest) = if bytes_eq (tool_word t) word && (word_count t == count) then Some t else first_with word count rest
+-- of the two of one word it is the one that is asked for
+abbrev is_asked_for : Tool → (asks : Bool) → Bool
+is_asked_for tool.Latency asks = not asks
+is_asked_for tool.LowerCounts asks = asks
+is_asked_for _ asks = true
 
-found : (t : Tool) → first_with (tool_word t) (word_count t) all_tools ≡ Some t
-found tool.Elf = refl
-found tool.Unelf = refl
-found tool.Infer = refl
-found tool.At = refl
-found tool.Wave = refl
-found tool.Picture = refl
-found tool.Check = refl
-found tool.Bounds = refl
-found tool.Latency = refl
-found tool.Map = refl
-found tool.Symbols = refl
+-- the first of these that has a word and so many words, and is asked for
+abbrev first_with : List ℕ → ℕ → (asks : Bool) → List Tool → Option Tool
+first_with word count asks [] = None
+first_with word count asks (t ∷ rest) =
+    if bytes_eq (tool_word t) word && ((word_count t == count) && is_asked_for t asks) then Some t else first_with word count asks rest
 
-pub same-tool : (t u : Tool) → tool_word t ≡ tool_word u → word_count t ≡ word_count u → t ≡ u
-same-tool t u e n =
+found : (t : Tool) (asks : Bool) → IsAskedFor t asks → first_with (tool_word t) (word_count t) asks all_tools ≡ Some t
+found tool.Elf asks h = refl
+found tool.Unelf asks h = refl
+found tool.Infer asks h = refl
+found tool.At asks h = refl
+found tool.Wave asks h = refl
+found tool.Picture asks h = refl
+found tool.Check asks h = refl
+found tool.Bounds asks h = refl
+found tool.Latency false h = refl
+found tool.Latency true h = absurd (true≢false h)
+found tool.LowerCounts true h = refl
+found tool.LowerCounts false h = absurd (false≢true h)
+found tool.Map asks h = refl
+found tool.Symbols asks h = refl
+
+pub same-tool : (t u : Tool) (asks : Bool) → IsAskedFor t asks → IsAskedFor u asks → tool_word t ≡ tool_word u → word_count t ≡ word_count u → t ≡ u
+same-tool t u asks a b e n =
     let both : Some t ≡ Some u =
-    sym (found t) ∙ (ap (λ w. first_with w (word_count t) all_tools) e ∙ (ap (λ k. first_with (tool_word u) k all_tools) n ∙ found u)) in cc
+    sym (found t asks a)
+    ∙ (ap (λ w. first_with w (word_count t) asks all_tools) e ∙ (ap (λ k. first_with (tool_word u) k asks all_tools) n ∙ found u asks b)) in cc
+
+-- the tool of some words is the one that they ask for
+asked-by : (t : Tool) (inputs rest : List (List ℕ)) → length inputs ≡ input_count t
+    → IsAskedFor t (asks_counts (tool_word t ∷ inputs ++ (option_to_list (further_word t) ++ rest)))
+asked-by tool.Latency [] rest e = absurd (let wrong : ⊥ = omega (arith, e) in wrong)
+asked-by tool.Latency (a ∷ []) rest e = absurd (let wrong : ⊥ = omega (arith, e) in wrong)
+asked-by tool.Latency (a ∷ b ∷ []) rest e = refl
+asked-by tool.Latency (a ∷ b ∷ c ∷ more) rest e = absurd (let wrong : ⊥ = omega (arith, e) in wrong)
+asked-by tool.LowerCounts [] rest e = absurd (let wrong : ⊥ = omega (arith, e) in wrong)
+asked-by tool.LowerCounts (a ∷ []) rest e = absurd (let wrong : ⊥ = omega (arith, e) in wrong)
+asked-by tool.LowerCounts (a ∷ b ∷ []) rest e = refl
+asked-by tool.LowerCounts (a ∷ b ∷ c ∷ more) rest e = absurd (let wrong : ⊥ = omega (arith, e) in wrong)
+asked-by _ inputs rest e = tt
+
+pub asked-for : (u : ToolUse) → IsToolUse u → IsAskedFor u.tool (asks_counts (tool_words u))
+asked-for u is = asked-by u.tool u.inputs (counts_words u.counts ++ output_words u.output) is.counted
 
 -- the limits of counts are words of 32 bits
 abbrev IsWordLimit : Option Limit → Type 0
@@ -59,6 +87,7 @@ word-limit tool.Picture = omega arith
 word-limit tool.Check = omega arith
 word-limit tool.Bounds = tt
 word-limit tool.Latency = tt
+word-limit tool.LowerCounts = tt
 word-limit tool.Map = tt
 word-limit tool.Symbols = tt
 
@@ -161,6 +190,7 @@ counted tool.Picture = refl
 counted tool.Check = refl
 counted tool.Bounds = refl
 counted tool.Latency = refl
+counted tool.LowerCounts = refl
 counted tool.Map = refl
 counted tool.Symbols = refl
 
@@ -203,7 +233,8 @@ same-use u w e l m =
     let first : tool_word u.tool ≡ tool_word w.tool = cc in
     let behind : rest_words u.tool u ≡ rest_words w.tool w = cc in
     let many : word_count u.tool ≡ word_count w.tool = sym (words-counted u l) ∙ ap (λ (x : List (List ℕ)). length x) e ∙ words-counted w m in
-    let t : u.tool ≡ w.tool = same-tool u.tool w.tool first many in
+    let asked : IsAskedFor w.tool (asks_counts (tool_words u)) = subst (λ words. IsAskedFor w.tool (asks_counts words)) (sym e) (asked-for w m) in
+    let t : u.tool ≡ w.tool = same-tool u.tool w.tool (asks_counts (tool_words u)) (asked-for u l) asked first many in
     let rest : rest_words u.tool u ≡ rest_words u.tool w = behind ∙ ap (λ x. rest_words x w) (sym t) in
     let counted : length w.inputs ≡ input_count u.tool = m.counted ∙ ap input_count (sym t) in
     let counts = subst (λ x. AreCounts (counts_limit x) w.counts) (sym t) m.counts in
@@ -217,15 +248,16 @@ pub record Behind (words : List (List ℕ)) (t : Tool) (u : ToolUse) : Type 0 wh
   pub long : input_count t + 1 ≤ length words
   pub rest : drop (input_count t + 1) words ≡ option_to_list (further_word t) ++ (counts_words u.counts ++ output_words u.output)
 
--- the words are so many as tool t has, and the first one is its
+-- the words are so many as tool t has, the first one is its, and of two of one word it is the one that they ask for
 pub record Begins (words : List (List ℕ)) (t : Tool) : Type 0 where
   pub first : get_or words 0 [] ≡ tool_word t
   pub many : length words ≡ word_count t
+  pub asked : IsAskedFor t (asks_counts words)
 
 pub begins-as : (words : List (List ℕ)) (t : Tool) (u : ToolUse) → Begins words t → words ≡ tool_words u → IsToolUse u → u.tool ≡ t
 begins-as words t u b e is =
-    same-tool u.tool t (ap (λ w. get_or w 0 []) (sym e) ∙ b.first)
-    (sym (words-counted u is) ∙ ap (λ (w : List (List ℕ)). length w) (sym e) ∙ b.many)
+    same-tool u.tool t (asks_counts words) (subst (λ w. IsAskedFor u.tool (asks_counts w)) (sym e) (asked-for u is)) b.asked
+    (ap (λ w. get_or w 0 []) (sym e) ∙ b.first) (sym (words-counted u is) ∙ ap (λ (w : List (List ℕ)). length w) (sym e) ∙ b.many)
 
 pub behind-inputs : (words : List (List ℕ)) (t : Tool) (u : ToolUse) → Begins words t → words ≡ tool_words u → IsToolUse u → Behind words t u
 behind-inputs words t u b e is =
@@ -283,16 +315,24 @@ pub first-word : (words : List (String Global)) (word : String Global) → Some 
 first-word [] word e = absurd cc
 first-word (x ∷ xs) word e = let same : word ≡ x = cc in ap (λ (w : String Global). string_bytes w) (sym same)
 
+-- where no tool has the first word and as many words, the words are no tool's
+pub no-tool-named : (words : List (String Global)) (word : String Global) (named : List ℕ) → Some word ≡ slice_get words 0 → named ≡ string_bytes word
+    → ((tool : Tool) → named ≡ tool_word tool → length words ≡ word_count tool → ⊥) → NoTool (words_of words)
+no-tool-named words word named first is none used h =
+    none used.tool (is ∙ sym (first-word words word first) ∙ ap (λ w. get_or w 0 []) h.0)
+    (sym (length-map words (λ (w : String Global). string_bytes w)) ∙ ap (λ (w : List (List ℕ)). length w) h.0 ∙ words-counted used h.1)
+
 -- the words behind others
 pub behind-words : (words rest : List (String Global)) (n : ℕ) → rest ≡ drop n words → words_of rest ≡ drop n (words_of words)
 behind-words words rest n e = ap words_of e ∙ sym (drop-map (λ (w : String Global). string_bytes w) n words)
 
 -- how the words begin
 pub begin : (words : List (String Global)) (word : String Global) (t : Tool) → Some word ≡ slice_get words 0 → string_bytes word ≡ tool_word t
-    → length words ≡ word_count t → Begins (words_of words) t
-begin words word t first is many = record {
+    → length words ≡ word_count t → IsAskedFor t (asks_counts (words_of words)) → Begins (words_of words) t
+begin words word t first is many asked = record {
   first = first-word words word first ∙ is;
   many = length-map words (λ (w : String Global). string_bytes w) ∙ many;
+  asked = asked;
 }
 
 -- the words behind the files that it reads

@@ -1,5 +1,6 @@
 -- The commands that read files, judge what they hold, and end with one answer: a row for each in each of these tables.
-use Rattle.std.specs.Prelude.{ℕ, ◌≡◌, ◌≤◌, ◌+◌, List, [], ◌∷◌, ◌++◌, length, codes, decimal, Bool, true, false, Option, Some, None, option_to_list}
+use Rattle.std.specs.Prelude.{ℕ, ◌≡◌, ◌≤◌, ◌+◌, List, [], ◌∷◌, ◌++◌, length, get_or, codes, decimal, Bool, true, false, Option, Some, None, option_to_list}
+use Rattle.std.specs.Str.{bytes_eq}
 use Rattle.sloth_base.specs.Limits.{count_limit, picture_limit}
 use Rattle.command_line.specs.declared.counts.Counts.{Counts}
 use Rattle.command_line.specs.declared.counts.Counts.TheVariants as counts
@@ -20,6 +21,7 @@ tool_word tool.Picture = codes "picture"
 tool_word tool.Check = codes "check"
 tool_word tool.Bounds = codes "bounds"
 tool_word tool.Latency = codes "bounds"
+tool_word tool.LowerCounts = codes "bounds"
 tool_word tool.Map = codes "map"
 tool_word tool.Symbols = codes "symbols"
 
@@ -34,6 +36,7 @@ input_count tool.Picture = 2
 input_count tool.Check = 4
 input_count tool.Bounds = 2
 input_count tool.Latency = 2
+input_count tool.LowerCounts = 2
 input_count tool.Map = 2
 input_count tool.Symbols = 2
 
@@ -48,6 +51,7 @@ further_word tool.Picture = None
 further_word tool.Check = None
 further_word tool.Bounds = None
 further_word tool.Latency = Some (codes "latency")
+further_word tool.LowerCounts = Some (codes "counts")
 further_word tool.Map = None
 further_word tool.Symbols = None
 
@@ -62,6 +66,7 @@ counts_limit tool.Picture = Some (limit.Window count_limit picture_limit)
 counts_limit tool.Check = Some (limit.One count_limit)
 counts_limit tool.Bounds = None
 counts_limit tool.Latency = None
+counts_limit tool.LowerCounts = None
 counts_limit tool.Map = None
 counts_limit tool.Symbols = None
 
@@ -76,6 +81,7 @@ writes_file tool.Picture = true
 writes_file tool.Check = false
 writes_file tool.Bounds = false
 writes_file tool.Latency = false
+writes_file tool.LowerCounts = false
 writes_file tool.Map = false
 writes_file tool.Symbols = true
 
@@ -90,8 +96,23 @@ word_count tool.Picture = 6
 word_count tool.Check = 6
 word_count tool.Bounds = 3
 word_count tool.Latency = 4
+word_count tool.LowerCounts = 4
 word_count tool.Map = 3
 word_count tool.Symbols = 4
+
+-- ---- two tools of one word, and of as many words
+
+-- the fourth word is that of the second one
+abbrev pub asks_counts : (words : List (List ℕ)) → Bool
+asks_counts words = bytes_eq (get_or words 3 []) (codes "counts")
+
+-- a tool that is one of the two is the one that is asked for
+abbrev pub IsAskedFor : Tool → (asks : Bool) → Type 0
+IsAskedFor tool.Latency asks = asks ≡ false
+IsAskedFor tool.LowerCounts asks = asks ≡ true
+IsAskedFor _ asks = Unit {0}
+
+-- ---- uses
 
 -- a tool with the files that it reads, its counts and the file that it writes, if it has them
 pub record ToolUse : Type 0 where

@@ -1,7 +1,7 @@
 //! The commands that read files, judge what they hold, and end with one answer: a row of the table for each.
 ghost use Rattle.std.specs.Option.{option_map};
-ghost use Rattle.std.specs.Prelude.{◌≡◌, IfSome, IfNone};
-ghost use Rattle.command_line.specs.Tools.{tool_word, input_count, further_word, word_count, counts_limit, writes_file};
+ghost use Rattle.std.specs.Prelude.{◌≡◌, Bool, IfSome, IfNone};
+ghost use Rattle.command_line.specs.Tools.{IsAskedFor, tool_word, input_count, further_word, word_count, counts_limit, writes_file};
 ghost use Rattle.command_line.specs.declared.tool.Tool.{Tool as AnyTool};
 
 use crate::counts::{Counts, Limit};
@@ -29,6 +29,8 @@ pub enum Tool {
     /// `bounds OIL SRC latency`: the same, and within how many instructions of an arrival behind boot the task of highest priority is entered,
     /// the time of ticks on the way aside.
     Latency,
+    /// `bounds OIL SRC counts`: how many instructions of tasks of lower priority may stand in front of each task's entry.
+    LowerCounts,
     /// `map OIL SRC`: what the image takes of memory.
     Map,
     /// `symbols OIL SRC OUT`: the file of the image that debuggers read.
@@ -50,6 +52,7 @@ impl Tool {
             Tool::Check => 4,
             Tool::Bounds => 2,
             Tool::Latency => 2,
+            Tool::LowerCounts => 2,
             Tool::Map => 2,
             Tool::Symbols => 2,
         }
@@ -69,6 +72,7 @@ impl Tool {
             Tool::Check => None,
             Tool::Bounds => None,
             Tool::Latency => Some("latency"),
+            Tool::LowerCounts => Some("counts"),
             Tool::Map => None,
             Tool::Symbols => None,
         }
@@ -91,6 +95,7 @@ impl Tool {
             Tool::Check => Some(Limit::One(COUNT_LIMIT)),
             Tool::Bounds => None,
             Tool::Latency => None,
+            Tool::LowerCounts => None,
             Tool::Map => None,
             Tool::Symbols => None,
         }
@@ -110,6 +115,7 @@ impl Tool {
             Tool::Check => false,
             Tool::Bounds => false,
             Tool::Latency => false,
+            Tool::LowerCounts => false,
             Tool::Map => false,
             Tool::Symbols => true,
         }
@@ -126,8 +132,8 @@ pub struct ToolWords<'a> {
 }
 
 // The tool of three words that a word asks for.
-fn tool_of_three(word: &str) -> Option<Tool>
-    ensures some { IfSome result (λ tool. (word.now ≡ tool_word tool) × (3 ≡ word_count tool)) }
+fn tool_of_three(word: &str, asks: bool) -> Option<Tool>
+    ensures some { IfSome result (λ tool. (word.now ≡ tool_word tool) × (3 ≡ word_count tool) × IsAskedFor tool asks) }
     ensures none { IfNone result ((tool : AnyTool) → word.now ≡ tool_word tool → 3 ≡ word_count tool → ⊥) }
 {
     if word == "elf" {
@@ -146,8 +152,8 @@ fn tool_of_three(word: &str) -> Option<Tool>
 }
 
 // The tool of four words.
-fn tool_of_four(word: &str) -> Option<Tool>
-    ensures some { IfSome result (λ tool. (word.now ≡ tool_word tool) × (4 ≡ word_count tool)) }
+fn tool_of_four(word: &str, asks: bool) -> Option<Tool>
+    ensures some { IfSome result (λ tool. (word.now ≡ tool_word tool) × (4 ≡ word_count tool) × IsAskedFor tool asks) }
     ensures none { IfNone result ((tool : AnyTool) → word.now ≡ tool_word tool → 4 ≡ word_count tool → ⊥) }
 {
     if word == "infer" {
@@ -157,7 +163,11 @@ fn tool_of_four(word: &str) -> Option<Tool>
         return Some(Tool::At);
     }
     if word == "bounds" {
-        return Some(Tool::Latency);
+        return if asks {
+            Some(Tool::LowerCounts)
+        } else {
+            Some(Tool::Latency)
+        };
     }
     if word == "symbols" {
         return Some(Tool::Symbols);
@@ -166,8 +176,8 @@ fn tool_of_four(word: &str) -> Option<Tool>
 }
 
 // The tool of five words.
-fn tool_of_five(word: &str) -> Option<Tool>
-    ensures some { IfSome result (λ tool. (word.now ≡ tool_word tool) × (5 ≡ word_count tool)) }
+fn tool_of_five(word: &str, asks: bool) -> Option<Tool>
+    ensures some { IfSome result (λ tool. (word.now ≡ tool_word tool) × (5 ≡ word_count tool) × IsAskedFor tool asks) }
     ensures none { IfNone result ((tool : AnyTool) → word.now ≡ tool_word tool → 5 ≡ word_count tool → ⊥) }
 {
     if word == "wave" {
@@ -177,8 +187,8 @@ fn tool_of_five(word: &str) -> Option<Tool>
 }
 
 // The tool of six words.
-fn tool_of_six(word: &str) -> Option<Tool>
-    ensures some { IfSome result (λ tool. (word.now ≡ tool_word tool) × (6 ≡ word_count tool)) }
+fn tool_of_six(word: &str, asks: bool) -> Option<Tool>
+    ensures some { IfSome result (λ tool. (word.now ≡ tool_word tool) × (6 ≡ word_count tool) × IsAskedFor tool asks) }
     ensures none { IfNone result ((tool : AnyTool) → word.now ≡ tool_word tool → 6 ≡ word_count tool → ⊥) }
 {
     if word == "picture" {
@@ -190,16 +200,16 @@ fn tool_of_six(word: &str) -> Option<Tool>
     None
 }
 
-/// The tool that a word asks for, where there are so many words.
-pub fn tool_named(word: &str, count: usize) -> Option<Tool>
-    ensures some { IfSome result (λ tool. (word.now ≡ tool_word tool) × (count ≡ word_count tool)) }
+/// The tool that a word asks for, where there are so many words; of two tools of one word the one that is asked for.
+pub fn tool_named(word: &str, count: usize, asks: bool) -> Option<Tool>
+    ensures some { IfSome result (λ tool. (word.now ≡ tool_word tool) × (count ≡ word_count tool) × IsAskedFor tool asks) }
     ensures none { IfNone result ((tool : AnyTool) → word.now ≡ tool_word tool → count ≡ word_count tool → ⊥) }
 {
     match count {
-        3 => tool_of_three(word),
-        4 => tool_of_four(word),
-        5 => tool_of_five(word),
-        6 => tool_of_six(word),
+        3 => tool_of_three(word, asks),
+        4 => tool_of_four(word, asks),
+        5 => tool_of_five(word, asks),
+        6 => tool_of_six(word, asks),
         _ => None,
     }
 }

@@ -4,7 +4,7 @@ ghost use Rattle.std.specs.Option.{option_map};
 ghost use Rattle.command_line.specs.declared.counts.Counts.{Counts as AnyCounts};
 ghost use Rattle.command_line.specs.declared.counts.Limit.TheVariants as limit;
 ghost use Rattle.command_line.specs.declared.counts.Window.{Window as AnyWindow};
-ghost use Rattle.command_line.specs.Tools.{BeginWith, IsWindow, IsOutput, output_words};
+ghost use Rattle.command_line.specs.Tools.{BeginWith, IsWindow, IsOutput, output_words, asks_counts};
 ghost use Rattle.command_line.specs.Command.{IsCommand, NoTool, Uses, words_of};
 ghost use Rattle.command_line.specs.Words.{use_of};
 
@@ -41,6 +41,16 @@ fn behind_further<'a>(further: Option<&str>, words: &'a [String]) -> Option<&'a 
         Some(words_behind(words, 1))
     } else {
         None
+    }
+}
+
+// Whether the counts of lower tasks are asked for, by a word that begins as those of their latency do.
+fn asks_counts(words: &[String]) -> bool
+    ensures { result ≡ asks_counts (words_of words.now) }
+{
+    match words.get(3) {
+        Some(word) => word.as_str() == "counts",
+        None => false,
     }
 }
 
@@ -128,7 +138,7 @@ pub fn tool_command(words: &[String]) -> Option<ToolWords<'_>>
     ensures some { IfSome result (λ t. IsCommand (words_of words.now) (Uses (use_of t))) }
     ensures none { IfNone result (NoTool (words_of words.now)) }
 {
-    let tool = tool_named(words.first()?, words.len())?;
+    let tool = tool_named(words.first()?, words.len(), asks_counts(words))?;
     let behind = tool.input_count() + 1;
     if words.len() < behind {
         return None;

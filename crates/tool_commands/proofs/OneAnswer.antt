@@ -15,7 +15,7 @@ use Rattle.tool_commands.specs.Answers.{IsAnswer, OneAnswer, input, reads_image}
 use Rattle.tool_answers.specs.declared.answer.ToolAnswer.{ToolAnswer}
 use Rattle.tool_answers.specs.declared.answer.ToolAnswer.TheVariants as answer
 use Rattle.tool_commands.proofs.AtAnswers.{at-one, at-image}
-use Rattle.tool_commands.proofs.BoundsAnswers.{BoundsSays, LatencySays, one_bounds, one_latency}
+use Rattle.tool_commands.proofs.BoundsAnswers.{BoundsSays, LatencySays, LowerCountsSays, one_bounds, one_latency, one_lower_counts}
 use Rattle.tool_commands.proofs.CheckAnswers.{one_check}
 use Rattle.tool_commands.proofs.ElfAnswers.{Wrote, elf-one, elf-view, unelf-one}
 use Rattle.tool_commands.proofs.InferAnswers.{infer-one}
@@ -40,6 +40,8 @@ one_answer tool.Bounds counts names inputs a b d p q =
     let oil = input inputs 0 in let src = input inputs 1 in one_source oil src (BoundsSays oil src) (one_bounds oil src) a b p q
 one_answer tool.Latency counts names inputs a b d p q =
     let oil = input inputs 0 in let src = input inputs 1 in one_source oil src (LatencySays oil src) (one_latency oil src) a b p q
+one_answer tool.LowerCounts counts names inputs a b d p q =
+    let oil = input inputs 0 in let src = input inputs 1 in one_source oil src (LowerCountsSays oil src) (one_lower_counts oil src) a b p q
 one_answer tool.Map counts names inputs a b d p q =
     let oil = input inputs 0 in let src = input inputs 1 in one_source oil src (MapSays oil src) (one_map oil src) a b p q
 one_answer tool.Symbols counts names inputs a b d p q = absurd (false≢true d)
@@ -55,6 +57,7 @@ reads-one tool.Picture h = omega arith
 reads-one tool.Check h = omega arith
 reads-one tool.Bounds h = omega arith
 reads-one tool.Latency h = omega arith
+reads-one tool.LowerCounts h = omega arith
 reads-one tool.Map h = omega arith
 reads-one tool.Symbols h = omega arith
 
@@ -71,6 +74,7 @@ no-image tool.Picture counts names inputs fault h = (refl, h)
 no-image tool.Check counts names inputs fault h = absurd h
 no-image tool.Bounds counts names inputs fault h = absurd h
 no-image tool.Latency counts names inputs fault h = absurd h
+no-image tool.LowerCounts counts names inputs fault h = absurd h
 no-image tool.Map counts names inputs fault h = absurd h
 no-image tool.Symbols counts names inputs fault h = absurd h
 
@@ -98,5 +102,6 @@ image-or-fault tool.Picture counts names inputs a reads h =
 image-or-fault tool.Check counts names inputs a reads h = absurd (false≢true reads)
 image-or-fault tool.Bounds counts names inputs a reads h = absurd (false≢true reads)
 image-or-fault tool.Latency counts names inputs a reads h = absurd (false≢true reads)
+image-or-fault tool.LowerCounts counts names inputs a reads h = absurd (false≢true reads)
 image-or-fault tool.Map counts names inputs a reads h = absurd (false≢true reads)
 image-or-fault tool.Symbols counts names inputs a reads h = absurd (false≢true reads)

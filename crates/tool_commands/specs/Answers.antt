@@ -4,7 +4,7 @@ use Rattle.command_line.specs.Tools.{number_of, window_of}
 use Rattle.command_line.specs.declared.counts.Counts.{Counts}
 use Rattle.command_line.specs.declared.tool.Tool.{Tool}
 use Rattle.command_line.specs.declared.tool.Tool.TheVariants as tool
-use Rattle.tool_commands.specs.BoundsAnswers.{IsBoundsAnswer, IsLatencyAnswer}
+use Rattle.tool_commands.specs.BoundsAnswers.{IsBoundsAnswer, IsLatencyAnswer, IsLowerCountsAnswer}
 use Rattle.tool_answers.specs.CheckAnswers.{IsCheckAnswer}
 use Rattle.tool_commands.specs.ElfAnswers.{IsElfAnswer, IsUnelfAnswer}
 use Rattle.tool_commands.specs.InferAnswers.{IsInferAnswer}
@@ -31,6 +31,7 @@ IsAnswer tool.Check counts names inputs answer =
     IsCheckAnswer (input inputs 0) (input inputs 1) (input inputs 2) (input inputs 3) (number_of counts) answer
 IsAnswer tool.Bounds counts names inputs answer = IsBoundsAnswer (input inputs 0) (input inputs 1) answer
 IsAnswer tool.Latency counts names inputs answer = IsLatencyAnswer (input inputs 0) (input inputs 1) answer
+IsAnswer tool.LowerCounts counts names inputs answer = IsLowerCountsAnswer (input inputs 0) (input inputs 1) answer
 IsAnswer tool.Map counts names inputs answer = IsMapAnswer (input inputs 0) (input inputs 1) answer
 IsAnswer tool.Symbols counts names inputs answer = IsSymbolsAnswer (input inputs 0) (input inputs 1) (input names 1) answer
 
@@ -45,6 +46,7 @@ reads_image tool.Picture = true
 reads_image tool.Check = false
 reads_image tool.Bounds = false
 reads_image tool.Latency = false
+reads_image tool.LowerCounts = false
 reads_image tool.Map = false
 reads_image tool.Symbols = false
 
@@ -59,6 +61,7 @@ is_determined tool.Picture = true
 is_determined tool.Check = true
 is_determined tool.Bounds = true
 is_determined tool.Latency = true
+is_determined tool.LowerCounts = true
 is_determined tool.Map = true
 is_determined tool.Symbols = false
 

@@ -1,4 +1,4 @@
--- The answers of tools that print what two texts, a configuration and its task code, mean: `bounds`, with and without `latency`, and `map`.
+-- The answers of tools that print what two texts, a configuration and its task code, mean: `bounds`, alone and with `latency` or `counts`, and `map`.
 use Rattle.std.specs.Prelude.{ℕ, ◌≡◌, List, []}
 use Rattle.sloth_source.specs.Texts.{FirstRefusal}
 use Rattle.tool_answers.specs.declared.answer.ToolAnswer.{ToolAnswer}

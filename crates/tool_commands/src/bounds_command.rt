@@ -1,10 +1,11 @@
-//! The command `bounds`, and `bounds` with `latency`.
+//! The command `bounds`, and `bounds` with `latency` or `counts`.
 ghost use Rattle.std.specs.Prelude.{◌≤◌, IfOk, length};
 ghost use Rattle.sloth_base.specs.Limits.{file_limit};
-ghost use Rattle.tool_commands.specs.BoundsAnswers.{IsBoundsAnswer, IsLatencyAnswer};
+ghost use Rattle.tool_commands.specs.BoundsAnswers.{IsBoundsAnswer, IsLatencyAnswer, IsLowerCountsAnswer};
 
 use bounds_text::bounds_text;
 use bounds_text::latency::latency_lines;
+use bounds_text::lower_counts::lower_count_lines;
 use sloth_base::memory::NoMemory;
 use sloth_base::refusal::BuildError;
 use std::alloc::Global;
@@ -31,6 +32,19 @@ pub fn latency(alloc: Global, oil: &[u8], src: &[u8]) -> Result<ToolAnswer, NoMe
     ensures { IfOk result (λ answer. IsLatencyAnswer oil.now src.now answer) }
 {
     match latency_lines(alloc, oil, src) {
+        Ok(text) => Ok(told(alloc, text)),
+        Err(BuildError::Refused(refusal)) => Ok(ToolAnswer::Refused(refusal)),
+        Err(BuildError::Memory) => Err(NoMemory),
+    }
+}
+
+/// How many counts of lower tasks may stand between each task's becoming Ready and its entry; or the first refusal.
+pub fn lower_counts(alloc: Global, oil: &[u8], src: &[u8]) -> Result<ToolAnswer, NoMemory>
+    requires oil { length oil.now ≤ file_limit }
+    requires src { length src.now ≤ file_limit }
+    ensures { IfOk result (λ answer. IsLowerCountsAnswer oil.now src.now answer) }
+{
+    match lower_count_lines(alloc, oil, src) {
         Ok(text) => Ok(told(alloc, text)),
         Err(BuildError::Refused(refusal)) => Ok(ToolAnswer::Refused(refusal)),
         Err(BuildError::Memory) => Err(NoMemory),

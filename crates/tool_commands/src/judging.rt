@@ -6,7 +6,7 @@ ghost use Rattle.command_line.specs.Tools.{input_count, counts_limit, AreCounts}
 ghost use Rattle.tool_commands.specs.Answers.{IsAnswer, input};
 
 use crate::at_command::at;
-use crate::bounds_command::{bounds, latency};
+use crate::bounds_command::{bounds, latency, lower_counts};
 use crate::elf_commands::{elf, unelf};
 use crate::infer_command::infer;
 use crate::map_command::map;
@@ -75,6 +75,7 @@ pub fn judge(
         ),
         Tool::Bounds => bounds(alloc, inputs[0].items(), inputs[1].items()),
         Tool::Latency => latency(alloc, inputs[0].items(), inputs[1].items()),
+        Tool::LowerCounts => lower_counts(alloc, inputs[0].items(), inputs[1].items()),
         Tool::Map => map(alloc, inputs[0].items(), inputs[1].items()),
         Tool::Symbols => symbols(
             alloc,

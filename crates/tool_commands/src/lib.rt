@@ -1,5 +1,5 @@
 //! The commands that read files, judge what they hold, and end with one answer: `elf`, `unelf`, `infer`, `check`, `at`, `wave`, `picture`, `bounds`
-//! without and with `latency`, `map`, `symbols`.
+//! alone and with `latency` or `counts`, `map`, `symbols`.
 //!
 //! The files have exactly the answer that one table of all such commands says, and have one at most (`judge`, `one_answer`), but for `symbols`: its
 //! file is one for each image (`symbol_build`). The table:

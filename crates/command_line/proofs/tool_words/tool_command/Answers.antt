@@ -4,16 +4,22 @@ use Rattle.std.specs.Option.{option_map}
 use Rattle.command_line.specs.declared.counts.Counts.{Counts}
 use Rattle.command_line.specs.declared.counts.Limit.{Limit}
 use Rattle.command_line.specs.Command.{NoTool, words_of}
-use Rattle.command_line.specs.Tools.{input_count, further_word, counts_limit, writes_file, counts_words, output_words, AreCounts, IsOutput}
-use Rattle.command_line.proofs.ToolWords.{begin, words-behind, is-tool, if-none, without-further, without-counts, without-output}
+use Rattle.command_line.specs.Tools.{IsAskedFor, input_count, further_word, counts_limit, writes_file, counts_words, output_words, AreCounts, IsOutput}
+use Rattle.command_line.proofs.ToolWords.{begin, no-tool-named, words-behind, is-tool, if-none, without-further, without-counts, without-output}
 use Rattle.command_line.proofs.tool_words.tool_command.Goals as goal
+
+pub returns-in_err-tool-clause-none : goal.returns-in_err-tool-clause-none
+returns-in_err-tool-clause-none c =
+    if-none c.from_residual-in_err-tool.result (NoTool (words_of c.args.words.now))
+    (no-tool-named c.args.words.now c.in_ok-first.field-0.now c.deref.result.now c.in_ok-first.ensures.value c.deref.ensures c.in_err-tool.ensures.none)
 
 pub returns-in_err-rest-clause-none : goal.returns-in_err-rest-clause-none
 returns-in_err-rest-clause-none c =
     let words = words_of c.args.words.now in
     let t = c.in_ok-tool.tool in
     let told = c.in_ok-tool.ensures.some in
-    let begins = begin c.args.words.now c.in_ok-first.field-0.now t c.in_ok-first.ensures.value (sym c.deref.ensures ∙ told.0) told.1 in
+    let begins = begin c.args.words.now c.in_ok-first.field-0.now t c.in_ok-first.ensures.value (sym c.deref.ensures ∙ told.0) told.1
+    (subst (λ a. IsAskedFor t a) c.asks_counts.ensures told.2) in
     let front = words-behind c.args.words.now c.words_behind.result.now t c.input_count-behind.result c.input_count-behind.ensures c.words_behind.ensures in
     if-none c.from_residual-in_err-rest.result (NoTool words)
     (without-further words t begins
@@ -24,7 +30,8 @@ returns-in_err-counted-clause-none c =
     let words = words_of c.args.words.now in
     let t = c.in_ok-tool.tool in
     let told = c.in_ok-tool.ensures.some in
-    let begins = begin c.args.words.now c.in_ok-first.field-0.now t c.in_ok-first.ensures.value (sym c.deref.ensures ∙ told.0) told.1 in
+    let begins = begin c.args.words.now c.in_ok-first.field-0.now t c.in_ok-first.ensures.value (sym c.deref.ensures ∙ told.0) told.1
+    (subst (λ a. IsAskedFor t a) c.asks_counts.ensures told.2) in
     let front = words-behind c.args.words.now c.words_behind.result.now t c.input_count-behind.result c.input_count-behind.ensures c.words_behind.ensures in
     let behind : List (List ℕ) = words_of c.in_ok-rest.rest.now in
     let further : drop (input_count t + 1) words ≡ option_to_list (further_word t) ++ behind =
@@ -38,7 +45,8 @@ returns-in_err-output-clause-none c =
     let words = words_of c.args.words.now in
     let t = c.in_ok-tool.tool in
     let told = c.in_ok-tool.ensures.some in
-    let begins = begin c.args.words.now c.in_ok-first.field-0.now t c.in_ok-first.ensures.value (sym c.deref.ensures ∙ told.0) told.1 in
+    let begins = begin c.args.words.now c.in_ok-first.field-0.now t c.in_ok-first.ensures.value (sym c.deref.ensures ∙ told.0) told.1
+    (subst (λ a. IsAskedFor t a) c.asks_counts.ensures told.2) in
     let front = words-behind c.args.words.now c.words_behind.result.now t c.input_count-behind.result c.input_count-behind.ensures c.words_behind.ensures in
     let behind : List (List ℕ) = words_of c.in_ok-rest.rest.now in
     let further : drop (input_count t + 1) words ≡ option_to_list (further_word t) ++ behind =
@@ -56,7 +64,8 @@ returns-clause-some c =
     let words = words_of c.args.words.now in
     let t = c.in_ok-tool.tool in
     let told = c.in_ok-tool.ensures.some in
-    let begins = begin c.args.words.now c.in_ok-first.field-0.now t c.in_ok-first.ensures.value (sym c.deref.ensures ∙ told.0) told.1 in
+    let begins = begin c.args.words.now c.in_ok-first.field-0.now t c.in_ok-first.ensures.value (sym c.deref.ensures ∙ told.0) told.1
+    (subst (λ a. IsAskedFor t a) c.asks_counts.ensures told.2) in
     let front = words-behind c.args.words.now c.words_behind.result.now t c.input_count-behind.result c.input_count-behind.ensures c.words_behind.ensures in
     let behind : List (List ℕ) = words_of c.in_ok-rest.rest.now in
     let further : drop (input_count t + 1) words ≡ option_to_list (further_word t) ++ behind =

@@ -1,0 +1,145 @@
+-- Texts have one list of lines of the counts of lower tasks at most.
+use Rattle.std.proofs.Common.{◌≡◌, ◌∙◌, ℕ, ◌+◌, ◌<◌, ◌≤◌, List, [], length, get_or, refl, sym, ap, subst, arith, ⊎_elim}
+use Rattle.std.specs.Prelude.{max}
+use Rattle.std.proofs.lemmas.Bool.{cases_lt}
+use Rattle.std.proofs.lemmas.List.{ext_get_or}
+use Rattle.sloth_base.specs.declared.config.Config.{Config}
+use Rattle.sloth_base.specs.declared.app.App.{App}
+use Rattle.sloth_base.specs.Limits.{count_limit}
+use Rattle.sloth_base.specs.Named.{function, item_of}
+use Rattle.sloth_source.proofs.Unique.{one_meaning}
+use Rattle.osek_scheduler.specs.Apart.{static_priority}
+use Rattle.raised_sections.specs.Sections.{IsLower}
+use Rattle.bound_rules.specs.declared.weights.BodyWeights.{BodyWeights}
+use Rattle.bound_rules.specs.Weights.{no_weights}
+use Rattle.expansion_parts.specs.Long.{IsBranchTo}
+use Rattle.rv32_expand.proofs.Agreeing.{size_same}
+use Rattle.rv32_expand.proofs.Least.{least_is_one}
+use Rattle.event_weights.specs.Items.{length_of, AreLengths, going_counts, ending_counts}
+use Rattle.section_counts.specs.declared.sums.Sum.{Sum}
+use Rattle.section_counts.specs.declared.sums.Sum.TheVariants as sum
+use Rattle.section_counts.specs.Counts.{AreBodyCounts, AreCounts}
+use Rattle.section_counts.specs.Told.{IsGreatestSum, SomeIsAbove, ExceedsSum, IsToldSum, AreToldSums, AreAllSums, no_sum}
+use Rattle.bounds_text.specs.LowerCounts.{count_lines, heaviest, HasLowerCounts, OneLowerCountsText}
+
+-- ---- weights
+
+module _ (app : App) (one other : List (List ℕ)) (a : AreLengths app one) (b : AreLengths app other) where
+  -- an item has one length
+  same-length : (f i : ℕ) → f < length app.funcs → i < length (function app f).items → length_of one f i ≡ length_of other f i
+  same-length f i known inside =
+      let p = a.each f known in
+      let q = b.each f known in
+      p.are_lengths.each i inside
+      ∙ size_same app (function app f) p.long q.long (λ k t g. least_is_one app (function app f) p.long q.long p.is_least q.is_least k t g) i inside
+      ∙ sym (q.are_lengths.each i inside)
+
+  -- and so a body has one list of weights
+  same-body : (f : ℕ) → f < length app.funcs → (x y : BodyWeights) → AreBodyCounts one f (function app f) x → AreBodyCounts other f (function app f) y → x ≡ y
+  same-body f known x y p q =
+      let going : x.going ≡ y.going =
+      ext_get_or 0 x.going y.going (p.going_count ∙ sym q.going_count)
+      (λ i h.
+      let count = p.going_count in
+      let inside : i < length (function app f).items = omega (arith, h, count) in
+      p.going i inside ∙ ap (λ n. n + going_counts (item_of (function app f) i).op) (same-length f i known inside) ∙ sym (q.going i inside)) in
+      let ending : x.ending ≡ y.ending =
+      ext_get_or 0 x.ending y.ending (p.ending_count ∙ sym q.ending_count)
+      (λ i h.
+      let count = p.ending_count in
+      let inside : i < length (function app f).items = omega (arith, h, count) in
+      p.ending i inside ∙ ap (λ n. n + ending_counts (function app f) (item_of (function app f) i).op) (same-length f i known inside) ∙ sym (q.ending i inside)) in
+      let G : List ℕ → BodyWeights = λ l. record { going = l; ending = x.ending } in
+      let E : List ℕ → BodyWeights = λ l. record { going = y.going; ending = l } in
+      ap G going ∙ ap E ending
+
+same-weights : (app : App) (one other : List BodyWeights) → AreCounts app one → AreCounts app other → one ≡ other
+same-weights app one other a b =
+    ext_get_or no_weights one other (a.2.count ∙ sym b.2.count)
+    (λ f h.
+    let count = a.2.count in
+    let known : f < length app.funcs = omega (arith, h, count) in
+    same-body app a.0 b.0 a.1 b.1 f known (get_or one f no_weights) (get_or other f no_weights) (a.2.each f known) (b.2.each f known))
+
+-- ---- sums
+
+module _ (config : Config) (app : App) (weights : List BodyWeights) (h k : ℕ) where
+  one-sum : (n m : ℕ) → IsGreatestSum config app weights h k n → IsGreatestSum config app weights h k m → n ≡ m
+  one-sum n m a b =
+      let le = a.none_above b.positions b.is_section in
+      let more = b.none_above a.positions a.is_section in
+      let p = a.sum in
+      let q = b.sum in
+      omega (arith, le, more, p, q)
+
+  told-or-above : (n : ℕ) → IsGreatestSum config app weights h k n → n ≤ count_limit → ExceedsSum config app weights h k count_limit → ⊥
+  told-or-above n a le e =
+      let s = e.some_above in
+      let more = a.none_above s.0 s.1 in
+      let large = s.2 in
+      absurd (let wrong : ⊥ = omega (arith, le, more, large) in wrong)
+
+  told-or-none : (n : ℕ) → IsGreatestSum config app weights h k n → ((m : ℕ) → SomeIsAbove config app weights h k m) → ⊥
+  told-or-none n a e =
+      let s = e n in
+      let le = a.none_above s.0 s.1 in
+      let more = s.2 in
+      absurd (let wrong : ⊥ = omega (arith, le, more) in wrong)
+
+  above-or-none : ExceedsSum config app weights h k count_limit → ((m : ℕ) → SomeIsAbove config app weights h k m) → ⊥
+  above-or-none a e =
+      let s = e a.most in
+      let le = a.none_above s.0 s.1 in
+      let more = s.2 in
+      absurd (let wrong : ⊥ = omega (arith, le, more) in wrong)
+
+  same-sum : (one other : Sum) → IsToldSum config app weights h k one → IsToldSum config app weights h k other → one ≡ other
+  same-sum (sum.Counts n) (sum.Counts m) a b = ap sum.Counts (one-sum n m a.0 b.0)
+  same-sum (sum.Counts n) sum.Huge a b = absurd (told-or-above n a.0 a.1 b)
+  same-sum (sum.Counts n) sum.Endless a b = absurd (told-or-none n a.0 b)
+  same-sum sum.Huge (sum.Counts m) a b = absurd (told-or-above m b.0 b.1 a)
+  same-sum sum.Huge sum.Huge a b = refl
+  same-sum sum.Huge sum.Endless a b = absurd (above-or-none a b)
+  same-sum sum.Endless (sum.Counts m) a b = absurd (told-or-none m b.0 a)
+  same-sum sum.Endless sum.Huge a b = absurd (above-or-none b a)
+  same-sum sum.Endless sum.Endless a b = refl
+
+module _ (config : Config) (app : App) (weights : List BodyWeights) where
+  same-row : (h : ℕ) (one other : List Sum) → AreToldSums config app weights h one → AreToldSums config app weights h other → one ≡ other
+  same-row h one other a b =
+      ext_get_or no_sum one other (a.count ∙ sym b.count)
+      (λ k lt.
+      let count = a.count in
+      let known : k < length config.tasks = omega (arith, lt, count) in
+      ⊎_elim
+      (λ low. same-sum config app weights h k (get_or one k no_sum) (get_or other k no_sum) (a.lower k (known, low)) (b.lower k (known, low)))
+      (λ high.
+      let none : ¬ (IsLower config h k) = λ l. let low = l.1 in absurd (let wrong : ⊥ = omega (arith, low, high) in wrong) in
+      a.others k known none ∙ sym (b.others k known none))
+      (cases_lt (static_priority config k) (static_priority config h)))
+
+  same-table : (one other : List (List Sum)) → AreAllSums config app weights one → AreAllSums config app weights other → one ≡ other
+  same-table one other a b =
+      ext_get_or [] one other (a.count ∙ sym b.count)
+      (λ h lt.
+      let count = a.count in
+      let known : h < length config.tasks = omega (arith, lt, count) in
+      same-row h (get_or one h []) (get_or other h []) (a.each h known) (b.each h known))
+
+-- ---- lines
+
+same-counts : (config : Config) (app : App) (one other : List ℕ) → HasLowerCounts config app one → HasLowerCounts config app other → one ≡ other
+same-counts config app one other a b =
+    let weights = same-weights app a.weights b.weights a.are_counts b.are_counts in
+    let table =
+    same-table config app a.weights a.table b.table a.are_sums (subst (λ w. AreAllSums config app w b.table) (sym weights) b.are_sums) in
+    a.lines
+    ∙ ap (λ w. count_lines config.tasks (heaviest w) a.table (length config.tasks)) weights
+    ∙ ap (λ t. count_lines config.tasks (heaviest b.weights) t (length config.tasks)) table ∙ sym b.lines
+
+pub one_lower_counts_text : OneLowerCountsText
+one_lower_counts_text oil src one other a b =
+    let same = one_meaning oil src a.config b.config a.app b.app a.accepted b.accepted in
+    let there : HasLowerCounts a.config a.app other =
+    subst (λ c. HasLowerCounts c a.app other) (sym same.0) (subst (λ x. HasLowerCounts b.config x other) (sym same.1) b.has_counts) in
+    same-counts a.config a.app one other a.has_counts there

@@ -1,0 +1,210 @@
+//! The lines of the command `bounds OIL SRC counts`.
+ghost use Rattle.std.specs.Prelude.{◌≡◌, ◌<◌, length, IfOk, IfErr};
+ghost use Rattle.code_rules.specs.WellFormed.{WellFormed};
+ghost use Rattle.call_graph.specs.Ranks.{RanksOf};
+ghost use Rattle.section_sizes.specs.Weights.{AreWeights};
+ghost use Rattle.section_counts.specs.Counts.{AreCounts};
+ghost use Rattle.sloth_source.specs.Texts.{SourcesErrorIs};
+ghost use Rattle.bounds_text.specs.LowerCounts.{greater, greatest_of, heaviest_in, heaviest, behind_item, lower_counts, sum_text, count_line, count_lines, HasLowerCounts, IsLowerCountsText};
+
+use crate::read_checked;
+use block_bounds::bound::has_lower;
+use bound_rules::weights::{BodyWeights, weights_at};
+use call_graph::ranking::Ranks;
+use itoa::Buffer;
+use section_counts::{Sum, count_weights, section_sums};
+use sloth_base::app::App;
+use sloth_base::config::{Config, TaskDecl};
+use sloth_base::limits::COUNT_LIMIT;
+use sloth_base::list::List;
+use sloth_base::memory::NoMemory;
+use sloth_base::refusal::BuildError;
+use std::alloc::Global;
+use task_verify::verified::Verified;
+
+// The greater of two sums.
+fn greater(one: Sum, other: Sum) -> Sum
+    ensures { result ≡ greater one other }
+{
+    match one {
+        Sum::Endless => Sum::Endless,
+        Sum::Huge => match other {
+            Sum::Endless => Sum::Endless,
+            Sum::Huge | Sum::Counts(_) => Sum::Huge,
+        },
+        Sum::Counts(counts) => match other {
+            Sum::Endless => Sum::Endless,
+            Sum::Huge => Sum::Huge,
+            Sum::Counts(more) => Sum::Counts(more.max(counts)),
+        },
+    }
+}
+
+// The greatest of these sums.
+fn greatest_of(sums: &[Sum]) -> Sum
+    ensures { result ≡ greatest_of sums.now (length sums.now) }
+{
+    let mut greatest = Sum::Counts(0);
+    for task in 0..sums.len() {
+        greatest = greater(greatest, sums[task]);
+    }
+    greatest
+}
+
+// The heaviest of these items of a body.
+fn heaviest_in(going: &[u32]) -> u32
+    ensures { result ≡ heaviest_in going.now }
+{
+    let mut most = 0;
+    for item in 0..going.len() {
+        most = going[item].max(most);
+    }
+    most
+}
+
+// That of all bodies.
+fn heaviest(weights: &[BodyWeights]) -> u32
+    ensures { result ≡ heaviest weights.now }
+{
+    let mut most = 0;
+    for body in 0..weights.len() {
+        most = heaviest_in(weights_at(weights, body).going.items()).max(most);
+    }
+    most
+}
+
+// A sum behind an item of this weight.
+fn behind_item(weight: u32, sum: Sum) -> Sum
+    ensures { result ≡ behind_item weight sum }
+{
+    match sum {
+        Sum::Counts(counts) => {
+            if weight <= COUNT_LIMIT && counts <= COUNT_LIMIT - weight {
+                Sum::Counts(weight + counts)
+            } else {
+                Sum::Huge
+            }
+        }
+        Sum::Huge => Sum::Huge,
+        Sum::Endless => Sum::Endless,
+    }
+}
+
+// How many counts of lower tasks may stand in front of a task's entry.
+fn lower_counts(tasks: &[TaskDecl], weight: u32, sums: &[Sum], task: usize) -> Sum
+    requires { task < length tasks.now }
+    ensures { result ≡ lower_counts tasks.now weight sums.now task }
+{
+    if has_lower(tasks, tasks[task].priority) {
+        behind_item(weight, greatest_of(sums))
+    } else {
+        Sum::Counts(0)
+    }
+}
+
+// A sum in counts.
+fn sum_text(alloc: Global, sum: Sum) -> Result<Vec<u8>, NoMemory>
+    ensures { IfOk result (λ text. text.items ≡ sum_text sum) }
+{
+    match sum {
+        Sum::Counts(counts) => {
+            let mut buffer = Buffer::new();
+            let mut text = Vec::from_slice(alloc, b" ")?;
+            text.extend_from_slice(buffer.format(counts).as_bytes())?;
+            Ok(text)
+        }
+        Sum::Huge => Ok(Vec::from_slice(alloc, b" huge")?),
+        Sum::Endless => Ok(Vec::from_slice(alloc, b" endless")?),
+    }
+}
+
+// The line of a task.
+#[tactic(auto, unfolding(crate::specs::LowerCounts::count_line))]
+fn count_line(
+    alloc: Global,
+    tasks: &[TaskDecl],
+    weight: u32,
+    table: &[List<Sum>],
+    task: usize,
+) -> Result<Vec<u8>, NoMemory>
+    requires there { task < length tasks.now }
+    requires same { length table.now ≡ length tasks.now }
+    ensures { IfOk result (λ line. line.items ≡ count_line tasks.now weight table.now task) }
+{
+    let counts = lower_counts(tasks, weight, table[task].items(), task);
+    let mut line = Vec::from_slice(alloc, tasks[task].name.bytes())?;
+    line.extend_from_slice(sum_text(alloc, counts)?.as_slice())?;
+    line.extend_from_slice(b"\n")?;
+    Ok(line)
+}
+
+// The lines of all tasks.
+fn count_lines(
+    alloc: Global,
+    tasks: &[TaskDecl],
+    weight: u32,
+    table: &[List<Sum>],
+) -> Result<Vec<u8>, NoMemory>
+    requires { length table.now ≡ length tasks.now }
+    ensures { IfOk result (λ text. text.items ≡ count_lines tasks.now weight table.now (length tasks.now)) }
+{
+    let mut text = Vec::new(alloc);
+    for task in 0..tasks.len() {
+        text.extend_from_slice(count_line(alloc, tasks, weight, table, task)?.as_slice())?;
+    }
+    Ok(text)
+}
+
+// The lines by the counts of all items.
+fn lines_by(
+    alloc: Global,
+    config: &Config,
+    app: &App,
+    ranks: &Ranks,
+    weights: &[BodyWeights],
+) -> Result<Vec<u8>, NoMemory>
+    requires well_formed { WellFormed config.now app.now }
+    requires belong { RanksOf app.now ranks.now }
+    requires are { AreCounts app.now weights.now }
+    requires fit { AreWeights app.now weights.now }
+    ensures { IfOk result (λ text. HasLowerCounts config.now app.now text.items) }
+{
+    let table = section_sums(alloc, config, app, ranks, weights)?;
+    count_lines(alloc, config.tasks.items(), heaviest(weights), &table)
+}
+
+// The lines of task code.
+fn checked_counts(
+    alloc: Global,
+    config: &Config,
+    app: &App,
+    ranks: &Ranks,
+) -> Result<Vec<u8>, NoMemory>
+    requires well_formed { WellFormed config.now app.now }
+    requires belong { RanksOf app.now ranks.now }
+    ensures { IfOk result (λ text. HasLowerCounts config.now app.now text.items) }
+{
+    let weights = count_weights(alloc, app)?;
+    lines_by(alloc, config, app, ranks, &weights)
+}
+
+// The same, where the error is that of texts.
+fn counts_of_code(alloc: Global, verified: &Verified, ranks: &Ranks) -> Result<Vec<u8>, BuildError>
+    requires { RanksOf verified.now.app ranks.now }
+    ensures text { IfOk result (λ text. HasLowerCounts verified.now.config verified.now.app text.items) }
+    ensures memory { IfErr result (λ error. error ≡ BuildError.Memory) }
+{
+    Ok(checked_counts(alloc, verified.config(), verified.app(), ranks)?)
+}
+
+/// The lines of the counts of lower tasks that may stand in front of each task's entry, of texts of at most 4,294,967,294 bytes; or the first refusal
+/// (O1 to O15, A1 to A7, V1 to V12). Without a task there is no line.
+pub fn lower_count_lines(alloc: Global, oil: &[u8], src: &[u8]) -> Result<Vec<u8>, BuildError>
+    requires oil { length oil.now < 4294967295 }
+    requires src { length src.now < 4294967295 }
+    ensures text { IfOk result (λ text. IsLowerCountsText oil.now src.now text.items) }
+    ensures refused { IfErr result (SourcesErrorIs oil.now src.now) }
+{
+    let checked = read_checked(alloc, oil, src)?;
+    counts_of_code(alloc, &checked.verified, &checked.ranks)
+}
