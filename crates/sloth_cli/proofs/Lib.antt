@@ -1,1 +1,2 @@
 pub mod Shipped
+pub mod AnyAnswer

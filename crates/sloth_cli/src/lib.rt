@@ -7,8 +7,8 @@
 //!
 //! Clause `answers`: each answer has its cause, the sink took exactly the text that is due, and the files hold what it says. The other clauses say
 //! which answer comes: `usage`, `overwrite`, `refused` and `complete`; of image files `fault`, `no_image`, `exec_refused`, `executed` and `listed`; of `sample`
-//! `sample_refused` and `sampled`; of tools `tool` and `tool_done`. All of them are defined in `sloth_commands` (`Top`, `ImageAnswers`,
-//! `SampleAnswers`, `ToolAnswers`).
+//! `sample_refused` and `sampled`; of tools `tool` and `tool_done`. Each line of a tool's text is one put (`lines`). All of them are defined in
+//! `sloth_commands` (`Top`, `ImageAnswers`, `SampleAnswers`, `ToolAnswers`, `ToolLines`).
 #![tactic(auto)]
 
 pub mod program;

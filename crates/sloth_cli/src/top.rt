@@ -8,6 +8,7 @@ ghost use Rattle.sloth_commands.specs.Top.{world, IsTopAnswer, HasUsageAnswer, H
 ghost use Rattle.sloth_commands.specs.ImageAnswers.{HasImageFaultAnswer, HasNoImageAnswer, HasExecRefusedAnswer, HasExecutedAnswer, HasListedAnswer};
 ghost use Rattle.sloth_commands.specs.SampleAnswers.{HasSampleRefusedAnswer, HasSampledAnswer};
 ghost use Rattle.sloth_commands.specs.ToolAnswers.{HasToolAnswer, HasToolDoneAnswer};
+ghost use Rattle.sloth_commands.specs.ToolLines.{HasToolLines, IsToldByLine, IsUntoldByLine};
 ghost use Rattle.sloth_commands.specs.Failures.{IsCommandFailure, IsPerformed};
 ghost use Rattle.tool_answers.specs.declared.status.Status.TheVariants.{Done as DoneStatus};
 
@@ -63,6 +64,12 @@ fn obey<F: Store, S: Sink>(
     ensures err { IfErr result (λ failure. IsCommandFailure failure
         (world (call_files (F.seen files.old) (F.seen files.new)) (S.seen out.old)) (world (F.seen files.new) (S.seen out.new)) (command_of c.now)) }
     ensures reads { AreFirstDelivered (F.seen files.old) (F.seen files.new) (inputs_of (command_of c.now)) }
+    ensures lines { IfOk result (λ status. IsToldByLine status
+        (world (call_files (F.seen files.old) (F.seen files.new)) (S.seen out.old)) (world (F.seen files.new) (S.seen out.new))
+        (S.pieces out.old) (S.pieces out.new) (command_of c.now)) }
+    ensures untold { IfErr result (λ failure. IsUntoldByLine failure
+        (world (call_files (F.seen files.old) (F.seen files.new)) (S.seen out.old)) (world (F.seen files.new) (S.seen out.new))
+        (S.pieces out.old) (S.pieces out.new) (command_of c.now)) }
 {
     match c {
         CommandWords::Build(c) => {
@@ -85,6 +92,9 @@ fn answer<F: Store, S: Sink>(alloc: Global, words: &[String], files: &mut F, out
         (world (call_files (F.seen files.old) (F.seen files.new)) (S.seen out.old)) (world (F.seen files.new) (S.seen out.new)) result }
     ensures passed { result ≢ Status.WriteFault → S.passed_on out.new }
     ensures reads { ReadsInOrder (words_of words.now) (F.seen files.old) (F.seen files.new) }
+    ensures lines { HasToolLines (words_of words.now)
+        (world (call_files (F.seen files.old) (F.seen files.new)) (S.seen out.old)) (world (F.seen files.new) (S.seen out.new))
+        (S.pieces out.old) (S.pieces out.new) result }
 {
     let Some(c) = command(words) else {
         return say(out, b"usage\n", Status::Usage);
@@ -135,6 +145,9 @@ pub fn sloth_top<F: Store, S: Sink>(
         (world (call_files (F.seen files.old) (F.seen files.new)) (S.seen out.old)) (world (F.seen files.new) (S.seen out.new)) result }
     ensures passed { result ≢ Status.WriteFault → S.passed_on out.new }
     ensures reads { ReadsInOrder (words_of words.now) (F.seen files.old) (F.seen files.new) }
+    ensures lines { HasToolLines (words_of words.now)
+        (world (call_files (F.seen files.old) (F.seen files.new)) (S.seen out.old)) (world (F.seen files.new) (S.seen out.new))
+        (S.pieces out.old) (S.pieces out.new) result }
 {
     answer(alloc, words, files, out)
 }

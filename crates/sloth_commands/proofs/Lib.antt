@@ -14,7 +14,7 @@ mod InMemoryCalls
 mod ToolCauses
 pub mod ToolComplete
 mod ToolReads
-mod LinePuts
+pub mod ToolLines
 pub mod Declared
 pub mod Registers
 pub mod TaskDeclared

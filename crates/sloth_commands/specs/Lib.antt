@@ -9,5 +9,6 @@ pub mod InMemory
 pub mod FileInputs
 pub mod ToolFiles
 pub mod ToolAnswers
+pub mod ToolLines
 pub mod CheckedRuns
 pub mod PrintedMap

@@ -1,7 +1,8 @@
 //! How a command ends: its last line, and what the sink holds back.
-ghost use Rattle.std.specs.Prelude.{◌≢◌};
+ghost use Rattle.std.specs.Prelude.{◌≡◌, ◌≢◌, ◌++◌, [], ◌∷◌};
 ghost use Rattle.sloth_commands.specs.Top.{IsPutAnswer, IsCloseAnswer};
 ghost use Rattle.sloth_commands.specs.Failures.{IsFailureEnd};
+ghost use Rattle.sloth_commands.specs.ToolLines.{last_lines};
 
 use crate::failure::Failure;
 use command_line::last_line::{no_image_line, refusal_line};
@@ -12,6 +13,7 @@ use tool_answers::Status;
 pub fn close<S: Sink>(out: &mut S, status: Status) -> Status
     ensures ends { IsCloseAnswer status result (S.seen out.old) (S.seen out.new) }
     ensures passed { result ≢ Status.WriteFault → S.passed_on out.new }
+    ensures pieces { S.pieces out.new ≡ S.pieces out.old }
 {
     match out.flush() {
         Ok(()) => status,
@@ -23,6 +25,7 @@ pub fn close<S: Sink>(out: &mut S, status: Status) -> Status
 pub fn say<S: Sink>(out: &mut S, line: &[u8], status: Status) -> Status
     ensures ends { IsPutAnswer status result (S.seen out.old) (S.seen out.new) line.now }
     ensures passed { result ≢ Status.WriteFault → S.passed_on out.new }
+    ensures pieces { S.pieces out.new ≡ S.pieces out.old ++ line.now ∷ [] }
 {
     match out.put(line) {
         Ok(()) => close(out, status),
@@ -34,6 +37,7 @@ pub fn say<S: Sink>(out: &mut S, line: &[u8], status: Status) -> Status
 pub fn finish<S: Sink>(out: &mut S, failure: Failure) -> Status
     ensures ends { IsFailureEnd failure result (S.seen out.old) (S.seen out.new) }
     ensures passed { result ≢ Status.WriteFault → S.passed_on out.new }
+    ensures pieces { S.pieces out.new ≡ S.pieces out.old ++ last_lines failure }
 {
     match failure {
         Failure::Refused(refusal) => say(out, refusal_line(refusal).bytes(), Status::Refused),

@@ -9,7 +9,8 @@
 //! but the file that the answer names.
 //!
 //! What the top call promises: `specs/Top`; of commands on image files `specs/ImageFiles`, `specs/ImageAnswers`; of `sample` `specs/Samples`,
-//! `specs/SampleAnswers`; of tools `specs/ToolFiles`, `specs/ToolAnswers`; of calls in memory `specs/InMemory`; of the map `specs/PrintedMap`.
+//! `specs/SampleAnswers`; of tools `specs/ToolFiles`, `specs/ToolAnswers`,
+//! `specs/ToolLines`; of calls in memory `specs/InMemory`; of the map `specs/PrintedMap`.
 //!
 //! Two laws stand here since the promise cites them. The text of each run of a sound image with its items in place is that of a run of the abstract
 //! scheduler with the arrivals in time, so `check` answers yes (`runs_are_checked`, `specs/CheckedRuns`). And the OIL text of a generated application

@@ -1,6 +1,6 @@
 //! The commands that are tools: they read files, come to one answer, write one file at most, and put the answer's text.
-ghost use Rattle.std.specs.Prelude.{◌≡◌, ◌<◌, ◌≤◌, IfOk, IfErr, OnOk, OnErr, length};
-ghost use Rattle.sloth_io.specs.Sink.{output_with, GainsPart};
+ghost use Rattle.std.specs.Prelude.{◌≡◌, ◌++◌, IfOk, IfErr, OnOk};
+ghost use Rattle.sloth_io.specs.Lines.{lines_in};
 ghost use Rattle.sloth_io.specs.Store.{KeepsFiles, AreDelivered, call_files};
 ghost use Rattle.command_line.specs.Command.{Uses, words_of};
 ghost use Rattle.command_line.specs.Tools.{IsToolUse};
@@ -12,6 +12,7 @@ ghost use Rattle.sloth_commands.specs.CommandFiles.{inputs_of, AreFirstDelivered
 ghost use Rattle.sloth_commands.specs.ToolFiles.{AreToolInputs, input_deliveries};
 ghost use Rattle.sloth_commands.specs.Top.{world, IsTextTaken, FilesAfter, IsOutputWritten};
 ghost use Rattle.sloth_commands.specs.Failures.{IsReadFailure, IsOutputFailure, IsLineFailure, IsTellFailure, IsCommandFailure, IsPerformed};
+ghost use Rattle.sloth_commands.specs.ToolLines.{IsAnswerUntold, IsToldByLine, IsUntoldByLine};
 
 use crate::failure::Failure;
 use crate::inputs::fetch;
@@ -19,7 +20,8 @@ use command_line::last_line::{no_image_line, refusal_line};
 use command_line::tool::ToolWords;
 use line_words::stop_line::stopped_line;
 use sloth_base::list::List;
-use sloth_io::sink::{Sink, SinkFault};
+use sloth_io::lines::put_lines;
+use sloth_io::sink::Sink;
 use sloth_io::store::Store;
 use std::alloc::Global;
 use tool_answers::Status;
@@ -59,32 +61,7 @@ fn write_output<F: Store>(files: &mut F, words: &ToolWords, bytes: &[u8]) -> Res
     files.write(name, bytes).map_err(|_| Failure::WriteFile)
 }
 
-// The number of bytes of the first line of a text, with its LF.
-fn line_length(text: &[u8]) -> usize
-    ensures within { result ≤ length text.now }
-    ensures some { 0 < length text.now → 0 < result }
-{
-    match text.iter().position(|byte| *byte == b'\n') {
-        Some(at) => at + 1,
-        None => text.len(),
-    }
-}
-
-// Puts a text, a line at a time.
-fn put_text<S: Sink>(out: &mut S, text: &[u8]) -> Result<(), SinkFault>
-    ensures ok { OnOk result (S.seen out.new ≡ output_with (S.seen out.old) text.now) }
-    ensures err { OnErr result (GainsPart (S.seen out.old) (S.seen out.new) text.now) }
-{
-    let mut rest = text;
-    while !rest.is_empty() {
-        let (line, behind) = rest.split_at(line_length(rest));
-        out.put(line)?;
-        rest = behind;
-    }
-    Ok(())
-}
-
-// Writes the file of a tool that was done, if it writes one, and puts its text.
+// Writes the file of a tool that was done, if it writes one, and puts its text, a line at a time.
 fn tell_outcome<F: Store, S: Sink>(
     files: &mut F,
     out: &mut S,
@@ -96,9 +73,12 @@ fn tell_outcome<F: Store, S: Sink>(
     ensures err { IfErr result (λ failure. IsTellFailure failure (tool_answer.Done outcome.now)
         (world (F.seen files.old) (S.seen out.old)) (world (F.seen files.new) (S.seen out.new)) (use_of words.now).output) }
     ensures reads { (F.seen files.new).reads ≡ (F.seen files.old).reads }
+    ensures lines { OnOk result (S.pieces out.new ≡ S.pieces out.old ++ lines_in outcome.now.text) }
+    ensures untold { IfErr result (λ failure.
+        IsAnswerUntold failure (S.seen out.old) (S.seen out.new) (S.pieces out.old) (S.pieces out.new) outcome.now.text) }
 {
     write_output(files, words, outcome.file.items())?;
-    put_text(out, outcome.text.items())?;
+    put_lines(out, outcome.text.items())?;
     Ok(())
 }
 
@@ -106,8 +86,11 @@ fn tell_outcome<F: Store, S: Sink>(
 fn tell_line<S: Sink>(out: &mut S, line: &[u8]) -> Result<(), Failure>
     ensures ok { OnOk result (IsTextTaken (S.seen out.old) (S.seen out.new) line.now) }
     ensures err { IfErr result (λ failure. IsLineFailure failure (S.seen out.old) (S.seen out.new) line.now) }
+    ensures lines { OnOk result (S.pieces out.new ≡ S.pieces out.old ++ lines_in line.now) }
+    ensures untold { IfErr result (λ failure.
+        IsAnswerUntold failure (S.seen out.old) (S.seen out.new) (S.pieces out.old) (S.pieces out.new) line.now) }
 {
-    out.put(line)?;
+    put_lines(out, line)?;
     Ok(())
 }
 
@@ -123,6 +106,9 @@ fn tell_text<F: Store, S: Sink>(
     ensures err { IfErr result (λ failure. IsTellFailure failure answer.now
         (world (F.seen files.old) (S.seen out.old)) (world (F.seen files.new) (S.seen out.new)) (use_of words.now).output) }
     ensures reads { (F.seen files.new).reads ≡ (F.seen files.old).reads }
+    ensures lines { OnOk result (S.pieces out.new ≡ S.pieces out.old ++ lines_in (tool_text answer.now)) }
+    ensures untold { IfErr result (λ failure.
+        IsAnswerUntold failure (S.seen out.old) (S.seen out.new) (S.pieces out.old) (S.pieces out.new) (tool_text answer.now)) }
 {
     match answer {
         ToolAnswer::Done(outcome) => tell_outcome(files, out, words, outcome),
@@ -148,6 +134,9 @@ fn tell<F: Store, S: Sink>(
     ensures err { IfErr result (λ failure. IsTellFailure failure answer.now
         (world (F.seen files.old) (S.seen out.old)) (world (F.seen files.new) (S.seen out.new)) (use_of words.now).output) }
     ensures reads { (F.seen files.new).reads ≡ (F.seen files.old).reads }
+    ensures lines { OnOk result (S.pieces out.new ≡ S.pieces out.old ++ lines_in (tool_text answer.now)) }
+    ensures untold { IfErr result (λ failure.
+        IsAnswerUntold failure (S.seen out.old) (S.seen out.new) (S.pieces out.old) (S.pieces out.new) (tool_text answer.now)) }
 {
     tell_text(files, out, words, answer)?;
     Ok(answer.status())
@@ -166,6 +155,12 @@ pub fn use_tool<F: Store, S: Sink>(
     ensures err { IfErr result (λ failure. IsCommandFailure failure
         (world (call_files (F.seen files.old) (F.seen files.new)) (S.seen out.old)) (world (F.seen files.new) (S.seen out.new)) (Uses (use_of words.now))) }
     ensures reads { AreFirstDelivered (F.seen files.old) (F.seen files.new) (inputs_of (Uses (use_of words.now))) }
+    ensures lines { IfOk result (λ status. IsToldByLine status
+        (world (call_files (F.seen files.old) (F.seen files.new)) (S.seen out.old)) (world (F.seen files.new) (S.seen out.new))
+        (S.pieces out.old) (S.pieces out.new) (Uses (use_of words.now))) }
+    ensures untold { IfErr result (λ failure. IsUntoldByLine failure
+        (world (call_files (F.seen files.old) (F.seen files.new)) (S.seen out.old)) (world (F.seen files.new) (S.seen out.new))
+        (S.pieces out.old) (S.pieces out.new) (Uses (use_of words.now))) }
 {
     let inputs = fetch_all(alloc, files, words.inputs)?;
     let answer = judge(

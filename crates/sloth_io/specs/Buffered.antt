@@ -1,5 +1,5 @@
 -- A writer behind a buffer: what was put is written in its order, but for what is held back.
-use Rattle.std.specs.Prelude.{◌≡◌, ◌≢◌, ℕ, List, [], ◌++◌, length, take, flat_map, Option, Bool, true, false}
+use Rattle.std.specs.Prelude.{◌≡◌, ◌≢◌, ℕ, List, [], ◌++◌, length, take, map, flat_map, Option, Bool, true, false}
 use Rattle.std.specs.Io.KnownBytes.{Appends}
 
 -- what is due was written, but for its last bytes, which are held back
@@ -13,6 +13,10 @@ BreaksOff old new due = (written rest : List ℕ) × (due ≡ written ++ rest) �
 -- the bytes of a history, one after the other
 abbrev pub bytes_in : List (List ℕ × List ℕ) → List ℕ
 bytes_in items = flat_map (λ (item : List ℕ × List ℕ). item.1) items
+
+-- the pieces of bytes of a history
+abbrev pub pieces_in : List (List ℕ × List ℕ) → List (List ℕ)
+pieces_in items = map (λ (item : List ℕ × List ℕ). item.1) items
 
 -- these are the first bytes of a text
 abbrev pub IsPrefix : List ℕ → List ℕ → Type 0

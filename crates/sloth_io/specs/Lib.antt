@@ -1,5 +1,6 @@
 pub mod Counts
 pub mod Sink
+pub mod Lines
 pub mod Store
 pub mod MemSink
 pub mod MemStore

@@ -2,6 +2,7 @@
 use Rattle.std.specs.Prelude.{◌≡◌, ◌+◌, ◌==◌, ◌&&◌, ℕ, List, [], ◌∷◌, ◌++◌, length, take}
 use Rattle.std.specs.Prelude.{Option, Some, None, Bool, if◌then◌else◌, nat_le, is_none}
 use Rattle.sloth_io.specs.Counts.{next_call}
+use Rattle.sloth_io.specs.Buffered.{pieces_in}
 use Rattle.sloth_io.specs.Sink.{Output}
 use Rattle.sloth_io.specs.declared.mem_sink.MemSink.{MemSink}
 
@@ -13,6 +14,10 @@ taken_by sink = sink.buffer.bytes.items
 abbrev pub told_space : ℕ → List (ℕ × ℕ) → Option ℕ
 told_space space [] = Some space
 told_space space (_ ∷ _) = None
+
+-- the pieces that were put, in their order, those of calls that failed too
+abbrev pub put_pieces : MemSink → List (List ℕ)
+put_pieces sink = pieces_in sink.pieces.items
 
 -- what the sink shows
 abbrev pub shown_output : MemSink → Output
@@ -56,6 +61,7 @@ pub record IsFreshSink (space : ℕ) (fails : List (ℕ × ℕ)) (sink : MemSink
   pub failing_calls : sink.fails.items ≡ fails
   pub calls : sink.calls ≡ 0
   pub faults : sink.faults ≡ 0
+  pub pieces : put_pieces sink ≡ []
 
 -- one call was counted
 pub record IsSinkCalled (old new : MemSink) : Type 0 where

@@ -1,12 +1,16 @@
 -- Standard output.
 use Rattle.std.specs.Prelude.{◌≡◌, ℕ, List, [], ◌++◌, None, Some, false}
-use Rattle.sloth_io.specs.Buffered.{bytes_in}
+use Rattle.sloth_io.specs.Buffered.{bytes_in, pieces_in}
 use Rattle.sloth_io.specs.Sink.{Output}
 use Rattle.sloth_io.specs.declared.out_sink.OutSink.{OutSink}
 
 -- the bytes that were put, in their order, those of calls that failed too
 abbrev pub accepted_bytes : {P : Type 0} → OutSink P → List ℕ
 accepted_bytes sink = bytes_in sink.accepted.items
+
+-- the same, piece by piece
+abbrev pub put_pieces : {P : Type 0} → OutSink P → List (List ℕ)
+put_pieces sink = pieces_in sink.accepted.items
 
 -- the bytes that the system took of those that it was given, in their order
 abbrev pub given_bytes : {P : Type 0} → OutSink P → List ℕ

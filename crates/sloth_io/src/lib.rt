@@ -11,6 +11,9 @@
 //! A write of a plain file goes to a new file beside it, which takes its name and mode when all is written and closed (`replaced_files`): until then,
 //! and where anything fails, the old bytes stand there. This is tested, not proved.
 //!
+//! Any sink tells the pieces that were put. A text is put a line at a time by `put_lines`: each line is one put, and where one fails, the sink took the
+//! lines before it whole (`lines`, `specs/Lines`).
+//!
 //! Standard output stands behind a buffer of 8,192 bytes. Of any writer that tells its contents: what was put is what was written with what is held
 //! back behind it; `flush` writes that; a failure leaves some first part written, not all, and nothing held back (`buffered`, `specs/Buffered`). A
 //! write of nothing is a fault. The buffers: bytes in a space that is reserved, which takes all of a piece or none, bytes that are held back, and
@@ -23,6 +26,7 @@ pub mod buffer;
 pub mod buffered;
 pub mod file_store;
 mod history;
+pub mod lines;
 pub mod mem_sink;
 pub mod mem_store;
 pub mod out_sink;

@@ -1,22 +1,24 @@
 //! A sink in memory.
-ghost use Rattle.std.specs.Prelude.{◌≡◌, ◌≤◌, IfOk, OnErr, OnOk, is_ok, is_err};
+ghost use Rattle.std.specs.Prelude.{◌≡◌, ◌≤◌, ◌++◌, [], ◌∷◌, IfOk, OnErr, OnOk, is_ok, is_err};
 ghost use Rattle.sloth_io.specs.Counts.{count_after_call};
-ghost use Rattle.sloth_io.specs.MemSink.{IsSinkCalled, IsFreshSink, limit_of, shown_output, taken_by, bytes_after_call, is_next_piece_taken};
+ghost use Rattle.sloth_io.specs.MemSink.{IsSinkCalled, IsFreshSink, limit_of, shown_output, taken_by, put_pieces, bytes_after_call, is_next_piece_taken};
 ghost use Rattle.sloth_io.specs.Sink.{output_with, GainsPart};
 
 use crate::buffer::Buffer;
+use crate::history::History;
 use crate::sink::{Sink, SinkFault};
 use sloth_base::memory::NoMemory;
 use std::alloc::Global;
 
 /// A buffer whose space is reserved as it is made, and the calls that are to fail: each by its number, counted from 1,
-/// with the bytes that it takes before it fails. It tells the bytes taken.
+/// with the bytes that it takes before it fails. It tells the bytes taken, and the pieces that were put.
 #[derive(Drop)]
 pub struct MemSink {
     buffer: Buffer,
     fails: Vec<(u32, u32)>,
     calls: u32,
     faults: u64,
+    pieces: History,
 }
 
 // How many bytes the call of this number takes before it fails.
@@ -43,6 +45,7 @@ impl MemSink {
             fails,
             calls: 0,
             faults: 0,
+            pieces: History::new(),
         })
     }
 
@@ -60,10 +63,13 @@ impl Sink for MemSink {
     // It holds nothing back.
     ghost passed_on = { λ _. Unit {0} };
 
+    ghost pieces = { λ sink. put_pieces sink };
+
     fn put(&mut self, piece: &[u8]) -> Result<(), SinkFault>
         ensures ok { OnOk result (shown_output self.new ≡ output_with (shown_output self.old) piece.now) }
         ensures err { OnErr result (GainsPart (shown_output self.old) (shown_output self.new) piece.now) }
         ensures never_falls { self.old.faults ≤ self.new.faults }
+        ensures pieces { put_pieces self.new ≡ put_pieces self.old ++ piece.now ∷ [] }
 
         // It fails exactly at the calls that are to fail, and where there is no space for the piece.
         ensures done { is_ok result ≡ is_next_piece_taken self.old piece.now }
@@ -71,6 +77,7 @@ impl Sink for MemSink {
         ensures faults { self.new.faults ≡ count_after_call (is_err result) self.old.faults }
         ensures called { IsSinkCalled self.old self.new }
     {
+        self.pieces = self.pieces.and(b"", piece);
         self.calls = self.calls.saturating_add(1);
         let limit = limit_at(self.fails.as_slice(), self.calls);
         let part = match limit {

@@ -1,5 +1,5 @@
 //! Standard output.
-ghost use Rattle.std.specs.Prelude.{◌≡◌, ◌≤◌, ◌++◌, [], Some, false, OnErr, OnOk};
+ghost use Rattle.std.specs.Prelude.{◌≡◌, ◌≤◌, ◌++◌, [], ◌∷◌, Some, false, OnErr, OnOk};
 ghost use Rattle.sloth_io.specs.Buffered.{bytes_in, IsPrefix, IsGivenBut, IsLostBehind};
 
 use crate::buffered::Buffered;
@@ -66,16 +66,19 @@ impl<'a, P: Print> Write for Printer<'a, P> {
 
 impl<'a, P: Print> Sink for OutSink<'a, P> {
     ghost use Rattle.sloth_io.specs.Sink.{output_with, GainsPart, FailsToPassOn};
-    ghost use Rattle.sloth_io.specs.OutSink.{shown_output, held_back_bytes, EndsWith, IsPassedOn};
+    ghost use Rattle.sloth_io.specs.OutSink.{shown_output, put_pieces, held_back_bytes, EndsWith, IsPassedOn};
 
     ghost seen = { λ sink. shown_output sink };
 
     ghost passed_on = { λ sink. IsPassedOn sink };
 
+    ghost pieces = { λ sink. put_pieces sink };
+
     fn put(&mut self, piece: &[u8]) -> Result<(), SinkFault>
         ensures ok { OnOk result (shown_output self.new ≡ output_with (shown_output self.old) piece.now) }
         ensures err { OnErr result (GainsPart (shown_output self.old) (shown_output self.new) piece.now) }
         ensures never_falls { (shown_output self.old).faults ≤ (shown_output self.new).faults }
+        ensures pieces { put_pieces self.new ≡ put_pieces self.old ++ piece.now ∷ [] }
 
         // What is not written of the bytes taken is held back.
         ensures kept { OnOk result (EndsWith (held_back_bytes self.old ++ piece.now) (held_back_bytes self.new)) }
@@ -98,6 +101,7 @@ impl<'a, P: Print> Sink for OutSink<'a, P> {
         ensures passed { OnOk result (IsPassedOn self.new) }
         ensures err { OnErr result (FailsToPassOn (shown_output self.old) (shown_output self.new)) }
         ensures never_falls { (shown_output self.old).faults ≤ (shown_output self.new).faults }
+        ensures pieces { put_pieces self.new ≡ put_pieces self.old }
         ensures backlog { held_back_bytes self.new ≡ [] }
     {
         let outcome = if self.broken {

@@ -6,6 +6,7 @@ use Rattle.sloth_commands.proofs.InOrder.{none-delivered}
 use Rattle.sloth_commands.proofs.Causes.{finished, answered, usage-ends}
 use Rattle.sloth_commands.proofs.Complete.{usage-of-put}
 use Rattle.sloth_commands.proofs.OwnOutput.{own-by-words}
+use Rattle.sloth_commands.proofs.ToolLines.{closed-lines, finished-lines, usage-lines}
 use Rattle.sloth_cli.proofs.top.answer.Goals as goal
 
 pub returns-in_default-clause-answers : goal.returns-in_default-clause-answers
@@ -54,3 +55,23 @@ returns-in-Err-clause-reads g c = inl (command_of c.in-Some.c, c.in-Some.ensures
 
 pub returns-in-Ok-clause-reads : goal.returns-in-Ok-clause-reads
 returns-in-Ok-clause-reads g c = inl (command_of c.in-Some.c, c.in-Some.ensures.some, c.obey.ensures.reads)
+
+pub returns-in_default-clause-lines : goal.returns-in_default-clause-lines
+returns-in_default-clause-lines g c =
+    usage-lines _ (g.F.Store.seen c.args.files.now) _ _ _ _ c.say.result (inl c.in_default.ensures.none) c.say.ensures.ends c.say.ensures.pieces
+
+pub returns-then-overwrites_input-clause-lines : goal.returns-then-overwrites_input-clause-lines
+returns-then-overwrites_input-clause-lines g c =
+    usage-lines _ (g.F.Store.seen c.args.files.now) _ _ _ _ c.say-then-overwrites_input.result
+    (inr (command_of c.in-Some.c, c.in-Some.ensures.some, c.overwrites_input.ensures.yes c.if-overwrites_input.true)) c.say-then-overwrites_input.ensures.ends
+    c.say-then-overwrites_input.ensures.pieces
+
+pub returns-in-Err-clause-lines : goal.returns-in-Err-clause-lines
+returns-in-Err-clause-lines g c =
+    finished-lines c.in-Err.failure _ (command_of c.in-Some.c) _ _ _ _ _ _ _ c.finish.result c.in-Some.ensures.some c.in-Err.ensures.err c.in-Err.ensures.untold
+    c.finish.ensures.ends c.finish.ensures.pieces
+
+pub returns-in-Ok-clause-lines : goal.returns-in-Ok-clause-lines
+returns-in-Ok-clause-lines g c =
+    closed-lines c.in-Ok.status _ (command_of c.in-Some.c) _ _ _ _ _ _ _ c.close.result c.in-Some.ensures.some c.in-Ok.ensures.lines c.close.ensures.ends
+    c.close.ensures.pieces

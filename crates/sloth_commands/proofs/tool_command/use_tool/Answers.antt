@@ -11,6 +11,7 @@ use Rattle.sloth_commands.proofs.InOrder.{still-delivered}
 use Rattle.sloth_commands.proofs.Causes.{read-ends}
 use Rattle.sloth_commands.proofs.ToolCauses.{all-told, answer-of, tell-ends, tool-performed}
 use Rattle.sloth_commands.proofs.CallFiles.{stays-kept}
+use Rattle.sloth_commands.proofs.ToolLines.{both-err, four-told, read-untold, told, untold}
 use Rattle.sloth_commands.proofs.ToolReads.{all-short, as-many}
 use Rattle.sloth_commands.proofs.tool_command.use_tool.Goals as goal
 
@@ -61,3 +62,22 @@ pub returns-clause-reads : goal.returns-clause-reads
 returns-clause-reads g c =
     still-delivered (g.F.Store.seen c.args.files.now) (g.F.Store.seen c.fetch_all.new.files) (g.F.Store.seen c.tell.new.files)
     (inputs_of (Uses (use_of c.args.words.now))) c.tell.ensures.reads (c.in_ok-inputs.inputs.items, c.in_ok-inputs.ensures.delivered)
+
+pub returns-clause-lines : goal.returns-clause-lines
+returns-clause-lines g c =
+    let is = answer-of (g.F.Store.seen c.args.files.now) (g.F.Store.seen c.fetch_all.new.files) (use_of c.args.words.now) _ _ _ c.in_ok-inputs.ensures.ok c.in_ok-inputs.ensures.delivered c.as_slice.ensures.value c.in_ok-answer.ensures in
+    four-told c.tell.result _ _ _ _ _
+    (λ status is_status text after lines. told _ _ _ _ _ _ (use_of c.args.words.now) c.fetch_all.ensures.keeps c.tell.ensures.reads status c.in_ok-answer.answer is is_status text after lines)
+    c.tell.ensures.status c.tell.ensures.text c.tell.ensures.files c.tell.ensures.lines
+
+pub returns-clause-untold : goal.returns-clause-untold
+returns-clause-untold g c =
+    let is = answer-of (g.F.Store.seen c.args.files.now) (g.F.Store.seen c.fetch_all.new.files) (use_of c.args.words.now) _ _ _ c.in_ok-inputs.ensures.ok c.in_ok-inputs.ensures.delivered c.as_slice.ensures.value c.in_ok-answer.ensures in
+    both-err c.tell.result _ _ _
+    (λ failure h broken. untold _ _ _ _ _ _ (use_of c.args.words.now) c.fetch_all.ensures.keeps c.tell.ensures.reads failure c.in_ok-answer.answer is h broken)
+    c.tell.ensures.err c.tell.ensures.untold
+
+pub returns-in_err-inputs-clause-untold : goal.returns-in_err-inputs-clause-untold
+returns-in_err-inputs-clause-untold g c =
+    let failed = err_from_is_err_and c.from_residual.result c.from_residual.ensures.1 in
+    rw (failed.1, failed.2) (read-untold c.in_err-inputs.field-0.0 _ _ _ _ _ _ (use_of c.args.words.now) c.in_err-inputs.ensures.err)
