@@ -18,7 +18,7 @@ use Rattle.dwarf_sections.specs.Entries.{all_body_bytes, all_symbol_bytes, array
 use Rattle.dwarf_sections.specs.EntryBytes.{End, Entry, HasForms, Of, Reference, Word, entries_bytes, entry_bytes}
 use Rattle.dwarf_sections.specs.EntryTree.{HasBodyEntry, HasCodeEntries, HasKindIn, HasSymbolEntry, IsByteType, IsTypeOf, IsWordType}
 use Rattle.dwarf_sections.specs.Fields.{sized}
-use Rattle.dwarf_sections.specs.LineRows.{item_address, item_count}
+use Rattle.map_rows.specs.LineRows.{item_address, item_count}
 
 -- ---- the entries behind the types
 

@@ -8,7 +8,7 @@ use Rattle.sloth_base.specs.declared.places.Places.{Places}
 use Rattle.dwarf_sections.specs.Entries.{all_body_bytes, all_symbol_bytes, base_type, byte_name, info_section, place_behind, types_of, unit_bytes, unit_entry, unit_header, unit_names, unit_places, word_name}
 use Rattle.dwarf_sections.specs.EntryBytes.{entries_bytes, entry_bytes, value_bytes}
 use Rattle.dwarf_sections.specs.Fields.{sized}
-use Rattle.dwarf_sections.specs.LineRows.{item_address}
+use Rattle.map_rows.specs.LineRows.{item_address}
 use Rattle.dwarf_sections.specs.declared.types.Types.{Types}
 
 header : unit_header ≡ 4 ∷ 0 ∷ 0 ∷ 0 ∷ 0 ∷ 0 ∷ 4 ∷ []

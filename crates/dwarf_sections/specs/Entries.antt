@@ -10,7 +10,7 @@ use Rattle.sloth_base.specs.declared.places.Places.{Places}
 use Rattle.dwarf_sections.specs.Abbreviations.{array_kind, base_type_kind, body_kind, frame_kind, index_kind, label_kind, plain_body_kind, unit_kind, variable_kind}
 use Rattle.dwarf_sections.specs.EntryBytes.{Address, Byte, End, Entry, Location, Of, Offset, Present, Reference, Text, Value, Word, entries_bytes}
 use Rattle.dwarf_sections.specs.Fields.{sized}
-use Rattle.dwarf_sections.specs.LineRows.{item_address}
+use Rattle.map_rows.specs.LineRows.{item_address}
 use Rattle.dwarf_sections.specs.declared.types.Shape.{Shape}
 use Rattle.dwarf_sections.specs.declared.types.Shape.TheVariants as shape
 use Rattle.dwarf_sections.specs.declared.types.Types.{Types}

@@ -9,7 +9,7 @@ use Rattle.dwarf_sections.specs.Abbreviations.{Abbreviation, abbreviations, arra
 use Rattle.dwarf_sections.specs.Entries.{base_type, body_entry, byte_name, info_section, shape_of, unit_header, variable_entry, word_name}
 use Rattle.dwarf_sections.specs.EntryBytes.{End, Entry, HasForms, Of, Reference, Word, entries_bytes}
 use Rattle.dwarf_sections.specs.Fields.{sized}
-use Rattle.dwarf_sections.specs.LineRows.{item_address, item_count}
+use Rattle.map_rows.specs.LineRows.{item_address, item_count}
 use Rattle.dwarf_sections.specs.declared.types.Shape.{Shape}
 use Rattle.dwarf_sections.specs.declared.types.Shape.TheVariants as shape
 

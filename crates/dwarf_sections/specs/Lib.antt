@@ -6,5 +6,4 @@ pub mod EntryTree
 pub mod Fields
 pub mod FrameEntries
 pub mod LineMachine
-pub mod LineRows
 pub mod LineSection

@@ -4,13 +4,13 @@ ghost use Rattle.std.specs.List.{list_any};
 ghost use Rattle.sloth_base.specs.Limits.{item_limit};
 ghost use Rattle.dwarf_sections.specs.Entries.{all_body_bytes, body_entries, body_entry, end_entries, frame_entries, frame_type_entries, frame_variable_entry, has_below, inner_labels, label_entry, stands_before};
 ghost use Rattle.dwarf_sections.specs.EntryBytes.{entries_bytes, entry_bytes};
-ghost use Rattle.dwarf_sections.specs.LineRows.{item_count};
+ghost use Rattle.map_rows.specs.LineRows.{item_count};
 
 use crate::data::put_array;
 use crate::fields::{put_bytes, put_length, put_text};
-use crate::line_rows::item_address;
 use crate::types::Types;
 use image_file::number_fields::put_u32;
+use map_rows::line_rows::{body_end, item_address};
 use sloth_base::app::{Func, Label};
 use sloth_base::memory::NoMemory;
 use sloth_base::places::Places;
@@ -149,7 +149,7 @@ fn put_body(
 {
     let at = info.len();
     let low = item_address(places, end, number);
-    let high = item_address(places, end, number + func.items.items().len());
+    let high = body_end(places, end, number, func);
     put_frame_type(info, types, func.frame_words)?;
     put_body_alone(info, func, low, high)?;
     put_frame(info, at, func.frame_words)?;

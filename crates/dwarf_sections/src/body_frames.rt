@@ -2,11 +2,11 @@
 ghost use Rattle.std.specs.Prelude.{ℕ, ◌≡◌, ◌≤◌, ◌<◌, ◌+◌, ◌*◌, ◌++◌, ◌∷◌, [], All, IfOk, OnOk, cond, length, ltb};
 ghost use Rattle.sloth_base.specs.Limits.{frame_limit, item_limit};
 ghost use Rattle.sloth_base.specs.Named.{function};
-ghost use Rattle.dwarf_sections.specs.LineRows.{item_address};
+ghost use Rattle.map_rows.specs.LineRows.{item_address};
 ghost use Rattle.dwarf_sections.specs.BodyFrames.{advance_by, back_rule, body_rules, frame_at, inside, item_rules, items_rules, on_to, own_words, told_at};
 
 use crate::fields::{put_bytes, put_half, put_unsigned};
-use crate::line_rows::item_address;
+use map_rows::line_rows::item_address;
 use sloth_base::app::{App, Func, Op};
 use sloth_base::memory::NoMemory;
 use sloth_base::memory_map::WORD;

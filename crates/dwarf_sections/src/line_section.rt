@@ -1,13 +1,13 @@
 //! The section of source lines.
 ghost use Rattle.std.specs.Prelude.{◌≡◌, ◌≤◌, ◌++◌, IfOk, OnOk};
 ghost use Rattle.sloth_base.specs.Limits.{item_limit};
-ghost use Rattle.dwarf_sections.specs.LineRows.{item_count, line_rows};
+ghost use Rattle.map_rows.specs.LineRows.{item_count, line_rows};
 ghost use Rattle.dwarf_sections.specs.LineSection.{address_from, end_behind, first_row, further_rows, line_from, line_header, line_program, line_section, line_unit, row_behind};
 ghost use Rattle.dwarf_sections.specs.Fields.{sized};
 
 use crate::fields::{put_bytes, put_length, put_signed, put_text, put_unsigned, sized};
-use crate::line_rows::{LineRow, line_rows};
 use image_file::number_fields::{put_u16, put_u32};
+use map_rows::line_rows::{LineRow, line_rows};
 use sloth_base::app::App;
 use sloth_base::memory::NoMemory;
 use sloth_base::places::Places;
@@ -66,22 +66,21 @@ fn put_end(section: &mut Vec<u8>, address: u32, end: u32) -> Result<(), NoMemory
     put_bytes(section, &[0, 1, 1])
 }
 
-// Appends the rows behind one of this address and line, and the end of them all.
+// Appends the rows behind a first one, and the end of them all.
 fn put_further(
     section: &mut Vec<u8>,
-    mut address: u32,
-    mut line: u32,
+    first: LineRow,
     rows: &[LineRow],
     end: u32,
 ) -> Result<(), NoMemory>
-    ensures { OnOk result (section.new.items ≡ section.old.items ++ further_rows address line rows.now end) }
+    ensures { OnOk result (section.new.items ≡ section.old.items ++ further_rows first.address first.line rows.now end) }
 {
+    let mut last = first;
     for row in rows {
-        put_row(section, address, line, *row)?;
-        address = row.address;
-        line = row.line;
+        put_row(section, last.address, last.line, *row)?;
+        last.advance(*row);
     }
-    put_end(section, address, end)
+    put_end(section, last.address, end)
 }
 
 // Appends the program of rows.
@@ -93,7 +92,7 @@ fn put_program(section: &mut Vec<u8>, rows: &[LineRow], end: u32) -> Result<(), 
         return Ok(());
     };
     put_first(section, *first)?;
-    put_further(section, first.address, first.line, rest, end)
+    put_further(section, *first, rest, end)
 }
 
 // Appends the header behind its length.

@@ -4,3 +4,4 @@ pub mod PieceRows
 pub mod Totals
 pub mod Borders
 pub mod PieceNames
+pub mod LineRows

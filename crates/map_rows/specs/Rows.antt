@@ -53,6 +53,19 @@ starts_of config m =
     ++ numbered_starts kind.Service 0 m.places.blocks ++ numbered_starts kind.Code 0 (code_places m) ++ numbered_starts kind.Data 0 m.places.symbols
     ++ single_start kind.End (address_behind_data m - 4) ∷ [])
 
+-- the parts of that: pieces whose addresses are the same in each image, and the idle loop; routines; functions, which begin here, and symbols
+abbrev pub first_starts : Map → List Start
+first_starts m =
+    single_start kind.Words memory_base ∷ single_start kind.Vectors vectors_base ∷ single_start kind.Boot boot_base ∷ single_start kind.Idle m.idle ∷ []
+
+abbrev pub routine_starts : Config → Map → List Start
+routine_starts config m =
+    numbered_starts kind.Prologue 0 (prologues_of config m) ++ numbered_starts kind.Tick 0 (ticks_of config m) ++ numbered_starts kind.Service 0 m.places.blocks
+
+abbrev pub last_starts : List ℕ → Map → List Start
+last_starts code m =
+    numbered_starts kind.Code 0 code ++ numbered_starts kind.Data 0 m.places.symbols ++ single_start kind.End (address_behind_data m - 4) ∷ []
+
 -- ---- stacks
 
 -- the row of an extent

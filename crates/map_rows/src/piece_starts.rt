@@ -5,7 +5,8 @@ ghost use Rattle.sloth_base.specs.Limits.{counter_limit};
 ghost use Rattle.sloth_base.specs.MemoryMap.{line_count};
 ghost use Rattle.mem_map.specs.StackParts.{no_extent};
 ghost use Rattle.map_rows.specs.Listable.{IsListable};
-ghost use Rattle.map_rows.specs.Rows.{address_behind_code, code_places, numbered_starts, single_start, starts_of};
+ghost use Rattle.mem_map.specs.Stacks.{address_behind_data};
+ghost use Rattle.map_rows.specs.Rows.{address_behind_code, code_places, first_starts, last_starts, numbered_starts, routine_starts, single_start, starts_of};
 
 use crate::piece_rows::{Kind, Start, tick_count};
 use sloth_base::config::Config;
@@ -111,26 +112,48 @@ fn ticks(map: &Map, counters: usize) -> &[u32]
     &map.handlers[first..first + counters]
 }
 
+// Appends where the pieces begin whose addresses are the same in each image, and the idle loop.
+fn push_first(starts: &mut Vec<Start>, map: &Map) -> Result<(), AllocError>
+    ensures { OnOk result (starts.new.items ≡ starts.old.items ++ first_starts map.now) }
+{
+    push_single(starts, Kind::Words, MEMORY_BASE)?;
+    push_single(starts, Kind::Vectors, VECTORS_BASE)?;
+    push_single(starts, Kind::Boot, BOOT_BASE)?;
+    push_single(starts, Kind::Idle, map.idle)
+}
+
+// Appends where prologues, ticks and services begin.
+fn push_routines(starts: &mut Vec<Start>, config: &Config, map: &Map) -> Result<(), AllocError>
+    requires { IsListable config.now map.now }
+    ensures { OnOk result (starts.new.items ≡ starts.old.items ++ routine_starts config.now map.now) }
+{
+    let tasks = config.tasks.items().len();
+    let counters = tick_count(config);
+    push_numbered(starts, Kind::Prologue, prologues(map, tasks))?;
+    push_numbered(starts, Kind::Tick, ticks(map, counters))?;
+    push_numbered(starts, Kind::Service, &map.places.blocks)
+}
+
+// Appends where functions begin, at these addresses, and symbols, and the end of all.
+fn push_last(starts: &mut Vec<Start>, code: &[u32], map: &Map) -> Result<(), AllocError>
+    requires { address_behind_data map.now < 4294967296 }
+    ensures { OnOk result (starts.new.items ≡ starts.old.items ++ last_starts code.now map.now) }
+{
+    let end = behind(extent_at(map.extents.items(), DATA)).saturating_sub(WORD);
+    push_numbered(starts, Kind::Code, code)?;
+    push_numbered(starts, Kind::Data, map.places.symbols.items())?;
+    push_single(starts, Kind::End, end)
+}
+
 /// Where each piece begins, in the order of the addresses.
-#[tactic(auto, unfolding(crate::specs::Rows::starts_of))]
 pub fn starts(alloc: Global, config: &Config, map: &Map) -> Result<Vec<Start>, AllocError>
     requires { IsListable config.now map.now }
     ensures { IfOk result (λ starts. starts.items ≡ starts_of config.now map.now) }
 {
     let code = code_places(alloc, map)?;
-    let tasks = config.tasks.items().len();
-    let counters = tick_count(config);
-    let end = behind(extent_at(map.extents.items(), DATA)).saturating_sub(WORD);
     let mut starts = Vec::new(alloc);
-    push_single(&mut starts, Kind::Words, MEMORY_BASE)?;
-    push_single(&mut starts, Kind::Vectors, VECTORS_BASE)?;
-    push_single(&mut starts, Kind::Boot, BOOT_BASE)?;
-    push_single(&mut starts, Kind::Idle, map.idle)?;
-    push_numbered(&mut starts, Kind::Prologue, prologues(map, tasks))?;
-    push_numbered(&mut starts, Kind::Tick, ticks(map, counters))?;
-    push_numbered(&mut starts, Kind::Service, &map.places.blocks)?;
-    push_numbered(&mut starts, Kind::Code, code.as_slice())?;
-    push_numbered(&mut starts, Kind::Data, map.places.symbols.items())?;
-    push_single(&mut starts, Kind::End, end)?;
+    push_first(&mut starts, map)?;
+    push_routines(&mut starts, config, map)?;
+    push_last(&mut starts, code.as_slice(), map)?;
     Ok(starts)
 }

@@ -9,9 +9,9 @@ use Rattle.sloth_source.specs.Texts.{AreAccepted}
 use Rattle.mem_map.specs.Planned.{IsPlanned}
 use Rattle.mem_map.specs.Zones.{data_zone}
 use Rattle.dwarf_sections.specs.LineMachine.{HasMatrix, wanted_matrix}
-use Rattle.dwarf_sections.specs.LineRows.{line_rows}
+use Rattle.map_rows.specs.LineRows.{line_rows}
 use Rattle.dwarf_sections.specs.LineSection.{line_program}
-use Rattle.dwarf_sections.specs.declared.line_rows.LineRow.{LineRow}
+use Rattle.map_rows.specs.declared.line_rows.LineRow.{LineRow}
 
 -- the rows of task code by its map
 abbrev pub rows_by : App → Map → List LineRow

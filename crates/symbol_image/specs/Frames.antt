@@ -8,7 +8,7 @@ use Rattle.sloth_base.specs.declared.places.Places.{Places}
 use Rattle.dwarf_sections.specs.BodyFrames.{body_rules}
 use Rattle.dwarf_sections.specs.FrameEntries.{common_entry, frame_entry, is_unknown}
 use Rattle.dwarf_sections.specs.Fields.{unsigned_leb}
-use Rattle.dwarf_sections.specs.LineRows.{item_count}
+use Rattle.map_rows.specs.LineRows.{item_count}
 use Rattle.map_rows.specs.declared.piece_rows.Kind.{Kind}
 use Rattle.map_rows.specs.declared.piece_rows.Kind.TheVariants as kind
 use Rattle.map_rows.specs.declared.piece_rows.Row.{Row}

@@ -2,7 +2,7 @@
 ghost use Rattle.std.specs.Prelude.{◌≡◌, ◌≤◌, ◌<◌, ◌+◌, ◌^◌, ◌∷◌, [], IfOk, OnOk, codes, length};
 ghost use Rattle.sloth_base.specs.Limits.{item_limit};
 ghost use Rattle.sloth_base.specs.MemoryMap.{memory_base};
-ghost use Rattle.dwarf_sections.specs.LineRows.{item_count};
+ghost use Rattle.map_rows.specs.LineRows.{item_count};
 ghost use Rattle.symbol_image.specs.FileParts.{MayShow};
 ghost use Rattle.symbol_image.specs.FrameRows.{HasFrames};
 ghost use Rattle.symbol_image.specs.HeaderViews.{AreOrdered, IsMemoryWithin};

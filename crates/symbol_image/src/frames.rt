@@ -1,7 +1,7 @@
 //! The section of frames.
 ghost use Rattle.std.specs.Prelude.{◌≡◌, ◌≤◌, ◌<◌, ◌+◌, ◌++◌, [], IfOk, OnOk, cond, get_or, length, ltb, take};
 ghost use Rattle.sloth_base.specs.Limits.{item_limit};
-ghost use Rattle.dwarf_sections.specs.LineRows.{item_count};
+ghost use Rattle.map_rows.specs.LineRows.{item_count};
 ghost use Rattle.symbol_image.specs.FrameRows.{HasFrames};
 ghost use Rattle.symbol_image.specs.Frames.{body_entry, entry_of, first_loss, frame_section, has_result, loses, loss_rule, prologue_rules, row_entry, service_rules, word_at, writes, writes_csr};
 

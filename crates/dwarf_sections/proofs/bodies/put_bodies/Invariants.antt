@@ -1,6 +1,6 @@
 use Rattle.std.proofs.Common.{◌≡◌, ◌+◌, ◌++◌, drop, length}
 use Rattle.dwarf_sections.specs.Entries.{all_body_bytes}
-use Rattle.dwarf_sections.specs.LineRows.{item_count}
+use Rattle.map_rows.specs.LineRows.{item_count}
 use Rattle.dwarf_sections.proofs.bodies.put_bodies.Given as goal
 
 abbrev pub invariant-loop-func : goal.invariant-loop-func

@@ -1,6 +1,6 @@
 use Rattle.std.proofs.Common.{◌≡◌, ◌+◌, ◌++◌, drop}
 use Rattle.dwarf_sections.specs.BodyFrames.{items_rules}
-use Rattle.dwarf_sections.specs.LineRows.{item_address}
+use Rattle.map_rows.specs.LineRows.{item_address}
 use Rattle.dwarf_sections.proofs.body_frames.put_items.Given as goal
 
 abbrev pub invariant-loop-k : goal.invariant-loop-k

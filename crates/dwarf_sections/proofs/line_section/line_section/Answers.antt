@@ -1,7 +1,7 @@
 use Rattle.std.proofs.Common.{◌≡◌, List, subst, rules}
 use Rattle.std.specs.Result.{IfOk}
-use Rattle.dwarf_sections.specs.declared.line_rows.LineRow.{LineRow}
-use Rattle.dwarf_sections.specs.LineRows.{line_rows}
+use Rattle.map_rows.specs.declared.line_rows.LineRow.{LineRow}
+use Rattle.map_rows.specs.LineRows.{line_rows}
 use Rattle.dwarf_sections.specs.LineSection.{line_section}
 use Rattle.dwarf_sections.proofs.line_section.line_section.Goals as goal
 

@@ -4,5 +4,5 @@ use Rattle.dwarf_sections.proofs.line_section.put_further.Given as goal
 
 abbrev pub invariant-loop-row : goal.invariant-loop-row
 invariant-loop-row l =
-    l.section.items ++ further_rows l.address l.line (drop l.row-index l.rows) l.end
-    ≡ l.fn.section.items ++ further_rows l.fn.address l.fn.line l.rows l.end
+    l.section.items ++ further_rows l.last.address l.last.line (drop l.row-index l.rows) l.end
+    ≡ l.fn.section.items ++ further_rows l.fn.first.address l.fn.first.line l.rows l.end

@@ -1,6 +1,6 @@
 use Rattle.std.proofs.Common.{◌≡◌, ◌+◌, ◌++◌, drop}
-use Rattle.dwarf_sections.specs.LineRows.{item_count, line_rows}
-use Rattle.dwarf_sections.proofs.line_rows.line_rows.Given as goal
+use Rattle.map_rows.specs.LineRows.{item_count, line_rows}
+use Rattle.map_rows.proofs.line_rows.line_rows.Given as goal
 
 abbrev pub invariant-loop-func : goal.invariant-loop-func
 invariant-loop-func l =

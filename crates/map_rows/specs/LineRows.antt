@@ -3,7 +3,7 @@ use Rattle.std.specs.Prelude.{ℕ, ◌+◌, ◌-◌, ltb, cond, List, [], ◌∷
 use Rattle.sloth_base.specs.declared.app.Func.{Func}
 use Rattle.sloth_base.specs.declared.app.Item.{Item}
 use Rattle.sloth_base.specs.declared.places.Places.{Places}
-use Rattle.dwarf_sections.specs.declared.line_rows.LineRow.{LineRow}
+use Rattle.map_rows.specs.declared.line_rows.LineRow.{LineRow}
 
 -- the address of the first instruction of an item, by its place among the items of all bodies; behind them the address behind the code
 abbrev pub item_address : Places → (end number : ℕ) → ℕ

@@ -1,7 +1,7 @@
 //! Which line of the source each address of task code comes from.
 ghost use Rattle.std.specs.Prelude.{◌≡◌, ◌≤◌, ◌+◌, ◌++◌, IfOk, OnOk, length};
 ghost use Rattle.sloth_base.specs.Limits.{item_limit};
-ghost use Rattle.dwarf_sections.specs.LineRows.{body_rows, first_rows, item_address, item_count, item_rows, last_row, line_rows};
+ghost use Rattle.map_rows.specs.LineRows.{body_rows, first_rows, item_address, item_count, item_rows, last_row, line_rows};
 
 use sloth_base::app::{Func, Item};
 use sloth_base::memory_map::WORD;
@@ -15,6 +15,16 @@ pub struct LineRow {
     pub line: u32,
 }
 
+impl LineRow {
+    /// Goes on to another row.
+    pub fn advance(&mut self, next: LineRow)
+        ensures { self.new ≡ next }
+    {
+        self.address = next.address;
+        self.line = next.line;
+    }
+}
+
 /// The address of the first instruction of an item, by its place among the items of all bodies; behind them the address behind the code.
 pub fn item_address(places: &Places, end: u32, number: usize) -> u32
     ensures { result ≡ item_address places.now end number }
@@ -23,6 +33,14 @@ pub fn item_address(places: &Places, end: u32, number: usize) -> u32
         Some(address) => *address,
         None => end,
     }
+}
+
+/// The address behind the last item of a body, the first of which has this place.
+pub fn body_end(places: &Places, end: u32, number: usize, func: &Func) -> u32
+    requires { number + length func.now.items ≤ item_limit }
+    ensures { result ≡ item_address places.now end (number + length func.now.items) }
+{
+    item_address(places, end, number + func.items.items().len())
 }
 
 // Appends a row for each item, the first of which has this place.

@@ -1,6 +1,6 @@
 use Rattle.std.proofs.Common.{◌≡◌, ◌+◌, ◌++◌, drop}
-use Rattle.dwarf_sections.specs.LineRows.{item_rows}
-use Rattle.dwarf_sections.proofs.line_rows.push_items.Given as goal
+use Rattle.map_rows.specs.LineRows.{item_rows}
+use Rattle.map_rows.proofs.line_rows.push_items.Given as goal
 
 abbrev pub invariant-loop-k : goal.invariant-loop-k
 invariant-loop-k l =
