@@ -4,3 +4,5 @@ pub mod Weighed
 pub mod Summed
 pub mod Counted
 pub mod Spending
+pub mod Owing
+pub mod Rounded

@@ -22,7 +22,7 @@ use Rattle.run_counts.specs.Stages.{state_or, state_behind, end_of, stage, stage
 use Rattle.run_counts.specs.Laws.{IsWithinWeights, RunsKeepWeights}
 
 -- a step leads to the state behind its event
-behind_is : (config : Config) (app : App) (what : Event) (s next : System) → OsekStep config app what s next → state_behind config app what s ≡ next
+pub behind_is : (config : Config) (app : App) (what : Event) (s next : System) → OsekStep config app what s next → state_behind config app what s ≡ next
 unfolding state_behind
 behind_is config app what s next step = ap (state_or s) (step_is config app s next what step)
 

@@ -1,6 +1,7 @@
 //! The laws of what a run's events spend.
 ghost use Rattle.run_counts.specs.Laws.{RunsKeepWeights};
 ghost use Rattle.run_counts.specs.Spending.{RunsSpendOnLower};
+ghost use Rattle.run_counts.specs.Rounds.{RoundsSpendWithinItems};
 
 /// In a run that keeps the pace no stage spends more than its event weighs, with the item in front of it.
 pub fn runs_keep_weights()
@@ -11,4 +12,10 @@ pub fn runs_keep_weights()
 /// item and the greatest sum of a section.
 pub fn runs_spend_on_lower()
     ensures { RunsSpendOnLower }
+{}
+
+/// In a run of well-formed task code that keeps the pace, what is charged to the events of a round of a task is at most the sum of the weights of the items
+/// that they execute.
+pub fn rounds_spend_within_items()
+    ensures { RoundsSpendWithinItems }
 {}
