@@ -6,3 +6,7 @@ pub mod Counted
 pub mod Spending
 pub mod Owing
 pub mod Rounded
+pub mod Running
+pub mod Owned
+pub mod Gaps
+pub mod OwnRounds

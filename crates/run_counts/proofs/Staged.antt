@@ -27,12 +27,12 @@ unfolding state_behind
 behind_is config app what s next step = ap (state_or s) (step_is config app s next what step)
 
 -- nothing but the boot comes before it
-booted_before : (config : Config) (app : App) (what : Event) (s next : System) → OsekStep config app what s next → is_boot what ≡ false → s.booted ≡ true
+pub booted_before : (config : Config) (app : App) (what : Event) (s next : System) → OsekStep config app what s next → is_boot what ≡ false → s.booted ≡ true
 booted_before config app event.Boot s next step other = absurd (true≢false other)
 booted_before config app event.Stray s next step other = absurd step
 booted_before config app what s next step other = step.0
 
-admits_later : (what : Event) → is_some (admitted_line what) ≡ true → is_boot what ≡ false
+pub admits_later : (what : Event) → is_some (admitted_line what) ≡ true → is_boot what ≡ false
 admits_later event.Boot is = absurd (false≢true is)
 admits_later what is = refl
 

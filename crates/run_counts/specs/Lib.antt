@@ -2,3 +2,4 @@ pub mod Stages
 pub mod Laws
 pub mod Spending
 pub mod Rounds
+pub mod OwnCounts

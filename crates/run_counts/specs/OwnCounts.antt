@@ -1,0 +1,96 @@
+-- What the own counts of a task come to: by what its events are charged with, by where it is preempted, and by the weights of a round's items.
+use Rattle.std.specs.Prelude.{ℕ, ◌+◌, ◌≤◌, ◌≡◌, ◌&&◌, List, ◌∷◌, ◌++◌, Bool, true, cond}
+use Rattle.std.specs.List.{AllByRecursion}
+use Rattle.sloth_base.specs.declared.config.Config.{Config}
+use Rattle.sloth_base.specs.declared.app.App.{App}
+use Rattle.sloth_base.specs.declared.event.Arrival.{Arrival}
+use Rattle.sloth_base.specs.declared.event.Stamped.{Stamped}
+use Rattle.sloth_base.specs.declared.image.Image.{Image}
+use Rattle.sloth_base.specs.Arrivals.{AreArrivals}
+use Rattle.sloth_base.specs.Limits.{unseen_counts, count_limit}
+use Rattle.sloth_base.specs.Owners.{owners_in}
+use Rattle.code_rules.specs.AppRange.{IsTaskCode}
+use Rattle.code_rules.specs.WellFormed.{WellFormed}
+use Rattle.osek_scheduler.specs.InTime.{InTime}
+use Rattle.osek_scheduler.specs.Runs.{OsekRun}
+use Rattle.raised_sections.specs.Pace.{takes_line}
+use Rattle.bound_rules.specs.declared.weights.BodyWeights.{BodyWeights}
+use Rattle.event_weights.specs.Pace.{ItemSizes, paced_counts}
+use Rattle.section_counts.specs.Counts.{AreCounts}
+use Rattle.sim_induction.specs.Paced.{KeepsPace, InPace}
+use Rattle.sim_induction.specs.Sound.{IsSoundRun, Sound, events_of}
+use Rattle.run_counts.specs.Stages.{Stage, is_running, unseen, spanned, own, run_stages}
+use Rattle.run_counts.specs.Spending.{WeighsItems}
+use Rattle.run_counts.specs.Rounds.{opens_round, round_of, total, charged_to, weight_of, WeighsEndings}
+
+-- ---- preemptions
+
+-- the event is an entry or a tick, and takes the processor from task t
+abbrev pub is_preempted : Config → (t : ℕ) → Stage → Bool
+is_preempted config t x = takes_line x.stamped.event && is_running config x.found t
+
+-- a number of each stage in which task t is preempted
+abbrev pub if_preempted : Config → (t : ℕ) → (Stage → ℕ) → Stage → ℕ
+if_preempted config t f x = cond (is_preempted config t x) (f x) 0
+
+-- ---- what own counts are
+
+-- A task's own counts are those that its events are charged with, and in front of an entry or a tick that preempts it those of the item that it
+-- has begun.
+abbrev pub IsOwn : Config → (t : ℕ) → Stage → Type 0
+IsOwn config t x = own config t x ≡ charged_to t x + if_preempted config t unseen x
+
+-- in each stage of a run
+abbrev pub RunsOwnWhatIsCharged : Type 0
+RunsOwnWhatIsCharged = (config : Config) (app : App) (n t : ℕ) (arrivals : List Arrival) (events : List Stamped)
+    → WellFormed config app → OsekRun config app events → InTime config n arrivals events
+    → AllByRecursion (IsOwn config t) (run_stages config app events)
+
+-- ---- those of a round of a run
+
+-- in front of no entry and no tick of these stand more counts that show no event
+abbrev pub AreGapsWithin : (gap : ℕ) → List Stage → Type 0
+AreGapsWithin gap xs = AllByRecursion (λ x. takes_line x.stamped.event ≡ true → unseen x ≤ gap) xs
+
+-- what an event may take at most, with the item in front of it
+abbrev pub paced_at : Config → App → ItemSizes → (longest : ℕ) → Stage → ℕ
+paced_at config app size longest x = paced_counts config app size longest x.found x.stamped.event
+
+-- What the own counts of task t in a round of it come to. The items are those that its events execute.
+pub record OwnIsWithin (config : Config) (app : App) (size : ItemSizes) (longest : ℕ) (weights : List BodyWeights) (t : ℕ) (whole round : List Stage) : Type 0 where
+  -- with the entries and ticks that preempt it: the weights of the items, and of each entry and tick its own, with the longest item
+  pub with_entries : total (own config t) round + total (if_preempted config t spanned) round
+      ≤ total (weight_of weights t) round + total (if_preempted config t (paced_at config app size longest)) round
+  -- alone: the weights of the items, and for each entry and tick that preempts it the greatest gap of the run
+  pub alone : (gap : ℕ) → AreGapsWithin gap whole
+      → total (own config t) round ≤ total (weight_of weights t) round + total (if_preempted config t (λ x. gap)) round
+
+-- In every run in time that keeps the pace the own counts of a task in a round, finished or not, are so.
+abbrev pub RoundsOwnWithinItems : Type 0
+RoundsOwnWithinItems =
+    (config : Config) (app : App) (size : ItemSizes) (longest n t : ℕ) (cuts : Bool) (weights : List BodyWeights) (arrivals : List Arrival) (events : List Stamped)
+    → WellFormed config app → OsekRun config app events → InTime config n arrivals events → KeepsPace config app size longest n events
+    → WeighsItems app size weights → WeighsEndings app size weights
+    → (before behind : List Stage) (first : Stage) → run_stages config app events ≡ before ++ first ∷ behind
+    → opens_round cuts t first.stamped.event ≡ true
+    → OwnIsWithin config app size longest weights t (run_stages config app events) (round_of cuts t behind)
+
+-- ---- of the runs of an image
+
+-- in every sound run of an image no gap is greater than 40
+abbrev pub SoundRunsHaveShortGaps : Type 0
+SoundRunsHaveShortGaps = (config : Config) (app : App) (image : Image) (arrivals : List Arrival) (n : ℕ)
+    → WellFormed config app → IsSoundRun config app image arrivals n
+    → AreGapsWithin unseen_counts (run_stages config app (events_of image arrivals n))
+
+-- Of an image whose builder promises `Sound` and `InPace`, in every run, by the weights in counts of its task code: the own counts of a task in a round,
+-- finished or not, are at most the sum of the weights of the items that its events execute, and 40 for each entry and tick that preempts it.
+abbrev pub ImagesOwnWithinItems : Type 0
+ImagesOwnWithinItems =
+    (config : Config) (app : App) (image : Image) (weights : List BodyWeights) (arrivals : List Arrival) (n t : ℕ) (cuts : Bool)
+    → WellFormed config app → IsTaskCode app → Sound config app image → InPace config app image → AreCounts app weights
+    → AreArrivals (owners_in config) arrivals → n ≤ count_limit
+    → (before behind : List Stage) (first : Stage) → run_stages config app (events_of image arrivals n) ≡ before ++ first ∷ behind
+    → opens_round cuts t first.stamped.event ≡ true
+    → total (own config t) (round_of cuts t behind)
+    ≤ total (weight_of weights t) (round_of cuts t behind) + total (if_preempted config t (λ x. unseen_counts)) (round_of cuts t behind)
