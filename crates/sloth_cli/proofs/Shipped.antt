@@ -33,8 +33,8 @@ taken-is was now accepted part w n h = some (sym n ∙ h ∙ ap (λ (t : Option 
 
 module _ (words : List (List ℕ)) (after : Files) (was now : Output) (accepted given : List ℕ) (answer : Status) (w : was.taken ≡ Some [])
     (none : was.faults ≡ 0) (n : now.taken ≡ Some accepted) (front : IsPrefix given accepted) (passed : answer ≢ status.WriteFault → given ≡ accepted)
-    (in_order : ReadsInOrder words (untold_files 0 0 0 [] []) after) where
-  ran-by : (wanted : Status) (text : List ℕ) → IsRequired wanted words (untold_files 0 0 0 after.reads []) after text → IsPutAnswer wanted answer was now text
+    (in_order : ReadsInOrder words (untold_files 0 0 0 [] [] []) after) where
+  ran-by : (wanted : Status) (text : List ℕ) → IsRequired wanted words (untold_files 0 0 0 after.reads [] []) after text → IsPutAnswer wanted answer was now text
       → IsProgramRun words after given now.faults answer
   ran-by wanted text q (inl p) =
       let is : accepted ≡ text = taken-is was now accepted text w n (ap (λ (o : Output). o.taken) p.1) in
@@ -59,7 +59,7 @@ module _ (words : List (List ℕ)) (after : Files) (was now : Output) (accepted 
         whole = λ no. absurd (no p.0);
       }
 
-  pub ran : (old : Files) → old ≡ untold_files 0 0 0 [] [] → IsTopAnswer words (world (call_files old after) was) (world after now) answer
+  pub ran : (old : Files) → old ≡ untold_files 0 0 0 [] [] [] → IsTopAnswer words (world (call_files old after) was) (world after now) answer
       → IsProgramRun words after given now.faults answer
   ran old fresh a =
       ran-by a.wanted a.text

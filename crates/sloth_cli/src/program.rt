@@ -32,14 +32,14 @@ fn words(rt: &(impl Env + AllocGlobal)) -> Result<Vec<String>, Status> {
     Ok(words)
 }
 
-/// Runs the command of these words, over files of which nothing was read and none written, and standard output to which nothing was put.
+/// Runs the command of these words, over files of which nothing was read, none written and nothing said, and standard output to which nothing was put.
 pub fn run_over<R: Files, P: Print>(
     alloc: Global,
     words: &[String],
     files: &mut FileStore<'_, R>,
     out: &mut OutSink<'_, P>,
 ) -> Status
-    requires files { shown_files files.old ≡ untold_files 0 0 0 [] [] }
+    requires files { shown_files files.old ≡ untold_files 0 0 0 [] [] [] }
     requires out { accepted_bytes out.old ≡ [] }
     requires faults { (shown_output out.old).faults ≡ 0 }
     ensures { IsProgramRun (words_of words.now) (shown_files files.new) (given_bytes out.new) (shown_output out.new).faults result }

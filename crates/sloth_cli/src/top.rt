@@ -99,7 +99,7 @@ fn answer<F: Store, S: Sink>(alloc: Global, words: &[String], files: &mut F, out
     let Some(c) = command(words) else {
         return say(out, b"usage\n", Status::Usage);
     };
-    if overwrites_input(&*files, &c) {
+    if overwrites_input(files, &c) {
         return say(out, b"usage\n", Status::Usage);
     }
     match obey(alloc, files, out, &c) {

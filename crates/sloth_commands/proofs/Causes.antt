@@ -1,6 +1,6 @@
 -- Why a command was not done, from its first read to its last line.
 use Rattle.std.proofs.Common.{◌≡◌, ◌∙◌, inl, inr, ℕ, List, [], ◌∷◌, ◌++◌, length, refl, sym, ap, subst}
-use Rattle.std.specs.Prelude.{codes, IsTrue, Result, Ok, Err, OnOk}
+use Rattle.std.specs.Prelude.{codes, IsTrue, Option, Some, None, Result, Ok, Err, OnOk}
 use Rattle.sloth_base.specs.declared.config.Config.{Config}
 use Rattle.sloth_base.specs.declared.app.App.{App}
 use Rattle.sloth_base.specs.declared.event.Arrival.{Arrival}
@@ -23,7 +23,7 @@ use Rattle.tool_answers.specs.declared.status.Status.TheVariants as status
 use Rattle.sloth_commands.specs.declared.failure.Failure.{Failure}
 use Rattle.sloth_commands.specs.declared.failure.Failure.TheVariants as failure
 use Rattle.sloth_commands.specs.Top.{World, world, text_deliveries, AreInputs, AreFilesSame, IsAccepted, IsBuiltImage}
-use Rattle.sloth_commands.specs.CommandFiles.{inputs_of, IsUsageCause}
+use Rattle.sloth_commands.specs.CommandFiles.{inputs_of, output_of, IsFileAmong, IsOnlyAsked, IsOutputAmong, IsUsageCause}
 use Rattle.sloth_base.specs.DeclaredNames.{task_names, counter_names}
 use Rattle.sloth_commands.specs.Top.{IsWritten, IsDone, IsRequired, IsTextTaken, IsPutAnswer, IsCloseAnswer, IsTextBrokenOff, IsTopAnswer, done_text}
 use Rattle.sloth_commands.specs.Failures.{IsReadFailure, IsJudgeFailure, IsPerformFailure, IsCommandEnd, IsPlainEnd, IsCommandFailure, IsPerformed, IsFailureEnd}
@@ -33,11 +33,31 @@ use Rattle.sloth_commands.proofs.ToolCauses.{end-required}
 
 -- ---- usage
 
+-- the cause holds of what was shown before the call, with what was read in it
+cause-in_call : (words : List (List ℕ)) (old new : Files) → IsUsageCause words old new → IsUsageCause words (call_files old new) new
+cause-in_call words old new (inl none) = inl none
+cause-in_call words old new (inr h) = inr (h.0, h.1, output-in_call old new (output_of h.0) (inputs_of h.0) h.2)
+  where
+    among-in_call : (old new : Files) (name : List ℕ) (inputs : List (List ℕ)) → IsFileAmong old new name inputs → IsFileAmong (call_files old new) new name inputs
+    among-in_call old new name [] h = h
+    among-in_call old new name (input ∷ rest) (inl h) = inl h
+    among-in_call old new name (input ∷ rest) (inr h) = inr (among-in_call old new name rest h)
+
+    output-in_call : (old new : Files) (output : Option (List ℕ)) (inputs : List (List ℕ)) → IsOutputAmong old new output inputs
+        → IsOutputAmong (call_files old new) new output inputs
+    output-in_call old new None inputs h = h
+    output-in_call old new (Some name) inputs h = among-in_call old new name inputs h
+
 -- nothing was read and nothing written
-pub usage-ends : (words : List (List ℕ)) (files : Files) (sink out : Output) (answer : Status) → IsUsageCause words files
-    → IsPutAnswer status.Usage answer sink out (codes "usage\n") → IsTopAnswer words (world (call_files files files) sink) (world files out) answer
-usage-ends words files sink out answer cause put =
-    record { wanted = status.Usage; text = codes "usage\n"; required = (cause, refl, (λ name. refl, refl)); puts = put }
+pub usage-required : (words : List (List ℕ)) (old new : Files) → IsOnlyAsked old new → IsUsageCause words old new
+    → IsRequired status.Usage words (call_files old new) new (codes "usage\n")
+usage-required words old new only cause =
+    (cause-in_call words old new cause, refl, (λ name. ap (λ (x : Files). x.holds name) only, ap (λ (x : Files). x.writes) only))
+
+pub usage-ends : (words : List (List ℕ)) (old new : Files) (sink out : Output) (answer : Status) → IsOnlyAsked old new → IsUsageCause words old new
+    → IsPutAnswer status.Usage answer sink out (codes "usage\n") → IsTopAnswer words (world (call_files old new) sink) (world new out) answer
+usage-ends words old new sink out answer only cause put =
+    record { wanted = status.Usage; text = codes "usage\n"; required = usage-required words old new only cause; puts = put }
 
 -- ---- a command
 

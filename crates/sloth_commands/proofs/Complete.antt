@@ -185,7 +185,7 @@ refused-by status.NoMemory answer words old new text c oil src arr r q (inl p) i
 refused-by status.NoMemory answer words old new text c oil src arr r q (inr p) is there works refusal =
     inr (inr (p.0, counted-put old.sink new.sink text p.1))
 refused-by status.Usage answer words old new text c oil src arr r q p is there works refusal =
-    absurd (no-usage words old.files (Builds c) is (keeps-inputs old.files (Builds c) there.tells there.own_output) q.0)
+    absurd (no-usage words old.files new.files (Builds c) is (keeps-inputs old.files new.files (Builds c) there.tells there.own_output) q.0)
 refused-by status.Done answer words old new text c oil src arr r q p is there works refusal =
     let d = subst (λ x. IsCommandDone old.files new.files x text) (one-command words q.0 (Builds c) q.1 is) q.2 in
     absurd (one-verdict old.files c d.config d.app d.arrivals oil src arr r there d.accepted refusal)
@@ -252,7 +252,7 @@ module _ (old new : World) (c : Building) (oil src arr : List ℕ) (config : Con
   complete-by status.NoMemory answer words text q p is =
       inr (stands status.NoMemory answer words old new text (subst (λ x. PutsWork old.sink new.sink x) (sym q.2) works.last_line) q p)
   complete-by status.Usage answer words text q p is =
-      absurd (no-usage words old.files (Builds c) is (keeps-inputs old.files (Builds c) there.tells there.own_output) q.0)
+      absurd (no-usage words old.files new.files (Builds c) is (keeps-inputs old.files new.files (Builds c) there.tells there.own_output) q.0)
   complete-by status.Refused answer words text q p is =
       absurd (refused-verdict old.files c config app oil src arr q.2 there h read.no_fault
       (subst (λ x. IsCommandRefused old.files x q.2) (one-command words q.0 (Builds c) q.1 is) q.3))

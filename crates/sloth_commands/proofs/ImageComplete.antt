@@ -163,7 +163,7 @@ module _ (words : List (List ℕ)) (old new : Files) (text : List ℕ) (c : Comm
       let same : n.file ≡ file = told-file old c n.file file tells n.inputs i in
       inr (inl (refl, (q.2, subst (IsFirstImageFault q.2) same n.faulty, q.4)))
   verdict status.NoMemory q = inr (inr refl)
-  verdict status.Usage q = absurd (no-usage words old c is (keeps-inputs old c tells own) q.0)
+  verdict status.Usage q = absurd (no-usage words old new c is (keeps-inputs old new c tells own) q.0)
   verdict status.ReadFault q =
       absurd (no-failed-read old new c file tells i works (subst (IsFailedRead old new) (one-command words q.0 c q.1 is) q.2))
   verdict status.TooLong q = absurd (no-long-read old new c file tells i (subst (IsLongRead old new) (one-command words q.0 c q.1 is) q.2))
@@ -259,7 +259,7 @@ module _ (words : List (List ℕ)) (old new : World) (answer : Status) (e : Exec
       absurd (read.no_fault q.2 (subst (λ x. ArrivalsFault image.tasks image.counters x q.2) arr_is (subst (λ (x : Image). ArrivalsFault x.tasks x.counters d.arr q.2) same d.least.is_fault)))
   executed-by status.NotAnImage arrivals text read works q p =
       absurd (no-fault q.2 (subst (λ x. IsNoImage old.files x q.2) (one-command words q.0 (Executes e) q.1 is) q.3))
-  executed-by status.Usage arrivals text read works q p = absurd (no-usage words old.files (Executes e) is (λ h. h) q.0)
+  executed-by status.Usage arrivals text read works q p = absurd (no-usage words old.files new.files (Executes e) is (λ h. h) q.0)
   executed-by status.ReadFault arrivals text read works q p =
       absurd (no-failed-read old.files new.files (Executes e) file tells (arr, i) works.reads (subst (IsFailedRead old.files new.files) (one-command words q.0 (Executes e) q.1 is) q.2))
   executed-by status.TooLong arrivals text read works q p =
@@ -299,7 +299,7 @@ module _ (words : List (List ℕ)) (old new : World) (answer : Status) (e : Exec
       absurd (not-accepted d.2.image d.2.arrivals r d.2.accepted least)
   refused-by status.NotAnImage text r works least q p =
       absurd (no-fault q.2 (subst (λ x. IsNoImage old.files x q.2) (one-command words q.0 (Executes e) q.1 is) q.3))
-  refused-by status.Usage text r works least q p = absurd (no-usage words old.files (Executes e) is (λ h. h) q.0)
+  refused-by status.Usage text r works least q p = absurd (no-usage words old.files new.files (Executes e) is (λ h. h) q.0)
   refused-by status.ReadFault text r works least q p =
       absurd (no-failed-read old.files new.files (Executes e) file tells (arr, i) works (subst (IsFailedRead old.files new.files) (one-command words q.0 (Executes e) q.1 is) q.2))
   refused-by status.TooLong text r works least q p =
@@ -338,7 +338,7 @@ module _ (words : List (List ℕ)) (old new : World) (answer : Status) (img file
       absurd (none_is_both file image q.2 is_image (subst (IsFirstImageFault q.2) same n.faulty))
   listed-by status.Stopped text q p = absurd (subst (λ x. IsCommandStopped old.files new.files x text) (one-command words q.0 (Lists img) q.1 is) q.2)
   listed-by status.Refused text q p = absurd (subst (λ x. IsCommandRefused old.files x q.2) (one-command words q.0 (Lists img) q.1 is) q.3)
-  listed-by status.Usage text q p = absurd (no-usage words old.files (Lists img) is (λ h. h) q.0)
+  listed-by status.Usage text q p = absurd (no-usage words old.files new.files (Lists img) is (λ h. h) q.0)
   listed-by status.ReadFault text q p =
       absurd (no-failed-read old.files new.files (Lists img) file tells i works.reads (subst (IsFailedRead old.files new.files) (one-command words q.0 (Lists img) q.1 is) q.2))
   listed-by status.TooLong text q p =

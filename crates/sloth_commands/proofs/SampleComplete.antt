@@ -37,7 +37,7 @@ module _ (words : List (List ℕ)) (old new : World) (answer : Status) (seed : �
   refused-by status.WriteFault text r refusal q p =
       let d = subst (IsCommandUnwritten old.files new.files) (one-command words q.0 (Samples seed img) q.1 is) q.2 in
       absurd (never_both sample_oil (sample_source seed) d.config d.app r d.accepted refusal)
-  refused-by status.Usage text r refusal q p = absurd (no-usage words old.files (Samples seed img) is (λ h. h) q.0)
+  refused-by status.Usage text r refusal q p = absurd (no-usage words old.files new.files (Samples seed img) is (λ h. h) q.0)
   refused-by status.ReadFault text r refusal q p =
       absurd (subst (IsFailedRead old.files new.files) (one-command words q.0 (Samples seed img) q.1 is) q.2)
   refused-by status.TooLong text r refusal q p =
@@ -68,7 +68,7 @@ module _ (words : List (List ℕ)) (old new : World) (answer : Status) (seed : �
       let same = one_meaning sample_oil (sample_source seed) d.config config d.app app d.accepted accepted in
       let image = image-of config d.config app d.app d.image same d.is_image in
       absurd (no-failed-write old.files new.files img (length (image_bytes d.image)) (works.write d.image image) d.failed)
-  sampled-by status.Usage text config app accepted works q p = absurd (no-usage words old.files (Samples seed img) is (λ h. h) q.0)
+  sampled-by status.Usage text config app accepted works q p = absurd (no-usage words old.files new.files (Samples seed img) is (λ h. h) q.0)
   sampled-by status.ReadFault text config app accepted works q p =
       absurd (subst (IsFailedRead old.files new.files) (one-command words q.0 (Samples seed img) q.1 is) q.2)
   sampled-by status.TooLong text config app accepted works q p =

@@ -146,7 +146,7 @@ module _ (words : List (List ℕ)) (old new : World) (answer : Status) (u : Tool
       write-fault : IsPutAnswer status.WriteFault answer old.sink new.sink text → answer ≡ status.WriteFault
       write-fault (inl p) = p.0
       write-fault (inr p) = p.0
-  told-by status.Usage text q p = absurd (no-usage words old.files (Uses u) is (keeps-inputs old.files (Uses u) tells own_output) q.0)
+  told-by status.Usage text q p = absurd (no-usage words old.files new.files (Uses u) is (keeps-inputs old.files new.files (Uses u) tells own_output) q.0)
   told-by status.ReadFault text q p =
       absurd (no-failed-tool-read old.files new.files u inputs tells i works (subst (IsFailedRead old.files new.files) (one-command words q.0 (Uses u) q.1 is) q.2))
   told-by status.TooLong text q p =

@@ -13,7 +13,7 @@ use Rattle.tool_answers.specs.declared.answer.ToolAnswer.{ToolAnswer}
 use Rattle.tool_answers.specs.Statuses.{tool_status}
 use Rattle.tool_answers.specs.declared.status.Status.{Status}
 use Rattle.tool_answers.specs.declared.status.Status.TheVariants as status
-use Rattle.sloth_commands.specs.CommandFiles.{IsUsageCause}
+use Rattle.sloth_commands.specs.CommandFiles.{IsOnlyAsked, IsUsageCause}
 use Rattle.sloth_commands.specs.Top.{World, world, FilesAfter, IsRequired, IsTextTaken, IsPutAnswer, IsCloseAnswer, IsToolEnd}
 use Rattle.sloth_commands.specs.Failures.{IsReadFailure, IsTellFailure, IsCommandFailure, IsFailureEnd}
 use Rattle.sloth_commands.specs.ToolFiles.{IsToolAnswer}
@@ -21,6 +21,7 @@ use Rattle.sloth_commands.specs.ToolLines.{ArePutByLine, IsLineAnswer, HasToolLi
 use Rattle.sloth_commands.specs.declared.failure.Failure.{Failure}
 use Rattle.sloth_commands.specs.declared.failure.Failure.TheVariants as failure
 use Rattle.sloth_commands.proofs.CallFiles.{still}
+use Rattle.sloth_commands.proofs.Causes.{usage-required}
 use Rattle.sloth_commands.proofs.ToolCauses.{after-kept, end-required}
 
 -- ---- a tool's own text
@@ -107,12 +108,12 @@ line-answer wanted words old files mid new before among after answer text requir
       puts = one-line wanted answer old.sink new before after text one (subst P same puts) (put ∙ ap (λ x. x ++ text ∷ []) none);
     }
 
-pub usage-lines : (words : List (List ℕ)) (files : Files) (sink out : Output) (before after : List (List ℕ)) (answer : Status) → IsUsageCause words files
-    → IsPutAnswer status.Usage answer sink out (codes "usage\n") → after ≡ before ++ codes "usage\n" ∷ []
-    → HasToolLines words (world (call_files files files) sink) (world files out) before after answer
-usage-lines words files sink out before after answer cause put pieces u is =
-    line-answer status.Usage words (world (call_files files files) sink) files sink out before before after answer (codes "usage\n")
-    (cause, refl, (λ name. refl, refl)) refl refl put refl pieces
+pub usage-lines : (words : List (List ℕ)) (old new : Files) (sink out : Output) (before after : List (List ℕ)) (answer : Status) → IsOnlyAsked old new
+    → IsUsageCause words old new → IsPutAnswer status.Usage answer sink out (codes "usage\n") → after ≡ before ++ codes "usage\n" ∷ []
+    → HasToolLines words (world (call_files old new) sink) (world new out) before after answer
+usage-lines words old new sink out before after answer only cause put pieces u is =
+    line-answer status.Usage words (world (call_files old new) sink) new sink out before before after answer (codes "usage\n")
+    (usage-required words old new only cause) refl refl put refl pieces
 
 -- behind a tool that put nothing, or whose text broke off
 tool-finished : (f : Failure) (words : List (List ℕ)) (u : ToolUse) (old : World) (files : Files) (mid new : Output) (before among after : List (List ℕ))

@@ -79,6 +79,7 @@ kept-both old mid new a b =
       overlong_reads = omega (arith, t, u);
       failed_writes = b.failed_writes ∙ a.failed_writes;
       writes = b.writes ∙ a.writes;
+      same = b.same ∙ a.same;
     }
 
 pub kept-none : (files : Files) → KeepsFiles files files
@@ -91,6 +92,7 @@ kept-none files = record {
   overlong_reads = omega arith;
   failed_writes = refl;
   writes = refl;
+  same = refl;
 }
 
 pub input-kept : (old mid : Files) (name bytes : List ℕ) → KeepsFiles old mid → Holds mid name bytes → length bytes ≤ file_limit → IsInput old name bytes

@@ -1,7 +1,7 @@
 -- The files that a command reads, in which order, and the one that it writes.
 use Rattle.std.specs.Prelude.{ℕ, ◌≡◌, ◌≢◌, ◌⊎◌, List, [], ◌∷◌, Option, Some, None}
 use Rattle.std.specs.List.{AllByRecursion}
-use Rattle.sloth_io.specs.Store.{Files, AreDelivered, MayBeOneFile}
+use Rattle.sloth_io.specs.Store.{Files, AreDelivered, IsSaidSame}
 use Rattle.command_line.specs.Command.{Command, Run, Builds, Executes, Lists, Samples, Uses, IsCommand, NoCommand}
 use Rattle.sloth_commands.specs.ToolFiles.{input_deliveries}
 
@@ -26,19 +26,23 @@ output_of (Lists img) = None
 output_of (Samples seed img) = Some img
 output_of (Uses u) = u.output
 
--- the file of this name may be that of one of these
-abbrev pub IsFileAmong : Files → List ℕ → List (List ℕ) → Type 0
-IsFileAmong files name [] = ⊥
-IsFileAmong files name (other ∷ rest) = MayBeOneFile files name other ⊎ IsFileAmong files name rest
+-- the store said that the file of this name is that of one of these, which it may be
+abbrev pub IsFileAmong : Files → Files → List ℕ → List (List ℕ) → Type 0
+IsFileAmong old new name [] = ⊥
+IsFileAmong old new name (other ∷ rest) = IsSaidSame old new name other ⊎ IsFileAmong old new name rest
 
 -- the same of the file of a name, if there is one
-abbrev pub IsOutputAmong : Files → Option (List ℕ) → List (List ℕ) → Type 0
-IsOutputAmong files None inputs = ⊥
-IsOutputAmong files (Some name) inputs = IsFileAmong files name inputs
+abbrev pub IsOutputAmong : Files → Files → Option (List ℕ) → List (List ℕ) → Type 0
+IsOutputAmong old new None inputs = ⊥
+IsOutputAmong old new (Some name) inputs = IsFileAmong old new name inputs
 
--- the file that a command writes may be one that it reads
-abbrev pub OverwritesInput : Files → Command → Type 0
-OverwritesInput files c = IsOutputAmong files (output_of c) (inputs_of c)
+-- the store said in a call that the file which a command writes is one that it reads
+abbrev pub OverwritesInput : Files → Files → Command → Type 0
+OverwritesInput old new c = IsOutputAmong old new (output_of c) (inputs_of c)
+
+-- nothing has changed but what the store said of names
+abbrev pub IsOnlyAsked : Files → Files → Type 0
+IsOnlyAsked old new = new ≡ record old { same = new.same }
 
 -- none of these names is that of the file that is written, if one is
 abbrev pub IsNameApart : Option (List ℕ) → List (List ℕ) → Type 0
@@ -49,9 +53,9 @@ IsNameApart (Some name) inputs = AllByRecursion (λ other. name ≢ other) input
 abbrev pub HasOwnOutput : Command → Type 0
 HasOwnOutput c = IsNameApart (output_of c) (inputs_of c)
 
--- why the words are answered by `usage`: they are those of no command, or the command would write over a file that it reads
-abbrev pub IsUsageCause : List (List ℕ) → Files → Type 0
-IsUsageCause words files = NoCommand words ⊎ ((c : Command) × IsCommand words c × OverwritesInput files c)
+-- why the words are answered by `usage`: they are those of no command, or the command would write over a file that it reads, by the store's own word
+abbrev pub IsUsageCause : List (List ℕ) → Files → Files → Type 0
+IsUsageCause words old new = NoCommand words ⊎ ((c : Command) × IsCommand words c × OverwritesInput old new c)
 
 -- what was delivered are the bytes of the first of these files, in their order, and nothing else: of all of them where all were read
 abbrev pub AreFirstDelivered : Files → Files → List (List ℕ) → Type 0

@@ -327,7 +327,7 @@ IsCloseAnswer wanted answer old new = ((answer ≡ wanted) × (new ≡ old)) ⊎
 -- What an answer requires: its cause, this text, and what the files hold.
 abbrev pub IsRequired : Status → List (List ℕ) → Files → Files → List ℕ → Type 0
 IsRequired status.Done words old new text = (c : Command) × IsCommand words c × IsCommandDone old new c text
-IsRequired status.Usage words old new text = IsUsageCause words old × (text ≡ codes "usage\n") × AreFilesSame old new
+IsRequired status.Usage words old new text = IsUsageCause words old new × (text ≡ codes "usage\n") × AreFilesSame old new
 IsRequired status.Refused words old new text =
     (c : Command) × IsCommand words c × (refusal : Refusal) × IsCommandRefused old c refusal × (text ≡ refusal_line refusal) × AreFilesSame old new
 IsRequired status.ReadFault words old new text =

@@ -6,9 +6,9 @@ use Rattle.sloth_io.specs.declared.store.StoreFault.{StoreFault}
 use Rattle.sloth_io.specs.declared.store.StoreFault.TheVariants.{Failed, TooLong, Memory}
 use Rattle.sloth_io.specs.declared.file_store.FileStore.{FileStore}
 
--- a store that does not tell its files, with these counts, and these reads and writes
-abbrev pub untold_files : ℕ → ℕ → ℕ → List (List ℕ × List ℕ) → List (List ℕ × List ℕ) → Files
-untold_files failed_reads overlong_reads failed_writes reads writes = record {
+-- a store that does not tell its files, with these counts, these reads and writes, and these names of which it said that they are of one file
+abbrev pub untold_files : ℕ → ℕ → ℕ → (reads writes same : List (List ℕ × List ℕ)) → Files
+untold_files failed_reads overlong_reads failed_writes reads writes same = record {
   tells = false;
   sure = false;
   holds = λ _. None;
@@ -18,11 +18,12 @@ untold_files failed_reads overlong_reads failed_writes reads writes = record {
   failed_writes = failed_writes;
   reads = reads;
   writes = writes;
+  same = same;
 }
 
 -- what files of the system show
 abbrev pub shown_files : {R : Type 0} → FileStore R → Files
-shown_files store = untold_files store.failed_reads store.overlong_reads store.failed_writes store.reads.items store.writes.items
+shown_files store = untold_files store.failed_reads store.overlong_reads store.failed_writes store.reads.items store.writes.items store.same.items
 
 -- what they show behind a read with this outcome, which delivered these bytes where it was done
 abbrev pub files_after_read : {T : Type 0} → Result T StoreFault → List ℕ → List ℕ → Files → Files

@@ -77,6 +77,7 @@ shown_files store = record {
   failed_writes = store.failed_writes;
   reads = store.reads.items;
   writes = store.writes.items;
+  same = store.same.items;
 }
 
 -- a store of these files with these failing calls, which was not yet called
@@ -89,6 +90,7 @@ pub record IsFreshStore (files : List MemFile) (fails : List ℕ) (store : MemSt
   pub failed_writes : store.failed_writes ≡ 0
   pub reads : store.reads.items ≡ []
   pub writes : store.writes.items ≡ []
+  pub same : store.same.items ≡ []
 
 -- one call was counted
 pub record IsStoreCalled (old new : MemStore) : Type 0 where

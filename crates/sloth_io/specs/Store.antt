@@ -1,11 +1,11 @@
 -- What a store shows, and what its calls do.
-use Rattle.std.specs.Prelude.{◌≡◌, ◌≢◌, ◌≤◌, ◌<◌, ◌⊎◌, ℕ, List, [], ◌∷◌, ◌++◌, length, drop, Option, Some, None, Bool, false, IsTrue}
+use Rattle.std.specs.Prelude.{◌≡◌, ◌≢◌, ◌≤◌, ◌<◌, ◌⊎◌, ℕ, List, [], ◌∷◌, ◌++◌, length, drop, Option, Some, None, Bool, true, false, IsTrue}
 use Rattle.sloth_io.specs.Counts.{Rose}
 use Rattle.sloth_io.specs.Slots.{is_space_for}
 
 -- What each named file holds, where the store tells that, three counts, and what its calls moved: the bytes that each read that was done
--- delivered, and those of each write that was done, with the file's name, in the order of the calls. A sure store has no call that is to
--- fail: what its files hold, their space and want of memory are the only causes.
+-- delivered, and those of each write that was done, with the file's name, in the order of the calls; and the pairs of names of which it said that
+-- they are of one file. A sure store has no call that is to fail: what its files hold, their space and want of memory are the only causes.
 pub record Files : Type 0 where
   pub tells : Bool
   pub sure : Bool
@@ -16,6 +16,7 @@ pub record Files : Type 0 where
   pub failed_writes : ℕ
   pub reads : List (List ℕ × List ℕ)
   pub writes : List (List ℕ × List ℕ)
+  pub same : List (List ℕ × List ℕ)
 
 -- a read changes no file, and not the count of failed writes
 pub record KeepsFiles (old new : Files) : Type 0 where
@@ -27,6 +28,7 @@ pub record KeepsFiles (old new : Files) : Type 0 where
   pub overlong_reads : old.overlong_reads ≤ new.overlong_reads
   pub failed_writes : new.failed_writes ≡ old.failed_writes
   pub writes : new.writes ≡ old.writes
+  pub same : new.same ≡ old.same
 
 -- a write changes no file's space, none of the counts of reads, and delivers nothing
 pub record KeepsReads (old new : Files) : Type 0 where
@@ -37,6 +39,7 @@ pub record KeepsReads (old new : Files) : Type 0 where
   pub overlong_reads : new.overlong_reads ≡ old.overlong_reads
   pub failed_writes : old.failed_writes ≤ new.failed_writes
   pub reads : new.reads ≡ old.reads
+  pub same : new.same ≡ old.same
 
 -- exactly these were read, each with its file's name, in this order
 abbrev pub AreDelivered : Files → Files → List (List ℕ × List ℕ) → Type 0
@@ -75,6 +78,15 @@ Holds files name bytes = IsTrue files.tells → files.holds name ≡ Some bytes
 -- a store that tells its files has one file of each name; of another store two names may be of one file
 abbrev pub MayBeOneFile : Files → List ℕ → List ℕ → Type 0
 MayBeOneFile files one other = IsTrue files.tells → one ≡ other
+
+-- the store was asked whether two names are of one file: what it said is kept where it said yes, and nothing else has changed
+abbrev pub said_same : Bool → List ℕ → List ℕ → Files → Files
+said_same true one other files = record files { same = files.same ++ (one, other) ∷ [] }
+said_same false one other files = files
+
+-- it said yes, and that is all that it said
+abbrev pub IsSaidSame : Files → Files → List ℕ → List ℕ → Type 0
+IsSaidSame old new one other = MayBeOneFile old one other × (new.same ≡ old.same ++ (one, other) ∷ [])
 
 -- one write was done: these bytes were given for the file, which holds them, where the store tells it
 abbrev pub IsFileWritten : Files → Files → List ℕ → List ℕ → Type 0

@@ -2,7 +2,7 @@
 ghost use Rattle.std.specs.Prelude.{◌≡◌, ◌≢◌, ◌<◌, ◌+◌, [], IsTrue, true, OnErr, OnOk, length, take};
 ghost use Rattle.std.specs.Io.{appended_bytes};
 ghost use Rattle.sloth_io.specs.Store.{IsAppended, IsMissing, IsTooLong, IsUnwritten, IsFileWritten, MayBeOneFile};
-ghost use Rattle.sloth_io.specs.Store.{KeepsOthers, KeepsFiles, KeepsReads};
+ghost use Rattle.sloth_io.specs.Store.{KeepsOthers, KeepsFiles, KeepsReads, said_same};
 ghost use Rattle.sloth_io.specs.FileStore.{IsGivenTo, IsWholeRest, HasPrefix, HasPrefixBeyond, HasPrefixWithin};
 ghost use Rattle.sloth_io.specs.FileStore.{shown_files, taken_bytes, untold_files, files_after_read};
 
@@ -27,12 +27,13 @@ pub struct FileStore<'a, R> {
     taken: usize,
     reads: History,
     writes: History,
+    same: History,
 }
 
 impl<'a, R: Files> FileStore<'a, R> {
     /// The files that this handle reaches, with no refusal counted, and nothing read or written.
     pub fn new(rt: &'a R, alloc: Global) -> FileStore<'a, R>
-        ensures { shown_files result ≡ untold_files 0 0 0 [] [] }
+        ensures { shown_files result ≡ untold_files 0 0 0 [] [] [] }
     {
         FileStore {
             rt,
@@ -43,6 +44,7 @@ impl<'a, R: Files> FileStore<'a, R> {
             taken: 0,
             reads: History::new(),
             writes: History::new(),
+            same: History::new(),
         }
     }
 
@@ -164,10 +166,15 @@ impl<'a, R: Files> Store for FileStore<'a, R> {
         Err(StoreFault::Failed)
     }
 
-    fn is_same(&self, one: &str, other: &str) -> bool
-        ensures yes { result ≡ true → MayBeOneFile (shown_files self.now) one.now other.now }
-        ensures no { IsTrue (shown_files self.now).tells → one.now ≡ other.now → result ≡ true }
+    fn is_same(&mut self, one: &str, other: &str) -> bool
+        ensures yes { result ≡ true → MayBeOneFile (shown_files self.old) one.now other.now }
+        ensures no { IsTrue (shown_files self.old).tells → one.now ≡ other.now → result ≡ true }
+        ensures said { shown_files self.new ≡ said_same result one.now other.now (shown_files self.old) }
     {
-        is_same_file(self.rt, one, other)
+        let is = is_same_file(self.rt, one, other);
+        if is {
+            self.same = self.same.and(one.as_bytes(), other.as_bytes());
+        }
+        is
     }
 }

@@ -8,7 +8,7 @@ ghost use Rattle.sloth_io.specs.MemStore.{IsFreshStore, is_next_call_failed, fil
 ghost use Rattle.sloth_io.specs.MemStore.{is_too_long, read_fault, shown_files, is_next_write_done};
 ghost use Rattle.sloth_io.specs.MemStore.{IsDelivered, fault_by, is_overlong, reads_after};
 ghost use Rattle.sloth_io.specs.Store.{IsAppended, IsMissing, IsTooLong, IsUnwritten, IsFileWritten, MayBeOneFile};
-ghost use Rattle.sloth_io.specs.Store.{KeepsOthers, KeepsFiles, KeepsReads};
+ghost use Rattle.sloth_io.specs.Store.{KeepsOthers, KeepsFiles, KeepsReads, said_same};
 
 use crate::history::History;
 pub use crate::slots::MemFile;
@@ -29,6 +29,7 @@ pub struct MemStore {
     failed_writes: u64,
     reads: History,
     writes: History,
+    same: History,
 }
 
 impl MemStore {
@@ -49,6 +50,7 @@ impl MemStore {
             failed_writes: 0,
             reads: History::new(),
             writes: History::new(),
+            same: History::new(),
         })
     }
 
@@ -124,6 +126,7 @@ impl MemStore {
         ensures failed_writes { self.new.failed_writes ≡ self.old.failed_writes }
         ensures reads { self.new.reads.items ≡ reads_after outcome name.now bytes.now self.old.reads.items }
         ensures writes { self.new.writes.items ≡ self.old.writes.items }
+        ensures same { self.new.same.items ≡ self.old.same.items }
     {
         match outcome {
             Ok(()) => self.reads = self.reads.and(name.as_bytes(), bytes),
@@ -188,10 +191,15 @@ impl Store for MemStore {
         Err(StoreFault::Failed)
     }
 
-    fn is_same(&self, one: &str, other: &str) -> bool
-        ensures yes { result ≡ true → MayBeOneFile (shown_files self.now) one.now other.now }
-        ensures no { IsTrue (shown_files self.now).tells → one.now ≡ other.now → result ≡ true }
+    fn is_same(&mut self, one: &str, other: &str) -> bool
+        ensures yes { result ≡ true → MayBeOneFile (shown_files self.old) one.now other.now }
+        ensures no { IsTrue (shown_files self.old).tells → one.now ≡ other.now → result ≡ true }
+        ensures said { shown_files self.new ≡ said_same result one.now other.now (shown_files self.old) }
     {
-        one == other
+        let is = one == other;
+        if is {
+            self.same = self.same.and(one.as_bytes(), other.as_bytes());
+        }
+        is
     }
 }

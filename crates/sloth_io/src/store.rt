@@ -1,7 +1,7 @@
 //! Named files.
 ghost use Rattle.std.specs.Prelude.{◌≡◌, ◌≢◌, IsTrue, true, OnErr, OnOk, length};
 ghost use Rattle.sloth_io.specs.Store.{Files, IsAppended, IsMissing, IsTooLong, IsUnwritten, IsFileWritten, MayBeOneFile};
-ghost use Rattle.sloth_io.specs.Store.{KeepsOthers, KeepsFiles, KeepsReads};
+ghost use Rattle.sloth_io.specs.Store.{KeepsOthers, KeepsFiles, KeepsReads, said_same};
 
 use thiserror::Error;
 
@@ -17,7 +17,7 @@ pub enum StoreFault {
 }
 
 /// Named files. A store may tell what they hold, counts its failed reads, overlong reads and failed writes, and tells what was read and
-/// written.
+/// written, and of which names it said that they are of one file.
 pub trait Store {
     /// What the files hold, where the store tells that, its counts, and what was read and written.
     ghost seen: { Self → Files };
@@ -47,7 +47,8 @@ pub trait Store {
         ensures failed_writes { OnOk result ((seen self.new).failed_writes ≡ (seen self.old).failed_writes) };
 
     /// Whether two names are of one plain file, which a write by the one would take from the other.
-    fn is_same(&self, one: &str, other: &str) -> bool
-        ensures yes { result ≡ true → MayBeOneFile (seen self.now) one.now other.now }
-        ensures no { IsTrue (seen self.now).tells → one.now ≡ other.now → result ≡ true };
+    fn is_same(&mut self, one: &str, other: &str) -> bool
+        ensures yes { result ≡ true → MayBeOneFile (seen self.old) one.now other.now }
+        ensures no { IsTrue (seen self.old).tells → one.now ≡ other.now → result ≡ true }
+        ensures said { seen self.new ≡ said_same result one.now other.now (seen self.old) };
 }

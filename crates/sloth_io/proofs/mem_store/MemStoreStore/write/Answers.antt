@@ -36,4 +36,5 @@ returns-then-replace-clause-keeps c =
       overlong_reads = ap (λ (store : MemStore). store.overlong_reads) called;
       failed_writes = omega (arith, writes);
       reads = ap (λ (store : MemStore). store.reads.items) called;
+      same = ap (λ (store : MemStore). store.same.items) called;
     }
