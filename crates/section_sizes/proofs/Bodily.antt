@@ -127,7 +127,7 @@ module _ (config : Config) (app : App) (well : WellFormed config app) (f : ℕ) 
   some_items = subst (λ g. 0 < length g.items) (sym is_func) ((facts_of config app well).has_items f there)
 
   pub walked_items : (returns onward all : List Bool) (ways : List Ways) → KnowsReturns app f returns → Linked func returns onward all ways
-      → (marks : List Bool) → ((i : ℕ) → HasMark marks i ↔ IsReachable ways i) → (i : ℕ) → HasMark marks i ↔ ReachesItem app f i
+      → (marks : List Bool) → ((i : ℕ) → HasMark marks i ↔ IsReachable ways 0 i) → (i : ℕ) → HasMark marks i ↔ ReachesItem app f i
   walked_items returns onward all ways knows linked marks m =
       let l = subst (λ g. Linked g returns onward all ways) is_func linked in
       walked config app (facts_of config app well) f there returns onward all ways l.ways_count l.ways_are knows l.onward_is l.all_is marks m

@@ -6,6 +6,7 @@ use Rattle.sloth_base.specs.Limits.{size_limit}
 use Rattle.section_sizes.specs.declared.graph.Ways.{Ways}
 use Rattle.section_sizes.specs.Graph.{ways_of, HasWay}
 use Rattle.section_sizes.specs.Trails.{last_of, size_of_trail, IsEnded, AreSizes, IsLongest, along, longest_from}
+use Rattle.section_sizes.specs.Loops.{IsSizeOf}
 
 module _ (ways : List Ways) (steps ends : List ℕ) (sizes : AreSizes ways steps ends) where
   -- a trail that ended adds something
@@ -32,7 +33,7 @@ module _ (ways : List Ways) (steps ends : List ℕ) (sizes : AreSizes ways steps
             nothing v e lt = let P : ℕ → Type 0 = λ x. 0 < cond (x == 0) 0 (min size_limit (step + x)) in let z = subst P e lt in absurd (omega (arith, z))
         by (inr n) = let p : 0 < get_or table j 0 = omega (arith, n) in (j, refl, p, along_some step j p)
 
-    module _ (i : ℕ) (known : (j : ℕ) → HasWay ways i j → IsLongest ways steps ends j (get_or table j 0)) where
+    module _ (i : ℕ) where
       abbrev step : ℕ
       step = get_or steps i 0
 
@@ -49,53 +50,53 @@ module _ (ways : List Ways) (steps ends : List ℕ) (sizes : AreSizes ways steps
       value = max end (max by_next by_jump)
 
       -- a trail along a way is no longer than what is computed of it
-      along_covers : (way : Option ℕ) (j : ℕ) (further : List ℕ) → way ≡ Some j → HasWay ways i j → IsEnded ways ends j further
-          → min size_limit (step + size_of_trail steps ends j further) ≤ along table step way
-      along_covers way j further is goes e =
-          let le = (known j goes).none_longer further e in
+      along_covers : (way : Option ℕ) (j : ℕ) (further : List ℕ) → way ≡ Some j → IsEnded ways ends j further
+          → min size_limit (size_of_trail steps ends j further) ≤ get_or table j 0 → min size_limit (step + size_of_trail steps ends j further) ≤ along table step way
+      along_covers way j further is e le =
           let pos = positive j further e.adds in
           let some : 0 < get_or table j 0 = omega (arith, le, pos) in
           subst (λ o. min size_limit (step + size_of_trail steps ends j further) ≤ along table step o) (sym is)
           (subst (λ v. min size_limit (step + size_of_trail steps ends j further) ≤ v) (sym (along_some step j some)) (omega (arith, le)))
 
-      covers : (further : List ℕ) → IsEnded ways ends i further → min size_limit (size_of_trail steps ends i further) ≤ value
-      covers [] e = omega arith
-      covers (j ∷ further) e = by e.trail.0
-        where
-          rest : IsEnded ways ends j further
-          rest = record { trail = e.trail.1; adds = e.adds }
+      pub covers_on : (j : ℕ) (further : List ℕ) → HasWay ways i j → IsEnded ways ends j further → min size_limit (size_of_trail steps ends j further) ≤ get_or table j 0
+          → min size_limit (step + size_of_trail steps ends j further) ≤ longest_from ways table steps ends i
+      covers_on j further (inl is) e le = let more = along_covers (ways_of ways i).next j further is e le in omega (arith, more)
+      covers_on j further (inr is) e le = let more = along_covers (ways_of ways i).jump j further is e le in omega (arith, more)
 
-          by : HasWay ways i j → min size_limit (step + size_of_trail steps ends j further) ≤ value
-          by (inl is) = let le = along_covers (ways_of ways i).next j further is (inl is) rest in omega (arith, le)
-          by (inr is) = let le = along_covers (ways_of ways i).jump j further is (inr is) rest in omega (arith, le)
+      pub covers_end : min size_limit end ≤ longest_from ways table steps ends i
+      covers_end = omega arith
 
       -- and some trail is as long
-      abbrev Attains : ℕ → Type 0
-      Attains size = (further : List ℕ) × IsEnded ways ends i further × (min size_limit (size_of_trail steps ends i further) ≡ size)
+      module _ (had : (j : ℕ) → HasWay ways i j → 0 < get_or table j 0 → IsSizeOf ways steps ends j (get_or table j 0)) where
+        along_attains : (way : Option ℕ) → ((j : ℕ) → way ≡ Some j → HasWay ways i j) → 0 < along table step way → IsSizeOf ways steps ends i (along table step way)
+        along_attains way goes lt =
+            let f = along_is step way lt in
+            let g = goes f.0 f.1 in
+            let t = had f.0 g f.2 in
+            let e = t.2 in
+            let is = f.3 in
+            (f.0 ∷ t.0, record { trail = (g, t.1.trail); adds = t.1.adds }, omega (arith, e, is))
 
-      along_attains : (way : Option ℕ) → ((j : ℕ) → way ≡ Some j → HasWay ways i j) → 0 < along table step way → Attains (along table step way)
-      along_attains way goes lt =
-          let f = along_is step way lt in
-          let g = goes f.0 f.1 in
-          let t = (known f.0 g).attained f.2 in
-          let e = t.2 in
-          let is = f.3 in
-          (f.0 ∷ t.0, record { trail = (g, t.1.trail); adds = t.1.adds }, omega (arith, e, is))
+        end_attains : 0 < end → IsSizeOf ways steps ends i end
+        end_attains lt = let le = sizes.ends_small i in ([], record { trail = tt; adds = lt }, omega (arith, le))
 
-      end_attains : 0 < end → Attains end
-      end_attains lt = let le = sizes.ends_small i in ([], record { trail = tt; adds = lt }, omega (arith, le))
+        pub attains : 0 < value → IsSizeOf ways steps ends i value
+        attains lt = by (cases_lt end (max by_next by_jump)) (cases_lt by_next by_jump)
+          where
+            by : (end < max by_next by_jump) ⊎ (max by_next by_jump ≤ end) → (by_next < by_jump) ⊎ (by_jump ≤ by_next) → IsSizeOf ways steps ends i value
+            by (inr le) other = let e : end ≡ value = omega (arith, le) in subst (IsSizeOf ways steps ends i) e (end_attains (omega (arith, lt, le)))
+            by (inl more) (inl j) =
+                let e : by_jump ≡ value = omega (arith, more, j) in
+                subst (IsSizeOf ways steps ends i) e (along_attains (ways_of ways i).jump (λ k is. inr is) (omega (arith, more, j)))
+            by (inl more) (inr j) =
+                let e : by_next ≡ value = omega (arith, more, j) in
+                subst (IsSizeOf ways steps ends i) e (along_attains (ways_of ways i).next (λ k is. inl is) (omega (arith, more, j)))
 
-      attains : 0 < value → Attains value
-      attains lt = by (cases_lt end (max by_next by_jump)) (cases_lt by_next by_jump)
+      pub is_longest : ((j : ℕ) → HasWay ways i j → IsLongest ways steps ends j (get_or table j 0)) → IsLongest ways steps ends i (longest_from ways table steps ends i)
+      is_longest known = record { none_longer = covers; attained = attains (λ j g. (known j g).attained) }
         where
-          by : (end < max by_next by_jump) ⊎ (max by_next by_jump ≤ end) → (by_next < by_jump) ⊎ (by_jump ≤ by_next) → Attains value
-          by (inr le) other = let e : end ≡ value = omega (arith, le) in subst Attains e (end_attains (omega (arith, lt, le)))
-          by (inl more) (inl j) =
-              let e : by_jump ≡ value = omega (arith, more, j) in
-              subst Attains e (along_attains (ways_of ways i).jump (λ k is. inr is) (omega (arith, more, j)))
-          by (inl more) (inr j) =
-              let e : by_next ≡ value = omega (arith, more, j) in
-              subst Attains e (along_attains (ways_of ways i).next (λ k is. inl is) (omega (arith, more, j)))
-
-      pub is_longest : IsLongest ways steps ends i (longest_from ways table steps ends i)
-      is_longest = record { none_longer = covers; attained = attains }
+          covers : (further : List ℕ) → IsEnded ways ends i further → min size_limit (size_of_trail steps ends i further) ≤ longest_from ways table steps ends i
+          covers [] e = covers_end
+          covers (j ∷ further) e =
+              let rest : IsEnded ways ends j further = record { trail = e.trail.1; adds = e.adds } in
+              covers_on j further e.trail.0 rest ((known j e.trail.0).none_longer further rest)

@@ -22,3 +22,5 @@ pub mod CallOrdering
 pub mod KnownRaised
 pub mod Unseen
 pub mod OrderSummaries
+mod Settling
+mod Looping

@@ -31,13 +31,16 @@ along_small table step None = omega arith
 along_small table step (Some j) =
     cond_both (get_or table j 0 == 0) 0 (min size_limit (step + get_or table j 0)) (λ v. v ≤ size_limit) (λ _. omega arith) (λ _. omega arith)
 
+pub from_limit : (ways : List Ways) (steps ends : List ℕ) → AreSizes ways steps ends → (table : List ℕ) (i : ℕ) → longest_from ways table steps ends i ≤ size_limit
+from_limit ways steps ends sizes table i =
+    let a = along_small table (get_or steps i 0) (ways_of ways i).next in
+    let b = along_small table (get_or steps i 0) (ways_of ways i).jump in
+    let e = sizes.ends_small i in
+    omega (arith, a, b, e)
+
 module _ (ways : List Ways) (steps ends order : List ℕ) (o : IsOrder ways order) (sizes : AreSizes ways steps ends) where
   pub from_small : (table : List ℕ) (i : ℕ) → longest_from ways table steps ends i ≤ size_limit
-  from_small table i =
-      let a = along_small table (get_or steps i 0) (ways_of ways i).next in
-      let b = along_small table (get_or steps i 0) (ways_of ways i).jump in
-      let e = sizes.ends_small i in
-      omega (arith, a, b, e)
+  from_small table i = from_limit ways steps ends sizes table i
 
   pub node_known : (k : ℕ) → k < length order → get_or order k 0 < length ways
   node_known k lt = o.inside (get_or order k 0) (member order k lt)

@@ -67,7 +67,7 @@ module _ (config : Config) (app : App) (w : Facts config app) (f : ℕ) (known :
           at (inr p) = reaches_inside f i j r (step_of app f i j known l.inside stays p.0 (inl (p.1, h.1)))
       by (inr h) = reaches_inside f i j r (step_of app f i j known l.inside stays (way_plain (operation app f i) h.0 h.1) (inr (h.0, h.1, h.2)))
 
-  to_walk : (i : ℕ) → IsReachable ways i → ReachesItem app f i
+  to_walk : (i : ℕ) → IsReachable ways 0 i → ReachesItem app f i
   to_walk i reachable_first = reaches_first f
   to_walk i (reachable_on k j r g) = step k j (to_walk k r) (led (function app f) passed going open_items ways count exact k j g)
 
@@ -87,7 +87,7 @@ module _ (config : Config) (app : App) (w : Facts config app) (f : ℕ) (known :
     on = inl (ap (goes_past passed) item.is ∙ (returns g (i, item)).1 ret, refl);
   }
 
-  from_walk : (h i : ℕ) → h ≡ f → ReachesItem app h i → IsReachable ways i
+  from_walk : (h i : ℕ) → h ≡ f → ReachesItem app h i → IsReachable ways 0 i
   from_walk h i e (reaches_first g) = reachable_first
   from_walk h i e (reaches_inside g k j before s) =
       reachable_on k j (from_walk g k e before)
@@ -97,5 +97,5 @@ module _ (config : Config) (app : App) (w : Facts config app) (f : ℕ) (known :
       (leads (function app f) passed going open_items ways count exact k (k + 1) (back_call k g (subst (λ x. IsItem app x k (op.Invoke g)) e call) (q, inner, ret)))
 
   -- what the search marks
-  pub walked : (marks : List Bool) → ((i : ℕ) → HasMark marks i ↔ IsReachable ways i) → (i : ℕ) → HasMark marks i ↔ ReachesItem app f i
+  pub walked : (marks : List Bool) → ((i : ℕ) → HasMark marks i ↔ IsReachable ways 0 i) → (i : ℕ) → HasMark marks i ↔ ReachesItem app f i
   walked marks m i = (λ h. to_walk i ((m i).0 h), λ r. (m i).1 (from_walk f i refl r))

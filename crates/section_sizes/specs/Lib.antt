@@ -8,3 +8,4 @@ pub mod Ceilings
 pub mod Computed
 pub mod Known
 pub mod Lists
+pub mod Loops

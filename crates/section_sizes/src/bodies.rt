@@ -83,7 +83,7 @@ fn reached_items(
     let onward = onward_items(alloc, func)?;
     let all = all_items(alloc, func)?;
     let ways = body_ways(alloc, func, returns, &onward, &all)?;
-    let marks = reachable(alloc, &ways)?;
+    let marks = reachable(alloc, &ways, 0)?;
     Ok(marks)
 }
 

@@ -35,7 +35,7 @@ fn along(table: &[u32], step: u32, way: Option<usize>) -> u32
     }
 }
 
-fn longest_from(ways: &[Ways], table: &[u32], steps: &[u32], ends: &[u32], node: usize) -> u32
+pub fn longest_from(ways: &[Ways], table: &[u32], steps: &[u32], ends: &[u32], node: usize) -> u32
     requires inside { (j : ℕ) → HasWay ways.now node j → j < length table.now }
     requires small { AreSizesInLimit table.now }
     requires sizes { AreSizes ways.now steps.now ends.now }
@@ -49,7 +49,7 @@ fn longest_from(ways: &[Ways], table: &[u32], steps: &[u32], ends: &[u32], node:
     larger(ends[node], on)
 }
 
-fn zeros(alloc: Global, count: usize) -> Result<Vec<u32>, NoMemory>
+pub fn zeros(alloc: Global, count: usize) -> Result<Vec<u32>, NoMemory>
     ensures count { IfOk result (λ table. length table.items ≡ count) }
     ensures none { IfOk result (λ table. (i : ℕ) → get_or table.items i 0 ≡ 0) }
 {

@@ -49,4 +49,4 @@ returns-clause-exact c =
           (subst (λ (l : List Bool). (i : ℕ) → i < length c.args.func.now.items → ways_of c.in_ok-ways.ways.items i ≡ item_ways c.args.func.now c.args.returns.now c.deref.result.now l i)
           c.deref-2.ensures.value c.in_ok-ways.ensures.exact);
     }) c.in_ok-marks.marks.items
-    (subst (λ (l : List Ways). (i : ℕ) → HasMark c.in_ok-marks.marks.items i ↔ IsReachable l i) c.deref-3.ensures.value c.in_ok-marks.ensures.exact)
+    (subst (λ (l : List Ways). (i : ℕ) → HasMark c.in_ok-marks.marks.items i ↔ IsReachable l 0 i) c.deref-3.ensures.value c.in_ok-marks.ensures.exact)

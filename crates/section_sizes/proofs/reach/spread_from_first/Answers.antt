@@ -7,5 +7,5 @@ keep-requires c = let some = c.requires.some in let count = c.requires.count in 
 
 pub spread-requires-clause-spreading : goal.spread-requires-clause-spreading
 spread-requires-clause-spreading c =
-    first_marked c.args.ways.now c.args.marks.now c.keep.new.marks c.keep.new.list.items c.requires.count c.requires.some c.requires.clear
-    c.in_ok-keep.ensures.marks (c.in_ok-keep.ensures.list ∙ ap (λ s. s ++ 0 ∷ []) c.requires.none)
+    first_marked c.args.ways.now c.args.first c.args.marks.now c.keep.new.marks c.keep.new.list.items c.requires.count c.requires.some c.requires.clear
+    c.in_ok-keep.ensures.marks (c.in_ok-keep.ensures.list ∙ ap (λ s. s ++ c.args.first ∷ []) c.requires.none)
