@@ -106,6 +106,25 @@ fn list_link<R: Files>(rt: &R, rows: &mut Rows, files: &mut FileStore<'_, R>) {
     list_is_link(rt, rows, "link");
 }
 
+// Whether two names are of one file.
+fn list_same<R: Files>(rows: &mut Rows, files: &mut FileStore<'_, R>, one: &str, other: &str) {
+    let is = files.is_same(one, other);
+    rows.row(
+        Piece::Text(one),
+        &[Piece::Text("is"), Piece::Text(other), Piece::Flag(is)],
+    );
+}
+
+// A name and itself, a link and what it leads to, two files, one that is not there, and one that is no plain file.
+fn list_names<R: Files>(rows: &mut Rows, files: &mut FileStore<'_, R>) {
+    list_same(rows, files, "made", "made");
+    list_same(rows, files, "link", "linked");
+    list_same(rows, files, "linked", "./link");
+    list_same(rows, files, "made", "old");
+    list_same(rows, files, "none", "none");
+    list_same(rows, files, "/dev/null", "/dev/null");
+}
+
 // Files that are replaced: their modes, what stands beside them, and links.
 fn list_replaced<R: Files>(rt: &R, rows: &mut Rows, files: &mut FileStore<'_, R>) {
     list_kept_mode(rt, rows, files, "made", 0o640);
@@ -117,6 +136,7 @@ fn list_store(rt: &(impl Files + AllocGlobal), rows: &mut Rows) {
     let mut files = FileStore::new(rt, rt.alloc());
     list_files(rows, &mut files);
     list_replaced(rt, rows, &mut files);
+    list_names(rows, &mut files);
 }
 
 // A line on standard output, which is held back until it is handed on.
