@@ -1,6 +1,5 @@
 -- Texts have one list of lines of the counts of lower tasks at most.
 use Rattle.std.proofs.Common.{◌≡◌, ◌∙◌, ℕ, ◌+◌, ◌<◌, ◌≤◌, List, [], length, get_or, refl, sym, ap, subst, arith, ⊎_elim}
-use Rattle.std.specs.Prelude.{max}
 use Rattle.std.proofs.lemmas.Bool.{cases_lt}
 use Rattle.std.proofs.lemmas.List.{ext_get_or}
 use Rattle.sloth_base.specs.declared.config.Config.{Config}
@@ -12,7 +11,6 @@ use Rattle.osek_scheduler.specs.Apart.{static_priority}
 use Rattle.raised_sections.specs.Sections.{IsLower}
 use Rattle.bound_rules.specs.declared.weights.BodyWeights.{BodyWeights}
 use Rattle.bound_rules.specs.Weights.{no_weights}
-use Rattle.expansion_parts.specs.Long.{IsBranchTo}
 use Rattle.rv32_expand.proofs.Agreeing.{size_same}
 use Rattle.rv32_expand.proofs.Least.{least_is_one}
 use Rattle.event_weights.specs.Items.{length_of, AreLengths, going_counts, ending_counts}

@@ -1,6 +1,6 @@
 //! The commands that read files, judge what they hold, and end with one answer: a row of the table for each.
 ghost use Rattle.std.specs.Option.{option_map};
-ghost use Rattle.std.specs.Prelude.{◌≡◌, Bool, IfSome, IfNone};
+ghost use Rattle.std.specs.Prelude.{◌≡◌, IfSome, IfNone};
 ghost use Rattle.command_line.specs.Tools.{IsAskedFor, tool_word, input_count, further_word, word_count, counts_limit, writes_file};
 ghost use Rattle.command_line.specs.declared.tool.Tool.{Tool as AnyTool};
 
