@@ -13,10 +13,10 @@ use Rattle.sloth_runner.specs.Runner.{HasRun, run_end, end_of}
 use Rattle.sloth_runner.specs.Moments.{sloth_state}
 use Rattle.sloth_runner.specs.declared.runner.Halt.{Halt}
 use Rattle.sloth_runner.specs.declared.runner.RunEnd.TheVariants as ends
-use Rattle.run_samples.specs.declared.sampling.Sample.{Sample}
-use Rattle.run_samples.specs.declared.sampling.Sampler.{Sampler}
-use Rattle.run_samples.specs.Samples.{AreSampledLevels, IsSample, IsSampling, StopsAt, sampled_image, sampled_arrivals, sampled_count}
-use Rattle.run_samples.proofs.OneSample.{samples-more}
+use Rattle.sloth_runner.specs.declared.samples.Sample.{Sample}
+use Rattle.sloth_runner.specs.declared.samples.Sampler.{Sampler}
+use Rattle.sloth_runner.specs.Samples.{AreSampledLevels, IsSample, IsSampling, StopsAt, sampled_image, sampled_arrivals, sampled_count}
+use Rattle.sloth_runner.proofs.OneSample.{samples-more}
 use Rattle.lane_drawing.specs.declared.bars.Bar.{Bar}
 use Rattle.lane_drawing.specs.declared.bars.Look.{Look}
 use Rattle.lane_drawing.specs.declared.scale.Scale.{Scale}

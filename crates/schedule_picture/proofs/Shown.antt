@@ -2,8 +2,8 @@
 use Rattle.std.specs.Prelude.{ℕ, ◌≡◌, ◌≤◌, ◌+◌, List, length, get_or}
 use Rattle.sloth_base.specs.declared.event.Arrival.{Arrival}
 use Rattle.sloth_base.specs.declared.image.Image.{Image}
-use Rattle.run_samples.specs.declared.sampling.Sample.{Sample}
-use Rattle.run_samples.specs.declared.sampling.Sampler.{Sampler}
+use Rattle.sloth_runner.specs.declared.samples.Sample.{Sample}
+use Rattle.sloth_runner.specs.declared.samples.Sampler.{Sampler}
 use Rattle.lane_drawing.specs.Strips.{Lane, IsStrip, empty_lane}
 use Rattle.schedule_picture.specs.LaneLooks.{look_at}
 use Rattle.schedule_picture.specs.Samples.{HasGiven}

@@ -2,7 +2,7 @@
 use Rattle.std.specs.Prelude.{ℕ, ◌+◌, ◌==◌, ◌||◌, is_some, Bool, cond, if◌then◌else◌, List, [], false, get_or, Option, Some, None}
 use Rattle.osek_scheduler.specs.declared.state.TaskState.TheVariants as mode
 use Rattle.sloth_runner.specs.declared.machine_states.Seen.{Seen}
-use Rattle.run_samples.specs.declared.sampling.Sample.{Sample}
+use Rattle.sloth_runner.specs.declared.samples.Sample.{Sample}
 use Rattle.lane_drawing.specs.declared.bars.Look.{Look}
 use Rattle.lane_drawing.specs.declared.bars.Look.TheVariants as look
 use Rattle.lane_drawing.specs.TaskLooks.{task_look}

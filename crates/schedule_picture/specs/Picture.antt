@@ -5,8 +5,8 @@ use Rattle.sloth_base.specs.declared.event.Arrival.{Arrival}
 use Rattle.sloth_base.specs.declared.image.Image.{Image}
 use Rattle.sloth_runner.specs.declared.runner.RunEnd.TheVariants as ends
 use Rattle.sloth_runner.specs.Runner.{run_end}
-use Rattle.run_samples.specs.declared.sampling.Sample.{Sample}
-use Rattle.run_samples.specs.Samples.{AreSampledLevels, AreSamples}
+use Rattle.sloth_runner.specs.declared.samples.Sample.{Sample}
+use Rattle.sloth_runner.specs.Samples.{AreSampledLevels, AreSamples}
 use Rattle.lane_drawing.specs.declared.bars.Bar.{Bar}
 use Rattle.schedule_picture.specs.declared.picture.Picture.{Picture}
 use Rattle.schedule_picture.specs.declared.picture.Picture.TheVariants as picture

@@ -5,9 +5,9 @@ use Rattle.sloth_base.specs.declared.image.Image.{Image}
 use Rattle.sloth_runner.specs.Runner.{run_end}
 use Rattle.sloth_runner.specs.declared.runner.Halt.{Halt}
 use Rattle.sloth_runner.specs.declared.runner.RunEnd.TheVariants as ends
-use Rattle.run_samples.specs.declared.sampling.Sample.{Sample}
-use Rattle.run_samples.specs.declared.sampling.Sampler.{Sampler}
-use Rattle.run_samples.specs.Samples.{AreSamples, IsSampling, sampled_image, sampled_arrivals, sampled_count}
+use Rattle.sloth_runner.specs.declared.samples.Sample.{Sample}
+use Rattle.sloth_runner.specs.declared.samples.Sampler.{Sampler}
+use Rattle.sloth_runner.specs.Samples.{AreSamples, IsSampling, sampled_image, sampled_arrivals, sampled_count}
 use Rattle.lane_drawing.specs.Bars.{AreBars}
 use Rattle.lane_drawing.specs.Strips.{Lane, empty_lane}
 use Rattle.schedule_picture.specs.LaneLooks.{look_at}

@@ -5,7 +5,7 @@ ghost use Rattle.schedule_picture.specs.LaneLooks.{is_kernel, state_look, lane_l
 
 use lane_drawing::Look;
 use lane_drawing::task_looks::task_look;
-use run_samples::Sample;
+use sloth_runner::Sample;
 use sloth_runner::task_states::Seen;
 
 fn is_kernel(sample: &Sample) -> bool

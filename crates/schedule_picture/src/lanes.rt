@@ -7,7 +7,7 @@ ghost use Rattle.schedule_picture.specs.LaneLooks.{lane_look};
 
 use crate::lane_looks::lane_look;
 use lane_drawing::Strip;
-use run_samples::Sample;
+use sloth_runner::Sample;
 use sloth_base::memory::NoMemory;
 use std::alloc::Global;
 

@@ -2,7 +2,7 @@
 //!
 //! `draw` gives the drawing whose bars are those of what each task and the generated code show at each count, with the arrivals of tasks at their
 //! moments and the highest level on top; or where the run stops (`specs/LaneLooks`, `specs/Picture`, `specs/Samples`, `specs/Drawn`, `specs/Lanes`).
-//! Samples: `run_samples` (`Samples`); bars and lines: `lane_drawing` (`Bars`, `Drawing`).
+//! Samples: `sloth_runner` (`Samples`); bars and lines: `lane_drawing` (`Bars`, `Drawing`).
 #![tactic(auto)]
 
 mod lane_looks;

@@ -1,4 +1,4 @@
-//! Runs of an image: the text of what is observed, the numbers of its events, or the states of its tasks at a count.
+//! Runs of an image: the text of what is observed, the numbers of its events, the states of its tasks at a count, or what it shows at each count.
 //!
 //! A runner puts exactly the text of the observed run of any image and any arrivals, ends whole or stopped as the machine does, and on a fault of the
 //! sink has put a first part. Its tally is exactly the numbers of the events of that run by their kinds. A run of a sound image never stops
@@ -8,6 +8,9 @@
 //! At a moment of a run the lines of exactly the arrivals that are due become pending, finished events are counted, each by its kind, and the states
 //! of the tasks are seen exactly where interrupts are open (`arrive_front`, `count_events`, `look`; `specs/Moments`). The run: `rv32_machine`
 //! (`Run`), `observe` (`Observe`), `sim_induction` (`Sound`).
+//!
+//! The sample of each count in turn: the tasks and the running one as of the last count up to it that finds interrupts open; the pending lines, the
+//! level and the mask as they are; the line that is taken; or exactly where the run stops (`Sampler::new`, `Sampler::next`; `specs/Samples`).
 #![tactic(auto)]
 
 pub mod arrivals;
@@ -15,10 +18,12 @@ pub mod counting;
 pub mod laws;
 pub mod machine_states;
 pub mod runner;
+mod samples;
 pub mod summary;
 pub mod tally;
 pub mod task_states;
 
 pub use runner::{Halt, RunEnd, Runner};
+pub use samples::{Sample, Sampler};
 pub use tally::Tally;
 pub use task_states::{Interrupts, Seen, Sight};

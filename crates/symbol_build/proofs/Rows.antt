@@ -6,7 +6,7 @@ use Rattle.asm_lines.proofs.Counts.{lines_few}
 use Rattle.asm_lines.specs.Faults.{source_lines}
 use Rattle.asm_scopes.specs.Bodies.{bodies_of}
 use Rattle.asm_scopes.specs.Scopes.{scope_of}
-use Rattle.dwarf_sections.proofs.Matrix.{program_makes}
+use Rattle.symbol_image.proofs.Matrix.{program_makes}
 use Rattle.mem_map.specs.Plan.{items_at}
 use Rattle.mem_map.specs.Starts.{code_byte_count}
 use Rattle.mem_map.specs.Zones.{data_zone}

@@ -1,9 +1,9 @@
 -- The file of texts says where its source stands.
 use Rattle.std.proofs.Common.{◌<◌, ◌^◌, List, ℕ, length, refl, subst, sym}
 use Rattle.asm_lines.specs.Faults.{source_lines}
-use Rattle.dwarf_sections.proofs.Showing.{info_shows}
-use Rattle.dwarf_sections.specs.LineMachine.{HasMatrix, wanted_matrix}
-use Rattle.dwarf_sections.specs.LineSection.{line_program}
+use Rattle.symbol_image.proofs.Showing.{info_shows}
+use Rattle.symbol_image.specs.LineMachine.{HasMatrix, wanted_matrix}
+use Rattle.symbol_image.specs.LineSection.{line_program}
 use Rattle.mem_map.specs.Zones.{data_zone}
 use Rattle.symbol_image.specs.DataLines.{data_lines}
 use Rattle.symbol_image.specs.FileParts.{FileParts}

@@ -1,7 +1,7 @@
 -- Each section stands in the file where its header says.
 use Rattle.std.proofs.Common.{◌≡◌, ◌<◌, ◌≤◌, ◌+◌, ◌*◌, ◌^◌, ◌∙◌, ℕ, zero, suc, List, [], ◌∷◌, ◌++◌, length, take, drop, codes, refl, sym, ap, subst, arith, append_assoc}
 use Rattle.std.proofs.lemmas.List.{append-nil, drop-drop, drop_at, length-append, length-drop, take-append-drop, take_at}
-use Rattle.dwarf_sections.specs.Fields.{text_bytes}
+use Rattle.symbol_image.specs.Fields.{text_bytes}
 use Rattle.elf_image.specs.ElfText.{padding}
 use Rattle.image_file.specs.Fields.{four_bytes, two_bytes}
 use Rattle.map_rows.specs.declared.borders.Borders.{Borders}

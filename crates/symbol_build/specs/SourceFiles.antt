@@ -5,9 +5,9 @@ use Rattle.sloth_base.specs.declared.app.App.{App}
 use Rattle.sloth_region.specs.declared.map.Map.{Map}
 use Rattle.asm_lines.specs.Faults.{source_lines}
 use Rattle.mem_map.specs.Zones.{data_zone}
-use Rattle.dwarf_sections.specs.EntryTree.{HasCodeEntries}
-use Rattle.dwarf_sections.specs.LineMachine.{HasMatrix, wanted_matrix}
-use Rattle.dwarf_sections.specs.LineSection.{line_program, line_section}
+use Rattle.symbol_image.specs.EntryTree.{HasCodeEntries}
+use Rattle.symbol_image.specs.LineMachine.{HasMatrix, wanted_matrix}
+use Rattle.symbol_image.specs.LineSection.{line_program, line_section}
 use Rattle.symbol_image.specs.DataLines.{data_lines}
 use Rattle.symbol_image.specs.Layout.{Section}
 use Rattle.symbol_image.specs.SymbolFile.{kinds_section}

@@ -8,9 +8,9 @@ use Rattle.sloth_region.specs.declared.map.Map.{Map}
 use Rattle.sloth_source.specs.Texts.{AreAccepted}
 use Rattle.mem_map.specs.Planned.{IsPlanned}
 use Rattle.mem_map.specs.Zones.{data_zone}
-use Rattle.dwarf_sections.specs.LineMachine.{HasMatrix, wanted_matrix}
+use Rattle.symbol_image.specs.LineMachine.{HasMatrix, wanted_matrix}
 use Rattle.map_rows.specs.LineRows.{line_rows}
-use Rattle.dwarf_sections.specs.LineSection.{line_program}
+use Rattle.symbol_image.specs.LineSection.{line_program}
 use Rattle.map_rows.specs.declared.line_rows.LineRow.{LineRow}
 
 -- the rows of task code by its map

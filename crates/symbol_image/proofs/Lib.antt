@@ -1,5 +1,12 @@
 pub mod Counts
+pub mod Groups
+pub mod Lengths
 pub mod Loads
 pub mod Losses
+pub mod Matrix
+pub mod OneProgram
 pub mod Put
 pub mod Reading
+pub mod Showing
+pub mod Steps
+pub mod Whole

@@ -3,7 +3,7 @@ use Rattle.std.proofs.Common.{◌≡◌, ◌<◌, ◌≤◌, ◌+◌, ◌-◌, �
 use Rattle.std.proofs.lemmas.Bool.{cases_lt}
 use Rattle.std.proofs.Math.Seq.{take-add}
 use Rattle.std.proofs.lemmas.List.{append-nil, drop-drop, drop_at, get_or-drop, get_or_append_left, length-append, length-drop, length-take-le, take-append-drop, take_all}
-use Rattle.dwarf_sections.specs.Fields.{text_bytes}
+use Rattle.symbol_image.specs.Fields.{text_bytes}
 use Rattle.elf_image.specs.ElfText.{padding}
 use Rattle.image_file.proofs.Unique.{four}
 use Rattle.image_file.specs.Fields.{four_bytes, two_bytes}

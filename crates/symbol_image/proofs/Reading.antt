@@ -2,7 +2,7 @@
 use Rattle.std.proofs.Common.{◌≡◌, ◌<◌, ◌+◌, ◌*◌, ◌^◌, ◌∙◌, ℕ, zero, suc, List, [], ◌∷◌, ◌++◌, length, take, drop, refl, sym, ap, arith, append_assoc}
 use Rattle.std.specs.List.{flat_map}
 use Rattle.std.proofs.lemmas.List.{drop-drop, drop_at, length-append, length-drop, take_at}
-use Rattle.dwarf_sections.specs.Fields.{text_bytes}
+use Rattle.symbol_image.specs.Fields.{text_bytes}
 use Rattle.image_file.specs.Fields.{four_bytes, two_bytes}
 use Rattle.symbol_image.specs.Reading.{ReadsAs, SymbolsReadBack}
 use Rattle.symbol_image.specs.SymbolTable.{name_table, no_symbol_bytes, section_number, symbol_bytes, symbol_table, table_from}

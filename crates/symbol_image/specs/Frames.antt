@@ -5,9 +5,9 @@ use Rattle.sloth_base.specs.MemoryMap.{memory_base}
 use Rattle.sloth_base.specs.Named.{function}
 use Rattle.sloth_base.specs.declared.app.App.{App}
 use Rattle.sloth_base.specs.declared.places.Places.{Places}
-use Rattle.dwarf_sections.specs.BodyFrames.{body_rules}
-use Rattle.dwarf_sections.specs.FrameEntries.{common_entry, frame_entry, is_unknown}
-use Rattle.dwarf_sections.specs.Fields.{unsigned_leb}
+use Rattle.symbol_image.specs.BodyFrames.{body_rules}
+use Rattle.symbol_image.specs.FrameEntries.{common_entry, frame_entry, is_unknown}
+use Rattle.symbol_image.specs.Fields.{unsigned_leb}
 use Rattle.map_rows.specs.LineRows.{item_count}
 use Rattle.map_rows.specs.declared.piece_rows.Kind.{Kind}
 use Rattle.map_rows.specs.declared.piece_rows.Kind.TheVariants as kind

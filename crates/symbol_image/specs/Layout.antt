@@ -3,7 +3,7 @@ use Rattle.std.specs.Prelude.{ℕ, ◌+◌, List, [], ◌∷◌, ◌++◌, lengt
 use Rattle.std.specs.List.{flat_map}
 use Rattle.elf_image.specs.ElfText.{padding}
 use Rattle.image_file.specs.Fields.{four_bytes}
-use Rattle.dwarf_sections.specs.Fields.{text_bytes}
+use Rattle.symbol_image.specs.Fields.{text_bytes}
 
 -- a section: its name, what its header says but for the places of the name and of the bytes, and its bytes in the file
 pub record Section : Type 0 where

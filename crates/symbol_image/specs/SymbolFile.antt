@@ -1,10 +1,10 @@
 -- The file of an image that debuggers read.
 use Rattle.std.specs.Prelude.{ℕ, ◌+◌, ◌-◌, List, [], ◌∷◌, ◌++◌, codes, drop, length, take}
 use Rattle.sloth_base.specs.MemoryMap.{memory_base, vectors_base}
-use Rattle.dwarf_sections.specs.Abbreviations.{abbreviation_section}
-use Rattle.dwarf_sections.specs.Entries.{info_section}
+use Rattle.symbol_image.specs.Abbreviations.{abbreviation_section}
+use Rattle.symbol_image.specs.Entries.{info_section}
 use Rattle.map_rows.specs.LineRows.{line_rows}
-use Rattle.dwarf_sections.specs.LineSection.{line_section}
+use Rattle.symbol_image.specs.LineSection.{line_section}
 use Rattle.map_rows.specs.Rows.{map_rows}
 use Rattle.map_rows.specs.declared.piece_rows.Row.{Row}
 use Rattle.map_rows.specs.Borders.{borders_of}

@@ -3,7 +3,7 @@ use Rattle.std.specs.Prelude.{ℕ, ◌+◌, ◌*◌, ltb, cond, List, [], ◌∷
 use Rattle.std.specs.List.{flat_map}
 use Rattle.image_file.specs.Fields.{four_bytes, two_bytes}
 use Rattle.sloth_base.specs.MemoryMap.{vectors_base}
-use Rattle.dwarf_sections.specs.Fields.{text_bytes}
+use Rattle.symbol_image.specs.Fields.{text_bytes}
 use Rattle.map_rows.specs.declared.borders.Borders.{Borders}
 use Rattle.symbol_image.specs.declared.symbol.Binding.{Binding}
 use Rattle.symbol_image.specs.declared.symbol.Binding.TheVariants as binding

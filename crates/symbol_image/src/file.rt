@@ -12,19 +12,20 @@ ghost use Rattle.symbol_image.specs.SymbolFile.{code_sections, data_sections, de
 ghost use Rattle.symbol_image.specs.Symbols.{locals_of, symbols_of};
 ghost use Rattle.symbol_image.specs.WordSymbols.{HasWords};
 
+use crate::abbreviations::abbreviation_section;
+use crate::fields::put_bytes;
 use crate::frames::frame_section;
 use crate::headers::{put_elf_header, put_segments};
+use crate::info::info_section;
 use crate::layout::{
     FRONT, Laid, SectionFields, lay, lay_end, lay_names, lay_plain, lay_strings, none_laid,
 };
+use crate::line_section::line_section;
 use crate::parts::Parts;
 use crate::piece_symbols::{push_globals, push_locals};
 use crate::symbol::Symbol;
 use crate::symbol_table::{Tables, tables_of};
 use crate::word_symbols::push_words;
-use dwarf_sections::fields::put_bytes;
-use dwarf_sections::line_section::line_section;
-use dwarf_sections::{abbreviation_section, info_section};
 use map_rows::Row;
 use map_rows::borders::{Borders, Range, borders_of, code_range};
 use sloth_base::memory::NoMemory;

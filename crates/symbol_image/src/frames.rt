@@ -5,9 +5,9 @@ ghost use Rattle.map_rows.specs.LineRows.{item_count};
 ghost use Rattle.symbol_image.specs.FrameRows.{HasFrames};
 ghost use Rattle.symbol_image.specs.Frames.{body_entry, entry_of, first_loss, frame_section, has_result, loses, loss_rule, prologue_rules, row_entry, service_rules, word_at, writes, writes_csr};
 
-use dwarf_sections::body_frames::body_rules;
-use dwarf_sections::fields::{put_bytes, put_unsigned};
-use dwarf_sections::frame_entries::{put_common_entry, put_frame_entry, put_unknown};
+use crate::body_frames::body_rules;
+use crate::fields::{put_bytes, put_unsigned};
+use crate::frame_entries::{put_common_entry, put_frame_entry, put_unknown};
 use map_rows::{Kind, Row};
 use sloth_base::app::{App, Func};
 use sloth_base::memory::NoMemory;

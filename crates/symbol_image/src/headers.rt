@@ -7,7 +7,7 @@ ghost use Rattle.symbol_image.specs.Headers.{elf_header, elf_kind, elf_places, s
 ghost use Rattle.symbol_image.specs.HeaderViews.{AreOrdered, segment_of};
 
 use crate::layout::FRONT;
-use dwarf_sections::fields::{put_bytes, put_length};
+use crate::fields::{put_bytes, put_length};
 use elf_image::headers::put_words;
 use image_file::number_fields::put_u16;
 use map_rows::borders::Borders;

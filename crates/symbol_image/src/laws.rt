@@ -1,4 +1,6 @@
 //! Laws of the definitions.
+ghost use Rattle.symbol_image.specs.EntryTree.{InfoHasCode};
+ghost use Rattle.symbol_image.specs.LineMachine.{OneMatrix, ProgramHasRows};
 ghost use Rattle.symbol_image.specs.Loading.{LoadedOnce, MemoryIsLoaded, NothingElseIsLoaded};
 ghost use Rattle.symbol_image.specs.Reading.{SymbolsReadBack};
 ghost use Rattle.symbol_image.specs.Sections.{SectionsAgree};
@@ -18,4 +20,15 @@ pub fn symbols_read_back()
 /// The sections of words, code and data have the bytes of the segments, at the same addresses.
 pub fn sections_and_segments_agree()
     ensures { SectionsAgree }
+{}
+
+/// The program of rows whose addresses and lines do not fall makes exactly them on the standard's machine, and one end; bytes make one matrix at most.
+pub fn lines_are_rows()
+    ensures makes { ProgramHasRows }
+    ensures one { OneMatrix }
+{}
+
+/// The section of entries reads by the table of kinds; each symbol and each body is among them, and each symbol's type is that of its bytes.
+pub fn entries_show_code()
+    ensures { InfoHasCode }
 {}

@@ -5,7 +5,7 @@ ghost use Rattle.image_file.specs.Fields.{four_bytes};
 ghost use Rattle.symbol_image.specs.Layout.{laid_with, none_laid, padded, plain, section_header, strings, whole, with_names};
 ghost use Rattle.symbol_image.specs.LayoutViews.{laid_of, section_of};
 
-use dwarf_sections::fields::{put_bytes, put_length, put_text};
+use crate::fields::{put_bytes, put_length, put_text};
 use elf_image::headers::put_words;
 use sloth_base::memory::NoMemory;
 use std::alloc::Global;

@@ -5,7 +5,7 @@ use Rattle.std.proofs.lemmas.Bool.{cases_lt, false≢true}
 use Rattle.std.proofs.lemmas.Bool.Decides.{eqb_tells, leb_tells}
 use Rattle.sloth_base.specs.declared.lines.Owners.{Owners}
 use Rattle.sloth_base.specs.Limits.{task_limit, counter_limit}
-use Rattle.run_samples.specs.declared.sampling.Sample.{Sample}
+use Rattle.sloth_runner.specs.declared.samples.Sample.{Sample}
 use Rattle.wave_text.specs.declared.signals.Scope.{Scope}
 use Rattle.wave_text.specs.declared.signals.Scope.TheVariants as scope
 use Rattle.wave_text.specs.declared.signals.Width.{Width}

@@ -2,7 +2,7 @@
 use Rattle.std.specs.Prelude.{ℕ, ◌≡◌, ◌<◌, ◌+◌, ◌==◌, Bool, false, cond, Option, Some, None, get_or}
 use Rattle.std.specs.Option.{option_map}
 use Rattle.osek_scheduler.specs.declared.state.TaskState.TheVariants as mode
-use Rattle.run_samples.specs.declared.sampling.Sample.{Sample}
+use Rattle.sloth_runner.specs.declared.samples.Sample.{Sample}
 use Rattle.sloth_base.specs.declared.lines.Owners.{Owners}
 use Rattle.sloth_base.specs.Limits.{task_limit, counter_limit}
 use Rattle.sloth_inspect.specs.StateNumbers.{state_number}

@@ -11,7 +11,7 @@ use crate::signals::{
     LEVEL, MASKED, Scope, Width, first_code, level_value, masked_value, value_of, width_of,
 };
 use itoa::Buffer;
-use run_samples::Sample;
+use sloth_runner::Sample;
 use sloth_base::lines::Owners;
 use sloth_base::memory::NoMemory;
 

@@ -5,7 +5,7 @@
 //! that it has in the sample; that a text has one list of entries is not proved (`waves_read_back`, `specs/Reading`).
 //!
 //! The code and the width of each signal, and its value in a sample: the number of a task's state, whether it runs, what is pending, the level, the
-//! mask (`value_of`, `level_value`, `masked_value`; `specs/Signals`). Samples: `run_samples` (`Samples`).
+//! mask (`value_of`, `level_value`, `masked_value`; `specs/Signals`). Samples: `sloth_runner` (`Samples`).
 #![tactic(auto)]
 
 mod dump;

@@ -8,7 +8,7 @@ ghost use Rattle.wave_text.specs.Waves.{AreWaves};
 
 use crate::dump::Dump;
 use crate::header::header;
-use run_samples::Sampler;
+use sloth_runner::Sampler;
 use sloth_base::event::Arrival;
 use sloth_base::image::Image;
 use sloth_base::lines::Owners;

@@ -1,5 +1,5 @@
 use Rattle.std.proofs.Common.{◌∙◌, ◌+◌, ap, arith}
-use Rattle.run_samples.specs.Samples.{sampled_image, sampled_arrivals}
+use Rattle.sloth_runner.specs.Samples.{sampled_image, sampled_arrivals}
 use Rattle.schedule_picture.proofs.Sampling.{shown_none, shown_more}
 use Rattle.schedule_picture.proofs.picture.show_all.Goals as goal
 

@@ -1,6 +1,6 @@
 use Rattle.std.proofs.Common.{◌∙◌, ℕ, List, codes, ap}
 use Rattle.std.proofs.lemmas.Result.{on_ok_weaker}
-use Rattle.dwarf_sections.specs.Entries.{info_section}
+use Rattle.symbol_image.specs.Entries.{info_section}
 use Rattle.symbol_image.specs.FileParts.{FileParts}
 use Rattle.symbol_image.specs.Layout.{laid_with, plain}
 use Rattle.symbol_image.specs.LayoutViews.{laid_of}

@@ -1,7 +1,7 @@
 use Rattle.std.proofs.Common.{◌∙◌, ℕ, List, codes, ap}
 use Rattle.std.proofs.lemmas.Result.{on_ok_weaker}
 use Rattle.map_rows.specs.LineRows.{line_rows}
-use Rattle.dwarf_sections.specs.LineSection.{line_section}
+use Rattle.symbol_image.specs.LineSection.{line_section}
 use Rattle.symbol_image.specs.FileParts.{FileParts}
 use Rattle.symbol_image.specs.Layout.{laid_with, plain}
 use Rattle.symbol_image.specs.LayoutViews.{laid_of}

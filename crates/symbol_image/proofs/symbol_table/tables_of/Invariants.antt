@@ -1,6 +1,6 @@
 use Rattle.std.proofs.Common.{◌≡◌, ◌++◌, ◌∷◌, drop, length, take}
 use Rattle.std.specs.List.{flat_map}
-use Rattle.dwarf_sections.specs.Fields.{text_bytes}
+use Rattle.symbol_image.specs.Fields.{text_bytes}
 use Rattle.symbol_image.specs.SymbolTable.{no_symbol_bytes, table_from}
 use Rattle.symbol_image.specs.declared.symbol.Symbol.{Symbol}
 use Rattle.symbol_image.proofs.symbol_table.tables_of.Given as goal

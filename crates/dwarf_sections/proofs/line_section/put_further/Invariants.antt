@@ -1,8 +1,0 @@
-use Rattle.std.proofs.Common.{◌≡◌, ◌++◌, drop}
-use Rattle.dwarf_sections.specs.LineSection.{further_rows}
-use Rattle.dwarf_sections.proofs.line_section.put_further.Given as goal
-
-abbrev pub invariant-loop-row : goal.invariant-loop-row
-invariant-loop-row l =
-    l.section.items ++ further_rows l.last.address l.last.line (drop l.row-index l.rows) l.end
-    ≡ l.fn.section.items ++ further_rows l.fn.first.address l.fn.first.line l.rows l.end

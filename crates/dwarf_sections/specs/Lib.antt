@@ -1,9 +1,0 @@
-pub mod Abbreviations
-pub mod BodyFrames
-pub mod Entries
-pub mod EntryBytes
-pub mod EntryTree
-pub mod Fields
-pub mod FrameEntries
-pub mod LineMachine
-pub mod LineSection

@@ -1,2 +1,0 @@
-pub mod NextSample
-pub mod OneSample

@@ -1,0 +1,57 @@
+use Rattle.std.proofs.Common.{◌∙◌, ap}
+use Rattle.sloth_runner.specs.Runner.{image_of}
+use Rattle.sloth_runner.specs.Moments.{sloth_state}
+use Rattle.sloth_runner.specs.TaskStates.{interrupts_in}
+use Rattle.sloth_runner.specs.declared.runner.Runner.{Runner}
+use Rattle.sloth_runner.proofs.NextSample.{IsLookedAt, sample-is, sampling-behind, stops-there}
+use Rattle.sloth_runner.proofs.samples.Sampler.next.Goals as goal
+
+pub returns-in-Ok-clause-sample : goal.returns-in-Ok-clause-sample
+returns-in-Ok-clause-sample c =
+    let a : Runner = c.arrive_now.new.self in
+    let b : Runner = c.look.new.self in
+    let d : Runner = c.interrupts-interrupts.new.self in
+    let h : IsLookedAt c.args.self.now a d c.look.result c.or-self.result c.interrupts-interrupts.result = record {
+      sampling = c.requires.sampling;
+      arrives = c.arrive_now.ensures.arrived;
+      image_is = c.arrive_now.ensures.image;
+      observer = c.arrive_now.ensures.observer;
+      same = c.interrupts-interrupts.ensures.same ∙ c.look.ensures.same;
+      seen_is = c.look.ensures.seen;
+      last_is = c.or-self.ensures;
+      interrupts_is = c.interrupts-interrupts.ensures.interrupts ∙ ap (λ (x : Runner). interrupts_in (image_of x) (sloth_state x.machine)) c.look.ensures.same;
+    } in
+    sample-is c.args.self.now a d c.look.result c.or-self.result c.interrupts-interrupts.result h c.execute.new.self c.in-Ok.step c.in-Ok.ensures.ok
+
+pub returns-in-Ok-clause-sampling : goal.returns-in-Ok-clause-sampling
+returns-in-Ok-clause-sampling c =
+    let a : Runner = c.arrive_now.new.self in
+    let d : Runner = c.interrupts-interrupts.new.self in
+    let h : IsLookedAt c.args.self.now a d c.look.result c.or-self.result c.interrupts-interrupts.result = record {
+      sampling = c.requires.sampling;
+      arrives = c.arrive_now.ensures.arrived;
+      image_is = c.arrive_now.ensures.image;
+      observer = c.arrive_now.ensures.observer;
+      same = c.interrupts-interrupts.ensures.same ∙ c.look.ensures.same;
+      seen_is = c.look.ensures.seen;
+      last_is = c.or-self.ensures;
+      interrupts_is = c.interrupts-interrupts.ensures.interrupts ∙ ap (λ (x : Runner). interrupts_in (image_of x) (sloth_state x.machine)) c.look.ensures.same;
+    } in
+    sampling-behind c.args.self.now a d c.look.result c.or-self.result c.interrupts-interrupts.result h c.execute.new.self c.in-Ok.step c.in-Ok.ensures.ok
+    c.execute.ensures.coming c.execute.ensures.image c.execute.ensures.observer
+
+pub returns-in-Err-clause-stops : goal.returns-in-Err-clause-stops
+returns-in-Err-clause-stops c =
+    let a : Runner = c.arrive_now.new.self in
+    let d : Runner = c.interrupts-interrupts.new.self in
+    let h : IsLookedAt c.args.self.now a d c.look.result c.or-self.result c.interrupts-interrupts.result = record {
+      sampling = c.requires.sampling;
+      arrives = c.arrive_now.ensures.arrived;
+      image_is = c.arrive_now.ensures.image;
+      observer = c.arrive_now.ensures.observer;
+      same = c.interrupts-interrupts.ensures.same ∙ c.look.ensures.same;
+      seen_is = c.look.ensures.seen;
+      last_is = c.or-self.ensures;
+      interrupts_is = c.interrupts-interrupts.ensures.interrupts ∙ ap (λ (x : Runner). interrupts_in (image_of x) (sloth_state x.machine)) c.look.ensures.same;
+    } in
+    stops-there c.args.self.now a d c.look.result c.or-self.result c.interrupts-interrupts.result h c.in-Err.halt c.in-Err.ensures.err

@@ -1,0 +1,91 @@
+//! Samples of a run: one at each count, after the arrivals of the count and before a line is taken.
+ghost use Rattle.std.specs.Prelude.{◌≡◌, ◌<◌, ◌+◌, OnOk, IfOk, IfErr};
+ghost use Rattle.sloth_base.specs.ImageRange.{InFormat};
+ghost use Rattle.sloth_base.specs.Arrivals.{AreArrivals};
+ghost use Rattle.sloth_base.specs.Owners.{owners_named};
+ghost use Rattle.sloth_base.specs.Limits.{count_limit};
+ghost use Rattle.sloth_runner.specs.Samples.{AreSampledLevels, IsSample, IsSampling, StopsAt, sampled_image, sampled_arrivals, sampled_count};
+
+use sloth_base::event::Arrival;
+use sloth_base::image::Image;
+use sloth_base::limits::TASK_LIMIT;
+use sloth_base::memory::NoMemory;
+use sloth_base::numbers::Line;
+use crate::runner::{Halt, Runner};
+use crate::task_states::{Interrupts, Seen};
+use std::alloc::Global;
+
+/// What a run shows at a count.
+#[derive(Clone, Copy)]
+pub struct Sample {
+    /// The tasks, as of the last count up to this one that finds interrupts open, if one does.
+    pub seen: Option<Seen>,
+    pub interrupts: Interrupts,
+    /// The line that is taken before the count's instruction, if one is.
+    pub taken: Option<Line>,
+}
+
+/// A run of an image, taken count by count. It keeps the image and the arrivals, lent, and no sample but the last one's tasks.
+pub struct Sampler<'a> {
+    pub(crate) runner: Runner<'a>,
+    pub(crate) last: Option<Seen>,
+}
+
+// Written out: what is derived is proved anew wherever a value is let go.
+impl Drop for Sampler<'_> {
+    fn drop(self) {
+        let Sampler { runner: _, last: _ } = self;
+    }
+}
+
+impl<'a> Sampler<'a> {
+    /// A sampler that has run nothing, with all memory of a run.
+    pub fn new(
+        alloc: Global,
+        image: &'a Image,
+        arrivals: &'a [Arrival],
+    ) -> Result<Sampler<'a>, NoMemory>
+        requires format { InFormat image.now }
+        requires arrivals { AreArrivals (owners_named image.now) arrivals.now }
+        ensures sampling { IfOk result IsSampling }
+        ensures image { IfOk result (λ sampler. sampled_image sampler ≡ image.now) }
+        ensures arrivals { IfOk result (λ sampler. sampled_arrivals sampler ≡ arrivals.now) }
+        ensures fresh { IfOk result (λ sampler. sampled_count sampler ≡ 0) }
+    {
+        let runner = Runner::new(alloc, image, arrivals)?;
+        Ok(Sampler { runner, last: None })
+    }
+
+    /// The sample of the next count, whose instruction is then executed, unless the machine stops at it.
+    pub fn next(&mut self) -> Result<Sample, Halt>
+        requires few { sampled_count self.old < count_limit }
+        requires sampling { IsSampling self.old }
+        ensures sample { IfOk result (IsSample (sampled_image self.old) (sampled_arrivals self.old) (sampled_count self.old)) }
+        ensures stops { IfErr result (StopsAt (sampled_image self.old) (sampled_arrivals self.old) (sampled_count self.old)) }
+        ensures sampling { OnOk result (IsSampling self.new) }
+        ensures count { OnOk result (sampled_count self.new ≡ sampled_count self.old + 1) }
+        ensures image { sampled_image self.new ≡ sampled_image self.old }
+        ensures arrivals { sampled_arrivals self.new ≡ sampled_arrivals self.old }
+    {
+        self.runner.arrive_now();
+        self.last = self.runner.look().or(self.last);
+        let interrupts = self.runner.interrupts();
+        match self.runner.execute() {
+            Ok(step) => Ok(Sample {
+                seen: self.last,
+                interrupts,
+                taken: step.entered,
+            }),
+            Err(halt) => Err(halt),
+        }
+    }
+
+    /// The levels of the lines of the image's tasks, in `TASK_LIMIT` places.
+    pub fn levels(&mut self) -> [u8; TASK_LIMIT]
+        requires sampling { IsSampling self.old }
+        ensures levels { AreSampledLevels (sampled_image self.old) (sampled_arrivals self.old) (sampled_count self.old) result }
+        ensures same { self.new ≡ self.old }
+    {
+        self.runner.levels()
+    }
+}

@@ -1,0 +1,177 @@
+//! The entries of bodies.
+ghost use Rattle.std.specs.Prelude.{◌≡◌, ◌≤◌, ◌+◌, ◌++◌, OnOk, length, map};
+ghost use Rattle.std.specs.List.{list_any};
+ghost use Rattle.sloth_base.specs.Limits.{item_limit};
+ghost use Rattle.symbol_image.specs.Entries.{all_body_bytes, body_entries, body_entry, end_entries, frame_entries, frame_type_entries, frame_variable_entry, has_below, inner_labels, label_entry, stands_before};
+ghost use Rattle.symbol_image.specs.EntryBytes.{entries_bytes, entry_bytes};
+ghost use Rattle.map_rows.specs.LineRows.{item_count};
+
+use crate::data::put_array;
+use crate::fields::{put_bytes, put_length, put_text};
+use crate::types::Types;
+use image_file::number_fields::put_u32;
+use map_rows::line_rows::{body_end, item_address};
+use sloth_base::app::{Func, Label};
+use sloth_base::memory::NoMemory;
+use sloth_base::places::Places;
+
+// Whether a label stands before one of so many items.
+fn stands_before(items: usize, label: &Label) -> bool
+    ensures { result ≡ stands_before items label.now }
+{
+    (label.item as usize) < items
+}
+
+// Whether a label does.
+fn any_stands_before(items: usize, labels: &[Label]) -> bool
+    ensures { result ≡ list_any (stands_before items) labels.now }
+{
+    labels.iter().any(|label| stands_before(items, label))
+}
+
+// Whether something stands below a body.
+fn has_below(func: &Func) -> bool
+    ensures { result ≡ has_below func.now }
+{
+    if func.frame_words != 0 {
+        return true;
+    }
+    any_stands_before(func.items.items().len(), func.labels.items())
+}
+
+// Appends the type of the words of a frame, if it has any.
+fn put_frame_type(info: &mut Vec<u8>, types: Types, words: u32) -> Result<(), NoMemory>
+    ensures { OnOk result (info.new.items ≡ info.old.items ++ entries_bytes (frame_type_entries types words)) }
+{
+    if words == 0 {
+        return Ok(());
+    }
+    put_array(info, types, types.word, words as usize)
+}
+
+// Appends a frame whose type stands at a place.
+#[tactic(auto, unfolding(crate::specs::Fields::unsigned_leb))]
+fn put_frame_variable(info: &mut Vec<u8>, at: usize) -> Result<(), NoMemory>
+    ensures { OnOk result (info.new.items ≡ info.old.items ++ entry_bytes (frame_variable_entry at)) }
+{
+    put_bytes(info, &[7])?;
+    put_text(info, b"frame")?;
+    put_length(info, at)?;
+    put_bytes(info, &[2, 114, 0])
+}
+
+// Appends it, if it has words.
+fn put_frame(info: &mut Vec<u8>, at: usize, words: u32) -> Result<(), NoMemory>
+    ensures { OnOk result (info.new.items ≡ info.old.items ++ entries_bytes (frame_entries at words)) }
+{
+    if words == 0 {
+        return Ok(());
+    }
+    put_frame_variable(info, at)
+}
+
+// Appends a label of a body, the first item of which has this place.
+fn put_label(
+    info: &mut Vec<u8>,
+    places: &Places,
+    end: u32,
+    number: usize,
+    label: &Label,
+) -> Result<(), NoMemory>
+    requires { number + label.now.item ≤ item_limit }
+    ensures { OnOk result (info.new.items ≡ info.old.items ++ entry_bytes (label_entry places.now end number label.now)) }
+{
+    put_bytes(info, &[8])?;
+    put_text(info, label.name.bytes())?;
+    put_bytes(info, &[1])?;
+    put_u32(info, label.line)?;
+    put_u32(
+        info,
+        item_address(places, end, number + label.item as usize),
+    )
+}
+
+// Appends the labels of a body that stand before an item.
+fn put_labels(
+    info: &mut Vec<u8>,
+    places: &Places,
+    end: u32,
+    number: usize,
+    func: &Func,
+) -> Result<(), NoMemory>
+    requires { number + length func.now.items ≤ item_limit }
+    ensures { OnOk result (info.new.items ≡ info.old.items ++ entries_bytes (map (label_entry places.now end number) (inner_labels func.now))) }
+{
+    let items = func.items.items().len();
+    for label in func.labels.items() {
+        if stands_before(items, label) {
+            put_label(info, places, end, number, label)?;
+        }
+    }
+    Ok(())
+}
+
+// Appends the entry of a body alone, from an address to another.
+fn put_body_alone(info: &mut Vec<u8>, func: &Func, low: u32, high: u32) -> Result<(), NoMemory>
+    ensures { OnOk result (info.new.items ≡ info.old.items ++ entry_bytes (body_entry func.now low high)) }
+{
+    let kind = if has_below(func) { 6 } else { 9 };
+    put_bytes(info, &[kind])?;
+    put_text(info, func.name.bytes())?;
+    put_bytes(info, &[1])?;
+    put_u32(info, func.line)?;
+    put_u32(info, low)?;
+    put_u32(info, high)
+}
+
+// Appends the end of what stands below a body, if something does.
+fn put_end(info: &mut Vec<u8>, below: bool) -> Result<(), NoMemory>
+    ensures { OnOk result (info.new.items ≡ info.old.items ++ entries_bytes (end_entries below)) }
+{
+    if below {
+        return put_bytes(info, &[0]);
+    }
+    Ok(())
+}
+
+// Appends the entries of a body, the first item of which has this place.
+fn put_body(
+    info: &mut Vec<u8>,
+    types: Types,
+    places: &Places,
+    end: u32,
+    number: usize,
+    func: &Func,
+) -> Result<(), NoMemory>
+    requires { number + length func.now.items ≤ item_limit }
+    ensures { OnOk result (info.new.items
+        ≡ info.old.items ++ entries_bytes (body_entries types places.now end (length info.old.items) number func.now)) }
+{
+    let at = info.len();
+    let low = item_address(places, end, number);
+    let high = body_end(places, end, number, func);
+    put_frame_type(info, types, func.frame_words)?;
+    put_body_alone(info, func, low, high)?;
+    put_frame(info, at, func.frame_words)?;
+    put_labels(info, places, end, number, func)?;
+    put_end(info, has_below(func))
+}
+
+/// Appends the entries of all bodies.
+pub fn put_bodies(
+    info: &mut Vec<u8>,
+    types: Types,
+    places: &Places,
+    end: u32,
+    funcs: &[Func],
+) -> Result<(), NoMemory>
+    requires { item_count funcs.now ≤ item_limit }
+    ensures { OnOk result (info.new.items ≡ info.old.items ++ all_body_bytes types places.now end (length info.old.items) 0 funcs.now) }
+{
+    let mut number = 0;
+    for func in funcs {
+        put_body(info, types, places, end, number, func)?;
+        number += func.items.items().len();
+    }
+    Ok(())
+}

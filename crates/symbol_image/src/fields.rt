@@ -1,0 +1,85 @@
+//! The fields of which sections are made.
+ghost use Rattle.std.specs.Prelude.{◌≡◌, ◌≤◌, ◌++◌, IfOk, OnOk};
+ghost use Rattle.image_file.specs.Fields.{four_bytes, two_bytes};
+ghost use Rattle.symbol_image.specs.Fields.{groups, signed_leb, sized, text_bytes, unsigned_leb};
+
+use image_file::number_fields::{put_u16, put_u32};
+use sloth_base::memory::NoMemory;
+use std::alloc::Global;
+
+/// How many numbers four bytes hold.
+const FOUR_BYTES: usize = 4294967296;
+
+/// How many numbers two bytes hold.
+const TWO_BYTES: u32 = 65536;
+
+/// Appends bytes.
+pub fn put_bytes(section: &mut Vec<u8>, bytes: &[u8]) -> Result<(), NoMemory>
+    ensures { OnOk result (section.new.items ≡ section.old.items ++ bytes.now) }
+{
+    section.extend_from_slice(bytes)?;
+    Ok(())
+}
+
+/// Appends a text, and a zero behind it.
+pub fn put_text(section: &mut Vec<u8>, text: &[u8]) -> Result<(), NoMemory>
+    ensures { OnOk result (section.new.items ≡ section.old.items ++ text_bytes text.now) }
+{
+    section.extend_from_slice(text)?;
+    section.extend_from_slice(&[0])?;
+    Ok(())
+}
+
+/// Appends a length, or a place in a section, in four bytes.
+pub fn put_length(section: &mut Vec<u8>, length: usize) -> Result<(), NoMemory>
+    ensures { OnOk result (section.new.items ≡ section.old.items ++ four_bytes length) }
+{
+    put_u32(section, (length % FOUR_BYTES) as u32)
+}
+
+/// Appends a number in two bytes, of which only the lowest 16 bits are written.
+pub fn put_half(section: &mut Vec<u8>, number: u32) -> Result<(), NoMemory>
+    ensures { OnOk result (section.new.items ≡ section.old.items ++ two_bytes number) }
+{
+    put_u16(section, (number % TWO_BYTES) as u16)
+}
+
+// Appends a number in groups of seven bits, the last of which is below a limit.
+fn put_groups(section: &mut Vec<u8>, limit: u32, number: u32) -> Result<(), NoMemory>
+    requires { (16 ≤ limit) × (limit ≤ 128) }
+    ensures { OnOk result (section.new.items ≡ section.old.items ++ groups limit 4 number) }
+{
+    let mut rest = number;
+    while rest >= limit {
+        section.extend_from_slice(&[(rest % 128) as u8 + 128])?;
+        rest /= 128;
+    }
+    section.extend_from_slice(&[rest as u8])?;
+    Ok(())
+}
+
+/// Appends a number as an unsigned LEB128.
+#[tactic(auto, unfolding(crate::specs::Fields::unsigned_leb))]
+pub fn put_unsigned(section: &mut Vec<u8>, number: u32) -> Result<(), NoMemory>
+    ensures { OnOk result (section.new.items ≡ section.old.items ++ unsigned_leb number) }
+{
+    put_groups(section, 128, number)
+}
+
+/// Appends a number as a signed LEB128.
+#[tactic(auto, unfolding(crate::specs::Fields::signed_leb))]
+pub fn put_signed(section: &mut Vec<u8>, number: u32) -> Result<(), NoMemory>
+    ensures { OnOk result (section.new.items ≡ section.old.items ++ signed_leb number) }
+{
+    put_groups(section, 64, number)
+}
+
+/// Bytes behind their length.
+pub fn sized(alloc: Global, bytes: &[u8]) -> Result<Vec<u8>, NoMemory>
+    ensures { IfOk result (λ section. section.items ≡ sized bytes.now) }
+{
+    let mut section = Vec::new(alloc);
+    put_length(&mut section, bytes.len())?;
+    section.extend_from_slice(bytes)?;
+    Ok(section)
+}

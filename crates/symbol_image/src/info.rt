@@ -1,0 +1,100 @@
+//! The section of entries.
+ghost use Rattle.std.specs.Prelude.{◌≡◌, ◌≤◌, ◌+◌, ◌++◌, ◌∷◌, [], IfOk, OnOk, drop, length};
+ghost use Rattle.std.specs.List.{flat_map};
+ghost use Rattle.sloth_base.specs.Limits.{item_limit};
+ghost use Rattle.symbol_image.specs.Entries.{base_type, byte_name, info_section, unit_bytes, unit_names, unit_places, word_name};
+ghost use Rattle.symbol_image.specs.EntryBytes.{entries_bytes, entry_bytes, value_bytes};
+ghost use Rattle.map_rows.specs.LineRows.{item_count};
+
+use crate::bodies::put_bodies;
+use crate::data::{put_base_type, put_symbols};
+use crate::fields::{put_bytes, put_text, sized};
+use crate::types::Types;
+use image_file::number_fields::put_u32;
+use map_rows::line_rows::item_address;
+use sloth_base::app::App;
+use sloth_base::memory::NoMemory;
+use sloth_base::places::Places;
+use std::alloc::Global;
+
+/// The bytes of a unit's length.
+const LENGTH: usize = 4;
+
+// Appends what a unit is: its kind, who made it, its language, its source and its directory.
+fn put_unit_names(info: &mut Vec<u8>, source: &[u8]) -> Result<(), NoMemory>
+    ensures { OnOk result (info.new.items ≡ info.old.items ++ 1 ∷ flat_map value_bytes (unit_names source.now)) }
+{
+    put_bytes(info, &[1])?;
+    put_text(info, b"sloth")?;
+    put_bytes(info, &[12])?;
+    put_text(info, source)?;
+    put_text(info, b".")
+}
+
+// Appends from where to where a unit goes, and where its lines stand.
+fn put_unit_places(info: &mut Vec<u8>, low: u32, high: u32) -> Result<(), NoMemory>
+    ensures { OnOk result (info.new.items ≡ info.old.items ++ flat_map value_bytes (unit_places low high)) }
+{
+    put_u32(info, low)?;
+    put_u32(info, high)?;
+    put_u32(info, 0)
+}
+
+// A unit behind room for its length: its header, and its entry, from an address to another.
+fn unit(alloc: Global, source: &[u8], low: u32, high: u32) -> Result<Vec<u8>, NoMemory>
+    ensures { IfOk result (λ info. info.items ≡ 0 ∷ 0 ∷ 0 ∷ 0 ∷ unit_bytes source.now low high) }
+{
+    let mut info = Vec::from_slice(alloc, &[0, 0, 0, 0, 4, 0, 0, 0, 0, 0, 4])?;
+    put_unit_names(&mut info, source)?;
+    put_unit_places(&mut info, low, high)?;
+    Ok(info)
+}
+
+// What stands behind the room for a length.
+fn behind_length(info: &[u8]) -> &[u8]
+    requires { 4 ≤ length info.now }
+    ensures { result.now ≡ drop 4 info.now }
+{
+    &info[LENGTH..]
+}
+
+// Appends the two base types, and says where they stand.
+fn put_types(info: &mut Vec<u8>) -> Result<Types, NoMemory>
+    ensures word { IfOk result (λ types. types.word ≡ length info.old.items) }
+    ensures byte { IfOk result (λ types. types.byte ≡ length info.old.items + length (entry_bytes (base_type word_name 4))) }
+    ensures put { IfOk result (λ types. info.new.items
+        ≡ info.old.items ++ entries_bytes (base_type word_name 4 ∷ base_type byte_name 1 ∷ [])) }
+{
+    let word = info.len();
+    put_base_type(info, b"unsigned int", 4)?;
+    let byte = info.len();
+    put_base_type(info, b"unsigned char", 1)?;
+    Ok(Types { word, byte })
+}
+
+/// The section of the entries of task code whose items and symbols have these places, up to the address behind its items; `source` is the name
+/// of its source, and `lines` are those in which its symbols are declared.
+pub fn info_section(
+    alloc: Global,
+    source: &[u8],
+    app: &App,
+    places: &Places,
+    end: u32,
+    lines: &[u32],
+) -> Result<Vec<u8>, NoMemory>
+    requires { item_count app.now.funcs ≤ item_limit }
+    ensures { IfOk result (λ section. section.items ≡ info_section source.now app.now places.now end lines.now) }
+{
+    let mut info = unit(alloc, source, item_address(places, end, 0), end)?;
+    let types = put_types(&mut info)?;
+    put_symbols(
+        &mut info,
+        types,
+        lines,
+        places.symbols.items(),
+        app.symbols.items(),
+    )?;
+    put_bodies(&mut info, types, places, end, app.funcs.items())?;
+    put_bytes(&mut info, &[0])?;
+    sized(alloc, behind_length(info.as_slice()))
+}
