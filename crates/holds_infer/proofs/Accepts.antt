@@ -43,12 +43,12 @@ use Rattle.asm_parse.proofs.Fit.{FitsName}
 use Rattle.asm_parse.proofs.Read.{IsRead}
 use Rattle.asm_parse.proofs.LinesRead.{all_read}
 use Rattle.sloth_source.specs.SourceText.{HasApp, SourceText}
-use Rattle.held_lists.specs.Filling.{bare_app, SameButLists}
+use Rattle.holds_infer.specs.Filling.{bare_app, SameButLists}
 use Rattle.label_lists.specs.LabelLines.{resource_name, resource_names}
 use Rattle.holds_infer.specs.Relabel.{func_holds, all_holds, relabeled_lines}
 use Rattle.holds_infer.proofs.InPlace.{AreInPlace}
 use Rattle.holds_infer.specs.FilledText.{filled_text}
-use Rattle.held_lists.proofs.Spreading.{all_none}
+use Rattle.holds_infer.proofs.Spreading.{all_none}
 use Rattle.holds_infer.proofs.Written.{AreWritten}
 use Rattle.holds_infer.proofs.Texts.{AreNamed, text_filled}
 use Rattle.holds_infer.proofs.Refill.{relabelled_app}

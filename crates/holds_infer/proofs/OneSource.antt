@@ -8,11 +8,11 @@ use Rattle.sloth_base.specs.declared.refusal.BuildError.TheVariants as build
 use Rattle.sloth_source.specs.RankedTexts.{HasRanks, EarlyRefusal, EarlyErrorIs}
 use Rattle.sloth_source.proofs.RankedTexts.{never_both_ranked}
 use Rattle.sloth_source.proofs.Unique.{one_ranked}
-use Rattle.held_lists.specs.Filling.{IsFilling}
-use Rattle.held_lists.specs.InferErrors.{InferErrorIs}
-use Rattle.held_lists.specs.declared.inference.InferError.{InferError}
-use Rattle.held_lists.specs.declared.inference.InferError.TheVariants as infer
-use Rattle.held_lists.proofs.WellFormedLists.{one_filling}
+use Rattle.holds_infer.specs.Filling.{IsFilling}
+use Rattle.holds_infer.specs.InferErrors.{InferErrorIs}
+use Rattle.holds_infer.specs.declared.inference.InferError.{InferError}
+use Rattle.holds_infer.specs.declared.inference.InferError.TheVariants as infer
+use Rattle.holds_infer.proofs.WellFormedLists.{one_filling}
 use Rattle.holds_infer.specs.FilledText.{filled_text}
 use Rattle.holds_infer.specs.FilledSource.{IsFilledSource, HasNoLists, FillErrorIs, fill_error, no_lists_error}
 

@@ -25,11 +25,11 @@ use Rattle.asm_scopes.specs.Bodies.{bodies_of}
 use Rattle.asm_scopes.specs.Scopes.{scope_of, is_scheduler}
 use Rattle.asm_items.specs.Operations.{number_of, resource_number}
 use Rattle.asm_items.specs.Apps.{holds_of, label_holds, app_of}
-use Rattle.held_lists.specs.Filling.{bare_func, bare_app}
+use Rattle.holds_infer.specs.Filling.{bare_func, bare_app}
 use Rattle.label_lists.specs.LabelLines.{resource_name, resource_names}
 use Rattle.holds_infer.specs.Relabel.{func_holds, all_holds, label_statement, first_list, other_lists, relabeled_lines}
 use Rattle.holds_infer.proofs.InPlace.{AreInPlace}
-use Rattle.held_lists.proofs.Bare.{body_same, count_same}
+use Rattle.holds_infer.proofs.Bare.{body_same, count_same}
 use Rattle.holds_infer.proofs.Relabels.{relabel_fills, holds_are}
 
 -- ---- a resource's name is that of its number

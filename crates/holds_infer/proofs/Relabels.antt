@@ -19,7 +19,7 @@ use Rattle.asm_scopes.specs.Bodies.{BodyText, bodies_from, bodies_of, body_name,
 use Rattle.asm_scopes.specs.Scopes.{scope_of}
 use Rattle.asm_items.specs.Operations.{op_of}
 use Rattle.asm_items.specs.Apps.{item_by, item_of, items_from, label_of, label_holds, labels_from, count_op, body_task, func_of, symbol_of, app_of}
-use Rattle.held_lists.specs.Filling.{bare_label, bare_func, bare_app}
+use Rattle.holds_infer.specs.Filling.{bare_label, bare_func, bare_app}
 use Rattle.label_lists.specs.LabelLines.{resource_names}
 use Rattle.holds_infer.specs.Relabel.{func_holds, all_holds, label_statement, first_list, other_lists, relabeled_lines}
 use Rattle.holds_infer.proofs.InPlace.{AreInPlace}

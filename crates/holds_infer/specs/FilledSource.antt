@@ -6,9 +6,9 @@ use Rattle.sloth_base.specs.declared.refusal.BuildError.{BuildError}
 use Rattle.sloth_base.specs.declared.refusal.BuildError.TheVariants as build
 use Rattle.sloth_source.specs.Texts.{AreAccepted}
 use Rattle.sloth_source.specs.RankedTexts.{HasRanks, EarlyRefusal}
-use Rattle.held_lists.specs.Filling.{IsFilling}
-use Rattle.held_lists.specs.declared.inference.InferError.{InferError}
-use Rattle.held_lists.specs.declared.inference.InferError.TheVariants as infer
+use Rattle.holds_infer.specs.Filling.{IsFilling}
+use Rattle.holds_infer.specs.declared.inference.InferError.{InferError}
+use Rattle.holds_infer.specs.declared.inference.InferError.TheVariants as infer
 use Rattle.holds_infer.specs.FilledText.{filled_text}
 use Rattle.holds_infer.specs.declared.sources.FillError.{FillError}
 use Rattle.holds_infer.specs.declared.sources.FillError.TheVariants as error

@@ -10,7 +10,7 @@ ghost use Rattle.asm_scopes.specs.Statements.{is_label};
 ghost use Rattle.code_rules.specs.AppRange.{AppInRange};
 ghost use Rattle.code_rules.specs.WellFormed.{WellFormed};
 ghost use Rattle.sloth_source.specs.SourceText.{HasApp, SourceText};
-ghost use Rattle.held_lists.specs.Filling.{SameButLists};
+ghost use Rattle.holds_infer.specs.Filling.{SameButLists};
 ghost use Rattle.holds_infer.specs.Relabel.{func_holds, all_holds};
 ghost use Rattle.holds_infer.specs.FilledText.{filled_part, filled_parts, filled_text};
 

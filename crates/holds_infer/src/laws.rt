@@ -6,7 +6,7 @@ ghost use Rattle.code_rules.specs.WellFormed.{WellFormed};
 ghost use Rattle.asm_lines.specs.declared.source_line.SourceLine.{SourceLine};
 ghost use Rattle.asm_items.specs.Apps.{app_of};
 ghost use Rattle.sloth_source.specs.SourceText.{HasApp, SourceText};
-ghost use Rattle.held_lists.specs.Filling.{SameButLists};
+ghost use Rattle.holds_infer.specs.Filling.{IsFilling, SameButLists};
 ghost use Rattle.holds_infer.specs.Relabel.{relabeled_lines};
 ghost use Rattle.sloth_source.specs.RankedTexts.{EarlyRefusal};
 ghost use Rattle.sloth_base.specs.declared.refusal.Refusal.{Refusal};
@@ -31,4 +31,9 @@ pub fn one_source()
     ensures or_none { (oil src out : List ℕ) → IsFilledSource oil src out → HasNoLists oil src → ⊥ }
     ensures or_refused { (oil src out : List ℕ) (refusal : Refusal) → IsFilledSource oil src out → EarlyRefusal oil src refusal → ⊥ }
     ensures none_or_refused { (oil src : List ℕ) (refusal : Refusal) → HasNoLists oil src → EarlyRefusal oil src refusal → ⊥ }
+{}
+
+/// Lists at the labels of task code keep every rule in one way at most.
+pub fn one_filling()
+    ensures { (config : Config) (app one other : App) → IsFilling config app one → IsFilling config app other → one ≡ other }
 {}

@@ -2,16 +2,23 @@
 //!
 //! `fill_source` gives the source with the one choice of lists that keeps every rule, exact in bytes; or that no lists keep the rules; or the first
 //! refusal before them. What it gives is accepted and says that task code (`fill`, `lists_alone`, `filled_is_accepted`, `one_source`;
-//! `specs/Relabel`, `specs/FilledText`, `specs/FilledSource`). Lists that keep the rules: `held_lists` (`Filling`); the line of a label:
-//! `label_lists` (`LabelLines`); texts: `sloth_source` (`RankedTexts`, `Texts`).
+//! `specs/Relabel`, `specs/FilledText`, `specs/FilledSource`). The line of a label: `label_lists` (`LabelLines`); texts: `sloth_source`
+//! (`RankedTexts`, `Texts`).
+//!
+//! The lists are found from the ways through each body: `infer` gives exactly the task code with the one filling of its held lists, where there is
+//! one (`one_filling`, `specs/Filling`). The rules: `code_rules` (`WellFormed`); ranks: `call_graph` (`Ranks`); lists of places: `label_lists`
+//! (`Places`).
 #![tactic(auto)]
 
+mod bodies;
 mod filling;
+mod inference;
 mod label_text;
 mod laws;
 pub mod sources;
+mod spread;
 
 pub use filling::fill;
-pub use held_lists::{InferError, infer, one_filling};
-pub use laws::{filled_is_accepted, lists_alone, one_source};
+pub use inference::{InferError, infer};
+pub use laws::{filled_is_accepted, lists_alone, one_filling, one_source};
 pub use sources::{FillError, fill_source};

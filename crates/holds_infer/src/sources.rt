@@ -8,7 +8,7 @@ ghost use Rattle.holds_infer.specs.FilledSource.{IsFilledSource, FillErrorIs, fi
 ghost use Rattle.holds_infer.specs.declared.sources.FillError.TheVariants.{Memory as OutOfMemory};
 
 use crate::filling::fill;
-use held_lists::{InferError, infer};
+use crate::inference::{InferError, infer};
 use sloth_base::memory::NoMemory;
 use sloth_base::refusal::{BuildError, Refusal};
 use sloth_source::{Ranked, read_ranked};

@@ -1,0 +1,149 @@
+//! The held lists at the items of a body, spread along its ways.
+ghost use Rattle.std.specs.Prelude.{◌≡◌, ◌==◌, ℕ, ◌<◌, length, get_or, None, IfOk, OnOk};
+ghost use Rattle.std.specs.List.{list_any};
+ghost use Rattle.sloth_base.specs.Named.{item_of};
+ghost use Rattle.code_rules.specs.Code.{is_in};
+ghost use Rattle.holds_infer.specs.RightLists.{HasItsLabels};
+ghost use Rattle.holds_infer.specs.Spread.{list_behind, list_after, IsListVisit, AreLists, AreSpreading};
+
+use body_faults::ways::{jump_of, next_of};
+use label_lists::list_at;
+use sloth_base::app::{Call, Func, Op};
+use sloth_base::list::List;
+use sloth_base::memory::NoMemory;
+use sloth_base::numbers::ResId;
+use sloth_base::service::Service;
+use std::alloc::Global;
+use text_pieces::growth::push;
+
+fn is_one_of(held: &[ResId], resource: u32) -> bool
+    ensures { result ≡ list_any (λ taken. taken == resource) held.now }
+{
+    held.iter().any(|taken| taken.0 == resource)
+}
+
+// Whether the resource is held.
+fn is_in(held: &[ResId], resource: u32) -> bool
+    ensures { result ≡ is_in resource held.now }
+{
+    is_one_of(held, resource)
+}
+
+// The list behind a service.
+fn list_behind(held: Vec<ResId>, call: Call) -> Result<Vec<ResId>, NoMemory>
+    ensures { IfOk result (λ next. next.items ≡ list_behind call.service call.object held.items) }
+{
+    let mut held = held;
+    match call.service {
+        Service::GetResource => {
+            if !is_in(held.as_slice(), call.object) {
+                push(&mut held, ResId(call.object))?;
+            }
+            Ok(held)
+        }
+        Service::ReleaseResource => {
+            held.pop();
+            Ok(held)
+        }
+        _ => Ok(held),
+    }
+}
+
+// The list behind an operation.
+fn list_after(alloc: Global, held: &[ResId], op: Op) -> Result<Vec<ResId>, NoMemory>
+    ensures { IfOk result (λ next. next.items ≡ list_after op held.now) }
+{
+    let held = held.to_vec(alloc)?;
+    match op {
+        Op::Serve(call) => list_behind(held, call),
+        _ => Ok(held),
+    }
+}
+
+// Gives a place this list and keeps it to go on from, where it has none yet.
+fn visit(
+    alloc: Global,
+    lists: &mut [Option<List<ResId>>],
+    pending: &mut Vec<usize>,
+    at: usize,
+    held: &[ResId],
+) -> Result<(), NoMemory>
+    requires { at < length lists.old }
+    ensures { OnOk result (IsListVisit lists.old lists.new pending.old.items pending.new.items at held.now) }
+{
+    if lists[at].is_some() {
+        return Ok(());
+    }
+    let held = held.to_vec(alloc)?;
+    push(pending, at)?;
+    lists[at] = Some(List::from_vec(held));
+    Ok(())
+}
+
+// What item `number` does.
+fn op_at(func: &Func, number: usize) -> Op
+    requires { number < length func.now.items }
+    ensures { result ≡ (item_of func.now number).op }
+{
+    func.items.items()[number].op
+}
+
+// Spreads the lists of the places that are kept.
+fn spread(
+    alloc: Global,
+    func: &Func,
+    lists: &mut [Option<List<ResId>>],
+    pending: &mut Vec<usize>,
+) -> Result<(), NoMemory>
+    requires labels { HasItsLabels func.now }
+    requires spreading { AreSpreading func.now lists.old pending.old.items }
+    ensures { OnOk result (AreLists func.now lists.new) }
+{
+    loop {
+        match pending.pop() {
+            None => return Ok(()),
+            Some(from) => {
+                let behind = list_after(alloc, list_at(lists, from), op_at(func, from))?;
+                visit(
+                    alloc,
+                    lists,
+                    pending,
+                    next_of(func, from),
+                    behind.as_slice(),
+                )?;
+                visit(
+                    alloc,
+                    lists,
+                    pending,
+                    jump_of(func, from),
+                    behind.as_slice(),
+                )?;
+            }
+        }
+    }
+}
+
+// So many places without a list.
+fn no_lists(alloc: Global, count: usize) -> Result<Vec<Option<List<ResId>>>, NoMemory>
+    ensures count { IfOk result (λ lists. length lists.items ≡ count) }
+    ensures clear { IfOk result (λ lists. (i : ℕ) → get_or lists.items i None ≡ None) }
+{
+    let mut lists = Vec::new(alloc);
+    for place in 0..count {
+        push(&mut lists, None)?;
+    }
+    Ok(lists)
+}
+
+/// The lists of all places that paths from the first one, where nothing is held, reach.
+pub fn places(alloc: Global, func: &Func) -> Result<Vec<Option<List<ResId>>>, NoMemory>
+    requires labels { HasItsLabels func.now }
+    requires some { 0 < length func.now.items }
+    ensures { IfOk result (λ lists. AreLists func.now lists.items) }
+{
+    let mut lists = no_lists(alloc, func.items.items().len())?;
+    let mut pending = Vec::new(alloc);
+    visit(alloc, &mut lists, &mut pending, 0, &[])?;
+    spread(alloc, func, &mut lists, &mut pending)?;
+    Ok(lists)
+}
