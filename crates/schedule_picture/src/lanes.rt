@@ -7,8 +7,8 @@ ghost use Rattle.schedule_picture.specs.LaneLooks.{lane_look};
 
 use crate::lane_looks::lane_look;
 use lane_drawing::Strip;
-use sloth_runner::Sample;
 use sloth_base::memory::NoMemory;
+use sloth_runner::Sample;
 use std::alloc::Global;
 
 /// A lane for each task, and one for kernel code, that have shown nothing yet.

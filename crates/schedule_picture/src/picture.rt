@@ -12,10 +12,10 @@ ghost use Rattle.schedule_picture.specs.Picture.{IsPicture, IsPictureOf};
 use crate::lanes::{close, empty_strips, show};
 use crate::text::{Drawn, scale_of, text_of};
 use lane_drawing::Strip;
-use sloth_runner::Sampler;
 use sloth_base::event::Arrival;
 use sloth_base::image::Image;
 use sloth_base::memory::NoMemory;
+use sloth_runner::Sampler;
 use sloth_runner::runner::Halt;
 use std::alloc::Global;
 

@@ -1,1 +1,12 @@
+pub mod AllCode
+pub mod Called
+pub mod Each
+pub mod Formed
+pub mod Linking
+pub mod Numbering
+pub mod Places
+pub mod Planning
 pub mod Ready
+pub mod Rooming
+pub mod Sizing
+pub mod Starting

@@ -4,7 +4,7 @@ use Rattle.sloth_base.specs.declared.app.App.{App}
 use Rattle.sloth_base.specs.declared.config.Config.{Config}
 use Rattle.sloth_base.specs.declared.image.Image.{Image}
 use Rattle.sloth_source.specs.Texts.{AreAccepted}
-use Rattle.image_gen.specs.ImageOf.{HasPlannedMap}
+use Rattle.sloth_build.specs.ImageOf.{HasPlannedMap}
 use Rattle.map_text.specs.MapText.{IsMapText, map_text}
 
 -- the lines of the map of texts are those of the map by which each piece of an image of these texts stands

@@ -22,7 +22,7 @@ use Rattle.sloth_io.specs.Counts.{Rose, Stays}
 use Rattle.sloth_io.specs.Sink.{Output, output_with, GainsPart, FailsToPassOn}
 use Rattle.sloth_io.specs.Store.{Files, Holds, IsFileWritten, KeepsOthers, IsMissing, IsTooLong, IsUnwritten}
 use Rattle.sloth_io.specs.Slots.{is_space_for}
-use Rattle.image_gen.specs.ImageOf.{HasPlannedMap}
+use Rattle.sloth_build.specs.ImageOf.{HasPlannedMap}
 use Rattle.image_file.specs.ImageText.{image_bytes}
 use Rattle.image_file.specs.declared.fault.ImageFault.{ImageFault}
 use Rattle.rv32_instr.specs.declared.stop.Stop.{Stop}

@@ -6,13 +6,13 @@ ghost use Rattle.sloth_base.specs.Owners.{owners_named};
 ghost use Rattle.sloth_base.specs.Limits.{count_limit};
 ghost use Rattle.sloth_runner.specs.Samples.{AreSampledLevels, IsSample, IsSampling, StopsAt, sampled_image, sampled_arrivals, sampled_count};
 
+use crate::runner::{Halt, Runner};
+use crate::task_states::{Interrupts, Seen};
 use sloth_base::event::Arrival;
 use sloth_base::image::Image;
 use sloth_base::limits::TASK_LIMIT;
 use sloth_base::memory::NoMemory;
 use sloth_base::numbers::Line;
-use crate::runner::{Halt, Runner};
-use crate::task_states::{Interrupts, Seen};
 use std::alloc::Global;
 
 /// What a run shows at a count.

@@ -9,7 +9,7 @@ use Rattle.sloth_base.specs.declared.places.Bounds.{Bounds}
 use Rattle.sloth_region.specs.declared.extent.Extent.{Extent}
 use Rattle.sloth_region.specs.declared.map.Map.{Map}
 use Rattle.code_rules.specs.WellFormed.{WellFormed}
-use Rattle.image_gen.specs.ImageOf.{IsOfPlannedMap}
+use Rattle.sloth_build.specs.ImageOf.{IsOfPlannedMap}
 use Rattle.mem_map.proofs.OnePlan.{AreAlike, one_plan}
 use Rattle.mem_map.specs.Planned.{IsPlanned}
 use Rattle.mem_map.specs.StackParts.{no_extent}

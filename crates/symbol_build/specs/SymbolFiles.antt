@@ -12,7 +12,7 @@ use Rattle.sim_induction.specs.Sound.{Sound}
 use Rattle.sim_induction.specs.Weighed.{Weighed}
 use Rattle.sim_laws.specs.TaskStates.{HasTaskStates}
 use Rattle.asm_lines.specs.Faults.{source_lines}
-use Rattle.image_gen.specs.ImageOf.{HasPlannedMap}
+use Rattle.sloth_build.specs.ImageOf.{HasPlannedMap}
 use Rattle.sloth_source.specs.Texts.{AreAccepted}
 use Rattle.symbol_image.specs.DataLines.{data_lines}
 use Rattle.symbol_image.specs.FileParts.{FileParts}

@@ -6,8 +6,8 @@ ghost use Rattle.sloth_base.specs.MemoryMap.{memory_base};
 ghost use Rattle.symbol_image.specs.Headers.{elf_header, elf_kind, elf_places, segment_header, segment_headers};
 ghost use Rattle.symbol_image.specs.HeaderViews.{AreOrdered, segment_of};
 
-use crate::layout::FRONT;
 use crate::fields::{put_bytes, put_length};
+use crate::layout::FRONT;
 use elf_image::headers::put_words;
 use image_file::number_fields::put_u16;
 use map_rows::borders::Borders;

@@ -2,8 +2,8 @@
 ghost use Rattle.std.specs.Prelude.{◌≡◌, ◌++◌, IfOk, OnOk};
 ghost use Rattle.symbol_image.specs.SymbolTable.{name_table, section_number, symbol_bytes, symbol_info, symbol_table};
 
-use crate::symbol::{Binding, Symbol, SymbolKind};
 use crate::fields::{put_bytes, put_length, put_text};
+use crate::symbol::{Binding, Symbol, SymbolKind};
 use image_file::number_fields::{put_u16, put_u32};
 use map_rows::borders::Borders;
 use sloth_base::memory::NoMemory;

@@ -6,7 +6,7 @@ ghost use Rattle.code_rules.specs.AppRange.{IsTaskCode};
 ghost use Rattle.rv32_expand.specs.InPlace.{IsAppItem};
 ghost use Rattle.rv32_expand.specs.Sizes.{AgreeWithSizes, HasWordAddresses, IsVerified};
 ghost use Rattle.sloth_link.specs.Image.{MayLink};
-ghost use Rattle.image_gen.specs.Gathered.{MayBuild, MayGenerate};
+ghost use Rattle.sloth_build.specs.Gathered.{MayBuild, MayGenerate};
 
 use crate::rows::{Piece, Rows};
 use rv32_instr::Block;
@@ -100,7 +100,7 @@ fn list_parts(rows: &mut Rows, config: &Config, app: &App, map: &Map, blocks: &[
 fn list_planned(rows: &mut Rows, config: &Config, app: &App, levels: &Levels, map: &Map)
     requires { MayGenerate config.now app.now levels.now map.now }
 {
-    match image_gen::gathering::gather(rows.alloc(), config, app, levels, map) {
+    match sloth_build::gathering::gather(rows.alloc(), config, app, levels, map) {
         Ok(blocks) => list_parts(rows, config, app, map, blocks.as_slice()),
         Err(_) => rows.leave_out(),
     }

@@ -1,6 +1,6 @@
 //! Public calls on the texts of a configuration and its task code.
 ghost use Rattle.std.specs.Prelude.{◌≤◌, IfOk, length};
-ghost use Rattle.image_gen.specs.Gathered.{MayBuild};
+ghost use Rattle.sloth_build.specs.Gathered.{MayBuild};
 
 use crate::generating::{list_generated, list_levels};
 use crate::readers::list_error;

@@ -11,9 +11,9 @@ use crate::signals::{
     LEVEL, MASKED, Scope, Width, first_code, level_value, masked_value, value_of, width_of,
 };
 use itoa::Buffer;
-use sloth_runner::Sample;
 use sloth_base::lines::Owners;
 use sloth_base::memory::NoMemory;
+use sloth_runner::Sample;
 
 // Whether two values are the same.
 fn same_value(one: Option<u8>, other: Option<u8>) -> bool

@@ -8,11 +8,11 @@ ghost use Rattle.wave_text.specs.Waves.{AreWaves};
 
 use crate::dump::Dump;
 use crate::header::header;
-use sloth_runner::Sampler;
 use sloth_base::event::Arrival;
 use sloth_base::image::Image;
 use sloth_base::lines::Owners;
 use sloth_base::memory::NoMemory;
+use sloth_runner::Sampler;
 use sloth_runner::runner::Halt;
 use std::alloc::Global;
 

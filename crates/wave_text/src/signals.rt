@@ -2,8 +2,8 @@
 ghost use Rattle.std.specs.Prelude.{◌≡◌, ◌<◌};
 ghost use Rattle.wave_text.specs.Signals.{first_code, width_of, most_signals, value_in, value_of, level_value, masked_value};
 
-use sloth_runner::Sample;
 use sloth_inspect::state_numbers::state_number;
+use sloth_runner::Sample;
 
 /// How many binary digits a signal has.
 #[derive(Clone, Copy)]

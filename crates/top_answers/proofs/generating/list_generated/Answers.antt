@@ -1,6 +1,6 @@
 use Rattle.std.proofs.Common.{◌≡◌, length, rules}
 use Rattle.sloth_base.specs.Limits.{task_limit}
-use Rattle.image_gen.proofs.Planning.{may_generate}
+use Rattle.sloth_build.proofs.Planning.{may_generate}
 use Rattle.top_answers.proofs.generating.list_generated.Goals as goal
 
 pub list_planned-requires : goal.list_planned-requires

@@ -1,8 +1,0 @@
-use Rattle.image_gen.specs.Ticks.{IsTickBlock}
-use Rattle.image_gen.proofs.Each.{grown}
-use Rattle.image_gen.proofs.ticks.ticks.Goals as goal
-
-pub loop-counter-preserved : goal.loop-counter-preserved
-loop-counter-preserved c =
-    grown (IsTickBlock c.args.config.now c.args.map.now) _ _ c.loop-counter.counter c.in_ok-one.field-0 c.in_ok-push.ensures c.loop-counter.invariant.0 c.loop-counter.invariant.1
-    c.in_ok-one.ensures

@@ -1,0 +1,5 @@
+pub mod Gathered
+pub mod ImageOf
+pub mod Prologues
+pub mod Services
+pub mod Ticks

@@ -1,0 +1,68 @@
+//! All routines of an image.
+ghost use Rattle.std.specs.Prelude.{◌≡◌, ◌++◌, [], IfOk, OnOk};
+ghost use Rattle.sloth_link.specs.Image.{MayLink};
+ghost use Rattle.sloth_build.specs.Gathered.{MayGenerate, IsGathered};
+
+use crate::prologues::prologues;
+use crate::services::services;
+use crate::ticks::ticks;
+use mem_map::wanted_blocks;
+use rv32_instr::Block;
+use sloth_base::app::App;
+use sloth_base::config::Config;
+use sloth_base::memory::NoMemory;
+use sloth_base::places::Levels;
+use sloth_region::map::Map;
+use std::alloc::Global;
+use text_pieces::growth::push;
+use vector_gen::{boot, idle, vectors};
+
+// Appends blocks behind others.
+fn append(blocks: &mut Vec<Block>, mut more: Vec<Block>) -> Result<(), NoMemory>
+    ensures { OnOk result (blocks.new.items ≡ blocks.old.items ++ more.items) }
+{
+    blocks.append(&mut more)?;
+    Ok(())
+}
+
+// Appends all routines where there is no block yet. (What is lent is not let go on each way out.)
+fn append_all(
+    alloc: Global,
+    config: &Config,
+    app: &App,
+    levels: &Levels,
+    map: &Map,
+    blocks: &mut Vec<Block>,
+) -> Result<(), NoMemory>
+    requires may { MayGenerate config.now app.now levels.now map.now }
+    requires none { blocks.old.items ≡ [] }
+    ensures gathered { OnOk result (IsGathered config.now app.now levels.now map.now blocks.new.items) }
+    ensures linkable { OnOk result (MayLink config.now app.now map.now blocks.new.items) }
+{
+    push(blocks, vectors(alloc, map)?)?;
+    push(blocks, boot(alloc, config, levels, map)?)?;
+    push(blocks, idle(alloc, map)?)?;
+    append(blocks, prologues(alloc, config, app, levels, map)?)?;
+    append(blocks, ticks(alloc, config, levels, map)?)?;
+    let wanted = wanted_blocks(app);
+    append(blocks, services(alloc, &wanted, config, levels, map)?)?;
+    Ok(())
+}
+
+/// All routines in the order of their addresses: the vector words, boot, the idle loop, the prologue of each task, the tick of each counter,
+/// and each service that an item calls; they may be linked by the map.
+pub fn gather(
+    alloc: Global,
+    config: &Config,
+    app: &App,
+    levels: &Levels,
+    map: &Map,
+) -> Result<Vec<Block>, NoMemory>
+    requires { MayGenerate config.now app.now levels.now map.now }
+    ensures gathered { IfOk result (λ blocks. IsGathered config.now app.now levels.now map.now blocks.items) }
+    ensures linkable { IfOk result (λ blocks. MayLink config.now app.now map.now blocks.items) }
+{
+    let mut blocks = Vec::new(alloc);
+    append_all(alloc, config, app, levels, map, &mut blocks)?;
+    Ok(blocks)
+}
