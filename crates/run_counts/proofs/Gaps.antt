@@ -1,26 +1,21 @@
--- In a sound run no entry and no tick stands behind more than 40 counts that show no event.
-use Rattle.std.proofs.Common.{◌≡◌, ℕ, ◌+◌, ◌-◌, ◌≤◌, ◌⊎◌, List, [], ◌∷◌, true, false, cond, is_some, refl, sym, ap, subst, arith, inl, inr}
-use Rattle.std.specs.List.{AllByRecursion}
-use Rattle.std.proofs.lemmas.Bool.{false≢true, cases_Bool}
-use Rattle.std.proofs.lemmas.List.Elements.{recursion_from_All}
+-- How many counts that show no event stand in front of an entry or a tick.
+use Rattle.std.proofs.Common.{◌≡◌, ℕ, ◌+◌, ◌-◌, ◌≤◌, length, true, false, cond, is_some, refl, ap, arith}
+use Rattle.std.proofs.lemmas.Bool.{false≢true, and_parts}
 use Rattle.sloth_base.specs.declared.config.Config.{Config}
 use Rattle.sloth_base.specs.declared.app.App.{App}
 use Rattle.sloth_base.specs.declared.event.Event.{Event}
 use Rattle.sloth_base.specs.declared.event.Event.TheVariants as event
-use Rattle.sloth_base.specs.declared.event.Stamped.{Stamped}
 use Rattle.sloth_base.specs.Events.{admitted_line, is_boot}
-use Rattle.sloth_base.specs.Limits.{item_counts, unseen_counts}
 use Rattle.osek_scheduler.specs.State.{System, opening}
-use Rattle.osek_scheduler.specs.InTime.{IsStamped, is_admit}
-use Rattle.osek_scheduler.specs.Runs.{AreStepsTo}
-use Rattle.osek_scheduler.proofs.Leading.{follows_leads}
-use Rattle.raised_sections.specs.Pace.{takes_line, own_counts, IsPaced}
-use Rattle.sim_induction.specs.Sound.{events_of}
-use Rattle.run_bounds.proofs.Runs.{sound_is_paced}
-use Rattle.run_counts.specs.Stages.{unseen, end_of, stage, stages}
-use Rattle.run_counts.specs.OwnCounts.{AreGapsWithin, SoundRunsHaveShortGaps}
-use Rattle.run_counts.proofs.Owned.{IsInOrder, in_order}
-use Rattle.run_counts.proofs.Staged.{behind_is, booted_before, admits_later}
+use Rattle.osek_scheduler.proofs.Apart.{rank_active}
+use Rattle.osek_blocking.proofs.Ordering.{opening_ordered, leads_ordered}
+use Rattle.raised_sections.specs.Pace.{takes_line}
+use Rattle.event_weights.specs.Pace.{ItemSizes, gap_counts}
+use Rattle.sim_induction.specs.Mirror.{IsRunningTask}
+use Rattle.run_counts.specs.Stages.{is_running}
+use Rattle.run_counts.specs.OwnCounts.{IsBehindItem, IsGapWithin, RunsHaveShortGaps, RunsPreemptWithinItems}
+use Rattle.run_counts.proofs.Running.{Decides-is_running, active_declared}
+use Rattle.run_counts.proofs.Staged.{booted_before, all_stages}
 
 -- an entry or a tick is no admission and no boot
 pub line_facts : (what : Event) → takes_line what ≡ true → (is_some (admitted_line what) ≡ false) × (is_boot what ≡ false)
@@ -28,43 +23,47 @@ line_facts (event.Enter t) takes = (refl, refl)
 line_facts (event.Tick c) takes = (refl, refl)
 line_facts what takes = absurd (false≢true takes)
 
-module _ (config : Config) (app : App) where
-  gaps_within : (rest : List Stamped) (at start : ℕ) (s end : System) → AreStepsTo config app rest s end → IsPaced at rest → AllByRecursion IsInOrder rest
-      → (s.booted ≡ true → at + 1 ≤ start) → AreGapsWithin unseen_counts (stages config app start s rest)
-  gaps_within [] at start s end leads paced ordered begins = tt
-  gaps_within (e ∷ rest) at start s end leads paced ordered begins = (
-    here,
-    subst (λ v. AreGapsWithin unseen_counts (stages config app (end_of (stage config app start s e)) v rest))
-        (sym (behind_is config app e.event s leads.0 leads.1))
-        (gaps_within rest (cond (is_admit e) at e.stamp.at) (end_of (stage config app start s e)) leads.0 end leads.2 paced.1 ordered.1
-        (λ booted. later (cases_Bool (is_admit e)))),
-  )
-    where
-      here : takes_line e.event ≡ true → unseen (stage config app start s e) ≤ unseen_counts
-      here takes =
-          let facts = line_facts e.event takes in
-          let soon = paced.0 facts.0 facts.1 in
-          let counts = ap (λ b. cond b (own_counts e) item_counts) takes in
-          let front = ap (λ b. cond b 0 (e.stamp.from - start)) facts.0 in
-          let near = begins (booted_before config app e.event s leads.0 leads.1 facts.1) in
-          let span = ordered.0 in
-          omega (arith, soon, counts, front, near, span)
+-- any item may have begun in front of it
+line_gap : (size : ItemSizes) (longest : ℕ) (found : System) (what : Event) → takes_line what ≡ true → gap_counts size longest found what ≡ longest
+line_gap size longest found (event.Enter t) takes = refl
+line_gap size longest found (event.Tick c) takes = refl
+line_gap size longest found what takes = absurd (false≢true takes)
 
-      later : (is_admit e ≡ true) ⊎ (is_admit e ≡ false) → cond (is_admit e) at e.stamp.at + 1 ≤ cond (is_admit e) start (e.stamp.at + 1)
-      later (inl is) =
-          let near = begins (booted_before config app e.event s leads.0 leads.1 (admits_later e.event is)) in
-          let a = ap (λ b. cond b at e.stamp.at) is in
-          let b = ap (λ b. cond b start (e.stamp.at + 1)) is in
-          omega (arith, near, a, b)
-      later (inr other) =
-          let a = ap (λ b. cond b at e.stamp.at) other in
-          let b = ap (λ b. cond b start (e.stamp.at + 1)) other in
-          omega (arith, a, b)
+pub short_gaps : RunsHaveShortGaps
+short_gaps config app size longest n events run keeps =
+    all_stages config app size longest n events keeps (IsGapWithin longest)
+    (λ before e start s next led step goes begins takes.
+    let facts = line_facts e.event takes in
+    let soon = goes.begins facts.0 facts.1 in
+    let gap = line_gap size longest s e.event takes in
+    let front = ap (λ b. cond b 0 (e.stamp.from - start)) facts.0 in
+    let near = begins (booted_before config app e.event s next step facts.1) in
+    omega (arith, soon, gap, front, near))
+    run
 
-pub short_gaps : SoundRunsHaveShortGaps
-short_gaps config app image arrivals n wf sound =
-    let events = events_of image arrivals n in
-    let paced = sound_is_paced config app image arrivals n wf.in_range.configuration.few_counters sound in
-    gaps_within config app events 0 0 (opening config app) sound.osek.0
-    (follows_leads config app [] (opening config app) events sound.osek.0 sound.osek.1) paced.paced
-    (in_order n events (recursion_from_All (IsStamped n) events sound.in_time.stamped)) (λ booted. absurd (false≢true booted))
+-- a task that runs is Active, of the greatest current priority of the Active ones
+pub runs_greatest : (config : Config) (s : System) (t : ℕ) → length s.tasks ≡ length config.tasks → is_running config s t ≡ true → IsRunningTask config s t
+runs_greatest config s t count is =
+    let runs = (Decides-is_running config s t).0 is in
+    record {
+      declared = active_declared config s t count runs.0;
+      active = runs.0;
+      is_greatest = λ u declared active.
+          let le = runs.1 u declared active in
+          let one = rank_active config s u active in
+          let two = rank_active config s t runs.0 in
+          omega (arith, le, one, two);
+    }
+
+pub preempts_within : RunsPreemptWithinItems
+preempts_within config app size longest n t events run keeps =
+    all_stages config app size longest n events keeps (IsBehindItem config size t)
+    (λ before e start s next led step goes begins is.
+    let parts = and_parts (takes_line e.event) (is_running config s t) is in
+    let facts = line_facts e.event parts.0 in
+    let ordered = leads_ordered config app before (opening config app) s (opening_ordered config app) led in
+    let soon = goes.preempts parts.0 t (runs_greatest config s t ordered.count parts.1) in
+    let front = ap (λ b. cond b 0 (e.stamp.from - start)) facts.0 in
+    let near = begins (booted_before config app e.event s next step facts.1) in
+    omega (arith, soon, front, near))
+    run

@@ -4,7 +4,6 @@ use Rattle.std.specs.List.{AllByRecursion}
 use Rattle.std.proofs.lemmas.Bool.{cases_Bool, and_parts}
 use Rattle.sloth_base.specs.declared.config.Config.{Config}
 use Rattle.sloth_base.specs.declared.app.App.{App}
-use Rattle.sloth_base.specs.Limits.{unseen_counts}
 use Rattle.osek_scheduler.specs.State.{opening}
 use Rattle.osek_scheduler.proofs.Facts.{facts}
 use Rattle.osek_scheduler.proofs.Leading.{follows_leads}
@@ -16,11 +15,11 @@ use Rattle.sim_induction.specs.Sound.{events_of}
 use Rattle.run_counts.specs.Stages.{Stage, is_running, unseen, spanned, own, run_stages}
 use Rattle.run_counts.specs.Laws.{IsWithinWeights}
 use Rattle.run_counts.specs.Rounds.{closes_round, round_of, total, charged_to}
-use Rattle.run_counts.specs.OwnCounts.{is_preempted, if_preempted, IsOwn, AreGapsWithin, paced_at, RoundsOwnWithinItems, ImagesOwnWithinItems}
+use Rattle.run_counts.specs.OwnCounts.{is_preempted, if_preempted, IsOwn, begun, IsBehindItem, paced_at, RoundsOwnWithinItems, ImagesOwnWithinItems}
 use Rattle.run_counts.proofs.Staged.{keeps_weights}
 use Rattle.run_counts.proofs.Rounded.{rounds_within}
 use Rattle.run_counts.proofs.Owned.{HasParts, run_owned, first_of}
-use Rattle.run_counts.proofs.Gaps.{line_facts, short_gaps}
+use Rattle.run_counts.proofs.Gaps.{line_facts, preempts_within}
 use Rattle.run_counts.proofs.Counted.{counts_weigh, counts_end}
 
 -- ---- what holds of all stages
@@ -94,17 +93,17 @@ module _ (config : Config) (t : ℕ) where
           let c = ap (λ b. cond b (spanned x) 0) other in
           omega (arith, a, c)
 
-  -- what stands in front of it is within the greatest gap
-  gaps_at_most : (gap : ℕ) (xs : List Stage) → AreGapsWithin gap xs
-      → AllByRecursion (λ x. if_preempted config t unseen x ≤ if_preempted config t (λ y. gap) x) xs
-  gaps_at_most gap [] within = tt
-  gaps_at_most gap (x ∷ xs) within = (by (cases_Bool (is_preempted config t x)), gaps_at_most gap xs within.1)
+  -- what stands in front of it is within the item that the task has begun
+  begun_at_most : (size : ItemSizes) (xs : List Stage) → AllByRecursion (IsBehindItem config size t) xs
+      → AllByRecursion (λ x. if_preempted config t unseen x ≤ if_preempted config t (begun size t) x) xs
+  begun_at_most size [] within = tt
+  begun_at_most size (x ∷ xs) within = (by (cases_Bool (is_preempted config t x)), begun_at_most size xs within.1)
     where
-      by : (is_preempted config t x ≡ true) ⊎ (is_preempted config t x ≡ false) → if_preempted config t unseen x ≤ if_preempted config t (λ y. gap) x
+      by : (is_preempted config t x ≡ true) ⊎ (is_preempted config t x ≡ false) → if_preempted config t unseen x ≤ if_preempted config t (begun size t) x
       by (inl is) =
-          let le = within.0 (takes_then x is) in
+          let le = within.0 is in
           let a = ap (λ b. cond b (unseen x) 0) is in
-          let c = ap (λ b. cond b gap 0) is in
+          let c = ap (λ b. cond b (begun size t x) 0) is in
           omega (arith, le, a, c)
       by (inr other) = let a = ap (λ b. cond b (unseen x) 0) other in omega (arith, a)
 
@@ -128,19 +127,18 @@ own_within_items config app size longest n t cuts weights arrivals events wf run
           (part (IsWithinWeights config app size longest) (keeps_weights config app size longest n events run keeps))
           (part HasParts (second_of (IsOwn config t) HasParts whole own_all))) in
           omega (arith, sum, items, entries);
-      alone = λ gap within.
-          let gaps = total_at_most (if_preempted config t unseen) (if_preempted config t (λ y. gap)) round
-          (gaps_at_most config t gap round
-          (part (λ x. takes_line x.stamped.event ≡ true → unseen x ≤ gap) within)) in
-          omega (arith, sum, items, gaps);
+      alone =
+          let items_begun = total_at_most (if_preempted config t unseen) (if_preempted config t (begun size t)) round
+          (begun_at_most config t size round
+          (part (IsBehindItem config size t) (preempts_within config app size longest n t events run keeps))) in
+          omega (arith, sum, items, items_begun);
     }
 
 pub own_in_image : ImagesOwnWithinItems
-own_in_image config app image weights arrivals n t cuts wf code sound pace counts are few before behind first is opens =
+own_in_image config app image lengths weights arrivals n t cuts wf code sound pace lengths_are counts are few before behind first is opens =
     let run = sound.each arrivals n are few in
-    let lengths = counts.0 in
-    let items_short = short app code lengths counts.1 in
-    let keeps = (pace.paced lengths counts.1).each arrivals n 36 are few items_short in
+    let items_short = short app code lengths lengths_are in
+    let keeps = (pace.paced lengths lengths_are).each arrivals n 36 are few items_short in
     let within = own_within_items config app (length_of lengths) 36 n t cuts weights arrivals (events_of image arrivals n) wf run.osek run.in_time keeps
-    (counts_weigh app lengths counts.1 items_short weights counts.2) (counts_end app lengths weights counts.2) before behind first is opens in
-    within.alone unseen_counts (short_gaps config app image arrivals n wf run)
+    (counts_weigh app lengths lengths_are items_short weights counts) (counts_end app lengths weights counts) before behind first is opens in
+    within.alone

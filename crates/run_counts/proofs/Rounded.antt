@@ -87,7 +87,7 @@ kept_fits t s next same = let d : debt t next ≡ debt t s = ap (λ b. cond b 4 
 module _ (config : Config) (app : App) (size : ItemSizes) (longest : ℕ) (weights : List BodyWeights) (weighs : WeighsItems app size weights)
     (ends : WeighsEndings app size weights) (w : Facts config app) where
   -- what a stage of this event is charged with is within its weight
-  abbrev IsWithin : (counts : ℕ) → Event → System → Type 0
+  abbrev pub IsWithin : (counts : ℕ) → Event → System → Type 0
   IsWithin counts what s = is_some (admitted_line what) ≡ false → is_boot what ≡ false → counts ≤ paced_counts config app size longest s what
 
   ran_fits : (counts u func item result : ℕ) (s next : System) → OsekStep config app (event.Run u func item result) s next
@@ -101,7 +101,7 @@ module _ (config : Config) (app : App) (size : ItemSizes) (longest : ℕ) (weigh
       let none : debt u next ≡ 0 = ap (λ b. cond b 4 0) (ran_owes config app u func item result s next step) in
       omega (arith, le, same, weight, place, none)
 
-  called_fits : (counts u : ℕ) (served : Service) (status : ℕ) (s next : System) → OsekStep config app (event.Call u served status) s next
+  pub called_fits : (counts u : ℕ) (served : Service) (status : ℕ) (s next : System) → OsekStep config app (event.Call u served status) s next
       → IsWithin counts (event.Call u served status) s → counts + debt u next ≤ next_going weights (task s u).frames + debt u s
   called_fits counts u served status s next step within =
       let call = step.1.1 in
@@ -125,7 +125,7 @@ module _ (config : Config) (app : App) (size : ItemSizes) (longest : ℕ) (weigh
       let none : debt u next ≡ 0 = ap (λ b. cond b 4 0) (came_back_owes config app u s next v step) in
       omega (arith, le, size_is, owed, none)
 
-  left_fits : (counts u : ℕ) (served : Service) (s next : System) → OsekStep config app (event.Left u served) s next
+  pub left_fits : (counts u : ℕ) (served : Service) (s next : System) → OsekStep config app (event.Left u served) s next
       → IsWithin counts (event.Left u served) s → counts ≤ next_ending weights (task s u).frames
   left_fits counts u served s next step within =
       let call = step.1.1 in

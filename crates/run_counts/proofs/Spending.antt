@@ -5,7 +5,7 @@ use Rattle.sloth_base.specs.declared.config.Config.{Config}
 use Rattle.sloth_base.specs.declared.app.App.{App}
 use Rattle.sloth_base.specs.declared.event.Stamped.{Stamped}
 use Rattle.osek_scheduler.specs.State.{System, opening}
-use Rattle.osek_scheduler.specs.Runs.{AreStepsTo}
+use Rattle.osek_scheduler.specs.Runs.{AreStepsTo, OsekRun}
 use Rattle.osek_scheduler.specs.Steps.{OsekStep}
 use Rattle.osek_scheduler.specs.Valid.{IsValid}
 use Rattle.osek_scheduler.proofs.Apart.{opening_apart}
@@ -13,7 +13,7 @@ use Rattle.osek_scheduler.proofs.Facts.{Facts, facts}
 use Rattle.osek_scheduler.proofs.Leading.{leads-append, leads-parts, follows_leads, one_step, one_end}
 use Rattle.osek_scheduler.proofs.Reached.{run_valid}
 use Rattle.osek_scheduler.proofs.Steps.{step_valid, opening_valid}
-use Rattle.osek_blocking.specs.Blocking.{events_up_to_entry, IsBlockedBy}
+use Rattle.osek_blocking.specs.Blocking.{events_up_to_entry, IsBlockedBy, MakesReady}
 use Rattle.osek_blocking.proofs.Effects.{IsReady, Ordered}
 use Rattle.osek_blocking.proofs.Once.{block_once}
 use Rattle.osek_blocking.proofs.Ordering.{step_ordered, opening_ordered, leads_ordered}
@@ -28,7 +28,7 @@ use Rattle.bound_rules.specs.Weights.{going_weight}
 use Rattle.event_weights.specs.Pace.{ItemSizes}
 use Rattle.sim_induction.specs.Paced.{ArePacedTo, KeepsPace}
 use Rattle.sim_induction.proofs.Pacing.{last-append}
-use Rattle.run_counts.specs.Spending.{WeighsItems, NoSumIsAbove, RunsSpendOnLower}
+use Rattle.run_counts.specs.Spending.{WeighsItems, NoSumIsAbove, RunsSpendOnLower, RunsSpendNothing}
 use Rattle.run_counts.proofs.Lowers.{none_or_lower}
 use Rattle.run_counts.proofs.Weighed.{spent_none}
 use Rattle.run_counts.proofs.Summed.{at_most}
@@ -58,17 +58,23 @@ module _ (config : Config) (app : App) (size : ItemSizes) (longest heaviest : �
       at_most (record { facts = w; declared = declared; lower = lower }) size longest weights weighs most heaviest (none_above l lower) heavy behind at s end
       (record { valid = v; ordered = o; placed = p; ready = ready }) k paced
 
-pub spends_on_lower : RunsSpendOnLower
-spends_on_lower config app size longest n heaviest weights events wf run keeps weighs heavy before behind made h most found s is leads makes none_above =
-    let w = facts config app wf in
-    let blocked = block_once config app events run before behind made h found s is leads makes in
+-- the events behind the one that makes a task Ready lead on from there
+pub leads_behind : (config : Config) (app : App) (events : List Stamped) (run : OsekRun config app events) (before behind : List Stamped) (made : Stamped) (h : ℕ) (found s : System)
+    → events ≡ before ++ made ∷ behind → AreStepsTo config app before (opening config app) found → MakesReady config app h made.event found s → AreStepsTo config app behind s run.0
+leads_behind config app events run before behind made h found s is leads makes =
     let whole = follows_leads config app [] (opening config app) events run.0 run.1 in
     let parts = leads-parts config app before (made ∷ behind) (opening config app) run.0
     (subst (λ es. AreStepsTo config app es (opening config app) run.0) is whole) in
     let met = one_end config app before (opening config app) parts.0 found parts.1 leads in
     let step = subst (λ x. OsekStep config app made.event x parts.2.0) met parts.2.1 in
     let next = one_step config app made.event found parts.2.0 s step makes.step in
-    let behind_leads = subst (λ x. AreStepsTo config app behind x run.0) next parts.2.2 in
+    subst (λ x. AreStepsTo config app behind x run.0) next parts.2.2
+
+pub spends_on_lower : RunsSpendOnLower
+spends_on_lower config app size longest n heaviest weights events wf run keeps weighs heavy before behind made h most found s is leads makes none_above =
+    let w = facts config app wf in
+    let blocked = block_once config app events run before behind made h found s is leads makes in
+    let behind_leads = leads_behind config app events run before behind made h found s is leads makes in
     let valid = (run_valid config app w before (opening config app) found leads (opening_valid config app) (opening_apart config app)).0 in
     let ordered = leads_ordered config app before (opening config app) found (opening_ordered config app) leads in
     let placed = leads_placed config app w before (opening config app) found leads (opening_valid config app) (opening_placed config app) in
@@ -79,3 +85,13 @@ spends_on_lower config app size longest n heaviest weights events wf run keeps w
     (step_ordered config app found s ordered made.event makes.step)
     (step_placed config app found s made.event (frame_effect config app w found s valid made.event makes.step) placed)
     makes.behind paced blocked.0 blocked.1 (none_or_lower config app h blocked.0 behind s run.0 behind_leads blocked.1.of_one)
+
+pub spends_nothing : RunsSpendNothing
+spends_nothing config app events wf run before behind made h found s is leads makes nobody =
+    let blocked = block_once config app events run before behind made h found s is leads makes in
+    by blocked.0 (none_or_lower config app h blocked.0 behind s run.0 (leads_behind config app events run before behind made h found s is leads makes) blocked.1.of_one)
+  where
+    by : (l : ℕ) → (lower_events config h (events_up_to_entry h behind) ≡ 0) ⊎ IsLower config h l
+        → spent_counts config h (last_count 0 (before ++ made ∷ [])) (events_up_to_entry h behind) ≡ 0
+    by l (inl none) = spent_none config h (last_count 0 (before ++ made ∷ [])) (events_up_to_entry h behind) none
+    by l (inr lower) = absurd (nobody l lower)

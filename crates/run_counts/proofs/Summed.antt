@@ -71,22 +71,22 @@ module _ {config : Config} {app : App} {h l : ℕ} (pair : LowerPair config app 
 
   -- ---- a task that works
 
-  abbrev StartsAt : Position → List Position → Type 0
+  abbrev pub StartsAt : Position → List Position → Type 0
   StartsAt at [] = Unit {0}
   StartsAt at (first ∷ further) = first ≡ at
 
   -- a section of l from where it stands, whose sum is at least this
-  record Found (s : System) (counts : ℕ) : Type 0 where
-    positions : List Position
-    starts : StartsAt (position_of (task s l).frames) positions
-    consecutive : AreConsecutive app positions
-    raised : AllByRecursion (λ at. static_priority config h ≤ priority_at config app l at) positions
-    unbroken : OnlyLastSchedules app positions
-    sum : counts ≤ sum_of weights positions
-    free : positions ≢ [] → (task s l).owed ≡ false
-    reached : positions ≢ [] → IsReached app l (position_of (task s l).frames)
+  pub record Found (s : System) (counts : ℕ) : Type 0 where
+    pub positions : List Position
+    pub starts : StartsAt (position_of (task s l).frames) positions
+    pub consecutive : AreConsecutive app positions
+    pub raised : AllByRecursion (λ at. static_priority config h ≤ priority_at config app l at) positions
+    pub unbroken : OnlyLastSchedules app positions
+    pub sum : counts ≤ sum_of weights positions
+    pub free : positions ≢ [] → (task s l).owed ≡ false
+    pub reached : positions ≢ [] → IsReached app l (position_of (task s l).frames)
 
-  nothing : (s : System) (counts : ℕ) → counts ≡ 0 → Found s counts
+  pub nothing : (s : System) (counts : ℕ) → counts ≡ 0 → Found s counts
   nothing s counts e = record {
     positions = [];
     starts = tt;
@@ -121,7 +121,7 @@ module _ {config : Config} {app : App} {h l : ℕ} (pair : LowerPair config app 
   in_sum at counts rest fits (next ∷ further) le = omega (arith, fits, le)
 
   -- one position more in front
-  in_front : (s next : System) (counts rest : ℕ) → Waits pair s → IsActive s l → (task s l).owed ≡ false → IsRaisedTo config s l h → Advances app l s next
+  pub in_front : (s next : System) (counts rest : ℕ) → Waits pair s → IsActive s l → (task s l).owed ≡ false → IsRaisedTo config s l h → Advances app l s next
       → counts ≤ going_at weights (position_of (task s l).frames) → Found next rest → Found s (counts + rest)
   in_front s next counts rest x active free raised step fits f = record {
     positions = here ∷ f.positions;
@@ -151,7 +151,7 @@ module _ {config : Config} {app : App} {h l : ℕ} (pair : LowerPair config app 
       reached (inr r) = r
 
   -- the same from a state in which l stands in the same way
-  kept : (s next : System) (counts : ℕ) → SameFrames (task s l) (task next l) → Found next counts → Found s counts
+  pub kept : (s next : System) (counts : ℕ) → SameFrames (task s l) (task next l) → Found next counts → Found s counts
   kept s next counts same f = record {
     positions = f.positions;
     starts = subst (λ fs. StartsAt (position_of fs) f.positions) same.frames f.starts;
@@ -215,7 +215,7 @@ module _ {config : Config} {app : App} {h l : ℕ} (pair : LowerPair config app 
   -- ---- what is found is within the greatest sum
 
   module _ (most heaviest : ℕ) (none_above : NoneIsAbove config app weights h l most) (heavy : (f i : ℕ) → going_weight weights f i ≤ heaviest) where
-    within : (s : System) (counts : ℕ) → Found s counts → counts ≤ most
+    pub within : (s : System) (counts : ℕ) → Found s counts → counts ≤ most
     within s counts f =
         let sum = f.sum in
         let le = none_above f.positions (by f.positions refl) in
@@ -239,7 +239,7 @@ module _ {config : Config} {app : App} {h l : ℕ} (pair : LowerPair config app 
             empty k = cc
 
     -- an event of any task spends at most one item
-    place_few : (at : Position) → going_at weights at ≤ heaviest
+    pub place_few : (at : Position) → going_at weights at ≤ heaviest
     place_few [] = omega arith
     place_few (here ∷ outer) = heavy here.func here.item
 

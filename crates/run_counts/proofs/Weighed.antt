@@ -23,8 +23,8 @@ use Rattle.bound_rules.specs.Weights.{going_weight}
 use Rattle.section_sizes.specs.Weights.{going_at}
 use Rattle.event_weights.specs.Events.{call_counts}
 use Rattle.event_weights.specs.Items.{served_counts, going_counts}
-use Rattle.event_weights.specs.Pace.{ItemSizes, next_size, next_size_of, paced_counts, EndsInPace}
-use Rattle.sim_induction.specs.Paced.{ArePacedTo}
+use Rattle.event_weights.specs.Pace.{ItemSizes, next_size, next_size_of, paced_counts}
+use Rattle.sim_induction.specs.Paced.{GoesInPace, ArePacedTo}
 use Rattle.run_counts.specs.Spending.{WeighsItems}
 
 -- what is in pace leads on
@@ -83,10 +83,10 @@ module _ (config : Config) (app : App) (size : ItemSizes) (longest : ℕ) (weigh
   event_fits what s next u step is = absurd cc
 
   -- so what it spends is
-  pub spends_at_most : (e : Stamped) (at : ℕ) (s next : System) (t : ℕ) → OsekStep config app e.event s next → working_task e.event ≡ Some t → EndsInPace config app size longest at s e
+  pub spends_at_most : (e : Stamped) (at : ℕ) (s next : System) (t : ℕ) → OsekStep config app e.event s next → working_task e.event ≡ Some t → GoesInPace config app size longest at s e
       → e.stamp.at - at ≤ going_at weights (position_of (task s t).frames)
-  spends_at_most e at s next t step is ends =
+  spends_at_most e at s next t step is goes =
       let facts = works_facts e.event t is in
-      let soon = ends facts.0 facts.1 in
+      let soon = goes.ends facts.0 facts.1 in
       let fits = event_fits e.event s next t step is in
       omega (arith, soon, fits)

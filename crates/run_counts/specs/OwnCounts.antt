@@ -7,18 +7,20 @@ use Rattle.sloth_base.specs.declared.event.Arrival.{Arrival}
 use Rattle.sloth_base.specs.declared.event.Stamped.{Stamped}
 use Rattle.sloth_base.specs.declared.image.Image.{Image}
 use Rattle.sloth_base.specs.Arrivals.{AreArrivals}
-use Rattle.sloth_base.specs.Limits.{unseen_counts, count_limit}
+use Rattle.sloth_base.specs.Limits.{count_limit}
 use Rattle.sloth_base.specs.Owners.{owners_in}
 use Rattle.code_rules.specs.AppRange.{IsTaskCode}
 use Rattle.code_rules.specs.WellFormed.{WellFormed}
+use Rattle.osek_scheduler.specs.State.{task}
 use Rattle.osek_scheduler.specs.InTime.{InTime}
 use Rattle.osek_scheduler.specs.Runs.{OsekRun}
 use Rattle.raised_sections.specs.Pace.{takes_line}
 use Rattle.bound_rules.specs.declared.weights.BodyWeights.{BodyWeights}
-use Rattle.event_weights.specs.Pace.{ItemSizes, paced_counts}
-use Rattle.section_counts.specs.Counts.{AreCounts}
+use Rattle.event_weights.specs.Items.{length_of, AreLengths}
+use Rattle.event_weights.specs.Pace.{ItemSizes, next_size_of, paced_counts}
+use Rattle.section_counts.specs.Counts.{AreCountsBy}
 use Rattle.sim_induction.specs.Paced.{KeepsPace, InPace}
-use Rattle.sim_induction.specs.Sound.{IsSoundRun, Sound, events_of}
+use Rattle.sim_induction.specs.Sound.{Sound, events_of}
 use Rattle.run_counts.specs.Stages.{Stage, is_running, unseen, spanned, own, run_stages}
 use Rattle.run_counts.specs.Spending.{WeighsItems}
 use Rattle.run_counts.specs.Rounds.{opens_round, round_of, total, charged_to, weight_of, WeighsEndings}
@@ -46,24 +48,45 @@ RunsOwnWhatIsCharged = (config : Config) (app : App) (n t : ℕ) (arrivals : Lis
     → WellFormed config app → OsekRun config app events → InTime config n arrivals events
     → AllByRecursion (IsOwn config t) (run_stages config app events)
 
--- ---- those of a round of a run
+-- ---- in front of an entry or a tick
 
--- in front of no entry and no tick of these stand more counts that show no event
-abbrev pub AreGapsWithin : (gap : ℕ) → List Stage → Type 0
-AreGapsWithin gap xs = AllByRecursion (λ x. takes_line x.stamped.event ≡ true → unseen x ≤ gap) xs
+-- no more counts that show no event
+abbrev pub IsGapWithin : (gap : ℕ) → Stage → Type 0
+IsGapWithin gap x = takes_line x.stamped.event ≡ true → unseen x ≤ gap
+
+-- in every run that keeps the pace there are no more than the longest item has instructions
+abbrev pub RunsHaveShortGaps : Type 0
+RunsHaveShortGaps = (config : Config) (app : App) (size : ItemSizes) (longest n : ℕ) (events : List Stamped)
+    → OsekRun config app events → KeepsPace config app size longest n events
+    → AllByRecursion (IsGapWithin longest) (run_stages config app events)
+
+-- the instructions of the item at which task t stands; none where it owes the way back
+abbrev pub begun : ItemSizes → (t : ℕ) → Stage → ℕ
+begun size t x = next_size_of size (task x.found t)
+
+-- where it preempts task t, no more than that item has instructions
+abbrev pub IsBehindItem : Config → ItemSizes → (t : ℕ) → Stage → Type 0
+IsBehindItem config size t x = is_preempted config t x ≡ true → unseen x ≤ begun size t x
+
+-- in every run that keeps the pace
+abbrev pub RunsPreemptWithinItems : Type 0
+RunsPreemptWithinItems = (config : Config) (app : App) (size : ItemSizes) (longest n t : ℕ) (events : List Stamped)
+    → OsekRun config app events → KeepsPace config app size longest n events
+    → AllByRecursion (IsBehindItem config size t) (run_stages config app events)
+
+-- ---- those of a round of a run
 
 -- what an event may take at most, with the item in front of it
 abbrev pub paced_at : Config → App → ItemSizes → (longest : ℕ) → Stage → ℕ
 paced_at config app size longest x = paced_counts config app size longest x.found x.stamped.event
 
 -- What the own counts of task t in a round of it come to. The items are those that its events execute.
-pub record OwnIsWithin (config : Config) (app : App) (size : ItemSizes) (longest : ℕ) (weights : List BodyWeights) (t : ℕ) (whole round : List Stage) : Type 0 where
+pub record OwnIsWithin (config : Config) (app : App) (size : ItemSizes) (longest : ℕ) (weights : List BodyWeights) (t : ℕ) (round : List Stage) : Type 0 where
   -- with the entries and ticks that preempt it: the weights of the items, and of each entry and tick its own, with the longest item
   pub with_entries : total (own config t) round + total (if_preempted config t spanned) round
       ≤ total (weight_of weights t) round + total (if_preempted config t (paced_at config app size longest)) round
-  -- alone: the weights of the items, and for each entry and tick that preempts it the greatest gap of the run
-  pub alone : (gap : ℕ) → AreGapsWithin gap whole
-      → total (own config t) round ≤ total (weight_of weights t) round + total (if_preempted config t (λ x. gap)) round
+  -- alone: the weights of the items, and for each entry and tick that preempts it the instructions of the item that it has begun
+  pub alone : total (own config t) round ≤ total (weight_of weights t) round + total (if_preempted config t (begun size t)) round
 
 -- In every run in time that keeps the pace the own counts of a task in a round, finished or not, are so.
 abbrev pub RoundsOwnWithinItems : Type 0
@@ -73,24 +96,19 @@ RoundsOwnWithinItems =
     → WeighsItems app size weights → WeighsEndings app size weights
     → (before behind : List Stage) (first : Stage) → run_stages config app events ≡ before ++ first ∷ behind
     → opens_round cuts t first.stamped.event ≡ true
-    → OwnIsWithin config app size longest weights t (run_stages config app events) (round_of cuts t behind)
+    → OwnIsWithin config app size longest weights t (round_of cuts t behind)
 
 -- ---- of the runs of an image
 
--- in every sound run of an image no gap is greater than 40
-abbrev pub SoundRunsHaveShortGaps : Type 0
-SoundRunsHaveShortGaps = (config : Config) (app : App) (image : Image) (arrivals : List Arrival) (n : ℕ)
-    → WellFormed config app → IsSoundRun config app image arrivals n
-    → AreGapsWithin unseen_counts (run_stages config app (events_of image arrivals n))
-
--- Of an image whose builder promises `Sound` and `InPace`, in every run, by the weights in counts of its task code: the own counts of a task in a round,
--- finished or not, are at most the sum of the weights of the items that its events execute, and 40 for each entry and tick that preempts it.
+-- Of an image whose builder promises `Sound` and `InPace`, in every run, by the weights in counts and the lengths of the items of its task code: the own
+-- counts of a task in a round, finished or not, are at most the sum of the weights of the items that its events execute, and for each entry and tick that
+-- preempts it the instructions of the item that it has begun.
 abbrev pub ImagesOwnWithinItems : Type 0
 ImagesOwnWithinItems =
-    (config : Config) (app : App) (image : Image) (weights : List BodyWeights) (arrivals : List Arrival) (n t : ℕ) (cuts : Bool)
-    → WellFormed config app → IsTaskCode app → Sound config app image → InPace config app image → AreCounts app weights
+    (config : Config) (app : App) (image : Image) (lengths : List (List ℕ)) (weights : List BodyWeights) (arrivals : List Arrival) (n t : ℕ) (cuts : Bool)
+    → WellFormed config app → IsTaskCode app → Sound config app image → InPace config app image → AreLengths app lengths → AreCountsBy app lengths weights
     → AreArrivals (owners_in config) arrivals → n ≤ count_limit
     → (before behind : List Stage) (first : Stage) → run_stages config app (events_of image arrivals n) ≡ before ++ first ∷ behind
     → opens_round cuts t first.stamped.event ≡ true
     → total (own config t) (round_of cuts t behind)
-    ≤ total (weight_of weights t) (round_of cuts t behind) + total (if_preempted config t (λ x. unseen_counts)) (round_of cuts t behind)
+    ≤ total (weight_of weights t) (round_of cuts t behind) + total (if_preempted config t (begun (length_of lengths) t)) (round_of cuts t behind)

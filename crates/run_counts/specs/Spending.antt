@@ -36,6 +36,17 @@ SpendsOnLower config app weights heaviest events =
     → NoSumIsAbove config app weights h most
     → spent_counts config h (last_count 0 (before ++ made ∷ [])) (events_up_to_entry h behind) ≤ heaviest + most
 
+-- no task is lower
+abbrev pub NoneIsLower : Config → (h : ℕ) → Type 0
+NoneIsLower config h = (k : ℕ) → ¬ (IsLower config h k)
+
+-- where no task is lower than h, in every run, nothing is spent on lower ones
+abbrev pub RunsSpendNothing : Type 0
+RunsSpendNothing = (config : Config) (app : App) (events : List Stamped) → WellFormed config app → OsekRun config app events
+    → (before behind : List Stamped) (made : Stamped) (h : ℕ) (found s : System) → events ≡ before ++ made ∷ behind
+    → AreStepsTo config app before (opening config app) found → MakesReady config app h made.event found s → NoneIsLower config h
+    → spent_counts config h (last_count 0 (before ++ made ∷ [])) (events_up_to_entry h behind) ≡ 0
+
 -- every run that keeps the pace does so
 abbrev pub RunsSpendOnLower : Type 0
 RunsSpendOnLower = (config : Config) (app : App) (size : ItemSizes) (longest n heaviest : ℕ) (weights : List BodyWeights) (events : List Stamped)

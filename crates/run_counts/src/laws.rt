@@ -1,8 +1,8 @@
 //! The laws of what a run's events spend.
 ghost use Rattle.run_counts.specs.Laws.{RunsKeepWeights};
-ghost use Rattle.run_counts.specs.Spending.{RunsSpendOnLower};
+ghost use Rattle.run_counts.specs.Spending.{RunsSpendOnLower, RunsSpendNothing};
 ghost use Rattle.run_counts.specs.Rounds.{RoundsSpendWithinItems};
-ghost use Rattle.run_counts.specs.OwnCounts.{RunsOwnWhatIsCharged, RoundsOwnWithinItems, SoundRunsHaveShortGaps, ImagesOwnWithinItems};
+ghost use Rattle.run_counts.specs.OwnCounts.{RunsOwnWhatIsCharged, RunsHaveShortGaps, RunsPreemptWithinItems, RoundsOwnWithinItems, ImagesOwnWithinItems};
 
 /// In a run that keeps the pace no stage spends more than its event weighs, with the item in front of it.
 pub fn runs_keep_weights()
@@ -13,6 +13,11 @@ pub fn runs_keep_weights()
 /// item and the greatest sum of a section.
 pub fn runs_spend_on_lower()
     ensures { RunsSpendOnLower }
+{}
+
+/// In a run of well-formed task code, from an event that makes a task Ready up to its entry, nothing is spent on lower tasks where there are none.
+pub fn runs_spend_nothing()
+    ensures { RunsSpendNothing }
 {}
 
 /// In a run of well-formed task code that keeps the pace, what is charged to the events of a round of a task is at most the sum of the weights of the items
@@ -28,19 +33,25 @@ pub fn runs_own_what_is_charged()
 {}
 
 /// In a run in time of well-formed task code that keeps the pace, the own counts of a task in a round are at most the sum of the weights of the items that
-/// its events execute and, for each entry and tick that preempts it, the greatest gap of the run; and with these entries and ticks at most that sum, their
-/// weights, and for each of them the longest item.
+/// its events execute and, for each entry and tick that preempts it, the instructions of the item that it has begun; and with these entries and ticks at most
+/// the items' weights, theirs, and for each of them the longest item.
 pub fn rounds_own_within_items()
     ensures { RoundsOwnWithinItems }
 {}
 
-/// In a sound run of an image of well-formed task code no entry and no tick stands behind more than 40 counts that show no event.
-pub fn sound_runs_have_short_gaps()
-    ensures { SoundRunsHaveShortGaps }
+/// In a run that keeps the pace no entry and no tick stands behind more counts that show no event than the longest item has instructions.
+pub fn runs_have_short_gaps()
+    ensures { RunsHaveShortGaps }
+{}
+
+/// In a run that keeps the pace an entry or a tick that preempts a task stands behind no more counts that show no event than the item has instructions at
+/// which the task stands.
+pub fn runs_preempt_within_items()
+    ensures { RunsPreemptWithinItems }
 {}
 
 /// In every run of an image whose builder promises that its runs are sound and keep the pace, the own counts of a task in a round are at most the sum of the
-/// weights in counts of the items that its events execute, and 40 for each entry and tick that preempts it.
+/// weights in counts of the items that its events execute, and for each entry and tick that preempts it the instructions of the item that it has begun.
 pub fn images_own_within_items()
     ensures { ImagesOwnWithinItems }
 {}

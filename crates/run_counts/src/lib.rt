@@ -6,12 +6,13 @@
 //! (`rounds_spend_within_items`; `specs/Rounds`).
 //!
 //! A task's own counts are those that its events are charged with, and in front of an entry or a tick that preempts it those of the item that it has begun
-//! (`runs_own_what_is_charged`; `specs/OwnCounts`). In a round they are at most its items' weights and 40 for each preemption, in every run of a built image
-//! (`images_own_within_items`); with the entries and ticks that preempt it at most the weights of all these, and the longest item for each preemption
-//! (`rounds_own_within_items`). What a task has begun is counted twice so, in front of the preemption and with its item.
+//! (`runs_own_what_is_charged`; `specs/OwnCounts`). In a round they are at most its items' weights and for each preemption the item that it has begun, in every
+//! run of a built image (`images_own_within_items`, by `runs_preempt_within_items`); with the entries and ticks that preempt it at most the weights of all
+//! these, and the longest item for each preemption (`rounds_own_within_items`). What a task has begun is counted twice so, in front of the preemption and with
+//! its item.
 //!
 //! The sums: `section_counts` (`Told`). Weights and pace of events: `event_weights` (`Events`, `Pace`); that runs of a built image keep it: `sim_induction`
-//! (`InPace`); the 40: `run_bounds` (`Runs`).
+//! (`InPace`).
 #![tactic(auto)]
 
 pub mod laws;

@@ -2,7 +2,7 @@
 use Rattle.std.proofs.Common.{◌≡◌, ℕ, zero, suc, ◌+◌, ◌-◌, ◌<◌, ◌≤◌, List, [], ◌∷◌, ◌++◌, length, take, refl, sym, ap, ◌∙◌, subst, arith, append_assoc, Bool, true, false, cond, Option, Some, None, ⊎_elim, filter}
 use Rattle.std.specs.Prelude.{map, not, ◌||◌, Contains}
 use Rattle.std.specs.List.{flat_map, AllByRecursion}
-use Rattle.std.proofs.lemmas.Bool.{cases_lt, true≢false}
+use Rattle.std.proofs.lemmas.Bool.{cases_lt, true≢false, false≢true}
 use Rattle.std.proofs.lemmas.List.{length-take}
 use Rattle.std.proofs.lemmas.List.Elements.{filter-append, All-from_recursion}
 use Rattle.sloth_base.specs.declared.event.Arrival.{Arrival}
@@ -196,7 +196,11 @@ module _ (given : Setting) (setting : IsSetting given) (R : State → System →
   paced0 : (longest : ℕ) → ArePacedTo given.config given.app given.size longest 0 E0 s z
   paced0 longest = (
     law.after,
-    (λ other later. absurd (true≢false later)),
+    record {
+      begins = λ other later. absurd (true≢false later);
+      preempts = λ takes t runs. absurd (false≢true takes);
+      ends = λ other later. absurd (true≢false later);
+    },
     law.step_is,
     subst (λ a. ArePacedTo given.config given.app given.size longest law.more (map admit_event (arrivals_behind_event 0 law.trace)) law.after (with_admits a law.after)) (lines_behind 0 law.trace)
         (paced_admits given.config given.app given.size longest law.more (arrivals_behind_event 0 law.trace) law.after setting.few_tasks after_booted owned_behind),
@@ -255,6 +259,7 @@ module _ (given : Setting) (setting : IsSetting given) (R : State → System →
     weighed = refl;
     paced = λ longest most. refl;
     reaches = λ longest most some. absurd (let none : 0 < 0 = some in omega (arith, none));
+    reaches_within = λ longest most heaviest stretches some. absurd (let none : 0 < 0 = some in omega (arith, none));
     within = tt;
     placed = tt;
     to = 0;
@@ -291,6 +296,7 @@ module _ (given : Setting) (setting : IsSetting given) (R : State → System →
         weighed = subst (λ E. AreWeighedTo given.config given.app E s s) (sym obs) refl;
         paced = λ longest most. subst (λ E. ArePacedTo given.config given.app given.size longest 0 E s s) (sym obs) refl;
         reaches = λ longest most some. absurd (let none = ap (λ (E : List Stamped). length E) obs in omega (arith, none, some));
+        reaches_within = λ longest most heaviest stretches some. absurd (let none = ap (λ (E : List Stamped). length E) obs in omega (arith, none, some));
         within = subst (AllByRecursion (IsInCounts 0 (suc n))) (sym obs) tt;
         placed = subst (EachPair IsOrdered) (sym obs) tt;
         to = 0;
@@ -335,6 +341,10 @@ module _ (given : Setting) (setting : IsSetting given) (R : State → System →
             (paced-append given.config given.app given.size longest E0 E 0 law.more s z g.last last0 (paced0 longest) (g.paced longest law.more most (omega arith)).0);
         reaches = λ longest most some.
             let far = (g.paced longest law.more most (omega arith)).1 in
+            let last : last_count 0 (events_from given (J + n) 0 m) ≡ last_count law.more E = ap (last_count 0) obs ∙ last-append 0 E0 E ∙ ap (λ v. last_count v E) last0 in
+            omega (arith, far, last);
+        reaches_within = λ longest most heaviest stretches some.
+            let far = (g.paced longest law.more most (omega arith)).2 heaviest stretches in
             let last : last_count 0 (events_from given (J + n) 0 m) ≡ last_count law.more E = ap (last_count 0) obs ∙ last-append 0 E0 E ∙ ap (λ v. last_count v E) last0 in
             omega (arith, far, last);
         within = subst (AllByRecursion (IsInCounts 0 (J + n))) (sym obs)

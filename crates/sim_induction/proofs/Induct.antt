@@ -22,7 +22,7 @@ use Rattle.sim_induction.specs.Short.{AreShort, IsShortPiece, HasShortGaps, pass
 use Rattle.sim_induction.specs.Sound.{stands_before}
 use Rattle.sim_induction.specs.Admits.{Setting, IsSetting, lines_at, with_admits, admit_event}
 use Rattle.sim_induction.proofs.Lines.{is_admitted, spans_admit, admit_before}
-use Rattle.sim_induction.specs.Advances.{EachPair, IsInCounts, found_events, Advances}
+use Rattle.sim_induction.specs.Advances.{EachPair, IsInCounts, found_events, IsWithinItem, Advances}
 use Rattle.raised_sections.specs.Pace.{last_count}
 use Rattle.sim_induction.specs.Weighed.{AreWeighedTo}
 use Rattle.sim_induction.specs.Paced.{ArePacedTo}
@@ -78,6 +78,10 @@ module _ (given : Setting) (setting : IsSetting given) (R : State → System →
   pace_mine : (longest at k : ℕ) (m : State) (s : System) → R m s → ArePacedTo given.config given.app given.size longest at (mine k) s (with_admits (lines_at A k) s)
   pace_mine longest at k m s r = paced_admits given.config given.app given.size longest at (here k) s setting.few_tasks (simulation.booted m s r) (owned_here k)
 
+  -- the word names the task that runs, so no more has shown nothing than its item has instructions
+  within_item : (m : State) (s : System) → R m s → IsWithinItem given progress m s
+  within_item m s r t runs = (simulation.measured m s r).turn t ((simulation.mirrors m s r).running t runs).1 [] []
+
   mine_within : (k hi : ℕ) → k < hi → AllByRecursion (IsInCounts k hi) (mine k)
   mine_within k hi l = each_arrival (IsInCounts k hi) (λ a. a.at ≡ k) (λ a e. record { begins = omega arith; ordered = omega arith; ends = omega arith; spans = spans_admit a }) (here k) (moment_within k A)
 
@@ -99,7 +103,12 @@ module _ (given : Setting) (setting : IsSetting given) (R : State → System →
     last = s;
     follows = refl;
     weighed = refl;
-    paced = λ longest at most near. (refl, (let few = (simulation.measured m s r).few longest most in omega (arith, near, few)));
+    paced = λ longest at most near.
+        let few = (simulation.measured m s r).few longest most in (
+          refl,
+          omega (arith, near, few),
+          (λ heaviest within. let some = within.some in omega (arith, near, few, some)),
+        );
     within = tt;
     placed = tt;
     to = k;
@@ -165,6 +174,11 @@ module _ (given : Setting) (setting : IsSetting given) (R : State → System →
             (let last : last_count at (events_from given (suc n) k m) ≡ at = ap (last_count at) cut_observed ∙ last_admits at (here k) in
                 let few = (simulation.measured m s r).few longest most in
                 let short = a.few in
+                omega (arith, near, few, short, last, l)),
+            (λ heaviest stretches.
+                let last : last_count at (events_from given (suc n) k m) ≡ at = ap (last_count at) cut_observed ∙ last_admits at (here k) in
+                let few = (simulation.measured m s r).few longest most in
+                let short = a.brief heaviest stretches in
                 omega (arith, near, few, short, last, l)),
           );
           within = subst (AllByRecursion (IsInCounts k (k + suc n))) (sym cut_observed) (mine_within k (k + suc n) (omega arith));
@@ -277,12 +291,13 @@ module _ (given : Setting) (setting : IsSetting given) (R : State → System →
           follows = subst (λ u. AreStepsBehind given.config given.app past s u g.last) (sym observed) (follows-append given.config given.app past s a.after g.last (mine k ++ a.others) E piece_follows g.follows);
           weighed = subst (λ u. AreWeighedTo given.config given.app u s g.last) (sym observed) (weighed-append given.config given.app (mine k ++ a.others) E s a.after g.last piece_weighed g.weighed);
           paced = λ longest at most near.
-              let front = a.paced longest at most near in
+              let front = a.paced longest at most near (within_item m s r) in
               let rest = g.paced longest (last_count at a.others) most front.1 in (
                 subst (λ u. ArePacedTo given.config given.app given.size longest at u s g.last) (sym observed)
                     (paced-append given.config given.app given.size longest (mine k ++ a.others) E at (last_count at a.others) s a.after g.last (last_piece at)
                     (piece_paced longest at front.0) rest.0),
                 (let far = rest.1 in let last = last_whole at in omega (arith, far, last)),
+                (λ heaviest stretches. let far = rest.2 heaviest stretches in let last = last_whole at in omega (arith, far, last)),
               );
           within = subst (AllByRecursion (IsInCounts k (k + (j + n)))) (sym observed)
               (each-append (IsInCounts k (k + (j + n))) (mine k ++ a.others) E

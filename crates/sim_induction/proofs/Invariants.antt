@@ -74,6 +74,7 @@ module _ (given : Setting) (setting : IsSetting given) (R : State → System →
     counted = a.counted;
     keeps = a.keeps;
     few = a.few;
+    brief = a.brief;
     short = a.short;
     short_front = a.short_front;
     after = a.after;

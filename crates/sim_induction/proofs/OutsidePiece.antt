@@ -1,7 +1,7 @@
 -- An instruction outside the stretches is a piece of the run.
 use Rattle.std.proofs.Common.{◌≡◌, ℕ, ◌+◌, ◌<◌, ◌≤◌, List, [], ◌∷◌, ◌++◌, refl, sym, ap, ◌∙◌, subst, arith, true, false, cond, inl, append-nil}
 use Rattle.std.specs.Prelude.{map}
-use Rattle.std.proofs.lemmas.Bool.{not_from_false}
+use Rattle.std.proofs.lemmas.Bool.{not_from_false, false≢true}
 use Rattle.sloth_base.specs.declared.event.Event.{Event}
 use Rattle.sloth_base.specs.declared.event.Event.TheVariants as event
 use Rattle.sloth_base.specs.declared.event.Stamped.{Stamped}
@@ -17,8 +17,8 @@ use Rattle.sim_induction.specs.Short.{passed_count}
 use Rattle.sim_induction.specs.Admits.{Setting, IsSetting, lines_at, with_admits}
 use Rattle.sim_induction.specs.Advances.{EachPair, IsInCounts, found_events, Advances}
 use Rattle.std.specs.List.{AllByRecursion}
-use Rattle.raised_sections.specs.Pace.{last_count}
-use Rattle.event_weights.specs.Pace.{single_counts, paced_counts}
+use Rattle.raised_sections.specs.Pace.{last_count, takes_line}
+use Rattle.event_weights.specs.Pace.{single_counts, gap_counts, paced_counts}
 use Rattle.sim_induction.specs.Weighed.{AreWeighedTo}
 use Rattle.sim_induction.specs.Paced.{ArePacedTo}
 use Rattle.sim_induction.specs.PieceLaws.{OutsideLaw, IsOutsideStep, MakesProgress, seen_step_at}
@@ -49,6 +49,19 @@ single_paced : (given : Setting) (longest : ℕ) (s : System) (what : Event) →
 single_paced given longest s (event.Run t func item result) h at from k near less = omega (arith, near, less)
 single_paced given longest s event.Idle h at from k near less = omega (arith, near, less)
 single_paced given longest s what h at from k near less = absurd h
+
+-- and begins no later
+single_begins : (given : Setting) (longest : ℕ) (s : System) (what : Event) → IsSingle what → (at from k : ℕ) → k ≤ at + 1 + from → from < single_counts given.size what
+    → k ≤ at + 1 + gap_counts given.size longest s what
+single_begins given longest s (event.Run t func item result) h at from k near less = omega (arith, near, less)
+single_begins given longest s event.Idle h at from k near less = omega (arith, near, less)
+single_begins given longest s what h at from k near less = absurd h
+
+-- it takes no line
+single_takes : (what : Event) → IsSingle what → takes_line what ≡ false
+single_takes (event.Run t func item result) h = refl
+single_takes event.Idle h = refl
+single_takes what h = absurd h
 
 -- what its events are: none or one
 record Alone (given : Setting) (k : ℕ) (whats : List Event) (s after : System) : Type 0 where
@@ -87,7 +100,16 @@ alone given k (what ∷ []) s after h w =
       follows = λ past. (after, w, single_passes given past s k what h.0, refl);
       passing = λ before from to l p. omega arith;
       paced = λ longest at from to near p. (
-        (after, (λ other later. single_paced given longest s what h.0 at from k near p), w, refl),
+        (
+          after,
+          record {
+            begins = λ other later. single_begins given longest s what h.0 at from k near p;
+            preempts = λ takes t runs. absurd (false≢true (sym (single_takes what h.0) ∙ takes));
+            ends = λ other later. single_paced given longest s what h.0 at from k near p;
+          },
+          w,
+          refl,
+        ),
         (let last : cond (is_admit (stamp k k what)) at k ≡ k = ap (λ b. cond b at k) o in omega (arith, last)),
       );
     }
@@ -127,13 +149,14 @@ outside_advances given setting R progress k m s x law =
           subst (λ u. KeepsOrder u (found_events given k ++ others)) (append-nil (moments k (k + 1) given.arrivals))
           (orders-append (moments k (k + 1) given.arrivals) [] (found_events given k) others (admits_order (moments k (k + 1) given.arrivals)) (others_order others a.others));
       few = omega arith;
+      brief = λ heaviest stretches. stretches.some;
       short = law.untouched;
       short_front = λ n l. absurd (omega arith);
       after = law.after;
       leads = a.leads;
       weighed = a.weighed;
       follows = λ past h. a.follows past;
-      paced = λ longest at most near. a.paced longest at (progress m s) (progress x law.after) near law.progresses;
+      paced = λ longest at most near item. a.paced longest at (progress m s) (progress x law.after) near law.progresses;
       progresses = λ before l. subst (λ v. passed_count v before ≤ progress x law.after) (sym law.whats_are) (a.passing before (progress m s) (progress x law.after) l law.progresses);
       related = law.related;
     }

@@ -1,7 +1,7 @@
 -- Steps in pace: joined, those of arrivals, and one among others.
-use Rattle.std.proofs.Common.{◌≡◌, ◌∙◌, ◌≤◌, ℕ, List, [], ◌∷◌, ◌++◌, length, Bool, cond, refl, sym, ap, subst, arith, true, false}
+use Rattle.std.proofs.Common.{◌≡◌, ◌∙◌, ◌≤◌, ℕ, List, [], ◌∷◌, ◌++◌, length, Bool, cond, is_some, refl, sym, ap, subst, arith, true, false}
 use Rattle.std.specs.Prelude.{map}
-use Rattle.std.proofs.lemmas.Bool.{true≢false}
+use Rattle.std.proofs.lemmas.Bool.{true≢false, false≢true}
 use Rattle.sloth_base.specs.declared.app.App.{App}
 use Rattle.sloth_base.specs.declared.config.Config.{Config}
 use Rattle.sloth_base.specs.declared.image.Image.{Image}
@@ -9,6 +9,7 @@ use Rattle.sloth_base.specs.declared.event.Arrival.{Arrival}
 use Rattle.sloth_base.specs.declared.event.Event.{Event}
 use Rattle.sloth_base.specs.declared.event.Event.TheVariants as event
 use Rattle.sloth_base.specs.declared.event.Stamped.{Stamped}
+use Rattle.sloth_base.specs.Events.{admitted_line, is_boot}
 use Rattle.sloth_base.specs.Machine.{State}
 use Rattle.sloth_base.specs.Owners.{first_counter_line, owners_in, AreOwned}
 use Rattle.rv32_instr.specs.Ram.{word_at}
@@ -16,10 +17,10 @@ use Rattle.osek_scheduler.specs.State.{Frame, Task, System, task}
 use Rattle.osek_scheduler.specs.InTime.{is_admit}
 use Rattle.osek_scheduler.specs.Runs.{AreStepsTo}
 use Rattle.osek_scheduler.proofs.Leading.{one_step}
-use Rattle.raised_sections.specs.Pace.{last_count}
-use Rattle.event_weights.specs.Pace.{ItemSizes, AreAtMost, next_size, next_size_of, gap_counts, EndsInPace}
+use Rattle.raised_sections.specs.Pace.{last_count, takes_line}
+use Rattle.event_weights.specs.Pace.{ItemSizes, AreAtMost, next_size, next_size_of, gap_counts}
 use Rattle.sim_induction.specs.Admits.{Setting, with_arrival, with_admits, admit_event}
-use Rattle.sim_induction.specs.Paced.{ArePacedTo, Paced}
+use Rattle.sim_induction.specs.Paced.{ArePacedTo, GoesInPace, Paced}
 use Rattle.sim_induction.specs.PieceLaws.{IsNamed, IsMeasure}
 use Rattle.sim_induction.proofs.Follow.{booted_arrival}
 use Rattle.sim_induction.proofs.Lines.{is_admitted, arrival_steps}
@@ -45,6 +46,12 @@ last_between at before behind e other =
     ∙ ap (λ b. last_count (cond b (last_count at (map admit_event before)) e.stamp.at) (map admit_event behind)) other
     ∙ last_admits e.stamp.at behind
 
+-- an entry or a tick is no admission
+takes_no_admit : (what : Event) → takes_line what ≡ true → is_some (admitted_line what) ≡ false
+takes_no_admit (event.Enter t) takes = refl
+takes_no_admit (event.Tick c) takes = refl
+takes_no_admit what takes = absurd (false≢true takes)
+
 -- ---- steps in pace
 
 module _ (c : Config) (app : App) (size : ItemSizes) (longest : ℕ) where
@@ -59,16 +66,20 @@ module _ (c : Config) (app : App) (size : ItemSizes) (longest : ℕ) where
   paced_admits at [] s few b h = refl
   paced_admits at (x ∷ a) s few b h = (
     with_arrival x.line s,
-    (λ other later. absurd (true≢false (sym (is_admitted x) ∙ other))),
+    record {
+      begins = λ other later. absurd (true≢false (sym (is_admitted x) ∙ other));
+      preempts = λ takes t runs. absurd (true≢false (sym (is_admitted x) ∙ takes_no_admit (admit_event x).event takes));
+      ends = λ other later. absurd (true≢false (sym (is_admitted x) ∙ other));
+    },
     arrival_steps c app x.line s few h.0 b,
     subst (λ v. ArePacedTo c app size longest v (map admit_event a) (with_arrival x.line s) (with_admits (map (λ y. y.line) a) (with_arrival x.line s))) (sym (admit_leaves at x))
         (paced_admits at a (with_arrival x.line s) few (booted_arrival x.line s ∙ b) h.1),
   )
 
-  -- behind the events before it each event finds one state, and ends in pace there
+  -- behind the events before it each event finds one state, and goes in pace there
   pub found_paced : (before behind : List Stamped) (e : Stamped) (at : ℕ) (s end found : System) → ArePacedTo c app size longest at (before ++ e ∷ behind) s end
-      → AreStepsTo c app before s found → EndsInPace c app size longest (last_count at before) found e
-  found_paced [] behind e at s end found h k = subst (λ v. EndsInPace c app size longest at v e) (sym k) h.1
+      → AreStepsTo c app before s found → GoesInPace c app size longest (last_count at before) found e
+  found_paced [] behind e at s end found h k = subst (λ v. GoesInPace c app size longest at v e) (sym k) h.1
   found_paced (x ∷ before) behind e at s end found h k =
       let same = one_step c app x.event s h.0 k.0 h.2 k.1 in
       found_paced before behind e (cond (is_admit x) at x.stamp.at) k.0 end found
@@ -85,6 +96,15 @@ gap_enough given progress m s measure longest most found early (event.Back t) na
 gap_enough given progress m s measure longest most found early (event.Enter t) named = measure.few longest most
 gap_enough given progress m s measure longest most found early (event.Tick c) named = measure.few longest most
 gap_enough given progress m s measure longest most found early what named = absurd named
+
+-- its event is not boot
+pub named_no_boot : (current : ℕ) (what : Event) → IsNamed current what → is_boot what ≡ false
+named_no_boot current (event.Call t served status) named = refl
+named_no_boot current (event.Left t served) named = refl
+named_no_boot current (event.Back t) named = refl
+named_no_boot current (event.Enter t) named = refl
+named_no_boot current (event.Tick c) named = refl
+named_no_boot current what named = absurd named
 
 -- ---- longer items
 
@@ -115,10 +135,18 @@ module _ (config : Config) (app : App) (size wider : ItemSizes) (longer : (func 
     each = λ arrivals n longest are bound most.
         let keeps = paced.each arrivals n longest are bound (λ func item. let less = longer func item in let few = most func item in omega (arith, less, few)) in
         record {
-          each = λ before behind e found is leads other later.
-              let soon = keeps.each before behind e found is leads other later in
+          each = λ before behind e found is leads.
+              let goes = keeps.each before behind e found is leads in
               let gap = gap_wider longest found e.event in
-              omega (arith, soon, gap);
+              record {
+                begins = λ other later. let soon = goes.begins other later in omega (arith, soon, gap);
+                preempts = λ takes t runs.
+                    let soon = goes.preempts takes t runs in
+                    let next = next_wider (task found t) in
+                    omega (arith, soon, next);
+                ends = λ other later. let soon = goes.ends other later in omega (arith, soon, gap);
+              };
           reaches = keeps.reaches;
+          reaches_within = keeps.reaches_within;
         };
   }

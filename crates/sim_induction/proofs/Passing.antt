@@ -18,6 +18,8 @@ use Rattle.code_rules.specs.Code.{is_in}
 use Rattle.osek_scheduler.specs.Services.{if_suspended, activated_state}
 use Rattle.osek_scheduler.specs.Steps.{OsekStep, admitted_state}
 use Rattle.osek_scheduler.specs.Runs.{AreStepsTo, ReadySince, PassesOver}
+use Rattle.osek_scheduler.proofs.Apart.{at_task}
+use Rattle.sim_induction.specs.Mirror.{priority_of, IsRunningTask}
 use Rattle.masked_code.specs.Trace.{Trace, early_arrivals}
 use Rattle.sim_induction.specs.Admits.{line_event, with_arrival, with_admits, admit_event, arrivals_before_event}
 use Rattle.sim_induction.proofs.Follow.{leads-append, booted_arrival}
@@ -117,6 +119,43 @@ active_fresh [] u s a f = f
 active_fresh (t ∷ lines) u s a f =
     active_fresh lines u (with_arrival t s) (ap (λ v. v.state) (kept_arrival t u s (not_suspended (task s u).state a)) ∙ a)
     (arrival_cases (λ z. is_in u z.fresh ≡ false) t s (active_one t u s a f) (λ c. f))
+
+-- ---- the task that runs
+
+-- an admit makes no task Active
+active_admitted : (t u : ℕ) (s : System) → (task (admitted_state t s) u).state ≡ mode.Active → (task s u).state ≡ mode.Active
+active_admitted t u s =
+    admit_cases (λ z. (task z u).state ≡ mode.Active → (task s u).state ≡ mode.Active) t s
+    (λ _. at_task s t u (record (task s t) { state = mode.Ready }) (λ k. k.state ≡ mode.Active → (task s u).state ≡ mode.Active) (λ a. a) (λ e a. absurd cc))
+    (λ _ a. a)
+
+active_admits : (lines : List ℕ) (u : ℕ) (s : System) → (task (with_admits lines s) u).state ≡ mode.Active → (task s u).state ≡ mode.Active
+active_admits [] u s a = a
+active_admits (line ∷ lines) u s a =
+    arrival_cases (λ z. (task z u).state ≡ mode.Active → (task s u).state ≡ mode.Active) line s (active_admitted line u s) (λ c h. h)
+    (active_admits lines u (with_arrival line s) a)
+
+same_priority : (c : Config) (s z : System) (u : ℕ) → task z u ≡ task s u → priority_of c z u ≡ priority_of c s u
+same_priority c s z u e = ap (current_priority c (declaration c u)) e
+
+-- a task that runs behind arrivals ran before them, with the same record
+pub ran_before : (c : Config) (lines : List ℕ) (t : ℕ) (s : System) → IsRunningTask c (with_admits lines s) t → IsRunningTask c s t × (task (with_admits lines s) t ≡ task s t)
+ran_before c lines t s runs =
+    let z = with_admits lines s in
+    let active = active_admits lines t s runs.active in
+    let same : task z t ≡ task s t = kept_admits lines t s (not_suspended (task s t).state active) in (
+      record {
+        declared = runs.declared;
+        active = active;
+        is_greatest = λ u l a.
+            let k : task z u ≡ task s u = kept_admits lines u s (not_suspended (task s u).state a) in
+            let r = runs.is_greatest u l (ap (λ (v : Task). v.state) k ∙ a) in
+            let p = same_priority c s z u k in
+            let q = same_priority c s z t same in
+            omega (arith, r, p, q);
+      },
+      same,
+    )
 
 -- ---- a task that arrivals made Ready
 

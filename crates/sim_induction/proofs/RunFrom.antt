@@ -16,7 +16,7 @@ use Rattle.sim_induction.specs.Sound.{stands_before}
 use Rattle.raised_sections.specs.Pace.{last_count}
 use Rattle.event_weights.specs.Pace.{AreAtMost}
 use Rattle.sim_induction.specs.Weighed.{AreWeighedTo}
-use Rattle.sim_induction.specs.Paced.{ArePacedTo}
+use Rattle.sim_induction.specs.Paced.{ArePacedTo, AreStretchesWithin}
 use Rattle.sim_induction.specs.Admits.{Setting}
 use Rattle.sim_induction.specs.Advances.{EachPair, IsInCounts}
 use Rattle.sim_induction.proofs.Runs.{steps_from}
@@ -38,6 +38,7 @@ pub record SoundFrom (given : Setting) (R : State → System → Type 0) (progre
   pub paced : (longest at : ℕ) → AreAtMost given.size longest → k ≤ at + 1 + progress m s
       → ArePacedTo given.config given.app given.size longest at (events_from given n k m) s last
       × (k + n ≤ last_count at (events_from given n k m) + longest + longest_stretch given.config)
+      × ((heaviest : ℕ) → AreStretchesWithin given.config given.app heaviest → k + n ≤ last_count at (events_from given n k m) + longest + heaviest)
   pub within : AllByRecursion (IsInCounts k (k + n)) (events_from given n k m)
   pub placed : EachPair IsOrdered (events_from given n k m)
   pub to : ℕ

@@ -12,10 +12,11 @@ use Rattle.sloth_base.specs.Owners.{owners_in, IsOwned, AreOwned}
 use Rattle.sloth_base.specs.Take.{line_to_take}
 use Rattle.sloth_base.proofs.Stretches.{begins_later, within_longest}
 use Rattle.rv32_machine.specs.Run.{state_after_from, state_with_arrivals}
+use Rattle.rv32_instr.specs.Ram.{word_at}
 use Rattle.masked_code.specs.Trace.{Trace, touched_lines, early_arrivals, late_arrivals}
 use Rattle.observe.specs.Pieces.{Stretch, is_outside, begins}
 use Rattle.observe.specs.Observe.{admission, stamp, is_early, last_of, stretch_event, piece_events}
-use Rattle.osek_scheduler.specs.State.{System, opening}
+use Rattle.osek_scheduler.specs.State.{System, task, opening}
 use Rattle.osek_scheduler.specs.Runs.{AreStepsTo, AreStepsBehind}
 use Rattle.osek_scheduler.specs.InTime.{is_admit, admits_at, arrivals_at, IsOrdered, StandsBefore, HasSpanFor, KeepsOrder}
 use Rattle.sim_induction.specs.Short.{AreShort, IsShortAt, TouchesOnly}
@@ -23,10 +24,10 @@ use Rattle.sim_induction.specs.Admits.{Setting, IsSetting, lines_at, with_admits
 use Rattle.sim_induction.proofs.Lines.{spans_admit, admit_before, admit_behind, admits_ordered}
 use Rattle.sim_induction.specs.Observed.{IsTraced}
 use Rattle.raised_sections.specs.Pace.{last_count}
-use Rattle.event_weights.specs.Pace.{AreAtMost, EndsInPace}
+use Rattle.event_weights.specs.Pace.{AreAtMost, next_size_of, gap_counts}
 use Rattle.sim_induction.specs.Weighed.{AreWeighedTo}
-use Rattle.sim_induction.specs.Paced.{ArePacedTo}
-use Rattle.sim_induction.specs.Advances.{RunTo, EachPair, IsInCounts, found_events, Advances}
+use Rattle.sim_induction.specs.Paced.{ArePacedTo, GoesInPace}
+use Rattle.sim_induction.specs.Advances.{RunTo, EachPair, IsInCounts, found_events, IsWithinItem, Advances}
 use Rattle.std.specs.List.{AllByRecursion}
 use Rattle.sim_induction.specs.PieceLaws.{StretchLaw, IsMeasure, seen_step_at}
 use Rattle.sim_induction.proofs.Follow.{leads-append, follows-append, booted_admits, follows_admits, leads_admits}
@@ -41,7 +42,8 @@ use Rattle.std.proofs.lemmas.List.Elements.{All-from_recursion}
 use Rattle.sim_induction.proofs.MaskedRun.{MaskedRun, masked_steps, masked_inside, trace_long, going_moment, Flags, flag_first, ShowsState}
 use Rattle.sim_induction.proofs.Cut.{cut_whole, cut_short}
 use Rattle.sim_induction.proofs.Weighing.{weighed-append, weighed_admits}
-use Rattle.sim_induction.proofs.Pacing.{gap_enough, last_admits, last_between, paced-append, paced_admits}
+use Rattle.sim_induction.proofs.Pacing.{gap_enough, named_no_boot, last_admits, last_between, paced-append, paced_admits}
+use Rattle.sim_induction.proofs.Passing.{ran_before}
 
 -- ---- the events of a stretch with this event
 
@@ -214,22 +216,32 @@ module _ (given : Setting) (setting : IsSetting given) (R : State → System →
         subst (λ a. AreWeighedTo given.config given.app (map admit_event (arrivals_behind_event (k + 1) t)) law.after (with_admits a law.after)) (lines_behind (k + 1) t) (weighed_admits given.config given.app (arrivals_behind_event (k + 1) t) law.after setting.few_tasks after_booted owned_behind),
       )
 
-  ends : (longest at : ℕ) → AreAtMost given.size longest → k ≤ at + 1 + progress m s
-      → EndsInPace given.config given.app given.size longest at (with_admits (early_arrivals t) s1) event
-  ends longest at most near other later =
+  goes : (longest at : ℕ) → AreAtMost given.size longest → k ≤ at + 1 + progress m s → IsWithinItem given progress m s
+      → GoesInPace given.config given.app given.size longest at (with_admits (early_arrivals t) s1) event
+  goes longest at most near item =
       let gap = gap_enough given progress m s measure longest most (lines_at A k) (early_arrivals t) law.what law.named in
       let span = law.within in
-      omega (arith, near, gap, span)
+      record {
+        begins = λ other later. omega (arith, near, gap);
+        preempts = λ takes u runs.
+            let before = ran_before given.config (early_arrivals t) u s1 runs in
+            let first = ran_before given.config (lines_at A k) u s before.0 in
+            let few = item u first.0 in
+            let same : next_size_of given.size (task (with_admits (early_arrivals t) s1) u) ≡ next_size_of given.size (task s u) =
+            ap (next_size_of given.size) (before.1 ∙ first.1) in
+            omega (arith, near, few, same);
+        ends = λ other later. omega (arith, near, gap, span);
+      }
 
-  paced_others : (longest at : ℕ) → AreAtMost given.size longest → k ≤ at + 1 + progress m s
+  paced_others : (longest at : ℕ) → AreAtMost given.size longest → k ≤ at + 1 + progress m s → IsWithinItem given progress m s
       → ArePacedTo given.config given.app given.size longest at others s1 (with_admits (late_arrivals t) law.after)
-  paced_others longest at most near =
+  paced_others longest at most near item =
       paced-append given.config given.app given.size longest (map admit_event (arrivals_before_event (k + 1) t)) (event ∷ map admit_event (arrivals_behind_event (k + 1) t)) at at s1
       (with_admits (early_arrivals t) s1) (with_admits (late_arrivals t) law.after) (last_admits at (arrivals_before_event (k + 1) t))
       (subst (λ a. ArePacedTo given.config given.app given.size longest at (map admit_event (arrivals_before_event (k + 1) t)) s1 (with_admits a s1)) (lines_before (k + 1) t)
       (paced_admits given.config given.app given.size longest at (arrivals_before_event (k + 1) t) s1 setting.few_tasks s1_booted owned_before)) (
         law.after,
-        ends longest at most near,
+        goes longest at most near item,
         law.step_is,
         subst (λ a. ArePacedTo given.config given.app given.size longest (cond (is_admit event) at event.stamp.at) (map admit_event (arrivals_behind_event (k + 1) t)) law.after (with_admits a law.after))
             (lines_behind (k + 1) t)
@@ -314,13 +326,18 @@ module _ (given : Setting) (setting : IsSetting given) (R : State → System →
         counted = counts;
         keeps = keeps;
         few = omega arith;
+        brief = λ heaviest stretches.
+            let span = law.within in
+            let le = stretches.each law.what (with_admits (early_arrivals t) s1) law.after law.step_is
+            (named_no_boot (word_at m.core.ram 0) law.what law.named) in
+            omega (arith, n, span, le);
         short = short_at r.steps (omega arith) touching;
         short_front = λ i l. short_at (take i r.steps) (let z = length-take i r.steps in omega arith) (each_step-take (TouchesOnly law.lines) i r.steps touching);
         after = with_admits (late_arrivals t) law.after;
         leads = lead_others;
         weighed = weighed_others;
         follows = follow_others;
-        paced = λ longest at most near. (paced_others longest at most near, reaches at (progress x (with_admits (late_arrivals t) law.after)));
+        paced = λ longest at most near item. (paced_others longest at most near item, reaches at (progress x (with_admits (late_arrivals t) law.after)));
         progresses = λ before l. omega arith;
         related = law.related;
       }

@@ -23,7 +23,7 @@ use Rattle.sim_induction.specs.Sound.{IsSoundRun, events_of}
 use Rattle.raised_sections.specs.Pace.{last_count}
 use Rattle.event_weights.specs.Pace.{ItemSizes, AreAtMost}
 use Rattle.sim_induction.specs.Weighed.{AreWeighedTo, AreWithinWeights}
-use Rattle.sim_induction.specs.Paced.{ArePacedTo, KeepsPace}
+use Rattle.sim_induction.specs.Paced.{ArePacedTo, AreStretchesWithin, KeepsPace}
 use Rattle.sim_induction.specs.Admits.{Setting, IsSetting}
 use Rattle.sim_induction.specs.Advances.{EachPair, IsInCounts}
 use Rattle.sim_induction.specs.Related.{IsSimulation}
@@ -46,6 +46,8 @@ pub record WholeRun (given : Setting) (R : State → System → Type 0) (n : ℕ
   pub paced : (longest : ℕ) → AreAtMost given.size longest → ArePacedTo given.config given.app given.size longest 0 (events_from given n 0 m) (opening given.config given.app) last
   pub reaches : (longest : ℕ) → AreAtMost given.size longest → 0 < length (events_from given n 0 m)
       → n ≤ last_count 0 (events_from given n 0 m) + longest + longest_stretch given.config
+  pub reaches_within : (longest : ℕ) → AreAtMost given.size longest → (heaviest : ℕ) → AreStretchesWithin given.config given.app heaviest
+      → 0 < length (events_from given n 0 m) → n ≤ last_count 0 (events_from given n 0 m) + longest + heaviest
   pub within : AllByRecursion (IsInCounts 0 n) (events_from given n 0 m)
   pub placed : EachPair IsOrdered (events_from given n 0 m)
   pub to : ℕ
@@ -114,4 +116,5 @@ paced_of config app size image arrivals R n longest most w = record {
       found_paced config app size longest before behind e 0 (opening config app) w.last found
       (subst (λ events. ArePacedTo config app size longest 0 events (opening config app) w.last) is (w.paced longest most)) leads;
   reaches = λ some. w.reaches longest most some;
+  reaches_within = λ heaviest stretches some. w.reaches_within longest most heaviest stretches some;
 }

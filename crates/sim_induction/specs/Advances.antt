@@ -11,15 +11,16 @@ use Rattle.rv32_machine.specs.Advance.{Goes}
 use Rattle.rv32_machine.specs.Run.{moment, state_after_from}
 use Rattle.observe.specs.Pieces.{RunPiece, pieces, cut_off_steps}
 use Rattle.observe.specs.Observe.{piece_events}
-use Rattle.osek_scheduler.specs.State.{System, opening}
+use Rattle.osek_scheduler.specs.State.{System, task, opening}
 use Rattle.osek_scheduler.specs.Runs.{AreStepsTo, AreStepsBehind}
 use Rattle.osek_scheduler.specs.InTime.{is_admit, admits_at, arrivals_at, HasSpanFor, IsOrdered, KeepsOrder}
 use Rattle.sim_induction.specs.Short.{AreShort, IsShortPiece, passed_length}
 use Rattle.sim_induction.specs.Admits.{Setting, lines_at, with_admits, admit_event}
 use Rattle.raised_sections.specs.Pace.{last_count}
-use Rattle.event_weights.specs.Pace.{AreAtMost}
+use Rattle.event_weights.specs.Pace.{AreAtMost, next_size_of}
+use Rattle.sim_induction.specs.Mirror.{IsRunningTask}
 use Rattle.sim_induction.specs.Weighed.{AreWeighedTo}
-use Rattle.sim_induction.specs.Paced.{ArePacedTo}
+use Rattle.sim_induction.specs.Paced.{ArePacedTo, AreStretchesWithin}
 
 -- the instructions of the counts from this one on lead by these steps from the first state to the last
 abbrev pub RunTo : List Arrival → ℕ → ℕ → State → List Step → State → Type 0
@@ -44,6 +45,10 @@ pub record IsInCounts (from to : ℕ) (e : Stamped) : Type 0 where
 abbrev pub found_events : Setting → ℕ → List Stamped
 found_events given count = map admit_event (moments count (count + 1) given.arrivals)
 
+-- no more instructions have shown nothing than the next item of the task that runs has
+abbrev pub IsWithinItem : (given : Setting) (progress : State → System → ℕ) → State → System → Type 0
+IsWithinItem given progress state s = (t : ℕ) → IsRunningTask given.config s t → progress state s ≤ next_size_of given.size (task s t)
+
 -- The relation R is one between the states at counts that find MIE 1, before the arrivals of the count. The piece that begins at
 -- the count ends at the next such count; its events are steps of the abstract scheduler, and the states are related again.
 pub record Advances (given : Setting) (R : State → System → Type 0) (progress : State → System → ℕ) (count : ℕ) (state : State) (s : System) : Type 0 where
@@ -65,13 +70,15 @@ pub record Advances (given : Setting) (R : State → System → Type 0) (progres
   pub counted : (i t : ℕ) → admits_at i t (found_events given count ++ others) ≡ arrivals_at i t (moments count (count + suc (length rest)) given.arrivals)
   pub keeps : KeepsOrder (moments count (count + suc (length rest)) given.arrivals) (found_events given count ++ others)
   pub few : length rest < longest_stretch given.config
+  pub brief : (heaviest : ℕ) → AreStretchesWithin given.config given.app heaviest → length rest < heaviest
   pub short : IsShortPiece given.config piece
   pub short_front : (n : ℕ) → n < length rest → AreShort given.config (first ∷ take n rest)
   pub after : System
   pub leads : AreStepsTo given.config given.app others (with_admits (lines_at given.arrivals count) s) after
   pub weighed : AreWeighedTo given.config given.app others (with_admits (lines_at given.arrivals count) s) after
-  -- behind events that ended at count `at`, where no more instructions have shown nothing since than the measure says
-  pub paced : (longest at : ℕ) → AreAtMost given.size longest → count ≤ at + 1 + progress state s
+  -- behind events that ended at count `at`, where no more instructions have shown nothing since than the measure says, and the measure no more than the
+  -- next item of the task that runs
+  pub paced : (longest at : ℕ) → AreAtMost given.size longest → count ≤ at + 1 + progress state s → IsWithinItem given progress state s
       → ArePacedTo given.config given.app given.size longest at others (with_admits (lines_at given.arrivals count) s) after
       × (count + suc (length rest) ≤ last_count at others + 1 + progress next after)
   pub follows : (past : List Stamped) → AreStepsTo given.config given.app past (opening given.config given.app) (with_admits (lines_at given.arrivals count) s)

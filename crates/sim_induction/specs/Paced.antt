@@ -1,37 +1,56 @@
--- Each event of a run ends soon behind the one before it, by its weight and the item in front of it: a further promise of the builder.
-use Rattle.std.specs.Prelude.{ℕ, ◌+◌, ◌<◌, ◌≤◌, ◌≡◌, cond, length, List, [], ◌∷◌, ◌++◌}
+-- Each event of a run begins and ends soon behind the one before it, by its weight and the item in front of it: a further promise of the builder.
+use Rattle.std.specs.Prelude.{ℕ, ◌+◌, ◌<◌, ◌≤◌, ◌≡◌, true, false, cond, length, List, [], ◌∷◌, ◌++◌}
 use Rattle.sloth_base.specs.declared.config.Config.{Config}
 use Rattle.sloth_base.specs.declared.app.App.{App}
 use Rattle.sloth_base.specs.declared.image.Image.{Image}
 use Rattle.sloth_base.specs.declared.event.Arrival.{Arrival}
+use Rattle.sloth_base.specs.declared.event.Event.{Event}
 use Rattle.sloth_base.specs.declared.event.Stamped.{Stamped}
 use Rattle.sloth_base.specs.Arrivals.{AreArrivals}
+use Rattle.sloth_base.specs.Events.{is_boot}
 use Rattle.sloth_base.specs.Limits.{count_limit}
 use Rattle.sloth_base.specs.Owners.{owners_in}
 use Rattle.sloth_base.specs.Stretches.{longest_stretch}
-use Rattle.osek_scheduler.specs.State.{System, opening}
+use Rattle.osek_scheduler.specs.State.{System, task, opening}
 use Rattle.osek_scheduler.specs.InTime.{is_admit}
 use Rattle.osek_scheduler.specs.Steps.{OsekStep}
 use Rattle.osek_scheduler.specs.Runs.{AreStepsTo}
-use Rattle.raised_sections.specs.Pace.{last_count}
+use Rattle.raised_sections.specs.Pace.{last_count, takes_line}
+use Rattle.event_weights.specs.Events.{stretch_counts}
 use Rattle.event_weights.specs.Items.{length_of, AreLengths}
-use Rattle.event_weights.specs.Pace.{ItemSizes, AreAtMost, EndsInPace}
+use Rattle.event_weights.specs.Pace.{ItemSizes, AreAtMost, next_size_of, gap_counts, EndsInPace}
+use Rattle.sim_induction.specs.Mirror.{IsRunningTask}
 use Rattle.sim_induction.specs.Sound.{events_of}
 
--- these events, behind one that ended at count `at`, lead from s to `end`, as steps that end in pace
+-- an event behind one that ended at count `at`: how soon its counts begin and end
+pub record GoesInPace (config : Config) (app : App) (size : ItemSizes) (longest at : ℕ) (found : System) (e : Stamped) : Type 0 where
+  -- no more counts stand in front of it than may show nothing
+  pub begins : is_admit e ≡ false → is_boot e.event ≡ false → e.stamp.from ≤ at + 1 + gap_counts size longest found e.event
+  -- in front of an entry or a tick no more than the next item of the task that runs has instructions
+  pub preempts : takes_line e.event ≡ true → (t : ℕ) → IsRunningTask config found t → e.stamp.from ≤ at + 1 + next_size_of size (task found t)
+  pub ends : EndsInPace config app size longest at found e
+
+-- these events, behind one that ended at count `at`, lead from s to `end`, as steps that go in pace
 abbrev pub ArePacedTo : Config → App → ItemSizes → (longest at : ℕ) → List Stamped → System → System → Type 0
 ArePacedTo config app size longest at [] s end = end ≡ s
 ArePacedTo config app size longest at (e ∷ events) s end =
-    (next : System) × EndsInPace config app size longest at s e × OsekStep config app e.event s next
+    (next : System) × GoesInPace config app size longest at s e × OsekStep config app e.event s next
     × ArePacedTo config app size longest (cond (is_admit e) at e.stamp.at) events next end
+
+-- no stretch behind boot that may come takes more counts
+pub record AreStretchesWithin (config : Config) (app : App) (heaviest : ℕ) : Type 0 where
+  pub some : 0 < heaviest
+  pub each : (e : Event) (found next : System) → OsekStep config app e found next → is_boot e ≡ false → stretch_counts config app found e ≤ heaviest
 
 -- The events of n instructions keep the pace, where no item has more instructions than `longest`.
 pub record KeepsPace (config : Config) (app : App) (size : ItemSizes) (longest n : ℕ) (events : List Stamped) : Type 0 where
   -- each event, in the state that the events before it lead to
   pub each : (before behind : List Stamped) (e : Stamped) (found : System) → events ≡ before ++ e ∷ behind → AreStepsTo config app before (opening config app) found
-      → EndsInPace config app size longest (last_count 0 before) found e
+      → GoesInPace config app size longest (last_count 0 before) found e
   -- behind the last one stands at most an item that is not done, and a stretch that the end cuts off
   pub reaches : 0 < length events → n ≤ last_count 0 events + longest + longest_stretch config
+  -- which is within its weight too
+  pub reaches_within : (heaviest : ℕ) → AreStretchesWithin config app heaviest → 0 < length events → n ≤ last_count 0 events + longest + heaviest
 
 -- for every list of arrivals and every number of instructions
 pub record Paced (config : Config) (app : App) (size : ItemSizes) (image : Image) : Type 0 where
