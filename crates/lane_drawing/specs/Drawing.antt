@@ -18,6 +18,7 @@ look_class look.Served = codes "ser"
 look_class look.Preempted = codes "pre"
 look_class look.Ready = codes "ready"
 look_class look.Waiting = codes "wait"
+look_class look.Tick = codes "t"
 look_class look.Kernel = codes "k"
 
 -- the word of a look
@@ -27,6 +28,7 @@ look_word look.Served = codes "runs kernel code"
 look_word look.Preempted = codes "preempted"
 look_word look.Ready = codes "ready"
 look_word look.Waiting = codes "waiting"
+look_word look.Tick = codes "ticks"
 look_word look.Kernel = codes "code"
 
 -- the height of a bar, in pixels
@@ -36,6 +38,7 @@ look_height look.Served = 24
 look_height look.Preempted = 12
 look_height look.Ready = 12
 look_height look.Waiting = 2
+look_height look.Tick = 16
 look_height look.Kernel = 12
 
 -- a bar in the lane of a name whose middle is so many pixels from the top
@@ -71,13 +74,13 @@ abbrev pub is_above : (levels : List ℕ) (task other : ℕ) → Bool
 is_above levels task other =
     ltb (slice_index levels other) (slice_index levels task) || ((slice_index levels other == slice_index levels task) && ltb task other)
 
--- an arrival is a task's, in the counts of a picture
-abbrev pub is_shown : Scale → (task : ℕ) → Arrival → Bool
-is_shown scale task arrival = (arrival.line == task) && (leb scale.from arrival.at && ltb arrival.at scale.to)
+-- an arrival is of a line, in the counts of a picture
+abbrev pub is_shown : Scale → (line : ℕ) → Arrival → Bool
+is_shown scale line arrival = (arrival.line == line) && (leb scale.from arrival.at && ltb arrival.at scale.to)
 
--- the arrivals of a task in the counts of a picture
-abbrev pub shown_arrivals : Scale → List Arrival → (task : ℕ) → List Arrival
-shown_arrivals scale arrivals task = filter (is_shown scale task) arrivals
+-- the arrivals of a line in the counts of a picture
+abbrev pub shown_arrivals : Scale → List Arrival → (line : ℕ) → List Arrival
+shown_arrivals scale arrivals line = filter (is_shown scale line) arrivals
 
 -- ---- the frame
 
@@ -108,6 +111,7 @@ style_lines = all_lines (
     ∷ codes ".pre,.ser{fill:#9dbfe0;stroke:#2266aa;stroke-width:.6}\n"
     ∷ codes ".ready{fill:none;stroke:#2266aa;stroke-width:1.4;stroke-dasharray:4 3}\n"
     ∷ codes ".wait{fill:#8a94a3}\n"
+    ∷ codes ".t{fill:#1a2433;stroke:#1a2433}\n"
     ∷ codes ".k{fill:#c2571a}\n"
     ∷ codes "@media screen and (prefers-color-scheme:dark){\n"
     ∷ codes "text,.a{fill:#e6ebf2}\n"
@@ -117,6 +121,7 @@ style_lines = all_lines (
     ∷ codes ".pre,.ser{fill:#2f4d6e;stroke:#5aa2e6}\n"
     ∷ codes ".ready{stroke:#5aa2e6}\n"
     ∷ codes ".wait{fill:#7b8796}\n"
+    ∷ codes ".t{fill:#e6ebf2;stroke:#e6ebf2}\n"
     ∷ codes ".k{fill:#e08a4d}\n"
     ∷ codes "}\n"
     ∷ codes "</style>\n"
@@ -154,6 +159,7 @@ legend_lines scale rows = legend_line scale rows ++ all_lines (
     ∷ codes "<rect class=\"wait\" x=\"488\" y=\"11\" width=\"28\" height=\"2\"/><text x=\"524\" y=\"16\">waiting</text>\n"
     ∷ codes "<rect class=\"k\" x=\"596\" y=\"6\" width=\"28\" height=\"12\"/><text x=\"632\" y=\"16\">kernel code</text>\n"
     ∷ codes "<path class=\"a\" d=\"M734 16l-4 -6h8z\"/><text x=\"746\" y=\"16\">arrival</text>\n"
+    ∷ codes "<rect class=\"t\" x=\"816\" y=\"4\" width=\"1\" height=\"16\"/><text x=\"828\" y=\"16\">tick</text>\n"
     ∷ codes "</g>\n"
     ∷ []
     )

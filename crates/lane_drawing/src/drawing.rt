@@ -24,6 +24,7 @@ fn look_class(look: Look) -> &'static [u8]
         Look::Preempted => b"pre",
         Look::Ready => b"ready",
         Look::Waiting => b"wait",
+        Look::Tick => b"t",
         Look::Kernel => b"k",
     }
 }
@@ -38,6 +39,7 @@ fn look_word(look: Look) -> &'static [u8]
         Look::Preempted => b"preempted",
         Look::Ready => b"ready",
         Look::Waiting => b"waiting",
+        Look::Tick => b"ticks",
         Look::Kernel => b"code",
     }
 }
@@ -49,6 +51,7 @@ fn look_height(look: Look) -> u32
     match look {
         Look::Runs | Look::Served => 24,
         Look::Preempted | Look::Ready | Look::Kernel => 12,
+        Look::Tick => 16,
         Look::Waiting => 2,
     }
 }
@@ -136,30 +139,30 @@ pub fn push_lane(
     Ok(())
 }
 
-// Whether an arrival is a task's, in the counts of a picture.
-fn is_shown(scale: Scale, task: u8, arrival: &Arrival) -> bool
-    ensures { result ≡ is_shown scale task arrival.now }
+// Whether an arrival is of a line, in the counts of a picture.
+fn is_shown(scale: Scale, line: u8, arrival: &Arrival) -> bool
+    ensures { result ≡ is_shown scale line arrival.now }
 {
-    arrival.line.0 == task && arrival.at >= scale.from && arrival.at < scale.to
+    arrival.line.0 == line && arrival.at >= scale.from && arrival.at < scale.to
 }
 
-/// Appends the arrivals of a task in the counts of a picture.
+/// Appends the arrivals of a line, a task's or a counter's, in the counts of a picture.
 pub fn push_arrivals(
     text: &mut Vec<u8>,
     scale: Scale,
     name: &[u8],
     middle: u32,
     arrivals: &[Arrival],
-    task: u8,
+    line: u8,
 ) -> Result<(), NoMemory>
     requires scale { IsScale scale }
     requires name { length name.now ≤ name_limit }
     requires high { 13 ≤ middle }
     ensures { OnOk result (text.new.items ≡ text.old.items
-        ++ flat_map (arrival_line scale name.now middle) (shown_arrivals scale arrivals.now task)) }
+        ++ flat_map (arrival_line scale name.now middle) (shown_arrivals scale arrivals.now line)) }
 {
     for arrival in arrivals {
-        if is_shown(scale, task, arrival) {
+        if is_shown(scale, line, arrival) {
             text.extend_from_slice(arrival_line(scale, name, middle, *arrival).bytes())?;
         }
     }

@@ -11,7 +11,7 @@ use trace_text::line_text::LineText;
 #[tactic(auto, unfolding(crate::specs::Drawing::head_line))]
 fn head_line(scale: Scale, rows: u32) -> LineText
     requires scale { IsScale scale }
-    requires rows { rows ≤ 31 }
+    requires rows { rows ≤ 33 }
     ensures { result ≡ head_line scale rows }
 {
     let (width, height) = (scale.left + 1052, 94 + 40 * rows);
@@ -29,7 +29,7 @@ fn head_line(scale: Scale, rows: u32) -> LineText
 }
 
 // How each class looks, on light and on dark screens, what is behind all, and the unit of the axis, above its end.
-const STYLE: [&[u8]; 23] = [
+const STYLE: [&[u8]; 25] = [
     b"<style>\n",
     b"text,.a{fill:#1a2433}\n",
     b".n{font-family:ui-monospace,monospace}\n",
@@ -39,6 +39,7 @@ const STYLE: [&[u8]; 23] = [
     b".pre,.ser{fill:#9dbfe0;stroke:#2266aa;stroke-width:.6}\n",
     b".ready{fill:none;stroke:#2266aa;stroke-width:1.4;stroke-dasharray:4 3}\n",
     b".wait{fill:#8a94a3}\n",
+    b".t{fill:#1a2433;stroke:#1a2433}\n",
     b".k{fill:#c2571a}\n",
     b"@media screen and (prefers-color-scheme:dark){\n",
     b"text,.a{fill:#e6ebf2}\n",
@@ -48,6 +49,7 @@ const STYLE: [&[u8]; 23] = [
     b".pre,.ser{fill:#2f4d6e;stroke:#5aa2e6}\n",
     b".ready{stroke:#5aa2e6}\n",
     b".wait{fill:#7b8796}\n",
+    b".t{fill:#e6ebf2;stroke:#e6ebf2}\n",
     b".k{fill:#e08a4d}\n",
     b"}\n",
     b"</style>\n",
@@ -68,7 +70,7 @@ fn push_lines(text: &mut Vec<u8>, lines: &[&[u8]]) -> Result<(), NoMemory>
 /// Appends the first line, how each class looks, on light and on dark screens, and the unit of the axis.
 pub fn push_head(text: &mut Vec<u8>, scale: Scale, rows: u32) -> Result<(), NoMemory>
     requires scale { IsScale scale }
-    requires rows { rows ≤ 31 }
+    requires rows { rows ≤ 33 }
     ensures { OnOk result (text.new.items ≡ text.old.items ++ (head_line scale rows ++ style_lines)) }
 {
     text.extend_from_slice(head_line(scale, rows).bytes())?;
@@ -79,7 +81,7 @@ pub fn push_head(text: &mut Vec<u8>, scale: Scale, rows: u32) -> Result<(), NoMe
 #[tactic(auto, unfolding(crate::specs::Drawing::count_line))]
 fn count_line(scale: Scale, rows: u32, count: u32) -> LineText
     requires scale { IsScale scale }
-    requires rows { rows ≤ 31 }
+    requires rows { rows ≤ 33 }
     requires behind { scale.from ≤ count }
     requires within { count ≤ scale.to }
     ensures { result ≡ count_line scale rows count }
@@ -101,7 +103,7 @@ fn count_line(scale: Scale, rows: u32, count: u32) -> LineText
 #[tactic(auto, unfolding(crate::specs::Drawing::axis_line))]
 fn axis_line(scale: Scale, rows: u32, i: u32) -> LineText
     requires scale { IsScale scale }
-    requires rows { rows ≤ 31 }
+    requires rows { rows ≤ 33 }
     requires behind { first_multiple scale ≤ i }
     requires within { i ≤ last_multiple scale }
     ensures { result ≡ axis_line scale rows i }
@@ -112,7 +114,7 @@ fn axis_line(scale: Scale, rows: u32, i: u32) -> LineText
 /// Appends the axis.
 pub fn push_axis(text: &mut Vec<u8>, scale: Scale, rows: u32) -> Result<(), NoMemory>
     requires scale { IsScale scale }
-    requires rows { rows ≤ 31 }
+    requires rows { rows ≤ 33 }
     ensures { OnOk result (text.new.items ≡ text.old.items ++ axis_lines scale rows) }
 {
     for i in scale.first_multiple()..scale.last_multiple() + 1 {
@@ -125,7 +127,7 @@ pub fn push_axis(text: &mut Vec<u8>, scale: Scale, rows: u32) -> Result<(), NoMe
 #[tactic(auto, unfolding(crate::specs::Drawing::legend_line))]
 fn legend_line(scale: Scale, rows: u32) -> LineText
     requires scale { IsScale scale }
-    requires rows { rows ≤ 31 }
+    requires rows { rows ≤ 33 }
     ensures { result ≡ legend_line scale rows }
 {
     let mut line = LineText::new();
@@ -138,7 +140,7 @@ fn legend_line(scale: Scale, rows: u32) -> LineText
 }
 
 // What the looks and the marks mean.
-const LEGEND: [&[u8]; 8] = [
+const LEGEND: [&[u8]; 9] = [
     b"<rect class=\"run\" x=\"0\" y=\"0\" width=\"28\" height=\"24\"/><text x=\"36\" y=\"16\">runs</text>\n",
     b"<rect class=\"ser\" x=\"96\" y=\"0\" width=\"28\" height=\"24\"/><text x=\"132\" y=\"16\">runs kernel code</text>\n",
     b"<rect class=\"pre\" x=\"262\" y=\"6\" width=\"28\" height=\"12\"/><text x=\"298\" y=\"16\">preempted</text>\n",
@@ -146,13 +148,14 @@ const LEGEND: [&[u8]; 8] = [
     b"<rect class=\"wait\" x=\"488\" y=\"11\" width=\"28\" height=\"2\"/><text x=\"524\" y=\"16\">waiting</text>\n",
     b"<rect class=\"k\" x=\"596\" y=\"6\" width=\"28\" height=\"12\"/><text x=\"632\" y=\"16\">kernel code</text>\n",
     b"<path class=\"a\" d=\"M734 16l-4 -6h8z\"/><text x=\"746\" y=\"16\">arrival</text>\n",
+    b"<rect class=\"t\" x=\"816\" y=\"4\" width=\"1\" height=\"16\"/><text x=\"828\" y=\"16\">tick</text>\n",
     b"</g>\n",
 ];
 
 /// Appends what the looks and the marks mean.
 pub fn push_legend(text: &mut Vec<u8>, scale: Scale, rows: u32) -> Result<(), NoMemory>
     requires scale { IsScale scale }
-    requires rows { rows ≤ 31 }
+    requires rows { rows ≤ 33 }
     ensures { OnOk result (text.new.items ≡ text.old.items ++ legend_lines scale rows) }
 {
     text.extend_from_slice(legend_line(scale, rows).bytes())?;

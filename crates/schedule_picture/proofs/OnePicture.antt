@@ -3,6 +3,7 @@ use Rattle.std.proofs.Common.{◌≡◌, ◌≤◌, ◌<◌, ◌+◌, ◌∙◌,
 use Rattle.sloth_base.specs.declared.event.Arrival.{Arrival}
 use Rattle.sloth_base.specs.declared.image.Image.{Image}
 use Rattle.sloth_base.specs.Machine.{State}
+use Rattle.sloth_base.specs.Owners.{counter_line}
 use Rattle.sloth_runner.specs.TaskStates.{task_levels}
 use Rattle.sloth_runner.specs.declared.samples.Sample.{Sample}
 use Rattle.sloth_runner.specs.Samples.{AreSampledLevels}
@@ -14,8 +15,8 @@ use Rattle.std.specs.Prelude.{codes}
 use Rattle.std.specs.List.{flat_map}
 use Rattle.lane_drawing.specs.Drawing.{head_line, style_lines, axis_lines, lane_line, bar_line, lane_text, row_middle, shown_arrivals, legend_lines}
 use Rattle.lane_drawing.proofs.Growing.{one_bars}
-use Rattle.schedule_picture.specs.LaneLooks.{look_at}
-use Rattle.schedule_picture.specs.Picture.{Drawing, IsPictureOf, scale_of, tasks_above, task_lane, task_lanes, picture_text}
+use Rattle.schedule_picture.specs.LaneLooks.{owned_lanes, look_of}
+use Rattle.schedule_picture.specs.Picture.{Drawing, IsPictureOf, scale_of, tasks_above, task_lane, task_lanes, counter_lane, counter_lanes, picture_text}
 
 -- the levels of a count
 one_levels : (image : Image) (A : List Arrival) (k : ℕ) (xs ys : List ℕ) → AreSampledLevels image A k xs → AreSampledLevels image A k ys → xs ≡ ys
@@ -42,26 +43,43 @@ module _ (image : Image) (A : List Arrival) (levels : List ℕ) (scale : Scale) 
       ap (λ l. l ++ task_lane (drawing b) k) (same_lanes b c k (λ lane below. same lane (omega (arith, below))))
       ∙ ap (λ t. task_lanes (drawing c) k ++ t) (same_task b c k (same k (omega arith)))
 
+  -- and so is one of a counter
+  same_counter : (b c : (lane : ℕ) → List Bar) (counter : ℕ) → b (length image.tasks + counter) ≡ c (length image.tasks + counter)
+      → counter_lane (drawing b) counter ≡ counter_lane (drawing c) counter
+  unfolding counter_lane
+  same_counter b c counter e =
+      ap (λ bars. lane_text scale (get_or image.counters counter []) (row_middle (length image.tasks + counter)) bars (shown_arrivals scale A (counter_line counter))) e
+
+  same_counters : (b c : (lane : ℕ) → List Bar) (k : ℕ) → ((lane : ℕ) → lane < length image.tasks + k → b lane ≡ c lane)
+      → counter_lanes (drawing b) k ≡ counter_lanes (drawing c) k
+  unfolding counter_lanes
+  same_counters b c zero same = refl
+  same_counters b c (suc k) same =
+      ap (λ l. l ++ counter_lane (drawing b) k) (same_counters b c k (λ lane below. same lane (omega (arith, below))))
+      ∙ ap (λ t. counter_lanes (drawing c) k ++ t) (same_counter b c k (same (length image.tasks + k) (omega arith)))
+
   -- a drawing is told by the bars of its lanes
-  same_text : (b c : (lane : ℕ) → List Bar) → ((lane : ℕ) → lane ≤ length image.tasks → b lane ≡ c lane) → picture_text (drawing b) ≡ picture_text (drawing c)
+  same_text : (b c : (lane : ℕ) → List Bar) → ((lane : ℕ) → lane ≤ owned_lanes image → b lane ≡ c lane) → picture_text (drawing b) ≡ picture_text (drawing c)
   same_text b c same =
       let n = length image.tasks in
+      let m = length image.counters in
       let lanes : task_lanes (drawing b) n ≡ task_lanes (drawing c) n = same_lanes b c n (λ lane below. same lane (omega (arith, below))) in
-      let T : List ℕ → List Bar → List ℕ = λ tasks bars.
-      (head_line scale (n + 1) ++ style_lines) ++ axis_lines scale (n + 1) ++ tasks
-      ++ (lane_line scale (codes "kernel") (row_middle n) ++ flat_map (bar_line scale (codes "kernel") (row_middle n)) bars)
-      ++ legend_lines scale (n + 1) ++ codes "</svg>\n" in
-      ap (λ l. T l (b n)) lanes ∙ ap (T (task_lanes (drawing c) n)) (same n (omega arith))
+      let counters : counter_lanes (drawing b) m ≡ counter_lanes (drawing c) m = same_counters b c m (λ lane below. same lane (omega (arith, below))) in
+      let T : List ℕ → List ℕ → List Bar → List ℕ = λ tasks counted bars.
+      (head_line scale (n + m + 1) ++ style_lines) ++ axis_lines scale (n + m + 1) ++ tasks ++ counted
+      ++ (lane_line scale (codes "kernel") (row_middle (n + m)) ++ flat_map (bar_line scale (codes "kernel") (row_middle (n + m))) bars)
+      ++ legend_lines scale (n + m + 1) ++ codes "</svg>\n" in
+      ap (λ l. T l (counter_lanes (drawing b) m) (b (n + m))) lanes ∙ ap (λ l. T (task_lanes (drawing c) n) l (b (n + m))) counters
+      ∙ ap (T (task_lanes (drawing c) n) (counter_lanes (drawing c) m)) (same (n + m) (omega arith))
 
 pub one_picture : (image : Image) (A : List Arrival) (from to : ℕ) (text other : List ℕ) → IsPictureOf image A from to text → IsPictureOf image A from to other
     → text ≡ other
 one_picture image A from to text other h i =
     let scale = scale_of image from to in
-    let n = length image.tasks in
     let samples : h.samples ≡ i.samples = one-samples image A 0 h.samples i.samples h.are_samples i.are_samples (h.counted ∙ sym i.counted) in
     let levels : h.levels ≡ i.levels = one_levels image A to h.levels i.levels h.are_levels i.are_levels in
-    let same : (lane : ℕ) → lane ≤ n → h.bars lane ≡ i.bars lane =
+    let same : (lane : ℕ) → lane ≤ owned_lanes image → h.bars lane ≡ i.bars lane =
     λ lane few.
-    let B : List Sample → Type 0 = λ xs. AreBars (look_at n xs lane) from to (h.bars lane) in
-    one_bars (look_at n i.samples lane) from to (h.bars lane) (i.bars lane) (subst B samples (h.are_bars lane few)) (i.are_bars lane few) in
+    let B : List Sample → Type 0 = λ xs. AreBars (look_of image xs lane) from to (h.bars lane) in
+    one_bars (look_of image i.samples lane) from to (h.bars lane) (i.bars lane) (subst B samples (h.are_bars lane few)) (i.are_bars lane few) in
     h.is ∙ ap (λ l. picture_text (drawing image A l scale h.bars)) levels ∙ same_text image A i.levels scale h.bars i.bars same ∙ sym i.is

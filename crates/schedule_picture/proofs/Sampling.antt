@@ -24,7 +24,7 @@ use Rattle.lane_drawing.specs.Bars.{AreBars, IsBarInside}
 use Rattle.lane_drawing.specs.Strips.{Lane, IsStrip, IsFreshStrip, ShowsMore, empty_lane, last_bar}
 use Rattle.lane_drawing.proofs.Growing.{same_strip}
 use Rattle.schedule_picture.specs.Lanes.{HaveChanged}
-use Rattle.schedule_picture.specs.LaneLooks.{lane_look, look_at, no_sample}
+use Rattle.schedule_picture.specs.LaneLooks.{owned_lanes, lane_look, look_of, no_sample}
 use Rattle.schedule_picture.specs.Picture.{IsPictureOf, picture_text, scale_of}
 use Rattle.schedule_picture.specs.Samples.{HasGiven, HasGivenFirst, HasBars, StopsBefore}
 use Rattle.schedule_picture.proofs.Shown.{HasShown}
@@ -82,34 +82,36 @@ module _ (image : Image) (A : List Arrival) where
 
   -- ---- lanes
 
-  pub shown_none : (from : ℕ) (s : Sampler) (strips : List Lane) → HasGivenFirst image A from s → length strips ≡ length image.tasks + 1
-      → ((lane : ℕ) → lane < length image.tasks + 1 → IsFreshStrip from (get_or strips lane empty_lane)) → HasShown image A from from s strips
+  pub shown_none : (from : ℕ) (s : Sampler) (strips : List Lane) → HasGivenFirst image A from s → length strips ≡ owned_lanes image + 1
+      → ((lane : ℕ) → lane < owned_lanes image + 1 → IsFreshStrip from (get_or strips lane empty_lane)) → HasShown image A from from s strips
   shown_none from s strips h lanes fresh = record {
     samples = h.samples;
     counted = h.counted;
     given = h.given;
     lanes = lanes;
-    are_strips = λ lane few. fresh lane (omega (arith, few)) (look_at (length image.tasks) h.samples lane);
+    are_strips = λ lane few. fresh lane (omega (arith, few)) (look_of image h.samples lane);
   }
 
   -- the looks at earlier counts are the same with one sample more
   same_looks : (xs : List Sample) (x : Sample) (lane count : ℕ) → count < length xs
-      → look_at (length image.tasks) xs lane count ≡ look_at (length image.tasks) (xs ++ x ∷ []) lane count
+      → look_of image xs lane count ≡ look_of image (xs ++ x ∷ []) lane count
   same_looks xs x lane count below =
-      ap (λ (y : Sample). lane_look (length image.tasks) y lane) (sym (get_or_append_left xs (x ∷ []) no_sample count below))
+      ap (λ (y : Sample). lane_look (length image.tasks) (length image.counters) y lane) (sym (get_or_append_left xs (x ∷ []) no_sample count below))
 
-  last_look : (xs : List Sample) (x : Sample) (lane k : ℕ) → length xs ≡ k → look_at (length image.tasks) (xs ++ x ∷ []) lane k ≡ lane_look (length image.tasks) x lane
+  last_look : (xs : List Sample) (x : Sample) (lane k : ℕ) → length xs ≡ k → look_of image (xs ++ x ∷ []) lane k ≡ lane_look (length image.tasks) (length image.counters) x lane
   last_look xs x lane k counted =
-      let L : ℕ → Type 0 = λ n. look_at (length image.tasks) (xs ++ x ∷ []) lane n ≡ lane_look (length image.tasks) x lane in
-      subst L counted (ap (λ (y : Sample). lane_look (length image.tasks) y lane) (get_or-append_seam xs x [] no_sample))
+      let L : ℕ → Type 0 = λ n. look_of image (xs ++ x ∷ []) lane n ≡ lane_look (length image.tasks) (length image.counters) x lane in
+      subst L counted (ap (λ (y : Sample). lane_look (length image.tasks) (length image.counters) y lane) (get_or-append_seam xs x [] no_sample))
 
   -- one count more
-  pub shown_more : (from k tasks : ℕ) (s t : Sampler) (x : Sample) (old new : List Lane) → HasShown image A from k s old → from ≤ k → tasks ≡ length image.tasks
-      → IsSampling t → IsSample (sampled_image s) (sampled_arrivals s) (sampled_count s) x → sampled_image t ≡ sampled_image s → sampled_arrivals t ≡ sampled_arrivals s
-      → sampled_count t ≡ sampled_count s + 1 → HaveChanged (λ lane. ShowsMore k (lane_look tasks x lane)) (tasks + 1) old new → HasShown image A from (k + 1) t new
-  shown_more from k tasks s t x old new h past same sampling sample i a count changed =
-      let H : ℕ → Type 0 = λ n. HaveChanged (λ lane. ShowsMore k (lane_look n x lane)) (n + 1) old new in
-      let all = subst H same changed in
+  pub shown_more : (from k tasks counters : ℕ) (s t : Sampler) (x : Sample) (old new : List Lane) → HasShown image A from k s old → from ≤ k
+      → tasks ≡ length image.tasks → counters ≡ length image.counters → IsSampling t → IsSample (sampled_image s) (sampled_arrivals s) (sampled_count s) x → sampled_image t ≡ sampled_image s → sampled_arrivals t ≡ sampled_arrivals s
+      → sampled_count t ≡ sampled_count s + 1 → HaveChanged (λ lane. ShowsMore k (lane_look tasks counters x lane)) (tasks + counters + 1) old new → HasShown image A from (k + 1) t new
+  shown_more from k tasks counters s t x old new h past same counted sampling sample i a count changed =
+      let H : ℕ → Type 0 = λ n. HaveChanged (λ lane. ShowsMore k (lane_look n counters x lane)) (n + counters + 1) old new in
+      let G : ℕ → Type 0 =
+      λ m. HaveChanged (λ lane. ShowsMore k (lane_look (length image.tasks) m x lane)) (length image.tasks + m + 1) old new in
+      let all = subst G counted (subst H same changed) in
       let c = h.counted in
       record {
         samples = h.samples ++ x ∷ [];
@@ -117,8 +119,8 @@ module _ (image : Image) (A : List Arrival) where
         given = given_more h.samples s t x h.given sampling sample i a count;
         lanes = all.lanes ∙ h.lanes;
         are_strips = λ lane few.
-            all.changed lane (omega (arith, few)) (look_at (length image.tasks) (h.samples ++ x ∷ []) lane) from past
-            (same_strip (look_at (length image.tasks) h.samples lane) (look_at (length image.tasks) (h.samples ++ x ∷ []) lane) from k (get_or old lane empty_lane)
+            all.changed lane (omega (arith, few)) (look_of image (h.samples ++ x ∷ []) lane) from past
+            (same_strip (look_of image h.samples lane) (look_of image (h.samples ++ x ∷ []) lane) from k (get_or old lane empty_lane)
             (λ n low high. same_looks h.samples x lane n (omega (arith, high, c))) (h.are_strips lane few))
             (last_look h.samples x lane k h.counted);
       }
@@ -136,7 +138,7 @@ module _ (image : Image) (A : List Arrival) where
         are_bars = λ lane few.
             let is = h.are_strips lane few in
             let more = changed.changed lane (omega (arith, few, l)) in
-            strip_bars_of (look_at (length image.tasks) h.samples lane) from to (get_or old lane empty_lane) (get_or new lane empty_lane) is more;
+            strip_bars_of (look_of image h.samples lane) from to (get_or old lane empty_lane) (get_or new lane empty_lane) is more;
       }
 
   -- ---- the picture

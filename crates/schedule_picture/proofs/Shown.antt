@@ -5,7 +5,7 @@ use Rattle.sloth_base.specs.declared.image.Image.{Image}
 use Rattle.sloth_runner.specs.declared.samples.Sample.{Sample}
 use Rattle.sloth_runner.specs.declared.samples.Sampler.{Sampler}
 use Rattle.lane_drawing.specs.Strips.{Lane, IsStrip, empty_lane}
-use Rattle.schedule_picture.specs.LaneLooks.{look_at}
+use Rattle.schedule_picture.specs.LaneLooks.{owned_lanes, look_of}
 use Rattle.schedule_picture.specs.Samples.{HasGiven}
 
 -- and strips stand behind what they show from a count on
@@ -13,6 +13,5 @@ pub record HasShown (image : Image) (arrivals : List Arrival) (from count : ℕ)
   pub samples : List Sample
   pub counted : length samples ≡ count
   pub given : HasGiven image arrivals samples sampler
-  pub lanes : length strips ≡ length image.tasks + 1
-  pub are_strips : (lane : ℕ) → lane ≤ length image.tasks
-      → IsStrip (look_at (length image.tasks) samples lane) from count (get_or strips lane empty_lane)
+  pub lanes : length strips ≡ owned_lanes image + 1
+  pub are_strips : (lane : ℕ) → lane ≤ owned_lanes image → IsStrip (look_of image samples lane) from count (get_or strips lane empty_lane)

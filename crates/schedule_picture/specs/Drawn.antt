@@ -5,6 +5,7 @@ use Rattle.lane_drawing.specs.Bars.{IsBarInside}
 use Rattle.lane_drawing.specs.Scale.{IsScale}
 use Rattle.lane_drawing.specs.Strips.{empty_lane}
 use Rattle.schedule_picture.specs.declared.text.Drawn.{Drawn}
+use Rattle.schedule_picture.specs.LaneLooks.{owned_lanes}
 use Rattle.schedule_picture.specs.Picture.{Drawing}
 
 -- the drawing, with each strip's bars in its lane
@@ -17,10 +18,10 @@ drawing_of drawn = record {
   bars = λ lane. (get_or drawn.strips.now lane empty_lane).bars;
 }
 
--- it can be drawn: a lane for each task of the image and one more, and bars within the counts of the picture
+-- it can be drawn: a lane for each task and each counter of the image and one more, and bars within the counts of the picture
 pub record IsDrawable (drawn : Drawn) : Type 0 where
   pub format : InFormat drawn.image.now
   pub scale : IsScale drawn.scale
-  pub lanes : length drawn.strips.now ≡ length drawn.image.now.tasks + 1
-  pub inside : (lane : ℕ) → lane ≤ length drawn.image.now.tasks
+  pub lanes : length drawn.strips.now ≡ owned_lanes drawn.image.now + 1
+  pub inside : (lane : ℕ) → lane ≤ owned_lanes drawn.image.now
       → All (IsBarInside drawn.scale.from drawn.scale.to) (get_or drawn.strips.now lane empty_lane).bars

@@ -11,7 +11,8 @@ use Rattle.lane_drawing.specs.declared.bars.Bar.{Bar}
 use Rattle.schedule_picture.specs.declared.picture.Picture.{Picture}
 use Rattle.schedule_picture.specs.declared.picture.Picture.TheVariants as picture
 use Rattle.lane_drawing.specs.Bars.{AreBars}
-use Rattle.schedule_picture.specs.LaneLooks.{look_at}
+use Rattle.sloth_base.specs.Owners.{counter_line}
+use Rattle.schedule_picture.specs.LaneLooks.{owned_lanes, look_of}
 use Rattle.lane_drawing.specs.declared.scale.Scale.{Scale}
 use Rattle.lane_drawing.specs.Drawing.{left_margin, head_line, style_lines, axis_lines, lane_text, lane_line, bar_line, row_middle, is_above, shown_arrivals, legend_lines}
 
@@ -20,9 +21,13 @@ unfoldable pub longest_of : List (List ℕ) → ℕ → ℕ
 longest_of names zero = 6
 longest_of names (suc k) = max (longest_of names k) (length (get_or names k []))
 
+-- the same of the names of all lanes
+abbrev pub longest_name : Image → ℕ
+longest_name image = max (longest_of image.tasks (length image.tasks)) (longest_of image.counters (length image.counters))
+
 -- where the counts of a picture stand
 abbrev pub scale_of : Image → (from to : ℕ) → Scale
-scale_of image from to = record { left = left_margin (longest_of image.tasks (length image.tasks)); from = from; to = to }
+scale_of image from to = record { left = left_margin (longest_name image); from = from; to = to }
 
 -- how many of the first tasks, so many of them, stand above a task
 unfoldable pub tasks_above : (levels : List ℕ) (task : ℕ) → ℕ → ℕ
@@ -48,17 +53,28 @@ unfoldable pub task_lanes : Drawing → ℕ → List ℕ
 task_lanes d zero = []
 task_lanes d (suc task) = task_lanes d task ++ task_lane d task
 
+-- the lane of a counter, in the row behind those of all tasks and of the counters before it
+unfoldable pub counter_lane : Drawing → (counter : ℕ) → List ℕ
+counter_lane d counter =
+    lane_text d.scale (get_or d.image.counters counter []) (row_middle (length d.image.tasks + counter)) (d.bars (length d.image.tasks + counter))
+    (shown_arrivals d.scale d.arrivals (counter_line counter))
+
+-- those of the first counters, so many of them
+unfoldable pub counter_lanes : Drawing → ℕ → List ℕ
+counter_lanes d zero = []
+counter_lanes d (suc counter) = counter_lanes d counter ++ counter_lane d counter
+
 -- the lane of kernel code, below all others
 abbrev pub kernel_lane : Drawing → List ℕ
 kernel_lane d =
-    lane_line d.scale (codes "kernel") (row_middle (length d.image.tasks))
-    ++ flat_map (bar_line d.scale (codes "kernel") (row_middle (length d.image.tasks))) (d.bars (length d.image.tasks))
+    lane_line d.scale (codes "kernel") (row_middle (owned_lanes d.image))
+    ++ flat_map (bar_line d.scale (codes "kernel") (row_middle (owned_lanes d.image))) (d.bars (owned_lanes d.image))
 
--- The text: the axis, a lane for each task, that of the highest level on top, a lane for kernel code, and what they mean.
+-- The text: the axis, a lane for each task, that of the highest level on top, one for each counter, a lane for kernel code, and what they mean.
 abbrev pub picture_text : Drawing → List ℕ
 picture_text d =
-    (head_line d.scale (length d.image.tasks + 1) ++ style_lines) ++ axis_lines d.scale (length d.image.tasks + 1) ++ task_lanes d (length d.image.tasks)
-    ++ kernel_lane d ++ legend_lines d.scale (length d.image.tasks + 1) ++ codes "</svg>\n"
+    (head_line d.scale (owned_lanes d.image + 1) ++ style_lines) ++ axis_lines d.scale (owned_lanes d.image + 1) ++ task_lanes d (length d.image.tasks)
+    ++ counter_lanes d (length d.image.counters) ++ kernel_lane d ++ legend_lines d.scale (owned_lanes d.image + 1) ++ codes "</svg>\n"
 
 -- A text is the picture of a run from one count to below another: the run gets there, and each lane has the bars of what it shows.
 pub record IsPictureOf (image : Image) (arrivals : List Arrival) (from to : ℕ) (text : List ℕ) : Type 0 where
@@ -69,7 +85,7 @@ pub record IsPictureOf (image : Image) (arrivals : List Arrival) (from to : ℕ)
   pub levels : List ℕ
   pub are_levels : AreSampledLevels image arrivals to levels
   pub bars : (lane : ℕ) → List Bar
-  pub are_bars : (lane : ℕ) → lane ≤ length image.tasks → AreBars (look_at (length image.tasks) samples lane) from to (bars lane)
+  pub are_bars : (lane : ℕ) → lane ≤ owned_lanes image → AreBars (look_of image samples lane) from to (bars lane)
   pub is : text ≡ picture_text (record { image = image; arrivals = arrivals; levels = levels; scale = scale_of image from to; bars = bars })
 
 -- the picture of a run, or where and why it stops in front of the last count

@@ -10,7 +10,7 @@ use Rattle.sloth_runner.specs.declared.samples.Sampler.{Sampler}
 use Rattle.sloth_runner.specs.Samples.{AreSamples, IsSampling, sampled_image, sampled_arrivals, sampled_count}
 use Rattle.lane_drawing.specs.Bars.{AreBars}
 use Rattle.lane_drawing.specs.Strips.{Lane, empty_lane}
-use Rattle.schedule_picture.specs.LaneLooks.{look_at}
+use Rattle.schedule_picture.specs.LaneLooks.{owned_lanes, look_of}
 
 -- it has given these, the first of a run of an image with arrivals
 pub record HasGiven (image : Image) (arrivals : List Arrival) (samples : List Sample) (sampler : Sampler) : Type 0 where
@@ -31,9 +31,8 @@ pub record HasBars (image : Image) (arrivals : List Arrival) (from to : ℕ) (sa
   pub samples : List Sample
   pub counted : length samples ≡ to
   pub given : HasGiven image arrivals samples sampler
-  pub lanes : length strips ≡ length image.tasks + 1
-  pub are_bars : (lane : ℕ) → lane ≤ length image.tasks
-      → AreBars (look_at (length image.tasks) samples lane) from to (get_or strips lane empty_lane).bars
+  pub lanes : length strips ≡ owned_lanes image + 1
+  pub are_bars : (lane : ℕ) → lane ≤ owned_lanes image → AreBars (look_of image samples lane) from to (get_or strips lane empty_lane).bars
 
 -- a run stops in front of a count, there and so
 abbrev pub StopsBefore : Image → List Arrival → ℕ → Halt → Type 0

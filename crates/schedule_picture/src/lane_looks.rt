@@ -1,10 +1,11 @@
 //! What a lane shows at a count.
-ghost use Rattle.std.specs.Prelude.{◌≡◌, ◌≤◌};
-ghost use Rattle.sloth_base.specs.Limits.{task_limit};
-ghost use Rattle.schedule_picture.specs.LaneLooks.{is_kernel, state_look, lane_look};
+ghost use Rattle.std.specs.Prelude.{◌≡◌, ◌≤◌, ◌<◌, ◌+◌, cond, Some, None};
+ghost use Rattle.sloth_base.specs.Limits.{task_limit, counter_limit};
+ghost use Rattle.schedule_picture.specs.LaneLooks.{is_kernel, is_tick, state_look, lane_look};
 
 use lane_drawing::Look;
 use lane_drawing::task_looks::task_look;
+use sloth_base::lines::FIRST_COUNTER_LINE;
 use sloth_runner::Sample;
 use sloth_runner::task_states::Seen;
 
@@ -24,15 +25,36 @@ fn state_look(seen: &Option<Seen>, kernel: bool, task: usize) -> Option<Look>
     }
 }
 
-/// The look of a lane in a sample: a task's, or behind those of all tasks the lane of kernel code.
-pub fn lane_look(tasks: usize, sample: &Sample, lane: usize) -> Option<Look>
+fn is_tick(sample: &Sample, counter: usize) -> bool
+    requires { counter < counter_limit }
+    ensures { result ≡ is_tick sample.now counter }
+{
+    match &sample.taken {
+        Some(line) => line.0 == FIRST_COUNTER_LINE + counter as u8,
+        None => false,
+    }
+}
+
+// This look, if it is shown.
+fn shown(look: Look, is_shown: bool) -> Option<Look>
+    ensures { result ≡ cond is_shown (Some look) None }
+{
+    if is_shown { Some(look) } else { None }
+}
+
+/// The look of a lane in a sample: a task's, behind those of all tasks a counter's, and behind these the lane of kernel code.
+pub fn lane_look(tasks: usize, counters: usize, sample: &Sample, lane: usize) -> Option<Look>
     requires tasks { tasks ≤ task_limit }
-    requires lane { lane ≤ tasks }
-    ensures { result ≡ lane_look tasks sample.now lane }
+    requires counters { counters ≤ counter_limit }
+    requires lane { lane ≤ tasks + counters }
+    ensures { result ≡ lane_look tasks counters sample.now lane }
 {
     let kernel = is_kernel(sample);
-    if lane != tasks {
+    if lane < tasks {
         return state_look(&sample.seen, kernel, lane);
     }
-    if kernel { Some(Look::Kernel) } else { None }
+    if lane < tasks + counters {
+        return shown(Look::Tick, is_tick(sample, lane - tasks));
+    }
+    shown(Look::Kernel, kernel)
 }

@@ -1,6 +1,6 @@
 //! The lanes of a picture, as the counts of a run come.
 ghost use Rattle.std.specs.Prelude.{ℕ, ◌≡◌, ◌≤◌, ◌<◌, ◌+◌, ◌++◌, OnOk, IfOk, length, get_or};
-ghost use Rattle.sloth_base.specs.Limits.{task_limit};
+ghost use Rattle.sloth_base.specs.Limits.{task_limit, counter_limit};
 ghost use Rattle.lane_drawing.specs.Strips.{empty_lane, last_bar, ShowsMore, IsFreshStrip};
 ghost use Rattle.schedule_picture.specs.Lanes.{HaveChanged};
 ghost use Rattle.schedule_picture.specs.LaneLooks.{lane_look};
@@ -11,14 +11,14 @@ use sloth_base::memory::NoMemory;
 use sloth_runner::Sample;
 use std::alloc::Global;
 
-/// A lane for each task, and one for kernel code, that have shown nothing yet.
-pub fn empty_strips(alloc: Global, tasks: usize, from: u32) -> Result<Vec<Strip>, NoMemory>
-    requires { tasks ≤ task_limit }
-    ensures lanes { IfOk result (λ strips. length strips.items ≡ tasks + 1) }
-    ensures fresh { IfOk result (λ strips. (lane : ℕ) → lane < tasks + 1 → IsFreshStrip from (get_or strips.items lane empty_lane)) }
+/// So many lanes, and one for kernel code, that have shown nothing yet.
+pub fn empty_strips(alloc: Global, owned: usize, from: u32) -> Result<Vec<Strip>, NoMemory>
+    requires { owned ≤ task_limit + counter_limit }
+    ensures lanes { IfOk result (λ strips. length strips.items ≡ owned + 1) }
+    ensures fresh { IfOk result (λ strips. (lane : ℕ) → lane < owned + 1 → IsFreshStrip from (get_or strips.items lane empty_lane)) }
 {
     let mut strips = Vec::new(alloc);
-    for _ in 0..tasks + 1 {
+    for _ in 0..owned + 1 {
         strips.push(Strip::new(alloc, from)).map_err(|_| NoMemory)?;
     }
     Ok(strips)
@@ -28,15 +28,18 @@ pub fn empty_strips(alloc: Global, tasks: usize, from: u32) -> Result<Vec<Strip>
 pub fn show(
     strips: &mut Vec<Strip>,
     tasks: usize,
+    counters: usize,
     count: u32,
     sample: &Sample,
 ) -> Result<(), NoMemory>
     requires tasks { tasks ≤ task_limit }
-    requires lanes { length strips.old.items ≡ tasks + 1 }
-    ensures shows { OnOk result (HaveChanged (λ lane. ShowsMore count (lane_look tasks sample.now lane)) (tasks + 1) strips.old.items strips.new.items) }
+    requires counters { counters ≤ counter_limit }
+    requires lanes { length strips.old.items ≡ tasks + counters + 1 }
+    ensures shows { OnOk result
+        (HaveChanged (λ lane. ShowsMore count (lane_look tasks counters sample.now lane)) (tasks + counters + 1) strips.old.items strips.new.items) }
 {
-    for lane in 0..tasks + 1 {
-        strips[lane].show(count, lane_look(tasks, sample, lane))?;
+    for lane in 0..tasks + counters + 1 {
+        strips[lane].show(count, lane_look(tasks, counters, sample, lane))?;
     }
     Ok(())
 }

@@ -3,7 +3,7 @@ ghost use Rattle.std.specs.Prelude.{ℕ, ◌≡◌, ◌≤◌, ◌<◌, ◌+◌,
 ghost use Rattle.sloth_base.specs.ImageRange.{InFormat};
 ghost use Rattle.sloth_base.specs.Arrivals.{AreArrivals};
 ghost use Rattle.sloth_base.specs.Owners.{owners_named};
-ghost use Rattle.sloth_base.specs.Limits.{task_limit, count_limit, picture_limit};
+ghost use Rattle.sloth_base.specs.Limits.{task_limit, counter_limit, count_limit, picture_limit};
 ghost use Rattle.sloth_runner.specs.Samples.{IsSampling, sampled_image, sampled_arrivals, sampled_count};
 ghost use Rattle.lane_drawing.specs.Strips.{IsFreshStrip, empty_lane};
 ghost use Rattle.schedule_picture.specs.Samples.{HasGivenFirst, HasBars, StopsBefore};
@@ -48,14 +48,17 @@ fn show_all(
     sampler: &mut Sampler,
     strips: &mut Vec<Strip>,
     tasks: usize,
+    counters: usize,
     from: u32,
     to: u32,
 ) -> Result<Option<Halt>, NoMemory>
     requires given { HasGivenFirst (sampled_image sampler.old) (sampled_arrivals sampler.old) from sampler.old }
     requires tasks { tasks ≡ length (sampled_image sampler.old).tasks }
+    requires counters { counters ≡ length (sampled_image sampler.old).counters }
     requires few_tasks { tasks ≤ task_limit }
-    requires lanes { length strips.old.items ≡ tasks + 1 }
-    requires fresh { (lane : ℕ) → lane < tasks + 1 → IsFreshStrip from (get_or strips.old.items lane empty_lane) }
+    requires few_counters { counters ≤ counter_limit }
+    requires lanes { length strips.old.items ≡ tasks + counters + 1 }
+    requires fresh { (lane : ℕ) → lane < tasks + counters + 1 → IsFreshStrip from (get_or strips.old.items lane empty_lane) }
     requires ordered { from ≤ to }
     requires few { to ≤ count_limit }
     ensures stops { IfOk result (λ end. IfSome end (StopsBefore (sampled_image sampler.old) (sampled_arrivals sampler.old) to)) }
@@ -63,7 +66,7 @@ fn show_all(
 {
     for count in from..to {
         match sampler.next() {
-            Ok(sample) => show(strips, tasks, count, &sample)?,
+            Ok(sample) => show(strips, tasks, counters, count, &sample)?,
             Err(halt) => return Ok(Some(halt)),
         }
     }
@@ -115,12 +118,13 @@ pub fn draw(
     ensures { IfOk result (IsPicture image.now arrivals.now from to) }
 {
     let tasks = image.tasks.items().len();
+    let counters = image.counters.items().len();
     let mut sampler = Sampler::new(alloc, image, arrivals)?;
     if let Err(halt) = skip(&mut sampler, from) {
         return Ok(Picture::Stopped(halt));
     }
-    let mut strips = empty_strips(alloc, tasks, from)?;
-    if let Some(halt) = show_all(&mut sampler, &mut strips, tasks, from, to)? {
+    let mut strips = empty_strips(alloc, tasks + counters, from)?;
+    if let Some(halt) = show_all(&mut sampler, &mut strips, tasks, counters, from, to)? {
         return Ok(Picture::Stopped(halt));
     }
     let text = text_with(

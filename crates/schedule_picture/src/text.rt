@@ -1,12 +1,13 @@
 //! The text of a picture.
 ghost use Rattle.std.specs.Prelude.{◌≡◌, ◌≤◌, ◌<◌, ◌+◌, ◌*◌, ◌++◌, IfOk, OnOk, All, length};
 ghost use Rattle.sloth_base.specs.ImageRange.{InFormat};
-ghost use Rattle.sloth_base.specs.Limits.{task_limit, name_limit, picture_limit, count_limit};
+ghost use Rattle.sloth_base.specs.Limits.{task_limit, counter_limit, name_limit, picture_limit, count_limit};
 ghost use Rattle.lane_drawing.specs.Bars.{IsBarInside};
 ghost use Rattle.lane_drawing.specs.Drawing.{is_above};
 ghost use Rattle.lane_drawing.specs.Scale.{IsScale};
 ghost use Rattle.schedule_picture.specs.Drawn.{IsDrawable, drawing_of};
-ghost use Rattle.schedule_picture.specs.Picture.{longest_of, scale_of, tasks_above, task_lane, picture_text};
+ghost use Rattle.schedule_picture.specs.LaneLooks.{owned_lanes};
+ghost use Rattle.schedule_picture.specs.Picture.{longest_of, longest_name, scale_of, tasks_above, task_lane, task_lanes, counter_lane, counter_lanes, picture_text};
 
 use lane_drawing::{
     Bar, Scale, Strip, push_arrivals, push_axis, push_head, push_lane, push_legend,
@@ -14,6 +15,7 @@ use lane_drawing::{
 use sloth_base::event::Arrival;
 use sloth_base::image::Image;
 use sloth_base::limits::TASK_LIMIT;
+use sloth_base::lines::FIRST_COUNTER_LINE;
 use sloth_base::memory::NoMemory;
 use sloth_base::name::Name;
 use std::alloc::Global;
@@ -30,7 +32,7 @@ pub struct Drawn<'a> {
 
 // The length of the longest name, and at least that of `kernel`.
 #[tactic(auto, using(crate::proofs::Drawing::no_names, crate::proofs::Drawing::one_name_more))]
-fn longest_name(names: &[Name]) -> usize
+fn longest_of(names: &[Name]) -> usize
     requires { All (λ name. length name ≤ name_limit) names.now }
     ensures is { result ≡ longest_of names.now (length names.now) }
     ensures some { 6 ≤ result }
@@ -43,6 +45,16 @@ fn longest_name(names: &[Name]) -> usize
     longest
 }
 
+// The length of the longest name of a lane.
+fn longest_name(image: &Image) -> usize
+    requires { InFormat image.now }
+    ensures is { result ≡ longest_name image.now }
+    ensures some { 6 ≤ result }
+    ensures short { result ≤ name_limit }
+{
+    longest_of(image.tasks.items()).max(longest_of(image.counters.items()))
+}
+
 /// Where the counts of a picture stand.
 pub fn scale_of(image: &Image, from: u32, to: u32) -> Scale
     requires format { InFormat image.now }
@@ -53,7 +65,7 @@ pub fn scale_of(image: &Image, from: u32, to: u32) -> Scale
     ensures scale { IsScale result }
 {
     Scale {
-        left: 24 + 8 * longest_name(image.tasks.items()) as u32,
+        left: 24 + 8 * longest_name(image) as u32,
         from,
         to,
     }
@@ -87,7 +99,7 @@ fn tasks_above(levels: &[u8; TASK_LIMIT], tasks: usize, task: usize) -> u32
 
 // The middle of a row, in pixels from the top.
 fn row_middle(row: u32) -> u32
-    requires { row ≤ task_limit }
+    requires { row ≤ task_limit + counter_limit }
     ensures { result ≡ 64 + 40 * row }
 {
     64 + 40 * row
@@ -96,7 +108,7 @@ fn row_middle(row: u32) -> u32
 // The bars of a lane.
 fn lane_bars<'a>(drawn: &Drawn<'a>, lane: usize) -> &'a [Bar]
     requires drawable { IsDrawable drawn.now }
-    requires lane { lane ≤ length drawn.now.image.now.tasks }
+    requires lane { lane ≤ owned_lanes drawn.now.image.now }
     ensures bars { result.now ≡ (drawing_of drawn.now).bars lane }
     ensures inside { All (IsBarInside drawn.now.scale.from drawn.now.scale.to) result.now }
 {
@@ -117,27 +129,66 @@ fn push_task(text: &mut Vec<u8>, drawn: &Drawn, task: usize) -> Result<(), NoMem
     push_arrivals(text, drawn.scale, name, middle, drawn.arrivals, task as u8)
 }
 
+// Appends the lane of a counter.
+#[tactic(auto, unfolding(crate::specs::Picture::counter_lane))]
+fn push_counter(text: &mut Vec<u8>, drawn: &Drawn, counter: usize) -> Result<(), NoMemory>
+    requires drawable { IsDrawable drawn.now }
+    requires counter { counter < length drawn.now.image.now.counters }
+    ensures { OnOk result (text.new.items ≡ text.old.items ++ counter_lane (drawing_of drawn.now) counter) }
+{
+    let name = drawn.image.counters.items()[counter].bytes();
+    let lane = drawn.image.tasks.items().len() + counter;
+    let middle = row_middle(lane as u32);
+    let line = FIRST_COUNTER_LINE + counter as u8;
+    push_lane(text, drawn.scale, name, middle, lane_bars(drawn, lane))?;
+    push_arrivals(text, drawn.scale, name, middle, drawn.arrivals, line)
+}
+
+// Appends the lanes of the tasks.
+fn push_tasks(text: &mut Vec<u8>, drawn: &Drawn, tasks: usize) -> Result<(), NoMemory>
+    requires drawable { IsDrawable drawn.now }
+    requires tasks { tasks ≡ length drawn.now.image.now.tasks }
+    ensures { OnOk result (text.new.items ≡ text.old.items ++ task_lanes (drawing_of drawn.now) tasks) }
+{
+    for task in 0..tasks {
+        push_task(text, drawn, task)?;
+    }
+    Ok(())
+}
+
+// Appends the lanes of the counters.
+fn push_counters(text: &mut Vec<u8>, drawn: &Drawn, counters: usize) -> Result<(), NoMemory>
+    requires drawable { IsDrawable drawn.now }
+    requires counters { counters ≡ length drawn.now.image.now.counters }
+    ensures { OnOk result (text.new.items ≡ text.old.items ++ counter_lanes (drawing_of drawn.now) counters) }
+{
+    for counter in 0..counters {
+        push_counter(text, drawn, counter)?;
+    }
+    Ok(())
+}
+
 /// The text of a picture.
-#[tactic(auto, using(crate::proofs::Drawing::no_lanes, crate::proofs::Drawing::one_lane_more))]
 pub fn text_of(alloc: Global, drawn: &Drawn) -> Result<Vec<u8>, NoMemory>
     requires { IsDrawable drawn.now }
     ensures { IfOk result (λ text. text.items ≡ picture_text (drawing_of drawn.now)) }
 {
     let tasks = drawn.image.tasks.items().len();
-    let rows = tasks as u32 + 1;
+    let counters = drawn.image.counters.items().len();
+    let last = tasks + counters;
+    let rows = last as u32 + 1;
     let mut text = Vec::new(alloc);
     push_head(&mut text, drawn.scale, rows)?;
     push_axis(&mut text, drawn.scale, rows)?;
-    for task in 0..tasks {
-        push_task(&mut text, drawn, task)?;
-    }
-    let middle = row_middle(tasks as u32);
+    push_tasks(&mut text, drawn, tasks)?;
+    push_counters(&mut text, drawn, counters)?;
+    let middle = row_middle(last as u32);
     push_lane(
         &mut text,
         drawn.scale,
         b"kernel",
         middle,
-        lane_bars(drawn, tasks),
+        lane_bars(drawn, last),
     )?;
     push_legend(&mut text, drawn.scale, rows)?;
     text.extend_from_slice(b"</svg>\n")?;

@@ -6,5 +6,5 @@ use Rattle.lane_drawing.proofs.drawing.push_arrivals.Given as goal
 
 abbrev pub invariant-loop-arrival : goal.invariant-loop-arrival
 invariant-loop-arrival l =
-    l.text.items ++ flat_map (arrival_line l.scale l.name l.middle) (shown_arrivals l.scale (drop l.arrival-index l.arrivals) l.task)
-    ≡ l.fn.text.items ++ flat_map (arrival_line l.scale l.name l.middle) (shown_arrivals l.scale l.arrivals l.task)
+    l.text.items ++ flat_map (arrival_line l.scale l.name l.middle) (shown_arrivals l.scale (drop l.arrival-index l.arrivals) l.line)
+    ≡ l.fn.text.items ++ flat_map (arrival_line l.scale l.name l.middle) (shown_arrivals l.scale l.arrivals l.line)

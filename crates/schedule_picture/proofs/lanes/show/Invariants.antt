@@ -4,4 +4,4 @@ use Rattle.schedule_picture.specs.LaneLooks.{lane_look}
 use Rattle.schedule_picture.proofs.lanes.show.Given as goal
 
 abbrev pub invariant-loop-lane : goal.invariant-loop-lane
-invariant-loop-lane l = HaveChanged (λ lane. ShowsMore l.count (lane_look l.tasks l.sample lane)) l.lane l.fn.strips.items l.strips.items
+invariant-loop-lane l = HaveChanged (λ lane. ShowsMore l.count (lane_look l.tasks l.counters l.sample lane)) l.lane l.fn.strips.items l.strips.items

@@ -1,8 +1,8 @@
-use Rattle.std.proofs.Common.{All, get_or, length, sym, subst}
+use Rattle.std.proofs.Common.{All, get_or, sym, subst}
 use Rattle.lane_drawing.specs.declared.scale.Scale.{Scale}
 use Rattle.lane_drawing.specs.Bars.{IsBarInside}
 use Rattle.lane_drawing.specs.Strips.{empty_lane}
-use Rattle.schedule_picture.specs.LaneLooks.{look_at}
+use Rattle.schedule_picture.specs.LaneLooks.{look_of}
 use Rattle.schedule_picture.proofs.Sampling.{picture_of, all_inside}
 use Rattle.schedule_picture.proofs.picture.text_with.Goals as goal
 
@@ -18,7 +18,7 @@ text_of-requires c =
       inside = λ lane few.
           let I : Scale → Type 0 = λ x. All (IsBarInside x.from x.to) (get_or strips lane empty_lane).bars in
           subst I (sym c.scale_of.ensures.is)
-          (all_inside (look_at (length image.tasks) bars.samples lane) c.args.from c.args.to (get_or strips lane empty_lane).bars (bars.are_bars lane few));
+          (all_inside (look_of image bars.samples lane) c.args.from c.args.to (get_or strips lane empty_lane).bars (bars.are_bars lane few));
     }
 
 pub returns : goal.returns
