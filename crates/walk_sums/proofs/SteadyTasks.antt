@@ -1,0 +1,33 @@
+-- The sums that count Schedules tell which tasks are steady.
+use Rattle.std.proofs.Common.{◌≡◌, ℕ, ◌<◌, Bool, true, false, ◌&&◌, leb, List, length, get_or, None, refl, ap, sym, ◌∙◌, subst}
+use Rattle.std.specs.Prelude.{Decides}
+use Rattle.std.proofs.lemmas.Bool.{and_parts}
+use Rattle.sloth_base.specs.declared.config.Config.{Config}
+use Rattle.sloth_base.specs.declared.app.App.{App}
+use Rattle.sloth_base.specs.Named.{body_of, declaration}
+use Rattle.code_rules.specs.WellFormed.{WellFormed}
+use Rattle.bound_rules.specs.declared.sizes.Summary.{Summary}
+use Rattle.bound_rules.specs.Summaries.{summary_of}
+use Rattle.section_sizes.proofs.Bodily.{facts_of}
+use Rattle.walk_sums.specs.declared.kinds.Kind.TheVariants as kinds
+use Rattle.walk_sums.specs.declared.counted.Counted.TheVariants as counts
+use Rattle.walk_sums.specs.Rounds.{IsSteady}
+use Rattle.walk_sums.specs.Counted.{counted_weights}
+use Rattle.walk_sums.specs.Weights.{AreWeightless, SmallEndings}
+use Rattle.walk_sums.specs.Known.{AreSums}
+use Rattle.walk_sums.specs.Clears.{AreSteadyMarks}
+use Rattle.walk_sums.proofs.CountedWeights.{counted_fit, schedules_weightless}
+use Rattle.walk_sums.proofs.Reaching.{none_decided}
+
+pub schedules_little : (app : App) → AreWeightless (counted_weights counts.Schedules app) × SmallEndings (counted_weights counts.Schedules app)
+schedules_little app = (schedules_weightless app, (counted_fit counts.Schedules app).small)
+
+pub marks_decide : (config : Config) (app : App) → WellFormed config app → (table : List Summary) → AreSums config app (counted_weights counts.Schedules app) kinds.Turns None table
+    → (marks : List Bool) → AreSteadyMarks config.tasks app.funcs (length config.tasks) table marks → (t : ℕ) → t < length config.tasks → Decides (get_or marks t false) (IsSteady config app t)
+marks_decide config app well table are marks m t lt =
+    let d = none_decided config app (facts_of config app well) table are t lt in (
+      λ e.
+          let both = and_parts (declaration config t).non (leb (summary_of table (body_of app.funcs t)).on 1) (sym (m.exact t lt) ∙ e) in
+          record { non = both.0; none = d.0 both.1 },
+      λ s. m.exact t lt ∙ ap (λ b. b && leb (summary_of table (body_of app.funcs t)).on 1) s.non ∙ d.1 s.none,
+    )

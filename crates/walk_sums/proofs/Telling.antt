@@ -1,0 +1,223 @@
+-- What is told of a task is so, from the summary of its body.
+use Rattle.std.proofs.Common.{◌≡◌, ℕ, suc, ◌+◌, ◌-◌, ◌<◌, ◌≤◌, ◌⊎◌, inl, inr, Bool, true, false, leb, cond, min, List, [], ◌∷◌, length, Option, Some, None, refl, sym, ap, ◌∙◌, subst, arith}
+use Rattle.std.specs.Prelude.{MatchBool}
+use Rattle.std.proofs.lemmas.Bool.{cases_eq, le-leb}
+use Rattle.std.proofs.lemmas.Bool.Decides.{leb_tells}
+use Rattle.sloth_base.specs.declared.config.Config.{Config}
+use Rattle.sloth_base.specs.declared.app.App.{App}
+use Rattle.sloth_base.specs.declared.app.Op.{Op}
+use Rattle.sloth_base.specs.Named.{body_of, declaration}
+use Rattle.sloth_base.specs.Limits.{size_limit, count_limit}
+use Rattle.code_rules.specs.WellFormed.{WellFormed}
+use Rattle.call_graph.specs.Tables.{HasTaskBody}
+use Rattle.stack_bounds.proofs.Bodies.{bodies_of}
+use Rattle.osek_scheduler.specs.Apart.{static_priority}
+use Rattle.osek_scheduler.proofs.Facts.{Facts}
+use Rattle.osek_scheduler.proofs.Stacks.{has_body}
+use Rattle.raised_sections.specs.Walks.{Position, place}
+use Rattle.raised_sections.specs.Sections.{priority_at, is_schedule, IsLower}
+use Rattle.bound_rules.specs.declared.sizes.Summary.{Summary}
+use Rattle.bound_rules.specs.declared.weights.BodyWeights.{BodyWeights}
+use Rattle.bound_rules.specs.Summaries.{summary_of}
+use Rattle.bound_rules.specs.Tasks.{task_summary}
+use Rattle.section_sizes.specs.Weights.{sum_of}
+use Rattle.section_sizes.specs.Parts.{is_raised}
+use Rattle.section_sizes.proofs.Decomposed.{L, level_raised, level_called}
+use Rattle.walk_sums.proofs.LowerLevels.{level_is}
+use Rattle.walk_sums.specs.declared.kinds.Kind.{Kind}
+use Rattle.walk_sums.specs.declared.kinds.Kind.TheVariants as kinds
+use Rattle.walk_sums.specs.declared.sum.Sum.{Sum}
+use Rattle.walk_sums.specs.declared.sum.Sum.TheVariants as sum
+use Rattle.walk_sums.specs.declared.tasks.RoundSums.{RoundSums}
+use Rattle.walk_sums.specs.Rounds.{IsPart, IsFirst, Anywhere, IsTurn, is_wait}
+use Rattle.walk_sums.specs.Kinds.{stops, MayFollow}
+use Rattle.walk_sums.specs.Weights.{AreSumWeights}
+use Rattle.walk_sums.specs.Parts.{SumsOn, SumsWithin}
+use Rattle.walk_sums.specs.Known.{IsGreatestPart, HasLimit, IsExact, IsEndless, IsSummary, AreSums}
+use Rattle.walk_sums.specs.Told.{NoneIsAbove, SomeReaches, IsGreatestSum, ReachesLimit, IsToldSum, AreToldSums, are_limited, are_endless, AreToldRounds, IsRaisedPart, told, told_rounds, told_turn, told_section}
+use Rattle.walk_sums.proofs.Climbing.{IsStanding, first_part, later_part}
+use Rattle.walk_sums.proofs.Walking.{first_within, later_within}
+
+-- ---- levels
+
+-- anywhere
+pub all_stand : (config : Config) (app : App) → IsStanding config app (λ outer. None) Anywhere
+all_stand config app = record { opens = λ f i outer s. refl; stands = λ f i outer e. tt; called = λ f i outer. refl }
+
+-- where a task is raised
+pub raised_stand : (config : Config) (app : App) (h t : ℕ) → IsStanding config app (L config app h t) (λ at. static_priority config h ≤ priority_at config app t at)
+raised_stand config app h t = record {
+  opens = λ f i outer s. sym (level_raised config app h t f i outer) ∙ le-leb (static_priority config h) (priority_at config app t (place f i ∷ outer)) s;
+  stands = λ f i outer e.
+      by (leb_tells (static_priority config h) (priority_at config app t (place f i ∷ outer))) (level_raised config app h t f i outer ∙ e);
+  called = λ f i outer. level_called config app h t f i outer;
+}
+  where
+    by : {a b : ℕ} → ((leb a b ≡ true) × (a ≤ b)) ⊎ ((leb a b ≡ false) × (b < a)) → leb a b ≡ true → a ≤ b
+    by (inl le) e = le.1
+    by (inr lt) e = let wrong : true ≡ false = sym e ∙ lt.0 in absurd cc
+
+-- each task has a body
+pub task_body : (config : Config) (app : App) → WellFormed config app → (t : ℕ) → t < length config.tasks → HasTaskBody app.funcs t
+task_body config app well t declared = bodies_of config app config.tasks app.funcs well refl refl t declared
+
+-- ---- one kind of parts
+
+-- the parts of walks are those that are built item by item
+pub record AreParts (Part : List Position → Type 0) (weights : List BodyWeights) (Sums : ℕ → Type 0) : Type 0 where
+  pub built : (at : Position) (further : List Position) → Part (at ∷ further) → Sums (sum_of weights (at ∷ further))
+  pub walked : (n : ℕ) → Sums n → (positions : List Position) × Part positions × (sum_of weights positions ≡ n)
+
+module _ (Part : List Position → Type 0) (weights : List BodyWeights) (Sums : ℕ → Type 0) (parts : AreParts Part weights Sums) where
+  limited : (most : ℕ) → ((n : ℕ) → Sums n → n ≤ most) → NoneIsAbove Part weights most
+  limited most le [] p = omega arith
+  limited most le (at ∷ further) p = le (sum_of weights (at ∷ further)) (parts.built at further p)
+
+  reaches : (n k : ℕ) → Sums k → n ≤ k → SomeReaches Part weights n
+  reaches n k s le = let w = parts.walked k s in let is = w.2 in (w.0, w.1, omega (arith, le, is))
+
+  -- what is told of a size
+  pub told_part : (size limit : ℕ) → IsGreatestPart Sums size → ((n : ℕ) → Sums n → n ≤ limit) → IsToldSum Part weights (told size)
+  told_part size limit g le = by (leb_tells size count_limit)
+    where
+      P : Bool → Type 0
+      P b = IsToldSum Part weights (cond b (sum.Counts (size - 1)) sum.Huge)
+
+      none : size ≤ count_limit → (n : ℕ) → Sums n → n ≤ size - 1
+      none small n s = let more = g.none_larger n s in omega (arith, more, small)
+
+      some : (size ≡ 0) ⊎ (size ≡ 0 → ⊥) → size ≤ count_limit → (size - 1 ≡ 0) ⊎ SomeReaches Part weights (size - 1)
+      some (inl e) small = inl (omega (arith, e))
+      some (inr d) small =
+          let a = g.attained (omega (arith, d)) in
+          let is = a.2 in
+          inr (reaches (size - 1) a.0 a.1 (omega (arith, is, small)))
+
+      huge : count_limit < size → ReachesLimit Part weights count_limit
+      huge lt =
+          let a = g.attained (omega (arith, lt)) in
+          let is = a.2 in
+          record { some_reaches = reaches count_limit a.0 a.1 (omega (arith, is, lt)); most = limit; none_above = limited limit le }
+
+      by : ((leb size count_limit ≡ true) × (size ≤ count_limit)) ⊎ ((leb size count_limit ≡ false) × (count_limit < size)) → P (leb size count_limit)
+      by (inl small) =
+          let bound = small.1 in
+          subst P (sym small.0) (record { none_above = limited (size - 1) (none bound); attained = some (cases_eq size 0) bound }, omega (arith, bound))
+      by (inr large) = subst P (sym large.0) (huge large.1)
+
+told_limited : (size : ℕ) → told size ≡ sum.Endless → ⊥
+told_limited size e = by (leb size count_limit) e
+  where
+    by : (b : Bool) → cond b (sum.Counts (size - 1)) sum.Huge ≡ sum.Endless → ⊥
+    by true e = cc
+    by false e = cc
+
+-- ---- tasks
+
+module _ (config : Config) (app : App) (w : Facts config app) (weights : List BodyWeights) (fit : AreSumWeights app weights) (kind : Kind) (t : ℕ) (declared : t < length config.tasks)
+    (Level : Position → Option ℕ) (Stands : Position → Type 0) (standing : IsStanding config app Level Stands) where
+  pub first_parts : AreParts (IsPart app t IsFirst Stands (stops kind)) weights (SumsOn config app weights kind (Level []) (body_of app.funcs t) 0)
+  first_parts = record {
+    built = λ at further p. first_part config app weights kind t Level Stands standing w declared at further p;
+    walked = λ n s. first_within config app weights kind fit t Level Stands standing n s;
+  }
+
+  pub later_parts : AreParts (IsPart app t (MayFollow app kind) Stands (stops kind)) weights (SumsWithin config app weights kind (Level []) (body_of app.funcs t))
+  later_parts = record {
+    built = λ at further p. later_part config app weights kind t Level Stands standing w declared at further p;
+    walked = λ n s. later_within config app weights kind fit t Level Stands standing n s;
+  }
+
+-- what is told of two kinds of parts, by the summary of a body
+both_told : (First Later : List Position → Type 0) (config : Config) (app : App) (weights : List BodyWeights) (kind : Kind) (level : Option ℕ) (f : ℕ)
+    → AreParts First weights (SumsOn config app weights kind level f 0) → AreParts Later weights (SumsWithin config app weights kind level f) → (s : Summary)
+    → IsSummary config app weights kind level f s
+    → AreToldSums First Later weights (cond s.is_endless (record { first = sum.Endless; later = sum.Endless }) (record { first = told s.on; later = told s.most }))
+both_told First Later config app weights kind level f first later s is = by s.is_endless is
+  where
+    by : (b : Bool) → MatchBool b (IsEndless config app weights kind level f) (IsExact config app weights kind level f s)
+        → AreToldSums First Later weights (cond b (record { first = sum.Endless; later = sum.Endless }) (record { first = told s.on; later = told s.most }))
+    by true e = are_endless (λ n. some n (e n))
+      where
+        some : (n : ℕ) → (k : ℕ) × (SumsOn config app weights kind level f 0 k ⊎ SumsWithin config app weights kind level f k) × (n ≤ k) → SomeReaches First weights n ⊎ SomeReaches Later weights n
+        some n (k, inl on, le) = inl (reaches First weights (SumsOn config app weights kind level f 0) first n k on le)
+        some n (k, inr within, le) = inr (reaches Later weights (SumsWithin config app weights kind level f) later n k within le)
+    by false x = are_limited (record { first = told s.on; later = told s.most }) (told_limited s.on) (told_limited s.most)
+        (told_part First weights (SumsOn config app weights kind level f 0) first s.on x.limited.limit x.on x.limited.on)
+        (told_part Later weights (SumsWithin config app weights kind level f) later s.most x.limited.limit x.most x.limited.most)
+
+module _ (config : Config) (app : App) (w : Facts config app) (weights : List BodyWeights) (fit : AreSumWeights app weights) (table : List Summary) (t : ℕ) (declared : t < length config.tasks) where
+  -- of the rounds of a task
+  pub rounds_told : AreSums config app weights kinds.Rounds None table → AreToldRounds app t weights (told_rounds app.funcs table t)
+  rounds_told are =
+      both_told _ _ config app weights kinds.Rounds None (body_of app.funcs t)
+      (first_parts config app w weights fit kinds.Rounds t declared (λ outer. None) Anywhere (all_stand config app))
+      (later_parts config app w weights fit kinds.Rounds t declared (λ outer. None) Anywhere (all_stand config app))
+      (summary_of table (body_of app.funcs t)) (are.each (body_of app.funcs t) (has_body config app w t declared).0)
+
+  -- of its turns
+  pub turn_told : AreSums config app weights kinds.Turns None table → IsToldSum (IsTurn app t) weights (told_turn app.funcs table t)
+  turn_told are = by (summary_of table (body_of app.funcs t)).is_endless (are.each (body_of app.funcs t) (has_body config app w t declared).0)
+    where
+      f : ℕ
+      f = body_of app.funcs t
+
+      s : Summary
+      s = summary_of table (body_of app.funcs t)
+
+      parts : AreParts (IsTurn app t) weights (SumsOn config app weights kinds.Turns None (body_of app.funcs t) 0)
+      parts = first_parts config app w weights fit kinds.Turns t declared (λ outer. None) Anywhere (all_stand config app)
+
+      later : AreParts (IsPart app t (MayFollow app kinds.Turns) Anywhere (stops kinds.Turns)) weights (SumsWithin config app weights kinds.Turns None (body_of app.funcs t))
+      later = later_parts config app w weights fit kinds.Turns t declared (λ outer. None) Anywhere (all_stand config app)
+
+      by : (b : Bool) → MatchBool b (IsEndless config app weights kinds.Turns None (body_of app.funcs t)) (IsExact config app weights kinds.Turns None (body_of app.funcs t) (summary_of table (body_of app.funcs t)))
+          → IsToldSum (IsTurn app t) weights (cond b sum.Endless (told (summary_of table (body_of app.funcs t)).on))
+      by true e = λ n. some n (e n)
+        where
+          some : (n : ℕ) → (k : ℕ) × (SumsOn config app weights kinds.Turns None (body_of app.funcs t) 0 k ⊎ SumsWithin config app weights kinds.Turns None (body_of app.funcs t) k) × (n ≤ k)
+              → SomeReaches (IsTurn app t) weights n
+          some n (k, inl on, le) = reaches (IsTurn app t) weights (SumsOn config app weights kinds.Turns None (body_of app.funcs t) 0) parts n k on le
+          some n (k, inr within, le) = let walk = later.walked k within in absurd walk.1.begins
+      by false x = told_part (IsTurn app t) weights (SumsOn config app weights kinds.Turns None (body_of app.funcs t) 0) parts
+          (summary_of table (body_of app.funcs t)).on x.limited.limit x.on x.limited.on
+
+-- of the sections of a lower task
+module _ (config : Config) (app : App) (w : Facts config app) (weights : List BodyWeights) (fit : AreSumWeights app weights) (h : ℕ) (there : h < length config.tasks)
+    (whole own : List Summary) (whole_is : AreSums config app weights kinds.Sections None whole) (own_is : AreSums config app weights kinds.Sections (Some (static_priority config h)) own)
+    (t : ℕ) (low : IsLower config h t) where
+  abbrev S : Summary
+  S = task_summary config.tasks app.funcs whole own t
+
+  body_is : IsSummary config app weights kinds.Sections (L config app h t []) (body_of app.funcs t) S
+  body_is = subst (λ l. IsSummary config app weights kinds.Sections l (body_of app.funcs t) S) (sym (level_is config app h there t low)) (by (declaration config t).non)
+    where
+      body : body_of app.funcs t < length app.funcs
+      body = (has_body config app w t low.0).0
+
+      by : (b : Bool) → IsSummary config app weights kinds.Sections (cond b None (Some (static_priority config h))) (body_of app.funcs t)
+          (cond b (summary_of whole (body_of app.funcs t)) (summary_of own (body_of app.funcs t)))
+      by true = whole_is.each (body_of app.funcs t) body
+      by false = own_is.each (body_of app.funcs t) body
+
+  first : AreParts (IsPart app t IsFirst (λ at. static_priority config h ≤ priority_at config app t at) is_schedule) weights (SumsOn config app weights kinds.Sections (L config app h t []) (body_of app.funcs t) 0)
+  first = first_parts config app w weights fit kinds.Sections t low.0 (L config app h t) (λ at. static_priority config h ≤ priority_at config app t at) (raised_stand config app h t)
+
+  later : AreParts (IsRaisedPart config app h t) weights (SumsWithin config app weights kinds.Sections (L config app h t []) (body_of app.funcs t))
+  later = later_parts config app w weights fit kinds.Sections t low.0 (L config app h t) (λ at. static_priority config h ≤ priority_at config app t at) (raised_stand config app h t)
+
+  pub section_told : IsToldSum (IsRaisedPart config app h t) weights (told_section config.tasks app.funcs whole own t)
+  section_told = by S.is_endless body_is
+    where
+      by : (b : Bool) → MatchBool b (IsEndless config app weights kinds.Sections (L config app h t []) (body_of app.funcs t)) (IsExact config app weights kinds.Sections (L config app h t []) (body_of app.funcs t) S)
+          → IsToldSum (IsRaisedPart config app h t) weights (cond b sum.Endless (told S.most))
+      by true e = λ n. some n (e n)
+        where
+          some : (n : ℕ) → (k : ℕ) × (SumsOn config app weights kinds.Sections (L config app h t []) (body_of app.funcs t) 0 k ⊎ SumsWithin config app weights kinds.Sections (L config app h t []) (body_of app.funcs t) k) × (n ≤ k)
+              → SomeReaches (IsRaisedPart config app h t) weights n
+          some n (k, inl on, le) =
+              let walk = first.walked k on in
+              let is = walk.2 in
+              (walk.0, record { before = walk.1.before; of_walk = walk.1.of_walk; begins = tt; stands = walk.1.stands; unbroken = walk.1.unbroken }, omega (arith, le, is))
+          some n (k, inr within, le) = reaches (IsRaisedPart config app h t) weights (SumsWithin config app weights kinds.Sections (L config app h t []) (body_of app.funcs t)) later n k within le
+      by false x = told_part (IsRaisedPart config app h t) weights (SumsWithin config app weights kinds.Sections (L config app h t []) (body_of app.funcs t)) later S.most x.limited.limit x.most x.limited.most

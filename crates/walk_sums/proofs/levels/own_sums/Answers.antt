@@ -1,0 +1,58 @@
+use Rattle.std.proofs.Common.{◌≡◌, ℕ, ◌<◌, List, length, get_or, None, Some, inl, inr, refl, sym, subst, arith}
+use Rattle.sloth_base.specs.declared.app.Func.{Func}
+use Rattle.sloth_base.specs.Named.{function}
+use Rattle.bound_rules.specs.declared.bodies.Body.{Body}
+use Rattle.bound_rules.specs.declared.sizes.Summary.{Summary}
+use Rattle.section_sizes.specs.Known.{IsKnownBody, no_body}
+use Rattle.walk_sums.specs.Known.{IsBefore}
+use Rattle.walk_sums.specs.declared.kinds.Kind.TheVariants as kinds
+use Rattle.walk_sums.proofs.Summaries.{next_known, next_inside, called_summed, one_summed, known_called}
+use Rattle.walk_sums.proofs.levels.own_sums.Goals as goal
+
+pub function_at-requires : goal.function_at-requires
+function_at-requires c =
+    next_known c.args.config.now c.args.app.now c.args.weights.now kinds.Sections (Some c.args.priority) c.args.order.now c.requires.order c.loop-number.own.items c.loop-number.number-index
+    c.loop-number.invariant c.loop-number-test.true
+
+pub body_at-requires : goal.body_at-requires
+body_at-requires c =
+    let known = next_known c.args.config.now c.args.app.now c.args.weights.now kinds.Sections (Some c.args.priority) c.args.order.now c.requires.order c.loop-number.own.items c.loop-number.number-index
+    c.loop-number.invariant c.loop-number-test.true in
+    let count = c.requires.bodies.count in
+    omega (arith, known, count)
+
+pub summary-requires : goal.summary-requires
+summary-requires c =
+    let f = get_or c.args.order.now c.loop-number.number-index 0 in
+    let known = next_known c.args.config.now c.args.app.now c.args.weights.now kinds.Sections (Some c.args.priority) c.args.order.now c.requires.order c.loop-number.own.items c.loop-number.number-index
+    c.loop-number.invariant c.loop-number-test.true in
+    let table = c.loop-number.own.items in
+    let func = c.function_at.result.now in
+    let body = c.body_at.result.now in
+    let before : IsBefore c.args.config.now c.args.app.now c.args.weights.now kinds.Sections f func body (Some c.args.priority) c.args.whole.now table =
+    record {
+      well_formed = c.requires.well_formed;
+      fit = c.requires.weights;
+      known = known;
+      is_func = c.function_at.ensures;
+      is_body = subst (λ (b : Body). IsKnownBody c.args.config.now c.args.app.now f b) (sym c.body_at.ensures) (c.requires.bodies.each f known);
+      whole_is = λ g calls. known_called c.args.config.now c.args.app.now c.args.weights.now kinds.Sections None c.args.whole.now c.requires.well_formed f g c.requires.whole calls;
+      own_is = called_summed c.args.config.now c.args.app.now c.args.weights.now kinds.Sections (Some c.args.priority) c.args.order.now c.requires.order c.loop-number.own.items c.loop-number.number-index
+          c.loop-number.invariant c.loop-number-test.true;
+      whole_small = c.requires.whole.small;
+      own_small = c.loop-number.invariant.small;
+      summed = inl refl;
+    } in
+    subst (λ (o : List Summary). IsBefore c.args.config.now c.args.app.now c.args.weights.now kinds.Sections f func body (Some c.args.priority) c.args.whole.now o) (sym c.deref.ensures.value) before
+
+pub index_mut-requires : goal.index_mut-requires
+index_mut-requires c =
+    let inside = next_inside c.args.config.now c.args.app.now c.args.weights.now kinds.Sections (Some c.args.priority) c.args.order.now c.requires.order c.loop-number.own.items c.loop-number.number-index
+    c.loop-number.invariant c.loop-number-test.true in
+    let len = c.loop-number.own.ok.0 in
+    omega (arith, inside, len)
+
+pub loop-number-preserved : goal.loop-number-preserved
+loop-number-preserved c =
+    one_summed c.args.config.now c.args.app.now c.args.weights.now kinds.Sections (Some c.args.priority) c.args.order.now c.requires.order c.loop-number.own.items c.loop-number.number-index
+    c.loop-number.invariant c.loop-number-test.true c.in_ok-summary.summary c.in_ok-summary.ensures.is c.in_ok-summary.ensures.small

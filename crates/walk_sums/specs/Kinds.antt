@@ -1,0 +1,66 @@
+-- Which parts of walks are summed: behind which operations none goes on, and where they begin besides a body's first item.
+use Rattle.std.specs.Prelude.{ℕ, ◌+◌, ◌-◌, ◌==◌, ◌&&◌, ◌||◌, ◌≡◌, ltb, not, Bool, true, false, List, get_or, bit_and}
+use Rattle.sloth_base.specs.declared.app.App.{App}
+use Rattle.sloth_base.specs.declared.app.Func.{Func}
+use Rattle.sloth_base.specs.declared.app.Op.{Op}
+use Rattle.sloth_base.specs.declared.app.Op.TheVariants as op
+use Rattle.sloth_base.specs.declared.service.Service.TheVariants as service
+use Rattle.sloth_base.specs.Named.{item_of, operation}
+use Rattle.sloth_base.specs.ServiceCodes.{is_service}
+use Rattle.code_rules.specs.Code.{IsItem}
+use Rattle.raised_sections.specs.Walks.{Position, chains_itself}
+use Rattle.raised_sections.specs.Sections.{is_schedule}
+use Rattle.section_sizes.specs.Parts.{ReachesItem}
+use Rattle.walk_sums.specs.declared.kinds.Kind.{Kind}
+use Rattle.walk_sums.specs.declared.kinds.Kind.TheVariants as kind
+use Rattle.walk_sums.specs.Rounds.{is_wait, IsBehindWait}
+
+-- the operation clears some of these events
+abbrev pub clears : (events : ℕ) → Op → Bool
+clears events (op.Serve call) = is_service call.service service.ClearEvent && not (bit_and call.mask events == 0)
+clears events _ = false
+
+-- no part goes on behind the operation
+abbrev pub stops : Kind → Op → Bool
+stops kind.Turns o = false
+stops kind.Rounds o = is_wait o
+stops kind.Sections o = is_schedule o
+stops (kind.Uncleared events) o = is_wait o || clears events o
+
+-- item i of function f stands behind a WaitEvent that walks reach
+pub record StandsBehindWait (app : App) (f i : ℕ) : Type 0 where
+  pub wait : ℕ
+  pub next : i ≡ wait + 1
+  pub reached : ReachesItem app f wait
+  pub item : IsItem app f wait (operation app f wait)
+  pub waits : is_wait (operation app f wait) ≡ true
+
+-- at item i of function f parts may begin, where walks reach it
+abbrev pub MayBegin : App → Kind → (f i : ℕ) → Type 0
+MayBegin app kind.Turns f i = ⊥
+MayBegin app kind.Rounds f i = StandsBehindWait app f i
+MayBegin app kind.Sections f i = Unit {0}
+MayBegin app (kind.Uncleared events) f i = StandsBehindWait app f i
+
+-- the same of walks: behind these positions
+abbrev pub MayFollow : App → Kind → List Position → Type 0
+MayFollow app kind.Turns before = ⊥
+MayFollow app kind.Rounds before = IsBehindWait app before
+MayFollow app kind.Sections before = Unit {0}
+MayFollow app (kind.Uncleared events) before = IsBehindWait app before
+
+-- ---- how it is computed
+
+-- the item before this one is a WaitEvent that is marked
+abbrev pub is_behind_wait : Func → (reached : List Bool) → (i : ℕ) → Bool
+is_behind_wait f reached i = ltb 0 i && (get_or reached (i - 1) false && is_wait (item_of f (i - 1)).op)
+
+abbrev pub may_begin : Kind → Func → (reached : List Bool) → (i : ℕ) → Bool
+may_begin kind.Turns f reached i = false
+may_begin kind.Rounds f reached i = is_behind_wait f reached i
+may_begin kind.Sections f reached i = true
+may_begin (kind.Uncleared events) f reached i = is_behind_wait f reached i
+
+-- parts go on behind item i
+abbrev pub is_going : Func → Kind → List Bool → ℕ → Bool
+is_going f kind alive i = get_or alive i false && (not (stops kind (item_of f i).op) && not (chains_itself f (item_of f i).op))

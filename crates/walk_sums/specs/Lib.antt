@@ -1,0 +1,11 @@
+pub mod Rounds
+pub mod Kinds
+pub mod Weights
+pub mod Parts
+pub mod Computed
+pub mod Shapes
+pub mod Lists
+pub mod Known
+pub mod Counted
+pub mod Clears
+pub mod Told

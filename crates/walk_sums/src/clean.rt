@@ -1,0 +1,147 @@
+//! Which tasks clear what they wait for (OSEK OS 2.2.3, sections 13.5.3.2 and 13.5.3.4).
+ghost use Rattle.std.specs.Prelude.{◌≡◌, ◌<◌, ◌+◌, ◌^◌, ◌&&◌, ℕ, None, true, false, get_or, length, Decides, IfOk};
+ghost use Rattle.code_rules.specs.WellFormed.{WellFormed};
+ghost use Rattle.call_graph.specs.Tables.{HasTaskBody};
+ghost use Rattle.section_sizes.specs.CallOrder.{IsCallOrder};
+ghost use Rattle.section_sizes.specs.Known.{AreKnownBodies};
+ghost use Rattle.walk_sums.specs.declared.kinds.Kind.TheVariants as kinds;
+ghost use Rattle.walk_sums.specs.declared.counted.Counted.TheVariants as counts;
+ghost use Rattle.walk_sums.specs.Rounds.{IsClean};
+ghost use Rattle.walk_sums.specs.Counted.{counted_weights};
+ghost use Rattle.walk_sums.specs.Known.{AreSums};
+ghost use Rattle.walk_sums.specs.Clears.{clears_it, AreClearing, AreAlsoClearing};
+
+use crate::counted::{Counted, counted_weights};
+use crate::kinds::Kind;
+use crate::levels::whole_sums;
+use crate::tasks::summary_at;
+use bound_rules::bodies::Body;
+use bound_rules::marks::is_marked;
+use bound_rules::sizes::Summary;
+use sloth_base::app::App;
+use sloth_base::config::Config;
+use sloth_base::memory::NoMemory;
+use std::alloc::Global;
+use text_pieces::growth::push;
+
+/// The sums of walks from one WaitEvent to the next, on which nothing clears some of these events and the second one waits for some.
+fn uncleared(
+    alloc: Global,
+    config: &Config,
+    app: &App,
+    bodies: &[Body],
+    order: &[usize],
+    events: u32,
+) -> Result<Vec<Summary>, NoMemory>
+    requires well_formed { WellFormed config.now app.now }
+    requires bodies { AreKnownBodies config.now app.now bodies.now }
+    requires order { IsCallOrder app.now order.now }
+    ensures { IfOk result (λ table. AreSums config.now app.now (counted_weights (counts.Waits events) app.now) (kinds.Uncleared events) None table.items) }
+{
+    let weights = counted_weights(alloc, app, Counted::Waits(events))?;
+    whole_sums(
+        alloc,
+        config,
+        app,
+        &weights,
+        Kind::Uncleared(events),
+        bodies,
+        order,
+    )
+}
+
+/// Whether no such walk of the task waits for any of them.
+fn clears_it(app: &App, table: &[Summary], task: usize) -> bool
+    requires body { HasTaskBody app.now.funcs task }
+    requires count { length table.now ≡ length app.now.funcs }
+    ensures { result ≡ clears_it app.now.funcs table.now task }
+{
+    summary_at(app, table, task).most <= 1
+}
+
+fn mask_of(bit: u32) -> u32
+    requires { bit < 32 }
+    ensures { result ≡ 2 ^ bit }
+{
+    1 << bit
+}
+
+fn also_clears(app: &App, table: &[Summary], marks: &[bool], task: usize) -> bool
+    requires body { HasTaskBody app.now.funcs task }
+    requires count { length table.now ≡ length app.now.funcs }
+    ensures { result ≡ (get_or marks.now task false && clears_it app.now.funcs table.now task) }
+{
+    is_marked(marks, task) && clears_it(app, table, task)
+}
+
+/// Of each task whether it is marked, and no such walk of it waits for any of the events of this table.
+fn also_clear(
+    alloc: Global,
+    config: &Config,
+    app: &App,
+    table: &[Summary],
+    marks: &[bool],
+) -> Result<Vec<bool>, NoMemory>
+    requires bodies { (t : ℕ) → t < length config.now.tasks → HasTaskBody app.now.funcs t }
+    requires count { length table.now ≡ length app.now.funcs }
+    ensures { IfOk result (λ both. AreAlsoClearing app.now.funcs (length config.now.tasks) table.now marks.now both.items) }
+{
+    let mut both = Vec::new(alloc);
+    for task in 0..config.tasks.items().len() {
+        push(&mut both, also_clears(app, table, marks, task))?;
+    }
+    Ok(both)
+}
+
+/// Of each task whether it clears one bit more.
+fn next_bit(
+    alloc: Global,
+    config: &Config,
+    app: &App,
+    bodies: &[Body],
+    order: &[usize],
+    bit: u32,
+    marks: &[bool],
+) -> Result<Vec<bool>, NoMemory>
+    requires well_formed { WellFormed config.now app.now }
+    requires bodies { AreKnownBodies config.now app.now bodies.now }
+    requires order { IsCallOrder app.now order.now }
+    requires bit { bit < 32 }
+    requires marks { AreClearing app.now (length config.now.tasks) bit marks.now }
+    ensures { IfOk result (λ both. AreClearing app.now (length config.now.tasks) (bit + 1) both.items) }
+{
+    let table = uncleared(alloc, config, app, bodies, order, mask_of(bit))?;
+    also_clear(alloc, config, app, &table, marks)
+}
+
+fn all_marks(alloc: Global, count: usize) -> Result<Vec<bool>, NoMemory>
+    ensures count { IfOk result (λ marks. length marks.items ≡ count) }
+    ensures set { IfOk result (λ marks. (t : ℕ) → t < count → get_or marks.items t false ≡ true) }
+{
+    let mut marks = Vec::new(alloc);
+    for _number in 0..count {
+        push(&mut marks, true)?;
+    }
+    Ok(marks)
+}
+
+/// Of each task whether it clears, on each walk from one WaitEvent to the next, all events that the next one waits for.
+pub fn clean_tasks(
+    alloc: Global,
+    config: &Config,
+    app: &App,
+    bodies: &[Body],
+    order: &[usize],
+) -> Result<Vec<bool>, NoMemory>
+    requires well_formed { WellFormed config.now app.now }
+    requires bodies { AreKnownBodies config.now app.now bodies.now }
+    requires order { IsCallOrder app.now order.now }
+    ensures count { IfOk result (λ clean. length clean.items ≡ length config.now.tasks) }
+    ensures exact { IfOk result (λ clean. (t : ℕ) → t < length config.now.tasks → Decides (get_or clean.items t false) (IsClean app.now t)) }
+{
+    let mut clean = all_marks(alloc, config.tasks.items().len())?;
+    for bit in 0..32 {
+        clean = next_bit(alloc, config, app, bodies, order, bit, &clean)?;
+    }
+    Ok(clean)
+}

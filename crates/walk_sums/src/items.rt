@@ -1,0 +1,155 @@
+//! What the items of one body add to parts of walks.
+ghost use Rattle.std.specs.Prelude.{◌≡◌, ◌-◌, ◌≤◌, ◌<◌, ℕ, cond, false, length, get_or, IfOk};
+ghost use Rattle.sloth_base.specs.Named.{item_of};
+ghost use Rattle.sloth_base.specs.Limits.{size_limit};
+ghost use Rattle.bound_rules.specs.Summaries.{AreCountedUp};
+ghost use Rattle.section_sizes.specs.Trails.{AreSizesInLimit};
+ghost use Rattle.walk_sums.specs.Kinds.{is_going};
+ghost use Rattle.walk_sums.specs.Computed.{going_size, ending_size, leaving_size};
+
+use crate::kinds::{Kind, is_going};
+use bound_rules::callees::summary_of;
+use bound_rules::marks::{is_marked, number_at};
+use bound_rules::sizes::Summary;
+use bound_rules::weights::joined;
+use sloth_base::app::{Func, Op};
+use sloth_base::memory::NoMemory;
+use std::alloc::Global;
+use text_pieces::growth::push;
+
+/// Those of the items of one table from which parts go on.
+pub fn going_items(
+    alloc: Global,
+    func: &Func,
+    kind: Kind,
+    alive: &[bool],
+) -> Result<Vec<bool>, NoMemory>
+    ensures count { IfOk result (λ going. length going.items ≡ length func.now.items) }
+    ensures exact { IfOk result (λ going. (i : ℕ) → i < length func.now.items → get_or going.items i false ≡ is_going func.now kind alive.now i) }
+{
+    let mut going = Vec::new(alloc);
+    for number in 0..func.items.items().len() {
+        push(&mut going, is_going(func, kind, alive, number))?;
+    }
+    Ok(going)
+}
+
+/// One less, where it is not 0.
+pub fn less_one(size: u32) -> u32
+    ensures { result ≡ size - 1 }
+{
+    if 0 < size { size - 1 } else { 0 }
+}
+
+/// What an item of this weight adds to a part that goes on behind it, with the function that it calls.
+fn going_size(whole: &[Summary], weight: u32, op: Op) -> u32
+    requires whole_small { AreCountedUp whole.now }
+    requires small { weight ≤ size_limit }
+    ensures { result ≡ going_size whole.now weight op }
+{
+    match op {
+        Op::Invoke { func } => joined(weight, less_one(summary_of(whole, func).back)),
+        _ => weight,
+    }
+}
+
+/// The size of a part that ends with it, or in a function that it calls.
+fn ending_size(whole: &[Summary], weight: u32, op: Op) -> u32
+    requires whole_small { AreCountedUp whole.now }
+    requires small { weight ≤ size_limit }
+    ensures { result ≡ ending_size whole.now weight op }
+{
+    match op {
+        Op::Invoke { func } => joined(weight, summary_of(whole, func).on.max(1)),
+        _ => joined(weight, 1),
+    }
+}
+
+/// That of a part that leaves the function with it.
+fn leaving_size(weight: u32, op: Op) -> u32
+    requires small { weight ≤ size_limit }
+    ensures { result ≡ leaving_size weight op }
+{
+    match op {
+        Op::Return => joined(weight, 1),
+        _ => 0,
+    }
+}
+
+/// The size, where the item is alive.
+fn if_alive(alive: bool, size: u32) -> u32
+    ensures { result ≡ cond alive size 0 }
+{
+    if alive { size } else { 0 }
+}
+
+/// What each item adds to a part that goes on behind it.
+pub fn going_sizes(
+    alloc: Global,
+    func: &Func,
+    weights: &[u32],
+    whole: &[Summary],
+) -> Result<Vec<u32>, NoMemory>
+    requires whole { AreCountedUp whole.now }
+    requires small { AreSizesInLimit weights.now }
+    ensures count { IfOk result (λ sizes. length sizes.items ≡ length func.now.items) }
+    ensures exact { IfOk result (λ sizes. (i : ℕ) → i < length func.now.items
+        → get_or sizes.items i 0 ≡ going_size whole.now (get_or weights.now i 0) (item_of func.now i).op) }
+{
+    let mut sizes = Vec::new(alloc);
+    for number in 0..func.items.items().len() {
+        let weight = number_at(weights, number);
+        sizes
+            .push(going_size(whole, weight, func.items.items()[number].op))
+            .map_err(|_| NoMemory)?;
+    }
+    Ok(sizes)
+}
+
+/// The size of a part that ends with each item, or in a function that it calls.
+pub fn ending_sizes(
+    alloc: Global,
+    func: &Func,
+    weights: &[u32],
+    alive: &[bool],
+    whole: &[Summary],
+) -> Result<Vec<u32>, NoMemory>
+    requires whole { AreCountedUp whole.now }
+    requires small { AreSizesInLimit weights.now }
+    ensures count { IfOk result (λ sizes. length sizes.items ≡ length func.now.items) }
+    ensures exact { IfOk result (λ sizes. (i : ℕ) → i < length func.now.items
+        → get_or sizes.items i 0 ≡ cond (get_or alive.now i false) (ending_size whole.now (get_or weights.now i 0) (item_of func.now i).op) 0) }
+{
+    let mut sizes = Vec::new(alloc);
+    for number in 0..func.items.items().len() {
+        let weight = number_at(weights, number);
+        let size = ending_size(whole, weight, func.items.items()[number].op);
+        sizes
+            .push(if_alive(is_marked(alive, number), size))
+            .map_err(|_| NoMemory)?;
+    }
+    Ok(sizes)
+}
+
+/// That of a part that leaves the function with it.
+pub fn leaving_sizes(
+    alloc: Global,
+    func: &Func,
+    weights: &[u32],
+    alive: &[bool],
+) -> Result<Vec<u32>, NoMemory>
+    requires small { AreSizesInLimit weights.now }
+    ensures count { IfOk result (λ sizes. length sizes.items ≡ length func.now.items) }
+    ensures exact { IfOk result (λ sizes. (i : ℕ) → i < length func.now.items
+        → get_or sizes.items i 0 ≡ cond (get_or alive.now i false) (leaving_size (get_or weights.now i 0) (item_of func.now i).op) 0) }
+{
+    let mut sizes = Vec::new(alloc);
+    for number in 0..func.items.items().len() {
+        let weight = number_at(weights, number);
+        let size = leaving_size(weight, func.items.items()[number].op);
+        sizes
+            .push(if_alive(is_marked(alive, number), size))
+            .map_err(|_| NoMemory)?;
+    }
+    Ok(sizes)
+}

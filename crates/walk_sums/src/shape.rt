@@ -1,0 +1,79 @@
+//! How trails go along the ways of a body, and the longest ones: by an order, or by passes where nothing weighs along loops.
+ghost use Rattle.std.specs.Prelude.{◌≡◌, ℕ, ◌<◌, length, get_or, IfOk};
+ghost use Rattle.section_sizes.specs.Graph.{AreInside};
+ghost use Rattle.section_sizes.specs.Trails.{AreSizes, IsLongest};
+ghost use Rattle.walk_sums.specs.Shapes.{IsShape, HasOrder, is_endless};
+
+use section_sizes::graph::{Found, Ways, finish_order};
+use section_sizes::longest::longest;
+use section_sizes::loops::has_weighing_loop;
+use section_sizes::settle::settled;
+use sloth_base::list::List;
+use sloth_base::memory::NoMemory;
+use std::alloc::Global;
+
+/// How trails go.
+#[derive(Drop)]
+pub enum Shape {
+    /// Each node stands behind those that it leads to.
+    Ordered(List<usize>),
+    /// There are loops, along which nothing weighs.
+    Looped,
+    /// Something weighs along a loop.
+    Endless,
+}
+
+fn looped(alloc: Global, ways: &[Ways], steps: &[u32]) -> Result<Shape, NoMemory>
+    requires inside { AreInside ways.now }
+    requires count { length steps.now ≡ length ways.now }
+    ensures { IfOk result (IsShape ways.now steps.now) }
+{
+    if has_weighing_loop(alloc, ways, steps)? {
+        Ok(Shape::Endless)
+    } else {
+        Ok(Shape::Looped)
+    }
+}
+
+/// How the trails along these ways go, by what their nodes weigh.
+pub fn shape_of(alloc: Global, ways: &[Ways], steps: &[u32]) -> Result<Shape, NoMemory>
+    requires inside { AreInside ways.now }
+    requires count { length steps.now ≡ length ways.now }
+    ensures { IfOk result (IsShape ways.now steps.now) }
+{
+    match finish_order(alloc, ways)? {
+        Found::Order(order) => Ok(Shape::Ordered(order)),
+        Found::Loop => looped(alloc, ways, steps),
+    }
+}
+
+/// Whether something weighs along a loop.
+pub fn is_endless(shape: &Shape) -> bool
+    ensures { result ≡ is_endless shape.now }
+{
+    match shape {
+        Shape::Ordered(_) | Shape::Looped => false,
+        Shape::Endless => true,
+    }
+}
+
+/// For each node the size of the longest trail from it.
+pub fn longest_by(
+    alloc: Global,
+    ways: &[Ways],
+    shape: &Shape,
+    steps: &[u32],
+    ends: &[u32],
+) -> Result<Vec<u32>, NoMemory>
+    requires inside { AreInside ways.now }
+    requires order { HasOrder ways.now shape.now }
+    requires sizes { AreSizes ways.now steps.now ends.now }
+    ensures count { IfOk result (λ table. length table.items ≡ length ways.now) }
+    ensures longest { IfOk result (λ table. (i : ℕ) → i < length ways.now
+        → IsLongest ways.now steps.now ends.now i (get_or table.items i 0)) }
+{
+    match shape {
+        Shape::Ordered(order) => longest(alloc, ways, order.items(), steps, ends),
+        Shape::Looped | Shape::Endless => settled(alloc, ways, steps, ends),
+    }
+}
