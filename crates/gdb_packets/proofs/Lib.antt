@@ -1,0 +1,4 @@
+pub mod Digits
+pub mod Escaping
+pub mod RoundTrip
+pub mod Standing

@@ -1,0 +1,3 @@
+pub mod ByteReader
+pub mod Input
+pub mod MemInput

@@ -1,0 +1,42 @@
+//! Bytes in memory.
+ghost use Rattle.std.specs.Prelude.{◌≡◌};
+ghost use Rattle.session_input.specs.MemInput.{coming_of};
+
+use crate::input::{Input, InputFault};
+
+/// Bytes in memory, and whether a fault stands behind them in the place of the end.
+#[derive(Drop)]
+pub struct MemInput<'a> {
+    bytes: &'a [u8],
+    broken: bool,
+}
+
+impl<'a> MemInput<'a> {
+    /// The input of these bytes, with the end or a fault behind them.
+    pub fn new(bytes: &'a [u8], broken: bool) -> MemInput<'a>
+        ensures { coming_of result ≡ record { bytes = bytes.now; broken = broken } }
+    {
+        MemInput { bytes, broken }
+    }
+}
+
+impl<'a> Input for MemInput<'a> {
+    ghost use Rattle.std.specs.Prelude.{Some};
+
+    ghost coming = { λ input. Some (coming_of input) };
+
+    fn next(&mut self) -> Result<Option<u8>, InputFault> {
+        match self.bytes.split_first() {
+            Some((first, rest)) => {
+                self.bytes = rest;
+                Ok(Some(*first))
+            }
+            None => {
+                if self.broken {
+                    return Err(InputFault::Failed);
+                }
+                Ok(None)
+            }
+        }
+    }
+}
