@@ -2,6 +2,8 @@ mod Lines
 pub mod Meaning
 pub mod OneText
 mod Keeping
+mod KeptCounts
+mod TickLines
 pub mod OneLatency
 mod CountLines
 pub mod OneLowerCounts

@@ -9,7 +9,7 @@ use Rattle.bound_rules.specs.declared.bound.Bound.TheVariants as bound
 use Rattle.block_bounds.specs.Bounds.{AreToldBounds}
 use Rattle.block_bounds.proofs.OneTold.{one_told}
 use Rattle.bounds_text.specs.BoundsText.{bound_lines}
-use Rattle.bounds_text.specs.Latency.{IsHighestTask, HasLatency, OneLatencyText, latency_text, latency_line, last_line}
+use Rattle.bounds_text.specs.Latency.{IsHighestTask, HasLatency, OneLatencyText, latency_text, latency_line, last_line, tick_lines}
 use Rattle.bounds_text.proofs.Lines.{same-lines}
 use Rattle.bounds_text.proofs.Keeping.{one-highest}
 
@@ -26,9 +26,9 @@ module _ (config : Config) (app : App) (one other : List Bound) (a : AreToldBoun
 same-latency : (config : Config) (app : App) (one other : List ℕ) → HasLatency config app one → HasLatency config app other → one ≡ other
 same-latency config app one other a b =
     a.lines
-    ∙ ap (λ lines. lines ++ last_line config a.bounds a.highest)
+    ∙ ap (λ lines. (lines ++ tick_lines config (length config.counters)) ++ last_line config a.bounds a.highest)
     (same-lines config.tasks a.bounds b.bounds (length config.tasks) (same-bound config app a.bounds b.bounds a.are_bounds b.are_bounds))
-    ∙ ap (λ line. bound_lines config.tasks b.bounds (length config.tasks) ++ line)
+    ∙ ap (λ line. (bound_lines config.tasks b.bounds (length config.tasks) ++ tick_lines config (length config.counters)) ++ line)
     (same-last config app a.bounds b.bounds a.are_bounds b.are_bounds a.highest a.is_highest
     ∙ ap (λ h. last_line config b.bounds h) (one-highest config a.highest b.highest a.is_highest b.is_highest))
     ∙ sym b.lines

@@ -1,10 +1,21 @@
 -- The last line of the command `bounds OIL SRC latency`.
-use Rattle.std.specs.Prelude.{ℕ, ◌<◌, ◌≡◌, List, [], ◌++◌, codes, decimal, length, get_or, Option, Some, None}
+use Rattle.std.specs.Prelude.{ℕ, zero, suc, ◌+◌, ◌<◌, ◌≤◌, ◌≡◌, List, [], ◌++◌, codes, decimal, length, get_or, Option, Some, None}
+use Rattle.std.specs.List.{AllByRecursion}
 use Rattle.sloth_base.specs.declared.config.Config.{Config}
 use Rattle.sloth_base.specs.declared.app.App.{App}
-use Rattle.sloth_base.specs.Named.{declaration}
+use Rattle.sloth_base.specs.declared.event.Arrival.{Arrival}
+use Rattle.sloth_base.specs.declared.event.Event.TheVariants as event
+use Rattle.sloth_base.specs.declared.event.Stamped.{Stamped}
+use Rattle.sloth_base.specs.declared.image.Image.{Image}
+use Rattle.sloth_base.specs.Arrivals.{AreArrivals}
+use Rattle.sloth_base.specs.Limits.{count_limit}
+use Rattle.sloth_base.specs.Named.{declaration, counter_declaration}
+use Rattle.sloth_base.specs.Owners.{owners_in}
 use Rattle.sloth_base.specs.Stretches.{longest_stretch}
+use Rattle.code_lengths.specs.LongestPaths.{tick_path}
 use Rattle.sloth_source.specs.Texts.{AreAccepted}
+use Rattle.sim_induction.specs.Sound.{Sound, events_of}
+use Rattle.sim_induction.specs.Weighed.{Weighed}
 use Rattle.run_bounds.specs.Latency.{IsHighest, latency}
 use Rattle.bound_rules.specs.declared.bound.Bound.{Bound}
 use Rattle.bound_rules.specs.declared.bound.Bound.TheVariants as bound
@@ -32,20 +43,45 @@ abbrev pub last_line : Config → List Bound → Option ℕ → List ℕ
 last_line config bounds None = []
 last_line config bounds (Some h) = latency_line config bounds h
 
--- these are the lines of these bounds, and then that of the latency of the task of highest priority
+-- ---- ticks
+
+-- the line of a counter: what a tick of it takes at most, whose alarms all expire at once
+unfoldable pub tick_line : Config → (c : ℕ) → List ℕ
+tick_line config c = (((codes "tick " ++ (counter_declaration config c).name) ++ codes " ") ++ decimal (tick_path config c)) ++ codes "\n"
+
+-- the lines of the first counters, so many of them
+unfoldable pub tick_lines : Config → ℕ → List ℕ
+tick_lines config zero = []
+tick_lines config (suc k) = tick_lines config k ++ tick_line config k
+
+-- no tick takes more counts than its line tells
+abbrev pub IsShortTick : Config → Stamped → Type 0
+IsShortTick config e = (c : ℕ) → e.event ≡ event.Tick c → e.stamp.at < e.stamp.from + tick_path config c
+
+-- in every run of an image whose builder promises that its runs are sound and keep the weights
+abbrev pub RunsKeepTicks : Config → App → Type 0
+RunsKeepTicks config app =
+    (image : Image) (arrivals : List Arrival) (n : ℕ) → Sound config app image → Weighed config app image → AreArrivals (owners_in config) arrivals → n ≤ count_limit
+    → AllByRecursion (IsShortTick config) (events_of image arrivals n)
+
+-- ---- all lines
+
+-- these are the lines of these bounds, those of the ticks of all counters, and then that of the latency of the task of highest priority
 pub record AreAllLines (config : Config) (bounds : List Bound) (text : List ℕ) : Type 0 where
   pub highest : Option ℕ
   pub is_highest : IsHighestTask config highest
-  pub lines : text ≡ bound_lines config.tasks bounds (length config.tasks) ++ last_line config bounds highest
+  pub lines : text ≡ (bound_lines config.tasks bounds (length config.tasks) ++ tick_lines config (length config.counters)) ++ last_line config bounds highest
 
--- these are the lines of the bounds of all tasks, and then that of the latency of the task of highest priority, and runs keep both
+-- these are the lines of the bounds of all tasks, those of the ticks of all counters, and then that of the latency of the task of highest priority, and runs
+-- keep them
 pub record HasLatency (config : Config) (app : App) (text : List ℕ) : Type 0 where
   pub bounds : List Bound
   pub are_bounds : AreToldBounds config app bounds
   pub highest : Option ℕ
   pub is_highest : IsHighestTask config highest
-  pub lines : text ≡ bound_lines config.tasks bounds (length config.tasks) ++ last_line config bounds highest
+  pub lines : text ≡ (bound_lines config.tasks bounds (length config.tasks) ++ tick_lines config (length config.counters)) ++ last_line config bounds highest
   pub kept : RunsKeepAll config app bounds
+  pub ticks : RunsKeepTicks config app
   pub in_time : RunsKeepLatency config app bounds highest
 
 -- the texts are accepted, and these are the lines of what they mean

@@ -1,8 +1,12 @@
 -- The lines of the command `bounds OIL SRC counts`.
-use Rattle.std.specs.Prelude.{ℕ, zero, suc, ◌+◌, ◌-◌, ◌≡◌, ◌&&◌, leb, max, cond, List, [], ◌++◌, codes, decimal, length, get_or}
+use Rattle.std.specs.Prelude.{ℕ, zero, suc, ◌+◌, ◌-◌, ◌≤◌, ◌≡◌, ◌&&◌, leb, max, cond, List, [], ◌++◌, codes, decimal, length, get_or}
 use Rattle.sloth_base.specs.declared.config.Config.{Config}
 use Rattle.sloth_base.specs.declared.config.TaskDecl.{TaskDecl}
 use Rattle.sloth_base.specs.declared.app.App.{App}
+use Rattle.sloth_base.specs.declared.event.Arrival.{Arrival}
+use Rattle.sloth_base.specs.declared.image.Image.{Image}
+use Rattle.sloth_base.specs.Arrivals.{AreArrivals}
+use Rattle.sloth_base.specs.Owners.{owners_in}
 use Rattle.sloth_base.specs.Named.{undeclared_task}
 use Rattle.sloth_base.specs.Limits.{count_limit}
 use Rattle.call_graph.specs.Reached.{any_below}
@@ -15,7 +19,10 @@ use Rattle.section_counts.specs.declared.sums.Sum.{Sum}
 use Rattle.section_counts.specs.declared.sums.Sum.TheVariants as sum
 use Rattle.section_counts.specs.Counts.{AreCounts}
 use Rattle.section_counts.specs.Told.{no_sum, AreAllSums}
+use Rattle.sim_induction.specs.Paced.{InPace}
+use Rattle.sim_induction.specs.Sound.{Sound, events_of}
 use Rattle.block_bounds.specs.Bounds.{is_below}
+use Rattle.bounds_text.specs.KeptRuns.{WaitsForCounts}
 
 -- ---- counts
 
@@ -71,13 +78,23 @@ unfoldable pub count_lines : List TaskDecl → (weight : ℕ) → List (List Sum
 count_lines tasks weight table zero = []
 count_lines tasks weight table (suc k) = count_lines tasks weight table k ++ count_line tasks weight table k
 
--- these are the lines of all tasks, by the exact sums of all sections in counts
+-- ---- what they promise of runs
+
+-- In every run of an image whose builder promises that its runs are sound and keep the pace, from each event that makes a task of which a number is told
+-- Ready up to its `enter` at most so many counts are spent on lower tasks.
+abbrev pub RunsKeepCounts : Config → App → (weight : ℕ) → List (List Sum) → Type 0
+RunsKeepCounts config app weight table =
+    (image : Image) (arrivals : List Arrival) (n : ℕ) → Sound config app image → InPace config app image → AreArrivals (owners_in config) arrivals → n ≤ count_limit
+    → (h counts : ℕ) → lower_counts config.tasks weight (get_or table h []) h ≡ sum.Counts counts → WaitsForCounts config app h counts (events_of image arrivals n)
+
+-- these are the lines of all tasks, by the exact sums of all sections in counts, and runs keep them
 pub record HasLowerCounts (config : Config) (app : App) (text : List ℕ) : Type 0 where
   pub weights : List BodyWeights
   pub are_counts : AreCounts app weights
   pub table : List (List Sum)
   pub are_sums : AreAllSums config app weights table
   pub lines : text ≡ count_lines config.tasks (heaviest weights) table (length config.tasks)
+  pub kept : RunsKeepCounts config app (heaviest weights) table
 
 -- the texts are accepted, and these are the lines of what they mean
 pub record IsLowerCountsText (oil src text : List ℕ) : Type 0 where

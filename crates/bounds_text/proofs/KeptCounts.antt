@@ -1,0 +1,169 @@
+-- Runs keep the counts that are told of lower tasks.
+use Rattle.std.proofs.Common.{◌≡◌, ◌∙◌, ℕ, zero, suc, ◌+◌, ◌-◌, ◌<◌, ◌≤◌, ◌⊎◌, ◌&&◌, leb, List, [], ◌∷◌, ◌++◌, length, get_or, Bool, true, false, cond, refl, sym, ap, subst, arith, inl, inr}
+use Rattle.std.proofs.lemmas.Bool.{cases_Bool, cases_lt, false≢true, lt-ltb}
+use Rattle.std.proofs.lemmas.List.{get_or_past}
+use Rattle.sloth_base.specs.declared.config.Config.{Config}
+use Rattle.sloth_base.specs.declared.app.App.{App}
+use Rattle.sloth_base.specs.Limits.{count_limit}
+use Rattle.code_rules.specs.WellFormed.{WellFormed}
+use Rattle.call_graph.specs.Reached.{any_below}
+use Rattle.call_graph.specs.Tables.{max_below}
+use Rattle.call_graph.proofs.Itself.{number_counts}
+use Rattle.osek_blocking.specs.Blocking.{events_up_to_entry}
+use Rattle.raised_sections.specs.Pace.{last_count}
+use Rattle.raised_sections.specs.Spent.{spent_counts}
+use Rattle.bound_rules.specs.declared.weights.BodyWeights.{BodyWeights}
+use Rattle.bound_rules.specs.Weights.{no_weights, going_weight}
+use Rattle.bound_rules.specs.Tasks.{task_at}
+use Rattle.event_weights.specs.Items.{length_of}
+use Rattle.event_weights.proofs.BodyLengths.{short}
+use Rattle.section_counts.specs.declared.sums.Sum.{Sum}
+use Rattle.section_counts.specs.declared.sums.Sum.TheVariants as sum
+use Rattle.section_counts.specs.Counts.{AreCounts}
+use Rattle.section_counts.specs.Told.{IsToldSum, AreToldSums, AreAllSums, no_sum}
+use Rattle.sim_induction.specs.Sound.{events_of}
+use Rattle.block_bounds.specs.Bounds.{is_below}
+use Rattle.run_counts.specs.Spending.{NoSumIsAbove, NoneIsLower}
+use Rattle.run_counts.proofs.Counted.{counts_weigh}
+use Rattle.run_counts.proofs.Spending.{spends_on_lower, spends_nothing}
+use Rattle.bounds_text.specs.LowerCounts.{greater, greatest_of, heaviest_in, heaviest, behind_item, lower_counts, count_lines, RunsKeepCounts, HasLowerCounts}
+
+-- ---- the heaviest item
+
+at_most_greatest : (n : ℕ) (size : ℕ → ℕ) (i : ℕ) → i < n → size i ≤ max_below n size
+at_most_greatest zero size i lt = absurd (omega (arith, lt))
+at_most_greatest (suc n) size i lt = by (cases_lt i n) (at_most_greatest n size i)
+  where
+    by : (i < n) ⊎ (n ≤ i) → (i < n → size i ≤ max_below n size) → size i ≤ max_below (suc n) size
+    by (inl before) rest = let le = rest before in omega (arith, le)
+    by (inr last) rest =
+        let same : size i ≡ size n = ap size (omega (arith, last, lt)) in
+        omega (arith, same)
+
+none_heavier : (weights : List BodyWeights) (f i : ℕ) → going_weight weights f i ≤ heaviest weights
+none_heavier weights f i = by (cases_lt f (length weights)) (cases_lt i (length (get_or weights f no_weights).going))
+  where
+    by : (f < length weights) ⊎ (length weights ≤ f) → (i < length (get_or weights f no_weights).going) ⊎ (length (get_or weights f no_weights).going ≤ i)
+        → get_or (get_or weights f no_weights).going i 0 ≤ heaviest weights
+    by (inl known) (inl inside) =
+        let item = at_most_greatest (length (get_or weights f no_weights).going) (λ j. get_or (get_or weights f no_weights).going j 0) i inside in
+        let body = at_most_greatest (length weights) (λ g. heaviest_in (get_or weights g no_weights).going) f known in
+        omega (arith, item, body)
+    by (inl known) (inr past) = let none = get_or_past (get_or weights f no_weights).going i 0 past in omega (arith, none)
+    by (inr past) inside =
+        let none : get_or (get_or weights f no_weights).going i 0 ≡ 0 =
+        ap (λ (body : BodyWeights). get_or body.going i 0) (get_or_past weights f no_weights past) in
+        omega (arith, none)
+
+-- ---- the greatest sum
+
+-- a sum as a number; 0 where it is none
+abbrev counts_of : Sum → ℕ
+counts_of (sum.Counts n) = n
+counts_of sum.Huge = 0
+counts_of sum.Endless = 0
+
+-- the greater of two sums is one where both are, and neither is above it
+both_counts : (one other : Sum) (most : ℕ) → greater one other ≡ sum.Counts most
+    → ((x : ℕ) × (one ≡ sum.Counts x) × (x ≤ most)) × ((y : ℕ) × (other ≡ sum.Counts y) × (y ≤ most))
+both_counts (sum.Counts x) (sum.Counts y) most is =
+    let greatest = ap counts_of is in
+    ((x, refl, omega (arith, greatest)), (y, refl, omega (arith, greatest)))
+both_counts (sum.Counts x) sum.Huge most is = absurd cc
+both_counts (sum.Counts x) sum.Endless most is = absurd cc
+both_counts sum.Huge (sum.Counts y) most is = absurd cc
+both_counts sum.Huge sum.Huge most is = absurd cc
+both_counts sum.Huge sum.Endless most is = absurd cc
+both_counts sum.Endless other most is = absurd cc
+
+-- each of the first sums is a number, and not above the greatest of them
+each_counts : (sums : List Sum) (n most : ℕ) → greatest_of sums n ≡ sum.Counts most → (k : ℕ) → k < n → (x : ℕ) × (get_or sums k no_sum ≡ sum.Counts x) × (x ≤ most)
+each_counts sums zero most is k lt = absurd (omega (arith, lt))
+each_counts sums (suc n) most is k lt = by (cases_lt k n) (both_counts (greatest_of sums n) (get_or sums n no_sum) most is) (each_counts sums n)
+  where
+    by : (k < n) ⊎ (n ≤ k) → ((x : ℕ) × (greatest_of sums n ≡ sum.Counts x) × (x ≤ most)) × ((y : ℕ) × (get_or sums n no_sum ≡ sum.Counts y) × (y ≤ most))
+        → ((less : ℕ) → greatest_of sums n ≡ sum.Counts less → (j : ℕ) → j < n → (x : ℕ) × (get_or sums j no_sum ≡ sum.Counts x) × (x ≤ less))
+        → (x : ℕ) × (get_or sums k no_sum ≡ sum.Counts x) × (x ≤ most)
+    by (inl before) both rest =
+        let front = both.0 in
+        let r = rest front.0 front.1 k before in
+        let le = r.2 in
+        let more = front.2 in
+        (r.0, r.1, omega (arith, le, more))
+    by (inr last) both rest =
+        let end = both.1 in
+        let same : k ≡ n = omega (arith, last, lt) in
+        (end.0, ap (λ j. get_or sums j no_sum) same ∙ end.1, end.2)
+
+-- a sum behind an item is a number where the sum is one, and this is both
+behind_counts : (weight counts : ℕ) (greatest : Sum) → behind_item weight greatest ≡ sum.Counts counts → (most : ℕ) × (greatest ≡ sum.Counts most) × (weight + most ≡ counts)
+behind_counts weight counts (sum.Counts most) is = (most, refl, by (leb weight count_limit && leb most (count_limit - weight)) is)
+  where
+    by : (small : Bool) → cond small (sum.Counts (weight + most)) sum.Huge ≡ sum.Counts counts → weight + most ≡ counts
+    by true e = ap counts_of e
+    by false e = absurd cc
+behind_counts weight counts sum.Huge is = absurd cc
+behind_counts weight counts sum.Endless is = absurd cc
+
+-- ---- lower tasks
+
+none_below : (config : Config) (h : ℕ) → any_below (length config.tasks) (is_below config.tasks (task_at config.tasks h).priority) ≡ false → NoneIsLower config h
+none_below config h none k lower =
+    false≢true (sym none ∙ number_counts (is_below config.tasks (task_at config.tasks h).priority) (length config.tasks) k lower.0 (lt-ltb _ _ lower.1))
+
+-- ---- the laws
+
+-- where some task is lower, and a number is told, it is the heaviest item and what no section of a lower task is above
+sums_within : (config : Config) (app : App) (weights : List BodyWeights) (sums : List Sum) (h counts : ℕ) → AreToldSums config app weights h sums
+    → any_below (length config.tasks) (is_below config.tasks (task_at config.tasks h).priority) ≡ true
+    → lower_counts config.tasks (heaviest weights) sums h ≡ sum.Counts counts
+    → (most : ℕ) × NoSumIsAbove config app weights h most × (heaviest weights + most ≡ counts)
+sums_within config app weights sums h counts are some told =
+    let behind_is : behind_item (heaviest weights) (greatest_of sums (length sums)) ≡ sum.Counts counts =
+    sym (ap (λ b. cond b (behind_item (heaviest weights) (greatest_of sums (length sums))) (sum.Counts 0)) some) ∙ told in
+    let most = behind_counts (heaviest weights) counts (greatest_of sums (length sums)) behind_is in (
+      most.0,
+      (λ k lower positions section.
+          let there = lower.0 in
+          let count = are.count in
+          let known = each_counts sums (length sums) most.0 most.1 k (omega (arith, there, count)) in
+          let told_sum = subst (IsToldSum config app weights h k) known.1 (are.lower k lower) in
+          let le = told_sum.0.none_above positions section in
+          let more = known.2 in
+          omega (arith, le, more)),
+      most.2,
+    )
+
+pub runs-keep-counts : (config : Config) (app : App) (weights : List BodyWeights) (table : List (List Sum)) → WellFormed config app → AreCounts app weights
+    → AreAllSums config app weights table → RunsKeepCounts config app (heaviest weights) table
+runs-keep-counts config app weights table code counts are image arrivals n sound pace fit few h limit told before behind made found s is leads makes =
+    by (cases_Bool (any_below (length config.tasks) (is_below config.tasks (task_at config.tasks h).priority)))
+  where
+    by : (any_below (length config.tasks) (is_below config.tasks (task_at config.tasks h).priority) ≡ true)
+        ⊎ (any_below (length config.tasks) (is_below config.tasks (task_at config.tasks h).priority) ≡ false)
+        → spent_counts config h (last_count 0 (before ++ made ∷ [])) (events_up_to_entry h behind) ≤ limit
+    by (inl some) =
+        let sums = sums_within config app weights (get_or table h []) h limit (are.each h makes.declared) some told in
+        let run = sound.each arrivals n fit few in
+        let lengths = counts.0 in
+        let items_short = short app (config, code.in_range) lengths counts.1 in
+        let keeps = (pace.paced lengths counts.1).each arrivals n 36 fit few items_short in
+        let spends = spends_on_lower config app (length_of lengths) 36 n (heaviest weights) weights (events_of image arrivals n) code run.osek keeps
+        (counts_weigh app lengths counts.1 items_short weights counts.2) (none_heavier weights) before behind made h sums.0 found s is leads makes sums.1 in
+        let sum_is = sums.2 in
+        omega (arith, spends, sum_is)
+    by (inr none) =
+        let run = sound.each arrivals n fit few in
+        let nothing = spends_nothing config app (events_of image arrivals n) code run.osek before behind made h found s is leads makes (none_below config h none) in
+        omega (arith, nothing)
+
+pub has_counts : (config : Config) (app : App) (weights : List BodyWeights) (table : List (List Sum)) (text : List ℕ) → WellFormed config app → AreCounts app weights
+    → AreAllSums config app weights table → text ≡ count_lines config.tasks (heaviest weights) table (length config.tasks) → HasLowerCounts config app text
+has_counts config app weights table text code counts are lines = record {
+  weights = weights;
+  are_counts = counts;
+  table = table;
+  are_sums = are;
+  lines = lines;
+  kept = runs-keep-counts config app weights table code counts are;
+}
