@@ -1,0 +1,398 @@
+-- As long as a busy period is no longer than its start says, its rounds are no more than their numbers; so it ends in time.
+use Rattle.std.proofs.Common.{◌≡◌, ℕ, zero, suc, ◌+◌, ◌*◌, ◌<◌, ◌≤◌, ◌⊎◌, ◌&&◌, ◌||◌, not, List, [], ◌∷◌, ◌++◌, Bool, true, false, cond, length, refl, sym, ap, ◌∙◌, subst, arith, inl, inr, append_assoc, append-nil}
+use Rattle.std.specs.Prelude.{◌-◌}
+use Rattle.std.specs.List.{AllByRecursion}
+use Rattle.std.proofs.lemmas.Bool.{cases_eq, and_parts, not-true, true≢false, or_parts}
+use Rattle.sloth_base.specs.declared.config.Config.{Config}
+use Rattle.sloth_base.specs.declared.app.App.{App}
+use Rattle.sloth_base.specs.Owners.{counter_line}
+use Rattle.osek_scheduler.specs.State.{System, task, counter}
+use Rattle.osek_scheduler.specs.Priority.{is_active}
+use Rattle.osek_scheduler.specs.InTime.{is_admit}
+use Rattle.osek_scheduler.specs.Next.{is_ready, is_due, all_below, no_ticks}
+use Rattle.osek_scheduler.specs.Apart.{IsActive}
+use Rattle.run_counts.specs.Stages.{Stage, end_of, charged}
+use Rattle.run_counts.specs.Rounds.{goes_on_waiting, total}
+use Rattle.response_laws.specs.Sums.{total_where, count, is_over}
+use Rattle.event_weights.specs.Events.{has_frames}
+use Rattle.response_laws.specs.Turns.{in_turn, at_entry, at_entry_for, at_tick, at_admission, is_other, begins_first, begins_next, as_said, is_made, activated, has_grown, was_set}
+use Rattle.response_laws.specs.Busy.{is_quiet}
+use Rattle.response_laws.specs.Demand.{Costs, Start, IsEnough}
+use Rattle.response_laws.specs.Bounded.{EachFirst, EachNext, BoundsRounds, BeginsWithin, IsWithinInflow, StartsSo}
+use Rattle.response_laws.proofs.Sums.{product_grows, total-append, total_within, sum_below-le, sum_over-le}
+use Rattle.response_laws.proofs.Attributed.{IsDeclared, declared_by_step, all_attributed}
+use Rattle.response_laws.proofs.Linked.{Known, Linked, last_state, last_end, linked_front, linked_behind, each_append, each_joined, each_so, last_within}
+use Rattle.response_laws.proofs.Steps.{turn_active, ready_count, entry_takes, entry_balance, acts_by_admission, sets_by_admission, due_count, tick_balance}
+use Rattle.response_laws.proofs.RoundSums.{waiting_turn, by_task, rounds_of, no_round}
+
+-- ---- a quiet state
+
+at_each : (n : ℕ) (test : ℕ → Bool) (j : ℕ) → all_below n test ≡ true → j < n → test j ≡ true
+at_each zero test j all lt = absurd (omega (arith, lt))
+at_each (suc n) test j all lt = by (cases_eq j n) (λ below. at_each n test j (and_parts (test n) (all_below n test) all).1 below)
+  where
+    by : (j ≡ n) ⊎ (j ≡ n → ⊥) → (j < n → test j ≡ true) → test j ≡ true
+    by (inl e) again = ap test e ∙ (and_parts (test n) (all_below n test) all).0
+    by (inr other) again = again (omega (arith, lt, other))
+
+module _ (config : Config) (h : ℕ) (s : System) (quiet : is_quiet config h s ≡ true) where
+  pub not_due : (t : ℕ) → t < length config.tasks → is_over config h t ≡ true → is_due s t ≡ false
+  not_due t lt over =
+      let all = (and_parts (all_below (length config.tasks) (λ u. not (is_over config h u && is_due s u))) (no_ticks config s) quiet).0 in
+      let here = not-true _ (at_each (length config.tasks) (λ u. not (is_over config h u && is_due s u)) t all lt) in
+      sym (ap (λ b. b && is_due s t) over) ∙ here
+
+  quiet_ready : (again : Bool) (t : ℕ) → t < length config.tasks → is_over config h t ≡ true → ready_count again t s ≡ 0
+  quiet_ready again t lt over =
+      ap {B = ℕ} (λ b. cond (b && as_said again (has_frames (task s t).frames)) 1 0)
+      (or_parts (is_ready (task s t).state) (is_active (task s t).state) (not_due t lt over)).0
+
+  quiet_inactive : (t : ℕ) → t < length config.tasks → is_over config h t ≡ true → IsActive s t → ⊥
+  quiet_inactive t lt over active =
+      let none = (or_parts (is_ready (task s t).state) (is_active (task s t).state) (not_due t lt over)).1 in
+      true≢false (sym (ap is_active active) ∙ none)
+
+  quiet_counter : (c : ℕ) → c < length config.counters → due_count c s ≡ 0
+  quiet_counter c lt =
+      let all = (and_parts (all_below (length config.tasks) (λ u. not (is_over config h u && is_due s u))) (no_ticks config s) quiet).1 in
+      ap {B = ℕ} (λ b. cond b 1 0) (not-true _ (at_each (length config.counters) (λ d. not (counter s d).due) c all lt))
+
+-- ---- sums of all parts
+
+pub total-le : (f g : Stage → ℕ) (xs : List Stage) → AllByRecursion (λ x. f x ≤ g x) xs → total f xs ≤ total g xs
+total-le f g [] each = omega arith
+total-le f g (x ∷ xs) each =
+    let here = each.0 in
+    let rest = total-le f g xs each.1 in
+    omega (arith, here, rest)
+
+total-none : (f : Stage → ℕ) (xs : List Stage) → AllByRecursion (λ x. f x ≤ 0) xs → total f xs ≤ 0
+total-none f [] each = omega arith
+total-none f (x ∷ xs) each =
+    let here = each.0 in
+    let rest = total-none f xs each.1 in
+    omega (arith, here, rest)
+
+pub each_stage : (P : Stage → Type 0) → ((x : Stage) → P x) → (xs : List Stage) → AllByRecursion P xs
+each_stage P all [] = tt
+each_stage P all (x ∷ xs) = (all x, each_stage P all xs)
+
+-- an admit is charged with nothing
+admits_charge : (x : Stage) → cond (is_admit x.stamped) (charged x) 0 ≤ 0
+admits_charge x = by (is_admit x.stamped)
+  where
+    by : (b : Bool) → cond b (cond b 0 (x.stamped.stamp.at + 1 - x.start)) 0 ≤ 0
+    by true = omega arith
+    by false = omega arith
+
+-- ---- entries and ticks
+
+module _ (config : Config) (app : App) where
+  entries_balance : (again : Bool) (t : ℕ) (at : ℕ) (s : System) (xs : List Stage) → Linked at s xs → AllByRecursion (Known config app) xs
+      → count (at_entry_for again t) xs + ready_count again t (last_state s xs) ≤ count (is_made again t) xs + ready_count again t s
+  entries_balance again t at s [] l k = omega arith
+  entries_balance again t at s (x ∷ xs) l k =
+      let rest = entries_balance again t (end_of x) x.next xs l.2 k.1 in
+      let here = entry_balance config app again t x k.0 in
+      let same = ap (ready_count again t) l.1 in
+      omega (arith, rest, here, same)
+
+  ticks_balance : (c : ℕ) (at : ℕ) (s : System) (xs : List Stage) → Linked at s xs → AllByRecursion (Known config app) xs
+      → count (at_tick c) xs + due_count c (last_state s xs) ≤ count (at_admission (counter_line c)) xs + due_count c s
+  ticks_balance c at s [] l k = omega arith
+  ticks_balance c at s (x ∷ xs) l k =
+      let rest = ticks_balance c (end_of x) x.next xs l.2 k.1 in
+      let here = (tick_balance config app c x k.0).1 in
+      let same = ap (due_count c) l.1 in
+      omega (arith, rest, here, same)
+
+  -- each entry ends a making in front of it
+  entries_few : (again : Bool) (t : ℕ) (at : ℕ) (s : System) (xs : List Stage) (x : Stage) → Linked at s (xs ++ x ∷ [])
+      → AllByRecursion (Known config app) (xs ++ x ∷ [])
+      → count (at_entry_for again t) (xs ++ x ∷ []) ≤ count (is_made again t) xs + ready_count again t s
+  entries_few again t at s xs x l k =
+      let ks = each_append (Known config app) xs (x ∷ []) k in
+      let front = entries_balance again t at s xs (linked_front at s xs (x ∷ []) l) ks.0 in
+      let takes = entry_takes config app again t x ks.1.0 in
+      let same = ap (ready_count again t) (linked_behind at s xs (x ∷ []) l).1 in
+      let both = total-append (λ y. cond (at_entry_for again t y) 1 0) xs (x ∷ []) in
+      omega (arith, front, takes, same, both)
+
+-- a making to go on is a setting
+made_is_set : (t : ℕ) (xs : List Stage) → count (is_made true t) xs ≤ total (was_set t) xs
+made_is_set t xs = total-le (λ x. cond (is_made true t x) 1 0) (was_set t) xs (each_stage (λ x. cond (is_made true t x) 1 0 ≤ was_set t x) here xs)
+  where
+    by : (a b : Bool) → cond a 1 0 ≤ cond (a || b) 1 0
+    by true b = omega arith
+    by false b = omega arith
+
+    here : (x : Stage) → cond (is_made true t x) 1 0 ≤ was_set t x
+    here x = by (is_made true t x) (has_grown (task x.found t).events (task x.next t).events)
+
+-- where turns are not cut, each round behind a WaitEvent begins with an entry
+uncut : (t : ℕ) (xs : List Stage) → count (begins_next false t) xs ≤ count (at_entry_for true t) xs
+uncut t xs =
+    total-le (λ x. cond (begins_next false t x) 1 0) (λ x. cond (at_entry_for true t x) 1 0) xs
+    (each_stage (λ x. cond (begins_next false t x) 1 0 ≤ cond (at_entry_for true t x) 1 0) (λ x. by (at_entry_for true t x)) xs)
+  where
+    by : (a : Bool) → cond (a || false) 1 0 ≤ cond a 1 0
+    by true = omega arith
+    by false = omega arith
+
+-- the event that finds a task at rest begins no round of it behind a WaitEvent
+none_begins : (config : Config) (app : App) (k : ℕ) (x : Stage) → Known config app x → is_due x.found k ≡ false → count (begins_next true k) (x ∷ []) ≤ 0
+none_begins config app k x known rests = by (begins_next true k x) refl
+  where
+    parts : (is_ready (task x.found k).state ≡ false) × (is_active (task x.found k).state ≡ false)
+    parts = or_parts (is_ready (task x.found k).state) (is_active (task x.found k).state) rests
+
+    entered : at_entry_for true k x ≡ true → ⊥
+    entered is =
+        let takes = entry_takes config app true k x known in
+        let none : ready_count true k x.found ≡ 0 = ap {B = ℕ} (λ b. cond (b && as_said true (has_frames (task x.found k).frames)) 1 0) parts.0 in
+        let one = ap {B = ℕ} (λ b. cond b 1 0) is in
+        omega (arith, takes, none, one)
+
+    waited : goes_on_waiting k x.stamped.event ≡ true → ⊥
+    waited is =
+        let active = turn_active config app k x known (waiting_turn k x.stamped.event is) in
+        true≢false (sym (ap is_active active) ∙ parts.1)
+
+    which : (a b : Bool) → at_entry_for true k x ≡ a → goes_on_waiting k x.stamped.event ≡ b → (a || b) ≡ true → ⊥
+    which true b is other any = entered is
+    which false true is other any = waited other
+    which false false is other any = true≢false (sym any)
+
+    by : (c : Bool) → begins_next true k x ≡ c → cond c 1 0 + 0 ≤ 0
+    by true any = absurd (which (at_entry_for true k x) (goes_on_waiting k x.stamped.event) refl refl any)
+    by false none = omega arith
+
+-- what comes in from outside, the first stage included
+pub record Counted (config : Config) (h : ℕ) (start : Start) (q : List Stage) : Type 0 where
+  pub arrivals : (line : ℕ) → count (at_admission line) q ≤ start.inflow.arrivals line
+  pub alarm_acts : (c j : ℕ) → count (at_tick c) q ≤ start.inflow.arrivals (counter_line c) → total_where (at_tick c) (activated j) q ≤ start.inflow.alarm_acts c j
+  pub alarm_sets : (c j : ℕ) → count (at_tick c) q ≤ start.inflow.arrivals (counter_line c) → total_where (at_tick c) (was_set j) q ≤ start.inflow.alarm_sets c j
+  pub acts : (j : ℕ) → is_over config h j ≡ true → total_where (is_other config h) (activated j) q ≤ start.inflow.acts j
+  pub sets : (j : ℕ) → is_over config h j ≡ true → total_where (is_other config h) (was_set j) q ≤ start.inflow.sets j
+
+module _ (config : Config) (app : App) (h : ℕ) (cuts : ℕ → Bool) (costs : Costs) (run : List Stage) (bounds : BoundsRounds config h cuts costs run)
+    (opening : System) (linked : Linked 0 opening run) (known : AllByRecursion (Known config app) run) (start : Start)
+    (enough : IsEnough config h costs start) where
+  -- a part of the run
+  part_linked : (before q behind : List Stage) → run ≡ before ++ (q ++ behind) → Linked (last_end 0 before) (last_state opening before) q
+  part_linked before q behind is =
+      linked_front (last_end 0 before) (last_state opening before) q behind
+      (linked_behind 0 opening before (q ++ behind) (subst (Linked 0 opening) is linked))
+
+  part_each : (P : Stage → Type 0) → AllByRecursion P run → (before q behind : List Stage) → run ≡ before ++ (q ++ behind) → AllByRecursion P q
+  part_each P each before q behind is =
+      (each_append P q behind (each_append P before (q ++ behind) (subst (AllByRecursion P) is each)).1).0
+
+  -- what holds of the rounds begun in these stages
+  pub record AreFew (xs : List Stage) : Type 0 where
+    pub acts : (j : ℕ) → j < length config.tasks → is_over config h j ≡ true → total (activated j) xs ≤ start.firsts j
+    pub sets : (j : ℕ) → j < length config.tasks → is_over config h j ≡ true → total (was_set j) xs ≤ start.nexts j
+
+  -- behind the stages `front` of a busy period comes stage x; the rounds that begin with x are no more than was made in front of it
+  module _ (at : ℕ) (s : System) (quiet : is_quiet config h s ≡ true) (front : List Stage) (x : Stage) (before behind : List Stage)
+      (part : run ≡ before ++ ((front ++ x ∷ []) ++ behind)) (links : Linked at s (front ++ x ∷ [])) (few : AreFew front)
+      (settings : (k : ℕ) → k < length config.tasks → is_over config h k ≡ true → cuts k ≡ true
+      → count (begins_next true k) (front ++ x ∷ []) ≤ total (was_set k) front)
+      (counted : Counted config h start (front ++ x ∷ [])) where
+    abbrev q : List Stage
+    q = front ++ x ∷ []
+
+    ks : AllByRecursion (Known config app) q
+    ks = part_each (Known config app) known before q behind part
+
+    declared : AllByRecursion (λ y. IsDeclared config y.stamped.event) q
+    declared = each_so (Known config app) (λ y. IsDeclared config y.stamped.event) (λ y k. declared_by_step config app y.stamped.event y.found y.next k.step) q ks
+
+    firsts : (k : ℕ) → k < length config.tasks → is_over config h k ≡ true → count (begins_first k) q ≤ start.firsts k
+    firsts k lt over =
+        let le = entries_few config app false k at s front x links ks in
+        let none = quiet_ready config h s quiet false k lt over in
+        let most = few.acts k lt over in
+        omega (arith, le, none, most)
+
+    nexts : (k : ℕ) → k < length config.tasks → is_over config h k ≡ true → count (begins_next (cuts k) k) q ≤ start.nexts k
+    nexts k lt over = by (cuts k) refl
+      where
+        most : total (was_set k) front ≤ start.nexts k
+        most = few.sets k lt over
+
+        by : (b : Bool) → cuts k ≡ b → count (begins_next b k) q ≤ start.nexts k
+        by true is = let le = settings k lt over is in let fits = most in omega (arith, le, fits)
+        by false is =
+            let le = entries_few config app true k at s front x links ks in
+            let none = quiet_ready config h s quiet true k lt over in
+            let sets = made_is_set k front in
+            let whole = uncut k q in
+            let fits = most in
+            omega (arith, le, none, sets, whole, fits)
+
+    ticks : (c : ℕ) → c < length config.counters → count (at_tick c) q ≤ start.inflow.arrivals (counter_line c)
+    ticks c lt =
+        let le = ticks_balance config app c at s q links ks in
+        let none = quiet_counter config h s quiet c lt in
+        let most = counted.arrivals (counter_line c) in
+        omega (arith, le, none, most)
+
+    -- what the rounds of a task come to
+    rounds : (f : Stage → ℕ) (most more k : ℕ) → k < length config.tasks → is_over config h k ≡ true → EachFirst run (cuts k) k f most → EachNext run (cuts k) k f more
+        → total (by_task (cuts k) k f) q ≤ start.firsts k * most + start.nexts k * more
+    rounds f most more k lt over each again =
+        let le = rounds_of (cuts k) k f run most more each again before q behind part in
+        let none = no_round (cuts k) k f config app at s q links ks (quiet_inactive config h s quiet k lt over) in
+        let a = product_grows (count (begins_first k) q) (start.firsts k) most (firsts k lt over) in
+        let b = product_grows (count (begins_next (cuts k) k) q) (start.nexts k) more (nexts k lt over) in
+        omega (arith, le, none, a, b)
+
+    split : (f : Stage → ℕ) (k : ℕ) (xs : List Stage) → total_where (at_entry k) f xs + total_where (in_turn k) f xs ≤ total (by_task (cuts k) k f) xs
+    split f k [] = omega arith
+    split f k (y ∷ ys) = let rest = split f k ys in omega (arith, rest)
+
+    acts_step : (j : ℕ) → j < length config.tasks → is_over config h j ≡ true → total (activated j) q ≤ start.firsts j
+    acts_step j lt over =
+        let whole = all_attributed config h (activated j) q declared in
+        let other = counted.acts j over in
+        let admits = total-le (λ y. cond (is_admit y.stamped) (activated j y) 0) (λ y. cond (at_admission j y) 1 0) q
+        (each_so (Known config app) (λ y. cond (is_admit y.stamped) (activated j y) 0 ≤ cond (at_admission j y) 1 0) (acts_by_admission config app j) q ks) in
+        let arrived = counted.arrivals j in
+        let alarms = sum_below-le (length config.counters) (λ c. total_where (at_tick c) (activated j) q) (λ c. start.inflow.alarm_acts c j)
+        (λ c lt. counted.alarm_acts c j (ticks c lt)) in
+        let turns = sum_over-le config h (λ k. total_where (at_entry k) (activated j) q + total_where (in_turn k) (activated j) q)
+        (λ k. start.firsts k * costs.first_acts k j + start.nexts k * costs.next_acts k j)
+        (λ k there above.
+        let le = rounds (activated j) (costs.first_acts k j) (costs.next_acts k j) k there above (bounds.first_acts k j there above) (bounds.next_acts k j there above) in
+        let parts = split (activated j) k q in
+        omega (arith, le, parts)) in
+        let most = enough.firsts j lt over in
+        omega (arith, whole, other, admits, arrived, alarms, turns, most)
+
+    sets_step : (j : ℕ) → j < length config.tasks → is_over config h j ≡ true → total (was_set j) q ≤ start.nexts j
+    sets_step j lt over =
+        let whole = all_attributed config h (was_set j) q declared in
+        let other = counted.sets j over in
+        let admits = total-none (λ y. cond (is_admit y.stamped) (was_set j y) 0) q
+        (each_so (Known config app) (λ y. cond (is_admit y.stamped) (was_set j y) 0 ≤ 0) (sets_by_admission config app j) q ks) in
+        let alarms = sum_below-le (length config.counters) (λ c. total_where (at_tick c) (was_set j) q) (λ c. start.inflow.alarm_sets c j)
+        (λ c lt. counted.alarm_sets c j (ticks c lt)) in
+        let turns = sum_over-le config h (λ k. total_where (at_entry k) (was_set j) q + total_where (in_turn k) (was_set j) q)
+        (λ k. start.firsts k * costs.first_sets k j + start.nexts k * costs.next_sets k j)
+        (λ k there above.
+        let le = rounds (was_set j) (costs.first_sets k j) (costs.next_sets k j) k there above (bounds.first_sets k j there above) (bounds.next_sets k j there above) in
+        let parts = split (was_set j) k q in
+        omega (arith, le, parts)) in
+        let most = enough.nexts j lt over in
+        omega (arith, whole, other, admits, alarms, turns, most)
+
+    pub few_step : AreFew q
+    few_step = record { acts = acts_step; sets = sets_step }
+
+    -- the events behind the first
+    pub counts_step : (first : Stage) (period : List Stage) → q ≡ first ∷ period → total_where (is_other config h) charged period ≤ start.inflow.front
+        → total charged period ≤ start.counts
+    counts_step first period is blocking =
+        let whole = all_attributed config h charged period (each_of (λ y. IsDeclared config y.stamped.event) declared) in
+        let none = total-none (λ y. cond (is_admit y.stamped) (charged y) 0) period (each_stage (λ y. cond (is_admit y.stamped) (charged y) 0 ≤ 0) admits_charge period) in
+        let turns = sum_over-le config h (λ k. total_where (at_entry k) charged period + total_where (in_turn k) charged period)
+        (λ k. start.firsts k * costs.first k + start.nexts k * costs.next k) by_turn in
+        let by_ticks = sum_below-le (length config.counters) (λ c. total_where (at_tick c) charged period) (λ c. start.inflow.arrivals (counter_line c) * costs.tick c) by_tick in
+        let most = enough.enough in
+        omega (arith, whole, none, blocking, turns, by_ticks, most)
+      where
+        each_of : (P : Stage → Type 0) → AllByRecursion P q → AllByRecursion P period
+        each_of P each = (subst (AllByRecursion P) is each).1
+
+        fewer : (f : Stage → ℕ) → total f period ≤ total f q
+        fewer f = let same = ap (total f) is in omega (arith, same)
+
+        by_turn : (k : ℕ) → k < length config.tasks → is_over config h k ≡ true
+            → total_where (at_entry k) charged period + total_where (in_turn k) charged period ≤ start.firsts k * costs.first k + start.nexts k * costs.next k
+        by_turn k there above =
+            let le = rounds charged (costs.first k) (costs.next k) k there above (bounds.firsts k there above) (bounds.nexts k there above) in
+            let parts = split charged k period in
+            let some = fewer (by_task (cuts k) k charged) in
+            omega (arith, le, parts, some)
+
+        by_tick : (c : ℕ) → c < length config.counters → total_where (at_tick c) charged period ≤ start.inflow.arrivals (counter_line c) * costs.tick c
+        by_tick c there =
+            let few_ticks = fewer (λ y. cond (at_tick c y) 1 0) in
+            let all = ticks c there in
+            let ticking = total_within (at_tick c) charged (costs.tick c) period (each_of (λ y. at_tick c y ≡ true → charged y ≤ costs.tick c)
+            (part_each (λ y. at_tick c y ≡ true → charged y ≤ costs.tick c) (bounds.ticks c) before q behind part)) in
+            let more = product_grows (count (at_tick c) period) (start.inflow.arrivals (counter_line c)) (costs.tick c) (omega (arith, few_ticks, all)) in
+            omega (arith, ticking, more)
+
+  -- ---- the period, event by event
+
+  module _ (before : List Stage) (first : Stage) (quiet : is_quiet config h first.found ≡ true) (whole rest_of_run : List Stage)
+      (whole_part : run ≡ before ++ ((first ∷ whole) ++ rest_of_run)) (starts : StartsSo config h start first whole) where
+    -- what holds behind these events of the period
+    pub record Holds (period : List Stage) : Type 0 where
+      pub few : AreFew (first ∷ period)
+      pub ends : last_end (end_of first) period ≤ end_of first + start.counts
+      pub begins : AllByRecursion (BeginsWithin start.counts first) period
+
+    counted_by : (period : List Stage) → IsWithinInflow config h start.inflow first period → Counted config h start (first ∷ period)
+    counted_by period b = record { arrivals = b.arrivals; alarm_acts = b.alarm_acts; alarm_sets = b.alarm_sets; acts = b.acts; sets = b.sets }
+
+    part_of : (period rest : List Stage) → whole ≡ period ++ rest → run ≡ before ++ ((first ∷ period) ++ (rest ++ rest_of_run))
+    part_of period rest is =
+        whole_part ∙ ap (λ zs. before ++ first ∷ (zs ++ rest_of_run)) is ∙ ap (λ zs. before ++ first ∷ zs) (append_assoc period rest rest_of_run)
+
+    links_of : (period rest : List Stage) → whole ≡ period ++ rest → Linked first.start first.found (first ∷ period)
+    links_of period rest is = (refl, refl, (part_linked before (first ∷ period) (rest ++ rest_of_run) (part_of period rest is)).2)
+
+    begin : Holds []
+    begin = record {
+      few = few_step first.start first.found quiet [] first before (whole ++ rest_of_run) (part_of [] whole refl) (links_of [] whole refl)
+          (record { acts = λ k lt over. omega arith; sets = λ k lt over. omega arith }) (λ k lt over is.
+          none_begins config app k first (part_each (Known config app) known before (first ∷ []) (whole ++ rest_of_run) (part_of [] whole refl)).0
+          (not_due config h first.found quiet k lt over))
+          (counted_by [] (starts [] whole refl tt));
+      ends = omega arith;
+      begins = tt;
+    }
+
+    step : (period rest : List Stage) (x : Stage) → whole ≡ (period ++ x ∷ []) ++ rest → Holds period → Holds (period ++ x ∷ [])
+    step period rest x is holds = record {
+      few = few_step first.start first.found quiet (first ∷ period) x before (rest ++ rest_of_run) part links holds.few settings (counted_by (period ++ x ∷ []) b);
+      ends =
+          let le = last_within (end_of first) first.next (period ++ x ∷ []) links.2 in
+          let few = counts_step first.start first.found quiet (first ∷ period) x before (rest ++ rest_of_run) part links holds.few settings
+          (counted_by (period ++ x ∷ []) b) first (period ++ x ∷ []) refl b.front in
+          omega (arith, le, few);
+      begins = begins;
+    }
+      where
+        part : run ≡ before ++ ((first ∷ (period ++ x ∷ [])) ++ (rest ++ rest_of_run))
+        part = part_of (period ++ x ∷ []) rest is
+
+        links : Linked first.start first.found (first ∷ (period ++ x ∷ []))
+        links = links_of (period ++ x ∷ []) rest is
+
+        settings : (k : ℕ) → k < length config.tasks → is_over config h k ≡ true → cuts k ≡ true
+            → count (begins_next true k) ((first ∷ period) ++ x ∷ []) ≤ total (was_set k) (first ∷ period)
+        settings k lt over cut =
+            bounds.settings k lt over cut before period (rest ++ rest_of_run) first x part (not_due config h first.found quiet k lt over)
+
+        begins : AllByRecursion (BeginsWithin start.counts first) (period ++ x ∷ [])
+        begins =
+            let here = (linked_behind (end_of first) first.next period (x ∷ []) links.2).0 in
+            let le = holds.ends in
+            each_joined (BeginsWithin start.counts first) period (x ∷ []) holds.begins (omega (arith, here, le), tt)
+
+        b : IsWithinInflow config h start.inflow first (period ++ x ∷ [])
+        b = starts (period ++ x ∷ []) rest is begins
+
+    go : (period rest : List Stage) → whole ≡ period ++ rest → Holds period → Holds whole
+    go period [] is holds = subst Holds (sym (is ∙ append-nil period)) holds
+    go period (x ∷ rest) is holds =
+        let next : whole ≡ (period ++ x ∷ []) ++ rest = is ∙ sym (append_assoc period (x ∷ []) rest) in
+        go (period ++ x ∷ []) rest next (step period rest x next holds)
+
+    -- the period ends within what is enough, and its rounds are no more than their numbers
+    pub period_holds : Holds whole
+    period_holds = go [] whole refl begin

@@ -1,0 +1,391 @@
+-- A task responds within the longest of the starts in which it has a round, and an event.
+use Rattle.std.proofs.Common.{◌≡◌, ℕ, suc, ◌+◌, ◌<◌, ◌≤◌, ◌⊎◌, ◌&&◌, ◌||◌, not, List, [], ◌∷◌, ◌++◌, Bool, true, false, cond, length, refl, sym, ap, ◌∙◌, subst, arith, inl, inr, append_assoc, append-nil}
+use Rattle.std.specs.Prelude.{AllPairs, slice_index_or, is_some}
+use Rattle.sloth_base.specs.Events.{admitted_line}
+use Rattle.osek_scheduler.specs.Steps.{OsekStep}
+use Rattle.std.specs.List.{AllByRecursion}
+use Rattle.std.proofs.lemmas.Bool.{cases_Bool, false≢true, true≢false}
+use Rattle.std.proofs.lemmas.List.Elements.{recursion_from_All}
+use Rattle.sloth_base.specs.declared.config.Config.{Config}
+use Rattle.sloth_base.specs.declared.app.App.{App}
+use Rattle.sloth_base.specs.declared.event.Arrival.{Arrival}
+use Rattle.sloth_base.specs.declared.event.Event.{Event}
+use Rattle.sloth_base.specs.declared.event.Event.TheVariants as event
+use Rattle.sloth_base.specs.declared.event.Stamped.{Stamped}
+use Rattle.code_rules.specs.WellFormed.{WellFormed}
+use Rattle.osek_scheduler.specs.declared.state.TaskState.TheVariants as mode
+use Rattle.osek_scheduler.specs.State.{System, task, opening}
+use Rattle.osek_scheduler.specs.Next.{is_ready}
+use Rattle.osek_scheduler.specs.Priority.{IsDue}
+use Rattle.osek_scheduler.specs.InTime.{IsStamped, IsOrdered, StandsBefore, InTime, is_admit}
+use Rattle.osek_scheduler.specs.Runs.{AreStepsTo, OsekRun}
+use Rattle.osek_scheduler.proofs.Facts.{facts}
+use Rattle.osek_scheduler.proofs.Leading.{follows_leads, leads-parts, leads-append, one_end}
+use Rattle.osek_scheduler.proofs.Steps.{opening_valid}
+use Rattle.osek_blocking.specs.Blocking.{MakesReady}
+use Rattle.osek_blocking.proofs.Ordering.{opening_ordered}
+use Rattle.raised_sections.specs.Pace.{last_count}
+use Rattle.run_counts.specs.Stages.{Stage, state_behind, stage, stages, run_stages, end_of}
+use Rattle.run_counts.specs.Rounds.{is_left, total}
+use Rattle.event_weights.specs.Events.{has_frames}
+use Rattle.response_laws.specs.Turns.{as_said, is_ready_for, is_made, has_grown, activated, was_set}
+use Rattle.response_laws.specs.Busy.{is_quiet}
+use Rattle.response_laws.specs.Demand.{Costs, Start, IsEnough}
+use Rattle.response_laws.specs.Bounded.{BoundsRounds, StartsInOne}
+use Rattle.response_laws.specs.Response.{LeavesBefore, HasPace, LastsWithin, RespondsInTime}
+use Rattle.response_laws.proofs.Linked.{Known, last_state, last_end, each_append, each_joined, last_end-append, stages_linked, stages_known, stages-append, leads_to, behind_is}
+use Rattle.response_laws.proofs.Sums.{total-append}
+use Rattle.response_laws.proofs.Period.{period_holds}
+use Rattle.response_laws.proofs.Staying.{stays_due}
+use Rattle.response_laws.proofs.Starting.{opening_quiet, due_busy, IsBusy, Begun, begun_in, over_itself}
+
+-- ---- what stands before an event
+
+pub ordered_before : (before behind : List Stamped) (made : Stamped) → AllPairs IsOrdered (before ++ made ∷ behind)
+    → AllByRecursion (λ e. IsOrdered e made) before
+ordered_before [] behind made pairs = tt
+ordered_before (e ∷ before) behind made pairs =
+    (first, ordered_before before behind made (λ i j d lt within. pairs (suc i) (suc j) d (omega (arith, lt)) (omega (arith, within))))
+  where
+    at_seam : (xs : List Stamped) → slice_index_or (xs ++ made ∷ behind) (length xs) made ≡ made
+    at_seam [] = refl
+    at_seam (x ∷ xs) = at_seam xs
+
+    long : (xs : List Stamped) → length xs < length (xs ++ made ∷ behind)
+    long [] = omega arith
+    long (x ∷ xs) = let lt = long xs in omega (arith, lt)
+
+    first : IsOrdered e made
+    first =
+        let within = long before in
+        subst (IsOrdered e) (at_seam before) (pairs 0 (suc (length before)) made (omega arith) (omega (arith, within)))
+
+-- ---- what ends near a moment
+
+module _ (config : Config) (app : App) (late : ℕ) where
+  -- the event, where it is no admit, ends before a stretch is over behind the moment
+  abbrev pub IsNear : (moment : ℕ) → Stamped → Type 0
+  IsNear moment e = is_admit e ≡ false → e.stamp.at + 1 ≤ moment + late
+
+  abbrev pub IsBrief : Stamped → Type 0
+  IsBrief e = e.stamp.at < e.stamp.from + late
+
+  pub near : (made e : Stamped) → made.stamp.from ≤ made.stamp.at → IsOrdered e made → IsBrief e → IsNear made.stamp.at e
+  near made e le ordered brief other = by (is_admit made) (subst (λ b. StandsBefore b (is_admit made) e.stamp made.stamp) other ordered)
+    where
+      by : (b : Bool) → StandsBefore false b e.stamp made.stamp → e.stamp.at + 1 ≤ made.stamp.at + late
+      by true from =
+          let short = brief in
+          omega (arith, from, short)
+      by false behind =
+          omega (arith, behind, le)
+
+  all_near : (made : Stamped) (before : List Stamped) → made.stamp.from ≤ made.stamp.at → AllByRecursion (λ e. IsOrdered e made) before
+      → AllByRecursion IsBrief before → AllByRecursion (IsNear made.stamp.at) before
+  all_near made [] le ordered brief = tt
+  all_near made (e ∷ before) le ordered brief = (near made e le ordered.0 brief.0, all_near made before le ordered.1 brief.1)
+
+  -- so do stages
+  ends_near : (moment at : ℕ) (s : System) (events : List Stamped) → at ≤ moment + late → AllByRecursion (IsNear moment) events
+      → AllByRecursion (λ x. end_of x ≤ moment + late) (stages config app at s events)
+  ends_near moment at s [] le near = tt
+  ends_near moment at s (e ∷ events) le near =
+      let here = by (is_admit e) near.0 in
+      (here, ends_near moment (end_of (stage config app at s e)) (state_behind config app e.event s) events here near.1)
+    where
+      by : (b : Bool) → (b ≡ false → e.stamp.at + 1 ≤ moment + late) → cond b at (e.stamp.at + 1) ≤ moment + late
+      by true ends = le
+      by false ends = ends refl
+
+  -- where they end; those before them ended in front of count `start`
+  last_no_less : (at start : ℕ) (s : System) (events : List Stamped) → at + 1 ≤ start → last_count at events + 1 ≤ last_end start (stages config app start s events)
+  last_no_less at start s [] le = le
+  last_no_less at start s (e ∷ events) le =
+      last_no_less (cond (is_admit e) at e.stamp.at) (end_of (stage config app start s e)) (state_behind config app e.event s) events (by (is_admit e))
+    where
+      by : (b : Bool) → cond b at e.stamp.at + 1 ≤ cond b start (e.stamp.at + 1)
+      by true = le
+      by false = omega arith
+
+  -- the first event is no admission
+  pub run_no_less : (end : System) (events : List Stamped) → 1 ≤ length events → AreStepsTo config app events (opening config app) end
+      → last_count 0 events + 1 ≤ last_end 0 (stages config app 0 (opening config app) events)
+  run_no_less end [] some leads = absurd (omega (arith, some))
+  run_no_less end (e ∷ events) some leads =
+      let other = first_boots e.event leads.1 in
+      let a = ap (λ b. cond b 0 e.stamp.at) other in
+      let c = ap (λ b. cond b 0 (e.stamp.at + 1)) other in
+      last_no_less (cond (is_admit e) 0 e.stamp.at) (end_of (stage config app 0 (opening config app) e)) (state_behind config app e.event (opening config app)) events
+      (omega (arith, a, c))
+    where
+      first_boots : (w : Event) → OsekStep config app w (opening config app) leads.0 → is_some (admitted_line w) ≡ false
+      first_boots (event.Admit t) step = absurd (false≢true step.0)
+      first_boots (event.Due c) step = absurd (false≢true step.0)
+      first_boots event.Boot step = refl
+      first_boots w step = refl
+
+  -- ---- up to where the task leaves
+
+  -- the first `left h` of these events, or there is none
+  data Leaving (h : ℕ) (events : List Stamped) : Type 0 where
+    leaves : (front : List Stamped) (left : Stamped) (rest : List Stamped) → events ≡ front ++ left ∷ rest
+        → AllByRecursion (λ e. is_left h e.event ≡ false) front → is_left h left.event ≡ true → Leaving h events
+    leaves_not : AllByRecursion (λ e. is_left h e.event ≡ false) events → Leaving h events
+
+  leaving : (h : ℕ) (events : List Stamped) → Leaving h events
+  leaving h [] = leaves_not tt
+  leaving h (e ∷ events) = by (cases_Bool (is_left h e.event)) (leaving h events)
+    where
+      by : (is_left h e.event ≡ true) ⊎ (is_left h e.event ≡ false) → Leaving h events → Leaving h (e ∷ events)
+      by (inl is) further = leaves [] e events refl tt is
+      by (inr other) (leaves front left rest at none is) = leaves (e ∷ front) left rest (ap (λ es. e ∷ es) at) (other, none) is
+      by (inr other) (leaves_not none) = leaves_not (other, none)
+
+  -- it is due up to there
+  module _ (h : ℕ) (declared : h < length config.tasks) where
+    due_on : (at : ℕ) (s end : System) (events : List Stamped) → AreStepsTo config app events s end → IsDue s h
+        → AllByRecursion (λ e. is_left h e.event ≡ false) events
+        → AllByRecursion (IsBusy config h) (stages config app at s events) × IsDue end h
+    due_on at s end [] leads due none = (tt, subst (λ x. IsDue x h) (sym leads) due)
+    due_on at s end (e ∷ events) leads due none =
+        let is = behind_is config app e.event s leads.0 leads.1 in
+        let next = stays_due config app h e.event s leads.0 leads.1 none.0 due in
+        let rest = due_on (end_of (stage config app at s e)) (state_behind config app e.event s) end events
+        (subst (λ x. AreStepsTo config app events x end) (sym is) leads.2) (subst (λ x. IsDue x h) (sym is) next) none.1 in
+        ((due_busy config h s declared due, rest.0), rest.1)
+
+left_no_admit : (h : ℕ) (e : Stamped) → is_left h e.event ≡ true → is_admit e ≡ false
+left_no_admit h e is = by e.event is
+  where
+    by : (w : Event) → is_left h w ≡ true → is_admit (record e { event = w }) ≡ false
+    by (event.Left t served) is = refl
+    by w is = absurd (false≢true is)
+
+-- ---- the response
+
+module _ (config : Config) (app : App) (n late more : ℕ) (arrivals : List Arrival) (events : List Stamped) (h r : ℕ) (cuts : ℕ → Bool) (costs : Costs)
+    (starts : ℕ) (start : ℕ → Start) (wf : WellFormed config app)
+    (run : OsekRun config app events) (in_time : InTime config n arrivals events) (pace : HasPace n late more events)
+    (bounds : BoundsRounds config h cuts costs (run_stages config app events)) (ways : StartsInOne config h starts start (run_stages config app events))
+    (enough : (i : ℕ) → i < starts → IsEnough config h costs (start i)) (lasts : (i : ℕ) → i < starts → LastsWithin h late r (start i)) where
+  whole : AreStepsTo config app events (opening config app) run.0
+  whole = follows_leads config app [] (opening config app) events run.0 run.1
+
+  known : AllByRecursion (Known config app) (run_stages config app events)
+  known = stages_known config app (facts config app wf) 0 (opening config app) run.0 events (opening_ordered config app) (opening_valid config app) whole
+
+  -- a period of the run, in which task h is made Ready, ends in time
+  ends_by : (before : List Stage) (first : Stage) (period behind : List Stage) → run_stages config app events ≡ before ++ ((first ∷ period) ++ behind)
+      → is_quiet config h first.found ≡ true → AllByRecursion (IsBusy config h) period
+      → h < length config.tasks → 1 ≤ total (activated h) (first ∷ period) + total (was_set h) (first ∷ period)
+      → last_end (end_of first) period + late ≤ end_of first + r
+  ends_by before first period behind part quiet busy declared made =
+      let way = ways first period (record { before = before; behind = behind; part = part; quiet = quiet; busy = busy }) in
+      let holds = period_holds config app h cuts costs (run_stages config app events) bounds (opening config app)
+      (stages_linked config app 0 (opening config app) events) known (start way.0) (enough way.0 way.1) before first quiet period behind part way.2 in
+      let over = over_itself config h in
+      let acts = holds.few.acts h declared over in
+      let sets = holds.few.sets h declared over in
+      let lasting = lasts way.0 way.1 (omega (arith, acts, sets, made)) in
+      let ends = holds.ends in
+      omega (arith, lasting, ends)
+
+  module _ (before behind : List Stamped) (made : Stamped) (found s : System) (is : events ≡ before ++ made ∷ behind)
+      (leads : AreStepsTo config app before (opening config app) found) (makes : MakesReady config app h made.event found s) where
+    abbrev up : List Stamped
+    up = before ++ made ∷ []
+
+    split : events ≡ up ++ behind
+    split = is ∙ sym (append_assoc before (made ∷ []) behind)
+
+    up_leads : AreStepsTo config app up (opening config app) s
+    up_leads = leads-append config app before (made ∷ []) (opening config app) found s leads (s, makes.step, refl)
+
+    behind_leads : AreStepsTo config app behind s run.0
+    behind_leads =
+        let parts = leads-parts config app up behind (opening config app) run.0 (subst (λ es. AreStepsTo config app es (opening config app) run.0) split whole) in
+        subst (λ x. AreStepsTo config app behind x run.0) (one_end config app up (opening config app) parts.0 s parts.1 up_leads) parts.2
+
+    abbrev front : List Stage
+    front = stages config app 0 (opening config app) up
+
+    abbrev at : ℕ
+    at = last_end 0 front
+
+    all : run_stages config app events ≡ front ++ stages config app at s behind
+    all =
+        ap (stages config app 0 (opening config app)) split ∙ stages-append config app 0 (opening config app) up behind
+        ∙ ap (λ x. front ++ stages config app at x behind) (leads_to config app 0 (opening config app) s up up_leads)
+
+    -- the stage of the making is the last one of them
+    abbrev past : List Stage
+    past = stages config app 0 (opening config app) before
+
+    abbrev making : Stage
+    making = stage config app (last_end 0 past) (last_state (opening config app) past) made
+
+    front_is : front ≡ past ++ making ∷ []
+    front_is = stages-append config app 0 (opening config app) before (made ∷ [])
+
+    found_is : making.found ≡ found
+    found_is = leads_to config app 0 (opening config app) found before leads
+
+    next_is : making.next ≡ s
+    next_is = ap (state_behind config app made.event) found_is ∙ behind_is config app made.event found s makes.step
+
+    -- it makes the task Ready, to begin anew or to go on
+    makes_one : 1 ≤ activated h making + was_set h making
+    makes_one = by (has_frames (task making.next h).frames) refl
+      where
+        not_before : is_ready (task making.found h).state ≡ false
+        not_before = subst (λ (x : System). is_ready (task x h).state ≡ false) (sym found_is) (never (task found h).state makes.not_before)
+          where
+            never : (m : _) → (m ≡ mode.Ready → ⊥) → is_ready m ≡ false
+            never mode.Suspended n = refl
+            never mode.Ready n = absurd (n refl)
+            never mode.Active n = refl
+            never (mode.Waiting mask) n = refl
+
+        ready : is_ready (task making.next h).state ≡ true
+        ready = subst (λ (x : System). is_ready (task x h).state ≡ true) (sym next_is) (ap is_ready makes.behind)
+
+        off : (again : Bool) → is_ready_for again (task making.found h) ≡ false
+        off again = ap (λ b. b && as_said again (has_frames (task making.found h).frames)) not_before
+
+        on : (again : Bool) → as_said again (has_frames (task making.next h).frames) ≡ true → is_ready_for again (task making.next h) ≡ true
+        on again is = ap (λ b. b && as_said again (has_frames (task making.next h).frames)) ready ∙ is
+
+        here : (again : Bool) → as_said again (has_frames (task making.next h).frames) ≡ true → is_made again h making ≡ true
+        here again is = ap (λ b. not b && is_ready_for again (task making.next h)) (off again) ∙ on again is
+
+        by : (b : Bool) → has_frames (task making.next h).frames ≡ b → 1 ≤ activated h making + was_set h making
+        by true is =
+            let one = ap {B = ℕ} (λ b. cond (b || has_grown (task making.found h).events (task making.next h).events) 1 0) (here true is) in
+            omega (arith, one)
+        by false is = let one = ap {B = ℕ} (λ b. cond b 1 0) (here false (ap not is)) in omega (arith, one)
+
+    begun : Begun config h front
+    begun = by (begun_in config h front)
+      where
+        never : (es : List Stamped) → es ≡ up → AllByRecursion (IsBusy config h) (stages config app 0 (opening config app) es) → ⊥
+        never [] e busy = none before e
+          where
+            none : (xs : List Stamped) → [] ≡ xs ++ made ∷ [] → ⊥
+            none [] e = cc
+            none (x ∷ xs) e = cc
+        never (x ∷ es) e busy = true≢false (sym (opening_quiet config h app) ∙ busy.0)
+
+        by : AllByRecursion (IsBusy config h) front ⊎ Begun config h front → Begun config h front
+        by (inr found) = found
+        by (inl busy) = absurd (never up refl busy)
+
+    -- a sum over the stages from the first one on has that of the making
+    has_making : (f : Stage → ℕ) → f making ≤ total f (begun.first ∷ begun.behind)
+    has_making f = last_in begun.before begun.first begun.behind (sym (begun.parts) ∙ front_is)
+      where
+        in_rest : (xs ys : List Stage) (y : Stage) → y ∷ ys ≡ xs ++ making ∷ [] → f making ≤ total f (y ∷ ys)
+        in_rest [] ys y e = subst (λ zs. f making ≤ total f zs) (sym e) (omega arith)
+        in_rest (x ∷ xs) ys y e = subst (λ zs. f making ≤ total f zs) (sym e) (let both = total-append f xs (making ∷ []) in omega (arith, both))
+
+        tail_of : List Stage → List Stage
+        tail_of [] = []
+        tail_of (x ∷ xs) = xs
+
+        last_in : (bs : List Stage) (y : Stage) (ys : List Stage) → bs ++ y ∷ ys ≡ past ++ making ∷ [] → f making ≤ total f (y ∷ ys)
+        last_in bs y ys e = go bs past e
+          where
+            go : (bs xs : List Stage) → bs ++ y ∷ ys ≡ xs ++ making ∷ [] → f making ≤ total f (y ∷ ys)
+            go [] xs e = in_rest xs ys y e
+            go (b ∷ bs) [] e = absurd (none bs (ap tail_of e))
+              where
+                none : (zs : List Stage) → zs ++ y ∷ ys ≡ [] → ⊥
+                none [] e = cc
+                none (z ∷ zs) e = cc
+            go (b ∷ bs) (x ∷ xs) e = go bs xs (ap tail_of e)
+
+    -- the period's first event ends near the moment
+    starts_near : end_of begun.first ≤ made.stamp.at + late
+    starts_near =
+        let stamped = each_append (IsStamped n) before (made ∷ behind)
+        (subst (AllByRecursion (IsStamped n)) is (recursion_from_All (IsStamped n) events in_time.stamped)) in
+        let le = stamped.1.0.ordered in
+        let briefs = each_append (IsBrief config app late) before (made ∷ behind) (subst (AllByRecursion (IsBrief config app late)) is pace.brief) in
+        let early = all_near config app late made before le (ordered_before before behind made (subst (AllPairs IsOrdered) is in_time.placed)) briefs.0 in
+        let own = briefs.1.0 in
+        let whole_up = each_joined (IsNear config app late made.stamp.at) before (made ∷ []) early ((λ other. by_own le own), tt) in
+        let ends = ends_near config app late made.stamp.at 0 (opening config app) up (omega arith) whole_up in
+        let P : Stage → Type 0 = λ x. end_of x ≤ made.stamp.at + late in
+        let here = (each_append P begun.before (begun.first ∷ begun.behind) (subst (AllByRecursion P) begun.parts ends)).1.0 in
+        omega (arith, here)
+      where
+        by_own : made.stamp.from ≤ made.stamp.at → IsBrief config app late made → made.stamp.at + 1 ≤ made.stamp.at + late
+        by_own le own = omega (arith, le, own)
+
+    -- the last count of the events up to the making is that of the first and those behind it
+    at_is : at ≡ last_end (end_of begun.first) begun.behind
+    at_is = ap (last_end 0) begun.parts ∙ last_end-append 0 begun.before (begun.first ∷ begun.behind)
+
+    -- from the first event on the period goes on as long as the task does not leave
+    goes_on : (period further : List Stage) → stages config app at s behind ≡ period ++ further → AllByRecursion (IsBusy config h) period
+        → last_end at period + late ≤ end_of begun.first + r
+    goes_on period further same busy =
+        let acts = has_making (activated h) in
+        let sets = has_making (was_set h) in
+        let one = makes_one in
+        let more_acts = total-append (activated h) begun.behind period in
+        let more_sets = total-append (was_set h) begun.behind period in
+        let here = ends_by begun.before begun.first (begun.behind ++ period) further part begun.quiet
+        (each_joined (IsBusy config h) begun.behind period begun.busy busy) makes.declared (omega (arith, acts, sets, one, more_acts, more_sets)) in
+        let joined = last_end-append (end_of begun.first) begun.behind period ∙ ap (λ k. last_end k period) (sym at_is) in
+        omega (arith, here, joined)
+      where
+        part : run_stages config app events ≡ begun.before ++ ((begun.first ∷ (begun.behind ++ period)) ++ further)
+        part =
+            all ∙ ap (λ xs. front ++ xs) same ∙ ap (λ xs. xs ++ (period ++ further)) begun.parts
+            ∙ append_assoc begun.before (begun.first ∷ begun.behind) (period ++ further)
+            ∙ ap (λ xs. begun.before ++ begun.first ∷ xs) (sym (append_assoc begun.behind period further))
+
+    some_events : (xs : List Stamped) → 1 ≤ length (xs ++ made ∷ behind)
+    some_events [] = omega arith
+    some_events (x ∷ xs) = omega arith
+
+    pub responds : made.stamp.at + r + more ≤ n → LeavesBefore h (made.stamp.at + r) behind
+    responds many = by (leaving config app late h behind)
+      where
+        by : Leaving config app late h behind → LeavesBefore h (made.stamp.at + r) behind
+        by (leaves first left rest parts none leaves_h) =
+            let halves = leads-parts config app first (left ∷ rest) s run.0 (subst (λ es. AreStepsTo config app es s run.0) parts behind_leads) in
+            let due = due_on config app late h makes.declared at s halves.0 first halves.1 (inl makes.behind) none in
+            let xs = stages config app at s first in
+            let reached = leads_to config app at s halves.0 first halves.1 in
+            let last : Stage = stage config app (last_end at xs) (last_state s xs) left in
+            let busy_last : IsBusy config h last = due_busy config h (last_state s xs) makes.declared (subst (λ x. IsDue x h) (sym reached) due.1) in
+            let there = ap (stages config app at s) parts ∙ stages-append config app at s first (left ∷ rest)
+            ∙ sym (append_assoc xs (last ∷ []) (stages config app (end_of last) last.next rest)) in
+            let le = goes_on (xs ++ last ∷ []) (stages config app (end_of last) last.next rest) there
+            (each_joined (IsBusy config h) xs (last ∷ []) due.0 (busy_last, tt)) in
+            let ends = last_end-append at xs (last ∷ []) ∙ ap {B = ℕ} (λ b. cond b (last_end at xs) (left.stamp.at + 1)) (left_no_admit h left leaves_h) in
+            let near = starts_near in
+            record {
+              front = first;
+              left = left;
+              rest = rest;
+              parts = parts;
+              first = none;
+              leaves = leaves_h;
+              in_time = omega (arith, le, ends, near);
+            }
+        by (leaves_not none) =
+            let due = due_on config app late h makes.declared at s run.0 behind behind_leads (inl makes.behind) none in
+            let le = goes_on (stages config app at s behind) [] (sym (append-nil (stages config app at s behind))) due.0 in
+            let some = subst (λ es. 1 ≤ length es) (sym is) (some_events before) in
+            let end = pace.reaches some in
+            let last = sym (ap (last_end 0) all ∙ last_end-append 0 front (stages config app at s behind)) in
+            let no_less = run_no_less config app late run.0 events some whole in
+            let near = starts_near in
+            let enough_counts = many in
+            absurd (omega (arith, le, end, last, no_less, near, enough_counts))
+
+pub respond_in_time : RespondsInTime
+respond_in_time config app n late more arrivals events h r cuts costs starts start wf run in_time pace bounds ways enough lasts before behind made found s is leads makes many =
+    responds config app n late more arrivals events h r cuts costs starts start wf run in_time pace bounds ways enough lasts before behind made found s is leads makes many

@@ -1,0 +1,446 @@
+-- The items that the events of a round execute are those of a walk.
+use Rattle.std.proofs.Common.{◌≡◌, ℕ, ◌+◌, ◌<◌, ◌≤◌, ◌⊎◌, ◌==◌, ◌&&◌, ◌||◌, not, List, [], ◌∷◌, ◌++◌, Bool, true, false, cond, length, refl, sym, ap, ◌∙◌, subst, arith, inl, inr, Some}
+use Rattle.std.specs.Prelude.{◌≢◌}
+use Rattle.std.specs.List.{AllByRecursion}
+use Rattle.std.proofs.lemmas.Bool.{cases_Bool, cases_eq, true≢false, false≢true, eq-eqb, ne_eqb, eqb-true, and_parts, and_right, and_left, not-true}
+use Rattle.sloth_base.specs.declared.config.Config.{Config}
+use Rattle.sloth_base.specs.declared.app.App.{App}
+use Rattle.sloth_base.specs.declared.app.Op.{Op}
+use Rattle.sloth_base.specs.declared.app.Op.TheVariants as op
+use Rattle.sloth_base.specs.declared.event.Event.{Event}
+use Rattle.sloth_base.specs.declared.event.Event.TheVariants as event
+use Rattle.sloth_base.specs.declared.service.Service.TheVariants as service
+use Rattle.sloth_base.specs.ServiceCodes.{is_service}
+use Rattle.osek_scheduler.specs.State.{Frame, System, task, opening}
+use Rattle.osek_scheduler.specs.Steps.{OsekStep, IsItemStep}
+use Rattle.osek_scheduler.specs.Valid.{IsValid}
+use Rattle.osek_scheduler.proofs.Facts.{Facts, facts}
+use Rattle.osek_scheduler.proofs.Leading.{follows_leads}
+use Rattle.osek_scheduler.proofs.Steps.{opening_valid}
+use Rattle.osek_blocking.proofs.Ordering.{opening_ordered}
+use Rattle.raised_sections.specs.Walks.{Position, first_position, IsPositionStep, IsPositionStepTo, AreConsecutive, IsWalk}
+use Rattle.raised_sections.specs.Sections.{operation_at}
+use Rattle.raised_sections.proofs.FrameEffects.{frame_effect}
+use Rattle.raised_sections.proofs.Placed.{Placed, step_placed, opening_placed}
+use Rattle.raised_sections.proofs.Reached.{IsReached, walk_on}
+use Rattle.sloth_base.specs.Named.{declaration}
+use Rattle.osek_scheduler.specs.declared.state.TaskState.TheVariants as mode
+use Rattle.osek_scheduler.specs.Meaning.{meaning}
+use Rattle.osek_scheduler.specs.Services.{started_task}
+use Rattle.osek_scheduler.specs.State.{Task, sleeping_task, entry_frame}
+use Rattle.sloth_base.specs.Named.{body_of}
+use Rattle.std.proofs.lemmas.List.{get_or-set_same}
+use Rattle.osek_scheduler.specs.Apart.{IsActive}
+use Rattle.osek_scheduler.specs.Valid.{InState}
+use Rattle.osek_scheduler.proofs.Apart.{at_task}
+use Rattle.raised_sections.specs.Walks.{place, GoesBack, GoesOnInside, LeadsTo}
+use Rattle.raised_sections.proofs.Placed.{FrameEffect}
+use Rattle.run_counts.specs.Stages.{Stage, end_of, is_turn, is_entry, run_stages}
+use Rattle.run_counts.specs.Rounds.{goes_on_waiting, is_left, closes_round, round_of, total}
+use Rattle.event_weights.specs.Events.{has_frames}
+use Rattle.response_laws.specs.Turns.{at_entry, begins_first, begins_next, if_turn}
+use Rattle.response_laws.specs.Walked.{standing, is_wait, OnlyLastWaits, IsPartRound, weigh, FirstRoundsWeigh, PartRoundsWeigh, is_executed, is_back, FitsItem, RoundsFollowWalks}
+use Rattle.response_laws.proofs.RoundSums.{waiting_turn}
+use Rattle.response_laws.proofs.Steps.{turn_active, active_declared}
+use Rattle.response_laws.proofs.Linked.{Known, Linked, linked_behind, each_append, stages_linked, stages_known}
+
+-- a walk goes on to some place
+back_somewhere : (outer : Position) → GoesBack outer [] → ⊥
+back_somewhere [] step = step
+back_somewhere (caller ∷ outer) step = absurd cc
+
+inside_somewhere : (app : App) (f i : ℕ) (outer : Position) → GoesOnInside app f i outer [] → ⊥
+inside_somewhere app f i outer step = none step.3
+  where
+    none : [] ≡ place f step.0 ∷ outer → ⊥
+    none e = cc
+
+op_somewhere : (app : App) (o : Op) (f i : ℕ) (outer : Position) → LeadsTo app o f i outer [] → ⊥
+op_somewhere app (op.Invoke g) f i outer step = none step
+  where
+    none : [] ≡ place g 0 ∷ place f i ∷ outer → ⊥
+    none e = cc
+op_somewhere app op.Return f i outer step = back_somewhere outer step
+op_somewhere app o f i outer step = inside_somewhere app f i outer step
+
+somewhere : (app : App) (from : Position) → IsPositionStep app from [] → ⊥
+somewhere app [] step = step
+somewhere app (here ∷ outer) step = op_somewhere app step.0 here.func here.item outer step.2
+
+begun_stands : (fs : List Frame) → has_frames fs ≡ true → fs ≢ []
+begun_stands [] is e = false≢true is
+begun_stands (frame ∷ outer) is e = cc
+
+-- ---- one event
+
+module _ (config : Config) (app : App) (w : Facts config app) (t : ℕ) where
+  -- what an event does to where task t stands
+  data View (e : Event) (s next : System) : Type 0 where
+    goes : is_executed t e ≡ true → is_turn t e ≡ true → is_left t e ≡ false → IsPositionStep app (standing (task s t).frames) (standing (task next t).frames)
+        → (is_wait (operation_at app (standing (task s t).frames)) ≡ true → goes_on_waiting t e ≡ true) → View e s next
+    leaves : is_left t e ≡ true → is_turn t e ≡ true → View e s next
+    returns : is_back t e ≡ true → is_turn t e ≡ true → is_left t e ≡ false → goes_on_waiting t e ≡ false → (task next t).frames ≡ (task s t).frames → View e s next
+    rests : is_turn t e ≡ false → is_left t e ≡ false → goes_on_waiting t e ≡ false → (task next t).frames ≡ (task s t).frames → View e s next
+
+  -- an item that a `run` executes is no WaitEvent
+  runs_no_wait : (s next : System) (func item result : ℕ) (h : IsItemStep config app t func item result s next)
+      → is_wait (operation_at app (standing (task s t).frames)) ≡ true → ⊥
+  runs_no_wait s next func item result h is = by h.operation h.means (sym (ap is_wait place_is) ∙ is)
+    where
+      place_is : operation_at app (standing (task s t).frames) ≡ h.operation
+      place_is = ap (λ fs. operation_at app (standing fs)) h.at.frames ∙ h.at.next
+
+      by : (o : Op) → meaning app o (task s t).registers h.at.frame h.at.outer s.symbols ≡ Some h.meant → is_wait o ≡ true → ⊥
+      by (op.Serve call) m waits = none m
+        where
+          none : meaning app (op.Serve call) (task s t).registers h.at.frame h.at.outer s.symbols ≡ Some h.meant → ⊥
+          none e = cc
+      by op.Return m waits = false≢true waits
+      by o m waits = absurd (false≢true waits)
+
+  view : (e : Event) (s next : System) → OsekStep config app e s next → IsValid config app s → (task s t).frames ≢ [] → View e s next
+  view (event.Run u func item result) s next step v stands = by (cases_eq u t)
+    where
+      eff : FrameEffect app s next (event.Run u func item result)
+      eff = frame_effect config app w s next v (event.Run u func item result) step
+
+      by : (u ≡ t) ⊎ (u ≡ t → ⊥) → View (event.Run u func item result) s next
+      by (inl e) =
+          goes (eq-eqb u t e) (eq-eqb u t e) refl (subst (λ k. IsPositionStep app (standing (task s k).frames) (standing (task next k).frames)) e eff.steps.walks)
+          (λ is. absurd (runs_no_wait s next func item result (subst (λ k. IsItemStep config app k func item result s next) e step.1) is))
+      by (inr n) = rests (ne_eqb u t n) refl refl (eff.others t (λ e. n (sym e))).frames
+  view (event.Call u served status) s next step v stands = by (cases_eq u t)
+    where
+      eff : FrameEffect app s next (event.Call u served status)
+      eff = frame_effect config app w s next v (event.Call u served status) step
+
+      place_is : operation_at app (standing (task s u).frames) ≡ op.Serve step.1.1.call
+      place_is = ap (λ fs. operation_at app (standing fs)) step.1.1.at.frames ∙ step.1.1.at.next
+
+      by : (u ≡ t) ⊎ (u ≡ t → ⊥) → View (event.Call u served status) s next
+      by (inl e) =
+          goes (eq-eqb u t e) (eq-eqb u t e) refl (subst (λ k. IsPositionStep app (standing (task s k).frames) (standing (task next k).frames)) e eff.steps.walks)
+          (λ is.
+          let waits : is_service step.1.1.call.service service.WaitEvent ≡ true =
+          sym (ap is_wait place_is) ∙ subst (λ k. is_wait (operation_at app (standing (task s k).frames)) ≡ true) (sym e) is in
+          let served_is : is_service served service.WaitEvent ≡ true = subst (λ x. is_service x service.WaitEvent ≡ true) step.1.1.same waits in
+          ap (λ b. b && is_service served service.WaitEvent) (eq-eqb u t e) ∙ served_is)
+      by (inr n) =
+          rests (ne_eqb u t n) refl (and_left (u == t) (is_service served service.WaitEvent) (ne_eqb u t n)) (eff.others t (λ e. n (sym e))).frames
+  view (event.Left u served) s next step v stands = by (cases_eq u t)
+    where
+      eff : FrameEffect app s next (event.Left u served)
+      eff = frame_effect config app w s next v (event.Left u served) step
+
+      by : (u ≡ t) ⊎ (u ≡ t → ⊥) → View (event.Left u served) s next
+      by (inl e) = leaves (eq-eqb u t e) (eq-eqb u t e)
+      by (inr n) = rests (ne_eqb u t n) (ne_eqb u t n) refl (eff.others t (λ e. n (sym e))).frames
+  view (event.Back u) s next step v stands = by (cases_eq u t)
+    where
+      eff : FrameEffect app s next (event.Back u)
+      eff = frame_effect config app w s next v (event.Back u) step
+
+      by : (u ≡ t) ⊎ (u ≡ t → ⊥) → View (event.Back u) s next
+      by (inl e) = returns (eq-eqb u t e) (eq-eqb u t e) refl refl (subst (λ k. (task next k).frames ≡ (task s k).frames) e eff.frames)
+      by (inr n) = rests (ne_eqb u t n) refl refl (eff.others t (λ e. n (sym e))).frames
+  view (event.Enter u) s next step v stands = by (cases_eq u t)
+    where
+      eff : FrameEffect app s next (event.Enter u)
+      eff = frame_effect config app w s next v (event.Enter u) step
+
+      -- one that has begun goes on where it stood
+      goes_on : (fs : List Frame) → (task s t).frames ≡ fs → fs ≢ [] → (started_task app t fs (task s t)).frames ≡ (task s t).frames
+      goes_on [] is some = absurd (some refl)
+      goes_on (frame ∷ outer) is some = refl
+
+      entered : (u ≡ t) → (task next t).frames ≡ (task s t).frames
+      entered e =
+          let there : OsekStep config app (event.Enter t) s next = subst (λ k. OsekStep config app (event.Enter k) s next) e step in
+          subst (λ (x : System). (task x t).frames ≡ (task s t).frames) (sym there.4)
+          (at_task s t t (record (started_task app t (task s t).frames (task s t)) { state = mode.Active; raised = (declaration config t).non })
+          (λ k. k.frames ≡ (task s t).frames) refl (λ _. goes_on (task s t).frames refl stands))
+
+      by : (u ≡ t) ⊎ (u ≡ t → ⊥) → View (event.Enter u) s next
+      by (inl e) = rests refl refl refl (entered e)
+      by (inr n) = rests refl refl refl (eff.others t (λ e. n (sym e))).frames
+  view event.Boot s next step v stands = rests refl refl refl (frame_effect config app w s next v event.Boot step t).frames
+  view (event.Admit u) s next step v stands = rests refl refl refl (frame_effect config app w s next v (event.Admit u) step t).frames
+  view (event.Due c) s next step v stands = rests refl refl refl (frame_effect config app w s next v (event.Due c) step t).frames
+  view (event.Tick c) s next step v stands = rests refl refl refl (frame_effect config app w s next v (event.Tick c) step t).frames
+  view event.Idle s next step v stands = rests refl refl refl (frame_effect config app w s next v event.Idle step t).frames
+  view event.Stray s next step v stands = absurd step
+
+  -- ---- a round
+
+  module _ (cuts : Bool) (f : Stage → ℕ) (going ending : Position → ℕ) (lighter : (at : Position) → going at ≤ ending at) where
+    abbrev StartsAt : Position → List Position → Type 0
+    StartsAt at [] = Unit {0}
+    StartsAt at (first ∷ further) = first ≡ at
+
+    -- positions of a walk from here, which weigh at least so much
+    record Found (at : Position) (sum : ℕ) : Type 0 where
+      positions : List Position
+      starts : StartsAt at positions
+      consecutive : AreConsecutive app positions
+      cut : OnlyLastWaits cuts app positions
+      weighs : sum ≤ weigh going ending positions
+
+    nothing : (at : Position) (sum : ℕ) → sum ≤ 0 → Found at sum
+    nothing at sum none = record { positions = []; starts = tt; consecutive = tt; cut = tt; weighs = none }
+
+    -- the item with which the round ends
+    last : (at : Position) (sum : ℕ) → sum ≤ ending at → Found at sum
+    last at sum le = record { positions = at ∷ []; starts = refl; consecutive = (tt, tt); cut = ((λ _ some. absurd (some refl)), tt); weighs = le }
+
+    in_sum : (at : Position) (counts rest : ℕ) → counts ≤ going at → (positions : List Position) → rest ≤ weigh going ending positions
+        → counts + rest ≤ weigh going ending (at ∷ positions)
+    in_sum at counts rest fits [] le = let more = lighter at in omega (arith, fits, le, more)
+    in_sum at counts rest fits (next ∷ further) le = omega (arith, fits, le)
+
+    in_front : (at next : Position) (counts rest : ℕ) → IsPositionStep app at next → (cuts ≡ true → is_wait (operation_at app at) ≡ false) → counts ≤ going at → Found next rest
+        → Found at (counts + rest)
+    in_front at next counts rest step no_wait fits found = record {
+      positions = at ∷ found.positions;
+      starts = refl;
+      consecutive = (leads found.positions found.starts, found.consecutive);
+      cut = ((λ cut _. no_wait cut), found.cut);
+      weighs = in_sum at counts rest fits found.positions found.weighs;
+    }
+      where
+        leads : (positions : List Position) → StartsAt next positions → IsPositionStepTo app at positions
+        leads [] e = tt
+        leads (first ∷ further) e = subst (IsPositionStep app at) (sym e) step
+
+    kept : (at next : Position) (counts rest : ℕ) → at ≡ next → counts ≤ 0 → Found next rest → Found at (counts + rest)
+    kept at next counts rest same none found =
+        subst (λ p. Found p (counts + rest)) (sym same)
+        (record {
+          positions = found.positions;
+          starts = found.starts;
+          consecutive = found.consecutive;
+          cut = found.cut;
+          weighs = let le = found.weighs in omega (arith, none, le);
+        })
+
+    found_in : (at : ℕ) (s : System) (xs : List Stage) → Linked at s xs → AllByRecursion (Known config app) xs → AllByRecursion (FitsItem t f going ending) xs
+        → (task s t).frames ≢ [] → Found (standing (task s t).frames) (total (if_turn t f) (round_of cuts t xs))
+    found_in at s [] l k fits stands = nothing (standing (task s t).frames) 0 (omega arith)
+    found_in at s (x ∷ xs) l k fits stands =
+        subst (λ (y : System). Found (standing (task y t).frames) (total (if_turn t f) (round_of cuts t (x ∷ xs)))) l.1
+        (here (view x.stamped.event x.found x.next k.0.step k.0.valid (λ none. stands (ap (λ (y : System). (task y t).frames) (sym l.1) ∙ none)))
+        (λ some. found_in (end_of x) x.next xs l.2 k.1 fits.1 some))
+      where
+        there : (task x.found t).frames ≢ []
+        there none = stands (ap (λ (y : System). (task y t).frames) (sym l.1) ∙ none)
+
+        on : is_turn t x.stamped.event ≡ true → if_turn t f x ≡ f x
+        on is = ap {B = ℕ} (λ b. cond b (f x) 0) is
+
+        off : is_turn t x.stamped.event ≡ false → if_turn t f x ≡ 0
+        off is = ap {B = ℕ} (λ b. cond b (f x) 0) is
+
+        with_closes : (b : Bool) → closes_round cuts t x.stamped.event ≡ b
+            → Found (standing (task x.found t).frames) (if_turn t f x + total (if_turn t f) (cond b [] (round_of cuts t xs)))
+            → Found (standing (task x.found t).frames) (total (if_turn t f) (round_of cuts t (x ∷ xs)))
+        with_closes b is found =
+            subst (λ c. Found (standing (task x.found t).frames) (if_turn t f x + total (if_turn t f) (cond c [] (round_of cuts t xs)))) (sym is) found
+
+        closes_not : is_left t x.stamped.event ≡ false → goes_on_waiting t x.stamped.event ≡ false → closes_round cuts t x.stamped.event ≡ false
+        closes_not stays quiet = ap (λ b. b || (cuts && goes_on_waiting t x.stamped.event)) stays ∙ and_right cuts (goes_on_waiting t x.stamped.event) quiet
+
+        same_frames_next : (task x.next t).frames ≡ (task x.found t).frames → (task x.next t).frames ≢ []
+        same_frames_next same none = there (sym same ∙ none)
+
+        here : View x.stamped.event x.found x.next
+            → ((task x.next t).frames ≢ [] → Found (standing (task x.next t).frames) (total (if_turn t f) (round_of cuts t xs)))
+            → Found (standing (task x.found t).frames) (total (if_turn t f) (round_of cuts t (x ∷ xs)))
+        here (goes executed turn stays step waits) again = by (cases_Bool (cuts && goes_on_waiting t x.stamped.event))
+          where
+            some : (task x.next t).frames ≢ []
+            some none = somewhere app (standing (task x.found t).frames) (subst (λ fs. IsPositionStep app (standing (task x.found t).frames) (standing fs)) none step)
+
+            by : ((cuts && goes_on_waiting t x.stamped.event) ≡ true) ⊎ ((cuts && goes_on_waiting t x.stamped.event) ≡ false)
+                → Found (standing (task x.found t).frames) (total (if_turn t f) (round_of cuts t (x ∷ xs)))
+            by (inl ends) =
+                with_closes true (ap (λ b. b || (cuts && goes_on_waiting t x.stamped.event)) stays ∙ ends)
+                (last (standing (task x.found t).frames) _
+                (let le = fits.0.goes executed in let more = lighter (standing (task x.found t).frames) in let a = on turn in omega (arith, le, more, a)))
+            by (inr more) =
+                with_closes false (ap (λ b. b || (cuts && goes_on_waiting t x.stamped.event)) stays ∙ more)
+                (in_front (standing (task x.found t).frames) (standing (task x.next t).frames) _ _ step (λ cut. no_wait cut (cases_Bool (is_wait (operation_at app (standing (task x.found t).frames)))))
+                (let le = fits.0.goes executed in let a = on turn in omega (arith, le, a)) (again some))
+              where
+                no_wait : cuts ≡ true → (is_wait (operation_at app (standing (task x.found t).frames)) ≡ true) ⊎ (is_wait (operation_at app (standing (task x.found t).frames)) ≡ false)
+                    → is_wait (operation_at app (standing (task x.found t).frames)) ≡ false
+                no_wait cut (inr other) = other
+                no_wait cut (inl is) = absurd (true≢false (sym (ap (λ b. b && goes_on_waiting t x.stamped.event) cut ∙ waits is) ∙ more))
+        here (leaves is turn) again =
+            with_closes true (ap (λ b. b || (cuts && goes_on_waiting t x.stamped.event)) is)
+            (last (standing (task x.found t).frames) _ (let le = fits.0.leaves is in let a = on turn in omega (arith, le, a)))
+        here (returns is turn stays quiet same) again =
+            with_closes false (closes_not stays quiet)
+            (kept (standing (task x.found t).frames) (standing (task x.next t).frames) _ _ (ap standing (sym same)) (let le = fits.0.returns is in let a = on turn in omega (arith, le, a))
+            (again (same_frames_next same)))
+        here (rests away stays quiet same) again =
+            with_closes false (closes_not stays quiet)
+            (kept (standing (task x.found t).frames) (standing (task x.next t).frames) _ _ (ap standing (sym same)) (let a = off away in omega (arith, a))
+            (again (same_frames_next same)))
+
+    -- what is found from where a walk leads is within the greatest sums
+    first_found : (most sum : ℕ) → FirstRoundsWeigh app cuts t going ending most → Found (first_position app t) sum → sum ≤ most
+    first_found most sum bound found =
+        let le = bound found.positions (record { of_walk = walk found.positions found.starts found.consecutive; cut = found.cut }) in
+        let weight = found.weighs in
+        omega (arith, le, weight)
+      where
+        walk : (positions : List Position) → StartsAt (first_position app t) positions → AreConsecutive app positions → IsWalk app t positions
+        walk [] e c = tt
+        walk (first ∷ further) e c = (e, c)
+
+    part_found : (most sum : ℕ) (at : Position) → PartRoundsWeigh app cuts t going ending most → IsReached app t at → Found at sum → sum ≤ most
+    part_found most sum at bound r found =
+        let le = by found.positions refl in
+        let weight = found.weighs in
+        omega (arith, le, weight)
+      where
+        by : (positions : List Position) → found.positions ≡ positions → weigh going ending found.positions ≤ most
+        by [] e = bound found.positions (subst (IsPartRound app cuts t) (sym e) (record { before = []; of_walk = tt; cut = tt }))
+        by (first ∷ further) e =
+            let at_first : first ≡ at = subst (StartsAt at) e found.starts in
+            let P : Position → Type 0 = λ p. IsWalk app t (r.before ++ p ∷ []) in
+            bound found.positions
+            (record {
+              before = r.before;
+              of_walk = subst (λ ps. IsWalk app t (r.before ++ ps)) (sym e)
+                  (walk_on app t r.before further first (subst P (sym at_first) r.walk) (subst (AreConsecutive app) e found.consecutive));
+              cut = found.cut;
+            })
+
+-- ---- rounds of a run
+
+module _ (config : Config) (app : App) (w : Facts config app) where
+  -- each stage finds tasks that stand where walks lead
+  placed : (at : ℕ) (s : System) (xs : List Stage) → Linked at s xs → AllByRecursion (Known config app) xs → Placed app s → AllByRecursion (λ x. Placed app x.next) xs
+  placed at s [] l k p = tt
+  placed at s (x ∷ xs) l k p =
+      let here : Placed app x.found = subst (Placed app) (sym l.1) p in
+      let next = step_placed config app x.found x.next x.stamped.event (frame_effect config app w x.found x.next k.0.valid x.stamped.event k.0.step) here in
+      (next, placed (end_of x) x.next xs l.2 k.1 next)
+
+  -- a task that is entered anew stands at the first item of its body
+  stands_first : (t : ℕ) (x : Stage) → Known config app x → begins_first t x ≡ true
+      → (standing (task x.next t).frames ≡ first_position app t) × ((task x.next t).frames ≢ [])
+  stands_first t x k is =
+      let both = and_parts (at_entry t x) (not (has_frames (task x.found t).frames)) is in
+      by x.stamped.event k.step both.0 (not-true (has_frames (task x.found t).frames) both.1)
+    where
+      none_begun : (fs : List Frame) → has_frames fs ≡ false → fs ≡ []
+      none_begun [] e = refl
+      none_begun (frame ∷ outer) e = absurd (true≢false e)
+
+      by : (e : Event) → OsekStep config app e x.found x.next → is_entry t e ≡ true → has_frames (task x.found t).frames ≡ false
+          → (standing (task x.next t).frames ≡ first_position app t) × ((task x.next t).frames ≢ [])
+      by (event.Enter u) step entry fresh =
+          let there : OsekStep config app (event.Enter t) x.found x.next = subst (λ v. OsekStep config app (event.Enter v) x.found x.next) (eqb-true u t entry) step in
+          let lt : t < length x.found.tasks = subst (λ n. t < n) (sym k.valid.count) there.1.declared in
+          let new = record (started_task app t (task x.found t).frames (task x.found t)) { state = mode.Active; raised = (declaration config t).non } in
+          let placed_new : task x.next t ≡ new = ap (λ (y : System). task y t) there.4 ∙ get_or-set_same x.found.tasks t new sleeping_task lt in
+          let frames_are : (task x.next t).frames ≡ entry_frame app (body_of app.funcs t) ∷ [] =
+          ap (λ (o : Task). o.frames) placed_new ∙ ap (λ fs. (started_task app t fs (task x.found t)).frames) (none_begun (task x.found t).frames fresh) in
+          (ap standing frames_are, λ none. empty (sym frames_are ∙ none))
+        where
+          empty : entry_frame app (body_of app.funcs t) ∷ [] ≡ [] → ⊥
+          empty e = cc
+      by event.Boot step entry fresh = absurd (false≢true entry)
+      by e step entry fresh = absurd (false≢true entry)
+
+  -- behind a wait it has frames
+  stands_again : (cuts : Bool) (t : ℕ) (x : Stage) → Known config app x → begins_next cuts t x ≡ true → (task x.next t).frames ≢ []
+  stands_again cuts t x k is = which (cases_Bool (at_entry t x && has_frames (task x.found t).frames))
+    where
+      entered : has_frames (task x.found t).frames ≡ true → (e : Event) → OsekStep config app e x.found x.next → is_entry t e ≡ true → (task x.next t).frames ≢ []
+      entered begun (event.Enter u) step entry none =
+          by (view config app w t (event.Enter u) x.found x.next step k.valid (begun_stands (task x.found t).frames begun))
+        where
+          by : View config app w t (event.Enter u) x.found x.next → ⊥
+          by (goes executed turn stays steps waits) = false≢true executed
+          by (leaves is turn) = false≢true is
+          by (returns is turn stays quiet same) = false≢true is
+          by (rests away stays quiet same) = begun_stands (task x.found t).frames begun (sym same ∙ none)
+      entered begun event.Boot step entry none = false≢true entry
+      entered begun e step entry none = absurd (false≢true entry)
+
+      waited : goes_on_waiting t x.stamped.event ≡ true → (task x.next t).frames ≢ []
+      waited waits none =
+          by (view config app w t x.stamped.event x.found x.next k.step k.valid stands)
+        where
+          active : IsActive x.found t
+          active = turn_active config app t x k (waiting_turn t x.stamped.event waits)
+
+          stands : (task x.found t).frames ≢ []
+          stands =
+              (subst (InState config t (task x.found t)) active
+              (k.valid.each t (active_declared config x.found t k.valid.count active)).in_state).0
+
+          by : View config app w t x.stamped.event x.found x.next → ⊥
+          by (goes executed turn stays steps also) =
+              somewhere app (standing (task x.found t).frames) (subst (λ fs. IsPositionStep app (standing (task x.found t).frames) (standing fs)) none steps)
+          by (leaves is turn) = left_apart x.stamped.event is waits
+            where
+              left_apart : (e : Event) → is_left t e ≡ true → goes_on_waiting t e ≡ true → ⊥
+              left_apart (event.Left u served) is waits = false≢true waits
+              left_apart event.Boot is waits = false≢true is
+              left_apart e is waits = absurd (false≢true is)
+          by (returns is turn stays quiet same) = true≢false (sym waits ∙ quiet)
+          by (rests away stays quiet same) = true≢false (sym waits ∙ quiet)
+
+      which : ((at_entry t x && has_frames (task x.found t).frames) ≡ true) ⊎ ((at_entry t x && has_frames (task x.found t).frames) ≡ false) → (task x.next t).frames ≢ []
+      which (inl entry) =
+          let both = and_parts (at_entry t x) (has_frames (task x.found t).frames) entry in
+          entered both.1 x.stamped.event k.step both.0
+      which (inr other) =
+          let on = sym (ap (λ b. b || (cuts && goes_on_waiting t x.stamped.event)) other) ∙ is in
+          waited (and_parts cuts (goes_on_waiting t x.stamped.event) on).1
+
+pub rounds_follow_walks : RoundsFollowWalks
+rounds_follow_walks config app events t cuts f going ending wf osek fits lighter before behind opens is = (
+  λ most bound begun.
+      let first = stands_first config app w t opens here begun in
+      first_found config app w t cuts f going ending lighter most _ bound
+      (subst (λ p. Found config app w t cuts f going ending lighter p (total (if_turn t f) (round_of cuts t behind))) first.0 (found first.1)),
+  λ most bound begun.
+      let some = stands_again config app w cuts t opens here begun in
+      part_found config app w t cuts f going ending lighter most _ (standing (task opens.next t).frames) bound (reached some (in_place t)) (found some),
+)
+  where
+    w : Facts config app
+    w = facts config app wf
+
+    known : AllByRecursion (Known config app) (run_stages config app events)
+    known =
+        stages_known config app w 0 (opening config app) osek.0 events (opening_ordered config app) (opening_valid config app)
+        (follows_leads config app [] (opening config app) events osek.0 osek.1)
+
+    here : Known config app opens
+    here = (each_append (Known config app) before (opens ∷ behind) (subst (AllByRecursion (Known config app)) is known)).1.0
+
+    all_placed : AllByRecursion (λ x. Placed app x.next) (run_stages config app events)
+    all_placed = placed config app w 0 (opening config app) (run_stages config app events) (stages_linked config app 0 (opening config app) events) known (opening_placed config app)
+
+    in_place : Placed app opens.next
+    in_place = (each_append (λ x. Placed app x.next) before (opens ∷ behind) (subst (AllByRecursion (λ x. Placed app x.next)) is all_placed)).1.0
+
+    reached : (task opens.next t).frames ≢ [] → ((task opens.next t).frames ≡ []) ⊎ IsReached app t (standing (task opens.next t).frames) → IsReached app t (standing (task opens.next t).frames)
+    reached some (inl none) = absurd (some none)
+    reached some (inr r) = r
+
+    links : Linked (end_of opens) opens.next behind
+    links =
+        (linked_behind 0 (opening config app) before (opens ∷ behind)
+        (subst (Linked 0 (opening config app)) is (stages_linked config app 0 (opening config app) events))).2
+
+    found : (task opens.next t).frames ≢ [] → Found config app w t cuts f going ending lighter (standing (task opens.next t).frames) (total (if_turn t f) (round_of cuts t behind))
+    found stands =
+        found_in config app w t cuts f going ending lighter (end_of opens) opens.next behind links
+        (each_append (Known config app) before (opens ∷ behind) (subst (AllByRecursion (Known config app)) is known)).1.1
+        (each_append (FitsItem t f going ending) before (opens ∷ behind) (subst (AllByRecursion (FitsItem t f going ending)) is fits)).1.1 stands

@@ -1,0 +1,73 @@
+-- What costs and starts say of a run.
+use Rattle.std.specs.Prelude.{ℕ, ◌+◌, ◌<◌, ◌≤◌, ◌≡◌, List, [], ◌∷◌, ◌++◌, Bool, true, false, length}
+use Rattle.std.specs.List.{AllByRecursion}
+use Rattle.sloth_base.specs.declared.config.Config.{Config}
+use Rattle.sloth_base.specs.Owners.{counter_line}
+use Rattle.osek_scheduler.specs.Next.{is_due}
+use Rattle.run_counts.specs.Stages.{Stage, charged, end_of}
+use Rattle.run_counts.specs.Rounds.{total}
+use Rattle.response_laws.specs.Sums.{total_where, count, is_over}
+use Rattle.response_laws.specs.Turns.{at_tick, at_admission, is_other, begins_first, begins_next, round_behind, if_turn, if_entry, activated, was_set}
+use Rattle.response_laws.specs.Busy.{IsBusyPeriod}
+use Rattle.response_laws.specs.Demand.{Costs, Inflow, Start}
+
+-- ---- rounds
+
+-- each first round of task t has at most this sum, with the entry that it begins with
+abbrev pub EachFirst : List Stage → (cuts : Bool) → (t : ℕ) → (Stage → ℕ) → (most : ℕ) → Type 0
+EachFirst run cuts t f most =
+    (before behind : List Stage) (opens : Stage) → run ≡ before ++ opens ∷ behind → begins_first t opens ≡ true
+    → if_entry t f opens + total (if_turn t f) (round_behind cuts t behind) ≤ most
+
+-- each round of it behind a WaitEvent
+abbrev pub EachNext : List Stage → (cuts : Bool) → (t : ℕ) → (Stage → ℕ) → (most : ℕ) → Type 0
+EachNext run cuts t f most =
+    (before behind : List Stage) (opens : Stage) → run ≡ before ++ opens ∷ behind → begins_next cuts t opens ≡ true
+    → if_entry t f opens + total (if_turn t f) (round_behind cuts t behind) ≤ most
+
+-- Where WaitEvents that go on cut the turns of task t, each round behind one has a setting of its own in front of it: in any part of the run whose first
+-- stage finds the task neither Ready nor Active.
+abbrev pub HasSettings : List Stage → (t : ℕ) → Type 0
+HasSettings run t =
+    (before further behind : List Stage) (first last : Stage) → run ≡ before ++ ((first ∷ (further ++ last ∷ [])) ++ behind) → is_due first.found t ≡ false
+    → count (begins_next true t) (first ∷ (further ++ last ∷ [])) ≤ total (was_set t) (first ∷ further)
+
+-- the costs bound the rounds and ticks of a run
+pub record BoundsRounds (config : Config) (h : ℕ) (cuts : ℕ → Bool) (costs : Costs) (run : List Stage) : Type 0 where
+  pub firsts : (t : ℕ) → t < length config.tasks → is_over config h t ≡ true → EachFirst run (cuts t) t charged (costs.first t)
+  pub nexts : (t : ℕ) → t < length config.tasks → is_over config h t ≡ true → EachNext run (cuts t) t charged (costs.next t)
+  pub ticks : (c : ℕ) → AllByRecursion (λ x. at_tick c x ≡ true → charged x ≤ costs.tick c) run
+  pub first_acts : (k j : ℕ) → k < length config.tasks → is_over config h k ≡ true → EachFirst run (cuts k) k (activated j) (costs.first_acts k j)
+  pub next_acts : (k j : ℕ) → k < length config.tasks → is_over config h k ≡ true → EachNext run (cuts k) k (activated j) (costs.next_acts k j)
+  pub first_sets : (k j : ℕ) → k < length config.tasks → is_over config h k ≡ true → EachFirst run (cuts k) k (was_set j) (costs.first_sets k j)
+  pub next_sets : (k j : ℕ) → k < length config.tasks → is_over config h k ≡ true → EachNext run (cuts k) k (was_set j) (costs.next_sets k j)
+  pub settings : (t : ℕ) → t < length config.tasks → is_over config h t ≡ true → cuts t ≡ true → HasSettings run t
+
+-- ---- busy periods
+
+-- a stage begins at most l counts behind this one
+abbrev pub BeginsWithin : (l : ℕ) → (first : Stage) → Stage → Type 0
+BeginsWithin l first x = x.start ≤ end_of first + l
+
+-- what comes into the busy period from outside is within these numbers
+pub record IsWithinInflow (config : Config) (h : ℕ) (inflow : Inflow) (first : Stage) (period : List Stage) : Type 0 where
+  pub arrivals : (line : ℕ) → count (at_admission line) (first ∷ period) ≤ inflow.arrivals line
+  -- where the counter ticks no more often than it may
+  pub alarm_acts : (c j : ℕ) → count (at_tick c) (first ∷ period) ≤ inflow.arrivals (counter_line c)
+      → total_where (at_tick c) (activated j) (first ∷ period) ≤ inflow.alarm_acts c j
+  pub alarm_sets : (c j : ℕ) → count (at_tick c) (first ∷ period) ≤ inflow.arrivals (counter_line c)
+      → total_where (at_tick c) (was_set j) (first ∷ period) ≤ inflow.alarm_sets c j
+  pub front : total_where (is_other config h) charged period ≤ inflow.front
+  pub acts : (j : ℕ) → is_over config h j ≡ true → total_where (is_other config h) (activated j) (first ∷ period) ≤ inflow.acts j
+  pub sets : (j : ℕ) → is_over config h j ≡ true → total_where (is_other config h) (was_set j) (first ∷ period) ≤ inflow.sets j
+
+-- The busy period starts in this way: so much comes into each beginning of it, as long as that lasts no longer than the start says.
+abbrev pub StartsSo : Config → (h : ℕ) → Start → (first : Stage) → (period : List Stage) → Type 0
+StartsSo config h s first period =
+    (front rest : List Stage) → period ≡ front ++ rest → AllByRecursion (BeginsWithin s.counts first) front → IsWithinInflow config h s.inflow first front
+
+-- each busy period of the run starts in one of these ways
+abbrev pub StartsInOne : Config → (h : ℕ) → (starts : ℕ) → (ℕ → Start) → List Stage → Type 0
+StartsInOne config h starts start run =
+    (first : Stage) (period : List Stage) → IsBusyPeriod config h run first period
+    → (i : ℕ) × (i < starts) × StartsSo config h (start i) first period

@@ -1,0 +1,13 @@
+pub mod Sums
+pub mod Turns
+pub mod Busy
+pub mod Starts
+pub mod Demand
+pub mod Bounded
+pub mod Response
+pub mod Arrivals
+pub mod Loaded
+pub mod Walked
+pub mod Makers
+pub mod Ticks
+pub mod SoundRuns

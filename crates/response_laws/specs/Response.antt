@@ -1,0 +1,55 @@
+-- Response times: how soon behind the event that makes a task Ready the task leaves.
+use Rattle.std.specs.Prelude.{ℕ, ◌+◌, ◌<◌, ◌≤◌, ◌≡◌, List, ◌∷◌, ◌++◌, Bool, true, false, length}
+use Rattle.std.specs.List.{AllByRecursion}
+use Rattle.sloth_base.specs.declared.config.Config.{Config}
+use Rattle.sloth_base.specs.declared.app.App.{App}
+use Rattle.sloth_base.specs.declared.event.Arrival.{Arrival}
+use Rattle.sloth_base.specs.declared.event.Stamped.{Stamped}
+use Rattle.code_rules.specs.WellFormed.{WellFormed}
+use Rattle.osek_scheduler.specs.State.{System, opening}
+use Rattle.osek_scheduler.specs.InTime.{InTime}
+use Rattle.osek_scheduler.specs.Runs.{AreStepsTo, OsekRun}
+use Rattle.osek_blocking.specs.Blocking.{MakesReady}
+use Rattle.raised_sections.specs.Pace.{last_count}
+use Rattle.run_counts.specs.Stages.{run_stages}
+use Rattle.run_counts.specs.Rounds.{is_left}
+use Rattle.response_laws.specs.Demand.{Costs, Start, IsEnough}
+use Rattle.response_laws.specs.Bounded.{BoundsRounds, StartsInOne}
+
+-- task h leaves among these events, for the first time, and before this count
+pub record LeavesBefore (h limit : ℕ) (events : List Stamped) : Type 0 where
+  pub front : List Stamped
+  pub left : Stamped
+  pub rest : List Stamped
+  pub parts : events ≡ front ++ left ∷ rest
+  pub first : AllByRecursion (λ e. is_left h e.event ≡ false) front
+  pub leaves : is_left h left.event ≡ true
+  pub in_time : left.stamp.at < limit
+
+-- From the moment of an event that makes task h Ready on, the task leaves within r counts, if the run has so many instructions and `more`.
+abbrev pub RespondsWithin : Config → App → (n more h r : ℕ) → List Stamped → Type 0
+RespondsWithin config app n more h r events =
+    (before behind : List Stamped) (made : Stamped) (found s : System) → events ≡ before ++ made ∷ behind
+    → AreStepsTo config app before (opening config app) found → MakesReady config app h made.event found s
+    → made.stamp.at + r + more ≤ n → LeavesBefore h (made.stamp.at + r) behind
+
+-- the pace of a run of n instructions
+pub record HasPace (n late more : ℕ) (events : List Stamped) : Type 0 where
+  -- no event spans more counts than this
+  pub brief : AllByRecursion (λ e. e.stamp.at < e.stamp.from + late) events
+  -- the last one, if there is any, ends soon before the end of the run
+  pub reaches : 0 < length events → n ≤ last_count 0 events + more
+
+-- a start lasts no longer than r, with an event in front, where task h has a round in it
+abbrev pub LastsWithin : (h late r : ℕ) → Start → Type 0
+LastsWithin h late r s = 1 ≤ s.firsts h + s.nexts h → s.counts + late ≤ r
+
+-- In a run whose rounds are within the costs, and each busy period of which starts in one of these ways, each with enough, task h responds within
+-- the longest of the starts in which it has a round.
+abbrev pub RespondsInTime : Type 0
+RespondsInTime = (config : Config) (app : App) (n late more : ℕ) (arrivals : List Arrival) (events : List Stamped) (h r : ℕ) (cuts : ℕ → Bool) (costs : Costs)
+    (starts : ℕ) (start : ℕ → Start)
+    → WellFormed config app → OsekRun config app events → InTime config n arrivals events → HasPace n late more events
+    → BoundsRounds config h cuts costs (run_stages config app events) → StartsInOne config h starts start (run_stages config app events)
+    → ((i : ℕ) → i < starts → IsEnough config h costs (start i)) → ((i : ℕ) → i < starts → LastsWithin h late r (start i))
+    → RespondsWithin config app n more h r events

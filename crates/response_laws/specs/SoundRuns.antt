@@ -1,0 +1,103 @@
+-- Response times of the runs of an image.
+use Rattle.std.specs.Prelude.{ℕ, ◌+◌, ◌<◌, ◌≤◌, ◌≡◌, ◌⊎◌, List, ◌∷◌, ◌++◌, Bool, true, false, length, IfSome, Some}
+use Rattle.sloth_base.specs.declared.config.Config.{Config}
+use Rattle.sloth_base.specs.declared.app.App.{App}
+use Rattle.sloth_base.specs.declared.event.Arrival.{Arrival}
+use Rattle.sloth_base.specs.declared.image.Image.{Image}
+use Rattle.sloth_base.specs.Arrivals.{AreArrivals}
+use Rattle.sloth_base.specs.Limits.{count_limit}
+use Rattle.sloth_base.specs.Owners.{owners_in}
+use Rattle.code_rules.specs.AppRange.{IsTaskCode}
+use Rattle.code_rules.specs.WellFormed.{WellFormed}
+use Rattle.load_text.specs.declared.entry.Entry.{Entry}
+use Rattle.load_text.specs.Loads.{KeepDistances, work}
+use Rattle.bound_rules.specs.declared.weights.BodyWeights.{BodyWeights}
+use Rattle.code_lengths.specs.LongestPaths.{tick_path, boot_path}
+use Rattle.event_weights.specs.Events.{enter_counts}
+use Rattle.section_counts.specs.Counts.{AreCounts}
+use Rattle.sim_induction.specs.Paced.{AreStretchesWithin, InPace}
+use Rattle.sim_induction.specs.Sound.{Sound, events_of}
+use Rattle.sim_induction.specs.Weighed.{Weighed}
+use Rattle.run_counts.specs.Stages.{Stage, own, run_stages}
+use Rattle.run_counts.specs.Rounds.{opens_round, round_of, total}
+use Rattle.response_laws.specs.Sums.{is_over}
+use Rattle.section_sizes.specs.Weights.{going_at, ending_at}
+use Rattle.response_laws.specs.Walked.{FirstRoundsWeigh, PartRoundsWeigh}
+use Rattle.response_laws.specs.Demand.{Costs, Start}
+use Rattle.response_laws.specs.Makers.{activation_weight, setting_weight}
+use Rattle.response_laws.specs.Bounded.{HasSettings}
+use Rattle.response_laws.specs.Arrivals.{HasDistances}
+use Rattle.response_laws.specs.Starts.{HaveStarts}
+use Rattle.response_laws.specs.Loaded.{IsStartFor}
+use Rattle.response_laws.specs.Response.{RespondsWithin}
+
+-- the most instructions of an item
+abbrev pub item_instructions : ℕ
+item_instructions = 36
+
+-- no stretch that may come takes more counts
+pub record NoStretchIsAbove (config : Config) (app : App) (late : ℕ) : Type 0 where
+  pub stretches : AreStretchesWithin config app late
+  pub boots : boot_path config ≤ late
+
+-- ---- rounds
+
+-- The run keeps the `work` lines of a load: no round of a task has more counts of its own, finished or not.
+abbrev pub KeepsWork : Config → (load : List Entry) → (cuts : ℕ → Bool) → List Stage → Type 0
+KeepsWork config load cuts run =
+    (t : ℕ) → IfSome (work load t)
+    (λ counts. (before behind : List Stage) (opens : Stage) → run ≡ before ++ opens ∷ behind → opens_round (cuts t) t opens.stamped.event ≡ true
+    → total (own config t) (round_of (cuts t) t behind) ≤ counts)
+
+-- the load says that a round of task t takes no more counts of its own
+abbrev pub WorksWithin : (load : List Entry) → (t most : ℕ) → Type 0
+WorksWithin load t most = (counts : ℕ) × (work load t ≡ Some counts) × (counts ≤ most)
+
+-- no first round weighs more by the counts of its items
+abbrev pub FirstRoundsWithin : App → (weights : List BodyWeights) → (cuts : Bool) → (t most : ℕ) → Type 0
+FirstRoundsWithin app weights cuts t most = FirstRoundsWeigh app cuts t (going_at weights) (ending_at weights) most
+
+-- and no other round
+abbrev pub OtherRoundsWithin : App → (weights : List BodyWeights) → (cuts : Bool) → (t most : ℕ) → Type 0
+OtherRoundsWithin app weights cuts t most = PartRoundsWeigh app cuts t (going_at weights) (ending_at weights) most
+
+-- What the costs say of a run: in front of each entry and tick the longest item may have begun, whose counts are taken as theirs too.
+pub record FitsRounds (config : Config) (app : App) (weights : List BodyWeights) (load : List Entry) (h : ℕ) (cuts : ℕ → Bool) (costs : Costs)
+    (run : List Stage) : Type 0 where
+  -- the counts of rounds without the entries: by what the load says of the task, or by walks of its code
+  pub first_round : (t : ℕ) → ℕ
+  pub next_round : (t : ℕ) → ℕ
+  pub firsts : (t : ℕ) → t < length config.tasks → is_over config h t ≡ true
+      → WorksWithin load t (first_round t) ⊎ FirstRoundsWithin app weights (cuts t) t (first_round t)
+  pub nexts : (t : ℕ) → t < length config.tasks → is_over config h t ≡ true
+      → WorksWithin load t (next_round t) ⊎ OtherRoundsWithin app weights (cuts t) t (next_round t)
+  -- with them
+  pub first : (t : ℕ) → item_instructions + enter_counts config app false t + first_round t ≤ costs.first t
+  pub next : (t : ℕ) → item_instructions + enter_counts config app true t + next_round t ≤ costs.next t
+  pub tick : (c : ℕ) → item_instructions + tick_path config c ≤ costs.tick c
+  -- what rounds make, by walks
+  pub first_acts : (k j : ℕ) → k < length config.tasks → is_over config h k ≡ true
+      → FirstRoundsWeigh app (cuts k) k (activation_weight app j) (activation_weight app j) (costs.first_acts k j)
+  pub next_acts : (k j : ℕ) → k < length config.tasks → is_over config h k ≡ true
+      → PartRoundsWeigh app (cuts k) k (activation_weight app j) (activation_weight app j) (costs.next_acts k j)
+  pub first_sets : (k j : ℕ) → k < length config.tasks → is_over config h k ≡ true
+      → FirstRoundsWeigh app (cuts k) k (setting_weight app j) (setting_weight app j) (costs.first_sets k j)
+  pub next_sets : (k j : ℕ) → k < length config.tasks → is_over config h k ≡ true
+      → PartRoundsWeigh app (cuts k) k (setting_weight app j) (setting_weight app j) (costs.next_sets k j)
+  pub settings : (t : ℕ) → t < length config.tasks → is_over config h t ≡ true → cuts t ≡ true → HasSettings run t
+
+-- ---- the law
+
+-- Of an image whose builder promises that its runs are sound, weighed and in pace: in every run whose arrivals keep a load, and which keeps its `work`
+-- lines, a task responds within the longest of the starts in which it has a round, and a stretch; if the run has so many instructions, and an item
+-- and a stretch.
+abbrev pub ImagesRespond : Type 0
+ImagesRespond = (config : Config) (app : App) (image : Image) (weights : List BodyWeights) (load : List Entry) (arrivals : List Arrival) (n late h r : ℕ)
+    (cuts : ℕ → Bool) (costs : Costs) (starts : ℕ) (start : ℕ → Start)
+    → WellFormed config app → IsTaskCode app → Sound config app image → Weighed config app image → InPace config app image → AreCounts app weights
+    → AreArrivals (owners_in config) arrivals → n ≤ count_limit → NoStretchIsAbove config app late
+    → HasDistances load → KeepDistances load arrivals → KeepsWork config load cuts (run_stages config app (events_of image arrivals n))
+    → FitsRounds config app weights load h cuts costs (run_stages config app (events_of image arrivals n))
+    → HaveStarts config h starts start (run_stages config app (events_of image arrivals n))
+    → ((i : ℕ) → i < starts → IsStartFor config load late (item_instructions + late) h r costs (run_stages config app (events_of image arrivals n)) (start i))
+    → RespondsWithin config app n (item_instructions + late) h r (events_of image arrivals n)

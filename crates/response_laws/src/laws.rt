@@ -1,0 +1,57 @@
+//! The laws of response times.
+ghost use Rattle.response_laws.specs.Arrivals.{ArrivalsAreFew, AdmissionsAreFew};
+ghost use Rattle.response_laws.specs.Starts.{PeriodsStartSo};
+ghost use Rattle.response_laws.specs.Walked.{RoundsFollowWalks};
+ghost use Rattle.response_laws.specs.Makers.{RoundsMakeWithin};
+ghost use Rattle.response_laws.specs.Ticks.{TicksMakeByAlarms};
+ghost use Rattle.response_laws.specs.Response.{RespondsInTime};
+ghost use Rattle.response_laws.specs.Loaded.{RespondsUnderLoad};
+ghost use Rattle.response_laws.specs.SoundRuns.{ImagesRespond};
+
+/// Of arrivals that keep a load, at most as many of a line fall into a window of counts as distances fill it.
+pub fn arrivals_are_few()
+    ensures { ArrivalsAreFew }
+{}
+
+/// In every run whose arrivals keep a load, a busy period admits at most as many arrivals of a line as distances fill its counts, with an event in front of
+/// it and one behind.
+pub fn admissions_are_few()
+    ensures { AdmissionsAreFew }
+{}
+
+/// In every run of well-formed task code lower tasks come into a busy period of a task with one event at most, or with one section of one of them.
+pub fn periods_start_so()
+    ensures { PeriodsStartSo }
+{}
+
+/// In every run of well-formed task code what the events of a round come to is at most what a walk of the task code weighs.
+pub fn rounds_follow_walks()
+    ensures { RoundsFollowWalks }
+{}
+
+/// In every run of well-formed task code a round of a task makes another Ready, and sets its events, no more often than a walk has items that may.
+pub fn rounds_make_within()
+    ensures { RoundsMakeWithin }
+{}
+
+/// In every run of well-formed task code a tick makes a task Ready, or sets its events, once at most, and only where an alarm of its counter does so.
+pub fn ticks_make_by_alarms()
+    ensures { TicksMakeByAlarms }
+{}
+
+/// In every run whose rounds are within their costs, and whose busy periods start in given ways, a task leaves within the longest of these in which it
+/// has a round, and an event, from the moment of the event that makes it Ready on.
+pub fn runs_respond_in_time()
+    ensures { RespondsInTime }
+{}
+
+/// The same of every run whose arrivals keep a load, where each way in which lower tasks may come in has a start.
+pub fn runs_respond_under_load()
+    ensures { RespondsUnderLoad }
+{}
+
+/// The same of every run of an image whose builder promises that its runs are sound, weighed and in pace: rounds by the walks of the task code, or by what
+/// the load says of them.
+pub fn images_respond()
+    ensures { ImagesRespond }
+{}
