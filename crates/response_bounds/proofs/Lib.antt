@@ -1,0 +1,3 @@
+pub mod Monotone
+pub mod Settling
+pub mod Greatest
