@@ -1,10 +1,9 @@
 -- Where parts may begin: the test tells it of items that walks reach.
-use Rattle.std.proofs.Common.{◌≡◌, ℕ, zero, suc, ◌+◌, ◌-◌, ◌<◌, Bool, true, false, ltb, ◌&&◌, length, get_or, refl, ap, sym, ◌∙◌, subst, arith}
+use Rattle.std.proofs.Common.{◌≡◌, ℕ, ◌+◌, ◌-◌, ◌<◌, Bool, true, false, ltb, ◌&&◌, length, get_or, refl, ap, sym, ◌∙◌, subst, arith}
 use Rattle.std.proofs.lemmas.Bool.{false≢true, and_parts, lt-ltb, ltb-true}
 use Rattle.sloth_base.specs.declared.config.Config.{Config}
 use Rattle.sloth_base.specs.declared.app.App.{App}
 use Rattle.sloth_base.specs.Named.{function, operation}
-use Rattle.code_rules.specs.Code.{IsItem}
 use Rattle.bound_rules.specs.declared.bodies.Body.{Body}
 use Rattle.section_sizes.specs.Known.{IsKnownBody}
 use Rattle.walk_sums.specs.declared.kinds.Kind.{Kind}

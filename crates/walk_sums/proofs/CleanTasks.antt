@@ -1,7 +1,7 @@
 -- The sums of walks that leave a bit tell which tasks clear it.
-use Rattle.std.proofs.Common.{◌≡◌, ℕ, suc, ◌+◌, ◌^◌, ◌<◌, ◌≤◌, ◌⊎◌, inl, inr, Bool, true, false, ◌&&◌, leb, List, [], ◌∷◌, length, get_or, min, None, refl, ap, sym, ◌∙◌, subst, arith, ⊎_elim}
+use Rattle.std.proofs.Common.{◌≡◌, ℕ, suc, ◌+◌, ◌^◌, ◌<◌, ◌≤◌, ◌⊎◌, inl, inr, Bool, true, false, ◌&&◌, leb, List, [], ◌∷◌, length, get_or, None, ap, sym, ◌∙◌, subst, arith, ⊎_elim}
 use Rattle.std.specs.Prelude.{MatchBool, Decides}
-use Rattle.std.proofs.lemmas.Bool.{cases_eq, cases_lt, and_parts, true≢false, false≢true}
+use Rattle.std.proofs.lemmas.Bool.{cases_lt, and_parts, true≢false}
 use Rattle.std.proofs.lemmas.Bool.Decides.{leb_tells}
 use Rattle.sloth_base.specs.declared.config.Config.{Config}
 use Rattle.sloth_base.specs.declared.app.App.{App}
@@ -10,7 +10,6 @@ use Rattle.sloth_base.specs.Limits.{size_limit}
 use Rattle.code_rules.specs.WellFormed.{WellFormed}
 use Rattle.osek_scheduler.proofs.Facts.{Facts}
 use Rattle.osek_scheduler.proofs.Stacks.{has_body}
-use Rattle.raised_sections.specs.Walks.{Position}
 use Rattle.bound_rules.specs.declared.sizes.Summary.{Summary}
 use Rattle.bound_rules.specs.declared.weights.BodyWeights.{BodyWeights}
 use Rattle.bound_rules.specs.Summaries.{summary_of}
@@ -21,9 +20,9 @@ use Rattle.walk_sums.specs.declared.counted.Counted.TheVariants as counts
 use Rattle.walk_sums.specs.Rounds.{IsPart, IsBehindWait, Anywhere, IsClean}
 use Rattle.walk_sums.specs.Kinds.{stops}
 use Rattle.walk_sums.specs.Counted.{counted_weights}
-use Rattle.walk_sums.specs.Weights.{AreSumWeights, AreWeightless, SmallEndings}
+use Rattle.walk_sums.specs.Weights.{AreWeightless, SmallEndings}
 use Rattle.walk_sums.specs.Parts.{SumsWithin}
-use Rattle.walk_sums.specs.Known.{IsExact, IsEndless, IsSummed, AreSums}
+use Rattle.walk_sums.specs.Known.{IsExact, IsEndless, AreSums}
 use Rattle.walk_sums.specs.Clears.{ClearsBit, AreClearing, clears_it}
 use Rattle.walk_sums.proofs.CountedWeights.{counted_fit, waits_weightless}
 use Rattle.walk_sums.proofs.Covering.{any_little}

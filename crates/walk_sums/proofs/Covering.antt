@@ -1,5 +1,5 @@
 -- A part from an item that walks reach is no larger than some part from the first item, or from where parts may begin.
-use Rattle.std.proofs.Common.{◌≡◌, ℕ, zero, suc, ◌+◌, ◌<◌, ◌≤◌, ◌⊎◌, inl, inr, Bool, true, false, List, Option, Some, None, refl, ap, sym, ◌∙◌, subst, arith, ⊎_elim}
+use Rattle.std.proofs.Common.{◌≡◌, ℕ, suc, ◌+◌, ◌≤◌, ◌⊎◌, inl, inr, Bool, true, false, List, Option, Some, None, refl, ap, sym, ◌∙◌, subst, arith, ⊎_elim}
 use Rattle.std.proofs.lemmas.Bool.{false≢true}
 use Rattle.sloth_base.specs.declared.config.Config.{Config}
 use Rattle.sloth_base.specs.declared.app.App.{App}
@@ -7,16 +7,16 @@ use Rattle.sloth_base.specs.declared.app.Op.{Op}
 use Rattle.sloth_base.specs.declared.app.Op.TheVariants as op
 use Rattle.sloth_base.specs.Named.{function, operation}
 use Rattle.sloth_base.specs.Limits.{size_limit}
-use Rattle.code_rules.specs.Code.{IsItem, IsPathStep, way}
+use Rattle.code_rules.specs.Code.{IsPathStep, way}
 use Rattle.bound_rules.specs.declared.weights.BodyWeights.{BodyWeights}
-use Rattle.bound_rules.specs.Weights.{going_weight, ending_weight}
-use Rattle.section_sizes.specs.Parts.{is_raised, called_level, level_behind, IsInnerStep, ReachesItem, reaches_first, reaches_inside, reaches_behind, IsRaisedCall, ReachesCall}
+use Rattle.bound_rules.specs.Weights.{going_weight}
+use Rattle.section_sizes.specs.Parts.{level_behind, IsInnerStep, ReachesItem, reaches_first, reaches_inside, reaches_behind, ReachesCall}
 use Rattle.walk_sums.specs.declared.kinds.Kind.{Kind}
 use Rattle.walk_sums.specs.declared.kinds.Kind.TheVariants as kinds
 use Rattle.walk_sums.specs.Rounds.{is_wait}
 use Rattle.walk_sums.specs.Kinds.{stops, MayBegin}
 use Rattle.walk_sums.specs.Weights.{AreWeightless, SmallEndings}
-use Rattle.walk_sums.specs.Parts.{IsOpenStep, SumsBack, SumsOn, SumsOut, SumsWithin, back_returns, back_inside, back_passes, on_ends, on_inside, on_enters, on_passes, out_here, out_behind, within_here, within_called, within_behind}
+use Rattle.walk_sums.specs.Parts.{SumsBack, SumsOn, SumsOut, SumsWithin, back_returns, back_inside, back_passes, on_ends, on_inside, on_enters, on_passes, out_here, out_behind, within_here, within_called, within_behind}
 use Rattle.walk_sums.specs.Known.{SumsAny, IsEndless, IsSummed}
 
 -- a WaitEvent leads to the next item alone

@@ -1,9 +1,8 @@
 -- Round a loop along which something weighs there are parts of any size.
-use Rattle.std.proofs.Common.{◌≡◌, ℕ, ◌+◌, ◌-◌, ◌<◌, ◌≤◌, List, [], ◌∷◌, length, get_or, min, Option, None, refl, ap, sym, ◌∙◌, subst, arith}
+use Rattle.std.proofs.Common.{◌≡◌, ℕ, ◌+◌, ◌<◌, ◌≤◌, List, [], ◌∷◌, length, get_or, Option, ap, sym, ◌∙◌, subst, arith}
 use Rattle.sloth_base.specs.declared.config.Config.{Config}
 use Rattle.sloth_base.specs.declared.app.App.{App}
 use Rattle.sloth_base.specs.Named.{function, operation}
-use Rattle.sloth_base.specs.Limits.{size_limit}
 use Rattle.bound_rules.specs.declared.weights.BodyWeights.{BodyWeights}
 use Rattle.bound_rules.specs.Weights.{going_weight, ending_weight}
 use Rattle.section_sizes.specs.Parts.{is_plain}
@@ -13,8 +12,8 @@ use Rattle.walk_sums.specs.declared.kinds.Kind.{Kind}
 use Rattle.walk_sums.specs.Parts.{SumsOn, on_ends, on_inside, on_passes}
 use Rattle.walk_sums.specs.Computed.{going_size}
 use Rattle.walk_sums.specs.Known.{IsEndless, IsSummed}
-use Rattle.walk_sums.proofs.Looping.{steps_along, Rounds, rounds}
-use Rattle.walk_sums.proofs.Measured.{Measures, Lives, Link, link, link_lives, link_inside, link_behind, plain_adds}
+use Rattle.walk_sums.proofs.Looping.{steps_along, rounds}
+use Rattle.walk_sums.proofs.Measured.{Measures, Link, link, link_lives, link_inside, link_behind, plain_adds}
 use Rattle.walk_sums.proofs.Covering.{covered}
 
 module _ (config : Config) (app : App) (weights : List BodyWeights) (kind : Kind) (level : Option ℕ) (f : ℕ) (m : Measures config app weights kind level f)

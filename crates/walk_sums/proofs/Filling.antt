@@ -22,7 +22,7 @@ use Rattle.walk_sums.specs.declared.paths.Paths.{Paths}
 use Rattle.walk_sums.specs.declared.paths.TrailSizes.{TrailSizes}
 use Rattle.walk_sums.specs.Weights.{AreSumWeights}
 use Rattle.walk_sums.specs.Computed.{going_size, ending_size, leaving_size, most_of, out_of, summary_by}
-use Rattle.walk_sums.specs.Known.{IsExact, IsEndless, IsSummary, IsBefore}
+use Rattle.walk_sums.specs.Known.{IsExact, IsEndless, IsBefore}
 use Rattle.walk_sums.specs.Lists.{AreBodyWays, ArePaths, AreTrailSizes}
 use Rattle.walk_sums.proofs.Leading.{inside}
 use Rattle.walk_sums.proofs.Measured.{Measures, Sizes}

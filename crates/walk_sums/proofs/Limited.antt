@@ -1,18 +1,17 @@
 -- Where nothing weighs along the loops of a body and parts of what it calls have a limit, so have its own.
-use Rattle.std.proofs.Common.{◌≡◌, ℕ, zero, suc, ◌+◌, ◌-◌, ◌<◌, ◌≤◌, ◌⊎◌, inl, inr, Bool, true, false, cond, List, [], ◌∷◌, length, get_or, min, Option, None, refl, ap, sym, ◌∙◌, subst, arith}
+use Rattle.std.proofs.Common.{◌≡◌, ℕ, zero, suc, ◌+◌, ◌-◌, ◌<◌, ◌≤◌, ◌⊎◌, inl, inr, cond, List, [], ◌∷◌, length, get_or, Option, None, refl, ap, sym, ◌∙◌, arith}
 use Rattle.std.specs.Prelude.{◌==◌}
 use Rattle.std.proofs.lemmas.Bool.{cases_eq, eq-eqb, ne_eqb}
 use Rattle.sloth_base.specs.declared.config.Config.{Config}
 use Rattle.sloth_base.specs.declared.app.App.{App}
 use Rattle.sloth_base.specs.declared.app.Op.TheVariants as op
-use Rattle.sloth_base.specs.Named.{function, operation}
+use Rattle.sloth_base.specs.Named.{operation}
 use Rattle.sloth_base.specs.Limits.{size_limit}
 use Rattle.call_graph.specs.Tables.{sum_below}
 use Rattle.bound_rules.specs.declared.weights.BodyWeights.{BodyWeights}
-use Rattle.bound_rules.specs.Weights.{going_weight, ending_weight, joined}
+use Rattle.bound_rules.specs.Weights.{going_weight, joined}
 use Rattle.bound_rules.specs.Summaries.{summary_of}
 use Rattle.section_sizes.specs.declared.graph.Ways.{Ways}
-use Rattle.section_sizes.specs.Graph.{HasWay}
 use Rattle.section_sizes.specs.Loops.{HasWeighingLoop}
 use Rattle.section_sizes.specs.Trails.{IsTrail}
 use Rattle.section_sizes.specs.Parts.{is_plain, level_behind, ReachesItem, reaches_first, reaches_inside, ReachesCall, IsRaisedCall}

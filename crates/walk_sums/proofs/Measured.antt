@@ -1,5 +1,5 @@
 -- The longest trails through a body are the greatest parts of sections from its items.
-use Rattle.std.proofs.Common.{◌≡◌, ℕ, zero, suc, ◌+◌, ◌-◌, ◌<◌, ◌≤◌, ◌⊎◌, inl, inr, Bool, true, false, not, ◌&&◌, List, [], ◌∷◌, length, get_or, cond, min, max, Option, Some, None, refl, ap, sym, ◌∙◌, subst, arith, ⊎_elim}
+use Rattle.std.proofs.Common.{◌≡◌, ℕ, ◌+◌, ◌-◌, ◌<◌, ◌≤◌, ◌⊎◌, inl, inr, Bool, true, false, not, ◌&&◌, List, [], ◌∷◌, length, get_or, cond, min, max, Option, None, refl, ap, sym, ◌∙◌, subst, arith, ⊎_elim}
 use Rattle.std.proofs.lemmas.Bool.{cases_eq, cases_lt, true≢false, false≢true, and_parts, lt-ltb, ltb-true}
 use Rattle.std.proofs.lemmas.List.{get_or_past}
 use Rattle.sloth_base.specs.declared.config.Config.{Config}
@@ -8,7 +8,7 @@ use Rattle.sloth_base.specs.declared.app.Op.{Op}
 use Rattle.sloth_base.specs.declared.app.Op.TheVariants as op
 use Rattle.sloth_base.specs.Named.{function, operation}
 use Rattle.sloth_base.specs.Limits.{size_limit}
-use Rattle.code_rules.specs.Code.{IsItem, IsPathStep, is_followed, way}
+use Rattle.code_rules.specs.Code.{IsItem, IsPathStep}
 use Rattle.osek_scheduler.proofs.Facts.{Facts}
 use Rattle.raised_sections.specs.Walks.{chains_itself}
 use Rattle.section_sizes.specs.declared.graph.Ways.{Ways}
@@ -28,7 +28,7 @@ use Rattle.section_sizes.proofs.Reaching.{step_of, not_true}
 use Rattle.walk_sums.specs.declared.kinds.Kind.{Kind}
 use Rattle.walk_sums.specs.Kinds.{stops, is_going}
 use Rattle.walk_sums.specs.Weights.{AreSumWeights}
-use Rattle.walk_sums.specs.Parts.{IsOpenStep, SumsBack, SumsOn, SumsWithin, SumsOut, back_returns, back_inside, back_passes, on_ends, on_inside, on_enters, on_passes, within_here, out_here, out_behind}
+use Rattle.walk_sums.specs.Parts.{IsOpenStep, SumsBack, SumsOn, SumsOut, back_returns, back_inside, back_passes, on_ends, on_inside, on_enters, on_passes, out_here, out_behind}
 use Rattle.walk_sums.specs.Computed.{going_size, ending_size, leaving_size}
 use Rattle.walk_sums.specs.Known.{IsGreatestPart}
 use Rattle.walk_sums.proofs.Stopping.{call_free}

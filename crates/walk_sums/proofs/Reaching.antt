@@ -1,13 +1,12 @@
 -- Whether a task reaches what weighs 1 at the end of a walk alone.
-use Rattle.std.proofs.Common.{◌≡◌, ℕ, zero, suc, ◌+◌, ◌<◌, ◌≤◌, ◌⊎◌, inl, inr, Bool, true, false, leb, cond, List, [], ◌∷◌, ◌++◌, length, get_or, min, map, None, refl, ap, sym, ◌∙◌, subst, arith, ⊎_elim}
+use Rattle.std.proofs.Common.{◌≡◌, ℕ, suc, ◌+◌, ◌<◌, ◌≤◌, ◌⊎◌, inl, inr, Bool, true, false, leb, List, [], ◌∷◌, ◌++◌, length, None, refl, ap, sym, ◌∙◌, subst, arith}
 use Rattle.std.specs.Prelude.{MatchBool, Decides}
 use Rattle.std.specs.List.{AllByRecursion}
-use Rattle.std.proofs.lemmas.Bool.{true≢false, false≢true}
+use Rattle.std.proofs.lemmas.Bool.{true≢false}
 use Rattle.std.proofs.lemmas.Bool.Decides.{leb_tells}
 use Rattle.sloth_base.specs.declared.config.Config.{Config}
 use Rattle.sloth_base.specs.declared.app.App.{App}
-use Rattle.sloth_base.specs.declared.app.Op.{Op}
-use Rattle.sloth_base.specs.Named.{body_of, operation, function}
+use Rattle.sloth_base.specs.Named.{body_of}
 use Rattle.sloth_base.specs.Limits.{size_limit}
 use Rattle.osek_scheduler.proofs.Facts.{Facts}
 use Rattle.osek_scheduler.proofs.Stacks.{has_body}
@@ -16,13 +15,11 @@ use Rattle.raised_sections.specs.Sections.{operation_at, is_schedule}
 use Rattle.bound_rules.specs.declared.sizes.Summary.{Summary}
 use Rattle.bound_rules.specs.declared.weights.BodyWeights.{BodyWeights}
 use Rattle.bound_rules.specs.Summaries.{summary_of}
-use Rattle.bound_rules.specs.Weights.{going_weight}
 use Rattle.section_sizes.specs.Weights.{ending_at, sum_of}
 use Rattle.section_sizes.proofs.Reaching.{reached_inside}
 use Rattle.walk_sums.specs.declared.kinds.Kind.TheVariants as kinds
 use Rattle.walk_sums.specs.declared.counted.Counted.TheVariants as counts
-use Rattle.walk_sums.specs.Rounds.{IsPart, IsFirst, Anywhere, IsTurn, Reaches}
-use Rattle.walk_sums.specs.Kinds.{stops}
+use Rattle.walk_sums.specs.Rounds.{Anywhere, IsTurn, Reaches}
 use Rattle.walk_sums.specs.Counted.{one_if, counted_weights}
 use Rattle.walk_sums.specs.Parts.{SumsOn}
 use Rattle.walk_sums.specs.Known.{IsExact, IsEndless, AreSums}

@@ -1,5 +1,5 @@
 -- What the shape of the ways tells.
-use Rattle.std.proofs.Common.{◌≡◌, ℕ, Bool, true, false, List}
+use Rattle.std.proofs.Common.{◌≡◌, ℕ, true, false, List}
 use Rattle.std.proofs.lemmas.Bool.{false≢true, true≢false}
 use Rattle.section_sizes.specs.declared.graph.Ways.{Ways}
 use Rattle.section_sizes.specs.Loops.{HasWeighingLoop}

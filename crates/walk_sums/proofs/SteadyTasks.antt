@@ -1,5 +1,5 @@
 -- The sums that count Schedules tell which tasks are steady.
-use Rattle.std.proofs.Common.{◌≡◌, ℕ, ◌<◌, Bool, true, false, ◌&&◌, leb, List, length, get_or, None, refl, ap, sym, ◌∙◌, subst}
+use Rattle.std.proofs.Common.{ℕ, ◌<◌, Bool, false, ◌&&◌, leb, List, length, get_or, None, ap, sym, ◌∙◌}
 use Rattle.std.specs.Prelude.{Decides}
 use Rattle.std.proofs.lemmas.Bool.{and_parts}
 use Rattle.sloth_base.specs.declared.config.Config.{Config}

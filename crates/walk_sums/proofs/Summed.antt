@@ -1,7 +1,7 @@
 -- The summary of a body is right, where those of the functions that it calls are.
 use Rattle.std.proofs.Common.{◌≡◌, ℕ, zero, suc, ◌+◌, ◌-◌, ◌<◌, ◌≤◌, ◌⊎◌, inl, inr, Bool, true, false, ltb, ◌&&◌, List, length, get_or, cond, min, max, Option, None, refl, ap, sym, ◌∙◌, subst, arith, ⊎_elim}
 use Rattle.std.specs.Prelude.{MatchBool}
-use Rattle.std.proofs.lemmas.Bool.{cases_eq, cases_lt, true≢false, false≢true, and_parts, lt-ltb, ltb-true, cases_Bool}
+use Rattle.std.proofs.lemmas.Bool.{cases_lt, true≢false, false≢true, and_parts, lt-ltb, ltb-true, cases_Bool}
 use Rattle.sloth_base.specs.declared.config.Config.{Config}
 use Rattle.sloth_base.specs.declared.app.App.{App}
 use Rattle.sloth_base.specs.declared.app.Op.{Op}
@@ -24,7 +24,6 @@ use Rattle.section_sizes.proofs.KnownRaised.{known_raised}
 use Rattle.section_sizes.proofs.Counting.{any_is, none_is}
 use Rattle.walk_sums.specs.declared.kinds.Kind.{Kind}
 use Rattle.walk_sums.specs.Kinds.{MayBegin, may_begin}
-use Rattle.walk_sums.specs.Weights.{AreSumWeights}
 use Rattle.walk_sums.specs.Parts.{SumsBack, SumsOn, SumsOut, SumsWithin, out_here, out_behind, within_here, within_called, within_behind}
 use Rattle.walk_sums.specs.Computed.{begun, called_most, most_at, most_of, joined_both, called_out, out_at, out_of}
 use Rattle.walk_sums.specs.Known.{IsGreatestPart, HasLimit, IsExact, IsEndless, IsSummary, IsSummed}

@@ -1,13 +1,12 @@
 -- What is told of a task is so, from the summary of its body.
-use Rattle.std.proofs.Common.{◌≡◌, ℕ, suc, ◌+◌, ◌-◌, ◌<◌, ◌≤◌, ◌⊎◌, inl, inr, Bool, true, false, leb, cond, min, List, [], ◌∷◌, length, Option, Some, None, refl, sym, ap, ◌∙◌, subst, arith}
+use Rattle.std.proofs.Common.{◌≡◌, ℕ, ◌-◌, ◌<◌, ◌≤◌, ◌⊎◌, inl, inr, Bool, true, false, leb, cond, List, [], ◌∷◌, length, Option, Some, None, refl, sym, ◌∙◌, subst, arith}
 use Rattle.std.specs.Prelude.{MatchBool}
 use Rattle.std.proofs.lemmas.Bool.{cases_eq, le-leb}
 use Rattle.std.proofs.lemmas.Bool.Decides.{leb_tells}
 use Rattle.sloth_base.specs.declared.config.Config.{Config}
 use Rattle.sloth_base.specs.declared.app.App.{App}
-use Rattle.sloth_base.specs.declared.app.Op.{Op}
 use Rattle.sloth_base.specs.Named.{body_of, declaration}
-use Rattle.sloth_base.specs.Limits.{size_limit, count_limit}
+use Rattle.sloth_base.specs.Limits.{count_limit}
 use Rattle.code_rules.specs.WellFormed.{WellFormed}
 use Rattle.call_graph.specs.Tables.{HasTaskBody}
 use Rattle.stack_bounds.proofs.Bodies.{bodies_of}
@@ -21,20 +20,17 @@ use Rattle.bound_rules.specs.declared.weights.BodyWeights.{BodyWeights}
 use Rattle.bound_rules.specs.Summaries.{summary_of}
 use Rattle.bound_rules.specs.Tasks.{task_summary}
 use Rattle.section_sizes.specs.Weights.{sum_of}
-use Rattle.section_sizes.specs.Parts.{is_raised}
 use Rattle.section_sizes.proofs.Decomposed.{L, level_raised, level_called}
 use Rattle.walk_sums.proofs.LowerLevels.{level_is}
 use Rattle.walk_sums.specs.declared.kinds.Kind.{Kind}
 use Rattle.walk_sums.specs.declared.kinds.Kind.TheVariants as kinds
-use Rattle.walk_sums.specs.declared.sum.Sum.{Sum}
 use Rattle.walk_sums.specs.declared.sum.Sum.TheVariants as sum
-use Rattle.walk_sums.specs.declared.tasks.RoundSums.{RoundSums}
-use Rattle.walk_sums.specs.Rounds.{IsPart, IsFirst, Anywhere, IsTurn, is_wait}
+use Rattle.walk_sums.specs.Rounds.{IsPart, IsFirst, Anywhere, IsTurn}
 use Rattle.walk_sums.specs.Kinds.{stops, MayFollow}
 use Rattle.walk_sums.specs.Weights.{AreSumWeights}
 use Rattle.walk_sums.specs.Parts.{SumsOn, SumsWithin}
-use Rattle.walk_sums.specs.Known.{IsGreatestPart, HasLimit, IsExact, IsEndless, IsSummary, AreSums}
-use Rattle.walk_sums.specs.Told.{NoneIsAbove, SomeReaches, IsGreatestSum, ReachesLimit, IsToldSum, AreToldSums, are_limited, are_endless, AreToldRounds, IsRaisedPart, told, told_rounds, told_turn, told_section}
+use Rattle.walk_sums.specs.Known.{IsGreatestPart, IsExact, IsEndless, IsSummary, AreSums}
+use Rattle.walk_sums.specs.Told.{NoneIsAbove, SomeReaches, ReachesLimit, IsToldSum, AreToldSums, are_limited, are_endless, AreToldRounds, IsRaisedPart, told, told_rounds, told_turn, told_section}
 use Rattle.walk_sums.proofs.Climbing.{IsStanding, first_part, later_part}
 use Rattle.walk_sums.proofs.Walking.{first_within, later_within}
 

@@ -1,5 +1,5 @@
 -- What is computed of one body. Each size is one more than a sum, and 0 where there is no such part.
-use Rattle.std.specs.Prelude.{ℕ, ◌+◌, ◌-◌, ltb, min, max, cond, ◌&&◌, false, List, length, get_or}
+use Rattle.std.specs.Prelude.{ℕ, ◌+◌, ◌-◌, ltb, max, cond, ◌&&◌, false, List, length, get_or}
 use Rattle.sloth_base.specs.declared.app.Op.{Op}
 use Rattle.sloth_base.specs.declared.app.Op.TheVariants as op
 use Rattle.sloth_base.specs.Named.{item_of}

@@ -9,3 +9,4 @@ pub mod Known
 pub mod Counted
 pub mod Clears
 pub mod Told
+pub mod Costs

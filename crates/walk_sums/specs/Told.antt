@@ -1,5 +1,5 @@
 -- What is told of greatest sums.
-use Rattle.std.specs.Prelude.{ℕ, ◌-◌, ◌<◌, ◌≤◌, ◌≡◌, ◌⊎◌, leb, cond, List, Option, Some, None}
+use Rattle.std.specs.Prelude.{ℕ, ◌-◌, ◌<◌, ◌≤◌, ◌≡◌, ◌⊎◌, leb, cond, List}
 use Rattle.sloth_base.specs.declared.config.Config.{Config}
 use Rattle.sloth_base.specs.declared.config.TaskDecl.{TaskDecl}
 use Rattle.sloth_base.specs.declared.app.App.{App}
@@ -17,7 +17,7 @@ use Rattle.section_sizes.specs.Weights.{sum_of}
 use Rattle.walk_sums.specs.declared.sum.Sum.{Sum}
 use Rattle.walk_sums.specs.declared.sum.Sum.TheVariants as sum
 use Rattle.walk_sums.specs.declared.tasks.RoundSums.{RoundSums}
-use Rattle.walk_sums.specs.Rounds.{IsPart, Anywhere, IsTurn, IsFirstRound, IsLaterRound}
+use Rattle.walk_sums.specs.Rounds.{IsPart, Anywhere, IsFirstRound, IsLaterRound}
 
 -- ---- greatest sums of parts
 

@@ -1,4 +1,4 @@
-use Rattle.std.proofs.Common.{◌+◌, Bool, List, length, ap, sym, ◌∙◌, subst}
+use Rattle.std.proofs.Common.{◌+◌, Bool, List, length, ap, ◌∙◌, subst}
 use Rattle.std.proofs.lemmas.Result.{IfOk-weaker}
 use Rattle.bound_rules.specs.declared.sizes.Summary.{Summary}
 use Rattle.walk_sums.specs.Clears.{AreClearing, AreAlsoClearing}

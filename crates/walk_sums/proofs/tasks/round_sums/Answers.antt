@@ -1,5 +1,4 @@
 use Rattle.std.proofs.Common.{sym, subst}
-use Rattle.osek_scheduler.proofs.Stacks.{has_body}
 use Rattle.section_sizes.proofs.Bodily.{facts_of}
 use Rattle.walk_sums.specs.Told.{AreToldRounds}
 use Rattle.walk_sums.proofs.Telling.{rounds_told, task_body}
