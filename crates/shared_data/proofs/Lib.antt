@@ -1,0 +1,12 @@
+pub mod AllMembers
+pub mod Gathering
+pub mod Joining
+pub mod Judging
+pub mod Keeping
+pub mod Kept
+pub mod Listing
+pub mod Members
+pub mod Orders
+pub mod Pairing
+pub mod Spreading
+pub mod Using
