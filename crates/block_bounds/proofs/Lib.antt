@@ -1,4 +1,3 @@
 mod Told
 pub mod OneTold
 pub mod KeptTold
-mod Alarms

@@ -1,13 +1,9 @@
 //! Which task is of highest priority, and how long it may wait for its entry.
 ghost use Rattle.std.specs.Prelude.{◌≡◌, length, IfSome, IfNone};
-ghost use Rattle.sloth_base.specs.ConfigRange.{InRange};
-ghost use Rattle.sloth_base.specs.Stretches.{longest_stretch};
-ghost use Rattle.run_bounds.specs.Latency.{latency};
+ghost use Rattle.run_counts.specs.Latency.{weighed_latency};
 ghost use Rattle.block_bounds.specs.Highest.{IsHighestAmong};
 
-use sloth_base::config::{Config, TaskDecl};
-use sloth_base::limits::{ITEM_COUNTS, UNSEEN_COUNTS};
-use trace_time::stretches::longest_stretch;
+use sloth_base::config::TaskDecl;
 
 /// A task of highest priority, if there is a task.
 pub fn highest_among(tasks: &[TaskDecl]) -> Option<usize>
@@ -26,13 +22,10 @@ pub fn highest_among(tasks: &[TaskDecl]) -> Option<usize>
     Some(highest)
 }
 
-/// The latency with a bound of so many items, for an arrival behind boot, ticks left out.
-#[tactic(auto, using(crate::proofs::Alarms::few_alarms))]
-pub fn latency_of(config: &Config, items: u32) -> u64
-    requires { InRange config.now }
-    ensures { result ≡ latency config.now (longest_stretch config.now) items }
+/// The latency: so many counts may pass from an arrival behind boot to the end of the entry, ticks left out. They are those of the stretch that is running,
+/// what lower tasks take, and the entry behind the longest item.
+pub fn latency_of(running: u32, lower: u32, longest: u32, entry: u32) -> u64
+    ensures { result ≡ weighed_latency running lower longest entry }
 {
-    let longest = u64::from(longest_stretch(config));
-    let of_items = u64::from(ITEM_COUNTS) * u64::from(items);
-    longest + of_items + (u64::from(UNSEEN_COUNTS) + longest)
+    u64::from(running) + u64::from(lower) + (u64::from(longest) + u64::from(entry))
 }

@@ -13,7 +13,7 @@ use Rattle.osek_blocking.specs.Blocking.{events_up_to_entry}
 use Rattle.raised_sections.specs.Pace.{last_count}
 use Rattle.raised_sections.specs.Spent.{spent_counts}
 use Rattle.bound_rules.specs.declared.weights.BodyWeights.{BodyWeights}
-use Rattle.bound_rules.specs.Weights.{no_weights, going_weight}
+use Rattle.bound_rules.specs.Weights.{no_weights, going_weight, ending_weight}
 use Rattle.bound_rules.specs.Tasks.{task_at}
 use Rattle.event_weights.specs.Items.{length_of}
 use Rattle.event_weights.proofs.BodyLengths.{short}
@@ -26,11 +26,12 @@ use Rattle.block_bounds.specs.Bounds.{is_below}
 use Rattle.run_counts.specs.Spending.{NoSumIsAbove, NoneIsLower}
 use Rattle.run_counts.proofs.Counted.{counts_weigh}
 use Rattle.run_counts.proofs.Spending.{spends_on_lower, spends_nothing}
+use Rattle.bounds_text.specs.Latency.{heaviest_ending, longest_item}
 use Rattle.bounds_text.specs.LowerCounts.{greater, greatest_of, heaviest_in, heaviest, behind_item, lower_counts, count_lines, RunsKeepCounts, HasLowerCounts}
 
 -- ---- the heaviest item
 
-at_most_greatest : (n : ℕ) (size : ℕ → ℕ) (i : ℕ) → i < n → size i ≤ max_below n size
+pub at_most_greatest : (n : ℕ) (size : ℕ → ℕ) (i : ℕ) → i < n → size i ≤ max_below n size
 at_most_greatest zero size i lt = absurd (omega (arith, lt))
 at_most_greatest (suc n) size i lt = by (cases_lt i n) (at_most_greatest n size i)
   where
@@ -40,20 +41,30 @@ at_most_greatest (suc n) size i lt = by (cases_lt i n) (at_most_greatest n size 
         let same : size i ≡ size n = ap size (omega (arith, last, lt)) in
         omega (arith, same)
 
-none_heavier : (weights : List BodyWeights) (f i : ℕ) → going_weight weights f i ≤ heaviest weights
-none_heavier weights f i = by (cases_lt f (length weights)) (cases_lt i (length (get_or weights f no_weights).going))
+-- of a table of rows of numbers none is above the greatest
+none_above : (A : Type 0) (row : A → List ℕ) (d : A) (rows : List A) → row d ≡ [] → (f i : ℕ) → get_or (row (get_or rows f d)) i 0 ≤ max_below (length rows) (λ g. heaviest_in (row (get_or rows g d)))
+none_above A row d rows empty f i = by (cases_lt f (length rows)) (cases_lt i (length (row (get_or rows f d))))
   where
-    by : (f < length weights) ⊎ (length weights ≤ f) → (i < length (get_or weights f no_weights).going) ⊎ (length (get_or weights f no_weights).going ≤ i)
-        → get_or (get_or weights f no_weights).going i 0 ≤ heaviest weights
+    by : (f < length rows) ⊎ (length rows ≤ f) → (i < length (row (get_or rows f d))) ⊎ (length (row (get_or rows f d)) ≤ i)
+        → get_or (row (get_or rows f d)) i 0 ≤ max_below (length rows) (λ g. heaviest_in (row (get_or rows g d)))
     by (inl known) (inl inside) =
-        let item = at_most_greatest (length (get_or weights f no_weights).going) (λ j. get_or (get_or weights f no_weights).going j 0) i inside in
-        let body = at_most_greatest (length weights) (λ g. heaviest_in (get_or weights g no_weights).going) f known in
+        let item = at_most_greatest (length (row (get_or rows f d))) (λ j. get_or (row (get_or rows f d)) j 0) i inside in
+        let body = at_most_greatest (length rows) (λ g. heaviest_in (row (get_or rows g d))) f known in
         omega (arith, item, body)
-    by (inl known) (inr past) = let none = get_or_past (get_or weights f no_weights).going i 0 past in omega (arith, none)
+    by (inl known) (inr past) = let none = get_or_past (row (get_or rows f d)) i 0 past in omega (arith, none)
     by (inr past) inside =
-        let none : get_or (get_or weights f no_weights).going i 0 ≡ 0 =
-        ap (λ (body : BodyWeights). get_or body.going i 0) (get_or_past weights f no_weights past) in
+        let none : get_or (row (get_or rows f d)) i 0 ≡ 0 =
+        ap (λ (x : A). get_or (row x) i 0) (get_or_past rows f d past) ∙ ap (λ (r : List ℕ). get_or r i 0) empty in
         omega (arith, none)
+
+pub none_heavier : (weights : List BodyWeights) (f i : ℕ) → going_weight weights f i ≤ heaviest weights
+none_heavier weights f i = none_above BodyWeights (λ body. body.going) no_weights weights refl f i
+
+pub none_ends_heavier : (weights : List BodyWeights) (f i : ℕ) → ending_weight weights f i ≤ heaviest_ending weights
+none_ends_heavier weights f i = none_above BodyWeights (λ body. body.ending) no_weights weights refl f i
+
+pub none_longer : (lengths : List (List ℕ)) (f i : ℕ) → length_of lengths f i ≤ longest_item lengths
+none_longer lengths f i = none_above (List ℕ) (λ row. row) [] lengths refl f i
 
 -- ---- the greatest sum
 
@@ -107,14 +118,14 @@ behind_counts weight counts sum.Endless is = absurd cc
 
 -- ---- lower tasks
 
-none_below : (config : Config) (h : ℕ) → any_below (length config.tasks) (is_below config.tasks (task_at config.tasks h).priority) ≡ false → NoneIsLower config h
+pub none_below : (config : Config) (h : ℕ) → any_below (length config.tasks) (is_below config.tasks (task_at config.tasks h).priority) ≡ false → NoneIsLower config h
 none_below config h none k lower =
     false≢true (sym none ∙ number_counts (is_below config.tasks (task_at config.tasks h).priority) (length config.tasks) k lower.0 (lt-ltb _ _ lower.1))
 
 -- ---- the laws
 
 -- where some task is lower, and a number is told, it is the heaviest item and what no section of a lower task is above
-sums_within : (config : Config) (app : App) (weights : List BodyWeights) (sums : List Sum) (h counts : ℕ) → AreToldSums config app weights h sums
+pub sums_within : (config : Config) (app : App) (weights : List BodyWeights) (sums : List Sum) (h counts : ℕ) → AreToldSums config app weights h sums
     → any_below (length config.tasks) (is_below config.tasks (task_at config.tasks h).priority) ≡ true
     → lower_counts config.tasks (heaviest weights) sums h ≡ sum.Counts counts
     → (most : ℕ) × NoSumIsAbove config app weights h most × (heaviest weights + most ≡ counts)

@@ -3,6 +3,7 @@ pub mod Meaning
 pub mod OneText
 mod Keeping
 mod KeptCounts
+mod KeptLatency
 mod TickLines
 pub mod OneLatency
 mod CountLines

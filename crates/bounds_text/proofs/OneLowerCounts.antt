@@ -24,7 +24,7 @@ use Rattle.bounds_text.specs.LowerCounts.{count_lines, heaviest, HasLowerCounts,
 
 module _ (app : App) (one other : List (List ℕ)) (a : AreLengths app one) (b : AreLengths app other) where
   -- an item has one length
-  same-length : (f i : ℕ) → f < length app.funcs → i < length (function app f).items → length_of one f i ≡ length_of other f i
+  pub same-length : (f i : ℕ) → f < length app.funcs → i < length (function app f).items → length_of one f i ≡ length_of other f i
   same-length f i known inside =
       let p = a.each f known in
       let q = b.each f known in
@@ -51,7 +51,7 @@ module _ (app : App) (one other : List (List ℕ)) (a : AreLengths app one) (b :
       let E : List ℕ → BodyWeights = λ l. record { going = y.going; ending = l } in
       ap G going ∙ ap E ending
 
-same-weights : (app : App) (one other : List BodyWeights) → AreCounts app one → AreCounts app other → one ≡ other
+pub same-weights : (app : App) (one other : List BodyWeights) → AreCounts app one → AreCounts app other → one ≡ other
 same-weights app one other a b =
     ext_get_or no_weights one other (a.2.count ∙ sym b.2.count)
     (λ f h.
@@ -116,7 +116,7 @@ module _ (config : Config) (app : App) (weights : List BodyWeights) where
       a.others k known none ∙ sym (b.others k known none))
       (cases_lt (static_priority config k) (static_priority config h)))
 
-  same-table : (one other : List (List Sum)) → AreAllSums config app weights one → AreAllSums config app weights other → one ≡ other
+  pub same-table : (one other : List (List Sum)) → AreAllSums config app weights one → AreAllSums config app weights other → one ≡ other
   same-table one other a b =
       ext_get_or [] one other (a.count ∙ sym b.count)
       (λ h lt.

@@ -1,22 +1,17 @@
 -- What the bounds that are told promise of the runs of an image.
-use Rattle.std.specs.Prelude.{ℕ, ◌+◌, ◌*◌, ◌<◌, ◌≤◌, ◌≡◌, List, [], ◌∷◌, ◌++◌, true, get_or, Option, Some, None}
-use Rattle.std.specs.List.{AllByRecursion}
+use Rattle.std.specs.Prelude.{ℕ, ◌*◌, ◌≤◌, ◌≡◌, List, [], ◌∷◌, ◌++◌, get_or}
 use Rattle.sloth_base.specs.declared.config.Config.{Config}
 use Rattle.sloth_base.specs.declared.app.App.{App}
 use Rattle.sloth_base.specs.declared.event.Arrival.{Arrival}
 use Rattle.sloth_base.specs.declared.event.Stamped.{Stamped}
 use Rattle.sloth_base.specs.declared.image.Image.{Image}
-use Rattle.sloth_base.specs.Events.{is_boot}
-use Rattle.sloth_base.specs.Stretches.{longest_stretch}
 use Rattle.sloth_base.specs.Limits.{item_counts}
 use Rattle.osek_scheduler.specs.State.{System, opening}
-use Rattle.osek_scheduler.specs.InTime.{is_admit}
 use Rattle.osek_scheduler.specs.Runs.{AreStepsTo}
 use Rattle.osek_blocking.specs.Blocking.{events_up_to_entry, MakesReady}
 use Rattle.raised_sections.specs.Pace.{last_count}
 use Rattle.raised_sections.specs.Spent.{spent_counts}
 use Rattle.sim_induction.specs.Sound.{IsSoundRun, events_of}
-use Rattle.run_bounds.specs.Latency.{latency, tick_counts, EntersBefore}
 use Rattle.block_bounds.specs.Kept.{WaitsForItems}
 use Rattle.bound_rules.specs.declared.bound.Bound.{Bound}
 use Rattle.bound_rules.specs.declared.bound.Bound.TheVariants as bound
@@ -40,30 +35,3 @@ abbrev pub RunsKeepAll : Config → App → List Bound → Type 0
 RunsKeepAll config app bounds =
     (image : Image) (arrivals : List Arrival) (n : ℕ) → IsSoundRun config app image arrivals n
     → (h b : ℕ) → get_or bounds h bound.Endless ≡ bound.Items b → WaitsFor config app h b (events_of image arrivals n)
-
--- ---- the latency of the task of highest priority
-
--- boot has ended before the moment
-abbrev pub IsBehindBoot : (moment : ℕ) → List Stamped → Type 0
-IsBehindBoot moment before = AllByRecursion (λ e. is_boot e.event ≡ true → e.stamp.at < moment) before
-
--- the same counts, those of the ticks among the events up to the entry of task h, and 40 for each of these
-abbrev pub with_ticks : (h limit : ℕ) → List Stamped → ℕ
-with_ticks h limit behind = limit + tick_counts (events_up_to_entry h behind)
-
--- From the moment of an arrival behind boot that makes task h Ready its entry ends within so many counts, those of the ticks on the way and 40 for
--- each of these, if n instructions are that many.
-abbrev pub EntersWithin : Config → App → (h limit n : ℕ) → List Stamped → Type 0
-EntersWithin config app h limit n events =
-    (before behind : List Stamped) (made : Stamped) (found s : System) → events ≡ before ++ made ∷ behind
-    → AreStepsTo config app before (opening config app) found → MakesReady config app h made.event found s → is_admit made ≡ true
-    → IsBehindBoot made.stamp.at before → made.stamp.at + with_ticks h limit behind ≤ n
-    → EntersBefore h (made.stamp.at + with_ticks h limit behind) behind
-
--- in every sound run of an image of the task code this task, if it is one of which a number is told, is entered within its latency
-abbrev pub RunsKeepLatency : Config → App → List Bound → Option ℕ → Type 0
-RunsKeepLatency config app bounds None = Unit {0}
-RunsKeepLatency config app bounds (Some h) =
-    (image : Image) (arrivals : List Arrival) (n : ℕ) → IsSoundRun config app image arrivals n
-    → (b : ℕ) → get_or bounds h bound.Endless ≡ bound.Items b
-    → EntersWithin config app h (latency config (longest_stretch config) b) n (events_of image arrivals n)

@@ -1,19 +1,34 @@
 //! The lines of the command `bounds OIL SRC latency`.
-ghost use Rattle.std.specs.Prelude.{◌≡◌, ◌<◌, length, IfOk, IfErr};
+ghost use Rattle.std.specs.Prelude.{◌≡◌, ◌<◌, ◌≤◌, ℕ, length, All, IfOk, IfErr};
 ghost use Rattle.sloth_base.specs.ConfigRange.{InRange};
+ghost use Rattle.sloth_base.specs.Limits.{frame_limit};
+ghost use Rattle.code_rules.specs.WellFormed.{WellFormed};
 ghost use Rattle.call_graph.specs.Ranks.{RanksOf};
+ghost use Rattle.call_graph.specs.Tables.{HasTaskBody};
 ghost use Rattle.sloth_source.specs.Texts.{SourcesErrorIs};
+ghost use Rattle.event_weights.specs.Items.{length_of, AreLengths};
+ghost use Rattle.section_sizes.specs.Weights.{AreWeights};
+ghost use Rattle.section_counts.specs.Counts.{AreCountsBy};
+ghost use Rattle.block_bounds.specs.Bounds.{AreToldBounds};
 ghost use Rattle.bounds_text.specs.BoundsText.{IsTellable, AreTellable};
-ghost use Rattle.bounds_text.specs.Latency.{IsHighestTask, HasLatency, IsLatencyText, latency_text, latency_line, last_line, tick_line, tick_lines, AreAllLines};
+ghost use Rattle.bounds_text.specs.LowerCounts.{heaviest_in};
+ghost use Rattle.bounds_text.specs.Latency.{IsHighestTask, heaviest_ending, longest_item, taken_counts, parts_of, latency_text, latency_line, told_of, tick_line, tick_lines, last_line, AreAllLines, HasLatency, IsLatencyText};
 
+use crate::lower_counts::{heaviest, heaviest_in, lower_counts};
 use crate::{bound_lines, read_checked};
-use block_bounds::bound::Bound;
+use block_bounds::bound::{Bound, has_lower};
 use block_bounds::bounds;
 use block_bounds::latency::{highest_among, latency_of};
+use block_bounds::stretches::{enter_counts, running_counts};
+use bound_rules::weights::{BodyWeights, weights_at};
 use call_graph::ranking::Ranks;
 use code_lengths::tick_path;
+use event_weights::{ItemLengths, lengths};
 use itoa::Buffer;
+use section_counts::{Sum, section_sums, weights_by};
+use sloth_base::app::App;
 use sloth_base::config::Config;
+use sloth_base::list::List;
 use sloth_base::memory::NoMemory;
 use sloth_base::refusal::BuildError;
 use std::alloc::Global;
@@ -27,22 +42,90 @@ fn highest_task(config: &Config) -> Option<usize>
     highest_among(config.tasks.items())
 }
 
-// The latency with this bound, for an arrival behind boot, ticks left out.
-fn latency_text(alloc: Global, config: &Config, bound: Bound) -> Result<Vec<u8>, NoMemory>
-    requires in_range { InRange config.now }
-    requires tellable { IsTellable bound }
-    ensures { IfOk result (λ text. text.items ≡ latency_text config.now bound) }
+// The heaviest item of all bodies with which its task may leave.
+fn heaviest_ending(weights: &[BodyWeights]) -> u32
+    ensures { result ≡ heaviest_ending weights.now }
 {
-    match bound {
-        Bound::Items(items) => {
+    let mut most = 0;
+    for body in 0..weights.len() {
+        most = heaviest_in(weights_at(weights, body).ending.items()).max(most);
+    }
+    most
+}
+
+// The instructions of the longest item.
+fn longest_item(lengths: &ItemLengths) -> u32
+    ensures { result ≡ longest_item lengths.now.bodies }
+{
+    let mut most = 0;
+    for body in 0..lengths.bodies.items().len() {
+        most = heaviest_in(lengths.bodies.items()[body].items()).max(most);
+    }
+    most
+}
+
+// What lower tasks take in front of an entry.
+fn taken_counts(some: bool, leaving: u32, counts: u32) -> u32
+    ensures { result ≡ taken_counts some leaving counts }
+{
+    if some { leaving.max(counts) } else { 0 }
+}
+
+/// The parts of a latency.
+#[derive(Clone, Copy)]
+pub struct Parts {
+    /// The most counts of a stretch behind boot.
+    pub running: u32,
+    /// Those of an item with which a task leaves.
+    pub leaving: u32,
+    /// The instructions of the longest item.
+    pub longest: u32,
+    /// The counts of the task's entry.
+    pub entry: u32,
+    /// Whether some task is lower.
+    pub some: bool,
+}
+
+// Those of a task.
+fn parts_of(
+    config: &Config,
+    app: &App,
+    lengths: &ItemLengths,
+    weights: &[BodyWeights],
+    task: usize,
+) -> Parts
+    requires there { task < length config.now.tasks }
+    requires bodies { (t : ℕ) → t < length config.now.tasks → HasTaskBody app.now.funcs t }
+    requires frames { All (λ func. func.frame_words ≤ frame_limit) app.now.funcs }
+    requires in_range { InRange config.now }
+    ensures { result ≡ parts_of config.now app.now lengths.now.bodies weights.now task }
+{
+    let leaving = heaviest_ending(weights);
+    let tasks = config.tasks.items();
+    Parts {
+        running: running_counts(config, app, leaving),
+        leaving,
+        longest: longest_item(lengths),
+        entry: enter_counts(config, app, task),
+        some: has_lower(tasks, tasks[task].priority),
+    }
+}
+
+// The latency by what is told of lower tasks, for an arrival behind boot, ticks left out.
+fn latency_text(alloc: Global, parts: &Parts, told: Sum) -> Result<Vec<u8>, NoMemory>
+    ensures { IfOk result (λ text. text.items ≡ latency_text parts.now told) }
+{
+    match told {
+        Sum::Counts(counts) => {
             let mut buffer = Buffer::new();
-            let counts = latency_of(config, items);
+            let lower = taken_counts(parts.some, parts.leaving, counts);
+            let latency = latency_of(parts.running, lower, parts.longest, parts.entry);
             let mut text = Vec::from_slice(alloc, b" ")?;
-            text.extend_from_slice(buffer.format(counts).as_bytes())?;
+            text.extend_from_slice(buffer.format(latency).as_bytes())?;
             Ok(text)
         }
-        Bound::Huge => Ok(Vec::from_slice(alloc, b" huge")?),
-        Bound::Endless => Ok(Vec::from_slice(alloc, b" endless")?),
+        Sum::Huge => Ok(Vec::from_slice(alloc, b" huge")?),
+        Sum::Endless => Ok(Vec::from_slice(alloc, b" endless")?),
     }
 }
 
@@ -51,38 +134,58 @@ fn latency_text(alloc: Global, config: &Config, bound: Bound) -> Result<Vec<u8>,
 fn latency_line(
     alloc: Global,
     config: &Config,
-    bounds: &[Bound],
+    parts: &Parts,
+    told: Sum,
     task: usize,
 ) -> Result<Vec<u8>, NoMemory>
-    requires there { task < length config.now.tasks }
-    requires same { length bounds.now ≡ length config.now.tasks }
-    requires in_range { InRange config.now }
-    requires tellable { AreTellable bounds.now }
-    ensures { IfOk result (λ line. line.items ≡ latency_line config.now bounds.now task) }
+    requires { task < length config.now.tasks }
+    ensures { IfOk result (λ line. line.items ≡ latency_line config.now parts.now told task) }
 {
     let mut line = Vec::from_slice(alloc, config.tasks.items()[task].name.bytes())?;
     line.extend_from_slice(b" latency")?;
-    line.extend_from_slice(latency_text(alloc, config, bounds[task])?.as_slice())?;
+    line.extend_from_slice(latency_text(alloc, parts, told)?.as_slice())?;
     line.extend_from_slice(b"\n")?;
     Ok(line)
+}
+
+// What is told of the tasks lower than this one.
+fn told_of(config: &Config, weights: &[BodyWeights], table: &[List<Sum>], task: usize) -> Sum
+    requires there { task < length config.now.tasks }
+    requires same { length table.now ≡ length config.now.tasks }
+    ensures { result ≡ told_of config.now weights.now table.now task }
+{
+    lower_counts(
+        config.tasks.items(),
+        heaviest(weights),
+        table[task].items(),
+        task,
+    )
 }
 
 // That of the task of highest priority, if there is a task.
 fn last_line(
     alloc: Global,
     config: &Config,
-    bounds: &[Bound],
+    app: &App,
+    lengths: &ItemLengths,
+    weights: &[BodyWeights],
+    table: &[List<Sum>],
     highest: Option<usize>,
 ) -> Result<Vec<u8>, NoMemory>
     requires highest { IsHighestTask config.now highest }
-    requires same { length bounds.now ≡ length config.now.tasks }
+    requires same { length table.now ≡ length config.now.tasks }
+    requires bodies { (t : ℕ) → t < length config.now.tasks → HasTaskBody app.now.funcs t }
+    requires frames { All (λ func. func.frame_words ≤ frame_limit) app.now.funcs }
     requires in_range { InRange config.now }
-    requires tellable { AreTellable bounds.now }
-    ensures { IfOk result (λ line. line.items ≡ last_line config.now bounds.now highest) }
+    ensures { IfOk result (λ line. line.items ≡ last_line config.now app.now lengths.now.bodies weights.now table.now highest) }
 {
     match highest {
         None => Ok(Vec::new(alloc)),
-        Some(task) => latency_line(alloc, config, bounds, task),
+        Some(task) => {
+            let parts = parts_of(config, app, lengths, weights, task);
+            let told = told_of(config, weights, table, task);
+            latency_line(alloc, config, &parts, told, task)
+        }
     }
 }
 
@@ -105,7 +208,7 @@ fn tick_line(alloc: Global, config: &Config, counter: usize) -> Result<Vec<u8>, 
 
 // The lines of all counters.
 fn tick_lines(alloc: Global, config: &Config) -> Result<Vec<u8>, NoMemory>
-    requires { InRange config.now }
+    requires in_range { InRange config.now }
     ensures { IfOk result (λ text. text.items ≡ tick_lines config.now (length config.now.counters)) }
 {
     let mut text = Vec::new(alloc);
@@ -116,17 +219,91 @@ fn tick_lines(alloc: Global, config: &Config) -> Result<Vec<u8>, NoMemory>
 }
 
 // The lines of these bounds, those of all counters, and the last one.
-fn all_lines(alloc: Global, config: &Config, bounds: &[Bound]) -> Result<Vec<u8>, NoMemory>
-    requires same { length bounds.now ≡ length config.now.tasks }
+fn all_lines(
+    alloc: Global,
+    config: &Config,
+    app: &App,
+    bounds: &[Bound],
+    lengths: &ItemLengths,
+    weights: &[BodyWeights],
+    table: &[List<Sum>],
+) -> Result<Vec<u8>, NoMemory>
+    requires well_formed { WellFormed config.now app.now }
     requires in_range { InRange config.now }
+    requires same { length bounds.now ≡ length config.now.tasks }
     requires tellable { AreTellable bounds.now }
-    ensures { IfOk result (λ text. AreAllLines config.now bounds.now text.items) }
+    requires rows { length table.now ≡ length config.now.tasks }
+    ensures { IfOk result (λ text. AreAllLines config.now app.now bounds.now lengths.now.bodies weights.now table.now text.items) }
 {
     let highest = highest_task(config);
     let mut text = bound_lines(alloc, config.tasks.items(), bounds)?;
     text.extend_from_slice(tick_lines(alloc, config)?.as_slice())?;
-    text.extend_from_slice(last_line(alloc, config, bounds, highest)?.as_slice())?;
+    text.extend_from_slice(last_line(
+        alloc, config, app, lengths, weights, table, highest,
+    )?.as_slice())?;
     Ok(text)
+}
+
+// The lines of task code with these bounds, by the counts of its items.
+fn lines_by_counts(
+    alloc: Global,
+    config: &Config,
+    app: &App,
+    ranks: &Ranks,
+    bounds: &[Bound],
+    lengths: &ItemLengths,
+    weights: &[BodyWeights],
+) -> Result<Vec<u8>, NoMemory>
+    requires well_formed { WellFormed config.now app.now }
+    requires belong { RanksOf app.now ranks.now }
+    requires bounds { AreToldBounds config.now app.now bounds.now }
+    requires tellable { AreTellable bounds.now }
+    requires lengths { AreLengths app.now lengths.now.bodies }
+    requires counts { AreCountsBy app.now lengths.now.bodies weights.now }
+    requires fit { AreWeights app.now weights.now }
+    ensures { IfOk result (λ text. HasLatency config.now app.now text.items) }
+{
+    let table = section_sums(alloc, config, app, ranks, weights)?;
+    all_lines(alloc, config, app, bounds, lengths, weights, &table)
+}
+
+// By the lengths of its items.
+fn lines_by_lengths(
+    alloc: Global,
+    config: &Config,
+    app: &App,
+    ranks: &Ranks,
+    bounds: &[Bound],
+    lengths: &ItemLengths,
+) -> Result<Vec<u8>, NoMemory>
+    requires well_formed { WellFormed config.now app.now }
+    requires belong { RanksOf app.now ranks.now }
+    requires bounds { AreToldBounds config.now app.now bounds.now }
+    requires tellable { AreTellable bounds.now }
+    requires lengths { AreLengths app.now lengths.now.bodies }
+    requires short { (f i : ℕ) → length_of lengths.now.bodies f i ≤ 36 }
+    ensures { IfOk result (λ text. HasLatency config.now app.now text.items) }
+{
+    let weights = weights_by(alloc, app, lengths)?;
+    lines_by_counts(alloc, config, app, ranks, bounds, lengths, &weights)
+}
+
+// With these bounds.
+fn lines_with(
+    alloc: Global,
+    config: &Config,
+    app: &App,
+    ranks: &Ranks,
+    bounds: &[Bound],
+) -> Result<Vec<u8>, NoMemory>
+    requires well_formed { WellFormed config.now app.now }
+    requires belong { RanksOf app.now ranks.now }
+    requires bounds { AreToldBounds config.now app.now bounds.now }
+    requires tellable { AreTellable bounds.now }
+    ensures { IfOk result (λ text. HasLatency config.now app.now text.items) }
+{
+    let lengths = lengths(alloc, app)?;
+    lines_by_lengths(alloc, config, app, ranks, bounds, &lengths)
 }
 
 // The lines of task code.
@@ -135,7 +312,13 @@ fn checked_latency(alloc: Global, verified: &Verified, ranks: &Ranks) -> Result<
     ensures { IfOk result (λ text. HasLatency verified.now.config verified.now.app text.items) }
 {
     let bounds = bounds(alloc, verified, ranks)?;
-    all_lines(alloc, verified.config(), bounds.items())
+    lines_with(
+        alloc,
+        verified.config(),
+        verified.app(),
+        ranks,
+        bounds.items(),
+    )
 }
 
 // The same, where the error is that of texts.
@@ -148,8 +331,8 @@ fn latency_of_code(alloc: Global, verified: &Verified, ranks: &Ranks) -> Result<
 }
 
 /// The lines of the bounds of all tasks, of the ticks of all counters, and of the latency of the task of highest priority, of texts of at most 4,294,967,294
-/// bytes; or the first refusal (O1 to O15, A1 to A7, V1 to V12). The latency is a number of instructions, for an arrival behind boot; what
-/// ticks on the way add is left out. Without a task it has no line.
+/// bytes; or the first refusal (O1 to O15, A1 to A7, V1 to V12). The latency is a number of instructions, for an arrival behind boot; what ticks on the
+/// way add is left out. Without a task it has no line.
 pub fn latency_lines(alloc: Global, oil: &[u8], src: &[u8]) -> Result<Vec<u8>, BuildError>
     requires oil { length oil.now < 4294967295 }
     requires src { length src.now < 4294967295 }

@@ -1,13 +1,13 @@
 //! The lines of the command `bounds`, without and with `latency` or `counts`, from the texts of a configuration and its task source.
 //!
-//! The lines of the bounds of accepted texts, and with `latency` the line of the task of highest priority, or their first refusal (`bounds_text`,
+//! The lines of the bounds of accepted texts, with `latency` those of all counters and the task of highest priority, or their first refusal (`bounds_text`,
 //! `latency::latency_lines`). In every sound run of an image of the task code each task of which a number is told waits for at most so many items and
-//! 200 counts for each, and from an arrival behind boot the task of the last line is entered within its latency, the counts of the ticks on the way
-//! and 40 for each of these. The lines with `counts` tell the sums of sections in counts (`lower_counts::lower_count_lines`); in every run of an image whose
-//! builder promises `Sound` and `InPace` lower tasks spend at most so many counts. Texts have one list of lines of each kind at most (`one_text`,
-//! `one_latency_text`, `one_lower_counts_text`). Definitions: `specs/BoundsText`, the last line `specs/Latency`, counts and what they promise
-//! `specs/LowerCounts`, what the other numbers promise of runs `specs/KeptRuns`. Bounds: `block_bounds` (`Bounds`, `Kept`); latency: `run_bounds`
-//! (`Latency`); sums: `section_counts` (`Told`); what runs spend: `run_counts` (`Spending`).
+//! 200 counts for each. The lines with `counts` tell the sums of sections in counts (`lower_counts::lower_count_lines`). In every run of an image whose builder
+//! promises `Sound` and `InPace` lower tasks spend at most so many counts, and if it promises `Weighed` too, from an arrival behind boot the task of the last
+//! line is entered within its latency and what the ticks on the way take, each behind the longest item. Texts have one list of lines of each kind at most
+//! (`one_text`, `one_latency_text`, `one_lower_counts_text`). Definitions: `specs/BoundsText`, ticks and latency `specs/Latency`, counts `specs/LowerCounts`,
+//! what bounds promise of runs `specs/KeptRuns`. Bounds: `block_bounds` (`Bounds`, `Kept`, `Stretches`); sums: `section_counts` (`Told`); what runs spend, and
+//! the latency: `run_counts` (`Spending`, `Latency`).
 #![tactic(auto)]
 
 ghost use Rattle.std.specs.Prelude.{◌≡◌, ◌<◌, length, IfOk, IfErr};

@@ -52,7 +52,7 @@ fn greatest_of(sums: &[Sum]) -> Sum
 }
 
 // The heaviest of these items of a body.
-fn heaviest_in(going: &[u32]) -> u32
+pub(crate) fn heaviest_in(going: &[u32]) -> u32
     ensures { result ≡ heaviest_in going.now }
 {
     let mut most = 0;
@@ -63,7 +63,7 @@ fn heaviest_in(going: &[u32]) -> u32
 }
 
 // That of all bodies.
-fn heaviest(weights: &[BodyWeights]) -> u32
+pub(crate) fn heaviest(weights: &[BodyWeights]) -> u32
     ensures { result ≡ heaviest weights.now }
 {
     let mut most = 0;
@@ -91,7 +91,7 @@ fn behind_item(weight: u32, sum: Sum) -> Sum
 }
 
 // How many counts of lower tasks may stand in front of a task's entry.
-fn lower_counts(tasks: &[TaskDecl], weight: u32, sums: &[Sum], task: usize) -> Sum
+pub(crate) fn lower_counts(tasks: &[TaskDecl], weight: u32, sums: &[Sum], task: usize) -> Sum
     requires { task < length tasks.now }
     ensures { result ≡ lower_counts tasks.now weight sums.now task }
 {

@@ -83,7 +83,7 @@ front_paced : (at : ℕ) (before behind : List Stamped) → IsPaced at (before +
 front_paced at [] behind p = tt
 front_paced at (e ∷ before) behind p = (p.0, front_paced (cond (is_admit e) at e.stamp.at) before behind p.1)
 
-last-append : (at : ℕ) (a b : List Stamped) → last_count at (a ++ b) ≡ last_count (last_count at a) b
+pub last-append : (at : ℕ) (a b : List Stamped) → last_count at (a ++ b) ≡ last_count (last_count at a) b
 last-append at [] b = refl
 last-append at (e ∷ a) b = last-append (cond (is_admit e) at e.stamp.at) a b
 
@@ -162,7 +162,7 @@ module _ (config : Config) (moment : ℕ) where
           subst (λ k. last_count k before + 2 ≤ limit) (sym (ap (λ b. cond b at e.stamp.at) other)) (go e.stamp.at (omega (arith, near, most)))
 
 -- each event in front of an admit stands before it
-stand_before : (before behind : List Stamped) (made : Stamped) → is_admit made ≡ true → AllPairs IsOrdered (before ++ made ∷ behind)
+pub stand_before : (before behind : List Stamped) (made : Stamped) → is_admit made ≡ true → AllPairs IsOrdered (before ++ made ∷ behind)
     → AllByRecursion (λ e. is_admit e ≡ false → e.stamp.from < made.stamp.at) before
 stand_before [] behind made admits pairs = tt
 stand_before (e ∷ before) behind made admits pairs =
@@ -183,11 +183,11 @@ stand_before (e ∷ before) behind made admits pairs =
         let ordered = subst (IsOrdered e) (at_seam before) is in
         subst (λ b. StandsBefore b true e.stamp made.stamp) other (subst (λ b. StandsBefore (is_admit e) b e.stamp made.stamp) admits ordered)
 
-each_front : (P : Stamped → Type 0) (a b : List Stamped) → AllByRecursion P (a ++ b) → AllByRecursion P a
+pub each_front : (P : Stamped → Type 0) (a b : List Stamped) → AllByRecursion P (a ++ b) → AllByRecursion P a
 each_front P [] b h = tt
 each_front P (e ∷ a) b h = (h.0, each_front P a b h.1)
 
-each_behind : (P : Stamped → Type 0) (a b : List Stamped) → AllByRecursion P (a ++ b) → AllByRecursion P b
+pub each_behind : (P : Stamped → Type 0) (a b : List Stamped) → AllByRecursion P (a ++ b) → AllByRecursion P b
 each_behind P [] b h = h
 each_behind P (e ∷ a) b h = each_behind P a b h.1
 
@@ -201,7 +201,7 @@ begins config app e events end leads = by e.event leads.1
     by event.Stray step = absurd step
     by e step = absurd (false≢true step.0)
 
-some_boot : (config : Config) (app : App) (before behind : List Stamped) (made : Stamped) (end : System)
+pub some_boot : (config : Config) (app : App) (before behind : List Stamped) (made : Stamped) (end : System)
     → AreStepsTo config app (before ++ made ∷ behind) (opening config app) end → BeginsWithBoot (before ++ made ∷ behind)
 some_boot config app [] behind made end leads = begins config app made behind end leads
 some_boot config app (e ∷ before) behind made end leads = begins config app e (before ++ made ∷ behind) end leads
@@ -209,16 +209,16 @@ some_boot config app (e ∷ before) behind made end leads = begins config app e 
 -- ---- the entry
 
 -- an entry is neither an admit nor boot, and begins with the taking of a line
-entry_facts : (h : ℕ) (e : Event) → is_entry_of h e ≡ true → (is_some (admitted_line e) ≡ false) × (is_boot e ≡ false) × (takes_line e ≡ true)
+pub entry_facts : (h : ℕ) (e : Event) → is_entry_of h e ≡ true → (is_some (admitted_line e) ≡ false) × (is_boot e ≡ false) × (takes_line e ≡ true)
 entry_facts h (event.Enter t) is = (refl, refl, refl)
 entry_facts h e is = absurd (false≢true is)
 
 -- the first entry of the events, or there is none
-data Entry (h : ℕ) (events : List Stamped) : Type 0 where
+pub data Entry (h : ℕ) (events : List Stamped) : Type 0 where
   enters : (entry : Stamped) (rest : List Stamped) → is_entry_of h entry.event ≡ true → events ≡ events_up_to_entry h events ++ entry ∷ rest → Entry h events
   enters_not : events_up_to_entry h events ≡ events → Entry h events
 
-find_entry : (h : ℕ) (events : List Stamped) → Entry h events
+pub find_entry : (h : ℕ) (events : List Stamped) → Entry h events
 find_entry h [] = enters_not refl
 find_entry h (e ∷ events) = by (cases_Bool (is_entry_of h e.event)) (find_entry h events)
   where

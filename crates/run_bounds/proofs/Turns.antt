@@ -30,6 +30,11 @@ use Rattle.raised_sections.specs.Pace.{takes_line}
 use Rattle.run_bounds.specs.Latency.{IsHighest, is_tick}
 use Rattle.run_bounds.proofs.Awaiting.{Awaits, is_outside, clash, next_awaits, outside}
 
+-- the event is that task t leaves
+abbrev pub IsLeft : (t : ℕ) → Event → Type 0
+IsLeft t (event.Left u served) = u ≡ t
+IsLeft t _ = ⊥
+
 module _ (config : Config) (app : App) (w : Facts config app) (h : ℕ) (declared : h < length config.tasks) (highest : IsHighest config h) where
   module _ (s next : System) (x : Awaits config app w h declared highest s) where
     -- an Active task is another one, and lower
@@ -69,7 +74,9 @@ module _ (config : Config) (app : App) (w : Facts config app) (h : ℕ) (declare
     -- a lower task leaves
     pub record Leaving (e : Event) (t : ℕ) : Type 0 where
       pub works_not : working_task e ≡ None
+      pub leaves : IsLeft t e
       pub lower : IsLower config h t
+      pub free : (task s t).owed ≡ false
       pub calls : Calls config t s next
       pub gone : (task next t).state ≢ mode.Active
       pub held : (task next t).held ≡ (task s t).held
@@ -119,7 +126,7 @@ module _ (config : Config) (app : App) (w : Facts config app) (h : ℕ) (declare
           refl,
           refl,
           turn_leave t refl
-              (record { works_not = refl; lower = lower_of t f.moves.top.declared f.was; calls = f; gone = p.gone; held = p.held }),
+              (record { works_not = refl; leaves = refl; lower = lower_of t f.moves.top.declared f.was; free = step.1.1.at.free; calls = f; gone = p.gone; held = p.held }),
         )
         by (event.Back t) step away f p = absurd (no_back t f.moves.top f.was step.3)
         by e step away f p = let o = outside config app w h declared highest s next x e step refl in (o.0, o.1, turn_outside refl o.2)

@@ -37,10 +37,10 @@ abbrev pub IsOnTheWay : Stamped → Type 0
 IsOnTheWay e = (is_boot e.event ≡ false) × (takes_line e.event ≡ is_tick e.event)
 
 module _ (config : Config) (app : App) (w : Facts config app) (h : ℕ) (declared : h < length config.tasks) (highest : IsHighest config h) where
-  abbrev Stands : System → Type 0
+  abbrev pub Stands : System → Type 0
   Stands s = Awaits config app w h declared highest s
 
-  abbrev up_to : List Stamped → List Stamped
+  abbrev pub up_to : List Stamped → List Stamped
   up_to events = events_up_to_entry h events
 
   abbrev TurnOf : (s next : System) → Stands s → Event → Type 0
@@ -48,21 +48,21 @@ module _ (config : Config) (app : App) (w : Facts config app) (h : ℕ) (declare
 
   -- an event of these in front of the events up to the entry
   module _ (s : System) (x : Stands s) (e : Stamped) (events : List Stamped) (next : System) (step : OsekStep config app e.event s next) where
-    goes_on : (P : List Stamped → Type 0) → P [] → (is_entry_of h e.event ≡ false → P (e ∷ up_to events)) → P (up_to (e ∷ events))
+    pub goes_on : (P : List Stamped → Type 0) → P [] → (is_entry_of h e.event ≡ false → P (e ∷ up_to events)) → P (up_to (e ∷ events))
     goes_on P none more = cond_both (is_entry_of h e.event) [] (e ∷ up_to events) P (λ _. none) more
 
-    out_next : is_in h s.fresh ≡ false → is_in h next.fresh ≡ false
+    pub out_next : is_in h s.fresh ≡ false → is_in h next.fresh ≡ false
     out_next out = stays_out config app h declared s next x.ready e.event (effect config app s next x.ordered e.event step) out
 
-    no_new : is_in h s.fresh ≡ false → (u : ℕ) → Blocks config h next u → Blocks config h s u
+    pub no_new : is_in h s.fresh ≡ false → (u : ℕ) → Blocks config h next u → Blocks config h s u
     no_new out = old config app h declared s next x.ready e.event (effect config app s next x.ordered e.event step) out
 
-    works_blocks : (t : ℕ) → Working config app w h declared highest s next x e.event t → is_in h s.fresh ≡ false → Blocks config h s t
+    pub works_blocks : (t : ℕ) → Working config app w h declared highest s next x e.event t → is_in h s.fresh ≡ false → Blocks config h s t
     works_blocks t k out =
         at_work config app h declared s next x.ready e.event t (effect config app s next x.ordered e.event step)
         (record { works = k.works; lower = k.lower.1 }) out
 
-    leaves_blocks : (t : ℕ) → Leaving config app w h declared highest s next x e.event t → is_in h s.fresh ≡ false → Blocks config h s t
+    pub leaves_blocks : (t : ℕ) → Leaving config app w h declared highest s next x e.event t → is_in h s.fresh ≡ false → Blocks config h s t
     leaves_blocks t k out = at_top config app h declared s next x.ready t s.fresh k.calls.moves.top out k.calls.was k.lower.1
 
     counts_lower : (t : ℕ) → Working config app w h declared highest s next x e.event t → ◌≡◌ {A = ℕ} (cond (is_lower config h (working_task e.event)) 1 0) 1
@@ -70,7 +70,7 @@ module _ (config : Config) (app : App) (w : Facts config app) (h : ℕ) (declare
 
   -- ---- where nobody blocks
 
-  abbrev NobodyWaits : List Stamped → Type 0
+  abbrev pub NobodyWaits : List Stamped → Type 0
   NobodyWaits events = (s end : System) → Stands s → is_in h s.fresh ≡ false → ((u : ℕ) → ¬ (Blocks config h s u)) → AreStepsTo config app events s end
       → waiting (up_to events) ≡ 0
 
@@ -88,7 +88,7 @@ module _ (config : Config) (app : App) (w : Facts config app) (h : ℕ) (declare
       by away (turn_work t other k) = absurd (nobody t (works_blocks s x e events leads.0 leads.1 t k out))
       by away (turn_leave t other k) = absurd (nobody t (leaves_blocks s x e events leads.0 leads.1 t k out))
 
-  nobody_waits : (events : List Stamped) → NobodyWaits events
+  pub nobody_waits : (events : List Stamped) → NobodyWaits events
   nobody_waits [] s end x out nobody leads = refl
   nobody_waits (e ∷ events) s end x out nobody leads = nobody_cons e events (nobody_waits events) s end x out nobody leads
 
@@ -255,7 +255,7 @@ module _ (config : Config) (app : App) (w : Facts config app) (h : ℕ) (declare
 
   -- ---- where no task is lower
 
-  abbrev NoneWaits : List Stamped → Type 0
+  abbrev pub NoneWaits : List Stamped → Type 0
   NoneWaits events = (s end : System) → Stands s → AreStepsTo config app events s end → waiting (up_to events) ≡ 0
 
   module _ (nobody : (t : ℕ) → ¬ (IsLower config h t)) where
@@ -272,7 +272,7 @@ module _ (config : Config) (app : App) (w : Facts config app) (h : ℕ) (declare
         by away (turn_work t other k) = absurd (nobody t k.lower)
         by away (turn_leave t other k) = absurd (nobody t k.lower)
 
-    none_waits : (events : List Stamped) → NoneWaits events
+    pub none_waits : (events : List Stamped) → NoneWaits events
     none_waits [] s end x leads = refl
     none_waits (e ∷ events) s end x leads = none_cons e events (none_waits events) s end x leads
 

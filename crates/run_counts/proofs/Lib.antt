@@ -10,3 +10,6 @@ pub mod Running
 pub mod Owned
 pub mod Gaps
 pub mod OwnRounds
+pub mod Taken
+pub mod Entered
+pub mod Stretches

@@ -3,3 +3,4 @@ pub mod Laws
 pub mod Spending
 pub mod Rounds
 pub mod OwnCounts
+pub mod Latency

@@ -1,6 +1,7 @@
 //! The laws of what a run's events spend.
 ghost use Rattle.run_counts.specs.Laws.{RunsKeepWeights};
 ghost use Rattle.run_counts.specs.Spending.{RunsSpendOnLower, RunsSpendNothing};
+ghost use Rattle.run_counts.specs.Latency.{RunsEnterByWeights};
 ghost use Rattle.run_counts.specs.Rounds.{RoundsSpendWithinItems};
 ghost use Rattle.run_counts.specs.OwnCounts.{RunsOwnWhatIsCharged, RunsHaveShortGaps, RunsPreemptWithinItems, RoundsOwnWithinItems, ImagesOwnWithinItems};
 
@@ -54,4 +55,10 @@ pub fn runs_preempt_within_items()
 /// weights in counts of the items that its events execute, and for each entry and tick that preempts it the instructions of the item that it has begun.
 pub fn images_own_within_items()
     ensures { ImagesOwnWithinItems }
+{}
+
+/// In a run in time of well-formed task code that keeps the pace, within the weights of its events, from the moment of an arrival behind boot the task of
+/// highest priority is entered within its latency by weights, and the weights of the ticks on the way with the longest item in front of each.
+pub fn runs_enter_by_weights()
+    ensures { RunsEnterByWeights }
 {}

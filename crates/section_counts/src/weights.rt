@@ -2,7 +2,7 @@
 ghost use Rattle.std.specs.Prelude.{◌≡◌, ◌≤◌, ◌<◌, ◌+◌, ℕ, length, get_or, IfOk};
 ghost use Rattle.sloth_base.specs.Named.{item_of};
 ghost use Rattle.code_rules.specs.AppRange.{IsTaskCode};
-ghost use Rattle.event_weights.specs.Items.{length_of, going_counts, ending_counts};
+ghost use Rattle.event_weights.specs.Items.{length_of, AreLengths, going_counts, ending_counts};
 ghost use Rattle.section_sizes.specs.Weights.{AreWeights};
 ghost use Rattle.section_counts.specs.Counts.{AreBodyCounts, AreCountsBy, AreCounts};
 
@@ -102,12 +102,26 @@ fn counts_by(alloc: Global, app: &App, lengths: &ItemLengths) -> Result<Vec<Body
     Ok(weights)
 }
 
-/// The counts of all items, as weights by which sections are summed.
+/// The counts of all items by their lengths, as weights by which sections are summed.
+pub fn weights_by(
+    alloc: Global,
+    app: &App,
+    lengths: &ItemLengths,
+) -> Result<Vec<BodyWeights>, NoMemory>
+    requires lengths { AreLengths app.now lengths.now.bodies }
+    requires short { (f i : ℕ) → length_of lengths.now.bodies f i ≤ 36 }
+    ensures are { IfOk result (λ weights. AreCountsBy app.now lengths.now.bodies weights.items) }
+    ensures fit { IfOk result (λ weights. AreWeights app.now weights.items) }
+{
+    counts_by(alloc, app, lengths)
+}
+
+/// The same, with the fewest long branches.
 pub fn count_weights(alloc: Global, app: &App) -> Result<Vec<BodyWeights>, NoMemory>
     requires { IsTaskCode app.now }
     ensures are { IfOk result (λ weights. AreCounts app.now weights.items) }
     ensures fit { IfOk result (λ weights. AreWeights app.now weights.items) }
 {
     let lengths = lengths(alloc, app)?;
-    counts_by(alloc, app, &lengths)
+    weights_by(alloc, app, &lengths)
 }

@@ -1,9 +1,7 @@
 use Rattle.std.proofs.Common.{List}
 use Rattle.std.proofs.lemmas.Result.{IfOk-weaker}
 use Rattle.bound_rules.specs.declared.weights.BodyWeights.{BodyWeights}
-use Rattle.section_sizes.specs.Weights.{AreWeights}
 use Rattle.section_counts.specs.Counts.{AreCountsBy, AreCounts}
-use Rattle.section_counts.proofs.CountsFit.{counts_fit}
 use Rattle.section_counts.proofs.weights.count_weights.Goals as goal
 
 pub returns-clause-are : goal.returns-clause-are
@@ -11,12 +9,4 @@ returns-clause-are c =
     let app = c.args.app.now in
     let lengths = c.in_ok-lengths.lengths.bodies in
     let made : (weights : List BodyWeights) → AreCountsBy app lengths weights → AreCounts app weights = λ weights by. (lengths, c.in_ok-lengths.ensures.are, by) in
-    IfOk-weaker _ _ _ (λ weights by. made _ by) c.counts_by.ensures
-
-pub returns-clause-fit : goal.returns-clause-fit
-returns-clause-fit c =
-    let app = c.args.app.now in
-    let lengths = c.in_ok-lengths.lengths.bodies in
-    let made : (weights : List BodyWeights) → AreCountsBy app lengths weights → AreWeights app weights =
-    λ weights by. counts_fit app lengths c.in_ok-lengths.ensures.are c.in_ok-lengths.ensures.short weights by in
-    IfOk-weaker _ _ _ (λ weights by. made _ by) c.counts_by.ensures
+    IfOk-weaker _ _ _ (λ weights by. made _ by) c.weights_by.ensures.are
