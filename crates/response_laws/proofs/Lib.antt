@@ -12,6 +12,7 @@ pub mod Lower
 pub mod Windows
 pub mod Arriving
 pub mod Loaded
+pub mod Awake
 pub mod Walked
 pub mod Making
 pub mod RoundEnds

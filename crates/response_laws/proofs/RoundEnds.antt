@@ -27,7 +27,7 @@ use Rattle.run_counts.specs.Stages.{Stage, end_of, is_entry, run_stages}
 use Rattle.run_counts.specs.Rounds.{goes_on_waiting, is_left, round_of, total}
 use Rattle.response_laws.specs.Turns.{at_entry, round_behind, if_turn, if_entry, activated, was_set}
 use Rattle.response_laws.specs.Bounded.{EachFirst, EachNext}
-use Rattle.response_laws.specs.Walked.{FirstRoundsWeigh, PartRoundsWeigh, FitsItem}
+use Rattle.response_laws.specs.Walked.{FirstRoundsWeigh, LaterRoundsWeigh, FitsItem}
 use Rattle.response_laws.specs.Makers.{activation_weight, setting_weight, RoundsMakeWithin}
 use Rattle.response_laws.proofs.Linked.{Known, Linked, linked_behind, each_append, stages_linked, stages_known}
 use Rattle.response_laws.proofs.RoundSums.{no_round}
@@ -129,7 +129,7 @@ module _ (config : Config) (app : App) (events : List Stamped) (k j : ℕ) (cuts
         let few = shorter before behind opens is in
         omega (arith, le, few)
 
-    nexts : (most : ℕ) → PartRoundsWeigh app cuts k weight weight most → EachNext run cuts k f most
+    nexts : (most : ℕ) → LaterRoundsWeigh app cuts k weight weight most → EachNext run cuts k f most
     nexts most bound before behind opens is begun =
         let le = (rounds_follow_walks config app events k cuts f weight weight wf osek fits (λ at. omega arith) before behind opens is).1 most bound begun in
         let few = shorter before behind opens is in

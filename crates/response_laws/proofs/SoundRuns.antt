@@ -45,7 +45,7 @@ use Rattle.response_laws.specs.Arrivals.{AreCharged}
 use Rattle.response_laws.specs.SoundRuns.{item_instructions, NoStretchIsAbove, KeepsWork, WorksWithin, FirstRoundsWithin, OtherRoundsWithin, FitsRounds, ImagesRespond}
 use Rattle.section_sizes.specs.Weights.{going_at, ending_at}
 use Rattle.raised_sections.specs.Walks.{Position}
-use Rattle.response_laws.specs.Walked.{standing, is_executed, is_back, FitsItem, FirstRoundsWeigh, PartRoundsWeigh}
+use Rattle.response_laws.specs.Walked.{standing, is_executed, is_back, FitsItem, FirstRoundsWeigh, LaterRoundsWeigh}
 use Rattle.response_laws.proofs.Walked.{rounds_follow_walks}
 use Rattle.response_laws.proofs.Linked.{Known, Linked, linked_behind, each_append, each_so, stages_linked, stages_known}
 use Rattle.response_laws.proofs.RoundEnds.{within_round, rounds_make_within}
@@ -214,7 +214,7 @@ module _ (config : Config) (app : App) (size : ItemSizes) (n : ℕ) (weights : L
   walked : (t : ℕ) (before behind : List Stage) (opens : Stage) → run ≡ before ++ opens ∷ behind
       → ((most : ℕ) → FirstRoundsWeigh app (cuts t) t (going_at weights) (ending_at weights) most → begins_first t opens ≡ true
       → total (if_turn t executed) (round_of (cuts t) t behind) ≤ most)
-      × ((most : ℕ) → PartRoundsWeigh app (cuts t) t (going_at weights) (ending_at weights) most → begins_next (cuts t) t opens ≡ true
+      × ((most : ℕ) → LaterRoundsWeigh app (cuts t) t (going_at weights) (ending_at weights) most → begins_next (cuts t) t opens ≡ true
       → total (if_turn t executed) (round_of (cuts t) t behind) ≤ most)
   walked t before behind opens is =
       rounds_follow_walks config app events t (cuts t) executed (going_at weights) (ending_at weights) wf osek (all_weigh t run) lighter before behind opens is

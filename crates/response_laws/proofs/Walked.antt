@@ -2,7 +2,7 @@
 use Rattle.std.proofs.Common.{◌≡◌, ℕ, ◌+◌, ◌<◌, ◌≤◌, ◌⊎◌, ◌==◌, ◌&&◌, ◌||◌, not, List, [], ◌∷◌, ◌++◌, Bool, true, false, cond, length, refl, sym, ap, ◌∙◌, subst, arith, inl, inr, Some}
 use Rattle.std.specs.Prelude.{◌≢◌}
 use Rattle.std.specs.List.{AllByRecursion}
-use Rattle.std.proofs.lemmas.Bool.{cases_Bool, cases_eq, true≢false, false≢true, eq-eqb, ne_eqb, eqb-true, and_parts, and_right, and_left, not-true}
+use Rattle.std.proofs.lemmas.Bool.{cases_Bool, cases_eq, true≢false, false≢true, eq-eqb, ne_eqb, eqb-true, eqb-false, and_parts, and_right, and_left, not-true}
 use Rattle.sloth_base.specs.declared.config.Config.{Config}
 use Rattle.sloth_base.specs.declared.app.App.{App}
 use Rattle.sloth_base.specs.declared.app.Op.{Op}
@@ -39,7 +39,15 @@ use Rattle.run_counts.specs.Stages.{Stage, end_of, is_turn, is_entry, run_stages
 use Rattle.run_counts.specs.Rounds.{goes_on_waiting, is_left, closes_round, round_of, total}
 use Rattle.event_weights.specs.Events.{has_frames}
 use Rattle.response_laws.specs.Turns.{at_entry, begins_first, begins_next, if_turn}
-use Rattle.response_laws.specs.Walked.{standing, is_wait, OnlyLastWaits, IsPartRound, weigh, FirstRoundsWeigh, PartRoundsWeigh, is_executed, is_back, FitsItem, RoundsFollowWalks}
+use Rattle.response_laws.specs.Walked.{standing, is_wait, OnlyLastWaits, IsLaterRound, weigh, FirstRoundsWeigh, LaterRoundsWeigh, is_executed, is_back, FitsItem, RoundsFollowWalks}
+use Rattle.osek_scheduler.specs.Services.{moved_frames, ServiceOutcome, GoesOn, Leaves}
+use Rattle.osek_scheduler.specs.Steps.{IsServiceStep}
+use Rattle.osek_scheduler.proofs.Steps.{asleep_at}
+use Rattle.sloth_base.proofs.Services.{same_service}
+use Rattle.sloth_base.specs.declared.service.Service.{Service}
+use Rattle.raised_sections.proofs.Frames.{Served, served_frames}
+use Rattle.response_laws.specs.Turns.{in_turn}
+use Rattle.response_laws.proofs.Awake.{stays_active}
 use Rattle.response_laws.proofs.RoundSums.{waiting_turn}
 use Rattle.response_laws.proofs.Steps.{turn_active, active_declared}
 use Rattle.response_laws.proofs.Linked.{Known, Linked, linked_behind, each_append, stages_linked, stages_known}
@@ -72,6 +80,16 @@ begun_stands [] is e = false≢true is
 begun_stands (frame ∷ outer) is e = cc
 
 -- ---- one event
+
+-- ---- tasks that wait, or were woken
+
+-- a position to which a walk goes on behind a WaitEvent
+record BehindWait (app : App) (t : ℕ) (at : Position) : Type 0 where
+  before : List Position
+  wait : Position
+  walk : IsWalk app t (before ++ wait ∷ [])
+  waits : is_wait (operation_at app wait) ≡ true
+  step : IsPositionStep app wait at
 
 module _ (config : Config) (app : App) (w : Facts config app) (t : ℕ) where
   -- what an event does to where task t stands
@@ -297,36 +315,198 @@ module _ (config : Config) (app : App) (w : Facts config app) (t : ℕ) where
         walk [] e c = tt
         walk (first ∷ further) e c = (e, c)
 
-    part_found : (most sum : ℕ) (at : Position) → PartRoundsWeigh app cuts t going ending most → IsReached app t at → Found at sum → sum ≤ most
-    part_found most sum at bound r found =
+    later_found : (most sum : ℕ) (at : Position) → LaterRoundsWeigh app cuts t going ending most → BehindWait app t at → Found at sum → sum ≤ most
+    later_found most sum at bound b found =
         let le = by found.positions refl in
         let weight = found.weighs in
         omega (arith, le, weight)
       where
         by : (positions : List Position) → found.positions ≡ positions → weigh going ending found.positions ≤ most
-        by [] e = bound found.positions (subst (IsPartRound app cuts t) (sym e) (record { before = []; of_walk = tt; cut = tt }))
+        by [] e =
+            bound found.positions
+            (subst (IsLaterRound app cuts t) (sym e) (record { before = b.before; wait = b.wait; of_walk = b.walk; waits = b.waits; cut = tt }))
         by (first ∷ further) e =
             let at_first : first ≡ at = subst (StartsAt at) e found.starts in
-            let P : Position → Type 0 = λ p. IsWalk app t (r.before ++ p ∷ []) in
             bound found.positions
             (record {
-              before = r.before;
-              of_walk = subst (λ ps. IsWalk app t (r.before ++ ps)) (sym e)
-                  (walk_on app t r.before further first (subst P (sym at_first) r.walk) (subst (AreConsecutive app) e found.consecutive));
+              before = b.before;
+              wait = b.wait;
+              of_walk = subst (λ ps. IsWalk app t (b.before ++ b.wait ∷ ps)) (sym e)
+                  (walk_on app t b.before (first ∷ further) b.wait b.walk
+                  (subst (IsPositionStep app b.wait) (sym at_first) b.step, subst (AreConsecutive app) e found.consecutive));
+              waits = b.waits;
               cut = found.cut;
             })
+
+module _ (config : Config) (app : App) (w : Facts config app) (t : ℕ) where
+  -- a task that is not Active has no frames, or stands behind a WaitEvent
+  abbrev Stands : System → Type 0
+  Stands s = IsActive s t ⊎ (((task s t).frames ≡ []) ⊎ BehindWait app t (standing (task s t).frames))
+
+  frames_same : (e : Event) (s next : System) → OsekStep config app e s next → IsValid config app s → is_turn t e ≡ false → is_entry t e ≡ false
+      → (task next t).frames ≡ (task s t).frames
+  frames_same (event.Run u func item result) s next step v away out =
+      ((frame_effect config app w s next v (event.Run u func item result) step).others t (λ e. eqb-false u t away (sym e))).frames
+  frames_same (event.Call u served status) s next step v away out =
+      ((frame_effect config app w s next v (event.Call u served status) step).others t (λ e. eqb-false u t away (sym e))).frames
+  frames_same (event.Left u served) s next step v away out =
+      ((frame_effect config app w s next v (event.Left u served) step).others t (λ e. eqb-false u t away (sym e))).frames
+  frames_same (event.Back u) s next step v away out =
+      ((frame_effect config app w s next v (event.Back u) step).others t (λ e. eqb-false u t away (sym e))).frames
+  frames_same (event.Enter u) s next step v away out =
+      ((frame_effect config app w s next v (event.Enter u) step).others t (λ e. eqb-false u t out (sym e))).frames
+  frames_same event.Boot s next step v away out = (frame_effect config app w s next v event.Boot step t).frames
+  frames_same (event.Admit u) s next step v away out = (frame_effect config app w s next v (event.Admit u) step t).frames
+  frames_same (event.Due c) s next step v away out = (frame_effect config app w s next v (event.Due c) step t).frames
+  frames_same (event.Tick c) s next step v away out = (frame_effect config app w s next v (event.Tick c) step t).frames
+  frames_same event.Idle s next step v away out = (frame_effect config app w s next v event.Idle step t).frames
+  frames_same event.Stray s next step v away out = absurd step
+
+  -- an Active task has frames, and stands where a walk leads
+  active_reached : (s : System) → IsValid config app s → Placed app s → IsActive s t → IsReached app t (standing (task s t).frames)
+  active_reached s v p active = by (p t)
+    where
+      by : ((task s t).frames ≡ []) ⊎ IsReached app t (standing (task s t).frames) → IsReached app t (standing (task s t).frames)
+      by (inl none) = absurd ((subst (InState config t (task s t)) active (v.each t (active_declared config s t v.count active)).in_state).0 none)
+      by (inr r) = r
+
+  -- behind a WaitEvent of it
+  behind_own : (served : Service) (s : System) (answer : ServiceOutcome) (next : System) → IsServiceStep config app t served s answer → IsValid config app s → Placed app s
+      → served ≡ service.WaitEvent → IsPositionStep app (standing (task s t).frames) (standing (task next t).frames)
+      → BehindWait app t (standing (task next t).frames)
+  behind_own served s answer next h v p is step =
+      let r = active_reached s v p h.at.active in
+      record {
+        before = r.before;
+        wait = standing (task s t).frames;
+        walk = r.walk;
+        waits =
+            ap (λ fs. is_wait (operation_at app (standing fs))) h.at.frames ∙ ap is_wait h.at.next
+            ∙ ap (λ x. is_service x service.WaitEvent) (h.same ∙ is);
+        step = step;
+      }
+
+  left_stands : (served : Service) (s next : System) → OsekStep config app (event.Left t served) s next → IsValid config app s → Placed app s
+      → ((task next t).frames ≡ []) ⊎ BehindWait app t (standing (task next t).frames)
+  left_stands served s next step v p =
+      by ((subst (Served t s served) h.is (served_frames t s config served h.call.object h.call.mask)).frames there)
+      (frame_effect config app w s next v (event.Left t served) step).frames
+    where
+      h : IsServiceStep config app t served s (Leaves step.1.0)
+      h = step.1.1
+
+      there : t < length s.tasks
+      there = subst (λ n. t < n) (sym v.count) h.top.declared
+
+      after : (task next t).frames ≡ (task step.1.0 t).frames
+      after = ap (λ (x : System). (task x t).frames) step.1.2
+
+      by : ((task step.1.0 t).frames ≡ []) ⊎ (((task step.1.0 t).frames ≡ moved_frames (task s t).frames) × (served ≡ service.WaitEvent))
+          → ((task next t).frames ≡ []) ⊎ IsPositionStep app (standing (task s t).frames) (standing (task next t).frames)
+          → ((task next t).frames ≡ []) ⊎ BehindWait app t (standing (task next t).frames)
+      by (inl none) f = inl (after ∙ none)
+      by (inr waits) (inl none) = inl none
+      by (inr waits) (inr moves) = inr (behind_own served s (Leaves step.1.0) next h v p waits.1 moves)
+
+  -- an entry leaves it Active
+  entry_active : (e : Event) (s next : System) → OsekStep config app e s next → IsValid config app s → is_entry t e ≡ true → IsActive next t
+  entry_active (event.Enter u) s next step v is =
+      let there : OsekStep config app (event.Enter t) s next = subst (λ k. OsekStep config app (event.Enter k) s next) (eqb-true u t is) step in
+      let new = record (started_task app t (task s t).frames (task s t)) { state = mode.Active; raised = (declaration config t).non } in
+      let placed_new : task next t ≡ new =
+      ap (λ (y : System). task y t) there.4 ∙ get_or-set_same s.tasks t new sleeping_task (subst (λ n. t < n) (sym v.count) there.1.declared) in
+      ap (λ (k : Task). k.state) placed_new
+  entry_active event.Boot s next step v is = absurd (false≢true is)
+  entry_active e s next step v is = absurd (false≢true is)
+
+  next_stands : (x : Stage) → Known config app x → Placed app x.found → Stands x.found → Stands x.next
+  next_stands x k p stands = by (cases_Bool (is_left t x.stamped.event)) stands
+    where
+      left : (e : Event) → OsekStep config app e x.found x.next → is_left t e ≡ true → Stands x.next
+      left (event.Left u served) step is =
+          inr (left_stands served x.found x.next (subst (λ v. OsekStep config app (event.Left v served) x.found x.next) (eqb-true u t is) step) k.valid p)
+      left event.Boot step is = absurd (false≢true is)
+      left e step is = absurd (false≢true is)
+
+      resting : ((task x.found t).frames ≡ []) ⊎ BehindWait app t (standing (task x.found t).frames)
+          → (at_entry t x ≡ true) ⊎ (at_entry t x ≡ false) → (in_turn t x ≡ true) ⊎ (in_turn t x ≡ false) → is_left t x.stamped.event ≡ false → Stands x.next
+      resting rest (inl entry) turn away = inl (entry_active x.stamped.event x.found x.next k.step k.valid entry)
+      resting rest (inr out) (inl turn) away =
+          inl (stays_active config app t x.stamped.event x.found x.next k.step k.valid away (turn_active config app t x k turn))
+      resting rest (inr out) (inr idle) away =
+          let same = frames_same x.stamped.event x.found x.next k.step k.valid idle out in
+          inr (subst (λ fs. (fs ≡ []) ⊎ BehindWait app t (standing fs)) (sym same) rest)
+
+      by : (is_left t x.stamped.event ≡ true) ⊎ (is_left t x.stamped.event ≡ false) → Stands x.found → Stands x.next
+      by (inl is) s = left x.stamped.event k.step is
+      by (inr away) (inl active) = inl (stays_active config app t x.stamped.event x.found x.next k.step k.valid away active)
+      by (inr away) (inr rest) = resting rest (cases_Bool (at_entry t x)) (cases_Bool (in_turn t x)) away
+
+  -- each stage finds it so
+  all_stand : (at : ℕ) (s : System) (xs : List Stage) → Linked at s xs → AllByRecursion (Known config app) xs → Placed app s → Stands s
+      → AllByRecursion (λ x. Stands x.found × Placed app x.found) xs
+  all_stand at s [] l k p stands = tt
+  all_stand at s (x ∷ xs) l k p stands =
+      let here : Placed app x.found = subst (Placed app) (sym l.1) p in
+      let standing_here : Stands x.found = subst Stands (sym l.1) stands in
+      let next = step_placed config app x.found x.next x.stamped.event (frame_effect config app w x.found x.next k.0.valid x.stamped.event k.0.step) here in
+      ((standing_here, here), all_stand (end_of x) x.next xs l.2 k.1 next (next_stands x k.0 here standing_here))
+
+  -- behind where a round begins that is not the first, it stands behind a WaitEvent
+  behind_wait : (cuts : Bool) (x : Stage) → Known config app x → Stands x.found → Placed app x.found → begins_next cuts t x ≡ true
+      → BehindWait app t (standing (task x.next t).frames)
+  behind_wait cuts x k stands p is = which (cases_Bool (at_entry t x && has_frames (task x.found t).frames))
+    where
+      same_at_entry : (e : Event) → OsekStep config app e x.found x.next → is_entry t e ≡ true → has_frames (task x.found t).frames ≡ true
+          → (task x.next t).frames ≡ (task x.found t).frames
+      same_at_entry (event.Enter u) step entry begun =
+          by (view config app w t (event.Enter u) x.found x.next step k.valid (begun_stands (task x.found t).frames begun))
+        where
+          by : View config app w t (event.Enter u) x.found x.next → (task x.next t).frames ≡ (task x.found t).frames
+          by (goes executed turn stays steps waits) = absurd (false≢true executed)
+          by (leaves is turn) = absurd (false≢true is)
+          by (returns is turn stays quiet same) = same
+          by (rests away stays quiet same) = same
+      same_at_entry event.Boot step entry begun = absurd (false≢true entry)
+      same_at_entry e step entry begun = absurd (false≢true entry)
+
+      not_active : (e : Event) → OsekStep config app e x.found x.next → is_entry t e ≡ true → IsActive x.found t → ⊥
+      not_active (event.Enter u) step entry active =
+          differ (sym (subst (λ v. (task x.found v).state ≡ mode.Ready) (eqb-true u t entry) step.2) ∙ active)
+        where
+          differ : mode.Ready ≡ mode.Active → ⊥
+          differ e = cc
+      not_active event.Boot step entry active = false≢true entry
+      not_active e step entry active = absurd (false≢true entry)
+
+      entered : at_entry t x ≡ true → has_frames (task x.found t).frames ≡ true → Stands x.found → BehindWait app t (standing (task x.next t).frames)
+      entered entry begun (inl active) = absurd (not_active x.stamped.event k.step entry active)
+      entered entry begun (inr (inl none)) = absurd (begun_stands (task x.found t).frames begun none)
+      entered entry begun (inr (inr behind)) =
+          subst (λ fs. BehindWait app t (standing fs)) (sym (same_at_entry x.stamped.event k.step entry begun)) behind
+
+      waited : (e : Event) → OsekStep config app e x.found x.next → goes_on_waiting t e ≡ true → BehindWait app t (standing (task x.next t).frames)
+      waited (event.Call u served status) step waits =
+          let both = and_parts (u == t) (is_service served service.WaitEvent) waits in
+          let own : OsekStep config app (event.Call t served status) x.found x.next =
+          subst (λ v. OsekStep config app (event.Call v served status) x.found x.next) (eqb-true u t both.0) step in
+          behind_own served x.found (GoesOn status own.1.0) x.next own.1.1 k.valid p (same_service served service.WaitEvent both.1)
+          (frame_effect config app w x.found x.next k.valid (event.Call t served status) own).steps.walks
+      waited event.Boot step waits = absurd (false≢true waits)
+      waited e step waits = absurd (false≢true waits)
+
+      which : ((at_entry t x && has_frames (task x.found t).frames) ≡ true) ⊎ ((at_entry t x && has_frames (task x.found t).frames) ≡ false)
+          → BehindWait app t (standing (task x.next t).frames)
+      which (inl entry) =
+          let both = and_parts (at_entry t x) (has_frames (task x.found t).frames) entry in
+          entered both.0 both.1 stands
+      which (inr other) =
+          let on = sym (ap (λ b. b || (cuts && goes_on_waiting t x.stamped.event)) other) ∙ is in
+          waited x.stamped.event k.step (and_parts cuts (goes_on_waiting t x.stamped.event) on).1
 
 -- ---- rounds of a run
 
 module _ (config : Config) (app : App) (w : Facts config app) where
-  -- each stage finds tasks that stand where walks lead
-  placed : (at : ℕ) (s : System) (xs : List Stage) → Linked at s xs → AllByRecursion (Known config app) xs → Placed app s → AllByRecursion (λ x. Placed app x.next) xs
-  placed at s [] l k p = tt
-  placed at s (x ∷ xs) l k p =
-      let here : Placed app x.found = subst (Placed app) (sym l.1) p in
-      let next = step_placed config app x.found x.next x.stamped.event (frame_effect config app w x.found x.next k.0.valid x.stamped.event k.0.step) here in
-      (next, placed (end_of x) x.next xs l.2 k.1 next)
-
   -- a task that is entered anew stands at the first item of its body
   stands_first : (t : ℕ) (x : Stage) → Known config app x → begins_first t x ≡ true
       → (standing (task x.next t).frames ≡ first_position app t) × ((task x.next t).frames ≢ [])
@@ -410,7 +590,8 @@ rounds_follow_walks config app events t cuts f going ending wf osek fits lighter
       (subst (λ p. Found config app w t cuts f going ending lighter p (total (if_turn t f) (round_of cuts t behind))) first.0 (found first.1)),
   λ most bound begun.
       let some = stands_again config app w cuts t opens here begun in
-      part_found config app w t cuts f going ending lighter most _ (standing (task opens.next t).frames) bound (reached some (in_place t)) (found some),
+      later_found config app w t cuts f going ending lighter most _ (standing (task opens.next t).frames) bound
+      (behind_wait config app w t cuts opens here own.0 own.1 begun) (found some),
 )
   where
     w : Facts config app
@@ -424,15 +605,15 @@ rounds_follow_walks config app events t cuts f going ending wf osek fits lighter
     here : Known config app opens
     here = (each_append (Known config app) before (opens ∷ behind) (subst (AllByRecursion (Known config app)) is known)).1.0
 
-    all_placed : AllByRecursion (λ x. Placed app x.next) (run_stages config app events)
-    all_placed = placed config app w 0 (opening config app) (run_stages config app events) (stages_linked config app 0 (opening config app) events) known (opening_placed config app)
+    stand : AllByRecursion (λ x. Stands config app w t x.found × Placed app x.found) (run_stages config app events)
+    stand =
+        all_stand config app w t 0 (opening config app) (run_stages config app events) (stages_linked config app 0 (opening config app) events) known
+        (opening_placed config app) (inr (inl (ap (λ (k : Task). k.frames) (asleep_at config.tasks t))))
 
-    in_place : Placed app opens.next
-    in_place = (each_append (λ x. Placed app x.next) before (opens ∷ behind) (subst (AllByRecursion (λ x. Placed app x.next)) is all_placed)).1.0
-
-    reached : (task opens.next t).frames ≢ [] → ((task opens.next t).frames ≡ []) ⊎ IsReached app t (standing (task opens.next t).frames) → IsReached app t (standing (task opens.next t).frames)
-    reached some (inl none) = absurd (some none)
-    reached some (inr r) = r
+    own : Stands config app w t opens.found × Placed app opens.found
+    own =
+        (each_append (λ x. Stands config app w t x.found × Placed app x.found) before (opens ∷ behind)
+        (subst (AllByRecursion (λ x. Stands config app w t x.found × Placed app x.found)) is stand)).1.0
 
     links : Linked (end_of opens) opens.next behind
     links =

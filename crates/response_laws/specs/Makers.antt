@@ -16,7 +16,7 @@ use Rattle.raised_sections.specs.Sections.{operation_at}
 use Rattle.run_counts.specs.Stages.{Stage, run_stages}
 use Rattle.response_laws.specs.Turns.{activated, was_set}
 use Rattle.response_laws.specs.Bounded.{EachFirst, EachNext}
-use Rattle.response_laws.specs.Walked.{FirstRoundsWeigh, PartRoundsWeigh, FitsItem}
+use Rattle.response_laws.specs.Walked.{FirstRoundsWeigh, LaterRoundsWeigh, FitsItem}
 
 -- a service that may make its task Ready to begin anew
 abbrev pub is_activation : Service → Bool
@@ -54,9 +54,9 @@ ItemsSet = (config : Config) (app : App) (events : List Stamped) (t j : ℕ) →
 -- what rounds of task k make of task j is within what walks weigh
 pub record MakesWithin (app : App) (run : List Stage) (k j : ℕ) (cuts : Bool) (most : ℕ) : Type 0 where
   pub first_acts : FirstRoundsWeigh app cuts k (activation_weight app j) (activation_weight app j) most → EachFirst run cuts k (activated j) most
-  pub next_acts : PartRoundsWeigh app cuts k (activation_weight app j) (activation_weight app j) most → EachNext run cuts k (activated j) most
+  pub next_acts : LaterRoundsWeigh app cuts k (activation_weight app j) (activation_weight app j) most → EachNext run cuts k (activated j) most
   pub first_sets : FirstRoundsWeigh app cuts k (setting_weight app j) (setting_weight app j) most → EachFirst run cuts k (was_set j) most
-  pub next_sets : PartRoundsWeigh app cuts k (setting_weight app j) (setting_weight app j) most → EachNext run cuts k (was_set j) most
+  pub next_sets : LaterRoundsWeigh app cuts k (setting_weight app j) (setting_weight app j) most → EachNext run cuts k (was_set j) most
 
 -- in every run of well-formed task code
 abbrev pub RoundsMakeWithin : Type 0

@@ -22,7 +22,7 @@ use Rattle.run_counts.specs.Stages.{Stage, own, run_stages}
 use Rattle.run_counts.specs.Rounds.{opens_round, round_of, total}
 use Rattle.response_laws.specs.Sums.{is_over}
 use Rattle.section_sizes.specs.Weights.{going_at, ending_at}
-use Rattle.response_laws.specs.Walked.{FirstRoundsWeigh, PartRoundsWeigh}
+use Rattle.response_laws.specs.Walked.{FirstRoundsWeigh, LaterRoundsWeigh}
 use Rattle.response_laws.specs.Demand.{Costs, Start}
 use Rattle.response_laws.specs.Makers.{activation_weight, setting_weight}
 use Rattle.response_laws.specs.Bounded.{HasSettings}
@@ -59,7 +59,7 @@ FirstRoundsWithin app weights cuts t most = FirstRoundsWeigh app cuts t (going_a
 
 -- and no other round
 abbrev pub OtherRoundsWithin : App → (weights : List BodyWeights) → (cuts : Bool) → (t most : ℕ) → Type 0
-OtherRoundsWithin app weights cuts t most = PartRoundsWeigh app cuts t (going_at weights) (ending_at weights) most
+OtherRoundsWithin app weights cuts t most = LaterRoundsWeigh app cuts t (going_at weights) (ending_at weights) most
 
 -- What the costs say of a run: in front of each entry and tick the longest item may have begun, whose counts are taken as theirs too.
 pub record FitsRounds (config : Config) (app : App) (weights : List BodyWeights) (load : List Entry) (h : ℕ) (cuts : ℕ → Bool) (costs : Costs)
@@ -79,11 +79,11 @@ pub record FitsRounds (config : Config) (app : App) (weights : List BodyWeights)
   pub first_acts : (k j : ℕ) → k < length config.tasks → is_over config h k ≡ true
       → FirstRoundsWeigh app (cuts k) k (activation_weight app j) (activation_weight app j) (costs.first_acts k j)
   pub next_acts : (k j : ℕ) → k < length config.tasks → is_over config h k ≡ true
-      → PartRoundsWeigh app (cuts k) k (activation_weight app j) (activation_weight app j) (costs.next_acts k j)
+      → LaterRoundsWeigh app (cuts k) k (activation_weight app j) (activation_weight app j) (costs.next_acts k j)
   pub first_sets : (k j : ℕ) → k < length config.tasks → is_over config h k ≡ true
       → FirstRoundsWeigh app (cuts k) k (setting_weight app j) (setting_weight app j) (costs.first_sets k j)
   pub next_sets : (k j : ℕ) → k < length config.tasks → is_over config h k ≡ true
-      → PartRoundsWeigh app (cuts k) k (setting_weight app j) (setting_weight app j) (costs.next_sets k j)
+      → LaterRoundsWeigh app (cuts k) k (setting_weight app j) (setting_weight app j) (costs.next_sets k j)
   pub settings : (t : ℕ) → t < length config.tasks → is_over config h t ≡ true → cuts t ≡ true → HasSettings run t
 
 -- ---- the law

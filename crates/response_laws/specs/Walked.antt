@@ -41,10 +41,12 @@ pub record IsFirstRound (app : App) (cuts : Bool) (t : ℕ) (positions : List Po
   pub of_walk : IsWalk app t positions
   pub cut : OnlyLastWaits cuts app positions
 
--- a part of a walk of it, from any position on, up to a WaitEvent where these cut its turns
-pub record IsPartRound (app : App) (cuts : Bool) (t : ℕ) (positions : List Position) : Type 0 where
+-- another round of it: a part of a walk behind a WaitEvent, up to the next one where these cut its turns
+pub record IsLaterRound (app : App) (cuts : Bool) (t : ℕ) (positions : List Position) : Type 0 where
   pub before : List Position
-  pub of_walk : IsWalk app t (before ++ positions)
+  pub wait : Position
+  pub of_walk : IsWalk app t (before ++ wait ∷ positions)
+  pub waits : is_wait (operation_at app wait) ≡ true
   pub cut : OnlyLastWaits cuts app positions
 
 -- the sum of what positions weigh: the last one where the walk may end with it, the others where it goes on
@@ -57,9 +59,9 @@ weigh going ending (at ∷ next ∷ further) = going at + weigh going ending (ne
 abbrev pub FirstRoundsWeigh : App → (cuts : Bool) → (t : ℕ) → (going ending : Position → ℕ) → (most : ℕ) → Type 0
 FirstRoundsWeigh app cuts t going ending most = (positions : List Position) → IsFirstRound app cuts t positions → weigh going ending positions ≤ most
 
--- no part weighs more
-abbrev pub PartRoundsWeigh : App → (cuts : Bool) → (t : ℕ) → (going ending : Position → ℕ) → (most : ℕ) → Type 0
-PartRoundsWeigh app cuts t going ending most = (positions : List Position) → IsPartRound app cuts t positions → weigh going ending positions ≤ most
+-- no other round weighs more
+abbrev pub LaterRoundsWeigh : App → (cuts : Bool) → (t : ℕ) → (going ending : Position → ℕ) → (most : ℕ) → Type 0
+LaterRoundsWeigh app cuts t going ending most = (positions : List Position) → IsLaterRound app cuts t positions → weigh going ending positions ≤ most
 
 -- ---- runs
 
@@ -87,4 +89,4 @@ RoundsFollowWalks = (config : Config) (app : App) (events : List Stamped) (t : �
     → ((at : Position) → going at ≤ ending at)
     → (before behind : List Stage) (opens : Stage) → run_stages config app events ≡ before ++ opens ∷ behind
     → ((most : ℕ) → FirstRoundsWeigh app cuts t going ending most → begins_first t opens ≡ true → total (if_turn t f) (round_of cuts t behind) ≤ most)
-    × ((most : ℕ) → PartRoundsWeigh app cuts t going ending most → begins_next cuts t opens ≡ true → total (if_turn t f) (round_of cuts t behind) ≤ most)
+    × ((most : ℕ) → LaterRoundsWeigh app cuts t going ending most → begins_next cuts t opens ≡ true → total (if_turn t f) (round_of cuts t behind) ≤ most)
