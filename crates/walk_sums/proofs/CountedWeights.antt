@@ -14,7 +14,7 @@ use Rattle.section_sizes.specs.Parts.{is_plain}
 use Rattle.walk_sums.specs.declared.counted.Counted.{Counted}
 use Rattle.walk_sums.specs.declared.counted.Counted.TheVariants as counts
 use Rattle.walk_sums.specs.Weights.{AreSumWeights}
-use Rattle.walk_sums.specs.Counted.{one_if, is_going_counted, is_ending_counted, body_counts, counted_weights}
+use Rattle.walk_sums.specs.Counted.{CountsEnds, one_if, is_going_counted, is_ending_counted, body_counts, counted_weights}
 
 at_most_one : (b : Bool) → one_if b ≤ 1
 at_most_one true = omega arith
@@ -32,6 +32,8 @@ no_lighter_op (counts.Chains task) o = omega arith
 no_lighter_op (counts.Settings task) o = omega arith
 no_lighter_op (counts.Waits events) o = omega arith
 no_lighter_op counts.Schedules o = omega arith
+no_lighter_op (counts.Calls s) o = omega arith
+no_lighter_op (counts.CallsFor s object) o = omega arith
 
 -- no call and no `ret` counts
 call_counts : (c : Counted) (g : ℕ) → one_if (is_ending_counted c (op.Invoke g)) ≡ one_if (is_going_counted c (op.Invoke g))
@@ -40,6 +42,8 @@ call_counts (counts.Chains task) g = refl
 call_counts (counts.Settings task) g = refl
 call_counts (counts.Waits events) g = refl
 call_counts counts.Schedules g = refl
+call_counts (counts.Calls s) g = refl
+call_counts (counts.CallsFor s object) g = refl
 
 return_counts : (c : Counted) → one_if (is_ending_counted c op.Return) ≡ one_if (is_going_counted c op.Return)
 return_counts (counts.Activations task) = refl
@@ -47,6 +51,8 @@ return_counts (counts.Chains task) = refl
 return_counts (counts.Settings task) = refl
 return_counts (counts.Waits events) = refl
 return_counts counts.Schedules = refl
+return_counts (counts.Calls s) = refl
+return_counts (counts.CallsFor s object) = refl
 
 same_op : (c : Counted) (o : Op) → is_plain o ≡ false → one_if (is_ending_counted c o) ≡ one_if (is_going_counted c o)
 same_op c (op.Invoke g) e = call_counts c g
@@ -106,30 +112,21 @@ module _ (c : Counted) where
       ap (λ (b : BodyWeights). get_or b.ending i 0) (get_or-map (body_counts c) app.funcs f no_function no_weights known)
       ∙ get_or-map (λ (item : Item). one_if (is_ending_counted c item.op)) (function app f).items i no_item 0 inside
 
--- a WaitEvent counts at the end of a walk alone
-waits_items : (events : ℕ) (items : List Item) (i : ℕ) → get_or (map (λ (item : Item). one_if (is_going_counted (counts.Waits events) item.op)) items) i 0 ≡ 0
-waits_items events [] i = refl
-waits_items events (item ∷ items) zero = refl
-waits_items events (item ∷ items) (suc i) = waits_items events items i
+-- ---- what counts at the end of a walk alone
 
-waits_bodies : (events : ℕ) (funcs : List Func) (f i : ℕ) → get_or (get_or (map (body_counts (counts.Waits events)) funcs) f no_weights).going i 0 ≡ 0
-waits_bodies events [] f i = refl
-waits_bodies events (func ∷ funcs) zero i = waits_items events func.items i
-waits_bodies events (func ∷ funcs) (suc f) i = waits_bodies events funcs f i
+module _ (c : Counted) (ends : CountsEnds c) where
+  none_items : (items : List Item) (i : ℕ) → get_or (map (λ (item : Item). one_if (is_going_counted c item.op)) items) i 0 ≡ 0
+  none_items [] i = refl
+  none_items (item ∷ items) zero = ap one_if (ends item.op)
+  none_items (item ∷ items) (suc i) = none_items items i
+
+  none_bodies : (funcs : List Func) (f i : ℕ) → get_or (get_or (map (body_counts c) funcs) f no_weights).going i 0 ≡ 0
+  none_bodies [] f i = refl
+  none_bodies (func ∷ funcs) zero i = none_items func.items i
+  none_bodies (func ∷ funcs) (suc f) i = none_bodies funcs f i
+
+  pub ends_weightless : (app : App) (f i : ℕ) → going_weight (counted_weights c app) f i ≡ 0
+  ends_weightless app f i = none_bodies app.funcs f i
 
 pub waits_weightless : (events : ℕ) (app : App) (f i : ℕ) → going_weight (counted_weights (counts.Waits events) app) f i ≡ 0
-waits_weightless events app f i = waits_bodies events app.funcs f i
-
--- and so does a Schedule
-schedules_items : (items : List Item) (i : ℕ) → get_or (map (λ (item : Item). one_if (is_going_counted counts.Schedules item.op)) items) i 0 ≡ 0
-schedules_items [] i = refl
-schedules_items (item ∷ items) zero = refl
-schedules_items (item ∷ items) (suc i) = schedules_items items i
-
-schedules_bodies : (funcs : List Func) (f i : ℕ) → get_or (get_or (map (body_counts counts.Schedules) funcs) f no_weights).going i 0 ≡ 0
-schedules_bodies [] f i = refl
-schedules_bodies (func ∷ funcs) zero i = schedules_items func.items i
-schedules_bodies (func ∷ funcs) (suc f) i = schedules_bodies funcs f i
-
-pub schedules_weightless : (app : App) (f i : ℕ) → going_weight (counted_weights counts.Schedules app) f i ≡ 0
-schedules_weightless app f i = schedules_bodies app.funcs f i
+waits_weightless events app f i = ends_weightless (counts.Waits events) (λ o. refl) app f i

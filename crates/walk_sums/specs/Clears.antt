@@ -1,19 +1,21 @@
 -- Which tasks clear an event before they wait for it again.
-use Rattle.std.specs.Prelude.{ℕ, ◌^◌, ◌<◌, ◌≤◌, ◌≡◌, ◌&&◌, leb, Bool, false, List, length, get_or, Decides}
+use Rattle.std.specs.Prelude.{ℕ, ◌^◌, ◌<◌, ◌≤◌, ◌≡◌, ◌&&◌, leb, ltb, Bool, true, false, List, length, get_or, Decides}
 use Rattle.sloth_base.specs.declared.app.App.{App}
 use Rattle.sloth_base.specs.declared.app.Func.{Func}
 use Rattle.sloth_base.specs.Named.{body_of}
 use Rattle.raised_sections.specs.Walks.{Position}
+use Rattle.raised_sections.specs.Sections.{operation_at}
 use Rattle.bound_rules.specs.declared.sizes.Summary.{Summary}
 use Rattle.bound_rules.specs.Summaries.{summary_of}
 use Rattle.bound_rules.specs.Tasks.{task_at}
 use Rattle.sloth_base.specs.declared.config.TaskDecl.{TaskDecl}
 use Rattle.section_sizes.specs.Weights.{sum_of}
 use Rattle.walk_sums.specs.declared.kinds.Kind.TheVariants as kinds
+use Rattle.walk_sums.specs.declared.counted.Counted.{Counted}
 use Rattle.walk_sums.specs.declared.counted.Counted.TheVariants as counts
-use Rattle.walk_sums.specs.Rounds.{IsPart, IsBehindWait, Anywhere}
+use Rattle.walk_sums.specs.Rounds.{IsPart, IsBehindWait, Anywhere, Reaches}
 use Rattle.walk_sums.specs.Kinds.{stops}
-use Rattle.walk_sums.specs.Counted.{counted_weights}
+use Rattle.walk_sums.specs.Counted.{counted_weights, is_ending_counted}
 
 -- No walk of task t from one WaitEvent to the next leaves this bit, which the second one waits for, without a ClearEvent of it between them.
 abbrev pub ClearsBit : App → (t k : ℕ) → Type 0
@@ -43,3 +45,12 @@ is_steady tasks funcs table t = (task_at tasks t).non && leb (summary_of table (
 pub record AreSteadyMarks (tasks : List TaskDecl) (funcs : List Func) (count : ℕ) (table : List Summary) (marks : List Bool) : Type 0 where
   pub marked : length marks ≡ count
   pub exact : (t : ℕ) → t < count → get_or marks t false ≡ is_steady tasks funcs table t
+
+-- a walk of task t reaches what counts at the end of a walk
+abbrev pub ReachesCounted : App → (t : ℕ) → Counted → Type 0
+ReachesCounted app t c = (at : Position) × Reaches app t at × (is_ending_counted c (operation_at app at) ≡ true)
+
+-- of each task it is marked whether some turn has a sum above 0
+pub record AreReachingMarks (funcs : List Func) (count : ℕ) (table : List Summary) (marks : List Bool) : Type 0 where
+  pub marked : length marks ≡ count
+  pub exact : (t : ℕ) → t < count → get_or marks t false ≡ ltb 1 (summary_of table (body_of funcs t)).on

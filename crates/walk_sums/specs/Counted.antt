@@ -1,5 +1,5 @@
 -- Weights by which walks are counted for what they do.
-use Rattle.std.specs.Prelude.{ℕ, ◌==◌, ◌&&◌, ◌||◌, not, map, Bool, true, false, List, bit_and}
+use Rattle.std.specs.Prelude.{ℕ, ◌≡◌, ◌==◌, ◌&&◌, ◌||◌, not, map, Bool, true, false, List, bit_and}
 use Rattle.sloth_base.specs.declared.app.App.{App}
 use Rattle.sloth_base.specs.declared.app.Func.{Func}
 use Rattle.sloth_base.specs.declared.app.Item.{Item}
@@ -13,7 +13,12 @@ use Rattle.bound_rules.specs.declared.weights.BodyWeights.{BodyWeights}
 use Rattle.walk_sums.specs.declared.counted.Counted.{Counted}
 use Rattle.walk_sums.specs.declared.counted.Counted.TheVariants as counted
 
--- a call of this service for a task
+-- a call of this service
+abbrev pub calls : Service → Op → Bool
+calls s (op.Serve call) = is_service call.service s
+calls s _ = false
+
+-- for a task, or another object of this number
 abbrev pub calls_for : (task : ℕ) → Service → Op → Bool
 calls_for task s (op.Serve call) = is_service call.service s && (call.object == task)
 calls_for task s _ = false
@@ -30,6 +35,8 @@ is_going_counted (counted.Chains task) o = false
 is_going_counted (counted.Settings task) o = calls_for task service.SetEvent o
 is_going_counted (counted.Waits events) o = false
 is_going_counted counted.Schedules o = false
+is_going_counted (counted.Calls s) o = false
+is_going_counted (counted.CallsFor s object) o = false
 
 -- it counts where the walk ends with it
 abbrev pub is_ending_counted : Counted → Op → Bool
@@ -38,6 +45,12 @@ is_ending_counted (counted.Chains task) o = calls_for task service.ChainTask o
 is_ending_counted (counted.Settings task) o = calls_for task service.SetEvent o
 is_ending_counted (counted.Waits events) o = awaits events o
 is_ending_counted counted.Schedules o = is_schedule o
+is_ending_counted (counted.Calls s) o = calls s o
+is_ending_counted (counted.CallsFor s object) o = calls_for object s o
+
+-- only what a walk ends with counts
+abbrev pub CountsEnds : Counted → Type 0
+CountsEnds c = (o : Op) → is_going_counted c o ≡ false
 
 -- 1 where it is so
 abbrev pub one_if : Bool → ℕ

@@ -1,7 +1,7 @@
 //! Weights by which walks are counted for what they do: each item that does it weighs 1, all others 0.
 ghost use Rattle.std.specs.Prelude.{◌≡◌, ◌||◌, map, IfOk};
 ghost use Rattle.walk_sums.specs.Weights.{AreSumWeights};
-ghost use Rattle.walk_sums.specs.Counted.{one_if, calls_for, awaits, is_going_counted, is_ending_counted, body_counts, counted_weights};
+ghost use Rattle.walk_sums.specs.Counted.{one_if, calls, calls_for, awaits, is_going_counted, is_ending_counted, body_counts, counted_weights};
 ghost use Rattle.sloth_base.specs.declared.service.Service.TheVariants as service;
 ghost use Rattle.raised_sections.specs.Sections.{is_schedule};
 
@@ -26,9 +26,23 @@ pub enum Counted {
     Waits(u32),
     /// That it ends with a Schedule.
     Schedules,
+    /// That it ends with a call of this service.
+    Calls(Service),
+    /// That it ends with a call of this service for this task, resource or alarm.
+    CallsFor(Service, u32),
 }
 
-/// Whether an operation is a call of this service for a task.
+/// Whether an operation is a call of this service.
+fn calls(wanted: Service, op: Op) -> bool
+    ensures { result ≡ calls wanted op }
+{
+    match op {
+        Op::Serve(call) => call.service.code() == wanted.code(),
+        _ => false,
+    }
+}
+
+/// Whether it is one for a task, or another object of this number.
 fn calls_for(task: u32, wanted: Service, op: Op) -> bool
     ensures { result ≡ calls_for task wanted op }
 {
@@ -79,7 +93,11 @@ fn is_going_counted(counted: Counted, op: Op) -> bool
     match counted {
         Counted::Activations(task) => calls_for(task, Service::ActivateTask, op),
         Counted::Settings(task) => calls_for(task, Service::SetEvent, op),
-        Counted::Chains(_) | Counted::Waits(_) | Counted::Schedules => false,
+        Counted::Chains(_)
+        | Counted::Waits(_)
+        | Counted::Schedules
+        | Counted::Calls(_)
+        | Counted::CallsFor(_, _) => false,
     }
 }
 
@@ -93,6 +111,8 @@ fn is_ending_counted(counted: Counted, op: Op) -> bool
         Counted::Settings(task) => calls_for(task, Service::SetEvent, op),
         Counted::Waits(events) => awaits(events, op),
         Counted::Schedules => is_schedule(op),
+        Counted::Calls(wanted) => calls(wanted, op),
+        Counted::CallsFor(wanted, object) => calls_for(object, wanted, op),
     }
 }
 

@@ -17,6 +17,7 @@ mod items;
 pub mod kinds;
 pub mod levels;
 mod paths;
+pub mod reach;
 mod shape;
 pub mod steady;
 pub mod sum;

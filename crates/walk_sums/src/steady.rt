@@ -1,19 +1,14 @@
 //! Which tasks are not preemptable and reach no Schedule (OSEK OS 2.2.3, section 13.2.3.4).
-ghost use Rattle.std.specs.Prelude.{◌≡◌, ◌<◌, ℕ, None, false, get_or, length, Decides, IfOk};
+ghost use Rattle.std.specs.Prelude.{◌≡◌, ◌<◌, ℕ, false, get_or, length, Decides, IfOk};
 ghost use Rattle.code_rules.specs.WellFormed.{WellFormed};
 ghost use Rattle.call_graph.specs.Tables.{HasTaskBody};
 ghost use Rattle.section_sizes.specs.CallOrder.{IsCallOrder};
 ghost use Rattle.section_sizes.specs.Known.{AreKnownBodies};
-ghost use Rattle.walk_sums.specs.declared.kinds.Kind.TheVariants as kinds;
-ghost use Rattle.walk_sums.specs.declared.counted.Counted.TheVariants as counts;
 ghost use Rattle.walk_sums.specs.Rounds.{IsSteady};
-ghost use Rattle.walk_sums.specs.Counted.{counted_weights};
-ghost use Rattle.walk_sums.specs.Known.{AreSums};
 ghost use Rattle.walk_sums.specs.Clears.{is_steady, AreSteadyMarks};
 
-use crate::counted::{Counted, counted_weights};
-use crate::kinds::Kind;
-use crate::levels::whole_sums;
+use crate::counted::Counted;
+use crate::reach::counted_turns;
 use crate::tasks::summary_at;
 use bound_rules::bodies::Body;
 use bound_rules::sizes::Summary;
@@ -22,23 +17,6 @@ use sloth_base::config::Config;
 use sloth_base::memory::NoMemory;
 use std::alloc::Global;
 use text_pieces::growth::push;
-
-/// The sums that count Schedules at the end of turns.
-fn schedules(
-    alloc: Global,
-    config: &Config,
-    app: &App,
-    bodies: &[Body],
-    order: &[usize],
-) -> Result<Vec<Summary>, NoMemory>
-    requires well_formed { WellFormed config.now app.now }
-    requires bodies { AreKnownBodies config.now app.now bodies.now }
-    requires order { IsCallOrder app.now order.now }
-    ensures { IfOk result (λ table. AreSums config.now app.now (counted_weights counts.Schedules app.now) kinds.Turns None table.items) }
-{
-    let weights = counted_weights(alloc, app, Counted::Schedules)?;
-    whole_sums(alloc, config, app, &weights, Kind::Turns, bodies, order)
-}
 
 fn is_steady(config: &Config, app: &App, table: &[Summary], task: usize) -> bool
     requires inside { task < length config.now.tasks }
@@ -79,6 +57,6 @@ pub fn steady_tasks(
     requires order { IsCallOrder app.now order.now }
     ensures { IfOk result (λ steady. (t : ℕ) → t < length config.now.tasks → Decides (get_or steady.items t false) (IsSteady config.now app.now t)) }
 {
-    let table = schedules(alloc, config, app, bodies, order)?;
+    let table = counted_turns(alloc, config, app, bodies, order, Counted::Schedules)?;
     marks(alloc, config, app, &table)
 }

@@ -1,17 +1,15 @@
-use Rattle.std.proofs.Common.{List, None, inr, IfOk, sym, ◌∙◌, subst}
+use Rattle.std.proofs.Common.{List, None, inl, inr, refl, IfOk, sym, ◌∙◌, subst}
 use Rattle.bound_rules.specs.declared.weights.BodyWeights.{BodyWeights}
 use Rattle.walk_sums.specs.declared.kinds.Kind.TheVariants as kinds
-use Rattle.walk_sums.specs.Weights.{AreSumWeights, AreWeightless, SmallEndings}
+use Rattle.walk_sums.specs.Weights.{AreSumWeights}
 use Rattle.walk_sums.specs.Known.{AreSums}
-use Rattle.walk_sums.proofs.SteadyTasks.{schedules_little}
-use Rattle.walk_sums.proofs.steady.schedules.Goals as goal
+use Rattle.walk_sums.proofs.reach.counted_turns.Goals as goal
 
 pub whole_sums-requires-clause-weights : goal.whole_sums-requires-clause-weights
 whole_sums-requires-clause-weights c = subst (AreSumWeights c.args.app.now) (sym c.deref.ensures.value) c.in_ok-weights.ensures.fit
 
 pub whole_sums-requires-clause-summed : goal.whole_sums-requires-clause-summed
-whole_sums-requires-clause-summed c =
-    inr (inr (subst (λ (l : List BodyWeights). AreWeightless l × SmallEndings l) (sym (c.deref.ensures.value ∙ c.in_ok-weights.ensures.is)) (schedules_little c.args.app.now)))
+whole_sums-requires-clause-summed c = inr (inl (refl, inl refl))
 
 pub returns : goal.returns
 returns c =
