@@ -1,12 +1,10 @@
 -- The drawing of a picture: SVG 1.1, a line for each element.
-use Rattle.std.specs.Prelude.{ℕ, ◌+◌, ◌-◌, ◌*◌, ◌/◌, ◌==◌, ltb, leb, Bool, ◌||◌, ◌&&◌, List, [], ◌∷◌, ◌++◌, codes, decimal, slice_index, filter}
+use Rattle.std.specs.Prelude.{ℕ, ◌+◌, ◌-◌, ◌*◌, ◌/◌, ◌==◌, ltb, Bool, ◌||◌, ◌&&◌, List, [], ◌∷◌, ◌++◌, codes, decimal, slice_index}
 use Rattle.std.specs.List.{flat_map, range_with_len}
-use Rattle.sloth_base.specs.declared.event.Arrival.{Arrival}
 use Rattle.lane_drawing.specs.declared.bars.Bar.{Bar}
 use Rattle.lane_drawing.specs.declared.bars.Look.{Look}
 use Rattle.lane_drawing.specs.declared.bars.Look.TheVariants as look
 use Rattle.lane_drawing.specs.declared.scale.Scale.{Scale}
-use Rattle.lane_drawing.specs.Arrivals.{arrival_line}
 use Rattle.lane_drawing.specs.Scale.{place, pixels, axis_step, first_multiple, last_multiple}
 
 -- ---- bars
@@ -64,23 +62,10 @@ lane_line scale name middle =
     codes "<text class=\"n\" x=\"" ++ decimal (scale.left - 12) ++ codes "\" y=\"" ++ decimal (middle + 5) ++ codes "\" text-anchor=\"end\">" ++ name
     ++ codes "</text><path class=\"g\" d=\"M" ++ decimal scale.left ++ codes " " ++ decimal (middle + 20) ++ codes "h1020\"/>\n"
 
--- a lane with its bars and arrivals
-abbrev pub lane_text : Scale → (name : List ℕ) (middle : ℕ) → List Bar → List Arrival → List ℕ
-lane_text scale name middle bars arrivals =
-    lane_line scale name middle ++ flat_map (bar_line scale name middle) bars ++ flat_map (arrival_line scale name middle) arrivals
-
 -- a task stands above another: on a higher level, or on the same with a lesser number
 abbrev pub is_above : (levels : List ℕ) (task other : ℕ) → Bool
 is_above levels task other =
     ltb (slice_index levels other) (slice_index levels task) || ((slice_index levels other == slice_index levels task) && ltb task other)
-
--- an arrival is of a line, in the counts of a picture
-abbrev pub is_shown : Scale → (line : ℕ) → Arrival → Bool
-is_shown scale line arrival = (arrival.line == line) && (leb scale.from arrival.at && ltb arrival.at scale.to)
-
--- the arrivals of a line in the counts of a picture
-abbrev pub shown_arrivals : Scale → List Arrival → (line : ℕ) → List Arrival
-shown_arrivals scale arrivals line = filter (is_shown scale line) arrivals
 
 -- ---- the frame
 
@@ -111,6 +96,7 @@ style_lines = all_lines (
     ∷ codes ".pre,.ser{fill:#9dbfe0;stroke:#2266aa;stroke-width:.6}\n"
     ∷ codes ".ready{fill:none;stroke:#2266aa;stroke-width:1.4;stroke-dasharray:4 3}\n"
     ∷ codes ".wait{fill:#8a94a3}\n"
+    ∷ codes ".l{fill:none;stroke:#1a2433}\n"
     ∷ codes ".t{fill:#1a2433;stroke:#1a2433}\n"
     ∷ codes ".k{fill:#c2571a}\n"
     ∷ codes "@media screen and (prefers-color-scheme:dark){\n"
@@ -121,6 +107,7 @@ style_lines = all_lines (
     ∷ codes ".pre,.ser{fill:#2f4d6e;stroke:#5aa2e6}\n"
     ∷ codes ".ready{stroke:#5aa2e6}\n"
     ∷ codes ".wait{fill:#7b8796}\n"
+    ∷ codes ".l{stroke:#e6ebf2}\n"
     ∷ codes ".t{fill:#e6ebf2;stroke:#e6ebf2}\n"
     ∷ codes ".k{fill:#e08a4d}\n"
     ∷ codes "}\n"
@@ -159,7 +146,8 @@ legend_lines scale rows = legend_line scale rows ++ all_lines (
     ∷ codes "<rect class=\"wait\" x=\"488\" y=\"11\" width=\"28\" height=\"2\"/><text x=\"524\" y=\"16\">waiting</text>\n"
     ∷ codes "<rect class=\"k\" x=\"596\" y=\"6\" width=\"28\" height=\"12\"/><text x=\"632\" y=\"16\">kernel code</text>\n"
     ∷ codes "<path class=\"a\" d=\"M734 16l-4 -6h8z\"/><text x=\"746\" y=\"16\">arrival</text>\n"
-    ∷ codes "<rect class=\"t\" x=\"816\" y=\"4\" width=\"1\" height=\"16\"/><text x=\"828\" y=\"16\">tick</text>\n"
+    ∷ codes "<path class=\"l\" d=\"M812 16l-4 -6h8z\"/><text x=\"824\" y=\"16\">lost</text>\n"
+    ∷ codes "<rect class=\"t\" x=\"876\" y=\"4\" width=\"1\" height=\"16\"/><text x=\"888\" y=\"16\">tick</text>\n"
     ∷ codes "</g>\n"
     ∷ []
     )

@@ -1,16 +1,13 @@
-//! The lanes of a picture, a line for each bar and mark.
+//! The lanes of a picture, a line for each bar.
 ghost use Rattle.std.specs.Prelude.{◌≡◌, ◌≤◌, ◌++◌, OnOk, All, length};
 ghost use Rattle.std.specs.List.{flat_map};
 ghost use Rattle.sloth_base.specs.Limits.{name_limit};
 ghost use Rattle.lane_drawing.specs.Bars.{IsBarInside};
 ghost use Rattle.lane_drawing.specs.Scale.{IsScale};
-ghost use Rattle.lane_drawing.specs.Drawing.{look_class, look_word, look_height, bar_line, lane_line, shown_arrivals, is_shown};
-ghost use Rattle.lane_drawing.specs.Arrivals.{arrival_line};
+ghost use Rattle.lane_drawing.specs.Drawing.{look_class, look_word, look_height, bar_line, lane_line};
 
-use crate::arrivals::arrival_line;
 use crate::bars::{Bar, Look};
 use crate::scale::{Scale, push_pixels};
-use sloth_base::event::Arrival;
 use sloth_base::memory::NoMemory;
 use trace_text::line_text::LineText;
 
@@ -135,36 +132,6 @@ pub fn push_lane(
     text.extend_from_slice(lane_line(scale, name, middle).bytes())?;
     for bar in bars {
         text.extend_from_slice(bar_line(scale, name, middle, *bar).bytes())?;
-    }
-    Ok(())
-}
-
-// Whether an arrival is of a line, in the counts of a picture.
-fn is_shown(scale: Scale, line: u8, arrival: &Arrival) -> bool
-    ensures { result ≡ is_shown scale line arrival.now }
-{
-    arrival.line.0 == line && arrival.at >= scale.from && arrival.at < scale.to
-}
-
-/// Appends the arrivals of a line, a task's or a counter's, in the counts of a picture.
-pub fn push_arrivals(
-    text: &mut Vec<u8>,
-    scale: Scale,
-    name: &[u8],
-    middle: u32,
-    arrivals: &[Arrival],
-    line: u8,
-) -> Result<(), NoMemory>
-    requires scale { IsScale scale }
-    requires name { length name.now ≤ name_limit }
-    requires high { 13 ≤ middle }
-    ensures { OnOk result (text.new.items ≡ text.old.items
-        ++ flat_map (arrival_line scale name.now middle) (shown_arrivals scale arrivals.now line)) }
-{
-    for arrival in arrivals {
-        if is_shown(scale, line, arrival) {
-            text.extend_from_slice(arrival_line(scale, name, middle, *arrival).bytes())?;
-        }
     }
     Ok(())
 }

@@ -29,7 +29,7 @@ fn head_line(scale: Scale, rows: u32) -> LineText
 }
 
 // How each class looks, on light and on dark screens, what is behind all, and the unit of the axis, above its end.
-const STYLE: [&[u8]; 25] = [
+const STYLE: [&[u8]; 27] = [
     b"<style>\n",
     b"text,.a{fill:#1a2433}\n",
     b".n{font-family:ui-monospace,monospace}\n",
@@ -39,6 +39,7 @@ const STYLE: [&[u8]; 25] = [
     b".pre,.ser{fill:#9dbfe0;stroke:#2266aa;stroke-width:.6}\n",
     b".ready{fill:none;stroke:#2266aa;stroke-width:1.4;stroke-dasharray:4 3}\n",
     b".wait{fill:#8a94a3}\n",
+    b".l{fill:none;stroke:#1a2433}\n",
     b".t{fill:#1a2433;stroke:#1a2433}\n",
     b".k{fill:#c2571a}\n",
     b"@media screen and (prefers-color-scheme:dark){\n",
@@ -49,6 +50,7 @@ const STYLE: [&[u8]; 25] = [
     b".pre,.ser{fill:#2f4d6e;stroke:#5aa2e6}\n",
     b".ready{stroke:#5aa2e6}\n",
     b".wait{fill:#7b8796}\n",
+    b".l{stroke:#e6ebf2}\n",
     b".t{fill:#e6ebf2;stroke:#e6ebf2}\n",
     b".k{fill:#e08a4d}\n",
     b"}\n",
@@ -140,7 +142,7 @@ fn legend_line(scale: Scale, rows: u32) -> LineText
 }
 
 // What the looks and the marks mean.
-const LEGEND: [&[u8]; 9] = [
+const LEGEND: [&[u8]; 10] = [
     b"<rect class=\"run\" x=\"0\" y=\"0\" width=\"28\" height=\"24\"/><text x=\"36\" y=\"16\">runs</text>\n",
     b"<rect class=\"ser\" x=\"96\" y=\"0\" width=\"28\" height=\"24\"/><text x=\"132\" y=\"16\">runs kernel code</text>\n",
     b"<rect class=\"pre\" x=\"262\" y=\"6\" width=\"28\" height=\"12\"/><text x=\"298\" y=\"16\">preempted</text>\n",
@@ -148,7 +150,8 @@ const LEGEND: [&[u8]; 9] = [
     b"<rect class=\"wait\" x=\"488\" y=\"11\" width=\"28\" height=\"2\"/><text x=\"524\" y=\"16\">waiting</text>\n",
     b"<rect class=\"k\" x=\"596\" y=\"6\" width=\"28\" height=\"12\"/><text x=\"632\" y=\"16\">kernel code</text>\n",
     b"<path class=\"a\" d=\"M734 16l-4 -6h8z\"/><text x=\"746\" y=\"16\">arrival</text>\n",
-    b"<rect class=\"t\" x=\"816\" y=\"4\" width=\"1\" height=\"16\"/><text x=\"828\" y=\"16\">tick</text>\n",
+    b"<path class=\"l\" d=\"M812 16l-4 -6h8z\"/><text x=\"824\" y=\"16\">lost</text>\n",
+    b"<rect class=\"t\" x=\"876\" y=\"4\" width=\"1\" height=\"16\"/><text x=\"888\" y=\"16\">tick</text>\n",
     b"</g>\n",
 ];
 

@@ -1,11 +1,13 @@
 -- A run has one picture from one count to below another.
-use Rattle.std.proofs.Common.{◌≡◌, ◌≤◌, ◌<◌, ◌+◌, ◌∙◌, ◌++◌, zero, suc, ℕ, List, [], Some, length, get_or, refl, sym, ap, subst, arith}
+use Rattle.std.proofs.Common.{◌≡◌, ◌≤◌, ◌<◌, ◌+◌, ◌-◌, ◌∙◌, ◌++◌, zero, suc, ℕ, List, [], Some, length, get_or, refl, sym, ap, subst, arith}
 use Rattle.sloth_base.specs.declared.event.Arrival.{Arrival}
 use Rattle.sloth_base.specs.declared.image.Image.{Image}
 use Rattle.sloth_base.specs.Machine.{State}
 use Rattle.sloth_base.specs.Owners.{counter_line}
 use Rattle.sloth_runner.specs.TaskStates.{task_levels}
+use Rattle.sloth_runner.specs.declared.admissions.Admission.{Admission}
 use Rattle.sloth_runner.specs.declared.samples.Sample.{Sample}
+use Rattle.sloth_runner.specs.Admissions.{run_admissions}
 use Rattle.sloth_runner.specs.Samples.{AreSampledLevels}
 use Rattle.sloth_runner.proofs.OneSample.{one-samples}
 use Rattle.lane_drawing.specs.declared.bars.Bar.{Bar}
@@ -13,10 +15,10 @@ use Rattle.lane_drawing.specs.declared.scale.Scale.{Scale}
 use Rattle.lane_drawing.specs.Bars.{AreBars}
 use Rattle.std.specs.Prelude.{codes}
 use Rattle.std.specs.List.{flat_map}
-use Rattle.lane_drawing.specs.Drawing.{head_line, style_lines, axis_lines, lane_line, bar_line, lane_text, row_middle, shown_arrivals, legend_lines}
+use Rattle.lane_drawing.specs.Drawing.{head_line, style_lines, axis_lines, lane_line, bar_line, row_middle, legend_lines}
 use Rattle.lane_drawing.proofs.Growing.{one_bars}
 use Rattle.schedule_picture.specs.LaneLooks.{owned_lanes, look_of}
-use Rattle.schedule_picture.specs.Picture.{Drawing, IsPictureOf, scale_of, tasks_above, task_lane, task_lanes, counter_lane, counter_lanes, picture_text}
+use Rattle.schedule_picture.specs.Picture.{Drawing, IsPictureOf, scale_of, lane_text, shown_arrivals, tasks_above, task_lane, task_lanes, counter_lane, counter_lanes, picture_text}
 
 -- the levels of a count
 one_levels : (image : Image) (A : List Arrival) (k : ℕ) (xs ys : List ℕ) → AreSampledLevels image A k xs → AreSampledLevels image A k ys → xs ≡ ys
@@ -25,10 +27,10 @@ one_levels image A k xs ys h i =
     let state : h.state ≡ i.state = cc in
     h.are ∙ ap (λ (s : State). task_levels image s) state ∙ sym i.are
 
-module _ (image : Image) (A : List Arrival) (levels : List ℕ) (scale : Scale) where
+module _ (image : Image) (A : List Admission) (levels : List ℕ) (scale : Scale) where
   -- the drawing with these bars in its lanes
   abbrev drawing : ((lane : ℕ) → List Bar) → Drawing
-  drawing bars = record { image = image; arrivals = A; levels = levels; scale = scale; bars = bars }
+  drawing bars = record { image = image; admissions = A; levels = levels; scale = scale; bars = bars }
 
   -- a lane of a task is told by its own bars
   same_task : (b c : (lane : ℕ) → List Bar) (task : ℕ) → b task ≡ c task → task_lane (drawing b) task ≡ task_lane (drawing c) task
@@ -82,4 +84,7 @@ one_picture image A from to text other h i =
     λ lane few.
     let B : List Sample → Type 0 = λ xs. AreBars (look_of image xs lane) from to (h.bars lane) in
     one_bars (look_of image i.samples lane) from to (h.bars lane) (i.bars lane) (subst B samples (h.are_bars lane few)) (i.are_bars lane few) in
-    h.is ∙ ap (λ l. picture_text (drawing image A l scale h.bars)) levels ∙ same_text image A i.levels scale h.bars i.bars same ∙ sym i.is
+    let shown : List Sample → List Admission = λ xs. run_admissions image A xs from (to - from) in
+    h.is ∙ ap (λ l. picture_text (drawing image (shown h.samples) l scale h.bars)) levels
+    ∙ ap (λ xs. picture_text (drawing image (shown xs) i.levels scale h.bars)) samples
+    ∙ same_text image (shown i.samples) i.levels scale h.bars i.bars same ∙ sym i.is

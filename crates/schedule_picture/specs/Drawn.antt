@@ -12,7 +12,7 @@ use Rattle.schedule_picture.specs.Picture.{Drawing}
 abbrev pub drawing_of : Drawn → Drawing
 drawing_of drawn = record {
   image = drawn.image.now;
-  arrivals = drawn.arrivals.now;
+  admissions = drawn.admissions.now;
   levels = drawn.levels;
   scale = drawn.scale;
   bars = λ lane. (get_or drawn.strips.now lane empty_lane).bars;

@@ -1,11 +1,12 @@
 -- What a lane of a picture shows at a count.
-use Rattle.std.specs.Prelude.{ℕ, ◌+◌, ◌-◌, ◌==◌, ◌||◌, nat_lt, is_some, Bool, cond, if◌then◌else◌, List, [], false, length, get_or, Option, Some, None}
+use Rattle.std.specs.Prelude.{ℕ, ◌+◌, ◌-◌, ◌==◌, ◌||◌, nat_lt, is_some, Bool, cond, if◌then◌else◌, List, length, get_or, Option, Some, None}
 use Rattle.sloth_base.specs.declared.image.Image.{Image}
 use Rattle.sloth_base.specs.Options.{is_number}
 use Rattle.sloth_base.specs.Owners.{counter_line}
 use Rattle.osek_scheduler.specs.declared.state.TaskState.TheVariants as mode
 use Rattle.sloth_runner.specs.declared.machine_states.Seen.{Seen}
 use Rattle.sloth_runner.specs.declared.samples.Sample.{Sample}
+use Rattle.sloth_runner.specs.Samples.{no_sample}
 use Rattle.lane_drawing.specs.declared.bars.Look.{Look}
 use Rattle.lane_drawing.specs.declared.bars.Look.TheVariants as look
 use Rattle.lane_drawing.specs.TaskLooks.{task_look}
@@ -29,14 +30,6 @@ lane_look tasks counters sample lane =
     if nat_lt lane tasks then state_look sample.seen (is_kernel sample) lane
     else if nat_lt lane (tasks + counters) then cond (is_tick sample (lane - tasks)) (Some look.Tick) None
     else cond (is_kernel sample) (Some look.Kernel) None
-
--- a sample that shows nothing
-abbrev pub no_sample : Sample
-no_sample = record {
-  seen = None;
-  interrupts = record { pending = []; counters_pending = []; level = 0; masked = false };
-  taken = None;
-}
 
 -- the look of a lane at a count of a run, of which these are the samples from its first count on
 abbrev pub look_at : (tasks counters : ℕ) → List Sample → (lane count : ℕ) → Option Look

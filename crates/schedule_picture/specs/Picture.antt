@@ -1,5 +1,5 @@
 -- The picture of a part of a run.
-use Rattle.std.specs.Prelude.{ℕ, zero, suc, ◌+◌, ◌≡◌, ◌≤◌, max, cond, List, [], ◌++◌, codes, length, get_or}
+use Rattle.std.specs.Prelude.{ℕ, zero, suc, ◌+◌, ◌-◌, ◌==◌, ◌&&◌, ltb, leb, Bool, ◌≡◌, ◌≤◌, max, cond, List, [], ◌++◌, codes, filter, length, get_or}
 use Rattle.std.specs.List.{flat_map}
 use Rattle.sloth_base.specs.declared.event.Arrival.{Arrival}
 use Rattle.sloth_base.specs.declared.image.Image.{Image}
@@ -14,7 +14,10 @@ use Rattle.lane_drawing.specs.Bars.{AreBars}
 use Rattle.sloth_base.specs.Owners.{counter_line}
 use Rattle.schedule_picture.specs.LaneLooks.{owned_lanes, look_of}
 use Rattle.lane_drawing.specs.declared.scale.Scale.{Scale}
-use Rattle.lane_drawing.specs.Drawing.{left_margin, head_line, style_lines, axis_lines, lane_text, lane_line, bar_line, row_middle, is_above, shown_arrivals, legend_lines}
+use Rattle.lane_drawing.specs.Drawing.{left_margin, head_line, style_lines, axis_lines, lane_line, bar_line, row_middle, is_above, legend_lines}
+use Rattle.lane_drawing.specs.Arrivals.{arrival_line}
+use Rattle.sloth_runner.specs.declared.admissions.Admission.{Admission}
+use Rattle.sloth_runner.specs.Admissions.{run_admissions}
 
 -- the length of the longest of the first names, so many of them, and at least that of `kernel`
 unfoldable pub longest_of : List (List ℕ) → ℕ → ℕ
@@ -34,19 +37,37 @@ unfoldable pub tasks_above : (levels : List ℕ) (task : ℕ) → ℕ → ℕ
 tasks_above levels task zero = 0
 tasks_above levels task (suc k) = tasks_above levels task k + cond (is_above levels k task) 1 0
 
--- what is drawn: an image's run with its arrivals, the levels of the tasks' lines, where the counts stand, and the bars of each lane
+-- what is drawn: an image's run with its arrivals and what came of them, the levels of the tasks' lines, where the counts stand, and the bars of each
+-- lane
 pub record Drawing : Type 0 where
   pub image : Image
-  pub arrivals : List Arrival
+  pub admissions : List Admission
   pub levels : List ℕ
   pub scale : Scale
   pub bars : (lane : ℕ) → List Bar
+
+-- an arrival is of a line, in the counts of a picture
+abbrev pub is_shown : Scale → (line : ℕ) → Admission → Bool
+is_shown scale line a = (a.arrival.line == line) && (leb scale.from a.arrival.at && ltb a.arrival.at scale.to)
+
+-- the arrivals of a line in the counts of a picture
+abbrev pub shown_arrivals : Scale → List Admission → (line : ℕ) → List Admission
+shown_arrivals scale admissions line = filter (is_shown scale line) admissions
+
+-- one in the lane of a name
+abbrev pub admission_line : Scale → (name : List ℕ) (middle : ℕ) → Admission → List ℕ
+admission_line scale name middle a = arrival_line scale name middle a.arrival a.lost
+
+-- a lane with its bars and arrivals
+abbrev pub lane_text : Scale → (name : List ℕ) (middle : ℕ) → List Bar → List Admission → List ℕ
+lane_text scale name middle bars admissions =
+    lane_line scale name middle ++ flat_map (bar_line scale name middle) bars ++ flat_map (admission_line scale name middle) admissions
 
 -- the lane of a task, in the row behind all that stand above it
 unfoldable pub task_lane : Drawing → (task : ℕ) → List ℕ
 task_lane d task =
     lane_text d.scale (get_or d.image.tasks task []) (row_middle (tasks_above d.levels task (length d.image.tasks))) (d.bars task)
-    (shown_arrivals d.scale d.arrivals task)
+    (shown_arrivals d.scale d.admissions task)
 
 -- those of the first tasks, so many of them
 unfoldable pub task_lanes : Drawing → ℕ → List ℕ
@@ -57,7 +78,7 @@ task_lanes d (suc task) = task_lanes d task ++ task_lane d task
 unfoldable pub counter_lane : Drawing → (counter : ℕ) → List ℕ
 counter_lane d counter =
     lane_text d.scale (get_or d.image.counters counter []) (row_middle (length d.image.tasks + counter)) (d.bars (length d.image.tasks + counter))
-    (shown_arrivals d.scale d.arrivals (counter_line counter))
+    (shown_arrivals d.scale d.admissions (counter_line counter))
 
 -- those of the first counters, so many of them
 unfoldable pub counter_lanes : Drawing → ℕ → List ℕ
@@ -76,7 +97,8 @@ picture_text d =
     (head_line d.scale (owned_lanes d.image + 1) ++ style_lines) ++ axis_lines d.scale (owned_lanes d.image + 1) ++ task_lanes d (length d.image.tasks)
     ++ counter_lanes d (length d.image.counters) ++ kernel_lane d ++ legend_lines d.scale (owned_lanes d.image + 1) ++ codes "</svg>\n"
 
--- A text is the picture of a run from one count to below another: the run gets there, and each lane has the bars of what it shows.
+-- A text is the picture of a run from one count to below another: the run gets there, each lane has the bars of what it shows, and
+-- arrivals are marked as they were kept or lost.
 pub record IsPictureOf (image : Image) (arrivals : List Arrival) (from to : ℕ) (text : List ℕ) : Type 0 where
   pub whole : run_end image arrivals to ≡ ends.Whole
   pub samples : List Sample
@@ -86,7 +108,13 @@ pub record IsPictureOf (image : Image) (arrivals : List Arrival) (from to : ℕ)
   pub are_levels : AreSampledLevels image arrivals to levels
   pub bars : (lane : ℕ) → List Bar
   pub are_bars : (lane : ℕ) → lane ≤ owned_lanes image → AreBars (look_of image samples lane) from to (bars lane)
-  pub is : text ≡ picture_text (record { image = image; arrivals = arrivals; levels = levels; scale = scale_of image from to; bars = bars })
+  pub is : text ≡ picture_text (record {
+    image = image;
+    admissions = run_admissions image arrivals samples from (to - from);
+    levels = levels;
+    scale = scale_of image from to;
+    bars = bars;
+  })
 
 -- the picture of a run, or where and why it stops in front of the last count
 abbrev pub IsPicture : Image → List Arrival → (from to : ℕ) → Picture → Type 0

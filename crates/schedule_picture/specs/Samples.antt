@@ -1,13 +1,15 @@
 -- A sampler that has given the first samples of a run.
-use Rattle.std.specs.Prelude.{ℕ, ◌≡◌, ◌≤◌, ◌+◌, List, length, get_or}
+use Rattle.std.specs.Prelude.{ℕ, ◌≡◌, ◌≤◌, ◌+◌, ◌-◌, List, length, get_or}
 use Rattle.sloth_base.specs.declared.event.Arrival.{Arrival}
 use Rattle.sloth_base.specs.declared.image.Image.{Image}
 use Rattle.sloth_runner.specs.Runner.{run_end}
 use Rattle.sloth_runner.specs.declared.runner.Halt.{Halt}
 use Rattle.sloth_runner.specs.declared.runner.RunEnd.TheVariants as ends
+use Rattle.sloth_runner.specs.declared.admissions.Admission.{Admission}
 use Rattle.sloth_runner.specs.declared.samples.Sample.{Sample}
 use Rattle.sloth_runner.specs.declared.samples.Sampler.{Sampler}
 use Rattle.sloth_runner.specs.Samples.{AreSamples, IsSampling, sampled_image, sampled_arrivals, sampled_count}
+use Rattle.sloth_runner.specs.Admissions.{run_admissions}
 use Rattle.lane_drawing.specs.Bars.{AreBars}
 use Rattle.lane_drawing.specs.Strips.{Lane, empty_lane}
 use Rattle.schedule_picture.specs.LaneLooks.{owned_lanes, look_of}
@@ -26,13 +28,14 @@ pub record HasGivenFirst (image : Image) (arrivals : List Arrival) (count : ℕ)
   pub counted : length samples ≡ count
   pub given : HasGiven image arrivals samples sampler
 
--- and strips whose bars are those of what they show from a count to below another
-pub record HasBars (image : Image) (arrivals : List Arrival) (from to : ℕ) (sampler : Sampler) (strips : List Lane) : Type 0 where
+-- and strips whose bars are those of what they show from a count to below another, and what became of the arrivals of these counts
+pub record HasBars (image : Image) (arrivals : List Arrival) (from to : ℕ) (sampler : Sampler) (strips : List Lane) (admissions : List Admission) : Type 0 where
   pub samples : List Sample
   pub counted : length samples ≡ to
   pub given : HasGiven image arrivals samples sampler
   pub lanes : length strips ≡ owned_lanes image + 1
   pub are_bars : (lane : ℕ) → lane ≤ owned_lanes image → AreBars (look_of image samples lane) from to (get_or strips lane empty_lane).bars
+  pub noted : admissions ≡ run_admissions image arrivals samples from (to - from)
 
 -- a run stops in front of a count, there and so
 abbrev pub StopsBefore : Image → List Arrival → ℕ → Halt → Type 0

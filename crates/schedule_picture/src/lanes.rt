@@ -46,7 +46,7 @@ pub fn show(
 
 /// The bars of what was shown last end below this count.
 pub fn close(strips: &mut Vec<Strip>, count: u32) -> Result<(), NoMemory>
-    ensures bars { OnOk result (HaveChanged (λ lane old new. new.bars ≡ old.bars ++ last_bar old count) (length strips.old.items) strips.old.items strips.new.items) }
+    ensures { OnOk result (HaveChanged (λ lane old new. new.bars ≡ old.bars ++ last_bar old count) (length strips.old.items) strips.old.items strips.new.items) }
 {
     for lane in 0..strips.len() {
         strips[lane].close(count)?;

@@ -1,10 +1,11 @@
 //! Pictures of the schedule: a part of a run as SVG 1.1, a lane for each task and each counter.
 //!
 //! `draw` gives the drawing whose bars are those of what each task, each counter and the generated code show at each count, with the arrivals at their
-//! moments and the highest level on top; or where the run stops (`specs/LaneLooks`, `specs/Picture`, `specs/Samples`, `specs/Drawn`, `specs/Lanes`).
-//! Samples: `sloth_runner` (`Samples`); bars and lines: `lane_drawing` (`Bars`, `Drawing`).
+//! moments, kept or lost, and the highest level on top; or where the run stops (`specs/LaneLooks`, `specs/Picture`, `specs/Samples`, `specs/Drawn`, `specs/Lanes`).
+//! Samples, and what becomes of arrivals: `sloth_runner` (`Samples`, `Admissions`); bars and lines: `lane_drawing` (`Bars`, `Drawing`).
 #![tactic(auto)]
 
+mod arrivals;
 mod lane_looks;
 mod lanes;
 mod picture;

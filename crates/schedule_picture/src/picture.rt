@@ -5,7 +5,10 @@ ghost use Rattle.sloth_base.specs.Arrivals.{AreArrivals};
 ghost use Rattle.sloth_base.specs.Owners.{owners_named};
 ghost use Rattle.sloth_base.specs.Limits.{task_limit, counter_limit, count_limit, picture_limit};
 ghost use Rattle.sloth_runner.specs.Samples.{IsSampling, sampled_image, sampled_arrivals, sampled_count};
-ghost use Rattle.lane_drawing.specs.Strips.{IsFreshStrip, empty_lane};
+ghost use Rattle.sloth_runner.specs.Admissions.{no_notes, with_sample};
+ghost use Rattle.lane_drawing.specs.Strips.{IsFreshStrip, ShowsMore, empty_lane};
+ghost use Rattle.schedule_picture.specs.LaneLooks.{lane_look};
+ghost use Rattle.schedule_picture.specs.Lanes.{HaveChanged};
 ghost use Rattle.schedule_picture.specs.Samples.{HasGivenFirst, HasBars, StopsBefore};
 ghost use Rattle.schedule_picture.specs.Picture.{IsPicture, IsPictureOf};
 
@@ -15,8 +18,8 @@ use lane_drawing::Strip;
 use sloth_base::event::Arrival;
 use sloth_base::image::Image;
 use sloth_base::memory::NoMemory;
-use sloth_runner::Sampler;
 use sloth_runner::runner::Halt;
+use sloth_runner::{Noting, Sample, Sampler};
 use std::alloc::Global;
 
 /// The picture of a part of a run, or where and why the run stops in front of its last count.
@@ -43,10 +46,31 @@ fn skip(sampler: &mut Sampler, from: u32) -> Result<(), Halt>
     Ok(())
 }
 
+// What a count shows, in the lanes and of the arrivals.
+fn show_count(
+    strips: &mut Vec<Strip>,
+    noting: &mut Noting,
+    tasks: usize,
+    counters: usize,
+    count: u32,
+    sample: &Sample,
+) -> Result<(), NoMemory>
+    requires tasks { tasks ≤ task_limit }
+    requires counters { counters ≤ counter_limit }
+    requires lanes { length strips.old.items ≡ tasks + counters + 1 }
+    ensures shows { OnOk result
+        (HaveChanged (λ lane. ShowsMore count (lane_look tasks counters sample.now lane)) (tasks + counters + 1) strips.old.items strips.new.items) }
+    ensures tells { OnOk result (noting.new ≡ with_sample noting.old sample.now) }
+{
+    show(strips, tasks, counters, count, sample)?;
+    noting.show(sample)
+}
+
 // What the lanes show from one count to below another, or where and why the run stops.
 fn show_all(
     sampler: &mut Sampler,
     strips: &mut Vec<Strip>,
+    noting: &mut Noting,
     tasks: usize,
     counters: usize,
     from: u32,
@@ -59,18 +83,22 @@ fn show_all(
     requires few_counters { counters ≤ counter_limit }
     requires lanes { length strips.old.items ≡ tasks + counters + 1 }
     requires fresh { (lane : ℕ) → lane < tasks + counters + 1 → IsFreshStrip from (get_or strips.old.items lane empty_lane) }
+    requires none { noting.old ≡ no_notes }
     requires ordered { from ≤ to }
     requires few { to ≤ count_limit }
     ensures stops { IfOk result (λ end. IfSome end (StopsBefore (sampled_image sampler.old) (sampled_arrivals sampler.old) to)) }
-    ensures bars { IfOk result (λ end. IfNone end (HasBars (sampled_image sampler.old) (sampled_arrivals sampler.old) from to sampler.new strips.new.items)) }
+    ensures bars { IfOk result (λ end. IfNone end
+        (HasBars (sampled_image sampler.old) (sampled_arrivals sampler.old) from to sampler.new strips.new.items noting.new.admissions)) }
 {
     for count in from..to {
+        noting.note(sampler)?;
         match sampler.next() {
-            Ok(sample) => show(strips, tasks, counters, count, &sample)?,
+            Ok(sample) => show_count(strips, noting, tasks, counters, count, &sample)?,
             Err(halt) => return Ok(Some(halt)),
         }
     }
     close(strips, to)?;
+    noting.end(sampler)?;
     Ok(None)
 }
 
@@ -83,17 +111,18 @@ fn text_with(
     to: u32,
     sampler: &mut Sampler,
     strips: &[Strip],
+    noting: &Noting,
 ) -> Result<Vec<u8>, NoMemory>
     requires format { InFormat image.now }
     requires ordered { from ≤ to }
     requires short { to ≤ from + picture_limit }
     requires few { to ≤ count_limit }
-    requires bars { HasBars image.now arrivals.now from to sampler.old strips.now }
+    requires bars { HasBars image.now arrivals.now from to sampler.old strips.now noting.now.admissions }
     ensures { IfOk result (λ text. IsPictureOf image.now arrivals.now from to text.items) }
 {
     let drawn = Drawn {
         image,
-        arrivals,
+        admissions: noting.admissions(),
         levels: sampler.levels(),
         scale: scale_of(image, from, to),
         strips,
@@ -124,7 +153,16 @@ pub fn draw(
         return Ok(Picture::Stopped(halt));
     }
     let mut strips = empty_strips(alloc, tasks + counters, from)?;
-    if let Some(halt) = show_all(&mut sampler, &mut strips, tasks, counters, from, to)? {
+    let mut noting = Noting::new(alloc);
+    if let Some(halt) = show_all(
+        &mut sampler,
+        &mut strips,
+        &mut noting,
+        tasks,
+        counters,
+        from,
+        to,
+    )? {
         return Ok(Picture::Stopped(halt));
     }
     let text = text_with(
@@ -135,6 +173,7 @@ pub fn draw(
         to,
         &mut sampler,
         strips.as_slice(),
+        &noting,
     )?;
     Ok(Picture::Text(text))
 }

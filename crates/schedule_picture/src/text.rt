@@ -9,22 +9,21 @@ ghost use Rattle.schedule_picture.specs.Drawn.{IsDrawable, drawing_of};
 ghost use Rattle.schedule_picture.specs.LaneLooks.{owned_lanes};
 ghost use Rattle.schedule_picture.specs.Picture.{longest_of, longest_name, scale_of, tasks_above, task_lane, task_lanes, counter_lane, counter_lanes, picture_text};
 
-use lane_drawing::{
-    Bar, Scale, Strip, push_arrivals, push_axis, push_head, push_lane, push_legend,
-};
-use sloth_base::event::Arrival;
+use crate::arrivals::push_arrivals;
+use lane_drawing::{Bar, Scale, Strip, push_axis, push_head, push_lane, push_legend};
 use sloth_base::image::Image;
 use sloth_base::limits::TASK_LIMIT;
 use sloth_base::lines::FIRST_COUNTER_LINE;
 use sloth_base::memory::NoMemory;
 use sloth_base::name::Name;
+use sloth_runner::Admission;
 use std::alloc::Global;
 
 /// What is drawn.
 #[derive(Clone, Copy)]
 pub struct Drawn<'a> {
     pub image: &'a Image,
-    pub arrivals: &'a [Arrival],
+    pub admissions: &'a [Admission],
     pub levels: [u8; TASK_LIMIT],
     pub scale: Scale,
     pub strips: &'a [Strip],
@@ -126,7 +125,14 @@ fn push_task(text: &mut Vec<u8>, drawn: &Drawn, task: usize) -> Result<(), NoMem
     let name = names[task].bytes();
     let middle = row_middle(tasks_above(&drawn.levels, names.len(), task));
     push_lane(text, drawn.scale, name, middle, lane_bars(drawn, task))?;
-    push_arrivals(text, drawn.scale, name, middle, drawn.arrivals, task as u8)
+    push_arrivals(
+        text,
+        drawn.scale,
+        name,
+        middle,
+        drawn.admissions,
+        task as u8,
+    )
 }
 
 // Appends the lane of a counter.
@@ -141,7 +147,7 @@ fn push_counter(text: &mut Vec<u8>, drawn: &Drawn, counter: usize) -> Result<(),
     let middle = row_middle(lane as u32);
     let line = FIRST_COUNTER_LINE + counter as u8;
     push_lane(text, drawn.scale, name, middle, lane_bars(drawn, lane))?;
-    push_arrivals(text, drawn.scale, name, middle, drawn.arrivals, line)
+    push_arrivals(text, drawn.scale, name, middle, drawn.admissions, line)
 }
 
 // Appends the lanes of the tasks.

@@ -8,10 +8,13 @@ use Rattle.sloth_base.specs.declared.step.Step.{Step}
 use Rattle.sloth_base.specs.Machine.{State}
 use Rattle.sloth_base.specs.Take.{execution_state}
 use Rattle.sloth_base.specs.Limits.{task_limit}
+use Rattle.rv32_instr.specs.Memory.{memory_of}
 use Rattle.rv32_machine.specs.Start.{start}
 use Rattle.rv32_machine.specs.Advance.{Goes, Halts}
 use Rattle.rv32_machine.proofs.Runs.{stop_halts}
 use Rattle.observe.specs.Progress.{arrivals_of}
+use Rattle.sloth_runner.specs.Accesses.{code_access}
+use Rattle.sloth_runner.specs.declared.accesses.Access.{Access}
 use Rattle.sloth_runner.specs.Runner.{HasRun, HasArrived, HasExecuted, HasHalt, image_of, given_arrivals, count_of, end_of}
 use Rattle.sloth_runner.specs.Moments.{sloth_state}
 use Rattle.sloth_runner.specs.TaskStates.{IsLast, image_states, interrupts_in}
@@ -61,9 +64,9 @@ module _ (s : Sampler) (a c : Runner) (seen last : Option Seen) (interrupts : In
       (last-behind image A k m (sloth_state a.machine) (image_of a) seen s.last h.sampling.ran.after h.sampling.last h.image_is h.arrives.state seen_here)
 
   -- the sample, where the instruction is executed
-  pub sample-is : (q : Runner) (step : Step) → HasExecuted c q step
-      → IsSample image A k (record { seen = last; interrupts = interrupts; taken = step.entered })
-  sample-is q step executed = record {
+  pub sample-is : (q : Runner) (step : Step) (access : Option Access) → HasExecuted c q step → access ≡ code_access step (memory_of (sloth_state q.machine).core)
+      → IsSample image A k (record { seen = last; interrupts = interrupts; taken = step.entered; access = access })
+  sample-is q step access executed accesses = record {
     state = m;
     after = h.sampling.ran.after;
     seen = last-seen;
@@ -72,6 +75,7 @@ module _ (s : Sampler) (a c : Runner) (seen last : Option Seen) (interrupts : In
     goes = moment-is s.runner c (Goes step (sloth_state q.machine)) looked executed.goes;
     taken = refl;
     interrupts = h.interrupts_is ∙ ap (λ (i : Image). interrupts_in i (sloth_state a.machine)) h.image_is ∙ ap (interrupts_in image) h.arrives.state;
+    access = accesses;
   }
 
   -- and the sampler behind it

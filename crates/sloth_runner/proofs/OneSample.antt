@@ -3,9 +3,11 @@ use Rattle.std.proofs.Common.{◌≡◌, ◌+◌, ◌∙◌, ℕ, List, [], ◌�
 use Rattle.sloth_base.specs.declared.event.Arrival.{Arrival}
 use Rattle.sloth_base.specs.declared.image.Image.{Image}
 use Rattle.sloth_base.specs.Machine.{State}
+use Rattle.rv32_instr.specs.Memory.{memory_of}
 use Rattle.rv32_machine.specs.Advance.{Goes}
 use Rattle.rv32_machine.specs.Run.{state_with_arrivals, moment}
 use Rattle.sloth_base.specs.declared.step.Step.{Step}
+use Rattle.sloth_runner.specs.Accesses.{code_access}
 use Rattle.sloth_runner.specs.TaskStates.{interrupts_in}
 use Rattle.sloth_runner.proofs.RunStates.{one-last}
 use Rattle.sloth_runner.specs.declared.samples.Sample.{Sample}
@@ -21,8 +23,13 @@ module _ (image : Image) (A : List Arrival) where
       let goes : Goes h.step h.behind ≡ Goes i.step i.behind = sym h.goes ∙ ap (λ (x : State). moment A k x) state ∙ i.goes in
       let step : h.step ≡ i.step = cc in
       let taken : a.taken ≡ b.taken = h.taken ∙ ap (λ (x : Step). x.entered) step ∙ sym i.taken in
-      ap (λ s. record { seen = s; interrupts = a.interrupts; taken = a.taken }) seen
-      ∙ ap (λ s. record { seen = b.seen; interrupts = s; taken = a.taken }) interrupts ∙ ap (λ l. record { seen = b.seen; interrupts = b.interrupts; taken = l }) taken
+      let behind : h.behind ≡ i.behind = cc in
+      let access : a.access ≡ b.access =
+      h.access ∙ ap (λ (x : Step). code_access x (memory_of h.behind.core)) step ∙ ap (λ (x : State). code_access i.step (memory_of x.core)) behind ∙ sym i.access in
+      ap (λ s. record { seen = s; interrupts = a.interrupts; taken = a.taken; access = a.access }) seen
+      ∙ ap (λ s. record { seen = b.seen; interrupts = s; taken = a.taken; access = a.access }) interrupts
+      ∙ ap (λ l. record { seen = b.seen; interrupts = b.interrupts; taken = l; access = a.access }) taken
+      ∙ ap (λ x. record { seen = b.seen; interrupts = b.interrupts; taken = b.taken; access = x }) access
 
   pub one-samples : (k : ℕ) (xs ys : List Sample) → AreSamples image A k xs → AreSamples image A k ys → length xs ≡ length ys → xs ≡ ys
   one-samples k [] [] h i e = refl

@@ -11,8 +11,13 @@
 //!
 //! The sample of each count in turn: the tasks and the running one as of the last count up to it that finds interrupts open; the pending lines, the
 //! level and the mask as they are; the line that is taken; or exactly where the run stops (`Sampler::new`, `Sampler::next`; `specs/Samples`).
+//!
+//! Which arrivals are lost: what the arrivals of a count do and what masked code does behind them (`Runner::note_arrivals`, `Runner::code_access`;
+//! `specs/Accesses`), and what the next count shows that finds interrupts open (`Noting`, `told_run`; `specs/Admissions`).
 #![tactic(auto)]
 
+pub mod accesses;
+mod admissions;
 pub mod arrivals;
 pub mod counting;
 pub mod laws;
@@ -22,7 +27,10 @@ mod samples;
 pub mod summary;
 pub mod tally;
 pub mod task_states;
+pub mod telling;
 
+pub use accesses::{Access, AccessKind};
+pub use admissions::{Admission, Noting};
 pub use runner::{Halt, RunEnd, Runner};
 pub use samples::{Sample, Sampler};
 pub use tally::Tally;

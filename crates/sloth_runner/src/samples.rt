@@ -1,11 +1,15 @@
 //! Samples of a run: one at each count, after the arrivals of the count and before a line is taken.
-ghost use Rattle.std.specs.Prelude.{◌≡◌, ◌<◌, ◌+◌, OnOk, IfOk, IfErr};
+ghost use Rattle.std.specs.Prelude.{◌≡◌, ◌<◌, ◌+◌, ◌++◌, OnOk, IfOk, IfErr};
 ghost use Rattle.sloth_base.specs.ImageRange.{InFormat};
 ghost use Rattle.sloth_base.specs.Arrivals.{AreArrivals};
 ghost use Rattle.sloth_base.specs.Owners.{owners_named};
 ghost use Rattle.sloth_base.specs.Limits.{count_limit};
-ghost use Rattle.sloth_runner.specs.Samples.{AreSampledLevels, IsSample, IsSampling, StopsAt, sampled_image, sampled_arrivals, sampled_count};
+ghost use Rattle.rv32_machine.specs.Start.{start};
+ghost use Rattle.rv32_machine.specs.Run.{state_after};
+ghost use Rattle.sloth_runner.specs.Accesses.{accesses_at};
+ghost use Rattle.sloth_runner.specs.Samples.{AreSampledLevels, IsSample, IsSampling, StopsAt, seen_behind, sampled_image, sampled_arrivals, sampled_count};
 
+use crate::accesses::Access;
 use crate::runner::{Halt, Runner};
 use crate::task_states::{Interrupts, Seen};
 use sloth_base::event::Arrival;
@@ -23,6 +27,8 @@ pub struct Sample {
     pub interrupts: Interrupts,
     /// The line that is taken before the count's instruction, if one is.
     pub taken: Option<Line>,
+    /// What masked code does with a pending byte.
+    pub access: Option<Access>,
 }
 
 /// A run of an image, taken count by count. It keeps the image and the arrivals, lent, and no sample but the last one's tasks.
@@ -71,13 +77,37 @@ impl<'a> Sampler<'a> {
         self.last = self.runner.look().or(self.last);
         let interrupts = self.runner.interrupts();
         match self.runner.execute() {
-            Ok(step) => Ok(Sample {
-                seen: self.last,
-                interrupts,
-                taken: step.entered,
-            }),
+            Ok(step) => {
+                let access = self.runner.code_access(&step);
+                Ok(Sample {
+                    seen: self.last,
+                    interrupts,
+                    taken: step.entered,
+                    access,
+                })
+            }
             Err(halt) => Err(halt),
         }
+    }
+
+    /// Notes what the arrivals of the next count do. The sampler stays as it is.
+    pub(crate) fn note_arrivals(&mut self, noted: &mut Vec<Access>) -> Result<(), NoMemory>
+        requires sampling { IsSampling self.old }
+        ensures noted { OnOk result (noted.new.items ≡ noted.old.items
+            ++ accesses_at (sampled_arrivals self.old) (sampled_count self.old)
+            (state_after (sampled_count self.old) (sampled_arrivals self.old) (start (sampled_image self.old)))) }
+        ensures same { self.new ≡ self.old }
+    {
+        self.runner.note_arrivals(noted)
+    }
+
+    /// What is seen of the tasks in front of the arrivals of the next count.
+    pub(crate) fn look(&mut self) -> Option<Seen>
+        requires sampling { IsSampling self.old }
+        ensures seen { result ≡ seen_behind (sampled_image self.old) (sampled_arrivals self.old) (sampled_count self.old) }
+        ensures same { self.new ≡ self.old }
+    {
+        self.runner.look()
     }
 
     /// The levels of the lines of the image's tasks, in `TASK_LIMIT` places.

@@ -1,19 +1,42 @@
-use Rattle.std.proofs.Common.{◌+◌, arith}
+use Rattle.std.proofs.Common.{◌+◌, ◌≡◌, ℕ, sym, subst, arith}
 use Rattle.sloth_runner.specs.Samples.{sampled_image, sampled_arrivals}
-use Rattle.schedule_picture.proofs.Sampling.{shown_none, shown_more}
+use Rattle.sloth_runner.specs.declared.samples.Sampler.{Sampler}
+use Rattle.schedule_picture.specs.Samples.{HasBars}
+use Rattle.schedule_picture.proofs.Sampling.{shown_none, shown_more, shown_all}
+use Rattle.schedule_picture.proofs.Shown.{HasShown}
 use Rattle.schedule_picture.proofs.picture.show_all.Goals as goal
 
 pub loop-count-init : goal.loop-count-init
 loop-count-init c =
     let tasks = c.requires.tasks in
     let counters = c.requires.counters in
-    shown_none (sampled_image c.args.sampler.now) (sampled_arrivals c.args.sampler.now) c.args.from c.args.sampler.now c.args.strips.now.items c.requires.given
-    (let lanes = c.requires.lanes in omega (arith, lanes, tasks, counters)) (λ lane below. c.requires.fresh lane (omega (arith, below, tasks, counters)))
+    shown_none (sampled_image c.args.sampler.now) (sampled_arrivals c.args.sampler.now) c.args.from c.args.sampler.now c.args.strips.now.items c.args.noting.now
+    c.requires.given (let lanes = c.requires.lanes in omega (arith, lanes, tasks, counters)) (λ lane below. c.requires.fresh lane (omega (arith, below, tasks, counters)))
+    c.requires.none
 
 pub loop-count-preserved : goal.loop-count-preserved
 loop-count-preserved c =
+    let image = sampled_image c.args.sampler.now in
+    let arrivals = sampled_arrivals c.args.sampler.now in
     let is = c.in-Ok.ensures in
     let past = c.loop-count.auto.count in
-    shown_more (sampled_image c.args.sampler.now) (sampled_arrivals c.args.sampler.now) c.args.from c.loop-count.count c.args.tasks c.args.counters c.loop-count.sampler c.next.new.self
-    c.in-Ok.sample c.loop-count.strips.items c.show.new.strips.items c.loop-count.invariant past c.requires.tasks c.requires.counters is.sampling is.sample is.image is.arrivals is.count
-    c.in_ok-show-in-Ok.ensures.shows
+    let tells = c.in_ok-show_count-in-Ok.ensures in
+    let same : c.note.new.sampler ≡ c.loop-count.sampler = c.note.ensures.same in
+    shown_more image arrivals c.args.from c.loop-count.count c.args.tasks c.args.counters c.loop-count.sampler c.note.new.sampler c.next.new.self c.in-Ok.sample
+    c.loop-count.strips.items c.show_count.new.strips.items c.loop-count.noting c.note.new.self c.show_count.new.noting c.loop-count.invariant past
+    c.requires.tasks c.requires.counters same is.sampling is.sample is.image is.arrivals is.count tells.shows c.in_ok-note.ensures.noted tells.tells
+
+pub returns-clause-bars : goal.returns-clause-bars
+returns-clause-bars c =
+    let image = sampled_image c.args.sampler.now in
+    let arrivals = sampled_arrivals c.args.sampler.now in
+    let l = c.loop-count in
+    let past = c.loop-count-test.false in
+    let few = l.auto.count-end in
+    let ordered = c.requires.ordered in
+    let all : l.count ≡ c.args.to = omega (arith, past, few, ordered) in
+    let H : ℕ → Type 0 = λ k. HasShown image arrivals c.args.from k l.sampler l.strips.items l.noting in
+    let B : Sampler → Type 0 = λ s. HasBars image arrivals c.args.from c.args.to s c.close.new.strips.items c.end.new.self.admissions in
+    subst B (sym c.in_ok-end.ensures.same)
+    (shown_all image arrivals c.args.from c.args.to l.sampler l.strips.items c.close.new.strips.items l.noting c.end.new.self ordered (subst H all l.invariant)
+    c.in_ok-close.ensures c.in_ok-end.ensures.ended)

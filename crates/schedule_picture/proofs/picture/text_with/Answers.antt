@@ -1,8 +1,10 @@
-use Rattle.std.proofs.Common.{All, get_or, sym, subst}
+use Rattle.std.proofs.Common.{All, List, get_or, sym, subst}
+use Rattle.sloth_runner.specs.declared.admissions.Admission.{Admission}
 use Rattle.lane_drawing.specs.declared.scale.Scale.{Scale}
 use Rattle.lane_drawing.specs.Bars.{IsBarInside}
 use Rattle.lane_drawing.specs.Strips.{empty_lane}
 use Rattle.schedule_picture.specs.LaneLooks.{look_of}
+use Rattle.schedule_picture.specs.Samples.{HasBars}
 use Rattle.schedule_picture.proofs.Sampling.{picture_of, all_inside}
 use Rattle.schedule_picture.proofs.picture.text_with.Goals as goal
 
@@ -23,5 +25,7 @@ text_of-requires c =
 
 pub returns : goal.returns
 returns c =
-    picture_of c.args.image.now c.args.arrivals.now c.args.from c.args.to c.args.sampler.now c.args.strips.now c.levels.result c.scale_of.result _ c.requires.bars
-    c.levels.ensures.levels c.scale_of.ensures.is c.in_ok-text.ensures
+    let H : List Admission → Type 0 = λ a. HasBars c.args.image.now c.args.arrivals.now c.args.from c.args.to c.args.sampler.now c.args.strips.now a in
+    let bars = subst H (sym c.admissions.ensures) c.requires.bars in
+    picture_of c.args.image.now c.args.arrivals.now c.args.from c.args.to c.args.sampler.now c.args.strips.now c.admissions.result.now c.levels.result
+    c.scale_of.result _ bars c.levels.ensures.levels c.scale_of.ensures.is c.in_ok-text.ensures

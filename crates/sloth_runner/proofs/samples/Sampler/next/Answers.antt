@@ -1,8 +1,9 @@
-use Rattle.std.proofs.Common.{◌∙◌, ap}
+use Rattle.std.proofs.Common.{◌∙◌, ap, sym, subst}
 use Rattle.sloth_runner.specs.Runner.{image_of}
 use Rattle.sloth_runner.specs.Moments.{sloth_state}
 use Rattle.sloth_runner.specs.TaskStates.{interrupts_in}
 use Rattle.sloth_runner.specs.declared.runner.Runner.{Runner}
+use Rattle.sloth_runner.specs.Samples.{IsSampling}
 use Rattle.sloth_runner.proofs.NextSample.{IsLookedAt, sample-is, sampling-behind, stops-there}
 use Rattle.sloth_runner.proofs.samples.Sampler.next.Goals as goal
 
@@ -21,7 +22,8 @@ returns-in-Ok-clause-sample c =
       last_is = c.or-self.ensures;
       interrupts_is = c.interrupts-interrupts.ensures.interrupts ∙ ap (λ (x : Runner). interrupts_in (image_of x) (sloth_state x.machine)) c.look.ensures.same;
     } in
-    sample-is c.args.self.now a d c.look.result c.or-self.result c.interrupts-interrupts.result h c.execute.new.self c.in-Ok.step c.in-Ok.ensures.ok
+    sample-is c.args.self.now a d c.look.result c.or-self.result c.interrupts-interrupts.result h c.execute.new.self c.in-Ok.step c.code_access-access.result
+    c.in-Ok.ensures.ok c.code_access-access.ensures.is
 
 pub returns-in-Ok-clause-sampling : goal.returns-in-Ok-clause-sampling
 returns-in-Ok-clause-sampling c =
@@ -37,8 +39,10 @@ returns-in-Ok-clause-sampling c =
       last_is = c.or-self.ensures;
       interrupts_is = c.interrupts-interrupts.ensures.interrupts ∙ ap (λ (x : Runner). interrupts_in (image_of x) (sloth_state x.machine)) c.look.ensures.same;
     } in
-    sampling-behind c.args.self.now a d c.look.result c.or-self.result c.interrupts-interrupts.result h c.execute.new.self c.in-Ok.step c.in-Ok.ensures.ok
-    c.execute.ensures.coming c.execute.ensures.image c.execute.ensures.observer
+    let P : Runner → Type 0 = λ x. IsSampling (record { runner = x; last = c.or-self.result }) in
+    subst P (sym c.code_access-access.ensures.same)
+    (sampling-behind c.args.self.now a d c.look.result c.or-self.result c.interrupts-interrupts.result h c.execute.new.self c.in-Ok.step c.in-Ok.ensures.ok
+    c.execute.ensures.coming c.execute.ensures.image c.execute.ensures.observer)
 
 pub returns-in-Err-clause-stops : goal.returns-in-Err-clause-stops
 returns-in-Err-clause-stops c =
