@@ -1,0 +1,4 @@
+pub mod Cursor
+pub mod Marks
+pub mod Runs
+pub mod Ways

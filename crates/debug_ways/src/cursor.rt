@@ -1,0 +1,128 @@
+//! A place in a run that goes to any count.
+ghost use Rattle.std.specs.Prelude.{◌≡◌, ◌≤◌, ◌<◌, ◌+◌, ◌*◌, ◌/◌, IfOk, length};
+ghost use Rattle.sloth_base.specs.Limits.{count_limit};
+ghost use Rattle.debug_ways.specs.Marks.{AreMarks};
+
+use crate::look::Look;
+use crate::machine::Machine;
+use crate::marks::{STRIDE, mark_at, marks_of};
+use sloth_base::memory::NoMemory;
+use std::alloc::Global;
+
+/// A machine that goes to any count of its run, over those that were kept of it.
+#[derive(Drop)]
+pub struct Cursor<M: Machine> {
+    here: M,
+    marks: Vec<M>,
+    count: u32,
+    end: u32,
+    ghost are: { AreMarks M.run M.count (M.run here) marks.items },
+    ghost enough: { end / 65536 < length marks.items },
+    ghost end_is: { (M.run here).end ≡ end },
+    ghost here_is: { M.count here ≡ count },
+    ghost within: { count ≤ end },
+}
+
+impl<M: Machine> Cursor<M> {
+    ghost use Rattle.debug_ways.specs.Cursor.{cursor_run, cursor_count};
+
+    /// A cursor of a machine that stands at the start of a run. The run is executed once.
+    pub fn new(alloc: Global, machine: M) -> Result<Cursor<M>, NoMemory>
+        requires start { M.count machine ≡ 0 }
+        requires few { (M.run machine).end ≤ count_limit }
+        ensures { IfOk result (λ cursor. cursor_run M.run cursor ≡ M.run machine) }
+    {
+        let mut here = machine;
+        let mut marks = Vec::new(alloc);
+        let end = marks_of(alloc, &mut marks, &mut here)?;
+        Ok(Cursor {
+            here,
+            marks,
+            count: end,
+            end,
+        })
+    }
+
+    /// The last count.
+    pub fn end(&self) -> u32
+        ensures { result ≡ (cursor_run M.run self.now).end }
+    {
+        self.end
+    }
+
+    // Executes an instruction.
+    fn advance(&mut self)
+        requires { cursor_count self.old < (cursor_run M.run self.old).end }
+        ensures count { cursor_count self.new ≡ cursor_count self.old + 1 }
+        ensures run { cursor_run M.run self.new ≡ cursor_run M.run self.old }
+    {
+        if !self.here.step() {
+            unreachable!();
+        }
+        self.count += 1;
+    }
+
+    // Goes to the machine that was kept last at or before a count.
+    fn leap(&mut self, count: u32)
+        requires { count ≤ (cursor_run M.run self.old).end }
+        ensures count { cursor_count self.new ≤ count }
+        ensures run { cursor_run M.run self.new ≡ cursor_run M.run self.old }
+    {
+        let place = count / STRIDE;
+        self.here
+            .set_to(mark_at(self.marks.as_slice(), place as usize));
+        self.count = place * STRIDE;
+    }
+
+    /// Goes to a count.
+    pub fn go_to(&mut self, count: u32)
+        requires { count ≤ (cursor_run M.run self.old).end }
+        ensures count { cursor_count self.new ≡ count }
+        ensures run { cursor_run M.run self.new ≡ cursor_run M.run self.old }
+    {
+        if count < self.count || count - self.count > STRIDE {
+            self.leap(count);
+        }
+        while self.count < count {
+            self.advance();
+        }
+    }
+
+    /// The machine, where it stands.
+    pub fn here(&self) -> &M
+        ensures run { M.run result.now ≡ cursor_run M.run self.now }
+        ensures count { M.count result.now ≡ cursor_count self.now }
+    {
+        &self.here
+    }
+
+    /// What is looked at at a count.
+    pub fn look(&mut self, count: u32) -> Look
+        requires { count ≤ (cursor_run M.run self.old).end }
+        ensures look { result ≡ (cursor_run M.run self.old).look count }
+        ensures run { cursor_run M.run self.new ≡ cursor_run M.run self.old }
+    {
+        self.go_to(count);
+        self.here.look()
+    }
+
+    /// A register of a thread at a count, where it is known.
+    pub fn register(&mut self, count: u32, thread: u32, number: u32) -> Option<u32>
+        requires { count ≤ (cursor_run M.run self.old).end }
+        ensures register { result ≡ (cursor_run M.run self.old).register count thread number }
+        ensures run { cursor_run M.run self.new ≡ cursor_run M.run self.old }
+    {
+        self.go_to(count);
+        self.here.register(thread, number)
+    }
+
+    /// The byte at an address at a count, where there is one.
+    pub fn byte(&mut self, count: u32, address: u32) -> Option<u8>
+        requires { count ≤ (cursor_run M.run self.old).end }
+        ensures byte { result ≡ (cursor_run M.run self.old).byte count address }
+        ensures run { cursor_run M.run self.new ≡ cursor_run M.run self.old }
+    {
+        self.go_to(count);
+        self.here.byte(address)
+    }
+}
