@@ -3,6 +3,7 @@ pub mod OwnOutput
 pub mod InOrder
 mod Ceilings
 mod OnlyRuns
+mod Judged
 mod Listed
 pub mod Causes
 pub mod Complete
