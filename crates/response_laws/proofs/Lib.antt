@@ -17,4 +17,6 @@ pub mod Walked
 pub mod Making
 pub mod RoundEnds
 pub mod Ticks
+pub mod Masks
+pub mod Settings
 pub mod SoundRuns

@@ -36,7 +36,7 @@ use Rattle.response_laws.proofs.Walked.{rounds_follow_walks}
 use Rattle.response_laws.proofs.Making.{unready_acts, unready_sets, items_activate, items_set}
 
 -- a task that leaves is not Active behind it
-left_inactive : (config : Config) (app : App) → Facts config app → (t : ℕ) (x : Stage) → Known config app x → is_left t x.stamped.event ≡ true → IsActive x.next t → ⊥
+pub left_inactive : (config : Config) (app : App) → Facts config app → (t : ℕ) (x : Stage) → Known config app x → is_left t x.stamped.event ≡ true → IsActive x.next t → ⊥
 left_inactive config app w t x k is = by x.stamped.event k.step is
   where
     by : (e : Event) → OsekStep config app e x.found x.next → is_left t e ≡ true → IsActive x.next t → ⊥

@@ -50,6 +50,7 @@ use Rattle.response_laws.proofs.Walked.{rounds_follow_walks}
 use Rattle.response_laws.proofs.Linked.{Known, Linked, linked_behind, each_append, each_so, stages_linked, stages_known}
 use Rattle.response_laws.proofs.RoundEnds.{within_round, rounds_make_within}
 use Rattle.response_laws.proofs.Loaded.{respond_under_load}
+use Rattle.response_laws.proofs.Settings.{clean_tasks_have_settings}
 
 -- ---- what an event may take
 
@@ -118,7 +119,7 @@ module _ (config : Config) (app : App) (size : ItemSizes) (n : ℕ) (weights : L
     (wf : WellFormed config app) (osek : OsekRun config app events) (most : AreAtMost size item_instructions)
     (keeps : KeepsPace config app size item_instructions n events) (weighs : WeighsItems app size weights) (ends : WeighsEndings app size weights)
     (owned : (t : ℕ) → AllByRecursion (IsOwn config t) (run_stages config app events)) (works : KeepsWork config load cuts (run_stages config app events))
-    (fits : FitsRounds config app weights load h cuts costs (run_stages config app events)) where
+    (fits : FitsRounds config app weights load h cuts costs) where
   abbrev run : List Stage
   run = run_stages config app events
 
@@ -274,7 +275,7 @@ module _ (config : Config) (app : App) (size : ItemSizes) (n : ℕ) (weights : L
     next_acts = λ k j lt over. (rounds_make_within config app events k j (cuts k) (costs.next_acts k j) wf osek).next_acts (fits.next_acts k j lt over);
     first_sets = λ k j lt over. (rounds_make_within config app events k j (cuts k) (costs.first_sets k j) wf osek).first_sets (fits.first_sets k j lt over);
     next_sets = λ k j lt over. (rounds_make_within config app events k j (cuts k) (costs.next_sets k j) wf osek).next_sets (fits.next_sets k j lt over);
-    settings = fits.settings;
+    settings = λ t lt over is. clean_tasks_have_settings config app events t wf osek (fits.clean t lt over is);
   }
     where
       -- an entry is no WaitEvent, so it is one behind a wait

@@ -71,7 +71,7 @@ op_somewhere app (op.Invoke g) f i outer step = none step
 op_somewhere app op.Return f i outer step = back_somewhere outer step
 op_somewhere app o f i outer step = inside_somewhere app f i outer step
 
-somewhere : (app : App) (from : Position) → IsPositionStep app from [] → ⊥
+pub somewhere : (app : App) (from : Position) → IsPositionStep app from [] → ⊥
 somewhere app [] step = step
 somewhere app (here ∷ outer) step = op_somewhere app step.0 here.func here.item outer step.2
 
@@ -84,12 +84,12 @@ begun_stands (frame ∷ outer) is e = cc
 -- ---- tasks that wait, or were woken
 
 -- a position to which a walk goes on behind a WaitEvent
-record BehindWait (app : App) (t : ℕ) (at : Position) : Type 0 where
-  before : List Position
-  wait : Position
-  walk : IsWalk app t (before ++ wait ∷ [])
-  waits : is_wait (operation_at app wait) ≡ true
-  step : IsPositionStep app wait at
+pub record BehindWait (app : App) (t : ℕ) (at : Position) : Type 0 where
+  pub before : List Position
+  pub wait : Position
+  pub walk : IsWalk app t (before ++ wait ∷ [])
+  pub waits : is_wait (operation_at app wait) ≡ true
+  pub step : IsPositionStep app wait at
 
 module _ (config : Config) (app : App) (w : Facts config app) (t : ℕ) where
   -- what an event does to where task t stands
@@ -101,7 +101,7 @@ module _ (config : Config) (app : App) (w : Facts config app) (t : ℕ) where
     rests : is_turn t e ≡ false → is_left t e ≡ false → goes_on_waiting t e ≡ false → (task next t).frames ≡ (task s t).frames → View e s next
 
   -- an item that a `run` executes is no WaitEvent
-  runs_no_wait : (s next : System) (func item result : ℕ) (h : IsItemStep config app t func item result s next)
+  pub runs_no_wait : (s next : System) (func item result : ℕ) (h : IsItemStep config app t func item result s next)
       → is_wait (operation_at app (standing (task s t).frames)) ≡ true → ⊥
   runs_no_wait s next func item result h is = by h.operation h.means (sym (ap is_wait place_is) ∙ is)
     where
@@ -340,10 +340,10 @@ module _ (config : Config) (app : App) (w : Facts config app) (t : ℕ) where
 
 module _ (config : Config) (app : App) (w : Facts config app) (t : ℕ) where
   -- a task that is not Active has no frames, or stands behind a WaitEvent
-  abbrev Stands : System → Type 0
+  abbrev pub Stands : System → Type 0
   Stands s = IsActive s t ⊎ (((task s t).frames ≡ []) ⊎ BehindWait app t (standing (task s t).frames))
 
-  frames_same : (e : Event) (s next : System) → OsekStep config app e s next → IsValid config app s → is_turn t e ≡ false → is_entry t e ≡ false
+  pub frames_same : (e : Event) (s next : System) → OsekStep config app e s next → IsValid config app s → is_turn t e ≡ false → is_entry t e ≡ false
       → (task next t).frames ≡ (task s t).frames
   frames_same (event.Run u func item result) s next step v away out =
       ((frame_effect config app w s next v (event.Run u func item result) step).others t (λ e. eqb-false u t away (sym e))).frames
@@ -409,7 +409,7 @@ module _ (config : Config) (app : App) (w : Facts config app) (t : ℕ) where
       by (inr waits) (inr moves) = inr (behind_own served s (Leaves step.1.0) next h v p waits.1 moves)
 
   -- an entry leaves it Active
-  entry_active : (e : Event) (s next : System) → OsekStep config app e s next → IsValid config app s → is_entry t e ≡ true → IsActive next t
+  pub entry_active : (e : Event) (s next : System) → OsekStep config app e s next → IsValid config app s → is_entry t e ≡ true → IsActive next t
   entry_active (event.Enter u) s next step v is =
       let there : OsekStep config app (event.Enter t) s next = subst (λ k. OsekStep config app (event.Enter k) s next) (eqb-true u t is) step in
       let new = record (started_task app t (task s t).frames (task s t)) { state = mode.Active; raised = (declaration config t).non } in
@@ -443,7 +443,7 @@ module _ (config : Config) (app : App) (w : Facts config app) (t : ℕ) where
       by (inr away) (inr rest) = resting rest (cases_Bool (at_entry t x)) (cases_Bool (in_turn t x)) away
 
   -- each stage finds it so
-  all_stand : (at : ℕ) (s : System) (xs : List Stage) → Linked at s xs → AllByRecursion (Known config app) xs → Placed app s → Stands s
+  pub all_stand : (at : ℕ) (s : System) (xs : List Stage) → Linked at s xs → AllByRecursion (Known config app) xs → Placed app s → Stands s
       → AllByRecursion (λ x. Stands x.found × Placed app x.found) xs
   all_stand at s [] l k p stands = tt
   all_stand at s (x ∷ xs) l k p stands =
@@ -453,7 +453,7 @@ module _ (config : Config) (app : App) (w : Facts config app) (t : ℕ) where
       ((standing_here, here), all_stand (end_of x) x.next xs l.2 k.1 next (next_stands x k.0 here standing_here))
 
   -- behind where a round begins that is not the first, it stands behind a WaitEvent
-  behind_wait : (cuts : Bool) (x : Stage) → Known config app x → Stands x.found → Placed app x.found → begins_next cuts t x ≡ true
+  pub behind_wait : (cuts : Bool) (x : Stage) → Known config app x → Stands x.found → Placed app x.found → begins_next cuts t x ≡ true
       → BehindWait app t (standing (task x.next t).frames)
   behind_wait cuts x k stands p is = which (cases_Bool (at_entry t x && has_frames (task x.found t).frames))
     where

@@ -10,4 +10,5 @@ pub mod Loaded
 pub mod Walked
 pub mod Makers
 pub mod Ticks
+pub mod Settings
 pub mod SoundRuns

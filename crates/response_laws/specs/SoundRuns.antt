@@ -22,10 +22,10 @@ use Rattle.run_counts.specs.Stages.{Stage, own, run_stages}
 use Rattle.run_counts.specs.Rounds.{opens_round, round_of, total}
 use Rattle.response_laws.specs.Sums.{is_over}
 use Rattle.section_sizes.specs.Weights.{going_at, ending_at}
+use Rattle.walk_sums.specs.Rounds.{IsClean}
 use Rattle.response_laws.specs.Walked.{FirstRoundsWeigh, LaterRoundsWeigh}
 use Rattle.response_laws.specs.Demand.{Costs, Start}
 use Rattle.response_laws.specs.Makers.{activation_weight, setting_weight}
-use Rattle.response_laws.specs.Bounded.{HasSettings}
 use Rattle.response_laws.specs.Arrivals.{HasDistances}
 use Rattle.response_laws.specs.Starts.{HaveStarts}
 use Rattle.response_laws.specs.Loaded.{IsStartFor}
@@ -61,9 +61,9 @@ FirstRoundsWithin app weights cuts t most = FirstRoundsWeigh app cuts t (going_a
 abbrev pub OtherRoundsWithin : App → (weights : List BodyWeights) → (cuts : Bool) → (t most : ℕ) → Type 0
 OtherRoundsWithin app weights cuts t most = LaterRoundsWeigh app cuts t (going_at weights) (ending_at weights) most
 
--- What the costs say of a run: in front of each entry and tick the longest item may have begun, whose counts are taken as theirs too.
+-- What the costs say of the task code: in front of each entry and tick the longest item may have begun, whose counts are taken as theirs too.
 pub record FitsRounds (config : Config) (app : App) (weights : List BodyWeights) (load : List Entry) (h : ℕ) (cuts : ℕ → Bool) (costs : Costs)
-    (run : List Stage) : Type 0 where
+    : Type 0 where
   -- the counts of rounds without the entries: by what the load says of the task, or by walks of its code
   pub first_round : (t : ℕ) → ℕ
   pub next_round : (t : ℕ) → ℕ
@@ -84,7 +84,8 @@ pub record FitsRounds (config : Config) (app : App) (weights : List BodyWeights)
       → FirstRoundsWeigh app (cuts k) k (setting_weight app j) (setting_weight app j) (costs.first_sets k j)
   pub next_sets : (k j : ℕ) → k < length config.tasks → is_over config h k ≡ true
       → LaterRoundsWeigh app (cuts k) k (setting_weight app j) (setting_weight app j) (costs.next_sets k j)
-  pub settings : (t : ℕ) → t < length config.tasks → is_over config h t ≡ true → cuts t ≡ true → HasSettings run t
+  -- a task whose turns WaitEvents cut into rounds clears what it waits for
+  pub clean : (t : ℕ) → t < length config.tasks → is_over config h t ≡ true → cuts t ≡ true → IsClean app t
 
 -- ---- the law
 
@@ -97,7 +98,7 @@ ImagesRespond = (config : Config) (app : App) (image : Image) (weights : List Bo
     → WellFormed config app → IsTaskCode app → Sound config app image → Weighed config app image → InPace config app image → AreCounts app weights
     → AreArrivals (owners_in config) arrivals → n ≤ count_limit → NoStretchIsAbove config app late
     → HasDistances load → KeepDistances load arrivals → KeepsWork config load cuts (run_stages config app (events_of image arrivals n))
-    → FitsRounds config app weights load h cuts costs (run_stages config app (events_of image arrivals n))
+    → FitsRounds config app weights load h cuts costs
     → HaveStarts config h starts start (run_stages config app (events_of image arrivals n))
     → ((i : ℕ) → i < starts → IsStartFor config load late (item_instructions + late) h r costs (run_stages config app (events_of image arrivals n)) (start i))
     → RespondsWithin config app n (item_instructions + late) h r (events_of image arrivals n)

@@ -4,6 +4,7 @@ ghost use Rattle.response_laws.specs.Starts.{PeriodsStartSo};
 ghost use Rattle.response_laws.specs.Walked.{RoundsFollowWalks};
 ghost use Rattle.response_laws.specs.Makers.{RoundsMakeWithin};
 ghost use Rattle.response_laws.specs.Ticks.{TicksMakeByAlarms};
+ghost use Rattle.response_laws.specs.Settings.{CleanTasksHaveSettings};
 ghost use Rattle.response_laws.specs.Response.{RespondsInTime};
 ghost use Rattle.response_laws.specs.Loaded.{RespondsUnderLoad};
 ghost use Rattle.response_laws.specs.SoundRuns.{ImagesRespond};
@@ -37,6 +38,11 @@ pub fn rounds_make_within()
 /// In every run of well-formed task code a tick makes a task Ready, or sets its events, once at most, and only where an alarm of its counter does so.
 pub fn ticks_make_by_alarms()
     ensures { TicksMakeByAlarms }
+{}
+
+/// In every run of well-formed task code a task that clears what it waits for has, for each round behind a WaitEvent, an event that is set in front of it.
+pub fn clean_tasks_have_settings()
+    ensures { CleanTasksHaveSettings }
 {}
 
 /// In every run whose rounds are within their costs, and whose busy periods start in given ways, a task leaves within the longest of these in which it

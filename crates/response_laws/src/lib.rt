@@ -10,6 +10,8 @@
 //!   first item; another one behind a WaitEvent, where the task was entered again or went on.
 //! - A round makes another task Ready, or sets its events, no more often than a walk has items that name it (`rounds_make_within`; `specs/Makers`); a tick only
 //!   where an alarm of its counter does (`ticks_make_by_alarms`; `specs/Ticks`).
+//! - A task that clears what it waits for has a setting of its own for each round behind a WaitEvent (`clean_tasks_have_settings`; `specs/Settings`), so such
+//!   rounds may be cut where it goes on.
 //! - With costs of rounds and starts (`specs/Demand`, `specs/Bounded`) that are enough, a task responds within the longest start in which it has a round, and
 //!   an event (`runs_respond_in_time`; `specs/Response`); under a load (`runs_respond_under_load`; `specs/Loaded`); in every run of an image
 //!   (`images_respond`; `specs/SoundRuns`).
