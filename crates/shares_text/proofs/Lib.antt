@@ -1,0 +1,5 @@
+pub mod Meaning
+pub mod OneText
+pub mod OneVerdict
+pub mod Telling
+pub mod Words

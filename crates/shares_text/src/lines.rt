@@ -1,0 +1,220 @@
+//! The line of a symbol.
+ghost use Rattle.std.specs.Prelude.{◌≡◌, ◌==◌, ◌<◌, ◌≤◌, ◌++◌, [], length, get_or, drop, cond, OnOk, codes, decimal, ℕ};
+ghost use Rattle.sloth_base.specs.ConfigRange.{scheduler_number};
+ghost use Rattle.sloth_base.specs.Limits.{task_limit, ceiling_count};
+ghost use Rattle.call_graph.specs.Bits.{is_member};
+ghost use Rattle.shared_data.specs.Verdicts.{no_keeper};
+ghost use Rattle.shares_text.specs.SharesText.{IsTellable, task_word, resource_word, task_words, resource_words, has_below, under_words, keeper_words, further_keepers, keepers_words, pair_words, verdict_words};
+
+use call_graph::word_bits::has;
+use itoa::Buffer;
+use shared_data::keepers::Keeper;
+use shared_data::open_pairs::OpenPair;
+use shared_data::verdict::Verdict;
+use sloth_base::config::Config;
+use sloth_base::memory::NoMemory;
+use sloth_base::numbers::RES_SCHEDULER;
+
+// A space and a name.
+fn push_word(text: &mut Vec<u8>, name: &[u8]) -> Result<(), NoMemory>
+    ensures { OnOk result (text.new.items ≡ text.old.items ++ (codes " " ++ name.now)) }
+{
+    text.extend_from_slice(b" ")?;
+    text.extend_from_slice(name)?;
+    Ok(())
+}
+
+// A space and a task's name.
+fn push_task(text: &mut Vec<u8>, config: &Config, task: usize) -> Result<(), NoMemory>
+    requires { task < length config.now.tasks }
+    ensures { OnOk result (text.new.items ≡ text.old.items ++ task_word config.now task) }
+{
+    push_word(text, config.tasks.items()[task].name.bytes())
+}
+
+fn resource_name(config: &Config, resource: usize) -> &[u8]
+    ensures { result.now ≡ cond (resource == scheduler_number) (codes "RES_SCHEDULER") (get_or config.now.resources resource []) }
+{
+    if resource == RES_SCHEDULER as usize {
+        return b"RES_SCHEDULER";
+    }
+    match config.resources.items().get(resource) {
+        Some(name) => name.bytes(),
+        None => b"",
+    }
+}
+
+// A space and a resource's name.
+fn push_resource(text: &mut Vec<u8>, config: &Config, resource: usize) -> Result<(), NoMemory>
+    ensures { OnOk result (text.new.items ≡ text.old.items ++ resource_word config.now resource) }
+{
+    push_word(text, resource_name(config, resource))
+}
+
+// The tasks of a set, by number.
+fn push_tasks(text: &mut Vec<u8>, config: &Config, set: u32) -> Result<(), NoMemory>
+    requires { length config.now.tasks ≤ task_limit }
+    ensures { OnOk result (text.new.items ≡ text.old.items ++ task_words config.now set) }
+{
+    for task in 0..config.tasks.items().len() {
+        if has(u64::from(set), task) {
+            push_task(text, config, task)?;
+        }
+    }
+    Ok(())
+}
+
+// A space and its name, if the resource is of the set.
+fn push_member(
+    text: &mut Vec<u8>,
+    config: &Config,
+    set: u64,
+    resource: usize,
+) -> Result<(), NoMemory>
+    requires { resource < 64 }
+    ensures { OnOk result (text.new.items ≡ text.old.items ++ cond (is_member set resource) (resource_word config.now resource) []) }
+{
+    if has(set, resource) {
+        push_resource(text, config, resource)?;
+    }
+    Ok(())
+}
+
+// The resources of a set, by number.
+fn push_resources(text: &mut Vec<u8>, config: &Config, set: u64) -> Result<(), NoMemory>
+    ensures { OnOk result (text.new.items ≡ text.old.items ++ resource_words config.now set) }
+{
+    for resource in 0..RES_SCHEDULER as usize + 1 {
+        push_member(text, config, set, resource)?;
+    }
+    Ok(())
+}
+
+// Whether a resource is of the set.
+fn has_resource(set: u64) -> bool
+    ensures { result ≡ has_below set ceiling_count }
+{
+    let mut found = false;
+    for resource in 0..RES_SCHEDULER as usize + 1 {
+        found = found || has(set, resource);
+    }
+    found
+}
+
+// The resources behind `under`.
+fn push_named(text: &mut Vec<u8>, config: &Config, set: u64) -> Result<(), NoMemory>
+    ensures { OnOk result (text.new.items ≡ text.old.items ++ (codes " under" ++ resource_words config.now set)) }
+{
+    text.extend_from_slice(b" under")?;
+    push_resources(text, config, set)?;
+    Ok(())
+}
+
+// The same, if there are any.
+fn push_under(text: &mut Vec<u8>, config: &Config, set: u64) -> Result<(), NoMemory>
+    ensures { OnOk result (text.new.items ≡ text.old.items ++ under_words config.now set) }
+{
+    if has_resource(set) {
+        push_named(text, config, set)?;
+    }
+    Ok(())
+}
+
+// That it is not preemptable, where it is not.
+fn push_non(text: &mut Vec<u8>, non: bool) -> Result<(), NoMemory>
+    ensures { OnOk result (text.new.items ≡ text.old.items ++ cond non (codes " NON") []) }
+{
+    if non {
+        text.extend_from_slice(b" NON")?;
+    }
+    Ok(())
+}
+
+// A user, with what keeps those above it out.
+fn push_keeper(text: &mut Vec<u8>, config: &Config, keeper: &Keeper) -> Result<(), NoMemory>
+    requires { keeper.now.task < length config.now.tasks }
+    ensures { OnOk result (text.new.items ≡ text.old.items ++ keeper_words config.now keeper.now) }
+{
+    push_task(text, config, keeper.task)?;
+    push_non(text, keeper.non)?;
+    push_under(text, config, keeper.held)?;
+    Ok(())
+}
+
+// All but the first of these, each behind a comma.
+fn push_further(text: &mut Vec<u8>, config: &Config, list: &[Keeper]) -> Result<(), NoMemory>
+    requires { (k : ℕ) → k < length list.now → (get_or list.now k no_keeper).task < length config.now.tasks }
+    ensures { OnOk result (text.new.items ≡ text.old.items ++ further_keepers config.now (drop 1 list.now)) }
+{
+    for number in 1..list.len() {
+        text.extend_from_slice(b",")?;
+        push_keeper(text, config, &list[number])?;
+    }
+    Ok(())
+}
+
+// Users, with commas between.
+fn push_keepers(text: &mut Vec<u8>, config: &Config, list: &[Keeper]) -> Result<(), NoMemory>
+    requires { (k : ℕ) → k < length list.now → (get_or list.now k no_keeper).task < length config.now.tasks }
+    ensures { OnOk result (text.new.items ≡ text.old.items ++ keepers_words config.now list.now) }
+{
+    if list.is_empty() {
+        return Ok(());
+    }
+    push_keeper(text, config, &list[0])?;
+    push_further(text, config, list)
+}
+
+// A space and a number.
+fn push_number(text: &mut Vec<u8>, number: u32) -> Result<(), NoMemory>
+    ensures { OnOk result (text.new.items ≡ text.old.items ++ (codes " " ++ decimal number)) }
+{
+    let mut buffer = Buffer::new();
+    push_word(text, buffer.format(number).as_bytes())
+}
+
+// The tasks and lines of an open pair.
+fn push_pair(text: &mut Vec<u8>, config: &Config, pair: &OpenPair) -> Result<(), NoMemory>
+    requires low { pair.now.low < length config.now.tasks }
+    requires high { pair.now.high < length config.now.tasks }
+    ensures { OnOk result (text.new.items ≡ text.old.items ++ pair_words config.now pair.now) }
+{
+    push_task(text, config, pair.low)?;
+    push_number(text, pair.low_line)?;
+    push_task(text, config, pair.high)?;
+    push_number(text, pair.high_line)
+}
+
+/// A verdict.
+pub fn push_verdict(text: &mut Vec<u8>, config: &Config, verdict: &Verdict) -> Result<(), NoMemory>
+    requires few { length config.now.tasks ≤ task_limit }
+    requires tellable { IsTellable config.now verdict.now }
+    ensures { OnOk result (text.new.items ≡ text.old.items ++ verdict_words config.now verdict.now) }
+{
+    match verdict {
+        Verdict::Unused => {
+            text.extend_from_slice(b" unused")?;
+            Ok(())
+        }
+        Verdict::One(task) => {
+            text.extend_from_slice(b" one")?;
+            push_task(text, config, *task)
+        }
+        Verdict::Reads(tasks) => {
+            text.extend_from_slice(b" reads")?;
+            push_tasks(text, config, *tasks)
+        }
+        Verdict::Guarded(resources) => {
+            text.extend_from_slice(b" guarded")?;
+            push_resources(text, config, *resources)
+        }
+        Verdict::Ordered(list) => {
+            text.extend_from_slice(b" ordered")?;
+            push_keepers(text, config, list.items())
+        }
+        Verdict::Open(pair) => {
+            text.extend_from_slice(b" open")?;
+            push_pair(text, config, pair)
+        }
+    }
+}

@@ -1,0 +1,151 @@
+//! The lines of all symbols, from the texts.
+ghost use Rattle.std.specs.Prelude.{◌≡◌, ◌<◌, ◌≤◌, ◌++◌, ℕ, codes, length, get_or, IfOk, IfErr, OnOk};
+ghost use Rattle.sloth_base.specs.Limits.{task_limit};
+ghost use Rattle.sloth_base.specs.Named.{no_symbol};
+ghost use Rattle.code_rules.specs.AppRange.{AppInRange};
+ghost use Rattle.call_graph.specs.Ranks.{RanksOf};
+ghost use Rattle.sloth_source.specs.Texts.{AreAccepted, SourcesErrorIs};
+ghost use Rattle.shares_text.specs.SharesText.{IsChecked, RulesErrorIs, HasShares, IsSharesText, IsTellable, verdict_words, share_lines};
+
+use crate::lines::push_verdict;
+use call_graph::ranking::Ranks;
+use shared_data::data_verdicts;
+use shared_data::verdict::Verdict;
+use sloth_base::app::{App, Symbol};
+use sloth_base::config::Config;
+use sloth_base::memory::NoMemory;
+use sloth_base::refusal::BuildError;
+use sloth_source::{Ranked, read_ranked};
+use std::alloc::Global;
+use task_verify::verified::Verified;
+use task_verify::verify;
+
+fn symbol_at(app: &App, number: usize) -> &Symbol
+    requires { number < length app.now.symbols }
+    ensures { result.now ≡ get_or app.now.symbols number no_symbol }
+{
+    &app.symbols.items()[number]
+}
+
+fn verdict_at(verdicts: &[Verdict], number: usize) -> &Verdict
+    requires { number < length verdicts.now }
+    ensures { result.now ≡ get_or verdicts.now number Verdict.Unused }
+{
+    &verdicts[number]
+}
+
+// The line of a symbol.
+fn push_line(
+    text: &mut Vec<u8>,
+    config: &Config,
+    symbol: &Symbol,
+    verdict: &Verdict,
+) -> Result<(), NoMemory>
+    requires few { length config.now.tasks ≤ task_limit }
+    requires tellable { IsTellable config.now verdict.now }
+    ensures { OnOk result (text.new.items ≡ text.old.items ++ ((symbol.now.name ++ verdict_words config.now verdict.now) ++ codes "\n")) }
+{
+    text.extend_from_slice(symbol.name.bytes())?;
+    push_verdict(text, config, verdict)?;
+    text.extend_from_slice(b"\n")?;
+    Ok(())
+}
+
+// The lines of all symbols.
+fn share_lines(
+    alloc: Global,
+    config: &Config,
+    app: &App,
+    verdicts: &[Verdict],
+) -> Result<Vec<u8>, NoMemory>
+    requires few { length config.now.tasks ≤ task_limit }
+    requires same { length verdicts.now ≡ length app.now.symbols }
+    requires tellable { (y : ℕ) → y < length verdicts.now → IsTellable config.now (get_or verdicts.now y Verdict.Unused) }
+    ensures { IfOk result (λ text. text.items ≡ share_lines config.now app.now verdicts.now (length app.now.symbols)) }
+{
+    let mut text = Vec::new(alloc);
+    for number in 0..app.symbols.items().len() {
+        push_line(
+            &mut text,
+            config,
+            symbol_at(app, number),
+            verdict_at(verdicts, number),
+        )?;
+    }
+    Ok(text)
+}
+
+// The lines of task code that keeps all rules.
+fn checked_text(alloc: Global, verified: &Verified, ranks: &Ranks) -> Result<Vec<u8>, NoMemory>
+    requires { RanksOf verified.now.app ranks.now }
+    ensures text { IfOk result (λ text. HasShares verified.now.config verified.now.app text.items) }
+{
+    let verdicts = data_verdicts(alloc, verified, ranks)?;
+    share_lines(alloc, verified.config(), verified.app(), verdicts.items())
+}
+
+// The same, as an answer.
+fn text_of(alloc: Global, verified: &Verified, ranks: &Ranks) -> Result<Vec<u8>, BuildError>
+    requires { RanksOf verified.now.app ranks.now }
+    ensures text { IfOk result (λ text. HasShares verified.now.config verified.now.app text.items) }
+    ensures memory { IfErr result (λ error. error ≡ BuildError.Memory) }
+{
+    let text = checked_text(alloc, verified, ranks)?;
+    Ok(text)
+}
+
+// Task code that keeps all rules, and the ranks of its functions.
+struct Checked {
+    verified: Verified,
+    ranks: Ranks,
+}
+
+// Written out: what is derived is proved anew wherever a value is let go.
+impl Drop for Checked {
+    fn drop(self) {
+        let Checked {
+            verified: _,
+            ranks: _,
+        } = self;
+    }
+}
+
+// Task code that is verified, with the ranks of its functions.
+fn checked_code(
+    alloc: Global,
+    config: &Config,
+    app: &App,
+    ranks: Ranks,
+) -> Result<Checked, BuildError>
+    requires in_range { AppInRange config.now app.now }
+    requires belong { RanksOf app.now ranks }
+    ensures checked { IfOk result (λ checked. IsChecked config.now app.now checked.verified checked.ranks) }
+    ensures refused { IfErr result (RulesErrorIs config.now app.now) }
+{
+    let verified = verify(alloc, config, app, &ranks)?;
+    Ok(Checked { verified, ranks })
+}
+
+// What both texts mean, where they are accepted.
+fn read_checked(alloc: Global, oil: &[u8], src: &[u8]) -> Result<Checked, BuildError>
+    requires oil { length oil.now < 4294967295 }
+    requires src { length src.now < 4294967295 }
+    ensures accepted { IfOk result (λ checked. AreAccepted oil.now src.now checked.verified.config checked.verified.app) }
+    ensures belong { IfOk result (λ checked. RanksOf checked.verified.app checked.ranks) }
+    ensures refused { IfErr result (SourcesErrorIs oil.now src.now) }
+{
+    let Ranked { config, app, ranks } = read_ranked(alloc, oil, src)?;
+    checked_code(alloc, &config, &app, ranks)
+}
+
+/// The lines of what keeps the users of each symbol apart, of texts of at most 4,294,967,294 bytes; or the first refusal (O1 to O15, A1 to A7,
+/// V1 to V12).
+pub fn shares_text(alloc: Global, oil: &[u8], src: &[u8]) -> Result<Vec<u8>, BuildError>
+    requires oil { length oil.now < 4294967295 }
+    requires src { length src.now < 4294967295 }
+    ensures text { IfOk result (λ text. IsSharesText oil.now src.now text.items) }
+    ensures refused { IfErr result (SourcesErrorIs oil.now src.now) }
+{
+    let checked = read_checked(alloc, oil, src)?;
+    text_of(alloc, &checked.verified, &checked.ranks)
+}
