@@ -94,6 +94,7 @@ tool-apart tool.Bounds = refl
 tool-apart tool.Latency = refl
 tool-apart tool.LowerCounts = refl
 tool-apart tool.Map = refl
+tool-apart tool.Shares = refl
 tool-apart tool.Symbols = refl
 
 apart : (t : Tool) (word : List ℕ) → stands word ≡ true → tool_word t ≡ word → ⊥

@@ -19,7 +19,7 @@ use Rattle.command_line.specs.Tools.{ToolUse, asks_counts, IsAskedFor, tool_word
 
 -- the tools
 abbrev all_tools : List Tool
-all_tools = tool.Elf ∷ tool.Unelf ∷ tool.Infer ∷ tool.At ∷ tool.Wave ∷ tool.Picture ∷ tool.Check ∷ tool.Bounds ∷ tool.Latency ∷ tool.LowerCounts ∷ tool.Map ∷ tool.Symbols ∷ []
+all_tools = tool.Elf ∷ tool.Unelf ∷ tool.Infer ∷ tool.At ∷ tool.Wave ∷ tool.Picture ∷ tool.Check ∷ tool.Bounds ∷ tool.Latency ∷ tool.LowerCounts ∷ tool.Map ∷ tool.Shares ∷ tool.Symbols ∷ []
 
 -- of the two of one word it is the one that is asked for
 abbrev is_asked_for : Tool → (asks : Bool) → Bool
@@ -47,6 +47,7 @@ found tool.Latency true h = absurd (true≢false h)
 found tool.LowerCounts true h = refl
 found tool.LowerCounts false h = absurd (false≢true h)
 found tool.Map asks h = refl
+found tool.Shares asks h = refl
 found tool.Symbols asks h = refl
 
 pub same-tool : (t u : Tool) (asks : Bool) → IsAskedFor t asks → IsAskedFor u asks → tool_word t ≡ tool_word u → word_count t ≡ word_count u → t ≡ u
@@ -89,6 +90,7 @@ word-limit tool.Bounds = tt
 word-limit tool.Latency = tt
 word-limit tool.LowerCounts = tt
 word-limit tool.Map = tt
+word-limit tool.Shares = tt
 word-limit tool.Symbols = tt
 
 -- two lists of one length in front of others
@@ -192,6 +194,7 @@ counted tool.Bounds = refl
 counted tool.Latency = refl
 counted tool.LowerCounts = refl
 counted tool.Map = refl
+counted tool.Shares = refl
 counted tool.Symbols = refl
 
 pub words-counted : (u : ToolUse) → IsToolUse u → length (tool_words u) ≡ word_count u.tool

@@ -23,6 +23,7 @@ tool_word tool.Bounds = codes "bounds"
 tool_word tool.Latency = codes "bounds"
 tool_word tool.LowerCounts = codes "bounds"
 tool_word tool.Map = codes "map"
+tool_word tool.Shares = codes "shares"
 tool_word tool.Symbols = codes "symbols"
 
 -- how many files it reads; their names are the next words
@@ -38,6 +39,7 @@ input_count tool.Bounds = 2
 input_count tool.Latency = 2
 input_count tool.LowerCounts = 2
 input_count tool.Map = 2
+input_count tool.Shares = 2
 input_count tool.Symbols = 2
 
 -- the word that stands behind the names of the files that it reads, if one does
@@ -53,6 +55,7 @@ further_word tool.Bounds = None
 further_word tool.Latency = Some (codes "latency")
 further_word tool.LowerCounts = Some (codes "counts")
 further_word tool.Map = None
+further_word tool.Shares = None
 further_word tool.Symbols = None
 
 -- which counts it takes as its next words, if it takes any
@@ -68,6 +71,7 @@ counts_limit tool.Bounds = None
 counts_limit tool.Latency = None
 counts_limit tool.LowerCounts = None
 counts_limit tool.Map = None
+counts_limit tool.Shares = None
 counts_limit tool.Symbols = None
 
 -- whether its last word names a file that it writes
@@ -83,6 +87,7 @@ writes_file tool.Bounds = false
 writes_file tool.Latency = false
 writes_file tool.LowerCounts = false
 writes_file tool.Map = false
+writes_file tool.Shares = false
 writes_file tool.Symbols = true
 
 -- how many words it has
@@ -98,6 +103,7 @@ word_count tool.Bounds = 3
 word_count tool.Latency = 4
 word_count tool.LowerCounts = 4
 word_count tool.Map = 3
+word_count tool.Shares = 3
 word_count tool.Symbols = 4
 
 -- ---- two tools of one word, and of as many words

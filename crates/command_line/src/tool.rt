@@ -33,6 +33,8 @@ pub enum Tool {
     LowerCounts,
     /// `map OIL SRC`: what the image takes of memory.
     Map,
+    /// `shares OIL SRC`: which data the tasks share, and what keeps their accesses apart.
+    Shares,
     /// `symbols OIL SRC OUT`: the file of the image that debuggers read.
     Symbols,
 }
@@ -54,6 +56,7 @@ impl Tool {
             Tool::Latency => 2,
             Tool::LowerCounts => 2,
             Tool::Map => 2,
+            Tool::Shares => 2,
             Tool::Symbols => 2,
         }
     }
@@ -74,6 +77,7 @@ impl Tool {
             Tool::Latency => Some("latency"),
             Tool::LowerCounts => Some("counts"),
             Tool::Map => None,
+            Tool::Shares => None,
             Tool::Symbols => None,
         }
     }
@@ -97,6 +101,7 @@ impl Tool {
             Tool::Latency => None,
             Tool::LowerCounts => None,
             Tool::Map => None,
+            Tool::Shares => None,
             Tool::Symbols => None,
         }
     }
@@ -117,6 +122,7 @@ impl Tool {
             Tool::Latency => false,
             Tool::LowerCounts => false,
             Tool::Map => false,
+            Tool::Shares => false,
             Tool::Symbols => true,
         }
     }
@@ -147,6 +153,9 @@ fn tool_of_three(word: &str, asks: bool) -> Option<Tool>
     }
     if word == "map" {
         return Some(Tool::Map);
+    }
+    if word == "shares" {
+        return Some(Tool::Shares);
     }
     None
 }

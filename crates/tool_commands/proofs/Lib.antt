@@ -4,6 +4,7 @@ pub mod CheckAnswers
 pub mod ElfAnswers
 pub mod InferAnswers
 pub mod MapAnswers
+pub mod SharesAnswers
 pub mod OneAnswer
 pub mod PictureAnswers
 pub mod RunAnswers

@@ -20,6 +20,7 @@ use Rattle.tool_commands.proofs.CheckAnswers.{one_check}
 use Rattle.tool_commands.proofs.ElfAnswers.{Wrote, elf-one, elf-view, unelf-one}
 use Rattle.tool_commands.proofs.InferAnswers.{infer-one}
 use Rattle.tool_commands.proofs.MapAnswers.{MapSays, one_map}
+use Rattle.tool_commands.proofs.SharesAnswers.{SharesSays, one_shares}
 use Rattle.tool_commands.proofs.PictureAnswers.{Pictures, one_pictures}
 use Rattle.tool_commands.proofs.RunAnswers.{run-image, run-one}
 use Rattle.tool_commands.proofs.SourceAnswers.{one_source}
@@ -44,6 +45,8 @@ one_answer tool.LowerCounts counts names inputs a b d p q =
     let oil = input inputs 0 in let src = input inputs 1 in one_source oil src (LowerCountsSays oil src) (one_lower_counts oil src) a b p q
 one_answer tool.Map counts names inputs a b d p q =
     let oil = input inputs 0 in let src = input inputs 1 in one_source oil src (MapSays oil src) (one_map oil src) a b p q
+one_answer tool.Shares counts names inputs a b d p q =
+    let oil = input inputs 0 in let src = input inputs 1 in one_source oil src (SharesSays oil src) (one_shares oil src) a b p q
 one_answer tool.Symbols counts names inputs a b d p q = absurd (false≢true d)
 
 -- a tool that reads an image file reads a file
@@ -59,6 +62,7 @@ reads-one tool.Bounds h = omega arith
 reads-one tool.Latency h = omega arith
 reads-one tool.LowerCounts h = omega arith
 reads-one tool.Map h = omega arith
+reads-one tool.Shares h = omega arith
 reads-one tool.Symbols h = omega arith
 
 -- only a tool that reads an image file says that it is none, by its first fault
@@ -76,6 +80,7 @@ no-image tool.Bounds counts names inputs fault h = absurd h
 no-image tool.Latency counts names inputs fault h = absurd h
 no-image tool.LowerCounts counts names inputs fault h = absurd h
 no-image tool.Map counts names inputs fault h = absurd h
+no-image tool.Shares counts names inputs fault h = absurd h
 no-image tool.Symbols counts names inputs fault h = absurd h
 
 -- these bytes are an image's
@@ -104,4 +109,5 @@ image-or-fault tool.Bounds counts names inputs a reads h = absurd (false≢true 
 image-or-fault tool.Latency counts names inputs a reads h = absurd (false≢true reads)
 image-or-fault tool.LowerCounts counts names inputs a reads h = absurd (false≢true reads)
 image-or-fault tool.Map counts names inputs a reads h = absurd (false≢true reads)
+image-or-fault tool.Shares counts names inputs a reads h = absurd (false≢true reads)
 image-or-fault tool.Symbols counts names inputs a reads h = absurd (false≢true reads)

@@ -10,6 +10,7 @@ use Rattle.tool_commands.specs.ElfAnswers.{IsElfAnswer, IsUnelfAnswer}
 use Rattle.tool_commands.specs.InferAnswers.{IsInferAnswer}
 use Rattle.tool_commands.specs.AtAnswers.{IsAtAnswer}
 use Rattle.tool_commands.specs.MapAnswers.{IsMapAnswer}
+use Rattle.tool_commands.specs.SharesAnswers.{IsSharesAnswer}
 use Rattle.tool_commands.specs.PictureAnswers.{IsPictureAnswer}
 use Rattle.tool_commands.specs.SymbolsAnswers.{IsSymbolsAnswer}
 use Rattle.tool_commands.specs.WaveAnswers.{IsWaveAnswer}
@@ -33,6 +34,7 @@ IsAnswer tool.Bounds counts names inputs answer = IsBoundsAnswer (input inputs 0
 IsAnswer tool.Latency counts names inputs answer = IsLatencyAnswer (input inputs 0) (input inputs 1) answer
 IsAnswer tool.LowerCounts counts names inputs answer = IsLowerCountsAnswer (input inputs 0) (input inputs 1) answer
 IsAnswer tool.Map counts names inputs answer = IsMapAnswer (input inputs 0) (input inputs 1) answer
+IsAnswer tool.Shares counts names inputs answer = IsSharesAnswer (input inputs 0) (input inputs 1) answer
 IsAnswer tool.Symbols counts names inputs answer = IsSymbolsAnswer (input inputs 0) (input inputs 1) (input names 1) answer
 
 -- the first file that it reads is to be an image file
@@ -48,6 +50,7 @@ reads_image tool.Bounds = false
 reads_image tool.Latency = false
 reads_image tool.LowerCounts = false
 reads_image tool.Map = false
+reads_image tool.Shares = false
 reads_image tool.Symbols = false
 
 -- its answer is determined by what it reads; the file of `symbols` by the image too, of which there may be more than one
@@ -63,6 +66,7 @@ is_determined tool.Bounds = true
 is_determined tool.Latency = true
 is_determined tool.LowerCounts = true
 is_determined tool.Map = true
+is_determined tool.Shares = true
 is_determined tool.Symbols = false
 
 -- files have one answer of such a tool

@@ -5,6 +5,7 @@ pub mod ElfAnswers
 pub mod InferAnswers
 pub mod Lines
 pub mod MapAnswers
+pub mod SharesAnswers
 pub mod PictureAnswers
 pub mod RunAnswers
 pub mod SourceAnswers

@@ -11,6 +11,7 @@ use crate::elf_commands::{elf, unelf};
 use crate::infer_command::infer;
 use crate::map_command::map;
 use crate::picture_command::picture;
+use crate::shares_command::shares;
 use crate::symbols_command::symbols;
 use crate::wave_command::wave;
 use command_line::counts::{Counts, number_of, window_of};
@@ -77,6 +78,7 @@ pub fn judge(
         Tool::Latency => latency(alloc, inputs[0].items(), inputs[1].items()),
         Tool::LowerCounts => lower_counts(alloc, inputs[0].items(), inputs[1].items()),
         Tool::Map => map(alloc, inputs[0].items(), inputs[1].items()),
+        Tool::Shares => shares(alloc, inputs[0].items(), inputs[1].items()),
         Tool::Symbols => symbols(
             alloc,
             inputs[0].items(),

@@ -1,10 +1,10 @@
 //! The commands that read files, judge what they hold, and end with one answer: `elf`, `unelf`, `infer`, `check`, `at`, `wave`, `picture`, `bounds`
-//! alone and with `latency` or `counts`, `map`, `symbols`.
+//! alone and with `latency` or `counts`, `map`, `shares`, `symbols`.
 //!
 //! The files have exactly the answer that one table of all such commands says, and have one at most (`judge`, `one_answer`), but for `symbols`: its
 //! file is one for each image (`symbol_build`). The table:
 //! `specs/Answers`, with a row for each in `specs/ElfAnswers`, `specs/InferAnswers`, `specs/AtAnswers`, `specs/BoundsAnswers`, `specs/MapAnswers`,
-//! `specs/WaveAnswers`, `specs/PictureAnswers`, `specs/SymbolsAnswers`; what two of them share: `specs/SourceAnswers` (`bounds` and `map`), `specs/RunAnswers` (`wave` and
+//! `specs/WaveAnswers`, `specs/PictureAnswers`, `specs/SymbolsAnswers`, `specs/SharesAnswers`; what some of them share: `specs/SourceAnswers` (`bounds`, `map` and `shares`), `specs/RunAnswers` (`wave` and
 //! `picture`); `specs/Lines`. The lines of task states: `specs/StatesText`. Words: `command_line` (`Tools`); the answer of `check`: `tool_answers`
 //! (`CheckAnswers`).
 #![tactic(auto)]
@@ -20,6 +20,7 @@ pub mod lines;
 mod map_command;
 mod picture_command;
 pub mod run_inputs;
+mod shares_command;
 mod symbols_command;
 mod wave_command;
 
