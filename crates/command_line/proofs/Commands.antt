@@ -87,6 +87,7 @@ tool-apart tool.Elf = refl
 tool-apart tool.Unelf = refl
 tool-apart tool.Infer = refl
 tool-apart tool.At = refl
+tool-apart tool.Losses = refl
 tool-apart tool.Wave = refl
 tool-apart tool.Picture = refl
 tool-apart tool.Check = refl

@@ -19,7 +19,7 @@ use Rattle.command_line.specs.Tools.{ToolUse, asks_counts, IsAskedFor, tool_word
 
 -- the tools
 abbrev all_tools : List Tool
-all_tools = tool.Elf ∷ tool.Unelf ∷ tool.Infer ∷ tool.At ∷ tool.Wave ∷ tool.Picture ∷ tool.Check ∷ tool.Bounds ∷ tool.Latency ∷ tool.LowerCounts ∷ tool.Map ∷ tool.Shares ∷ tool.Symbols ∷ []
+all_tools = tool.Elf ∷ tool.Unelf ∷ tool.Infer ∷ tool.At ∷ tool.Losses ∷ tool.Wave ∷ tool.Picture ∷ tool.Check ∷ tool.Bounds ∷ tool.Latency ∷ tool.LowerCounts ∷ tool.Map ∷ tool.Shares ∷ tool.Symbols ∷ []
 
 -- of the two of one word it is the one that is asked for
 abbrev is_asked_for : Tool → (asks : Bool) → Bool
@@ -38,6 +38,7 @@ found tool.Elf asks h = refl
 found tool.Unelf asks h = refl
 found tool.Infer asks h = refl
 found tool.At asks h = refl
+found tool.Losses asks h = refl
 found tool.Wave asks h = refl
 found tool.Picture asks h = refl
 found tool.Check asks h = refl
@@ -83,6 +84,7 @@ word-limit tool.Elf = tt
 word-limit tool.Unelf = tt
 word-limit tool.Infer = tt
 word-limit tool.At = omega arith
+word-limit tool.Losses = omega arith
 word-limit tool.Wave = omega arith
 word-limit tool.Picture = omega arith
 word-limit tool.Check = omega arith
@@ -187,6 +189,7 @@ counted tool.Elf = refl
 counted tool.Unelf = refl
 counted tool.Infer = refl
 counted tool.At = refl
+counted tool.Losses = refl
 counted tool.Wave = refl
 counted tool.Picture = refl
 counted tool.Check = refl

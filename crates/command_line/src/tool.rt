@@ -18,6 +18,8 @@ pub enum Tool {
     Infer,
     /// `at IMG ARR K`: the states of the tasks at a count of a run of an image file.
     At,
+    /// `losses IMG ARR N`: how many arrivals of each task and counter came in a run of an image file, and how many of them are lost.
+    Losses,
     /// `wave IMG ARR N OUT`: the waves of a run of an image file.
     Wave,
     /// `picture IMG ARR FROM TO OUT`: the picture of a part of a run of an image file.
@@ -49,6 +51,7 @@ impl Tool {
             Tool::Unelf => 1,
             Tool::Infer => 2,
             Tool::At => 2,
+            Tool::Losses => 2,
             Tool::Wave => 2,
             Tool::Picture => 2,
             Tool::Check => 4,
@@ -70,6 +73,7 @@ impl Tool {
             Tool::Unelf => None,
             Tool::Infer => None,
             Tool::At => None,
+            Tool::Losses => None,
             Tool::Wave => None,
             Tool::Picture => None,
             Tool::Check => None,
@@ -91,6 +95,7 @@ impl Tool {
             Tool::Unelf => None,
             Tool::Infer => None,
             Tool::At => Some(Limit::One(COUNT_LIMIT - 1)),
+            Tool::Losses => Some(Limit::One(COUNT_LIMIT)),
             Tool::Wave => Some(Limit::One(COUNT_LIMIT)),
             Tool::Picture => Some(Limit::Window {
                 most: COUNT_LIMIT,
@@ -115,6 +120,7 @@ impl Tool {
             Tool::Unelf => true,
             Tool::Infer => true,
             Tool::At => false,
+            Tool::Losses => false,
             Tool::Wave => true,
             Tool::Picture => true,
             Tool::Check => false,
@@ -170,6 +176,9 @@ fn tool_of_four(word: &str, asks: bool) -> Option<Tool>
     }
     if word == "at" {
         return Some(Tool::At);
+    }
+    if word == "losses" {
+        return Some(Tool::Losses);
     }
     if word == "bounds" {
         return if asks {

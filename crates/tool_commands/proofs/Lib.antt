@@ -3,6 +3,8 @@ pub mod BoundsAnswers
 pub mod CheckAnswers
 pub mod ElfAnswers
 pub mod InferAnswers
+pub mod LossesAnswers
+pub mod LossesLines
 pub mod MapAnswers
 pub mod SharesAnswers
 pub mod OneAnswer

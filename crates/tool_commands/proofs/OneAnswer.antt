@@ -19,6 +19,7 @@ use Rattle.tool_commands.proofs.BoundsAnswers.{BoundsSays, LatencySays, LowerCou
 use Rattle.tool_commands.proofs.CheckAnswers.{one_check}
 use Rattle.tool_commands.proofs.ElfAnswers.{Wrote, elf-one, elf-view, unelf-one}
 use Rattle.tool_commands.proofs.InferAnswers.{infer-one}
+use Rattle.tool_commands.proofs.LossesAnswers.{losses-one, losses-image}
 use Rattle.tool_commands.proofs.MapAnswers.{MapSays, one_map}
 use Rattle.tool_commands.proofs.SharesAnswers.{SharesSays, one_shares}
 use Rattle.tool_commands.proofs.PictureAnswers.{Pictures, one_pictures}
@@ -31,6 +32,7 @@ one_answer tool.Elf counts names inputs a b d p q = elf-one (input inputs 0) a b
 one_answer tool.Unelf counts names inputs a b d p q = unelf-one (input inputs 0) a b p q
 one_answer tool.Infer counts names inputs a b d p q = infer-one (input inputs 0) (input inputs 1) a b p q
 one_answer tool.At counts names inputs a b d p q = at-one (input inputs 0) (input inputs 1) (number_of counts) a b p q
+one_answer tool.Losses counts names inputs a b d p q = losses-one (input inputs 0) (input inputs 1) (number_of counts) a b p q
 one_answer tool.Wave counts names inputs a b d p q =
     let n = number_of counts in run-one (Waves n) (input inputs 0) (input inputs 1) n (one_waves n) a b p q
 one_answer tool.Picture counts names inputs a b d p q =
@@ -55,6 +57,7 @@ reads-one tool.Elf h = omega arith
 reads-one tool.Unelf h = omega arith
 reads-one tool.Infer h = omega arith
 reads-one tool.At h = omega arith
+reads-one tool.Losses h = omega arith
 reads-one tool.Wave h = omega arith
 reads-one tool.Picture h = omega arith
 reads-one tool.Check h = omega arith
@@ -73,6 +76,7 @@ no-image tool.Elf counts names inputs fault h = (refl, h)
 no-image tool.Unelf counts names inputs fault h = absurd h
 no-image tool.Infer counts names inputs fault h = absurd h
 no-image tool.At counts names inputs fault h = (refl, h)
+no-image tool.Losses counts names inputs fault h = (refl, h)
 no-image tool.Wave counts names inputs fault h = (refl, h)
 no-image tool.Picture counts names inputs fault h = (refl, h)
 no-image tool.Check counts names inputs fault h = absurd h
@@ -100,6 +104,7 @@ image-or-fault tool.Elf counts names inputs a reads h = by (elf-view (input inpu
 image-or-fault tool.Unelf counts names inputs a reads h = absurd (false≢true reads)
 image-or-fault tool.Infer counts names inputs a reads h = absurd (false≢true reads)
 image-or-fault tool.At counts names inputs a reads h = at-image (input inputs 0) (input inputs 1) (number_of counts) a h
+image-or-fault tool.Losses counts names inputs a reads h = losses-image (input inputs 0) (input inputs 1) (number_of counts) a h
 image-or-fault tool.Wave counts names inputs a reads h =
     let n = number_of counts in run-image (Waves n) (input inputs 0) (input inputs 1) n (one_waves n) a h
 image-or-fault tool.Picture counts names inputs a reads h =

@@ -24,19 +24,19 @@ use Rattle.tool_commands.proofs.ElfAnswers.{same-outcome}
 
 module _ (img arr : List ℕ) where
   -- two files have one image and one list of arrivals
-  one-image : (i j : Image) (A B : List Arrival) → AreRunInputs img arr i A → AreRunInputs img arr j B → i ≡ j
+  pub one-image : (i j : Image) (A B : List Arrival) → AreRunInputs img arr i A → AreRunInputs img arr j B → i ≡ j
   one-image i j A B h k = image-unique i j img h.is_image k.is_image
 
-  one-arrivals : (i j : Image) (A B : List Arrival) → AreRunInputs img arr i A → AreRunInputs img arr j B → A ≡ B
+  pub one-arrivals : (i j : Image) (A B : List Arrival) → AreRunInputs img arr i A → AreRunInputs img arr j B → A ≡ B
   one-arrivals i j A B h k = h.arrivals_are ∙ ap (λ (x : Image). arrivals_in x.tasks x.counters arr) (one-image i j A B h k) ∙ sym k.arrivals_are
 
   -- and are not refused
-  not-refused : (i : Image) (A : List Arrival) (r : Refusal) → AreRunInputs img arr i A → IsAtRefused img arr r → ⊥
+  pub not-refused : (i : Image) (A : List Arrival) (r : Refusal) → AreRunInputs img arr i A → IsAtRefused img arr r → ⊥
   not-refused i A r h k =
       let N : Image → Type 0 = λ x. NoFault (ArrivalsFault x.tasks x.counters arr) in
       subst N (image-unique i k.0 img h.is_image k.1) h.no_fault r k.2.is_fault
 
-  not-faulty : (i : Image) (A : List Arrival) (f : ImageFault) → AreRunInputs img arr i A → IsFirstImageFault f img → ⊥
+  pub not-faulty : (i : Image) (A : List Arrival) (f : ImageFault) → AreRunInputs img arr i A → IsFirstImageFault f img → ⊥
   not-faulty i A f h k = none_is_both img i f h.is_image k
 
 -- What is shown of a run is one text, and the run of n instructions is whole where it is shown.

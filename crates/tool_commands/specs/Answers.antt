@@ -9,6 +9,7 @@ use Rattle.tool_answers.specs.CheckAnswers.{IsCheckAnswer}
 use Rattle.tool_commands.specs.ElfAnswers.{IsElfAnswer, IsUnelfAnswer}
 use Rattle.tool_commands.specs.InferAnswers.{IsInferAnswer}
 use Rattle.tool_commands.specs.AtAnswers.{IsAtAnswer}
+use Rattle.tool_commands.specs.LossesAnswers.{IsLossesAnswer}
 use Rattle.tool_commands.specs.MapAnswers.{IsMapAnswer}
 use Rattle.tool_commands.specs.SharesAnswers.{IsSharesAnswer}
 use Rattle.tool_commands.specs.PictureAnswers.{IsPictureAnswer}
@@ -26,6 +27,7 @@ IsAnswer tool.Elf counts names inputs answer = IsElfAnswer (input inputs 0) answ
 IsAnswer tool.Unelf counts names inputs answer = IsUnelfAnswer (input inputs 0) answer
 IsAnswer tool.Infer counts names inputs answer = IsInferAnswer (input inputs 0) (input inputs 1) answer
 IsAnswer tool.At counts names inputs answer = IsAtAnswer (input inputs 0) (input inputs 1) (number_of counts) answer
+IsAnswer tool.Losses counts names inputs answer = IsLossesAnswer (input inputs 0) (input inputs 1) (number_of counts) answer
 IsAnswer tool.Wave counts names inputs answer = IsWaveAnswer (input inputs 0) (input inputs 1) (number_of counts) answer
 IsAnswer tool.Picture counts names inputs answer = IsPictureAnswer (input inputs 0) (input inputs 1) (window_of counts) answer
 IsAnswer tool.Check counts names inputs answer =
@@ -43,6 +45,7 @@ reads_image tool.Elf = true
 reads_image tool.Unelf = false
 reads_image tool.Infer = false
 reads_image tool.At = true
+reads_image tool.Losses = true
 reads_image tool.Wave = true
 reads_image tool.Picture = true
 reads_image tool.Check = false
@@ -59,6 +62,7 @@ is_determined tool.Elf = true
 is_determined tool.Unelf = true
 is_determined tool.Infer = true
 is_determined tool.At = true
+is_determined tool.Losses = true
 is_determined tool.Wave = true
 is_determined tool.Picture = true
 is_determined tool.Check = true

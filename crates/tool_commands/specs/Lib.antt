@@ -4,6 +4,8 @@ pub mod BoundsAnswers
 pub mod ElfAnswers
 pub mod InferAnswers
 pub mod Lines
+pub mod LossesAnswers
+pub mod LossesText
 pub mod MapAnswers
 pub mod SharesAnswers
 pub mod PictureAnswers

@@ -9,6 +9,7 @@ use crate::at_command::at;
 use crate::bounds_command::{bounds, latency, lower_counts};
 use crate::elf_commands::{elf, unelf};
 use crate::infer_command::infer;
+use crate::losses_command::losses;
 use crate::map_command::map;
 use crate::picture_command::picture;
 use crate::shares_command::shares;
@@ -49,6 +50,12 @@ pub fn judge(
         Tool::Unelf => unelf(alloc, inputs[0].items()),
         Tool::Infer => infer(alloc, inputs[0].items(), inputs[1].items()),
         Tool::At => at(
+            alloc,
+            inputs[0].items(),
+            inputs[1].items(),
+            number_of(counts),
+        ),
+        Tool::Losses => losses(
             alloc,
             inputs[0].items(),
             inputs[1].items(),

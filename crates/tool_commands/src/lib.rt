@@ -1,11 +1,11 @@
-//! The commands that read files, judge what they hold, and end with one answer: `elf`, `unelf`, `infer`, `check`, `at`, `wave`, `picture`, `bounds`
-//! alone and with `latency` or `counts`, `map`, `shares`, `symbols`.
+//! The commands that read files, judge what they hold, and end with one answer: `elf`, `unelf`, `infer`, `check`, `at`, `losses`, `wave`, `picture`,
+//! `bounds` alone and with `latency` or `counts`, `map`, `shares`, `symbols`.
 //!
 //! The files have exactly the answer that one table of all such commands says, and have one at most (`judge`, `one_answer`), but for `symbols`: its
 //! file is one for each image (`symbol_build`). The table:
-//! `specs/Answers`, with a row for each in `specs/ElfAnswers`, `specs/InferAnswers`, `specs/AtAnswers`, `specs/BoundsAnswers`, `specs/MapAnswers`,
+//! `specs/Answers`, with a row for each in `specs/ElfAnswers`, `specs/InferAnswers`, `specs/AtAnswers`, `specs/LossesAnswers`, `specs/BoundsAnswers`, `specs/MapAnswers`,
 //! `specs/WaveAnswers`, `specs/PictureAnswers`, `specs/SymbolsAnswers`, `specs/SharesAnswers`; what some of them share: `specs/SourceAnswers` (`bounds`, `map` and `shares`), `specs/RunAnswers` (`wave` and
-//! `picture`); `specs/Lines`. The lines of task states: `specs/StatesText`. Words: `command_line` (`Tools`); the answer of `check`: `tool_answers`
+//! `picture`); `specs/Lines`. The lines of task states: `specs/StatesText`; of arrivals: `specs/LossesText`. Words: `command_line` (`Tools`); the answer of `check`: `tool_answers`
 //! (`CheckAnswers`).
 #![tactic(auto)]
 
@@ -17,6 +17,8 @@ mod infer_command;
 pub mod judging;
 pub mod laws;
 pub mod lines;
+mod losses_command;
+mod losses_lines;
 mod map_command;
 mod picture_command;
 pub mod run_inputs;
