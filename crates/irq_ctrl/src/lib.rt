@@ -48,6 +48,16 @@ impl Controller {
         Controller { bytes, first }
     }
 
+    /// The same controller once more.
+    pub fn copy(&self) -> Controller
+        ensures { result ≡ self.now }
+    {
+        Controller {
+            bytes: self.bytes.copy(),
+            first: self.first,
+        }
+    }
+
     /// The line's pending byte becomes 1.
     pub fn arrive(&mut self, line: Line)
         requires { line < line_count }

@@ -40,6 +40,17 @@ impl LineBytes {
         }
     }
 
+    /// The same bytes once more.
+    pub fn copy(&self) -> LineBytes
+        ensures { result ≡ self.now }
+    {
+        LineBytes {
+            pending: self.pending,
+            enabled: self.enabled,
+            levels: self.levels,
+        }
+    }
+
     /// The line's pending byte becomes 1.
     pub fn arrive(&mut self, line: Line)
         requires { line < line_count }

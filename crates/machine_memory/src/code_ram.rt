@@ -1,5 +1,5 @@
 //! RAM, and the instructions of its words that were decoded before.
-ghost use Rattle.std.specs.Prelude.{◌≡◌, ◌≤◌, ◌+◌, ◌/◌, ◌%◌, ◌^◌, ◌<◌, IfOk, None, Some, get_or, set, length};
+ghost use Rattle.std.specs.Prelude.{◌≡◌, ◌≤◌, ◌+◌, ◌/◌, ◌%◌, ◌^◌, ◌<◌, ◌⊎◌, [], IfOk, None, Some, get_or, set, length};
 ghost use Rattle.rv32_instr.specs.Ram.{word_at};
 ghost use Rattle.rv32_instr.specs.Table.{Decode};
 ghost use Rattle.sloth_base.specs.Arithmetic.{size_of};
@@ -60,6 +60,17 @@ fn drop_kept(kept: &mut Vec<Option<Instr>>, word: usize)
     }
 }
 
+// Keeps what another one keeps, or nothing where that has other places.
+fn keep_same(kept: &mut Vec<Option<Instr>>, other: &[Option<Instr>])
+    ensures { (kept.new.items ≡ other.now) ⊎ (kept.new.items ≡ []) }
+{
+    if kept.len() == other.len() {
+        kept.copy_from_slice(other);
+    } else {
+        kept.clear();
+    }
+}
+
 impl CodeRam {
     /// RAM that begins with these bytes; the rest is zero.
     pub fn new(alloc: Global, image: &[u8]) -> Result<CodeRam, NoMemory>
@@ -69,6 +80,14 @@ impl CodeRam {
         let kept = vec![in alloc; None; image.len() / 4]?;
         let ram = Ram::new(alloc, image)?;
         Ok(CodeRam { ram, kept })
+    }
+
+    /// Takes the bytes of another one.
+    pub fn set_to(&mut self, other: &CodeRam)
+        ensures { self.new ≡ other.now }
+    {
+        self.ram.set_to(&other.ram);
+        keep_same(&mut self.kept, other.kept.as_slice());
     }
 
     /// The bytes of an access, low byte first.

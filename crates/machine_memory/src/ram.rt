@@ -43,6 +43,13 @@ impl Ram {
         Ok(Ram { bytes })
     }
 
+    /// Takes the bytes of another one.
+    pub fn set_to(&mut self, other: &Ram)
+        ensures { self.new ≡ other.now }
+    {
+        self.bytes.copy_from_slice(other.bytes.as_slice());
+    }
+
     /// The byte at an offset.
     pub fn byte(&self, offset: u32) -> u8
         requires { offset < memory_bytes }

@@ -46,6 +46,14 @@ impl SlothBus {
         })
     }
 
+    /// Takes the contents of another one.
+    pub fn set_to(&mut self, other: &SlothBus)
+        ensures { self.new ≡ other.now }
+    {
+        self.ram.set_to(&other.ram);
+        self.controller = other.controller.copy();
+    }
+
     /// The line's pending byte becomes 1.
     pub fn arrive(&mut self, line: Line)
         requires { line < line_count }

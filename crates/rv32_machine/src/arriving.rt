@@ -24,6 +24,16 @@ impl Machine<SlothBus> {
         Ok(Machine::new(SlothBus::new(alloc, image)?))
     }
 
+    /// Goes to where another machine stands.
+    pub fn set_to(&mut self, other: &Machine<SlothBus>)
+        ensures state { state (λ bus. bus) self.new ≡ state (λ bus. bus) other.now }
+        ensures count { self.new.count ≡ other.now.count }
+    {
+        self.hart = other.hart;
+        self.count = other.count;
+        self.bus.set_to(&other.bus);
+    }
+
     /// The line's pending byte becomes 1.
     pub fn arrive(&mut self, line: Line)
         requires { line < line_count }

@@ -12,6 +12,7 @@ use sloth_base::app::Width;
 use sloth_base::numbers::Reg;
 
 /// What the instruction at `pc` does, with the registers `x`.
+#[inline(always)]
 pub fn effect(kind: InstrKind, pc: u32, x: &[u32; 32]) -> Effect
     requires { InRange kind }
     ensures is { result ≡ effect kind pc x.now }

@@ -8,7 +8,7 @@
 #![tactic(auto)]
 
 mod arriving;
-mod effect;
+pub mod effect;
 pub mod flat;
 pub mod laws;
 mod machine;

@@ -52,6 +52,7 @@ pub fn blank_step() -> Step
 }
 
 /// The line whose pending byte an effect loads, or sets to zero by a store.
+#[inline(always)]
 #[tactic(auto, using(std::proofs::lemmas::Bool::Decides::nat_tests), unfolding(rv32_instr::specs::Execute::touched_line_by))]
 fn touched(effect: &Effect) -> Option<Line>
     ensures is { result ≡ touched_line_by effect.now }
@@ -77,6 +78,7 @@ fn touched(effect: &Effect) -> Option<Line>
 }
 
 /// The line that an address is the pending byte of.
+#[inline(always)]
 #[tactic(auto, using(std::proofs::lemmas::Bool::Decides::nat_tests))]
 fn pending_line(address: u32) -> Option<Line>
     ensures is { result ≡ pending_line address }
@@ -218,7 +220,7 @@ impl<B: Bus> Machine<B> {
 
     /// The line that is taken before the next instruction.
     #[tactic(auto, unfolding(sloth_base::specs::Choose::choose))]
-    fn line_to_take(&self) -> Option<Line>
+    pub fn line_to_take(&self) -> Option<Line>
         ensures is { result ≡ line_to_take (state B.memory self.now) }
         ensures there { ForSome result (λ line. (line < line_count) × ((state B.memory self.now).core.controller ≡ true)) }
         ensures pending { ForSome result (λ line. slice_index (state B.memory self.now).core.pending line ≡ 1) }
@@ -289,7 +291,8 @@ impl<B: Bus> Machine<B> {
         self.hart.pc = vector(line);
     }
 
-    fn level_of(&mut self, line: Line) -> u8
+    /// The level byte of a line.
+    pub fn level_of(&mut self, line: Line) -> u8
         requires in_range { line < line_count }
         requires there { (state B.memory self.old).core.controller ≡ true }
         ensures is { result ≡ slice_index (state B.memory self.old).core.levels line }
