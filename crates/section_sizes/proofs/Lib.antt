@@ -23,4 +23,5 @@ pub mod KnownRaised
 pub mod Unseen
 pub mod OrderSummaries
 mod Settling
+mod Ranked
 mod Looping

@@ -85,16 +85,16 @@ less_slack table i size small inside lt =
 
 module _ (ways : List Ways) (steps ends : List ℕ) where
   -- an entry that grows, behind those that have
-  pub grown_more : (initial table new : List ℕ) (count : ℕ) (grown : Bool) → HasGrown ways steps ends initial table count grown → slack new < slack table → slack new < slack initial
-  grown_more initial table new count true g lt = omega (arith, g, lt)
-  grown_more initial table new count false g lt = subst (λ t. slack new < slack t) g.0 lt
+  pub grown_more : (initial table new : List ℕ) (first : ℕ) (grown : Bool) → HasGrown ways steps ends initial table first grown → slack new < slack table → slack new < slack initial
+  grown_more initial table new first true g lt = omega (arith, g, lt)
+  grown_more initial table new first false g lt = subst (λ t. slack new < slack t) g.0 lt
 
   -- one that does not
-  pub same_more : (initial table : List ℕ) (count : ℕ) (grown : Bool) → HasGrown ways steps ends initial table count grown → longest_from ways table steps ends count ≤ get_or table count 0
-      → HasGrown ways steps ends initial table (count + 1) grown
-  same_more initial table count true g le = g
-  same_more initial table count false g le = (g.0, λ i lt. by i lt (cases_eq i count))
+  pub same_more : (initial table : List ℕ) (first node : ℕ) (grown : Bool) → first ≡ node + 1 → HasGrown ways steps ends initial table first grown
+      → longest_from ways table steps ends node ≤ get_or table node 0 → HasGrown ways steps ends initial table node grown
+  same_more initial table first node true e g le = g
+  same_more initial table first node false e g le = (g.0, λ i from lt. by i from lt (cases_eq i node))
     where
-      by : (i : ℕ) → i < count + 1 → (i ≡ count) ⊎ (i ≡ count → ⊥) → longest_from ways table steps ends i ≤ get_or table i 0
-      by i lt (inl e) = subst (λ k. longest_from ways table steps ends k ≤ get_or table k 0) (sym e) le
-      by i lt (inr n) = g.1 i (omega (arith, lt, n))
+      by : (i : ℕ) → node ≤ i → i < length ways → (i ≡ node) ⊎ (i ≡ node → ⊥) → longest_from ways table steps ends i ≤ get_or table i 0
+      by i from lt (inl here) = subst (λ k. longest_from ways table steps ends k ≤ get_or table k 0) (sym here) le
+      by i from lt (inr n) = g.1 i (omega (arith, from, e, n)) lt

@@ -1,8 +1,8 @@
 -- Loops along which something weighs, and sizes of trails where none does.
-use Rattle.std.specs.Prelude.{ℕ, ◌-◌, ◌<◌, ◌≤◌, ◌≡◌, min, Bool, true, false, List, length, get_or, sum_by}
+use Rattle.std.specs.Prelude.{ℕ, ◌-◌, ◌<◌, ◌≤◌, ◌≡◌, ◌||◌, leb, ltb, cond, min, Bool, true, false, List, length, get_or, sum_by, Option, Some, None}
 use Rattle.sloth_base.specs.Limits.{size_limit}
 use Rattle.section_sizes.specs.declared.graph.Ways.{Ways}
-use Rattle.section_sizes.specs.Graph.{HasWay}
+use Rattle.section_sizes.specs.Graph.{ways_of, HasWay}
 use Rattle.section_sizes.specs.Search.{IsReachable}
 use Rattle.section_sizes.specs.Trails.{size_of_trail, IsEnded, AreSizesInLimit, longest_from}
 
@@ -24,6 +24,18 @@ pub record IsWeighingLoop (ways : List Ways) (steps : List ℕ) (node : ℕ) : T
 abbrev pub HasWeighingLoop : List Ways → (steps : List ℕ) → Type 0
 HasWeighingLoop ways steps = (node : ℕ) × IsWeighingLoop ways steps node
 
+-- ---- ranks of nodes
+
+-- a way leads to a rank that is too great: above that of its node, or no less where the node weighs something
+abbrev pub raises : (ranks : List ℕ) → (step from : ℕ) → Option ℕ → Bool
+raises ranks step from None = false
+raises ranks step from (Some j) = cond (ltb 0 step) (leb from (get_or ranks j 0)) (ltb from (get_or ranks j 0))
+
+-- one of the ways of node i does
+abbrev pub raises_at : List Ways → (steps ranks : List ℕ) → ℕ → Bool
+raises_at ways steps ranks i =
+    raises ranks (get_or steps i 0) (get_or ranks i 0) (ways_of ways i).next || raises ranks (get_or steps i 0) (get_or ranks i 0) (ways_of ways i).jump
+
 -- ---- tables of sizes
 
 -- some trail from a node has this size
@@ -44,7 +56,7 @@ IsSettled ways steps ends table = (i : ℕ) → i < length ways → longest_from
 abbrev pub slack : (table : List ℕ) → ℕ
 slack table = sum_by (λ size. size_limit - size) table
 
--- a table has grown, or it is the same and what the ways of the first nodes say is not more, so many of them
-abbrev pub HasGrown : List Ways → (steps ends old new : List ℕ) → (count : ℕ) → Bool → Type 0
-HasGrown ways steps ends old new count true = slack new < slack old
-HasGrown ways steps ends old new count false = (new ≡ old) × ((i : ℕ) → i < count → longest_from ways new steps ends i ≤ get_or new i 0)
+-- a table has grown, or it is the same and what the ways of the nodes from one on say is not more
+abbrev pub HasGrown : List Ways → (steps ends old new : List ℕ) → (first : ℕ) → Bool → Type 0
+HasGrown ways steps ends old new first true = slack new < slack old
+HasGrown ways steps ends old new first false = (new ≡ old) × ((i : ℕ) → first ≤ i → i < length ways → longest_from ways new steps ends i ≤ get_or new i 0)

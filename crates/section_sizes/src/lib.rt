@@ -18,6 +18,7 @@ pub mod longest;
 pub mod loops;
 pub mod order;
 pub mod paths;
+mod ranks;
 pub mod reach;
 pub mod settle;
 pub mod summary;

@@ -1,12 +1,13 @@
 //! Loops along which something weighs.
-ghost use Rattle.std.specs.Prelude.{◌≡◌, ℕ, ◌<◌, Some, length, Decides, IfOk};
+ghost use Rattle.std.specs.Prelude.{◌≡◌, ℕ, ◌<◌, Some, true, length, Decides, IfOk};
 ghost use Rattle.section_sizes.specs.Graph.{AreInside};
 ghost use Rattle.section_sizes.specs.Search.{IsReachable};
 ghost use Rattle.section_sizes.specs.Loops.{LeadsBack, IsWeighingLoop, HasWeighingLoop};
 
 use crate::graph::Ways;
+use crate::ranks::{ranks_of, some_raises};
 use crate::reach::reachable;
-use bound_rules::marks::is_marked;
+use bound_rules::marks::{is_marked, number_at};
 use sloth_base::memory::NoMemory;
 use std::alloc::Global;
 
@@ -55,8 +56,34 @@ fn is_weighing_loop(
     }
 }
 
-/// Whether some node that weighs something leads back to itself.
-pub fn has_weighing_loop(alloc: Global, ways: &[Ways], steps: &[u32]) -> Result<bool, NoMemory>
+/// How often nodes are ranked: where loops stand in one another no deeper than that, ranks settle.
+const RANKINGS: usize = 8;
+
+/// Whether a node that one more ranking raises is such a node: those of a loop are raised each time.
+fn is_some_raised(
+    alloc: Global,
+    ways: &[Ways],
+    steps: &[u32],
+    before: &[u32],
+    behind: &[u32],
+) -> Result<bool, NoMemory>
+    requires inside { AreInside ways.now }
+    requires count { length steps.now ≡ length ways.now }
+    ensures { IfOk result (λ found. found ≡ true → HasWeighingLoop ways.now steps.now) }
+{
+    for number in 0..ways.len() {
+        let node = ways.len() - 1 - number;
+        if number_at(before, node) < number_at(behind, node) {
+            if is_weighing_loop(alloc, ways, steps, node)? {
+                return Ok(true);
+            }
+        }
+    }
+    Ok(false)
+}
+
+/// Whether some node is.
+fn is_some_weighing(alloc: Global, ways: &[Ways], steps: &[u32]) -> Result<bool, NoMemory>
     requires inside { AreInside ways.now }
     requires count { length steps.now ≡ length ways.now }
     ensures { IfOk result (λ found. Decides found (HasWeighingLoop ways.now steps.now)) }
@@ -67,4 +94,36 @@ pub fn has_weighing_loop(alloc: Global, ways: &[Ways], steps: &[u32]) -> Result<
         }
     }
     Ok(false)
+}
+
+/// The same, where ranks did not settle.
+fn is_some_behind(
+    alloc: Global,
+    ways: &[Ways],
+    steps: &[u32],
+    ranks: &[u32],
+) -> Result<bool, NoMemory>
+    requires inside { AreInside ways.now }
+    requires count { length steps.now ≡ length ways.now }
+    ensures { IfOk result (λ found. Decides found (HasWeighingLoop ways.now steps.now)) }
+{
+    let more = ranks_of(alloc, ways, steps, RANKINGS + 1)?;
+    if is_some_raised(alloc, ways, steps, ranks, &more)? {
+        return Ok(true);
+    }
+    is_some_weighing(alloc, ways, steps)
+}
+
+/// Whether some node that weighs something leads back to itself.
+pub fn has_weighing_loop(alloc: Global, ways: &[Ways], steps: &[u32]) -> Result<bool, NoMemory>
+    requires inside { AreInside ways.now }
+    requires count { length steps.now ≡ length ways.now }
+    ensures { IfOk result (λ found. Decides found (HasWeighingLoop ways.now steps.now)) }
+{
+    let ranks = ranks_of(alloc, ways, steps, RANKINGS)?;
+    if some_raises(ways, steps, &ranks) {
+        is_some_behind(alloc, ways, steps, &ranks)
+    } else {
+        Ok(false)
+    }
 }

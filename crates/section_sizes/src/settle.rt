@@ -28,16 +28,17 @@ fn grow(ways: &[Ways], table: &mut [u32], steps: &[u32], ends: &[u32], node: usi
     }
 }
 
-/// A pass over all nodes: whether an entry has grown.
+/// A pass over all nodes, the last one first, since most lead to later ones: whether an entry has grown.
 fn pass(ways: &[Ways], table: &mut [u32], steps: &[u32], ends: &[u32]) -> bool
     requires inside { AreInside ways.now }
     requires sizes { AreSizes ways.now steps.now ends.now }
     requires attained { AreAttained ways.now steps.now ends.now table.old }
     ensures attained { AreAttained ways.now steps.now ends.now table.new }
-    ensures grown { HasGrown ways.now steps.now ends.now table.old table.new (length ways.now) result }
+    ensures grown { HasGrown ways.now steps.now ends.now table.old table.new 0 result }
 {
     let mut grown = false;
-    for node in 0..ways.len() {
+    for number in 0..ways.len() {
+        let node = ways.len() - 1 - number;
         if grow(ways, table, steps, ends, node) {
             grown = true;
         }

@@ -38,7 +38,7 @@ section_cost front work sum.Endless = with_work front work sum.Endless
 
 -- ---- makings
 
--- the least that a service takes which makes a task Ready: work has no more of them than this often
+-- a service that makes a task Ready is taken to take at least so much, which is not proved: work has no more of them than this often
 abbrev pub making_counts : ℕ
 making_counts = 13
 

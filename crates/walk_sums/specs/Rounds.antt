@@ -93,7 +93,7 @@ IsClean app t =
     (from to : Position) (between : List Position) → IsBetweenWaits app t from between to
     → bit_and (awaited (operation_at app to)) (cleared_along app between) ≡ awaited (operation_at app to)
 
--- a task that is not preemptable and reaches no Schedule: from its entry on no other task runs until it leaves
+-- a task that is not preemptable and of which no walk reaches a Schedule
 pub record IsSteady (config : Config) (app : App) (t : ℕ) : Type 0 where
   pub non : (declaration config t).non ≡ true
   pub none : (at : Position) → Reaches app t at → is_schedule (operation_at app at) ≡ false

@@ -6,7 +6,7 @@ use crate::sum::Sum;
 use crate::tasks::RoundSums;
 use sloth_base::limits::COUNT_LIMIT;
 
-/// The least that a service takes which makes a task Ready.
+/// A service that makes a task Ready is taken to take at least so much; that none takes less is not proved.
 const MAKING_COUNTS: u32 = 13;
 
 fn counted(counts: u64) -> Sum

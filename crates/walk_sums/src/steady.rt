@@ -44,7 +44,7 @@ fn marks(
     Ok(steady)
 }
 
-/// Of each task whether it is one: from its entry on no other task runs until it leaves.
+/// Of each task whether it is not preemptable and no walk of it reaches a Schedule.
 pub fn steady_tasks(
     alloc: Global,
     config: &Config,

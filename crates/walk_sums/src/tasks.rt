@@ -97,7 +97,7 @@ fn told_section(config: &Config, app: &App, whole: &[Summary], own: &[Summary], 
 }
 
 /// The greatest sums of the rounds of a task, from the summaries of all functions, of rounds. A task of whose WaitEvents one goes on without its events
-/// cleared before has no rounds but its turns (`is_clean`, `turn_sum`).
+/// cleared before has no rounds but its turns (`clean_tasks`, `turn_sum`).
 pub fn round_sums(
     config: &Config,
     app: &App,

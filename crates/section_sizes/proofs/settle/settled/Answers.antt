@@ -1,4 +1,4 @@
-use Rattle.std.proofs.Common.{◌≡◌, ◌∙◌, ◌++◌, ℕ, List, length, get_or, take, drop, ap, sym, subst, arith}
+use Rattle.std.proofs.Common.{◌≡◌, ◌≤◌, ◌∙◌, ◌++◌, ℕ, List, length, get_or, take, drop, ap, sym, subst, arith}
 use Rattle.std.proofs.Math.Seq.{take-append_seam}
 use Rattle.section_sizes.specs.Trails.{IsLongest}
 use Rattle.section_sizes.proofs.Settling.{settled_longest}
@@ -17,4 +17,4 @@ returns-then-not-pass-clause-longest c =
     let e : c.loop-table.table.len ≡ length new = omega (arith, count, old, ok) in
     let same : take c.loop-table.table.len (new ++ rest) ≡ new = ap (λ n. take n (new ++ rest)) e ∙ take-append_seam new rest in
     λ i lt. subst (λ (l : List ℕ). IsLongest ways steps ends i (get_or l i 0)) (sym same)
-    (settled_longest ways steps ends c.requires.sizes c.requires.inside new c.pass.ensures.attained c.if-not-pass.ensures.grown.1 i lt)
+    (settled_longest ways steps ends c.requires.sizes c.requires.inside new c.pass.ensures.attained (λ k inside. c.if-not-pass.ensures.grown.1 k (let none : 0 ≤ k = omega arith in none) inside) i lt)
