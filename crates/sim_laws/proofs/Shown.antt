@@ -14,7 +14,7 @@ use Rattle.sim_relation.specs.ServiceWords.{active_word, IsWaitWord}
 use Rattle.sim_relation.specs.Stands.{Stands, AreLineBytes}
 use Rattle.sloth_inspect.specs.States.{state_in}
 use Rattle.sim_laws.proofs.KernelRuns.{stands_kernel}
-use Rattle.sim_laws.specs.TaskStates.{AreTaskStates, KernelHasTaskStates}
+use Rattle.sim_laws.specs.TaskStates.{AreTaskStates, ShowsSystem, KernelHasTaskStates}
 
 -- a task's state, as its service words and the bytes of its line show it
 abbrev shown : (activity mask pending enabled : ℕ) → TaskState
@@ -38,11 +38,19 @@ states_shown b state s stands t declared =
     shown_is (task s t).state (word_at state.core.ram (active t)) (word_at state.core.ram (wait t)) (slice_index state.core.pending t)
     (slice_index state.core.enabled t) words.activity words.wait_mask (stands.lines.each t declared)
 
+pub system_shown : (b : Build) (state : State) (s : System) → Stands b state s → ShowsSystem b.config state.core s
+system_shown b state s stands = record {
+  task_states = states_shown b state s stands;
+  task_events = λ t declared. (stands.words t declared).event_mask;
+  counter_values = stands.clock.values;
+  alarm_ticks = stands.clock.left;
+}
+
 pub kernel_shows : KernelHasTaskStates
 kernel_shows b image kernel = record {
   each = λ arrivals n count state s are few before after enabled leads.
       let found = stands_kernel b image kernel arrivals n count state are few before after enabled in
       let same : found.0 ≡ s = one_end b.config b.app _ (opening b.config b.app) found.0 s found.1 leads in
-      subst (λ (x : System). AreTaskStates b.config (state_with_arrivals arrivals count state).core x) same
-      (states_shown b (state_with_arrivals arrivals count state) found.0 found.2.stands);
+      subst (λ (x : System). ShowsSystem b.config (state_with_arrivals arrivals count state).core x) same
+      (system_shown b (state_with_arrivals arrivals count state) found.0 found.2.stands);
 }

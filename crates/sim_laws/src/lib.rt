@@ -7,7 +7,7 @@
 //! service is one of the known ones (`items_are_known`). What each step keeps of the system: `specs/Bounded`, `specs/Steady`; the relation at each count at which interrupts are open, with the Active basic tasks' parts of the shared stack one below the
 //! other in the order of entry: `specs/Standing`, `specs/Nested`.
 //!
-//! At each such count the machine shows each task's state in the abstract scheduler (`specs/TaskStates`). The goal: `sim_induction` (`Sound`); states:
+//! At each such count the machine shows each task, counter and alarm of the abstract scheduler (`specs/TaskStates`). The goal: `sim_induction` (`Sound`); states:
 //! `sloth_inspect` (`States`).
 //!
 //! What is linked in the zones of a map, of code by the generators' contracts, is a kernel in place, with its items; blocks that fill extents with no

@@ -1,5 +1,5 @@
 //! The states of tasks, as the memory and the interrupt controller of the machine show them: exactly the definition (`specs/States`); and
-//! the number of each state (`specs/StateNumbers`). Service words: `sloth_region` (`Layout`); memory: `rv32_instr` (`Memory`).
+//! the number of each state (`specs/StateNumbers`); and what the service words say of events, counters and alarms (`specs/ServiceWords`). Service words: `sloth_region` (`Layout`); memory: `rv32_instr` (`Memory`).
 #![tactic(auto)]
 
 ghost use Rattle.std.specs.Prelude.{◌≡◌, ◌≤◌, ◌<◌, ◌+◌, ◌%◌};
@@ -8,6 +8,7 @@ ghost use Rattle.sloth_base.specs.MemoryMap.{memory_bytes};
 ghost use Rattle.rv32_instr.specs.Ram.{word_at};
 ghost use Rattle.sloth_inspect.specs.States.{state_in, states_in, running_number_in, pending_lines_in, levels_in};
 
+pub mod service_words;
 pub mod state_numbers;
 
 use osek_scheduler::state::TaskState;
@@ -19,7 +20,7 @@ use sloth_base::numbers::Line;
 use sloth_region::layout::{CUR, active, wait};
 
 // The word at an offset in RAM.
-fn word(bus: &mut SlothBus, offset: u32) -> u32
+pub(crate) fn word(bus: &mut SlothBus, offset: u32) -> u32
     requires aligned { offset % 4 ≡ 0 }
     requires inside { offset + 4 ≤ memory_bytes }
     ensures is { result ≡ word_at bus.old.ram offset }

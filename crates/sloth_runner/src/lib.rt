@@ -12,6 +12,8 @@
 //! The sample of each count in turn: the tasks and the running one as of the last count up to it that finds interrupts open; the pending lines, the
 //! level and the mask as they are; the line that is taken; or exactly where the run stops (`Sampler::new`, `Sampler::next`; `specs/Samples`).
 //!
+//! What the service words say of events, counters and alarms at a count (`Sampler::service_words`, `words_at`; `specs/ServiceWords`).
+//!
 //! Which arrivals are lost: what the arrivals of a count do and what masked code does behind them (`Runner::note_arrivals`, `Runner::code_access`;
 //! `specs/Accesses`), and what the next count shows that finds interrupts open (`Noting`, `told_run`; `specs/Admissions`).
 #![tactic(auto)]
@@ -24,6 +26,7 @@ pub mod laws;
 pub mod machine_states;
 pub mod runner;
 mod samples;
+pub mod service_words;
 pub mod summary;
 pub mod tally;
 pub mod task_states;
@@ -33,5 +36,6 @@ pub use accesses::{Access, AccessKind};
 pub use admissions::{Admission, Noting};
 pub use runner::{Halt, RunEnd, Runner};
 pub use samples::{Sample, Sampler};
+pub use service_words::ServiceWords;
 pub use tally::Tally;
 pub use task_states::{Interrupts, Seen, Sight};
