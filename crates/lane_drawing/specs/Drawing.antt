@@ -148,6 +148,8 @@ legend_lines scale rows = legend_line scale rows ++ all_lines (
     ∷ codes "<path class=\"a\" d=\"M734 16l-4 -6h8z\"/><text x=\"746\" y=\"16\">arrival</text>\n"
     ∷ codes "<path class=\"l\" d=\"M812 16l-4 -6h8z\"/><text x=\"824\" y=\"16\">lost</text>\n"
     ∷ codes "<rect class=\"t\" x=\"876\" y=\"4\" width=\"1\" height=\"16\"/><text x=\"888\" y=\"16\">tick</text>\n"
+    ∷ codes "<path class=\"a\" d=\"M934 8l4 4l-4 4l-4 -4z\"/><text x=\"946\" y=\"16\">expiry</text>\n"
+    ∷ codes "<path class=\"t\" stroke-width=\".7\" d=\"M1000 2v20\"/><text x=\"1008\" y=\"16\">wakes</text>\n"
     ∷ codes "</g>\n"
     ∷ []
     )

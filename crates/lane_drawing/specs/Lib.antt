@@ -4,3 +4,5 @@ pub mod Bars
 pub mod Scale
 pub mod Strips
 pub mod TaskLooks
+pub mod Marks
+pub mod Signs

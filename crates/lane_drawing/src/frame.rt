@@ -142,7 +142,7 @@ fn legend_line(scale: Scale, rows: u32) -> LineText
 }
 
 // What the looks and the marks mean.
-const LEGEND: [&[u8]; 10] = [
+const LEGEND: [&[u8]; 12] = [
     b"<rect class=\"run\" x=\"0\" y=\"0\" width=\"28\" height=\"24\"/><text x=\"36\" y=\"16\">runs</text>\n",
     b"<rect class=\"ser\" x=\"96\" y=\"0\" width=\"28\" height=\"24\"/><text x=\"132\" y=\"16\">runs kernel code</text>\n",
     b"<rect class=\"pre\" x=\"262\" y=\"6\" width=\"28\" height=\"12\"/><text x=\"298\" y=\"16\">preempted</text>\n",
@@ -152,6 +152,8 @@ const LEGEND: [&[u8]; 10] = [
     b"<path class=\"a\" d=\"M734 16l-4 -6h8z\"/><text x=\"746\" y=\"16\">arrival</text>\n",
     b"<path class=\"l\" d=\"M812 16l-4 -6h8z\"/><text x=\"824\" y=\"16\">lost</text>\n",
     b"<rect class=\"t\" x=\"876\" y=\"4\" width=\"1\" height=\"16\"/><text x=\"888\" y=\"16\">tick</text>\n",
+    b"<path class=\"a\" d=\"M934 8l4 4l-4 4l-4 -4z\"/><text x=\"946\" y=\"16\">expiry</text>\n",
+    b"<path class=\"t\" stroke-width=\".7\" d=\"M1000 2v20\"/><text x=\"1008\" y=\"16\">wakes</text>\n",
     b"</g>\n",
 ];
 

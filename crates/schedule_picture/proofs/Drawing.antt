@@ -5,7 +5,7 @@ use Rattle.std.specs.List.{flat_map}
 use Rattle.std.proofs.Math.Numerals.{add-one}
 use Rattle.lane_drawing.specs.Drawing.{is_above, head_line, style_lines, axis_lines, lane_line, bar_line, row_middle, legend_lines}
 use Rattle.lane_drawing.specs.declared.bars.Bar.{Bar}
-use Rattle.schedule_picture.specs.Picture.{Drawing, longest_of, tasks_above, task_lane, task_lanes, counter_lane, counter_lanes, picture_text}
+use Rattle.schedule_picture.specs.Picture.{Drawing, longest_of, tasks_above, task_lane, task_lanes, counter_lane, counter_lanes, mark_lines, picture_text}
 
 pub no_names : (names : List (List ℕ)) → longest_of names 0 ≡ 6
 unfolding longest_of
@@ -39,24 +39,25 @@ pub one_counter_more : (d : Drawing) (k : ℕ) → counter_lanes d (k + 1) ≡ c
 unfolding counter_lanes
 one_counter_more d k = ap (counter_lanes d) (add-one k)
 
--- seven parts, each behind those before it
-seven : (a b c e k l z t1 t2 t3 t4 t5 t6 t7 : List ℕ) → t1 ≡ a → t2 ≡ t1 ++ b → t3 ≡ t2 ++ c → t4 ≡ t3 ++ e → t5 ≡ t4 ++ k → t6 ≡ t5 ++ l → t7 ≡ t6 ++ z
-    → t7 ≡ a ++ b ++ c ++ e ++ k ++ l ++ z
-seven a b c e k l z t1 t2 t3 t4 t5 t6 t7 h1 h2 h3 h4 h5 h6 h7 =
-    h7 ∙ ap (λ t. t ++ z) (h6 ∙ ap (λ t. t ++ l) (h5 ∙ ap (λ t. t ++ k) (h4 ∙ ap (λ t. t ++ e) (h3 ∙ ap (λ t. t ++ c) (h2 ∙ ap (λ t. t ++ b) h1)))))
+-- eight parts, each behind those before it
+eight : (a b c e k m l z t1 t2 t3 t4 t5 t6 t7 t8 : List ℕ) → t1 ≡ a → t2 ≡ t1 ++ b → t3 ≡ t2 ++ c → t4 ≡ t3 ++ e → t5 ≡ t4 ++ k → t6 ≡ t5 ++ m
+    → t7 ≡ t6 ++ l → t8 ≡ t7 ++ z → t8 ≡ a ++ b ++ c ++ e ++ k ++ m ++ l ++ z
+eight a b c e k m l z t1 t2 t3 t4 t5 t6 t7 t8 h1 h2 h3 h4 h5 h6 h7 h8 =
+    h8 ∙ ap (λ t. t ++ z) (h7 ∙ ap (λ t. t ++ l) (h6 ∙ ap (λ t. t ++ m) (h5 ∙ ap (λ t. t ++ k) (h4 ∙ ap (λ t. t ++ e) (h3 ∙ ap (λ t. t ++ c) (h2 ∙ ap (λ t. t ++ b) h1))))))
 
--- the text is whole behind the lanes, the lane of kernel code, the legend and the last line
-pub whole_text : (d : Drawing) (n m middle : ℕ) (bars : List Bar) (t1 t2 t3 t4 t5 t6 t7 : List ℕ) → n ≡ length d.image.tasks → m ≡ length d.image.counters
+-- the text is whole behind the lanes, the lane of kernel code, the marks, the legend and the last line
+pub whole_text : (d : Drawing) (n m middle : ℕ) (bars : List Bar) (t1 t2 t3 t4 t5 t6 t7 t8 : List ℕ) → n ≡ length d.image.tasks → m ≡ length d.image.counters
     → middle ≡ row_middle (n + m) → bars ≡ d.bars (n + m) → t1 ≡ head_line d.scale (n + m + 1) ++ style_lines → t2 ≡ t1 ++ axis_lines d.scale (n + m + 1)
     → t3 ≡ t2 ++ task_lanes d n → t4 ≡ t3 ++ counter_lanes d m
     → t5 ≡ t4 ++ (lane_line d.scale (codes "kernel") middle ++ flat_map (bar_line d.scale (codes "kernel") middle) bars)
-    → t6 ≡ t5 ++ legend_lines d.scale (n + m + 1) → t7 ≡ t6 ++ codes "</svg>\n" → t7 ≡ picture_text d
-whole_text d n m middle bars t1 t2 t3 t4 t5 t6 t7 tasks counters low shown h1 h2 h3 h4 h5 h6 h7 =
+    → t6 ≡ t5 ++ mark_lines d.image d.levels d.scale d.marks → t7 ≡ t6 ++ legend_lines d.scale (n + m + 1) → t8 ≡ t7 ++ codes "</svg>\n" → t8 ≡ picture_text d
+whole_text d n m middle bars t1 t2 t3 t4 t5 t6 t7 t8 tasks counters low shown h1 h2 h3 h4 h5 h6 h7 h8 =
+    let M : List ℕ = mark_lines d.image d.levels d.scale d.marks in
     let K : ℕ → List Bar → List ℕ = λ y x. lane_line d.scale (codes "kernel") y ++ flat_map (bar_line d.scale (codes "kernel") y) x in
     let W : ℕ → ℕ → List ℕ = λ a b.
     (head_line d.scale (a + b + 1) ++ style_lines) ++ axis_lines d.scale (a + b + 1) ++ task_lanes d a ++ counter_lanes d b ++ K (row_middle (a + b)) (d.bars (a + b))
-    ++ legend_lines d.scale (a + b + 1) ++ codes "</svg>\n" in
+    ++ M ++ legend_lines d.scale (a + b + 1) ++ codes "</svg>\n" in
     let kernel : K middle bars ≡ K (row_middle (n + m)) (d.bars (n + m)) = ap (λ y. K y bars) low ∙ ap (λ x. K (row_middle (n + m)) x) shown in
-    seven (head_line d.scale (n + m + 1) ++ style_lines) (axis_lines d.scale (n + m + 1)) (task_lanes d n) (counter_lanes d m) (K (row_middle (n + m)) (d.bars (n + m)))
-    (legend_lines d.scale (n + m + 1)) (codes "</svg>\n") t1 t2 t3 t4 t5 t6 t7 h1 h2 h3 h4 (h5 ∙ ap (λ x. t4 ++ x) kernel) h6 h7
+    eight (head_line d.scale (n + m + 1) ++ style_lines) (axis_lines d.scale (n + m + 1)) (task_lanes d n) (counter_lanes d m) (K (row_middle (n + m)) (d.bars (n + m)))
+    M (legend_lines d.scale (n + m + 1)) (codes "</svg>\n") t1 t2 t3 t4 t5 t6 t7 t8 h1 h2 h3 h4 (h5 ∙ ap (λ x. t4 ++ x) kernel) h6 h7 h8
     ∙ ap (λ a. W a m) tasks ∙ ap (λ b. W (length d.image.tasks) b) counters

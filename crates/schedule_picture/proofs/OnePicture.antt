@@ -18,7 +18,9 @@ use Rattle.std.specs.List.{flat_map}
 use Rattle.lane_drawing.specs.Drawing.{head_line, style_lines, axis_lines, lane_line, bar_line, row_middle, legend_lines}
 use Rattle.lane_drawing.proofs.Growing.{one_bars}
 use Rattle.schedule_picture.specs.LaneLooks.{owned_lanes, look_of}
-use Rattle.schedule_picture.specs.Picture.{Drawing, IsPictureOf, scale_of, lane_text, shown_arrivals, tasks_above, task_lane, task_lanes, counter_lane, counter_lanes, picture_text}
+use Rattle.schedule_picture.specs.Picture.{Drawing, IsPictureOf, scale_of, lane_text, shown_arrivals, tasks_above, task_lane, task_lanes, counter_lane, counter_lanes, mark_lines, picture_text}
+use Rattle.schedule_picture.specs.Marks.{run_marks}
+use Rattle.schedule_picture.specs.declared.marks.Mark.{Mark}
 
 -- the levels of a count
 one_levels : (image : Image) (A : List Arrival) (k : ℕ) (xs ys : List ℕ) → AreSampledLevels image A k xs → AreSampledLevels image A k ys → xs ≡ ys
@@ -27,10 +29,10 @@ one_levels image A k xs ys h i =
     let state : h.state ≡ i.state = cc in
     h.are ∙ ap (λ (s : State). task_levels image s) state ∙ sym i.are
 
-module _ (image : Image) (A : List Admission) (levels : List ℕ) (scale : Scale) where
+module _ (image : Image) (A : List Admission) (marks : List Mark) (levels : List ℕ) (scale : Scale) where
   -- the drawing with these bars in its lanes
   abbrev drawing : ((lane : ℕ) → List Bar) → Drawing
-  drawing bars = record { image = image; admissions = A; levels = levels; scale = scale; bars = bars }
+  drawing bars = record { image = image; admissions = A; marks = marks; levels = levels; scale = scale; bars = bars }
 
   -- a lane of a task is told by its own bars
   same_task : (b c : (lane : ℕ) → List Bar) (task : ℕ) → b task ≡ c task → task_lane (drawing b) task ≡ task_lane (drawing c) task
@@ -70,7 +72,7 @@ module _ (image : Image) (A : List Admission) (levels : List ℕ) (scale : Scale
       let T : List ℕ → List ℕ → List Bar → List ℕ = λ tasks counted bars.
       (head_line scale (n + m + 1) ++ style_lines) ++ axis_lines scale (n + m + 1) ++ tasks ++ counted
       ++ (lane_line scale (codes "kernel") (row_middle (n + m)) ++ flat_map (bar_line scale (codes "kernel") (row_middle (n + m))) bars)
-      ++ legend_lines scale (n + m + 1) ++ codes "</svg>\n" in
+      ++ mark_lines image levels scale marks ++ legend_lines scale (n + m + 1) ++ codes "</svg>\n" in
       ap (λ l. T l (counter_lanes (drawing b) m) (b (n + m))) lanes ∙ ap (λ l. T (task_lanes (drawing c) n) l (b (n + m))) counters
       ∙ ap (T (task_lanes (drawing c) n) (counter_lanes (drawing c) m)) (same (n + m) (omega arith))
 
@@ -85,6 +87,7 @@ one_picture image A from to text other h i =
     let B : List Sample → Type 0 = λ xs. AreBars (look_of image xs lane) from to (h.bars lane) in
     one_bars (look_of image i.samples lane) from to (h.bars lane) (i.bars lane) (subst B samples (h.are_bars lane few)) (i.are_bars lane few) in
     let shown : List Sample → List Admission = λ xs. run_admissions image A xs from (to - from) in
-    h.is ∙ ap (λ l. picture_text (drawing image (shown h.samples) l scale h.bars)) levels
-    ∙ ap (λ xs. picture_text (drawing image (shown xs) i.levels scale h.bars)) samples
-    ∙ same_text image (shown i.samples) i.levels scale h.bars i.bars same ∙ sym i.is
+    let marked : List Sample → List Mark = λ xs. run_marks image A xs from (to - from) in
+    h.is ∙ ap (λ l. picture_text (drawing image (shown h.samples) (marked h.samples) l scale h.bars)) levels
+    ∙ ap (λ xs. picture_text (drawing image (shown xs) (marked xs) i.levels scale h.bars)) samples
+    ∙ same_text image (shown i.samples) (marked i.samples) i.levels scale h.bars i.bars same ∙ sym i.is

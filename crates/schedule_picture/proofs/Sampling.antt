@@ -17,9 +17,14 @@ use Rattle.sloth_runner.specs.declared.runner.RunEnd.TheVariants as ends
 use Rattle.sloth_runner.specs.declared.admissions.Admission.{Admission}
 use Rattle.sloth_runner.specs.declared.samples.Sample.{Sample}
 use Rattle.sloth_runner.specs.declared.samples.Sampler.{Sampler}
-use Rattle.sloth_runner.specs.Admissions.{Notes, no_notes, with_accesses, with_sample, settled}
+use Rattle.sloth_runner.specs.Admissions.{Notes, no_notes, run_admissions, with_accesses, with_sample, settled}
 use Rattle.sloth_runner.specs.Samples.{AreSampledLevels, IsSample, IsSampling, StopsAt, no_sample, seen_behind, sampled_image, sampled_arrivals, sampled_count}
+use Rattle.sloth_inspect.specs.declared.service_words.ServiceWords.{ServiceWords}
+use Rattle.sloth_runner.specs.ServiceWords.{words_behind}
 use Rattle.sloth_runner.proofs.Noted.{found_at, notes_none, notes_more}
+use Rattle.schedule_picture.specs.Marks.{Watch, no_watch, watched}
+use Rattle.schedule_picture.specs.declared.marks.Mark.{Mark}
+use Rattle.schedule_picture.proofs.Watched.{watch_none, watch_more}
 use Rattle.sloth_runner.proofs.OneSample.{samples-more}
 use Rattle.lane_drawing.specs.declared.bars.Bar.{Bar}
 use Rattle.lane_drawing.specs.declared.bars.Look.{Look}
@@ -86,16 +91,17 @@ module _ (image : Image) (A : List Arrival) where
 
   -- ---- lanes
 
-  pub shown_none : (from : ℕ) (s : Sampler) (strips : List Lane) (notes : Notes) → HasGivenFirst image A from s → length strips ≡ owned_lanes image + 1
-      → ((lane : ℕ) → lane < owned_lanes image + 1 → IsFreshStrip from (get_or strips lane empty_lane)) → notes ≡ no_notes
-      → HasShown image A from from s strips notes
-  shown_none from s strips notes h lanes fresh none = record {
+  pub shown_none : (from : ℕ) (s : Sampler) (strips : List Lane) (notes : Notes) (watch : Watch) → HasGivenFirst image A from s → length strips ≡ owned_lanes image + 1
+      → ((lane : ℕ) → lane < owned_lanes image + 1 → IsFreshStrip from (get_or strips lane empty_lane)) → notes ≡ no_notes → watch ≡ no_watch
+      → HasShown image A from from s strips notes watch
+  shown_none from s strips notes watch h lanes fresh none unseen = record {
     samples = h.samples;
     counted = h.counted;
     given = h.given;
     lanes = lanes;
     are_strips = λ lane few. fresh lane (omega (arith, few)) (look_of image h.samples lane);
     noted = none ∙ notes_none image A from h.samples;
+    watched = unseen ∙ watch_none image A from h.samples;
   }
 
   -- the looks at earlier counts are the same with one sample more
@@ -111,14 +117,15 @@ module _ (image : Image) (A : List Arrival) where
 
   -- one count more
   pub shown_more : (from k tasks counters : ℕ) (r s t : Sampler) (x : Sample) (old new : List Lane) (notes between behind : Notes)
-      → HasShown image A from k r old notes → from ≤ k → tasks ≡ length image.tasks → counters ≡ length image.counters → s ≡ r → IsSampling t
+      (words : ServiceWords) (seen more : Watch) → HasShown image A from k r old notes seen → from ≤ k → tasks ≡ length image.tasks → counters ≡ length image.counters → s ≡ r → IsSampling t
       → IsSample (sampled_image s) (sampled_arrivals s) (sampled_count s) x → sampled_image t ≡ sampled_image s → sampled_arrivals t ≡ sampled_arrivals s
       → sampled_count t ≡ sampled_count s + 1 → HaveChanged (λ lane. ShowsMore k (lane_look tasks counters x lane)) (tasks + counters + 1) old new
       → between ≡ with_accesses notes (found_at (sampled_image r) (sampled_arrivals r) (sampled_count r)) → behind ≡ with_sample between x
-      → HasShown image A from (k + 1) t new behind
-  shown_more from k tasks counters r s t x old new notes between behind shown past same counted noted sampling sample i a count changed finds tells =
-      let S : Sampler → Type 0 = λ y. HasShown image A from k y old notes in
-      let h : HasShown image A from k s old notes = subst S (sym noted) shown in
+      → words ≡ words_behind (sampled_image s) (sampled_arrivals s) (sampled_count s) → more ≡ watched seen x words.alarms
+      → HasShown image A from (k + 1) t new behind more
+  shown_more from k tasks counters r s t x old new notes between behind words seen more shown past same counted noted sampling sample i a count changed finds tells reads marks =
+      let S : Sampler → Type 0 = λ y. HasShown image A from k y old notes seen in
+      let h : HasShown image A from k s old notes seen = subst S (sym noted) shown in
       let H : ℕ → Type 0 = λ n. HaveChanged (λ lane. ShowsMore k (lane_look n counters x lane)) (n + counters + 1) old new in
       let G : ℕ → Type 0 =
       λ m. HaveChanged (λ lane. ShowsMore k (lane_look (length image.tasks) m x lane)) (length image.tasks + m + 1) old new in
@@ -136,17 +143,19 @@ module _ (image : Image) (A : List Arrival) where
             (last_look h.samples x lane k h.counted);
         noted = notes_more image A from k s h.samples x notes between behind past h.given.image_is h.given.arrivals_are (h.given.count ∙ h.counted) h.counted h.noted
             (finds ∙ ap (λ (y : Sampler). with_accesses notes (found_at (sampled_image y) (sampled_arrivals y) (sampled_count y))) (sym noted)) tells;
+        watched = watch_more image A from k s h.samples x words seen more past h.given.image_is h.given.arrivals_are (h.given.count ∙ h.counted) h.counted h.watched
+            reads marks;
       }
 
   -- the bars are those of all counts where what was shown last has its own
-  pub shown_all : (from to : ℕ) (s : Sampler) (old new : List Lane) (notes behind : Notes) → from ≤ to → HasShown image A from to s old notes
+  pub shown_all : (from to : ℕ) (s : Sampler) (old new : List Lane) (notes behind : Notes) (seen : Watch) → from ≤ to → HasShown image A from to s old notes seen
       → HaveChanged (λ lane before after. after.bars ≡ before.bars ++ last_bar before to) (length old) old new
-      → behind ≡ settled notes (seen_behind (sampled_image s) (sampled_arrivals s) (sampled_count s)) → HasBars image A from to s new behind.admissions
-  shown_all from to s old new notes behind ordered h changed told =
+      → behind ≡ settled notes (seen_behind (sampled_image s) (sampled_arrivals s) (sampled_count s)) → HasBars image A from to s new behind.admissions seen.marks
+  shown_all from to s old new notes behind seen ordered h changed told =
       let l = h.lanes in
       let S : Option Seen → Notes → List Admission = λ o n. (settled n o).admissions in
       let last : to ≡ from + (to - from) = omega (arith, ordered) in
-      let seen : seen_behind (sampled_image s) (sampled_arrivals s) (sampled_count s) ≡ seen_behind image A (from + (to - from)) =
+      let tasks : seen_behind (sampled_image s) (sampled_arrivals s) (sampled_count s) ≡ seen_behind image A (from + (to - from)) =
       ap (λ i. seen_behind i (sampled_arrivals s) (sampled_count s)) h.given.image_is ∙ ap (λ B. seen_behind image B (sampled_count s)) h.given.arrivals_are
       ∙ ap (seen_behind image A) (h.given.count ∙ h.counted ∙ last) in
       record {
@@ -158,7 +167,8 @@ module _ (image : Image) (A : List Arrival) where
             let is = h.are_strips lane few in
             let more = changed.changed lane (omega (arith, few, l)) in
             strip_bars_of (look_of image h.samples lane) from to (get_or old lane empty_lane) (get_or new lane empty_lane) is more;
-        noted = ap (λ (n : Notes). n.admissions) told ∙ ap (λ o. S o notes) seen ∙ ap (S (seen_behind image A (from + (to - from)))) h.noted;
+        noted = ap (λ (n : Notes). n.admissions) told ∙ ap (λ o. S o notes) tasks ∙ ap (S (seen_behind image A (from + (to - from)))) h.noted;
+        marked = ap (λ (w : Watch). w.marks) h.watched;
       }
 
   -- ---- the picture
@@ -172,16 +182,16 @@ module _ (image : Image) (A : List Arrival) where
       let whole : E (sampled_count s) (sampled_arrivals s) = ap end_of (stop_none (sampled_count s) (sampled_arrivals s) 0 (start image) (sloth_state s.runner.machine) ran.after) in
       subst (λ k. E k A) (h.count ∙ counted) (subst (E (sampled_count s)) h.arrivals_are whole)
 
-  pub picture_of : (from to : ℕ) (s : Sampler) (strips : List Lane) (admissions : List Admission) (levels : List ℕ) (scale : Scale) (text : List ℕ)
-      → HasBars image A from to s strips admissions → AreSampledLevels (sampled_image s) (sampled_arrivals s) (sampled_count s) levels → scale ≡ scale_of image from to
-      → text ≡ picture_text (record { image = image; admissions = admissions; levels = levels; scale = scale; bars = λ lane. (get_or strips lane empty_lane).bars })
+  pub picture_of : (from to : ℕ) (s : Sampler) (strips : List Lane) (admissions : List Admission) (marks : List Mark) (levels : List ℕ) (scale : Scale) (text : List ℕ)
+      → HasBars image A from to s strips admissions marks → AreSampledLevels (sampled_image s) (sampled_arrivals s) (sampled_count s) levels → scale ≡ scale_of image from to
+      → text ≡ picture_text (record { image = image; admissions = admissions; marks = marks; levels = levels; scale = scale; bars = λ lane. (get_or strips lane empty_lane).bars })
       → IsPictureOf image A from to text
-  picture_of from to s strips admissions levels scale text h are at is =
+  picture_of from to s strips admissions marks levels scale text h are at is =
       let L : Image → Type 0 = λ i. AreSampledLevels i (sampled_arrivals s) (sampled_count s) levels in
       let M : List Arrival → Type 0 = λ B. AreSampledLevels image B (sampled_count s) levels in
       let N : ℕ → Type 0 = λ n. AreSampledLevels image A n levels in
-      let D : List Admission → Scale → List ℕ =
-      λ a x. picture_text (record { image = image; admissions = a; levels = levels; scale = x; bars = λ lane. (get_or strips lane empty_lane).bars }) in
+      let D : List Admission → List Mark → Scale → List ℕ =
+      λ a m x. picture_text (record { image = image; admissions = a; marks = m; levels = levels; scale = x; bars = λ lane. (get_or strips lane empty_lane).bars }) in
       record {
         whole = whole_run to h.samples s h.given h.counted;
         samples = h.samples;
@@ -191,7 +201,8 @@ module _ (image : Image) (A : List Arrival) where
         are_levels = subst N (h.given.count ∙ h.counted) (subst M h.given.arrivals_are (subst L h.given.image_is are));
         bars = λ lane. (get_or strips lane empty_lane).bars;
         are_bars = h.are_bars;
-        is = is ∙ ap (D admissions) at ∙ ap (λ a. D a (scale_of image from to)) h.noted;
+        is = is ∙ ap (D admissions marks) at ∙ ap (λ a. D a marks (scale_of image from to)) h.noted
+            ∙ ap (λ m. D (run_admissions image A h.samples from (to - from)) m (scale_of image from to)) h.marked;
       }
 
 -- ---- bars within the counts

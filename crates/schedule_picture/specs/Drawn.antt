@@ -13,6 +13,7 @@ abbrev pub drawing_of : Drawn → Drawing
 drawing_of drawn = record {
   image = drawn.image.now;
   admissions = drawn.admissions.now;
+  marks = drawn.marks.now;
   levels = drawn.levels;
   scale = drawn.scale;
   bars = λ lane. (get_or drawn.strips.now lane empty_lane).bars;

@@ -1,5 +1,6 @@
 pub mod Drawn
 pub mod Lanes
 pub mod LaneLooks
+pub mod Marks
 pub mod Picture
 pub mod Samples

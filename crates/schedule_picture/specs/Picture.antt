@@ -1,5 +1,5 @@
 -- The picture of a part of a run.
-use Rattle.std.specs.Prelude.{ℕ, zero, suc, ◌+◌, ◌-◌, ◌==◌, ◌&&◌, ltb, leb, Bool, ◌≡◌, ◌≤◌, max, cond, List, [], ◌++◌, codes, filter, length, get_or}
+use Rattle.std.specs.Prelude.{ℕ, zero, suc, ◌+◌, ◌-◌, ◌==◌, ◌&&◌, ltb, leb, Bool, true, ◌≡◌, ◌≤◌, max, cond, List, [], ◌++◌, codes, filter, length, get_or}
 use Rattle.std.specs.List.{flat_map}
 use Rattle.sloth_base.specs.declared.event.Arrival.{Arrival}
 use Rattle.sloth_base.specs.declared.image.Image.{Image}
@@ -18,6 +18,13 @@ use Rattle.lane_drawing.specs.Drawing.{left_margin, head_line, style_lines, axis
 use Rattle.lane_drawing.specs.Arrivals.{arrival_line}
 use Rattle.sloth_runner.specs.declared.admissions.Admission.{Admission}
 use Rattle.sloth_runner.specs.Admissions.{run_admissions}
+use Rattle.lane_drawing.specs.Marks.{wake_line, expiry_line}
+use Rattle.schedule_picture.specs.Marks.{run_marks}
+use Rattle.schedule_picture.specs.declared.marks.Actor.{Actor}
+use Rattle.schedule_picture.specs.declared.marks.Actor.TheVariants as actor
+use Rattle.schedule_picture.specs.declared.marks.Mark.{Mark}
+use Rattle.schedule_picture.specs.declared.marks.Sign.{Sign}
+use Rattle.schedule_picture.specs.declared.marks.Sign.TheVariants as sign
 
 -- the length of the longest of the first names, so many of them, and at least that of `kernel`
 unfoldable pub longest_of : List (List ℕ) → ℕ → ℕ
@@ -37,11 +44,12 @@ unfoldable pub tasks_above : (levels : List ℕ) (task : ℕ) → ℕ → ℕ
 tasks_above levels task zero = 0
 tasks_above levels task (suc k) = tasks_above levels task k + cond (is_above levels k task) 1 0
 
--- what is drawn: an image's run with its arrivals and what came of them, the levels of the tasks' lines, where the counts stand, and the bars of each
--- lane
+-- what is drawn: an image's run with its arrivals and what came of them, its marks, the levels of the tasks' lines, where the counts stand, and the
+-- bars of each lane
 pub record Drawing : Type 0 where
   pub image : Image
   pub admissions : List Admission
+  pub marks : List Mark
   pub levels : List ℕ
   pub scale : Scale
   pub bars : (lane : ℕ) → List Bar
@@ -91,14 +99,52 @@ kernel_lane d =
     lane_line d.scale (codes "kernel") (row_middle (owned_lanes d.image))
     ++ flat_map (bar_line d.scale (codes "kernel") (row_middle (owned_lanes d.image))) (d.bars (owned_lanes d.image))
 
--- The text: the axis, a lane for each task, that of the highest level on top, one for each counter, a lane for kernel code, and what they mean.
+-- the name and the row of who acts
+abbrev pub actor_name : Image → Actor → List ℕ
+actor_name image (actor.Task task) = get_or image.tasks task []
+actor_name image (actor.Counter counter) = get_or image.counters counter []
+
+abbrev pub actor_row : Image → (levels : List ℕ) → Actor → ℕ
+actor_row image levels (actor.Task task) = tasks_above levels task (length image.tasks)
+actor_row image levels (actor.Counter counter) = length image.tasks + counter
+
+-- it is one of the image's
+abbrev pub has_actor : Image → Actor → Bool
+has_actor image (actor.Task task) = ltb task (length image.tasks)
+has_actor image (actor.Counter counter) = ltb counter (length image.counters)
+
+-- and so is the task that is woken
+abbrev pub has_object : Image → Sign → Bool
+has_object image (sign.Wakes task) = ltb task (length image.tasks)
+has_object image (sign.Expires alarm) = true
+
+-- a mark is of the image, in the counts of a picture
+abbrev pub is_marked : Image → Scale → Mark → Bool
+is_marked image scale mark =
+    (leb scale.from mark.at && ltb mark.at scale.to) && (has_actor image mark.actor && has_object image mark.sign)
+
+-- what is drawn of a mark at a count
+abbrev pub sign_line : Image → (levels : List ℕ) → Scale → (at : ℕ) → Actor → Sign → List ℕ
+sign_line image levels scale at by (sign.Wakes task) =
+    wake_line scale at (actor_name image by) (row_middle (actor_row image levels by)) (get_or image.tasks task [])
+    (row_middle (tasks_above levels task (length image.tasks)))
+sign_line image levels scale at by (sign.Expires alarm) = expiry_line scale at alarm (row_middle (actor_row image levels by))
+
+abbrev pub mark_line : Image → (levels : List ℕ) → Scale → Mark → List ℕ
+mark_line image levels scale mark = sign_line image levels scale mark.at mark.actor mark.sign
+
+-- those of the image in the counts of the picture
+abbrev pub mark_lines : Image → (levels : List ℕ) → Scale → List Mark → List ℕ
+mark_lines image levels scale marks = flat_map (mark_line image levels scale) (filter (is_marked image scale) marks)
+
+-- The text: the axis, a lane for each task, that of the highest level on top, one for each counter, a lane for kernel code, the marks, and what they mean.
 abbrev pub picture_text : Drawing → List ℕ
 picture_text d =
     (head_line d.scale (owned_lanes d.image + 1) ++ style_lines) ++ axis_lines d.scale (owned_lanes d.image + 1) ++ task_lanes d (length d.image.tasks)
-    ++ counter_lanes d (length d.image.counters) ++ kernel_lane d ++ legend_lines d.scale (owned_lanes d.image + 1) ++ codes "</svg>\n"
+    ++ counter_lanes d (length d.image.counters) ++ kernel_lane d ++ mark_lines d.image d.levels d.scale d.marks ++ legend_lines d.scale (owned_lanes d.image + 1) ++ codes "</svg>\n"
 
--- A text is the picture of a run from one count to below another: the run gets there, each lane has the bars of what it shows, and
--- arrivals are marked as they were kept or lost.
+-- A text is the picture of a run from one count to below another: the run gets there, each lane has the bars of what it shows, arrivals are
+-- marked as they were kept or lost, and so are wakings and expiries.
 pub record IsPictureOf (image : Image) (arrivals : List Arrival) (from to : ℕ) (text : List ℕ) : Type 0 where
   pub whole : run_end image arrivals to ≡ ends.Whole
   pub samples : List Sample
@@ -111,6 +157,7 @@ pub record IsPictureOf (image : Image) (arrivals : List Arrival) (from to : ℕ)
   pub is : text ≡ picture_text (record {
     image = image;
     admissions = run_admissions image arrivals samples from (to - from);
+    marks = run_marks image arrivals samples from (to - from);
     levels = levels;
     scale = scale_of image from to;
     bars = bars;

@@ -1,13 +1,15 @@
 //! Pictures of the schedule: a part of a run as SVG 1.1, a lane for each task and each counter.
 //!
 //! `draw` gives the drawing whose bars are those of what each task, each counter and the generated code show at each count, with the arrivals at their
-//! moments, kept or lost, and the highest level on top; or where the run stops (`specs/LaneLooks`, `specs/Picture`, `specs/Samples`, `specs/Drawn`, `specs/Lanes`).
+//! moments, kept or lost, who wakes which task, at which ticks alarms expire, and the highest level on top; or where the run stops (`specs/LaneLooks`, `specs/Picture`, `specs/Samples`, `specs/Marks`, `specs/Drawn`, `specs/Lanes`).
 //! Samples, and what becomes of arrivals: `sloth_runner` (`Samples`, `Admissions`); bars and lines: `lane_drawing` (`Bars`, `Drawing`).
 #![tactic(auto)]
 
 mod arrivals;
 mod lane_looks;
 mod lanes;
+mod mark_lines;
+pub mod marks;
 mod picture;
 mod text;
 

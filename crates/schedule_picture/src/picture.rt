@@ -6,6 +6,7 @@ ghost use Rattle.sloth_base.specs.Owners.{owners_named};
 ghost use Rattle.sloth_base.specs.Limits.{task_limit, counter_limit, count_limit, picture_limit};
 ghost use Rattle.sloth_runner.specs.Samples.{IsSampling, sampled_image, sampled_arrivals, sampled_count};
 ghost use Rattle.sloth_runner.specs.Admissions.{no_notes, with_sample};
+ghost use Rattle.schedule_picture.specs.Marks.{no_watch, watched};
 ghost use Rattle.lane_drawing.specs.Strips.{IsFreshStrip, ShowsMore, empty_lane};
 ghost use Rattle.schedule_picture.specs.LaneLooks.{lane_look};
 ghost use Rattle.schedule_picture.specs.Lanes.{HaveChanged};
@@ -13,13 +14,14 @@ ghost use Rattle.schedule_picture.specs.Samples.{HasGivenFirst, HasBars, StopsBe
 ghost use Rattle.schedule_picture.specs.Picture.{IsPicture, IsPictureOf};
 
 use crate::lanes::{close, empty_strips, show};
+use crate::marks::Watching;
 use crate::text::{Drawn, scale_of, text_of};
 use lane_drawing::Strip;
 use sloth_base::event::Arrival;
 use sloth_base::image::Image;
 use sloth_base::memory::NoMemory;
 use sloth_runner::runner::Halt;
-use sloth_runner::{Noting, Sample, Sampler};
+use sloth_runner::{Noting, Sample, Sampler, ServiceWords};
 use std::alloc::Global;
 
 /// The picture of a part of a run, or where and why the run stops in front of its last count.
@@ -46,14 +48,16 @@ fn skip(sampler: &mut Sampler, from: u32) -> Result<(), Halt>
     Ok(())
 }
 
-// What a count shows, in the lanes and of the arrivals.
+// What a count shows, in the lanes, of the arrivals and in marks.
 fn show_count(
     strips: &mut Vec<Strip>,
     noting: &mut Noting,
+    watching: &mut Watching,
     tasks: usize,
     counters: usize,
     count: u32,
     sample: &Sample,
+    words: &ServiceWords,
 ) -> Result<(), NoMemory>
     requires tasks { tasks ≤ task_limit }
     requires counters { counters ≤ counter_limit }
@@ -61,9 +65,11 @@ fn show_count(
     ensures shows { OnOk result
         (HaveChanged (λ lane. ShowsMore count (lane_look tasks counters sample.now lane)) (tasks + counters + 1) strips.old.items strips.new.items) }
     ensures tells { OnOk result (noting.new ≡ with_sample noting.old sample.now) }
+    ensures marks { OnOk result (watching.new ≡ watched watching.old sample.now words.now.alarms) }
 {
     show(strips, tasks, counters, count, sample)?;
-    noting.show(sample)
+    noting.show(sample)?;
+    watching.watch(sample, &words.alarms)
 }
 
 // What the lanes show from one count to below another, or where and why the run stops.
@@ -71,6 +77,7 @@ fn show_all(
     sampler: &mut Sampler,
     strips: &mut Vec<Strip>,
     noting: &mut Noting,
+    watching: &mut Watching,
     tasks: usize,
     counters: usize,
     from: u32,
@@ -84,16 +91,20 @@ fn show_all(
     requires lanes { length strips.old.items ≡ tasks + counters + 1 }
     requires fresh { (lane : ℕ) → lane < tasks + counters + 1 → IsFreshStrip from (get_or strips.old.items lane empty_lane) }
     requires none { noting.old ≡ no_notes }
+    requires unseen { watching.old ≡ no_watch }
     requires ordered { from ≤ to }
     requires few { to ≤ count_limit }
     ensures stops { IfOk result (λ end. IfSome end (StopsBefore (sampled_image sampler.old) (sampled_arrivals sampler.old) to)) }
     ensures bars { IfOk result (λ end. IfNone end
-        (HasBars (sampled_image sampler.old) (sampled_arrivals sampler.old) from to sampler.new strips.new.items noting.new.admissions)) }
+        (HasBars (sampled_image sampler.old) (sampled_arrivals sampler.old) from to sampler.new strips.new.items noting.new.admissions watching.new.marks)) }
 {
     for count in from..to {
         noting.note(sampler)?;
+        let words = sampler.service_words();
         match sampler.next() {
-            Ok(sample) => show_count(strips, noting, tasks, counters, count, &sample)?,
+            Ok(sample) => show_count(
+                strips, noting, watching, tasks, counters, count, &sample, &words,
+            )?,
             Err(halt) => return Ok(Some(halt)),
         }
     }
@@ -112,17 +123,19 @@ fn text_with(
     sampler: &mut Sampler,
     strips: &[Strip],
     noting: &Noting,
+    watching: &Watching,
 ) -> Result<Vec<u8>, NoMemory>
     requires format { InFormat image.now }
     requires ordered { from ≤ to }
     requires short { to ≤ from + picture_limit }
     requires few { to ≤ count_limit }
-    requires bars { HasBars image.now arrivals.now from to sampler.old strips.now noting.now.admissions }
+    requires bars { HasBars image.now arrivals.now from to sampler.old strips.now noting.now.admissions watching.now.marks }
     ensures { IfOk result (λ text. IsPictureOf image.now arrivals.now from to text.items) }
 {
     let drawn = Drawn {
         image,
         admissions: noting.admissions(),
+        marks: watching.marks(),
         levels: sampler.levels(),
         scale: scale_of(image, from, to),
         strips,
@@ -154,10 +167,12 @@ pub fn draw(
     }
     let mut strips = empty_strips(alloc, tasks + counters, from)?;
     let mut noting = Noting::new(alloc);
+    let mut watching = Watching::new(alloc);
     if let Some(halt) = show_all(
         &mut sampler,
         &mut strips,
         &mut noting,
+        &mut watching,
         tasks,
         counters,
         from,
@@ -174,6 +189,7 @@ pub fn draw(
         &mut sampler,
         strips.as_slice(),
         &noting,
+        &watching,
     )?;
     Ok(Picture::Text(text))
 }

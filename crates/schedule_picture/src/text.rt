@@ -10,6 +10,8 @@ ghost use Rattle.schedule_picture.specs.LaneLooks.{owned_lanes};
 ghost use Rattle.schedule_picture.specs.Picture.{longest_of, longest_name, scale_of, tasks_above, task_lane, task_lanes, counter_lane, counter_lanes, picture_text};
 
 use crate::arrivals::push_arrivals;
+use crate::mark_lines::push_marks;
+use crate::marks::Mark;
 use lane_drawing::{Bar, Scale, Strip, push_axis, push_head, push_lane, push_legend};
 use sloth_base::image::Image;
 use sloth_base::limits::TASK_LIMIT;
@@ -24,6 +26,7 @@ use std::alloc::Global;
 pub struct Drawn<'a> {
     pub image: &'a Image,
     pub admissions: &'a [Admission],
+    pub marks: &'a [Mark],
     pub levels: [u8; TASK_LIMIT],
     pub scale: Scale,
     pub strips: &'a [Strip],
@@ -79,9 +82,9 @@ fn is_above(levels: &[u8; TASK_LIMIT], task: usize, other: usize) -> bool
     levels[task] > levels[other] || levels[task] == levels[other] && task < other
 }
 
-// How many of the tasks stand above one.
+/// How many of the tasks stand above one.
 #[tactic(auto, using(crate::proofs::Drawing::no_tasks, crate::proofs::Drawing::one_task_more))]
-fn tasks_above(levels: &[u8; TASK_LIMIT], tasks: usize, task: usize) -> u32
+pub fn tasks_above(levels: &[u8; TASK_LIMIT], tasks: usize, task: usize) -> u32
     requires few { tasks ≤ task_limit }
     requires task { task < task_limit }
     ensures is { result ≡ tasks_above levels.now task tasks }
@@ -96,8 +99,8 @@ fn tasks_above(levels: &[u8; TASK_LIMIT], tasks: usize, task: usize) -> u32
     above
 }
 
-// The middle of a row, in pixels from the top.
-fn row_middle(row: u32) -> u32
+/// The middle of a row, in pixels from the top.
+pub fn row_middle(row: u32) -> u32
     requires { row ≤ task_limit + counter_limit }
     ensures { result ≡ 64 + 40 * row }
 {
@@ -195,6 +198,13 @@ pub fn text_of(alloc: Global, drawn: &Drawn) -> Result<Vec<u8>, NoMemory>
         b"kernel",
         middle,
         lane_bars(drawn, last),
+    )?;
+    push_marks(
+        &mut text,
+        drawn.image,
+        &drawn.levels,
+        drawn.scale,
+        drawn.marks,
     )?;
     push_legend(&mut text, drawn.scale, rows)?;
     text.extend_from_slice(b"</svg>\n")?;

@@ -3,4 +3,4 @@ use Rattle.schedule_picture.proofs.Shown.{HasShown}
 use Rattle.schedule_picture.proofs.picture.show_all.Given as goal
 
 abbrev pub invariant-loop-count : goal.invariant-loop-count
-invariant-loop-count l = HasShown (sampled_image l.fn.sampler) (sampled_arrivals l.fn.sampler) l.from l.count l.sampler l.strips.items l.noting
+invariant-loop-count l = HasShown (sampled_image l.fn.sampler) (sampled_arrivals l.fn.sampler) l.from l.count l.sampler l.strips.items l.noting l.watching

@@ -1,6 +1,7 @@
 use Rattle.std.proofs.Common.{All, List, get_or, sym, subst}
 use Rattle.sloth_runner.specs.declared.admissions.Admission.{Admission}
 use Rattle.lane_drawing.specs.declared.scale.Scale.{Scale}
+use Rattle.schedule_picture.specs.declared.marks.Mark.{Mark}
 use Rattle.lane_drawing.specs.Bars.{IsBarInside}
 use Rattle.lane_drawing.specs.Strips.{empty_lane}
 use Rattle.schedule_picture.specs.LaneLooks.{look_of}
@@ -25,7 +26,10 @@ text_of-requires c =
 
 pub returns : goal.returns
 returns c =
-    let H : List Admission → Type 0 = λ a. HasBars c.args.image.now c.args.arrivals.now c.args.from c.args.to c.args.sampler.now c.args.strips.now a in
-    let bars = subst H (sym c.admissions.ensures) c.requires.bars in
-    picture_of c.args.image.now c.args.arrivals.now c.args.from c.args.to c.args.sampler.now c.args.strips.now c.admissions.result.now c.levels.result
+    let H : List Admission → Type 0 =
+    λ a. HasBars c.args.image.now c.args.arrivals.now c.args.from c.args.to c.args.sampler.now c.args.strips.now a c.args.watching.now.marks in
+    let I : List Mark → Type 0 =
+    λ m. HasBars c.args.image.now c.args.arrivals.now c.args.from c.args.to c.args.sampler.now c.args.strips.now c.admissions.result.now m in
+    let bars = subst I (sym c.marks.ensures) (subst H (sym c.admissions.ensures) c.requires.bars) in
+    picture_of c.args.image.now c.args.arrivals.now c.args.from c.args.to c.args.sampler.now c.args.strips.now c.admissions.result.now c.marks.result.now c.levels.result
     c.scale_of.result _ bars c.levels.ensures.levels c.scale_of.ensures.is c.in_ok-text.ensures

@@ -1,0 +1,266 @@
+//! What of a run is marked between its counts.
+ghost use Rattle.std.specs.Prelude.{◌≡◌, ◌<◌, ◌++◌, OnOk, [], ◌∷◌, cond, if◌then◌else◌};
+ghost use Rattle.sloth_base.specs.Limits.{task_limit, alarm_limit};
+ghost use Rattle.schedule_picture.specs.declared.marks.Actor.TheVariants.{Counter};
+ghost use Rattle.schedule_picture.specs.declared.marks.Sign.TheVariants.{Wakes, Expires};
+ghost use Rattle.schedule_picture.specs.Marks.{is_task_woken, actor_of, wakes, wakes_by, is_alarm_over, ticking, expiries, expiries_at, marks_when_open, marks_when_masked, marks_at, no_watch, watched};
+
+use lane_drawing::signs::{is_over, is_woken};
+use sloth_base::limits::{ALARM_LIMIT, TASK_LIMIT};
+use sloth_base::lines::FIRST_COUNTER_LINE;
+use sloth_base::memory::NoMemory;
+use sloth_base::numbers::Line;
+use sloth_runner::Sample;
+use sloth_runner::task_states::Seen;
+use std::alloc::Global;
+use std::marker::Model;
+
+/// Who acts: a task, or a counter as it ticks, by its number.
+#[derive(Clone, Copy)]
+pub enum Actor {
+    Task(u32),
+    Counter(u8),
+}
+
+/// What is marked: that a task is woken, or that an alarm expires.
+#[derive(Clone, Copy)]
+pub enum Sign {
+    Wakes(u8),
+    Expires(u8),
+}
+
+/// A mark: at a count, by a task or counter.
+#[derive(Clone, Copy)]
+pub struct Mark {
+    pub at: u32,
+    pub actor: Actor,
+    pub sign: Sign,
+}
+
+// Whether a task waits at one count and is Ready at the next that finds interrupts open.
+fn is_task_woken(before: &Seen, now: &Seen, task: usize) -> bool
+    requires { task < task_limit }
+    ensures { result ≡ is_task_woken before.now now.now task }
+{
+    is_woken(before.tasks[task], now.tasks[task])
+}
+
+fn actor_of(taken: &Option<Line>, running: u32) -> Option<Actor>
+    ensures { result ≡ actor_of taken.now running }
+{
+    match taken {
+        None => {
+            if running == 0 {
+                None
+            } else {
+                Some(Actor::Task(running - 1))
+            }
+        }
+        Some(line) => {
+            if line.0 < FIRST_COUNTER_LINE {
+                None
+            } else {
+                Some(Actor::Counter(line.0 - FIRST_COUNTER_LINE))
+            }
+        }
+    }
+}
+
+// Appends a mark, if it is one.
+fn push_if(marks: &mut Vec<Mark>, is_one: bool, mark: Mark) -> Result<(), NoMemory>
+    ensures { OnOk result (marks.new.items ≡ marks.old.items ++ cond is_one (mark ∷ []) []) }
+{
+    if is_one {
+        marks.push(mark).map_err(|_| NoMemory)?;
+    }
+    Ok(())
+}
+
+// Appends the mark of a task, if it is woken.
+fn push_wake(
+    marks: &mut Vec<Mark>,
+    by: Actor,
+    before: &Seen,
+    now: &Seen,
+    task: usize,
+) -> Result<(), NoMemory>
+    requires { task < task_limit }
+    ensures { OnOk result (marks.new.items ≡ marks.old.items
+        ++ cond (is_task_woken before.now now.now task) (record { at = now.now.count; actor = by; sign = Wakes task } ∷ []) []) }
+{
+    let mark = Mark {
+        at: now.count,
+        actor: by,
+        sign: Sign::Wakes(task as u8),
+    };
+    push_if(marks, is_task_woken(before, now, task), mark)
+}
+
+// Appends the marks of the tasks that are woken.
+fn push_wakes(marks: &mut Vec<Mark>, by: Actor, before: &Seen, now: &Seen) -> Result<(), NoMemory>
+    ensures { OnOk result (marks.new.items ≡ marks.old.items ++ wakes by before.now now.now task_limit) }
+{
+    for task in 0..TASK_LIMIT {
+        push_wake(marks, by, before, now, task)?;
+    }
+    Ok(())
+}
+
+// Whether an alarm's ticks come to 0.
+fn is_alarm_over(before: &[u32; ALARM_LIMIT], now: &[u32; ALARM_LIMIT], alarm: usize) -> bool
+    requires { alarm < alarm_limit }
+    ensures { result ≡ is_alarm_over before.now now.now alarm }
+{
+    is_over(before[alarm], now[alarm])
+}
+
+fn ticking(taken: &Option<Line>) -> Option<u8>
+    ensures { result ≡ ticking taken.now }
+{
+    match taken {
+        None => None,
+        Some(line) => {
+            if line.0 < FIRST_COUNTER_LINE {
+                None
+            } else {
+                Some(line.0 - FIRST_COUNTER_LINE)
+            }
+        }
+    }
+}
+
+// Appends the mark of an alarm, if it expires.
+fn push_expiry(
+    marks: &mut Vec<Mark>,
+    at: u32,
+    counter: u8,
+    before: &[u32; ALARM_LIMIT],
+    now: &[u32; ALARM_LIMIT],
+    alarm: usize,
+) -> Result<(), NoMemory>
+    requires { alarm < alarm_limit }
+    ensures { OnOk result (marks.new.items ≡ marks.old.items
+        ++ cond (is_alarm_over before.now now.now alarm) (record { at = at; actor = Counter counter; sign = Expires alarm } ∷ []) []) }
+{
+    let mark = Mark {
+        at,
+        actor: Actor::Counter(counter),
+        sign: Sign::Expires(alarm as u8),
+    };
+    push_if(marks, is_alarm_over(before, now, alarm), mark)
+}
+
+// Appends the marks of the alarms that expire at the tick of a counter which begins at a count.
+fn push_expiries(
+    marks: &mut Vec<Mark>,
+    at: u32,
+    counter: u8,
+    before: &[u32; ALARM_LIMIT],
+    now: &[u32; ALARM_LIMIT],
+) -> Result<(), NoMemory>
+    ensures { OnOk result (marks.new.items ≡ marks.old.items ++ expiries at counter before.now now.now alarm_limit) }
+{
+    for alarm in 0..ALARM_LIMIT {
+        push_expiry(marks, at, counter, before, now, alarm)?;
+    }
+    Ok(())
+}
+
+// Appends what a count marks that finds interrupts open, behind one that did.
+fn push_when_open(marks: &mut Vec<Mark>, last: &Sample, now: &Option<Seen>) -> Result<(), NoMemory>
+    ensures { OnOk result (marks.new.items ≡ marks.old.items ++ marks_when_open last.now.taken last.now.seen now.now) }
+{
+    let (Some(before), Some(now)) = (&last.seen, now) else {
+        return Ok(());
+    };
+    match actor_of(&last.taken, before.running) {
+        Some(by) => push_wakes(marks, by, before, now),
+        None => Ok(()),
+    }
+}
+
+// Appends what a count marks that finds interrupts masked.
+fn push_when_masked(
+    marks: &mut Vec<Mark>,
+    last: &Sample,
+    before: &[u32; ALARM_LIMIT],
+    now: &[u32; ALARM_LIMIT],
+) -> Result<(), NoMemory>
+    ensures { OnOk result (marks.new.items ≡ marks.old.items ++ marks_when_masked last.now.taken last.now.seen before.now now.now) }
+{
+    let Some(seen) = &last.seen else {
+        return Ok(());
+    };
+    match ticking(&last.taken) {
+        Some(counter) => push_expiries(marks, seen.count, counter, before, now),
+        None => Ok(()),
+    }
+}
+
+// Appends what a count marks, behind the last one that found interrupts open, if one did.
+fn push_marks(
+    marks: &mut Vec<Mark>,
+    last: &Option<Sample>,
+    sample: &Sample,
+    before: &[u32; ALARM_LIMIT],
+    now: &[u32; ALARM_LIMIT],
+) -> Result<(), NoMemory>
+    ensures { OnOk result (marks.new.items ≡ marks.old.items ++ marks_at last.now sample.now before.now now.now) }
+{
+    let Some(last) = last else {
+        return Ok(());
+    };
+    if sample.interrupts.masked {
+        push_when_masked(marks, last, before, now)
+    } else {
+        push_when_open(marks, last, &sample.seen)
+    }
+}
+
+/// A run that is watched: the last sample that found interrupts open, the ticks that alarms had left at the last count, and the marks so far.
+#[derive(Drop)]
+pub struct Watching {
+    last: Option<Sample>,
+    alarms: [u32; ALARM_LIMIT],
+    marks: Vec<Mark>,
+}
+
+impl Model for Watching {
+    ghost use Rattle.schedule_picture.specs.Marks.{Watch};
+
+    ghost Value = { Watch };
+
+    ghost view = { λ watching. record { last = watching.last; alarms = watching.alarms; marks = watching.marks.items } };
+}
+
+impl Watching {
+    /// A run of which nothing has been seen.
+    pub fn new(alloc: Global) -> Watching
+        ensures { result ≡ no_watch }
+    {
+        Watching {
+            last: None,
+            alarms: [0; ALARM_LIMIT],
+            marks: Vec::new(alloc),
+        }
+    }
+
+    /// What a count shows, and the ticks that each alarm has left there.
+    pub fn watch(&mut self, sample: &Sample, alarms: &[u32; ALARM_LIMIT]) -> Result<(), NoMemory>
+        ensures { OnOk result (self.new ≡ watched self.old sample.now alarms.now) }
+    {
+        push_marks(&mut self.marks, &self.last, sample, &self.alarms, alarms)?;
+        if !sample.interrupts.masked {
+            self.last = Some(*sample);
+        }
+        self.alarms = *alarms;
+        Ok(())
+    }
+
+    /// The marks so far.
+    pub fn marks(&self) -> &[Mark]
+        ensures { result.now ≡ self.now.marks }
+    {
+        self.marks.as_slice()
+    }
+}
