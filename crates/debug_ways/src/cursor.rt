@@ -6,6 +6,9 @@ ghost use Rattle.debug_ways.specs.Marks.{AreMarks};
 use crate::look::Look;
 use crate::machine::Machine;
 use crate::marks::{STRIDE, mark_at, marks_of};
+use osek_scheduler::state::TaskState;
+use rv32_instr::Stop;
+use sloth_base::limits::TASK_LIMIT;
 use sloth_base::memory::NoMemory;
 use std::alloc::Global;
 
@@ -16,9 +19,11 @@ pub struct Cursor<M: Machine> {
     marks: Vec<M>,
     count: u32,
     end: u32,
+    stop: Option<Stop>,
     ghost are: { AreMarks M.run M.count (M.run here) marks.items },
     ghost enough: { end / 65536 < length marks.items },
     ghost end_is: { (M.run here).end ≡ end },
+    ghost stop_is: { (M.run here).stop ≡ stop },
     ghost here_is: { M.count here ≡ count },
     ghost within: { count ≤ end },
 }
@@ -35,11 +40,13 @@ impl<M: Machine> Cursor<M> {
         let mut here = machine;
         let mut marks = Vec::new(alloc);
         let end = marks_of(alloc, &mut marks, &mut here)?;
+        let stop = here.stop();
         Ok(Cursor {
             here,
             marks,
             count: end,
             end,
+            stop,
         })
     }
 
@@ -104,6 +111,23 @@ impl<M: Machine> Cursor<M> {
     {
         self.go_to(count);
         self.here.look()
+    }
+
+    /// The states of tasks at a count.
+    pub fn states(&mut self, count: u32) -> [TaskState; TASK_LIMIT]
+        requires { count ≤ (cursor_run M.run self.old).end }
+        ensures states { result ≡ (cursor_run M.run self.old).states count }
+        ensures run { cursor_run M.run self.new ≡ cursor_run M.run self.old }
+    {
+        self.go_to(count);
+        self.here.states()
+    }
+
+    /// Why the run ends, where an instruction stops it.
+    pub fn stop(&self) -> Option<Stop>
+        ensures { result ≡ (cursor_run M.run self.now).stop }
+    {
+        self.stop
     }
 
     /// A register of a thread at a count, where it is known.

@@ -22,4 +22,6 @@ pub struct Look {
     pub serves: bool,
     /// Its access, if it is one.
     pub access: Option<Access>,
+    /// The last count up to this one that finds interrupts open, if one does.
+    pub open_count: Option<u32>,
 }

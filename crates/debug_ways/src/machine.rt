@@ -3,6 +3,9 @@ ghost use Rattle.std.specs.Prelude.{◌≡◌, ◌<◌, ◌+◌, ℕ, IsTrue, fa
 ghost use Rattle.debug_ways.specs.Runs.{Run};
 
 use crate::look::Look;
+use osek_scheduler::state::TaskState;
+use rv32_instr::Stop;
+use sloth_base::limits::TASK_LIMIT;
 use sloth_base::memory::NoMemory;
 use std::alloc::Global;
 
@@ -42,6 +45,19 @@ pub trait Machine: Drop {
     /// A register of a thread, where it is known.
     fn register(&mut self, thread: u32, number: u32) -> Option<u32>
         ensures register { result ≡ (run self.old).register (count self.old) thread number }
+        ensures run { run self.new ≡ run self.old }
+        ensures count { count self.new ≡ count self.old };
+
+    /// The states of tasks as memory shows them, before a line is taken; an unused place has Suspended.
+    fn states(&mut self) -> [TaskState; TASK_LIMIT]
+        ensures states { result ≡ (run self.old).states (count self.old) }
+        ensures run { run self.new ≡ run self.old }
+        ensures count { count self.new ≡ count self.old };
+
+    /// Why the run ends here, where an instruction stops it.
+    fn stop(&mut self) -> Option<Stop>
+        requires { count self.old ≡ (run self.old).end }
+        ensures stop { result ≡ (run self.old).stop }
         ensures run { run self.new ≡ run self.old }
         ensures count { count self.new ≡ count self.old };
 

@@ -1,8 +1,8 @@
 -- What stands for bytes stands for them alone, and has none that is reserved but `}`.
-use Rattle.std.proofs.Common.{◌≡◌, ℕ, suc, ◌-◌, ◌+◌, ◌/◌, ◌%◌, ◌<◌, ◌≤◌, ◌∙◌, Bool, true, false, List, [], ◌∷◌, ◌++◌, refl, sym, ap, arith}
-use Rattle.std.specs.Prelude.{if◌then◌else◌, ◌&&◌, ◌||◌, ◌==◌, not}
-use Rattle.std.proofs.lemmas.Bool.{eqb-true, eqb-false, or_parts, cases_Bool}
-use Rattle.std.proofs.Common.{◌⊎◌, inl, inr, ⊎_elim, subst}
+use Rattle.std.proofs.Common.{◌≡◌, ℕ, ◌-◌, ◌+◌, ◌/◌, ◌%◌, ◌∙◌, Bool, true, false, List, [], ◌∷◌, ◌++◌, refl, sym, ap, arith}
+use Rattle.std.specs.Prelude.{if◌then◌else◌, ◌||◌, ◌==◌}
+use Rattle.std.proofs.lemmas.Bool.{eqb-true, eqb-false, or_parts}
+use Rattle.std.proofs.Common.{◌⊎◌, inl, inr, subst}
 use Rattle.gdb_packets.specs.Escapes.{is_reserved, turned, escape_of, escaped, unescaped, unescaped_from, is_unmarked}
 
 -- a byte whose bit 5 was turned twice is as before

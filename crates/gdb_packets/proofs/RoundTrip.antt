@@ -1,14 +1,14 @@
 -- Packets that were written are read back.
-use Rattle.std.proofs.Common.{◌≡◌, ℕ, suc, ◌+◌, ◌/◌, ◌%◌, ◌<◌, ◌≤◌, ◌∙◌, Bool, true, false, length, List, [], ◌∷◌, ◌++◌, sum, fold, add-zero, zero-add, refl, sym, ap, arith, append_assoc, append-nil, length-append, add_assoc}
+use Rattle.std.proofs.Common.{◌≡◌, ℕ, suc, ◌+◌, ◌/◌, ◌%◌, ◌<◌, ◌≤◌, ◌∙◌, true, false, length, List, [], ◌∷◌, ◌++◌, sum, fold, add-zero, zero-add, refl, sym, ap, arith, append_assoc, append-nil, length-append, add_assoc}
 use Rattle.std.proofs.Math.Nat.{mod-add-mod}
 use Rattle.std.specs.Prelude.{not, ◌&&◌, ◌==◌}
 use Rattle.std.proofs.lemmas.Bool.{le-leb, not-true, and_parts}
 use Rattle.gdb_packets.specs.declared.reading.Place.TheVariants as places
 use Rattle.gdb_packets.specs.Escapes.{escaped, is_unmarked}
-use Rattle.gdb_packets.specs.Framing.{checksum, packet_of, framed, all_framed}
+use Rattle.gdb_packets.specs.Framing.{checksum, packet_of, all_framed}
 use Rattle.gdb_packets.specs.Hex.{hex_digit}
-use Rattle.gdb_packets.specs.Messages.{AllFit, Message, Packet, messages, packets_of}
-use Rattle.gdb_packets.specs.Reading.{Reading, fresh, opened}
+use Rattle.gdb_packets.specs.Messages.{AllFit, Packet, messages, packets_of}
+use Rattle.gdb_packets.specs.Reading.{fresh, opened}
 use Rattle.gdb_packets.proofs.Digits.{sum-told}
 use Rattle.gdb_packets.proofs.Escaping.{escaped_unmarked}
 

@@ -1,15 +1,14 @@
 -- What is read as a packet stands so among the bytes.
-use Rattle.std.proofs.Common.{◌≡◌, ℕ, suc, ◌+◌, ◌*◌, ◌%◌, ◌<◌, ◌≤◌, ◌∙◌, ◌⊎◌, inl, inr, ⊎_elim, Bool, true, false, length, List, [], ◌∷◌, ◌++◌, sum, refl, sym, ap, subst, arith, append_assoc, append-nil, length-append, add_assoc, add-zero}
+use Rattle.std.proofs.Common.{◌≡◌, ℕ, ◌+◌, ◌%◌, ◌<◌, ◌≤◌, ◌∙◌, ◌⊎◌, inl, inr, ⊎_elim, Bool, true, false, length, List, [], ◌∷◌, ◌++◌, sum, refl, sym, ap, subst, arith, append_assoc, append-nil, add_assoc}
 use Rattle.std.proofs.Math.Nat.{mod-add-mod}
 use Rattle.std.specs.Prelude.{not, ◌&&◌, ◌==◌, if◌then◌else◌, nat_le}
-use Rattle.std.proofs.lemmas.Bool.{eqb-true, leb-true, leb-false, lt-leb}
+use Rattle.std.proofs.lemmas.Bool.{eqb-true, leb-true, leb-false}
 use Rattle.gdb_packets.specs.declared.reading.Place.{Place}
 use Rattle.gdb_packets.specs.declared.reading.Place.TheVariants as places
-use Rattle.gdb_packets.specs.declared.reading.Event.{Event}
 use Rattle.gdb_packets.specs.declared.reading.Event.TheVariants as events
 use Rattle.gdb_packets.specs.Framing.{checksum}
-use Rattle.gdb_packets.specs.Messages.{EndInPacket, EndSo, is_inside}
-use Rattle.gdb_packets.specs.Reading.{Reading, fresh, opened, data_with, after_outside, after_inside, reading_at, reading_after, reading_of, is_told, event_at, event_after}
+use Rattle.gdb_packets.specs.Messages.{EndSo, is_inside}
+use Rattle.gdb_packets.specs.Reading.{Reading, fresh, opened, data_with, after_inside, reading_at, reading_after, reading_of, is_told, event_at, event_after}
 use Rattle.gdb_packets.proofs.RoundTrip.{sum-cons}
 
 -- behind a mark stand data that were read, and then a tail

@@ -1,5 +1,5 @@
 -- What is sent at a message beside the answer to it. `+` and `-` are sent where packets are acknowledged.
-use Rattle.std.specs.Prelude.{ℕ, List, [], ◌∷◌, ◌++◌, Bool, true, false, codes, if◌then◌else◌}
+use Rattle.std.specs.Prelude.{ℕ, List, [], ◌∷◌, Bool, true, false, codes, if◌then◌else◌}
 use Rattle.gdb_packets.specs.Framing.{framed}
 
 -- whether packets are acknowledged, and the packet that was sent last, or nothing
