@@ -1,0 +1,4 @@
+pub mod CleanWays
+pub mod BodyLists
+pub mod CallChains
+pub mod WayLaws
