@@ -29,12 +29,7 @@ use Rattle.osek_scheduler.proofs.Apart.{at_task}
 use Rattle.osek_scheduler.proofs.Outcomes.{by_suspended, on_outcome, on_tested}
 use Rattle.osek_scheduler.proofs.Ticking.{ticked_keeps}
 use Rattle.run_counts.specs.Rounds.{is_left}
-
-clash : (m : TaskState) → m ≡ mode.Active → m ≡ mode.Suspended → ⊥
-clash mode.Suspended a b = absurd cc
-clash mode.Ready a b = absurd cc
-clash mode.Active a b = absurd cc
-clash (mode.Waiting mask) a b = absurd cc
+use Rattle.response_laws.proofs.States.{not_suspended, not_waiting}
 
 -- a change that leaves its task Active
 abbrev is_awake : TaskChange → Bool
@@ -69,7 +64,7 @@ module _ (t : ℕ) where
   activated_awake : (u : ℕ) (x : System) → (task x u).state ≡ mode.Suspended → Awake x → Awake (activated_state x u)
   activated_awake u x asleep h =
       at_task x u t (record (task x u) { state = mode.Ready }) (λ k. k.state ≡ mode.Active) h
-      (λ e. absurd (clash (task x u).state (subst Awake_at e h) asleep))
+      (λ e. absurd (not_suspended (task x u).state (subst Awake_at e h) asleep))
     where
       Awake_at : ℕ → Type 0
       Awake_at v = (task x v).state ≡ mode.Active
@@ -91,14 +86,8 @@ module _ (t : ℕ) where
       woken mode.Active e = set
       woken (mode.Waiting awaited) e = by (bit_and (bit_or (task x u).events mask) awaited == 0)
         where
-          waiting_clash : (m : TaskState) → m ≡ mode.Active → m ≡ mode.Waiting awaited → ⊥
-          waiting_clash mode.Suspended a b = absurd cc
-          waiting_clash mode.Ready a b = absurd cc
-          waiting_clash mode.Active a b = absurd cc
-          waiting_clash (mode.Waiting mask) a b = absurd cc
-
           away : (u ≡ t) → ⊥
-          away same = waiting_clash (task x u).state (let P : ℕ → Type 0 = λ w. (task x w).state ≡ mode.Active in subst P (sym same) h) e
+          away same = not_waiting (task x u).state awaited (let P : ℕ → Type 0 = λ w. (task x w).state ≡ mode.Active in subst P (sym same) h) e
 
           by : (b : Bool) → Awake (cond b (with_events x u (bit_or (task x u).events mask)) (activated_state (with_events x u (bit_or (task x u).events mask)) u))
           by true = set
@@ -133,7 +122,7 @@ module _ (t : ℕ) where
 
     -- a Suspended task is not t, and so behind any change of the caller
     asleep_away : (u : ℕ) → (task s u).state ≡ mode.Suspended → (u ≡ t → ⊥)
-    asleep_away u asleep e = clash (task s t).state active (let P : ℕ → Type 0 = λ w. (task s w).state ≡ mode.Suspended in subst P e asleep)
+    asleep_away u asleep e = not_suspended (task s t).state active (let P : ℕ → Type 0 = λ w. (task s w).state ≡ mode.Suspended in subst P e asleep)
 
     service_awake : (config : Config) (served : Service) (object mask : ℕ) → StaysSo (outcome config served object mask c s)
     service_awake config service.ActivateTask object mask =
@@ -163,7 +152,7 @@ module _ (config : Config) (app : App) (t : ℕ) where
   called u served s answer h active = subst (StaysSo t u s active) h.is (service_awake t u s active config served h.call.object h.call.mask)
 
   pub stays_active : (e : Event) (s next : System) → OsekStep config app e s next → IsValid config app s → is_left t e ≡ false → IsActive s t → IsActive next t
-  stays_active event.Boot s next step v away active = absurd (clash (task s t).state active (v.asleep step.0 t))
+  stays_active event.Boot s next step v away active = absurd (not_suspended (task s t).state active (v.asleep step.0 t))
   stays_active (event.Admit u) s next step v away active =
       subst (λ (x : System). IsActive x t) (sym step.2)
       (by_suspended (task s u).state (record (activated_state s u) { fresh = u ∷ s.fresh }) s (λ (x : System). IsActive x t)

@@ -8,16 +8,22 @@ use Rattle.sloth_base.specs.declared.app.App.{App}
 use Rattle.sloth_base.specs.declared.event.Event.{Event}
 use Rattle.sloth_base.specs.declared.event.Event.TheVariants as event
 use Rattle.sloth_base.specs.Events.{admitted_line, served_task}
+use Rattle.sloth_base.specs.declared.service.Service.{Service}
+use Rattle.sloth_base.specs.declared.service.Service.TheVariants as service
+use Rattle.sloth_base.specs.ServiceCodes.{is_service}
 use Rattle.osek_scheduler.specs.declared.state.Counter.{Counter}
 use Rattle.osek_scheduler.specs.declared.state.TaskState.{TaskState}
 use Rattle.osek_scheduler.specs.declared.state.TaskState.TheVariants as mode
-use Rattle.osek_scheduler.specs.State.{Task, System, task, no_counter, counter}
+use Rattle.std.specs.Prelude.{max, map}
+use Rattle.std.proofs.lemmas.List.{get_or-set_same}
+use Rattle.sloth_base.specs.Named.{declaration}
+use Rattle.osek_scheduler.specs.State.{Frame, Task, System, sleeping_task, task, no_counter, counter}
 use Rattle.code_rules.specs.Code.{is_in}
-use Rattle.osek_scheduler.specs.Priority.{rank, IsDue, NoTicks, IsTop}
+use Rattle.osek_scheduler.specs.Priority.{ceiling, greatest, highest_priority, rank, IsDue, NoTicks, IsTop}
 use Rattle.osek_scheduler.specs.InTime.{is_admit}
 use Rattle.osek_scheduler.specs.Next.{is_due, all_below}
-use Rattle.osek_scheduler.specs.Services.{activated_state}
-use Rattle.osek_scheduler.specs.Steps.{OsekStep, admitted_state}
+use Rattle.osek_scheduler.specs.Services.{activated_state, started_task, ServiceOutcome, GoesOn, Leaves}
+use Rattle.osek_scheduler.specs.Steps.{OsekStep, IsServiceStep, admitted_state}
 use Rattle.osek_scheduler.proofs.Outcomes.{by_suspended}
 use Rattle.osek_scheduler.proofs.Tests.{Decides-is_due, Decides-no_ticks}
 use Rattle.osek_scheduler.specs.Apart.{priority_of, static_priority, IsActive}
@@ -29,11 +35,12 @@ use Rattle.osek_blocking.proofs.Ordering.{effect, step_ordered}
 use Rattle.osek_blocking.proofs.Once.{Blocks, BlocksAlone, blocker}
 use Rattle.run_counts.specs.Stages.{Stage, end_of}
 use Rattle.response_laws.specs.Sums.{is_over}
+use Rattle.raised_sections.specs.Sections.{IsLower}
 use Rattle.run_counts.specs.Stages.{turn_task}
 use Rattle.response_laws.specs.Turns.{is_other_event, is_other}
 use Rattle.response_laws.specs.Busy.{is_quiet}
 use Rattle.osek_scheduler.specs.State.{opening}
-use Rattle.osek_scheduler.specs.Valid.{IsValid}
+use Rattle.osek_scheduler.specs.Valid.{InState, IsValid}
 use Rattle.osek_scheduler.specs.Priority.{is_active}
 use Rattle.osek_scheduler.proofs.Tests.{Decides-is_active}
 use Rattle.osek_scheduler.proofs.Facts.{facts}
@@ -42,22 +49,18 @@ use Rattle.osek_scheduler.proofs.Steps.{opening_valid}
 use Rattle.osek_blocking.proofs.Ordering.{opening_ordered}
 use Rattle.run_counts.specs.Stages.{is_turn, is_entry, run_stages}
 use Rattle.response_laws.specs.Sums.{count}
-use Rattle.response_laws.specs.Starts.{IsRaisedTurn, InSection, OpensSection, AreOfSection, Comes, with_one, with_section, PeriodsStartSo}
+use Rattle.response_laws.specs.Starts.{IsRaisedTurn, InSection, may_raise, OpensSection, AreOfSection, Comes, with_one, with_section, PeriodsStartSo}
 use Rattle.response_laws.proofs.Attributed.{IsDeclared, declared_by_step}
 use Rattle.response_laws.proofs.Linked.{last_state, last_end, linked_front, linked_behind, each_append, stages_linked, stages_known}
 use Rattle.response_laws.proofs.Linked.{Known, Linked}
 use Rattle.response_laws.proofs.Booted.{HasStarted, has_started}
+use Rattle.response_laws.proofs.States.{not_suspended, not_ready}
+use Rattle.response_laws.proofs.Raising.{called_no_higher}
 use Rattle.response_laws.proofs.Starting.{IsBusy}
 
-all_so : (n : ℕ) (test : ℕ → Bool) → ((j : ℕ) → j < n → test j ≡ true) → all_below n test ≡ true
+pub all_so : (n : ℕ) (test : ℕ → Bool) → ((j : ℕ) → j < n → test j ≡ true) → all_below n test ≡ true
 all_so zero test each = refl
 all_so (suc n) test each = and_from (test n) (all_below n test) (each n (omega arith)) (all_so n test (λ j lt. each j (omega (arith, lt))))
-
-no_both : (m : TaskState) → m ≡ mode.Active → m ≡ mode.Suspended → ⊥
-no_both mode.Suspended a b = absurd cc
-no_both mode.Ready a b = absurd cc
-no_both mode.Active a b = absurd cc
-no_both (mode.Waiting x) a b = absurd cc
 
 module _ (config : Config) (app : App) (h : ℕ) where
   -- task t is lower
@@ -65,9 +68,9 @@ module _ (config : Config) (app : App) (h : ℕ) where
   Lower t = static_priority config t < static_priority config h
 
   -- no task of at least the static priority of h is Ready or Active but those that are fresh, and no counter is due
-  record IsUnsettled (s : System) : Type 0 where
-    fresh : (u : ℕ) → u < length config.tasks → is_over config h u ≡ true → IsDue s u → is_in u s.fresh ≡ true
-    no_ticks : NoTicks config s
+  pub record IsUnsettled (s : System) : Type 0 where
+    pub fresh : (u : ℕ) → u < length config.tasks → is_over config h u ≡ true → IsDue s u → is_in u s.fresh ≡ true
+    pub no_ticks : NoTicks config s
 
   quiet_if : (s : System) → ((u : ℕ) → u < length config.tasks → is_over config h u ≡ true → IsDue s u → ⊥) → NoTicks config s → is_quiet config h s ≡ true
   quiet_if s none ticks =
@@ -86,7 +89,7 @@ module _ (config : Config) (app : App) (h : ℕ) where
   -- ---- a lower task that is top
 
   -- the rank of a task that is due
-  rank_due : (s : System) (u : ℕ) → IsDue s u → 2 * static_priority config u ≤ rank config s u
+  pub rank_due : (s : System) (u : ℕ) → IsDue s u → 2 * static_priority config u ≤ rank config s u
   rank_due s u (inl ready) = let e = rank_ready config s u ready in omega (arith, e)
   rank_due s u (inr active) =
       let e = rank_active config s u active in
@@ -135,7 +138,7 @@ module _ (config : Config) (app : App) (h : ℕ) where
   -- ---- blocking tasks
 
   -- the record of an Active task is as before
-  from_same : (s next : System) (u : ℕ) → Same config u (task s u) (task next u) → Blocks config h next u → Blocks config h s u
+  pub from_same : (s next : System) (u : ℕ) → Same config u (task s u) (task next u) → Blocks config h next u → Blocks config h s u
   from_same s next u same b =
       let old = same b.active in
       record {
@@ -191,7 +194,7 @@ module _ (config : Config) (app : App) (h : ℕ) where
 
   -- ---- settled states
 
-  settles : (s next : System) (e : Event) → Effect config s next e → is_some (admitted_line e) ≡ false → next.fresh ≡ []
+  pub settles : (s next : System) (e : Event) → Effect config s next e → is_some (admitted_line e) ≡ false → next.fresh ≡ []
   settles s next event.Boot f other = f.settles
   settles s next (event.Admit t) f other = absurd (true≢false other)
   settles s next (event.Due c) f other = absurd (true≢false other)
@@ -205,14 +208,14 @@ module _ (config : Config) (app : App) (h : ℕ) where
   settles s next (event.Left t served) f other = f.moves.acts.settles
 
   -- an admit leaves an Active task Active, and a due counter due
-  admit_active : (s : System) (t u : ℕ) → IsActive s u → IsActive (admitted_state t s) u
+  pub admit_active : (s : System) (t u : ℕ) → IsActive s u → IsActive (admitted_state t s) u
   admit_active s t u active =
       by_suspended (task s t).state (record (activated_state s t) { fresh = t ∷ s.fresh }) s (λ (x : System). IsActive x u)
       (λ asleep. at_task s t u (record (task s t) { state = mode.Ready }) (λ (k : Task). k.state ≡ mode.Active) active
-      (λ e. absurd (no_both (task s t).state (subst (IsActive s) e active) asleep)))
+      (λ e. absurd (not_suspended (task s t).state (subst (IsActive s) e active) asleep)))
       (λ _. active)
 
-  admit_ticks : (s : System) (t : ℕ) → NoTicks config (admitted_state t s) → NoTicks config s
+  pub admit_ticks : (s : System) (t : ℕ) → NoTicks config (admitted_state t s) → NoTicks config s
   admit_ticks s t =
       by_suspended (task s t).state (record (activated_state s t) { fresh = t ∷ s.fresh }) s (λ (x : System). NoTicks config x → NoTicks config s)
       (λ _ none. none) (λ _ none. none)
@@ -225,17 +228,11 @@ module _ (config : Config) (app : App) (h : ℕ) where
     no_ticks = admit_ticks s t (subst (NoTicks config) step.2 unsettled.no_ticks);
   }
     where
-      clash : (m : TaskState) → m ≡ mode.Active → m ≡ mode.Ready → ⊥
-      clash mode.Suspended a b = absurd cc
-      clash mode.Ready a b = absurd cc
-      clash mode.Active a b = absurd cc
-      clash (mode.Waiting x) a b = absurd cc
-
       at : (u : ℕ) → u < length config.tasks → is_over config h u ≡ true → IsDue s u → is_in u s.fresh ≡ true
       at u lt over (inl ready) = sym (f.fresh u ready) ∙ unsettled.fresh u lt over (inl (f.ready u ready))
       at u lt over (inr active) =
           let now : IsActive next u = subst (λ (x : System). IsActive x u) (sym step.2) (admit_active s t u active) in
-          absurd (clash (task next u).state now (o.apart.fresh_ready u (unsettled.fresh u lt over (inr now))))
+          absurd (not_ready (task next u).state now (o.apart.fresh_ready u (unsettled.fresh u lt over (inr now))))
   unsettled_before s next (event.Due c) step f o admits unsettled = record {
     fresh = λ u lt over due.
         let now : IsDue next u = subst (λ (x : System). IsDue x u) (sym step.2) due in
@@ -265,6 +262,11 @@ module _ (config : Config) (app : App) (h : ℕ) where
   same_number : (t : ℕ) → (t == t) ≡ true
   same_number t = eq-eqb t t refl
 
+  opening_of : (e : Event) (s next : System) (t : ℕ) (others : List ℕ) → Lower t → Moves config others t s next → is_number t (turn_task e) ≡ true → IsActive s t
+      → IsRaisedTo config s t h ⊎ (is_some (served_task e) ≡ true) → Opens e s next
+  opening_of e s next t others lower moves turn active how =
+      record { mover = t; lower = lower; others = others; moves = moves; turn = turn; active = active; how = how }
+
   opens : (e : Event) (s next : System) → OsekStep config app e s next → Effect config s next e → is_quiet config h s ≡ false → HasStarted s
       → is_other_event config h e ≡ true → Opens e s next
   opens event.Boot s next step f busy on other = absurd (true≢false (sym on ∙ step.0))
@@ -274,42 +276,14 @@ module _ (config : Config) (app : App) (h : ℕ) where
   opens (event.Due c) s next step f busy on other = absurd (false≢true other)
   opens (event.Tick c) s next step f busy on other = absurd (false≢true other)
   opens (event.Enter t) s next step f busy on other = absurd (no_lower_entry s t f.moves.top f.was busy (lower_of t other))
-  opens (event.Run t func item result) s next step f busy on other = record {
-    mover = t;
-    lower = lower_of t other;
-    others = [];
-    moves = f.moves;
-    turn = same_number t;
-    active = f.was;
-    how = inl (top_raised s t f.moves.top f.was busy);
-  }
-  opens (event.Back t) s next step f busy on other = record {
-    mover = t;
-    lower = lower_of t other;
-    others = [];
-    moves = f.moves;
-    turn = same_number t;
-    active = f.was;
-    how = inl (top_raised s t f.moves.top f.was busy);
-  }
-  opens (event.Call t served status) s next step f busy on other = record {
-    mover = t;
-    lower = lower_of t other;
-    others = s.fresh;
-    moves = f.moves;
-    turn = same_number t;
-    active = f.was;
-    how = inr refl;
-  }
-  opens (event.Left t served) s next step f busy on other = record {
-    mover = t;
-    lower = lower_of t other;
-    others = s.fresh;
-    moves = f.moves;
-    turn = same_number t;
-    active = f.was;
-    how = inr refl;
-  }
+  opens (event.Run t func item result) s next step f busy on other =
+      opening_of (event.Run t func item result) s next t [] (lower_of t other) f.moves (same_number t) f.was (inl (top_raised s t f.moves.top f.was busy))
+  opens (event.Back t) s next step f busy on other =
+      opening_of (event.Back t) s next t [] (lower_of t other) f.moves (same_number t) f.was (inl (top_raised s t f.moves.top f.was busy))
+  opens (event.Call t served status) s next step f busy on other =
+      opening_of (event.Call t served status) s next t s.fresh (lower_of t other) f.moves (same_number t) f.was (inr refl)
+  opens (event.Left t served) s next step f busy on other =
+      opening_of (event.Left t served) s next t s.fresh (lower_of t other) f.moves (same_number t) f.was (inr refl)
 
   -- in a settled state it is raised
   raised_of : (e : Event) (s next : System) → Effect config s next e → is_quiet config h s ≡ false → (IsUnsettled s → ⊥) → (t : ℕ) → Lower t
@@ -332,7 +306,7 @@ module _ (config : Config) (app : App) (h : ℕ) where
   -- ---- the stages of a period
 
   -- the state is settled, if it is not quiet
-  abbrev Pressed : System → Type 0
+  abbrev pub Pressed : System → Type 0
   Pressed s = is_quiet config h s ≡ false → IsUnsettled s → ⊥
 
   module _ (x : Stage) (k : Known config app x) where
@@ -342,10 +316,10 @@ module _ (config : Config) (app : App) (h : ℕ) where
     ordered_next : Ordered config x.next
     ordered_next = step_ordered config app x.found x.next k.ordered x.stamped.event k.step
 
-    started_next : HasStarted x.next
+    pub started_next : HasStarted x.next
     started_next = has_started config app x.stamped.event x.found x.next k.step
 
-    pressed_next : is_admit x.stamped ≡ false → Pressed x.next
+    pub pressed_next : is_admit x.stamped ≡ false → Pressed x.next
     pressed_next other busy unsettled =
         true≢false (sym (settled_quiet x.next (settles x.found x.next x.stamped.event effect_of other) unsettled) ∙ busy)
 
@@ -355,6 +329,20 @@ module _ (config : Config) (app : App) (h : ℕ) where
         by : (is_admit x.stamped ≡ true) ⊎ (is_admit x.stamped ≡ false) → Pressed x.next
         by (inl admits) = λ busy unsettled. settled (unsettled_before x.found x.next x.stamped.event k.step effect_of ordered_next admits unsettled)
         by (inr other) = pressed_next other
+
+    -- in a state that is not quiet another event comes in a turn of a lower task that is raised, or is a service
+    pub raised_or_served : is_quiet config h x.found ≡ false → HasStarted x.found → is_other config h x ≡ true
+        → ((b : ℕ) × IsLower config h b × IsRaisedTurn config h b x) ⊎ (is_some (served_task x.stamped.event) ≡ true)
+    raised_or_served busy on other = by (opens x.stamped.event x.found x.next k.step effect_of busy on other)
+      where
+        by : Opens x.stamped.event x.found x.next
+            → ((b : ℕ) × IsLower config h b × IsRaisedTurn config h b x) ⊎ (is_some (served_task x.stamped.event) ≡ true)
+        by o = which o.how
+          where
+            which : IsRaisedTo config x.found o.mover h ⊎ (is_some (served_task x.stamped.event) ≡ true)
+                → ((b : ℕ) × IsLower config h b × IsRaisedTurn config h b x) ⊎ (is_some (served_task x.stamped.event) ≡ true)
+            which (inl up) = inl (o.mover, (o.moves.top.declared, o.lower), record { turn = o.turn; raised = up })
+            which (inr served) = inr served
 
     late_one : (b : ℕ) → is_quiet config h x.found ≡ false → (IsUnsettled x.found → ⊥) → HasStarted x.found → BlocksAlone config h x.found b
         → is_other config h x ≡ true → IsRaisedTurn config h b x
@@ -367,7 +355,7 @@ module _ (config : Config) (app : App) (h : ℕ) where
           raised = subst (λ v. IsRaisedTo config x.found v h) same up;
         }
 
-  late : (b at : ℕ) (s : System) (xs : List Stage) → Linked at s xs → AllByRecursion (Known config app) xs → AllByRecursion (IsBusy config h) xs → HasStarted s
+  pub late : (b at : ℕ) (s : System) (xs : List Stage) → Linked at s xs → AllByRecursion (Known config app) xs → AllByRecursion (IsBusy config h) xs → HasStarted s
       → BlocksAlone config h s b → Pressed s → InSection config h b xs
   late b at s [] l k busy on alone pressed = tt
   late b at s (x ∷ xs) l k busy on alone pressed =
@@ -407,7 +395,7 @@ module _ (config : Config) (app : App) (h : ℕ) where
   turn_declared t e d is = absurd (false≢true is)
 
   -- a section of a task that is not there has no event
-  no_section : (b : ℕ) (xs : List Stage) → length config.tasks ≤ b → AllByRecursion (Known config app) xs → InSection config h b xs → count (is_other config h) xs ≤ 0
+  pub no_section : (b : ℕ) (xs : List Stage) → length config.tasks ≤ b → AllByRecursion (Known config app) xs → InSection config h b xs → count (is_other config h) xs ≤ 0
   no_section b [] past k s = omega arith
   no_section b (x ∷ xs) past k s =
       let rest = no_section b xs past k.1 s.1 in
@@ -433,30 +421,130 @@ module _ (config : Config) (app : App) (h : ℕ) where
           (late (length config.tasks) at s xs l k busy on
           (λ u blocks. absurd (none (subst (Blocks config h s) ((blocker config h s o).1 u blocks) blocks))) pressed))
 
-  -- the other event behind which task b blocks is one of b
-  is_of_blocker : (e : Event) (s next : System) → OsekStep config app e s next → Effect config s next e → IsValid config app s → is_other_event config h e ≡ true
-      → (b : ℕ) → Blocks config h next b → (is_entry b e || is_turn b e) ≡ true
-  is_of_blocker (event.Enter t) s next step f v other b blocks =
-      ap (λ w. w || false) (eq-eqb t b (sym (only_mover s next [] t f.moves (lower_of t other) b blocks)))
-  is_of_blocker (event.Run t func item result) s next step f v other b blocks =
-      eq-eqb t b (sym (only_mover s next [] t f.moves (lower_of t other) b blocks))
-  is_of_blocker (event.Call t served status) s next step f v other b blocks =
-      eq-eqb t b (sym (only_mover s next s.fresh t f.moves (lower_of t other) b blocks))
-  is_of_blocker (event.Left t served) s next step f v other b blocks =
-      eq-eqb t b (sym (only_mover s next s.fresh t f.moves (lower_of t other) b blocks))
-  is_of_blocker (event.Back t) s next step f v other b blocks = eq-eqb t b (sym (only_mover s next [] t f.moves (lower_of t other) b blocks))
-  is_of_blocker event.Boot s next step f v other b blocks =
-      absurd (no_both (task s b).state (from_same s next b (f.same b) blocks).active (v.asleep step.0 b))
-  is_of_blocker event.Idle s next step f v other b blocks =
+  -- the other event behind which task b blocks comes in a turn of it, in which it was raised, or may raise it
+  abbrev RaisedBy : Event → System → (b : ℕ) → Type 0
+  RaisedBy e s b = ((is_turn b e ≡ true) × IsRaisedTo config s b h) ⊎ (may_raise config b e ≡ true)
+
+  raised_before : (t b : ℕ) (s next : System) → t ≡ b → priority_of config t (task next t) ≤ priority_of config t (task s t) → IsRaisedTo config next b h
+      → IsRaisedTo config s b h
+  raised_before t b s next same le up =
+      let P : ℕ → Type 0 = λ v. priority_of config v (task next v) ≤ priority_of config v (task s v) in
+      let less = subst P same le in
+      omega (arith, less, up)
+
+  -- a lower task that holds nothing and has no internal resource is not raised
+  raised_alone : (t : ℕ) (own : Task) → own.held ≡ [] → own.raised ≡ false → {now : ℕ} → priority_of config t own ≡ now → static_priority config h ≤ now → Lower t
+      → ⊥
+  raised_alone t own none off is up low =
+      let held = ap (λ l. max (static_priority config t) (max (greatest (map (ceiling config) l)) (cond own.raised (highest_priority config) 0))) none in
+      let raised = ap (λ c. max (static_priority config t) (max 0 (cond c (highest_priority config) 0))) off in
+      omega (arith, held, raised, is, up, low)
+
+  raised_by : (e : Event) (s next : System) → OsekStep config app e s next → Effect config s next e → IsValid config app s → is_other_event config h e ≡ true
+      → (b : ℕ) → Blocks config h next b → RaisedBy e s b
+  raised_by (event.Enter t) s next step f v other b blocks =
+      inr (subst (λ u. ((t == u) && (declaration config u).non) ≡ true) (sym same) (ap (λ c. c && (declaration config t).non) (eq-eqb t t refl) ∙ non))
+    where
+      same : b ≡ t
+      same = only_mover s next [] t f.moves (lower_of t other) b blocks
+
+      new : Task
+      new = record (started_task app t (task s t).frames (task s t)) { state = mode.Active; raised = (declaration config t).non }
+
+      started_held : (fs : List Frame) (own : Task) → (started_task app t fs own).held ≡ own.held
+      started_held [] own = refl
+      started_held (frame ∷ outer) own = refl
+
+      held_none : new.held ≡ []
+      held_none =
+          started_held (task s t).frames (task s t)
+          ∙ (subst (InState config t (task s t)) step.2 (v.each t step.1.declared).in_state).0.holds
+
+      next_is : task next t ≡ new
+      next_is = ap (λ (x : System). task x t) step.4 ∙ get_or-set_same s.tasks t new sleeping_task (subst (λ n. t < n) (sym v.count) step.1.declared)
+
+      non : (declaration config t).non ≡ true
+      non =
+          true_from_ne_false (declaration config t).non
+          (λ off.
+          let P : ℕ → Type 0 = λ u. IsRaisedTo config next u h in
+          raised_alone t new held_none off (ap (priority_of config t) (sym next_is)) (subst P same blocks.raised) (lower_of t other))
+  raised_by (event.Back t) s next step f v other b blocks =
+      inr (subst (λ u. ((t == u) && (declaration config u).non) ≡ true) (sym same) (ap (λ c. c && (declaration config t).non) (eq-eqb t t refl) ∙ non))
+    where
+      same : b ≡ t
+      same = only_mover s next [] t f.moves (lower_of t other) b blocks
+
+      new : Task
+      new = record (task s t) { owed = false; raised = (declaration config t).non }
+
+      held_none : new.held ≡ []
+      held_none = (subst (InState config t (task s t)) step.2 (v.each t step.1.declared).in_state).2 step.3
+
+      next_is : task next t ≡ new
+      next_is = ap (λ (x : System). task x t) step.4 ∙ get_or-set_same s.tasks t new sleeping_task (subst (λ n. t < n) (sym v.count) step.1.declared)
+
+      non : (declaration config t).non ≡ true
+      non =
+          true_from_ne_false (declaration config t).non
+          (λ off.
+          let P : ℕ → Type 0 = λ u. IsRaisedTo config next u h in
+          raised_alone t new held_none off (ap (priority_of config t) (sym next_is)) (subst P same blocks.raised) (lower_of t other))
+  raised_by (event.Run t func item result) s next step f v other b blocks =
+      let same : t ≡ b = sym (only_mover s next [] t f.moves (lower_of t other) b blocks) in
+      let new = record (task s t) { registers = step.1.meant.registers; frames = step.1.meant.frames } in
+      let le = subst (λ (x : System). priority_of config t (task x t) ≤ priority_of config t (task s t)) (sym step.1.is)
+      (at_task s t t new (λ k. priority_of config t k ≤ priority_of config t (task s t)) (omega arith) (λ _. omega arith)) in
+      inl (eq-eqb t b same, raised_before t b s next same le blocks.raised)
+  raised_by (event.Call t served status) s next step f v other b blocks = by (is_service served service.GetResource) refl
+    where
+      same : t ≡ b
+      same = sym (only_mover s next s.fresh t f.moves (lower_of t other) b blocks)
+
+      by : (g : Bool) → is_service served service.GetResource ≡ g → ((((t == b) ≡ true) × IsRaisedTo config s b h) ⊎ (((t == b) && g) ≡ true))
+      by true is = inr (ap (λ c. c && true) (eq-eqb t b same))
+      by false is =
+          let le = subst (λ (x : System). priority_of config t (task x t) ≤ priority_of config t (task s t)) (sym step.1.2)
+          (called_no_higher config t s app served (GoesOn status step.1.0) step.1.1 is) in
+          inl (eq-eqb t b same, raised_before t b s next same le blocks.raised)
+  raised_by (event.Left t served) s next step f v other b blocks = by (is_service served service.GetResource) refl
+    where
+      same : t ≡ b
+      same = sym (only_mover s next s.fresh t f.moves (lower_of t other) b blocks)
+
+      goes_on : (status : ℕ) (x y : System) → GoesOn status x ≡ Leaves y → ⊥
+      goes_on status x y e = cc
+
+      never : (served : Service) → IsServiceStep config app t served s (Leaves step.1.0) → is_service served service.GetResource ≡ true → ⊥
+      never service.GetResource h is = goes_on _ _ step.1.0 h.is
+      never served h is = absurd (false≢true is)
+
+      by : (g : Bool) → is_service served service.GetResource ≡ g → RaisedBy (event.Left t served) s b
+      by true is = absurd (never served step.1.1 is)
+      by false is =
+          let le = subst (λ (x : System). priority_of config t (task x t) ≤ priority_of config t (task s t)) (sym step.1.2)
+          (called_no_higher config t s app served (Leaves step.1.0) step.1.1 is) in
+          inl (eq-eqb t b same, raised_before t b s next same le blocks.raised)
+  raised_by event.Boot s next step f v other b blocks =
+      absurd (not_suspended (task s b).state (from_same s next b (f.same b) blocks).active (v.asleep step.0 b))
+  raised_by event.Idle s next step f v other b blocks =
       let before = from_same s next b (f.same b) blocks in
       absurd (step.1 b before.declared (inr before.active))
-  is_of_blocker event.Stray s next step f v other b blocks = absurd step
-  is_of_blocker (event.Admit t) s next step f v other b blocks = absurd (false≢true other)
-  is_of_blocker (event.Due c) s next step f v other b blocks = absurd (false≢true other)
-  is_of_blocker (event.Tick c) s next step f v other b blocks = absurd (false≢true other)
+  raised_by event.Stray s next step f v other b blocks = absurd step
+  raised_by (event.Admit t) s next step f v other b blocks = absurd (false≢true other)
+  raised_by (event.Due c) s next step f v other b blocks = absurd (false≢true other)
+  raised_by (event.Tick c) s next step f v other b blocks = absurd (false≢true other)
+
+  opens_section : (x : Stage) → Known config app x → (b : ℕ) → Blocks config h x.next b → is_other config h x ≡ true
+      → IsRaisedTurn config h b x ⊎ (may_raise config b x.stamped.event ≡ true)
+  opens_section x k b blocks other = by (raised_by x.stamped.event x.found x.next k.step (effect_of x k) k.valid other b blocks)
+    where
+      by : RaisedBy x.stamped.event x.found b → IsRaisedTurn config h b x ⊎ (may_raise config b x.stamped.event ≡ true)
+      by (inl (turn, raised)) = inl (record { turn = turn; raised = raised })
+      by (inr may) = inr may
 
   -- an admission is no other event
-  admit_is_none : (x : Stage) → is_admit x.stamped ≡ true → is_other config h x ≡ false
+  pub admit_is_none : (x : Stage) → is_admit x.stamped ≡ true → is_other config h x ≡ false
   admit_is_none x is = by x.stamped.event is
     where
       by : (e : Event) → is_some (admitted_line e) ≡ true → is_other_event config h e ≡ false
@@ -479,7 +567,7 @@ module _ (config : Config) (app : App) (h : ℕ) where
       by (inr (b, blocks, section)) =
           with_section b (blocks.declared, blocks.lower)
           (subst (λ a. OpensSection config h b a (AreOfSection config h b xs) x xs) (sym other)
-          ((λ is. is_of_blocker x.stamped.event x.found x.next k.step (effect_of x k) k.valid is b blocks), section))
+          ((λ is. opens_section x k b blocks is), section))
 
   in_front : (x : Stage) (xs : List Stage) → Known config app x → Linked (end_of x) x.next xs → AllByRecursion (Known config app) xs
       → AllByRecursion (IsBusy config h) xs → Comes config h xs → Comes config h (x ∷ xs)
@@ -496,7 +584,7 @@ module _ (config : Config) (app : App) (h : ℕ) where
   comes_behind at s (x ∷ xs) l k busy = in_front x xs k.0 l.2 k.1 busy.1 (comes_behind (end_of x) x.next xs l.2 k.1 busy.1)
 
 pub periods_start_so : PeriodsStartSo
-periods_start_so config app events h wf run first period busy =
+periods_start_so config app events h once wf run first period busy =
     in_front config app h first period ks.0 links ks.1 busy.busy (comes_behind config app h (end_of first) first.next period links ks.1 busy.busy)
   where
     known : AllByRecursion (Known config app) (run_stages config app events)

@@ -3,7 +3,7 @@ use Rattle.std.proofs.Common.{◌≡◌, ℕ, ◌-◌, ◌<◌, ◌≤◌, ◌�
 use Rattle.std.specs.List.{AllByRecursion}
 use Rattle.std.specs.Int.Bits.{or_add_and}
 use Rattle.std.proofs.lemmas.Nat.{and_le_l, and_le_r}
-use Rattle.std.proofs.lemmas.Bool.{cases_eq, cases_lt, false≢true, eqb-true, eqb-false, eq-eqb, ne_eqb, not-true, and_parts, and_right}
+use Rattle.std.proofs.lemmas.Bool.{cases_eq, cases_lt, false≢true, eqb-true, eqb-false, eq-eqb, ne_eqb, not-true, and_parts, and_right, or_parts}
 use Rattle.sloth_base.specs.declared.config.Config.{Config}
 use Rattle.sloth_base.specs.declared.app.App.{App}
 use Rattle.sloth_base.specs.declared.event.Event.{Event}
@@ -45,12 +45,19 @@ use Rattle.osek_scheduler.proofs.Steps.{opening_valid}
 use Rattle.osek_blocking.proofs.Ordering.{opening_ordered}
 use Rattle.raised_sections.specs.Walks.{Position}
 use Rattle.raised_sections.specs.Sections.{operation_at}
+use Rattle.bound_rules.specs.declared.weights.BodyWeights.{BodyWeights}
+use Rattle.section_sizes.specs.Weights.{going_at, ending_at}
+use Rattle.walk_sums.specs.declared.counted.Counted.{Counted}
+use Rattle.walk_sums.specs.declared.counted.Counted.TheVariants as counts
+use Rattle.walk_sums.specs.Counted.{one_if, calls_for, is_going_counted, is_ending_counted, counted_weights}
 use Rattle.run_counts.specs.Stages.{Stage, run_stages}
 use Rattle.run_counts.specs.Rounds.{is_left}
 use Rattle.event_weights.specs.Events.{has_frames}
 use Rattle.response_laws.specs.Turns.{is_ready_for, has_grown, activated, was_set}
 use Rattle.response_laws.specs.Walked.{standing, is_executed, is_back, FitsItem}
-use Rattle.response_laws.specs.Makers.{is_activation, may_activate, may_set, activation_weight, setting_weight, ItemsActivate, ItemsSet}
+use Rattle.response_laws.specs.Makers.{activation_weights, setting_weights, ItemsActivate, ItemsSet}
+use Rattle.response_laws.proofs.Counting.{counted_going, counted_ending}
+use Rattle.response_laws.proofs.States.{not_suspended, not_waiting}
 use Rattle.response_laws.proofs.Linked.{Known, each_so, stages_known}
 use Rattle.response_laws.proofs.Steps.{activated_between, set_between, not_activated, not_set, at_most_one, active_declared}
 
@@ -196,6 +203,12 @@ module _ (j c : ℕ) (s : System) (active : IsActive s c) where
           ),
         )
 
+-- a service that may make its task Ready to begin anew
+abbrev is_activation : Service → Bool
+is_activation service.ActivateTask = true
+is_activation service.ChainTask = true
+is_activation _ = false
+
 module _ (config : Config) (app : App) (j c : ℕ) (s : System) (v : IsValid config app s) (active : IsActive s c) where
   -- ---- activations
 
@@ -208,18 +221,6 @@ module _ (config : Config) (app : App) (j c : ℕ) (s : System) (v : IsValid con
   own_acts : (d : TaskChange) → is_quiet_change d ≡ true → c ≡ j → Acts (changed_task d (task s j))
   own_acts d is e = unready_acts (task s j) (changed_task d (task s j)) (changed_unready d (task s j) is (own_unready e))
 
-  clash : (m : TaskState) (mask : ℕ) → m ≡ mode.Active → m ≡ mode.Waiting mask → ⊥
-  clash m mask a b = differ (sym a ∙ b)
-    where
-      differ : mode.Active ≡ mode.Waiting mask → ⊥
-      differ e = cc
-
-  asleep_active : (m : TaskState) → m ≡ mode.Active → m ≡ mode.Suspended → ⊥
-  asleep_active m a b = differ (sym a ∙ b)
-    where
-      differ : mode.Active ≡ mode.Suspended → ⊥
-      differ e = cc
-
   -- the system behind what its caller does
   abbrev answered : System
   answered = with_change c (change.Answer E_OK) s
@@ -229,7 +230,7 @@ module _ (config : Config) (app : App) (j c : ℕ) (s : System) (v : IsValid con
   waits_begun =
       at_task s c j (changed_task (change.Answer E_OK) (task s c)) (λ k. (awaited : ℕ) → k.state ≡ mode.Waiting awaited → has_frames k.frames ≡ true)
       (λ awaited is. by (task s j).frames (stands awaited is))
-      (λ e awaited is. absurd (clash (task s c).state awaited active is))
+      (λ e awaited is. absurd (not_waiting (task s c).state awaited active is))
     where
       by : (fs : List Frame) → (fs ≡ [] → ⊥) → has_frames fs ≡ true
       by [] some = absurd (some refl)
@@ -287,7 +288,8 @@ module _ (config : Config) (app : App) (j c : ℕ) (s : System) (v : IsValid con
         λ _. subst (λ u. Acts (task (set_events u mask answered) j)) (sym e) (eventful_acts mask),
       )
 
-  pub service_acts : (served : Service) (object mask : ℕ) → (is_activation served && (object == j)) ≡ false → ActsAfter (outcome config served object mask c s)
+  -- another than the activations of it
+  service_acts : (served : Service) (object mask : ℕ) → (is_activation served && (object == j)) ≡ false → ActsAfter (outcome config served object mask c s)
   service_acts service.ActivateTask object mask is = activated_other j c s active Acts (not_activated (task s j)) own_acts config object mask is
   service_acts service.ChainTask object mask is = chained_other j c s active Acts (not_activated (task s j)) own_acts config object mask is
   service_acts service.SetEvent object mask is = by (cases_eq object j)
@@ -296,6 +298,55 @@ module _ (config : Config) (app : App) (j c : ℕ) (s : System) (v : IsValid con
       by (inl e) = set_acts object mask e
       by (inr n) = set_other j c s active Acts (not_activated (task s j)) own_acts config object mask (ne_eqb object j n)
   service_acts served object mask is = tested j c s active Acts (not_activated (task s j)) own_acts config served object mask refl
+
+  -- where its caller goes on, and where it leaves
+  abbrev ActsWhereGoing : ServiceOutcome → Type 0
+  ActsWhereGoing (GoesOn status x) = Acts (task x j)
+  ActsWhereGoing (Leaves x) = Unit {0}
+
+  abbrev ActsWhereLeaving : ServiceOutcome → Type 0
+  ActsWhereLeaving (GoesOn status x) = Unit {0}
+  ActsWhereLeaving (Leaves x) = Acts (task x j)
+
+  where_going : (o : ServiceOutcome) → ActsAfter o → ActsWhereGoing o
+  where_going (GoesOn status x) h = h
+  where_going (Leaves x) h = tt
+
+  where_leaving : (o : ServiceOutcome) → ActsAfter o → ActsWhereLeaving o
+  where_leaving (GoesOn status x) h = tt
+  where_leaving (Leaves x) h = h
+
+  refused : Acts (task (planned_system c (plan (Some E_OS_LIMIT) (change.Answer E_OS_LIMIT) other.Nothing) s) j)
+  refused = planned j c s active Acts (not_activated (task s j)) own_acts (plan (Some E_OS_LIMIT) (change.Answer E_OS_LIMIT) other.Nothing) refl
+
+  -- a ChainTask that goes on is refused, and so is an ActivateTask of its caller
+  chain_going : (object mask : ℕ) → ActsWhereGoing (outcome config service.ChainTask object mask c s)
+  chain_going object mask = on_outcome ActsWhereGoing c s (decision config service.ChainTask object mask c s) ((λ _. tt), (λ _. ((λ _. tt), (λ _. refused))))
+
+  itself_going : (object mask : ℕ) → object ≡ c → ActsAfter (outcome config service.ActivateTask object mask c s)
+  itself_going object mask e =
+      on_outcome ActsAfter c s (decision config service.ActivateTask object mask c s) (
+        λ asleep. absurd (not_suspended (task s c).state active (subst (λ u. (task s u).state ≡ mode.Suspended) e asleep)),
+        λ _. refused,
+      )
+
+  pub acts_going : (served : Service) (object mask : ℕ) → ((is_service served service.ActivateTask && (object == j)) ≡ false) ⊎ (c ≡ j)
+      → ActsWhereGoing (outcome config served object mask c s)
+  acts_going service.ActivateTask object mask (inl other) = where_going (outcome config service.ActivateTask object mask c s) (service_acts service.ActivateTask object mask other)
+  acts_going service.ActivateTask object mask (inr own) = by (cases_eq object j)
+    where
+      by : (object ≡ j) ⊎ (object ≡ j → ⊥) → ActsWhereGoing (outcome config service.ActivateTask object mask c s)
+      by (inl e) = where_going (outcome config service.ActivateTask object mask c s) (itself_going object mask (e ∙ sym own))
+      by (inr n) = where_going (outcome config service.ActivateTask object mask c s) (service_acts service.ActivateTask object mask (ne_eqb object j n))
+  acts_going service.ChainTask object mask which = chain_going object mask
+  acts_going served object mask which = where_going (outcome config served object mask c s) (service_acts served object mask refl)
+
+  pub acts_leaving : (served : Service) (object mask : ℕ) → (is_service served service.ChainTask && (object == j)) ≡ false
+      → ActsWhereLeaving (outcome config served object mask c s)
+  acts_leaving service.ActivateTask object mask is =
+      on_outcome ActsWhereLeaving c s (decision config service.ActivateTask object mask c s) ((λ _. tt), (λ _. tt))
+  acts_leaving service.ChainTask object mask is = where_leaving (outcome config service.ChainTask object mask c s) (service_acts service.ChainTask object mask is)
+  acts_leaving served object mask is = where_leaving (outcome config served object mask c s) (service_acts served object mask refl)
 
   -- ---- settings
 
@@ -324,7 +375,7 @@ module _ (config : Config) (app : App) (j c : ℕ) (s : System) (v : IsValid con
   bare_behind : (d : TaskChange) → (task s j).state ≡ mode.Suspended → IsBare (task (with_change c d s) j)
   bare_behind d asleep =
       at_task s c j (changed_task d (task s c)) IsBare (bare asleep)
-      (λ e. absurd (asleep_active (task s j).state (subst (IsActive s) (sym e) active) asleep))
+      (λ e. absurd (not_suspended (task s j).state (subst (IsActive s) (sym e) active) asleep))
 
   activated_sets : (d : TaskChange) → is_quiet_change d ≡ true → (task s j).state ≡ mode.Suspended → Sets (task (activated_state (with_change c d s) j) j)
   activated_sets d is asleep =
@@ -381,26 +432,41 @@ module _ (config : Config) (app : App) (j c : ℕ) (s : System) (v : IsValid con
 
 -- ---- events
 
--- a fact on task j's record, that a service keeps which may not break it
-module _ (config : Config) (app : App) (t j : ℕ) (x : Stage) (k : Known config app x) (number : Task → Task → ℕ) (may : (j : ℕ) → Op → Bool)
+-- a number of an event on task j's record, that is 0 where its item does not count
+module _ (config : Config) (app : App) (t j : ℕ) (x : Stage) (k : Known config app x) (number : Task → Task → ℕ) (counted : Counted)
     (few : (old new : Task) → number old new ≤ 1) (same : (old : Task) → number old old ≡ 0)
     (alike : (u : ℕ) (new : Task) → IsActive x.found u → (new.state ≡ (task x.found u).state) → (new.events ≡ (task x.found u).events) → u ≡ j → number (task x.found j) new ≡ 0)
-    (serves : (u : ℕ) (served : Service) (answer : ServiceOutcome) (h : IsServiceStep config app u served x.found answer) → may j (operation_at app (standing (task x.found u).frames)) ≡ false
-    → IsAfter (λ (y : System). number (task x.found j) (task y j) ≡ 0) answer) where
-  abbrev Weight : Position → ℕ
-  Weight at = cond (may j (operation_at app at)) 1 0
+    (goes_on : (served : Service) (status : ℕ) (after : System) → IsServiceStep config app t served x.found (GoesOn status after)
+    → is_going_counted counted (operation_at app (standing (task x.found t).frames)) ≡ false → number (task x.found j) (task after j) ≡ 0)
+    (leaves_with : (served : Service) (after : System) → IsServiceStep config app t served x.found (Leaves after)
+    → is_ending_counted counted (operation_at app (standing (task x.found t).frames)) ≡ false → number (task x.found j) (task after j) ≡ 0) where
+  abbrev Going : Position → ℕ
+  Going at = going_at (counted_weights counted app) at
 
-  by_may : (u : ℕ) → (may j (operation_at app (standing (task x.found u).frames)) ≡ false → number (task x.found j) (task x.next j) ≡ 0)
-      → number (task x.found j) (task x.next j) ≤ Weight (standing (task x.found u).frames)
-  by_may u none = by (may j (operation_at app (standing (task x.found u).frames))) none
-    where
-      by : (b : Bool) → (b ≡ false → number (task x.found j) (task x.next j) ≡ 0) → number (task x.found j) (task x.next j) ≤ cond b 1 0
-      by true n = few (task x.found j) (task x.next j)
-      by false n = let zero = n refl in omega (arith, zero)
+  abbrev Ending : Position → ℕ
+  Ending at = ending_at (counted_weights counted app) at
+
+  by_test : (test : Bool) → (test ≡ false → number (task x.found j) (task x.next j) ≡ 0) → number (task x.found j) (task x.next j) ≤ one_if test
+  by_test true n = few (task x.found j) (task x.next j)
+  by_test false n = let zero = n refl in omega (arith, zero)
+
+  by_going : (is_going_counted counted (operation_at app (standing (task x.found t).frames)) ≡ false → number (task x.found j) (task x.next j) ≡ 0)
+      → number (task x.found j) (task x.next j) ≤ Going (standing (task x.found t).frames)
+  by_going none =
+      let le = by_test (is_going_counted counted (operation_at app (standing (task x.found t).frames))) none in
+      let same = counted_going counted app (standing (task x.found t).frames) in
+      omega (arith, le, same)
+
+  by_ending : (is_ending_counted counted (operation_at app (standing (task x.found t).frames)) ≡ false → number (task x.found j) (task x.next j) ≡ 0)
+      → number (task x.found j) (task x.next j) ≤ Ending (standing (task x.found t).frames)
+  by_ending none =
+      let le = by_test (is_ending_counted counted (operation_at app (standing (task x.found t).frames))) none in
+      let same = counted_ending counted app (standing (task x.found t).frames) in
+      omega (arith, le, same)
 
   item_fits : (e : Event) → OsekStep config app e x.found x.next
-      → (is_executed t e ≡ true → number (task x.found j) (task x.next j) ≤ Weight (standing (task x.found t).frames))
-      × (is_left t e ≡ true → number (task x.found j) (task x.next j) ≤ Weight (standing (task x.found t).frames))
+      → (is_executed t e ≡ true → number (task x.found j) (task x.next j) ≤ Going (standing (task x.found t).frames))
+      × (is_left t e ≡ true → number (task x.found j) (task x.next j) ≤ Ending (standing (task x.found t).frames))
       × (is_back t e ≡ true → number (task x.found j) (task x.next j) ≤ 0)
   item_fits (event.Run u func item result) h = (
     λ is.
@@ -414,15 +480,17 @@ module _ (config : Config) (app : App) (t j : ℕ) (x : Stage) (k : Known config
     λ is. absurd (false≢true is),
   )
   item_fits (event.Call u served status) h = (
-    λ is. subst (λ w. number (task x.found j) (task x.next j) ≤ Weight (standing (task x.found w).frames)) (eqb-true u t is)
-        (by_may u (λ off. subst (λ (y : System). number (task x.found j) (task y j) ≡ 0) (sym h.1.2) (serves u served (GoesOn status h.1.0) h.1.1 off))),
+    λ is.
+        let own = subst (λ v. OsekStep config app (event.Call v served status) x.found x.next) (eqb-true u t is) h in
+        by_going (λ off. subst (λ (y : System). number (task x.found j) (task y j) ≡ 0) (sym own.1.2) (goes_on served status own.1.0 own.1.1 off)),
     λ is. absurd (false≢true is),
     λ is. absurd (false≢true is),
   )
   item_fits (event.Left u served) h = (
     λ is. absurd (false≢true is),
-    λ is. subst (λ w. number (task x.found j) (task x.next j) ≤ Weight (standing (task x.found w).frames)) (eqb-true u t is)
-        (by_may u (λ off. subst (λ (y : System). number (task x.found j) (task y j) ≡ 0) (sym h.1.2) (serves u served (Leaves h.1.0) h.1.1 off))),
+    λ is.
+        let own = subst (λ v. OsekStep config app (event.Left v served) x.found x.next) (eqb-true u t is) h in
+        by_ending (λ off. subst (λ (y : System). number (task x.found j) (task y j) ≡ 0) (sym own.1.2) (leaves_with served own.1.0 own.1.1 off)),
     λ is. absurd (false≢true is),
   )
   item_fits (event.Back u) h = (
@@ -440,36 +508,78 @@ module _ (config : Config) (app : App) (t j : ℕ) (x : Stage) (k : Known config
   item_fits e h = ((λ is. absurd (false≢true is)), (λ is. absurd (false≢true is)), (λ is. absurd (false≢true is)))
 
 module _ (config : Config) (app : App) (t j : ℕ) (x : Stage) (k : Known config app x) where
-  at_call : (may : Op → Bool) (test : Service → Bool) → ((call : Call) → may (op.Serve call) ≡ (test call.service && (call.object == j)))
-      → (u : ℕ) (served : Service) (answer : ServiceOutcome) (h : IsServiceStep config app u served x.found answer)
-      → may (operation_at app (standing (task x.found u).frames)) ≡ (test served && (h.call.object == j))
-  at_call may test is u served answer h =
-      ap (λ fs. may (operation_at app (standing fs))) h.at.frames ∙ ap may h.at.next ∙ is h.call ∙ ap (λ w. test w && (h.call.object == j)) h.same
+  -- a test of the operation at which the task stands, that calls the service
+  at_call : (test : Op → Bool) (served : Service) (answer : ServiceOutcome) (h : IsServiceStep config app t served x.found answer)
+      → test (operation_at app (standing (task x.found t).frames)) ≡ test (op.Serve h.call)
+  at_call test served answer h = ap (λ fs. test (operation_at app (standing fs))) h.at.frames ∙ ap test h.at.next
 
-  activates : FitsItem t (activated j) (activation_weight app j) (activation_weight app j) x
+  -- the same of the service that is served
+  calls_so : (s : Service) (served : Service) (answer : ServiceOutcome) (h : IsServiceStep config app t served x.found answer)
+      → calls_for j s (op.Serve h.call) ≡ (is_service served s && (h.call.object == j))
+  calls_so s served answer h = ap (λ w. is_service w s && (h.call.object == j)) h.same
+
+  -- ---- activations
+
+  abbrev Counts : Bool → Counted
+  Counts own = cond own (counts.Chains j) (counts.Activations j)
+
+  abbrev AfterActs : System → Type 0
+  AfterActs y = activated_between (task x.found j) (task y j) ≡ 0
+
+  acts_goes_on : (own : Bool) → (t == j) ≡ own → (served : Service) (status : ℕ) (after : System) (h : IsServiceStep config app t served x.found (GoesOn status after))
+      → is_going_counted (Counts own) (operation_at app (standing (task x.found t).frames)) ≡ false → AfterActs after
+  acts_goes_on own e served status after h off =
+      subst (ActsWhereGoing config app j t x.found k.valid h.at.active) h.is
+      (acts_going config app j t x.found k.valid h.at.active served h.call.object h.call.mask (by own e off))
+    where
+      by : (own : Bool) → (t == j) ≡ own → is_going_counted (Counts own) (operation_at app (standing (task x.found t).frames)) ≡ false
+          → ((is_service served service.ActivateTask && (h.call.object == j)) ≡ false) ⊎ (t ≡ j)
+      by true e off = inr (eqb-true t j e)
+      by false e off =
+          inl (sym (calls_so service.ActivateTask served (GoesOn status after) h) ∙ sym (at_call (is_going_counted (counts.Activations j)) served (GoesOn status after) h) ∙ off)
+
+  acts_leaves_with : (own : Bool) (served : Service) (after : System) (h : IsServiceStep config app t served x.found (Leaves after))
+      → is_ending_counted (Counts own) (operation_at app (standing (task x.found t).frames)) ≡ false → AfterActs after
+  acts_leaves_with own served after h off =
+      subst (ActsWhereLeaving config app j t x.found k.valid h.at.active) h.is
+      (acts_leaving config app j t x.found k.valid h.at.active served h.call.object h.call.mask (by own off))
+    where
+      by : (own : Bool) → is_ending_counted (Counts own) (operation_at app (standing (task x.found t).frames)) ≡ false
+          → (is_service served service.ChainTask && (h.call.object == j)) ≡ false
+      by true off = sym (calls_so service.ChainTask served (Leaves after) h) ∙ sym (at_call (is_ending_counted (counts.Chains j)) served (Leaves after) h) ∙ off
+      by false off =
+          sym (calls_so service.ChainTask served (Leaves after) h)
+          ∙ (or_parts (calls_for j service.ActivateTask (op.Serve h.call)) (calls_for j service.ChainTask (op.Serve h.call))
+          (sym (at_call (is_ending_counted (counts.Activations j)) served (Leaves after) h) ∙ off)).1
+
+  activates : FitsItem t (activated j) (going_at (activation_weights app t j)) (ending_at (activation_weights app t j)) x
   activates =
-      let all = item_fits config app t j x k activated_between may_activate
+      let all = item_fits config app t j x k activated_between (Counts (t == j))
       (λ old new. at_most_one (not (is_ready_for false old) && is_ready_for false new)) not_activated
-      (λ u new active state events e.
-      unready_acts (task x.found j) new (ap is_ready state ∙ ap is_ready active))
-      (λ u served answer h off.
-      subst (IsAfter (λ (y : System). activated_between (task x.found j) (task y j) ≡ 0)) h.is
-      (service_acts config app j u x.found k.valid h.at.active served h.call.object h.call.mask
-      (sym (at_call (may_activate j) is_activation (λ call. refl) u served answer h) ∙ off)))
-      x.stamped.event k.step in
+      (λ u new active state events e. unready_acts (task x.found j) new (ap is_ready state ∙ ap is_ready active))
+      (acts_goes_on (t == j) refl) (acts_leaves_with (t == j)) x.stamped.event k.step in
       record { goes = all.0; leaves = all.1; returns = all.2 }
 
-  sets : FitsItem t (was_set j) (setting_weight app j) (setting_weight app j) x
+  -- ---- settings
+
+  abbrev AfterSets : System → Type 0
+  AfterSets y = set_between (task x.found j) (task y j) ≡ 0
+
+  sets_after : (served : Service) (answer : ServiceOutcome) (h : IsServiceStep config app t served x.found answer)
+      → calls_for j service.SetEvent (operation_at app (standing (task x.found t).frames)) ≡ false → IsAfter AfterSets answer
+  sets_after served answer h off =
+      subst (IsAfter AfterSets) h.is
+      (service_sets config app j t x.found k.valid h.at.active served h.call.object h.call.mask
+      (sym (calls_so service.SetEvent served answer h) ∙ sym (at_call (calls_for j service.SetEvent) served answer h) ∙ off))
+
+  sets : FitsItem t (was_set j) (going_at (setting_weights app j)) (ending_at (setting_weights app j)) x
   sets =
-      let all = item_fits config app t j x k set_between may_set
+      let all = item_fits config app t j x k set_between (counts.Settings j)
       (λ old new. at_most_one ((not (is_ready_for true old) && is_ready_for true new) || has_grown old.events new.events)) not_set
       (λ u new active state events e.
       unready_sets (task x.found j) new (ap is_ready state ∙ ap is_ready active)
       (let equal = events ∙ ap (λ v. (task x.found v).events) e in omega (arith, equal)))
-      (λ u served answer h off.
-      subst (IsAfter (λ (y : System). set_between (task x.found j) (task y j) ≡ 0)) h.is
-      (service_sets config app j u x.found k.valid h.at.active served h.call.object h.call.mask
-      (sym (at_call (may_set j) (λ w. is_service w service.SetEvent) (λ call. refl) u served answer h) ∙ off)))
+      (λ served status after h off. sets_after served (GoesOn status after) h off) (λ served after h off. sets_after served (Leaves after) h off)
       x.stamped.event k.step in
       record { goes = all.0; leaves = all.1; returns = all.2 }
 
@@ -481,10 +591,10 @@ module _ (config : Config) (app : App) (events : List Stamped) (wf : WellFormed 
 
 pub items_activate : ItemsActivate
 items_activate config app events t j wf osek =
-    each_so (Known config app) (FitsItem t (activated j) (activation_weight app j) (activation_weight app j)) (activates config app t j)
+    each_so (Known config app) (FitsItem t (activated j) (going_at (activation_weights app t j)) (ending_at (activation_weights app t j))) (activates config app t j)
     (run_stages config app events) (known config app events wf osek)
 
 pub items_set : ItemsSet
 items_set config app events t j wf osek =
-    each_so (Known config app) (FitsItem t (was_set j) (setting_weight app j) (setting_weight app j)) (sets config app t j)
+    each_so (Known config app) (FitsItem t (was_set j) (going_at (setting_weights app j)) (ending_at (setting_weights app j))) (sets config app t j)
     (run_stages config app events) (known config app events wf osek)

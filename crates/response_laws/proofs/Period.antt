@@ -1,8 +1,8 @@
 -- As long as a busy period is no longer than its start says, its rounds are no more than their numbers; so it ends in time.
-use Rattle.std.proofs.Common.{◌≡◌, ℕ, zero, suc, ◌+◌, ◌*◌, ◌<◌, ◌≤◌, ◌⊎◌, ◌&&◌, ◌||◌, not, List, [], ◌∷◌, ◌++◌, Bool, true, false, cond, length, refl, sym, ap, ◌∙◌, subst, arith, inl, inr, append_assoc, append-nil}
+use Rattle.std.proofs.Common.{◌≡◌, ℕ, zero, suc, ◌+◌, ◌*◌, ◌<◌, ◌≤◌, ◌⊎◌, ◌&&◌, ◌||◌, not, List, [], ◌∷◌, ◌++◌, Bool, true, false, cond, length, refl, sym, ap, ◌∙◌, subst, arith, inl, inr, append_assoc, append-nil, ◌==◌, add-mul}
 use Rattle.std.specs.Prelude.{◌-◌}
 use Rattle.std.specs.List.{AllByRecursion}
-use Rattle.std.proofs.lemmas.Bool.{cases_eq, and_parts, not-true, true≢false, or_parts}
+use Rattle.std.proofs.lemmas.Bool.{cases_eq, and_parts, not-true, true≢false, or_parts, eqb-true, ne_eqb}
 use Rattle.sloth_base.specs.declared.config.Config.{Config}
 use Rattle.sloth_base.specs.declared.app.App.{App}
 use Rattle.sloth_base.specs.Owners.{counter_line}
@@ -13,13 +13,15 @@ use Rattle.osek_scheduler.specs.Next.{is_ready, is_due, all_below, no_ticks}
 use Rattle.osek_scheduler.specs.Apart.{IsActive}
 use Rattle.run_counts.specs.Stages.{Stage, end_of, charged}
 use Rattle.run_counts.specs.Rounds.{goes_on_waiting, total}
-use Rattle.response_laws.specs.Sums.{total_where, count, is_over}
+use Rattle.response_laws.specs.Sums.{total_where, count, is_over, sum_over}
 use Rattle.event_weights.specs.Events.{has_frames}
-use Rattle.response_laws.specs.Turns.{in_turn, at_entry, at_entry_for, at_tick, at_admission, is_other, begins_first, begins_next, as_said, is_made, activated, has_grown, was_set}
-use Rattle.response_laws.specs.Busy.{is_quiet}
-use Rattle.response_laws.specs.Demand.{Costs, Start, IsEnough}
-use Rattle.response_laws.specs.Bounded.{EachFirst, EachNext, BoundsRounds, BeginsWithin, IsWithinInflow, StartsSo}
-use Rattle.response_laws.proofs.Sums.{product_grows, total-append, total_within, sum_below-le, sum_over-le}
+use Rattle.response_laws.specs.Turns.{round_behind, if_turn, in_turn, at_entry, at_entry_for, at_tick, at_admission, is_other, begins_first, begins_next, as_said, is_made, activated, has_grown, was_set}
+use Rattle.response_laws.specs.Busy.{is_quiet, is_quiet_but, LeavesOnce}
+use Rattle.osek_scheduler.proofs.Facts.{Facts}
+use Rattle.response_laws.proofs.EnteredOnce.{entered_once}
+use Rattle.response_laws.specs.Demand.{Costs, Start, acts_due, sets_due, IsEnough}
+use Rattle.response_laws.specs.Bounded.{EachFirst, EachNext, BoundsRounds, BeginsWithin, left_over, IsWithinInflow, StartsSo}
+use Rattle.response_laws.proofs.Sums.{product_grows, total-append, total_within, sum_below-le, sum_over-le, sum_over-once}
 use Rattle.response_laws.proofs.Attributed.{IsDeclared, declared_by_step, all_attributed}
 use Rattle.response_laws.proofs.Linked.{Known, Linked, last_state, last_end, linked_front, linked_behind, each_append, each_joined, each_so, last_within}
 use Rattle.response_laws.proofs.Steps.{turn_active, ready_count, entry_takes, entry_balance, acts_by_admission, sets_by_admission, due_count, tick_balance}
@@ -42,20 +44,53 @@ module _ (config : Config) (h : ℕ) (s : System) (quiet : is_quiet config h s �
       let here = not-true _ (at_each (length config.tasks) (λ u. not (is_over config h u && is_due s u)) t all lt) in
       sym (ap (λ b. b && is_due s t) over) ∙ here
 
-  quiet_ready : (again : Bool) (t : ℕ) → t < length config.tasks → is_over config h t ≡ true → ready_count again t s ≡ 0
-  quiet_ready again t lt over =
-      ap {B = ℕ} (λ b. cond (b && as_said again (has_frames (task s t).frames)) 1 0)
-      (or_parts (is_ready (task s t).state) (is_active (task s t).state) (not_due t lt over)).0
-
-  quiet_inactive : (t : ℕ) → t < length config.tasks → is_over config h t ≡ true → IsActive s t → ⊥
-  quiet_inactive t lt over active =
-      let none = (or_parts (is_ready (task s t).state) (is_active (task s t).state) (not_due t lt over)).1 in
-      true≢false (sym (ap is_active active) ∙ none)
-
   quiet_counter : (c : ℕ) → c < length config.counters → due_count c s ≡ 0
   quiet_counter c lt =
       let all = (and_parts (all_below (length config.tasks) (λ u. not (is_over config h u && is_due s u))) (no_ticks config s) quiet).1 in
       ap {B = ℕ} (λ b. cond b 1 0) (not-true _ (at_each (length config.counters) (λ d. not (counter s d).due) c all lt))
+
+-- ---- a state in which a period may begin
+
+-- No task of at least the static priority of h is due but h, where that is to be entered once; none is Ready, and no counter is due.
+pub record Calm (config : Config) (h : ℕ) (once : Bool) (s : System) : Type 0 where
+  pub not_due_but : (t : ℕ) → t < length config.tasks → is_over config h t ≡ true → (once && (t == h)) ≡ false → is_due s t ≡ false
+  pub not_ready : (t : ℕ) → t < length config.tasks → is_over config h t ≡ true → is_ready (task s t).state ≡ false
+  pub counters : (c : ℕ) → c < length config.counters → due_count c s ≡ 0
+
+pub quiet_calm : (config : Config) (h : ℕ) (once : Bool) (s : System) → is_quiet config h s ≡ true → Calm config h once s
+quiet_calm config h once s quiet = record {
+  not_due_but = λ t lt over other. not_due config h s quiet t lt over;
+  not_ready = λ t lt over. (or_parts (is_ready (task s t).state) (is_active (task s t).state) (not_due config h s quiet t lt over)).0;
+  counters = quiet_counter config h s quiet;
+}
+
+pub leaving_calm : (config : Config) (h : ℕ) (s : System) → is_quiet_but config h s ≡ true → IsActive s h → Calm config h true s
+leaving_calm config h s alone active = record {
+  not_due_but = away;
+  not_ready = λ t lt over. by t lt over (cases_eq t h);
+  counters = λ c lt.
+      let all = (and_parts (all_below (length config.tasks) (λ u. not (is_over config h u && (not (u == h) && is_due s u)))) (no_ticks config s) alone).1 in
+      ap {B = ℕ} (λ b. cond b 1 0) (not-true _ (at_each (length config.counters) (λ d. not (counter s d).due) c all lt));
+}
+  where
+    away : (t : ℕ) → t < length config.tasks → is_over config h t ≡ true → (true && (t == h)) ≡ false → is_due s t ≡ false
+    away t lt over other =
+        let all = (and_parts (all_below (length config.tasks) (λ u. not (is_over config h u && (not (u == h) && is_due s u)))) (no_ticks config s) alone).0 in
+        let here = not-true _ (at_each (length config.tasks) (λ u. not (is_over config h u && (not (u == h) && is_due s u))) t all lt) in
+        sym (ap (λ b. b && (not (t == h) && is_due s t)) over ∙ ap (λ b. not b && is_due s t) other) ∙ here
+
+    by : (t : ℕ) → t < length config.tasks → is_over config h t ≡ true → (t ≡ h) ⊎ (t ≡ h → ⊥) → is_ready (task s t).state ≡ false
+    by t lt over (inl e) = ap (λ (u : ℕ). is_ready (task s u).state) e ∙ ap is_ready active
+    by t lt over (inr n) = (or_parts (is_ready (task s t).state) (is_active (task s t).state) (away t lt over (ne_eqb t h n))).0
+
+module _ (config : Config) (h : ℕ) (once : Bool) (s : System) (calm : Calm config h once s) where
+  calm_ready : (again : Bool) (t : ℕ) → t < length config.tasks → is_over config h t ≡ true → ready_count again t s ≡ 0
+  calm_ready again t lt over = ap {B = ℕ} (λ b. cond (b && as_said again (has_frames (task s t).frames)) 1 0) (calm.not_ready t lt over)
+
+  calm_inactive : (t : ℕ) → t < length config.tasks → is_over config h t ≡ true → (once && (t == h)) ≡ false → IsActive s t → ⊥
+  calm_inactive t lt over other active =
+      let none = (or_parts (is_ready (task s t).state) (is_active (task s t).state) (calm.not_due_but t lt over other)).1 in
+      true≢false (sym (ap is_active active) ∙ none)
 
 -- ---- sums of all parts
 
@@ -168,16 +203,16 @@ none_begins config app k x known rests = by (begins_next true k x) refl
     by false none = omega arith
 
 -- what comes in from outside, the first stage included
-pub record Counted (config : Config) (h : ℕ) (start : Start) (q : List Stage) : Type 0 where
+pub record Counted (config : Config) (h : ℕ) (once : Bool) (start : Start) (q : List Stage) : Type 0 where
   pub arrivals : (line : ℕ) → count (at_admission line) q ≤ start.inflow.arrivals line
   pub alarm_acts : (c j : ℕ) → count (at_tick c) q ≤ start.inflow.arrivals (counter_line c) → total_where (at_tick c) (activated j) q ≤ start.inflow.alarm_acts c j
   pub alarm_sets : (c j : ℕ) → count (at_tick c) q ≤ start.inflow.arrivals (counter_line c) → total_where (at_tick c) (was_set j) q ≤ start.inflow.alarm_sets c j
-  pub acts : (j : ℕ) → is_over config h j ≡ true → total_where (is_other config h) (activated j) q ≤ start.inflow.acts j
-  pub sets : (j : ℕ) → is_over config h j ≡ true → total_where (is_other config h) (was_set j) q ≤ start.inflow.sets j
+  pub acts : (j : ℕ) → is_over config h j ≡ true → total_where (is_other config h) (activated j) q + left_over once h (activated j) q ≤ start.inflow.acts j
+  pub sets : (j : ℕ) → is_over config h j ≡ true → total_where (is_other config h) (was_set j) q + left_over once h (was_set j) q ≤ start.inflow.sets j
 
 module _ (config : Config) (app : App) (h : ℕ) (cuts : ℕ → Bool) (costs : Costs) (run : List Stage) (bounds : BoundsRounds config h cuts costs run)
-    (opening : System) (linked : Linked 0 opening run) (known : AllByRecursion (Known config app) run) (start : Start)
-    (enough : IsEnough config h costs start) where
+    (w : Facts config app) (opening : System) (linked : Linked 0 opening run) (known : AllByRecursion (Known config app) run) (start : Start)
+    (once : Bool) (whole : once ≡ true → cuts h ≡ false) (enough : IsEnough config h once costs start) where
   -- a part of the run
   part_linked : (before q behind : List Stage) → run ≡ before ++ (q ++ behind) → Linked (last_end 0 before) (last_state opening before) q
   part_linked before q behind is =
@@ -190,15 +225,15 @@ module _ (config : Config) (app : App) (h : ℕ) (cuts : ℕ → Bool) (costs : 
 
   -- what holds of the rounds begun in these stages
   pub record AreFew (xs : List Stage) : Type 0 where
-    pub acts : (j : ℕ) → j < length config.tasks → is_over config h j ≡ true → total (activated j) xs ≤ start.firsts j
-    pub sets : (j : ℕ) → j < length config.tasks → is_over config h j ≡ true → total (was_set j) xs ≤ start.nexts j
+    pub acts : (j : ℕ) → j < length config.tasks → is_over config h j ≡ true → total (activated j) xs ≤ acts_due config h costs start j
+    pub sets : (j : ℕ) → j < length config.tasks → is_over config h j ≡ true → total (was_set j) xs ≤ sets_due config h costs start j
 
   -- behind the stages `front` of a busy period comes stage x; the rounds that begin with x are no more than was made in front of it
-  module _ (at : ℕ) (s : System) (quiet : is_quiet config h s ≡ true) (front : List Stage) (x : Stage) (before behind : List Stage)
+  module _ (at : ℕ) (s : System) (calm : Calm config h once s) (front : List Stage) (x : Stage) (before behind : List Stage)
       (part : run ≡ before ++ ((front ++ x ∷ []) ++ behind)) (links : Linked at s (front ++ x ∷ [])) (few : AreFew front)
       (settings : (k : ℕ) → k < length config.tasks → is_over config h k ≡ true → cuts k ≡ true
       → count (begins_next true k) (front ++ x ∷ []) ≤ total (was_set k) front)
-      (counted : Counted config h start (front ++ x ∷ [])) where
+      (entered : once ≡ true → count (at_entry h) (front ++ x ∷ []) ≤ 1) (counted : Counted config h once start (front ++ x ∷ [])) where
     abbrev q : List Stage
     q = front ++ x ∷ []
 
@@ -208,99 +243,168 @@ module _ (config : Config) (app : App) (h : ℕ) (cuts : ℕ → Bool) (costs : 
     declared : AllByRecursion (λ y. IsDeclared config y.stamped.event) q
     declared = each_so (Known config app) (λ y. IsDeclared config y.stamped.event) (λ y k. declared_by_step config app y.stamped.event y.found y.next k.step) q ks
 
-    firsts : (k : ℕ) → k < length config.tasks → is_over config h k ≡ true → count (begins_first k) q ≤ start.firsts k
+    firsts : (k : ℕ) → k < length config.tasks → is_over config h k ≡ true → count (begins_first k) q ≤ acts_due config h costs start k
     firsts k lt over =
         let le = entries_few config app false k at s front x links ks in
-        let none = quiet_ready config h s quiet false k lt over in
+        let none = calm_ready config h once s calm false k lt over in
         let most = few.acts k lt over in
         omega (arith, le, none, most)
 
-    nexts : (k : ℕ) → k < length config.tasks → is_over config h k ≡ true → count (begins_next (cuts k) k) q ≤ start.nexts k
+    nexts : (k : ℕ) → k < length config.tasks → is_over config h k ≡ true → count (begins_next (cuts k) k) q ≤ sets_due config h costs start k
     nexts k lt over = by (cuts k) refl
       where
-        most : total (was_set k) front ≤ start.nexts k
+        most : total (was_set k) front ≤ sets_due config h costs start k
         most = few.sets k lt over
 
-        by : (b : Bool) → cuts k ≡ b → count (begins_next b k) q ≤ start.nexts k
+        by : (b : Bool) → cuts k ≡ b → count (begins_next b k) q ≤ sets_due config h costs start k
         by true is = let le = settings k lt over is in let fits = most in omega (arith, le, fits)
         by false is =
             let le = entries_few config app true k at s front x links ks in
-            let none = quiet_ready config h s quiet true k lt over in
+            let none = calm_ready config h once s calm true k lt over in
             let sets = made_is_set k front in
-            let whole = uncut k q in
+            let whole_q = uncut k q in
             let fits = most in
-            omega (arith, le, none, sets, whole, fits)
+            omega (arith, le, none, sets, whole_q, fits)
+
+    -- where h is entered once, both kinds of its rounds together
+    both_kinds : (xs : List Stage) → count (begins_first h) xs + count (begins_next false h) xs ≤ count (at_entry h) xs
+    both_kinds [] = omega arith
+    both_kinds (y ∷ ys) = let rest = both_kinds ys in let here = by (at_entry h y) (has_frames (task y.found h).frames) in omega (arith, rest, here)
+      where
+        by : (a f : Bool) → cond (a && not f) 1 0 + cond ((a && f) || false) 1 0 ≤ cond a 1 0
+        by true true = omega arith
+        by true false = omega arith
+        by false f = omega arith
+
+    rounds_once : once ≡ true → h < length config.tasks → is_over config h h ≡ true → count (begins_first h) q + count (begins_next (cuts h) h) q ≤ start.firsts h
+    rounds_once is lt over =
+        let first = firsts h lt over in
+        let next = nexts h lt over in
+        let one = entered is in
+        let both = both_kinds q in
+        let same = ap (λ b. count (begins_next b h) q) (whole is) in
+        let most = (enough.entered is).number in
+        omega (arith, first, next, one, both, same, most)
 
     ticks : (c : ℕ) → c < length config.counters → count (at_tick c) q ≤ start.inflow.arrivals (counter_line c)
     ticks c lt =
         let le = ticks_balance config app c at s q links ks in
-        let none = quiet_counter config h s quiet c lt in
+        let none = calm.counters c lt in
         let most = counted.arrivals (counter_line c) in
         omega (arith, le, none, most)
 
-    -- what the rounds of a task come to
+    -- What the rounds of a task come to, that of h with the rest of a turn of it. The part is q, or a part of it with no more of the rounds.
     rounds : (f : Stage → ℕ) (most more k : ℕ) → k < length config.tasks → is_over config h k ≡ true → EachFirst run (cuts k) k f most → EachNext run (cuts k) k f more
-        → total (by_task (cuts k) k f) q ≤ start.firsts k * most + start.nexts k * more
-    rounds f most more k lt over each again =
-        let le = rounds_of (cuts k) k f run most more each again before q behind part in
-        let none = no_round (cuts k) k f config app at s q links ks (quiet_inactive config h s quiet k lt over) in
-        let a = product_grows (count (begins_first k) q) (start.firsts k) most (firsts k lt over) in
-        let b = product_grows (count (begins_next (cuts k) k) q) (start.nexts k) more (nexts k lt over) in
-        omega (arith, le, none, a, b)
+        → (k ≡ h → once ≡ true → more ≡ most)
+        → (ahead p further : List Stage) → run ≡ ahead ++ (p ++ further) → count (begins_first k) p ≤ count (begins_first k) q
+        → count (begins_next (cuts k) k) p ≤ count (begins_next (cuts k) k) q
+        → ((once && (k == h)) ≡ false → total (if_turn k f) (round_behind (cuts k) k p) ≤ 0)
+        → total (by_task (cuts k) k f) p ≤ cond (k == h) (left_over once h f p) 0 + (start.firsts k * most + start.nexts k * more)
+    rounds f most more k lt over each again same ahead p further is fewer_first fewer_next none = by (once && (k == h)) refl
+      where
+        le : total (by_task (cuts k) k f) p
+            ≤ total (if_turn k f) (round_behind (cuts k) k p) + (count (begins_first k) p * most + count (begins_next (cuts k) k) p * more)
+        le = rounds_of (cuts k) k f run most more each again ahead p further is
+
+        by : (b : Bool) → (once && (k == h)) ≡ b → total (by_task (cuts k) k f) p ≤ cond (k == h) (left_over once h f p) 0 + (start.firsts k * most + start.nexts k * more)
+        by false other =
+            let rest = none other in
+            let first = firsts k lt over in
+            let next = nexts k lt over in
+            let a = product_grows (count (begins_first k) p) (start.firsts k) most
+            (let fits = enough.firsts k lt over other in omega (arith, fewer_first, first, fits)) in
+            let b = product_grows (count (begins_next (cuts k) k) p) (start.nexts k) more
+            (let fits = enough.nexts k lt over other in omega (arith, fewer_next, next, fits)) in
+            let all = le in
+            omega (arith, all, rest, a, b)
+        by true own =
+            let both = and_parts once (k == h) own in
+            let e = eqb-true k h both.1 in
+            let P : ℕ → Type 0 = λ u. count (begins_first u) q + count (begins_next (cuts u) u) q ≤ start.firsts u in
+            let number = subst P (sym e) (rounds_once both.0 (subst (λ u. u < length config.tasks) e lt) (subst (λ u. is_over config h u ≡ true) e over)) in
+            let Q : ℕ → Type 0 = λ u. total (if_turn u f) (round_behind (cuts u) u p) ≤ left_over once h f p in
+            let over_left = subst Q (sym e) (left both.0) in
+            let here = ap {B = ℕ} (λ b. cond b (left_over once h f p) 0) both.1 in
+            let equal = ap (λ m. count (begins_next (cuts k) k) p * m) (same e both.0) in
+            let sum = add-mul (count (begins_first k) p) (count (begins_next (cuts k) k) p) most in
+            let grown = product_grows (count (begins_first k) p + count (begins_next (cuts k) k) p) (start.firsts k) most (omega (arith, fewer_first, fewer_next, number)) in
+            let all = le in
+            omega (arith, all, over_left, here, equal, sum, grown)
+          where
+            left : once ≡ true → total (if_turn h f) (round_behind (cuts h) h p) ≤ left_over once h f p
+            left is =
+                let on = ap {B = ℕ} (λ b. cond b (total (if_turn h f) (round_behind false h p)) 0) is in
+                let cut = ap (λ b. total (if_turn h f) (round_behind b h p)) (whole is) in
+                omega (arith, on, cut)
+
+    -- of all stages
+    rounds_here : (f : Stage → ℕ) (most more k : ℕ) → k < length config.tasks → is_over config h k ≡ true → EachFirst run (cuts k) k f most → EachNext run (cuts k) k f more
+        → (k ≡ h → once ≡ true → more ≡ most)
+        → total (by_task (cuts k) k f) q ≤ cond (k == h) (left_over once h f q) 0 + (start.firsts k * most + start.nexts k * more)
+    rounds_here f most more k lt over each again same =
+        rounds f most more k lt over each again same before q behind part (omega arith) (omega arith)
+        (λ other. no_round (cuts k) k f config app at s q links ks (calm_inactive config h once s calm k lt over other))
 
     split : (f : Stage → ℕ) (k : ℕ) (xs : List Stage) → total_where (at_entry k) f xs + total_where (in_turn k) f xs ≤ total (by_task (cuts k) k f) xs
     split f k [] = omega arith
     split f k (y ∷ ys) = let rest = split f k ys in omega (arith, rest)
 
-    acts_step : (j : ℕ) → j < length config.tasks → is_over config h j ≡ true → total (activated j) q ≤ start.firsts j
+    -- what entries and turns of all tasks come to
+    turns_of : (f : Stage → ℕ) (first next : ℕ → ℕ) → ((k : ℕ) → k < length config.tasks → is_over config h k ≡ true → EachFirst run (cuts k) k f (first k))
+        → ((k : ℕ) → k < length config.tasks → is_over config h k ≡ true → EachNext run (cuts k) k f (next k)) → (once ≡ true → next h ≡ first h)
+        → sum_over config h (λ k. total_where (at_entry k) f q + total_where (in_turn k) f q)
+        ≤ left_over once h f q + sum_over config h (λ k. start.firsts k * first k + start.nexts k * next k)
+    turns_of f first next each again same =
+        let le = sum_over-le config h (λ k. total_where (at_entry k) f q + total_where (in_turn k) f q)
+        (λ k. cond (k == h) (left_over once h f q) 0 + (start.firsts k * first k + start.nexts k * next k))
+        (λ k there above.
+        let le = rounds_here f (first k) (next k) k there above (each k there above) (again k there above)
+        (λ e is. let P : ℕ → Type 0 = λ u. next u ≡ first u in subst P (sym e) (same is)) in
+        let parts = split f k q in
+        omega (arith, le, parts)) in
+        let once_more = sum_over-once config h (left_over once h f q) (λ k. start.firsts k * first k + start.nexts k * next k) in
+        omega (arith, le, once_more)
+
+    acts_step : (j : ℕ) → j < length config.tasks → is_over config h j ≡ true → total (activated j) q ≤ acts_due config h costs start j
     acts_step j lt over =
-        let whole = all_attributed config h (activated j) q declared in
+        let parts_all = all_attributed config h (activated j) q declared in
         let other = counted.acts j over in
         let admits = total-le (λ y. cond (is_admit y.stamped) (activated j y) 0) (λ y. cond (at_admission j y) 1 0) q
         (each_so (Known config app) (λ y. cond (is_admit y.stamped) (activated j y) 0 ≤ cond (at_admission j y) 1 0) (acts_by_admission config app j) q ks) in
         let arrived = counted.arrivals j in
         let alarms = sum_below-le (length config.counters) (λ c. total_where (at_tick c) (activated j) q) (λ c. start.inflow.alarm_acts c j)
         (λ c lt. counted.alarm_acts c j (ticks c lt)) in
-        let turns = sum_over-le config h (λ k. total_where (at_entry k) (activated j) q + total_where (in_turn k) (activated j) q)
-        (λ k. start.firsts k * costs.first_acts k j + start.nexts k * costs.next_acts k j)
-        (λ k there above.
-        let le = rounds (activated j) (costs.first_acts k j) (costs.next_acts k j) k there above (bounds.first_acts k j there above) (bounds.next_acts k j there above) in
-        let parts = split (activated j) k q in
-        omega (arith, le, parts)) in
-        let most = enough.firsts j lt over in
-        omega (arith, whole, other, admits, arrived, alarms, turns, most)
+        let turns = turns_of (activated j) (λ k. costs.first_acts k j) (λ k. costs.next_acts k j) (λ k. bounds.first_acts k j) (λ k. bounds.next_acts k j)
+        (λ is. (enough.entered is).acts j) in
+        omega (arith, parts_all, other, admits, arrived, alarms, turns)
 
-    sets_step : (j : ℕ) → j < length config.tasks → is_over config h j ≡ true → total (was_set j) q ≤ start.nexts j
+    sets_step : (j : ℕ) → j < length config.tasks → is_over config h j ≡ true → total (was_set j) q ≤ sets_due config h costs start j
     sets_step j lt over =
-        let whole = all_attributed config h (was_set j) q declared in
+        let parts_all = all_attributed config h (was_set j) q declared in
         let other = counted.sets j over in
         let admits = total-none (λ y. cond (is_admit y.stamped) (was_set j y) 0) q
         (each_so (Known config app) (λ y. cond (is_admit y.stamped) (was_set j y) 0 ≤ 0) (sets_by_admission config app j) q ks) in
         let alarms = sum_below-le (length config.counters) (λ c. total_where (at_tick c) (was_set j) q) (λ c. start.inflow.alarm_sets c j)
         (λ c lt. counted.alarm_sets c j (ticks c lt)) in
-        let turns = sum_over-le config h (λ k. total_where (at_entry k) (was_set j) q + total_where (in_turn k) (was_set j) q)
-        (λ k. start.firsts k * costs.first_sets k j + start.nexts k * costs.next_sets k j)
-        (λ k there above.
-        let le = rounds (was_set j) (costs.first_sets k j) (costs.next_sets k j) k there above (bounds.first_sets k j there above) (bounds.next_sets k j there above) in
-        let parts = split (was_set j) k q in
-        omega (arith, le, parts)) in
-        let most = enough.nexts j lt over in
-        omega (arith, whole, other, admits, alarms, turns, most)
+        let turns = turns_of (was_set j) (λ k. costs.first_sets k j) (λ k. costs.next_sets k j) (λ k. bounds.first_sets k j) (λ k. bounds.next_sets k j)
+        (λ is. (enough.entered is).sets j) in
+        omega (arith, parts_all, other, admits, alarms, turns)
 
     pub few_step : AreFew q
     few_step = record { acts = acts_step; sets = sets_step }
 
     -- the events behind the first
-    pub counts_step : (first : Stage) (period : List Stage) → q ≡ first ∷ period → total_where (is_other config h) charged period ≤ start.inflow.front
+    pub counts_step : (first : Stage) (period : List Stage) → q ≡ first ∷ period → total_where (is_other config h) charged period + left_over once h charged period ≤ start.inflow.front
         → total charged period ≤ start.counts
     counts_step first period is blocking =
-        let whole = all_attributed config h charged period (each_of (λ y. IsDeclared config y.stamped.event) declared) in
+        let parts_all = all_attributed config h charged period (each_of (λ y. IsDeclared config y.stamped.event) declared) in
         let none = total-none (λ y. cond (is_admit y.stamped) (charged y) 0) period (each_stage (λ y. cond (is_admit y.stamped) (charged y) 0 ≤ 0) admits_charge period) in
         let turns = sum_over-le config h (λ k. total_where (at_entry k) charged period + total_where (in_turn k) charged period)
-        (λ k. start.firsts k * costs.first k + start.nexts k * costs.next k) by_turn in
+        (λ k. cond (k == h) (left_over once h charged period) 0 + (start.firsts k * costs.first k + start.nexts k * costs.next k)) by_turn in
+        let once_more = sum_over-once config h (left_over once h charged period) (λ k. start.firsts k * costs.first k + start.nexts k * costs.next k) in
         let by_ticks = sum_below-le (length config.counters) (λ c. total_where (at_tick c) charged period) (λ c. start.inflow.arrivals (counter_line c) * costs.tick c) by_tick in
         let most = enough.enough in
-        omega (arith, whole, none, blocking, turns, by_ticks, most)
+        omega (arith, parts_all, none, blocking, turns, once_more, by_ticks, most)
       where
         each_of : (P : Stage → Type 0) → AllByRecursion P q → AllByRecursion P period
         each_of P each = (subst (AllByRecursion P) is each).1
@@ -308,13 +412,42 @@ module _ (config : Config) (app : App) (h : ℕ) (cuts : ℕ → Bool) (costs : 
         fewer : (f : Stage → ℕ) → total f period ≤ total f q
         fewer f = let same = ap (total f) is in omega (arith, same)
 
+        -- the rest of a round in which they begin is none, or that of all stages
         by_turn : (k : ℕ) → k < length config.tasks → is_over config h k ≡ true
-            → total_where (at_entry k) charged period + total_where (in_turn k) charged period ≤ start.firsts k * costs.first k + start.nexts k * costs.next k
-        by_turn k there above =
-            let le = rounds charged (costs.first k) (costs.next k) k there above (bounds.firsts k there above) (bounds.nexts k there above) in
-            let parts = split charged k period in
-            let some = fewer (by_task (cuts k) k charged) in
-            omega (arith, le, parts, some)
+            → total_where (at_entry k) charged period + total_where (in_turn k) charged period
+            ≤ cond (k == h) (left_over once h charged period) 0 + (start.firsts k * costs.first k + start.nexts k * costs.next k)
+        by_turn k there above = which (once && (k == h)) refl
+          where
+            parts : total_where (at_entry k) charged period + total_where (in_turn k) charged period ≤ total (by_task (cuts k) k charged) period
+            parts = split charged k period
+
+            same : k ≡ h → once ≡ true → costs.next k ≡ costs.first k
+            same e is = let P : ℕ → Type 0 = λ u. costs.next u ≡ costs.first u in subst P (sym e) (enough.entered is).cost
+
+            no_left : (k : ℕ) → (once && (k == h)) ≡ false → cond (k == h) (left_over once h charged q) 0 ≤ 0
+            no_left k other = by once (k == h) other
+              where
+                by : (o e : Bool) → (o && e) ≡ false → cond e (cond o (total (if_turn h charged) (round_behind false h q)) 0) 0 ≤ 0
+                by true true off = absurd (true≢false off)
+                by true false off = omega arith
+                by false true off = omega arith
+                by false false off = omega arith
+
+            which : (b : Bool) → (once && (k == h)) ≡ b
+                → total_where (at_entry k) charged period + total_where (in_turn k) charged period
+                ≤ cond (k == h) (left_over once h charged period) 0 + (start.firsts k * costs.first k + start.nexts k * costs.next k)
+            which true own =
+                let le = rounds charged (costs.first k) (costs.next k) k there above (bounds.firsts k there above) (bounds.nexts k there above) same (before ++ first ∷ []) period behind
+                (part ∙ ap (λ zs. before ++ (zs ++ behind)) is ∙ sym (append_assoc before (first ∷ []) (period ++ behind)))
+                (fewer (λ y. cond (begins_first k y) 1 0)) (fewer (λ y. cond (begins_next (cuts k) k y) 1 0)) (λ off. absurd (true≢false (sym own ∙ off))) in
+                let most = parts in
+                omega (arith, le, most)
+            which false other =
+                let le = rounds_here charged (costs.first k) (costs.next k) k there above (bounds.firsts k there above) (bounds.nexts k there above) same in
+                let none = no_left k other in
+                let some = fewer (by_task (cuts k) k charged) in
+                let most = parts in
+                omega (arith, le, none, some, most)
 
         by_tick : (c : ℕ) → c < length config.counters → total_where (at_tick c) charged period ≤ start.inflow.arrivals (counter_line c) * costs.tick c
         by_tick c there =
@@ -327,42 +460,70 @@ module _ (config : Config) (app : App) (h : ℕ) (cuts : ℕ → Bool) (costs : 
 
   -- ---- the period, event by event
 
-  module _ (before : List Stage) (first : Stage) (quiet : is_quiet config h first.found ≡ true) (whole rest_of_run : List Stage)
-      (whole_part : run ≡ before ++ ((first ∷ whole) ++ rest_of_run)) (starts : StartsSo config h start first whole) where
+  module _ (before : List Stage) (first : Stage) (calm : Calm config h once first.found) (all rest_of_run : List Stage)
+      (whole_part : run ≡ before ++ ((first ∷ all) ++ rest_of_run)) (starts : StartsSo config h once start first all)
+      (leaves_once : once ≡ true → LeavesOnce h first all) where
     -- what holds behind these events of the period
     pub record Holds (period : List Stage) : Type 0 where
       pub few : AreFew (first ∷ period)
       pub ends : last_end (end_of first) period ≤ end_of first + start.counts
       pub begins : AllByRecursion (BeginsWithin start.counts first) period
 
-    counted_by : (period : List Stage) → IsWithinInflow config h start.inflow first period → Counted config h start (first ∷ period)
+    counted_by : (period : List Stage) → IsWithinInflow config h once start.inflow first period → Counted config h once start (first ∷ period)
     counted_by period b = record { arrivals = b.arrivals; alarm_acts = b.alarm_acts; alarm_sets = b.alarm_sets; acts = b.acts; sets = b.sets }
 
-    part_of : (period rest : List Stage) → whole ≡ period ++ rest → run ≡ before ++ ((first ∷ period) ++ (rest ++ rest_of_run))
+    part_of : (period rest : List Stage) → all ≡ period ++ rest → run ≡ before ++ ((first ∷ period) ++ (rest ++ rest_of_run))
     part_of period rest is =
         whole_part ∙ ap (λ zs. before ++ first ∷ (zs ++ rest_of_run)) is ∙ ap (λ zs. before ++ first ∷ zs) (append_assoc period rest rest_of_run)
 
-    links_of : (period rest : List Stage) → whole ≡ period ++ rest → Linked first.start first.found (first ∷ period)
+    links_of : (period rest : List Stage) → all ≡ period ++ rest → Linked first.start first.found (first ∷ period)
     links_of period rest is = (refl, refl, (part_linked before (first ∷ period) (rest ++ rest_of_run) (part_of period rest is)).2)
+
+    -- where turns are cut, the task is not h, or h is not entered once
+    cut_apart : (k : ℕ) → cuts k ≡ true → (once && (k == h)) ≡ false
+    cut_apart k is = by (once && (k == h)) refl
+      where
+        by : (b : Bool) → (once && (k == h)) ≡ b → b ≡ false
+        by false e = refl
+        by true e =
+            let both = and_parts once (k == h) e in
+            absurd (true≢false (sym is ∙ subst (λ u. cuts u ≡ false) (sym (eqb-true k h both.1)) (whole both.0)))
+
+    -- h is entered once
+    entries : (front rest : List Stage) (x : Stage) → first ∷ all ≡ front ++ x ∷ rest → once ≡ true → count (at_entry h) (front ++ x ∷ []) ≤ 1
+    entries front rest x is on =
+        let ahead : first ∷ all ≡ (front ++ x ∷ []) ++ rest = is ∙ sym (append_assoc front (x ∷ []) rest) in
+        let there : run ≡ before ++ ((front ++ x ∷ []) ++ (rest ++ rest_of_run)) =
+        whole_part ∙ ap (λ zs. before ++ (zs ++ rest_of_run)) ahead ∙ ap (λ zs. before ++ zs) (append_assoc (front ++ x ∷ []) rest rest_of_run) in
+        let found = first_found front is in
+        let links = part_linked before (front ++ x ∷ []) (rest ++ rest_of_run) there in
+        entered_once config app w h (last_end 0 before) (last_state opening before) front x links
+        (part_each (Known config app) known before (front ++ x ∷ []) (rest ++ rest_of_run) there)
+        (let few = leaves_once on front rest x is in let same = ap {B = ℕ} (λ (y : System). cond (is_active (task y h).state) 1 0) found in omega (arith, few, same))
+      where
+        first_found : (front : List Stage) → first ∷ all ≡ front ++ x ∷ rest → first.found ≡ last_state opening before
+        first_found front is =
+            (part_linked before (first ∷ all) rest_of_run whole_part).1
 
     begin : Holds []
     begin = record {
-      few = few_step first.start first.found quiet [] first before (whole ++ rest_of_run) (part_of [] whole refl) (links_of [] whole refl)
+      few = few_step first.start first.found calm [] first before (all ++ rest_of_run) (part_of [] all refl) (links_of [] all refl)
           (record { acts = λ k lt over. omega arith; sets = λ k lt over. omega arith }) (λ k lt over is.
-          none_begins config app k first (part_each (Known config app) known before (first ∷ []) (whole ++ rest_of_run) (part_of [] whole refl)).0
-          (not_due config h first.found quiet k lt over))
-          (counted_by [] (starts [] whole refl tt));
+          none_begins config app k first (part_each (Known config app) known before (first ∷ []) (all ++ rest_of_run) (part_of [] all refl)).0
+          (calm.not_due_but k lt over (cut_apart k is)))
+          (entries [] all first refl) (counted_by [] (starts [] all refl tt));
       ends = omega arith;
       begins = tt;
     }
 
-    step : (period rest : List Stage) (x : Stage) → whole ≡ (period ++ x ∷ []) ++ rest → Holds period → Holds (period ++ x ∷ [])
+    step : (period rest : List Stage) (x : Stage) → all ≡ (period ++ x ∷ []) ++ rest → Holds period → Holds (period ++ x ∷ [])
     step period rest x is holds = record {
-      few = few_step first.start first.found quiet (first ∷ period) x before (rest ++ rest_of_run) part links holds.few settings (counted_by (period ++ x ∷ []) b);
+      few = few_step first.start first.found calm (first ∷ period) x before (rest ++ rest_of_run) part links holds.few settings
+          (entries (first ∷ period) rest x (ap (λ zs. first ∷ zs) (is ∙ append_assoc period (x ∷ []) rest))) (counted_by (period ++ x ∷ []) b);
       ends =
           let le = last_within (end_of first) first.next (period ++ x ∷ []) links.2 in
-          let few = counts_step first.start first.found quiet (first ∷ period) x before (rest ++ rest_of_run) part links holds.few settings
-          (counted_by (period ++ x ∷ []) b) first (period ++ x ∷ []) refl b.front in
+          let few = counts_step first.start first.found calm (first ∷ period) x before (rest ++ rest_of_run) part links holds.few settings
+          (entries (first ∷ period) rest x (ap (λ zs. first ∷ zs) (is ∙ append_assoc period (x ∷ []) rest))) (counted_by (period ++ x ∷ []) b) first (period ++ x ∷ []) refl b.front in
           omega (arith, le, few);
       begins = begins;
     }
@@ -376,7 +537,7 @@ module _ (config : Config) (app : App) (h : ℕ) (cuts : ℕ → Bool) (costs : 
         settings : (k : ℕ) → k < length config.tasks → is_over config h k ≡ true → cuts k ≡ true
             → count (begins_next true k) ((first ∷ period) ++ x ∷ []) ≤ total (was_set k) (first ∷ period)
         settings k lt over cut =
-            bounds.settings k lt over cut before period (rest ++ rest_of_run) first x part (not_due config h first.found quiet k lt over)
+            bounds.settings k lt over cut before period (rest ++ rest_of_run) first x part (calm.not_due_but k lt over (cut_apart k cut))
 
         begins : AllByRecursion (BeginsWithin start.counts first) (period ++ x ∷ [])
         begins =
@@ -384,15 +545,15 @@ module _ (config : Config) (app : App) (h : ℕ) (cuts : ℕ → Bool) (costs : 
             let le = holds.ends in
             each_joined (BeginsWithin start.counts first) period (x ∷ []) holds.begins (omega (arith, here, le), tt)
 
-        b : IsWithinInflow config h start.inflow first (period ++ x ∷ [])
+        b : IsWithinInflow config h once start.inflow first (period ++ x ∷ [])
         b = starts (period ++ x ∷ []) rest is begins
 
-    go : (period rest : List Stage) → whole ≡ period ++ rest → Holds period → Holds whole
+    go : (period rest : List Stage) → all ≡ period ++ rest → Holds period → Holds all
     go period [] is holds = subst Holds (sym (is ∙ append-nil period)) holds
     go period (x ∷ rest) is holds =
-        let next : whole ≡ (period ++ x ∷ []) ++ rest = is ∙ sym (append_assoc period (x ∷ []) rest) in
+        let next : all ≡ (period ++ x ∷ []) ++ rest = is ∙ sym (append_assoc period (x ∷ []) rest) in
         go (period ++ x ∷ []) rest next (step period rest x next holds)
 
     -- the period ends within what is enough, and its rounds are no more than their numbers
-    pub period_holds : Holds whole
-    period_holds = go [] whole refl begin
+    pub period_holds : Holds all
+    period_holds = go [] all refl begin

@@ -1,5 +1,5 @@
 -- A task responds within the longest of the starts in which it has a round, and an event.
-use Rattle.std.proofs.Common.{◌≡◌, ℕ, suc, ◌+◌, ◌<◌, ◌≤◌, ◌⊎◌, ◌&&◌, ◌||◌, not, List, [], ◌∷◌, ◌++◌, Bool, true, false, cond, length, refl, sym, ap, ◌∙◌, subst, arith, inl, inr, append_assoc, append-nil}
+use Rattle.std.proofs.Common.{◌≡◌, ℕ, suc, ◌+◌, ◌<◌, ◌≤◌, ◌⊎◌, ◌&&◌, ◌||◌, not, List, [], ◌∷◌, ◌++◌, Bool, true, false, cond, length, refl, sym, ap, ◌∙◌, subst, arith, inl, inr, append_assoc, append-nil, ◌==◌}
 use Rattle.std.specs.Prelude.{AllPairs, slice_index_or, is_some}
 use Rattle.sloth_base.specs.Events.{admitted_line}
 use Rattle.osek_scheduler.specs.Steps.{OsekStep}
@@ -28,16 +28,18 @@ use Rattle.raised_sections.specs.Pace.{last_count}
 use Rattle.run_counts.specs.Stages.{Stage, state_behind, stage, stages, run_stages, end_of}
 use Rattle.run_counts.specs.Rounds.{is_left, total}
 use Rattle.event_weights.specs.Events.{has_frames}
+use Rattle.response_laws.specs.Sums.{count}
 use Rattle.response_laws.specs.Turns.{as_said, is_ready_for, is_made, has_grown, activated, was_set}
-use Rattle.response_laws.specs.Busy.{is_quiet}
-use Rattle.response_laws.specs.Demand.{Costs, Start, IsEnough}
+use Rattle.response_laws.specs.Busy.{is_quiet, LeavesFirst, IsLeaving, LeavesOnce}
+use Rattle.response_laws.specs.Demand.{Costs, Start, acts_due, sets_due, IsEnough}
 use Rattle.response_laws.specs.Bounded.{BoundsRounds, StartsInOne}
-use Rattle.response_laws.specs.Response.{LeavesBefore, HasPace, LastsWithin, RespondsInTime}
+use Rattle.response_laws.specs.Response.{LeavesBefore, HasPace, EntersOnce, LastsWithin, RespondsInTime}
 use Rattle.response_laws.proofs.Linked.{Known, last_state, last_end, each_append, each_joined, last_end-append, stages_linked, stages_known, stages-append, leads_to, behind_is}
 use Rattle.response_laws.proofs.Sums.{total-append}
-use Rattle.response_laws.proofs.Period.{period_holds}
+use Rattle.response_laws.proofs.Period.{Calm, quiet_calm, leaving_calm, period_holds}
+use Rattle.response_laws.proofs.Begun.{Begun, Scan, scanned, pending, nothing, scan}
 use Rattle.response_laws.proofs.Staying.{stays_due}
-use Rattle.response_laws.proofs.Starting.{opening_quiet, due_busy, IsBusy, Begun, begun_in, over_itself}
+use Rattle.response_laws.proofs.Starting.{opening_quiet, due_busy, IsBusy, over_itself}
 
 -- ---- what stands before an event
 
@@ -161,34 +163,56 @@ left_no_admit h e is = by e.event is
     by (event.Left t served) is = refl
     by w is = absurd (false≢true is)
 
+-- how often h leaves
+abbrev lefts : (h : ℕ) → List Stage → ℕ
+lefts h xs = count (λ x. is_left h x.stamped.event) xs
+
 -- ---- the response
 
 module _ (config : Config) (app : App) (n late more : ℕ) (arrivals : List Arrival) (events : List Stamped) (h r : ℕ) (cuts : ℕ → Bool) (costs : Costs)
-    (starts : ℕ) (start : ℕ → Start) (wf : WellFormed config app)
+    (once : Bool) (starts : ℕ) (start : ℕ → Start) (enters : once ≡ true → EntersOnce config h cuts) (wf : WellFormed config app)
     (run : OsekRun config app events) (in_time : InTime config n arrivals events) (pace : HasPace n late more events)
-    (bounds : BoundsRounds config h cuts costs (run_stages config app events)) (ways : StartsInOne config h starts start (run_stages config app events))
-    (enough : (i : ℕ) → i < starts → IsEnough config h costs (start i)) (lasts : (i : ℕ) → i < starts → LastsWithin h late r (start i)) where
+    (bounds : BoundsRounds config h cuts costs (run_stages config app events)) (ways : StartsInOne config h once starts start (run_stages config app events))
+    (enough : (i : ℕ) → i < starts → IsEnough config h once costs (start i)) (lasts : (i : ℕ) → i < starts → LastsWithin h late r (start i)) where
   whole : AreStepsTo config app events (opening config app) run.0
   whole = follows_leads config app [] (opening config app) events run.0 run.1
 
   known : AllByRecursion (Known config app) (run_stages config app events)
   known = stages_known config app (facts config app wf) 0 (opening config app) run.0 events (opening_ordered config app) (opening_valid config app) whole
 
+  -- where it is made it has a round
+  has_round : (i : ℕ) → i < starts → h < length config.tasks → 1 ≤ acts_due config h costs (start i) h + sets_due config h costs (start i) h
+      → 1 ≤ (start i).firsts h + (start i).nexts h
+  has_round i lt declared made = by (cases_Bool once)
+    where
+      by : (once ≡ true) ⊎ (once ≡ false) → 1 ≤ (start i).firsts h + (start i).nexts h
+      by (inl on) = let number = ((enough i lt).entered on).number in omega (arith, number, made)
+      by (inr off) =
+          let other = ap (λ b. b && (h == h)) off in
+          let acts = (enough i lt).firsts h declared (over_itself config h) other in
+          let sets = (enough i lt).nexts h declared (over_itself config h) other in
+          omega (arith, acts, sets, made)
+
   -- a period of the run, in which task h is made Ready, ends in time
   ends_by : (before : List Stage) (first : Stage) (period behind : List Stage) → run_stages config app events ≡ before ++ ((first ∷ period) ++ behind)
-      → is_quiet config h first.found ≡ true → AllByRecursion (IsBusy config h) period
-      → h < length config.tasks → 1 ≤ total (activated h) (first ∷ period) + total (was_set h) (first ∷ period)
+      → (is_quiet config h first.found ≡ true) ⊎ ((once ≡ true) × IsLeaving config h first period) → AllByRecursion (IsBusy config h) period
+      → (once ≡ true → LeavesOnce h first period) → h < length config.tasks → 1 ≤ total (activated h) (first ∷ period) + total (was_set h) (first ∷ period)
       → last_end (end_of first) period + late ≤ end_of first + r
-  ends_by before first period behind part quiet busy declared made =
-      let way = ways first period (record { before = before; behind = behind; part = part; quiet = quiet; busy = busy }) in
-      let holds = period_holds config app h cuts costs (run_stages config app events) bounds (opening config app)
-      (stages_linked config app 0 (opening config app) events) known (start way.0) (enough way.0 way.1) before first quiet period behind part way.2 in
+  ends_by before first period behind part begins busy low declared made =
+      let way = ways first period (record { before = before; behind = behind; part = part; begins = begins; busy = busy; leaves_once = low }) in
+      let holds = period_holds config app h cuts costs (run_stages config app events) bounds (facts config app wf) (opening config app)
+      (stages_linked config app 0 (opening config app) events) known (start way.0) once (λ on. (enters on).whole) (enough way.0 way.1) before first (calm begins) period behind
+      part way.2 low in
       let over = over_itself config h in
       let acts = holds.few.acts h declared over in
       let sets = holds.few.sets h declared over in
-      let lasting = lasts way.0 way.1 (omega (arith, acts, sets, made)) in
+      let lasting = lasts way.0 way.1 (has_round way.0 way.1 declared (omega (arith, acts, sets, made))) in
       let ends = holds.ends in
       omega (arith, lasting, ends)
+    where
+      calm : (is_quiet config h first.found ≡ true) ⊎ ((once ≡ true) × IsLeaving config h first period) → Calm config h once first.found
+      calm (inl quiet) = quiet_calm config h once first.found quiet
+      calm (inr (on, leaving)) = subst (λ b. Calm config h b first.found) (sym on) (leaving_calm config h first.found leaving.alone leaving.active)
 
   module _ (before behind : List Stamped) (made : Stamped) (found s : System) (is : events ≡ before ++ made ∷ behind)
       (leads : AreStepsTo config app before (opening config app) found) (makes : MakesReady config app h made.event found s) where
@@ -264,8 +288,11 @@ module _ (config : Config) (app : App) (n late more : ℕ) (arrivals : List Arri
             omega (arith, one)
         by false is = let one = ap {B = ℕ} (λ b. cond b 1 0) (here false (ap not is)) in omega (arith, one)
 
-    begun : Begun config h front
-    begun = by (begun_in config h front)
+    known_front : AllByRecursion (Known config app) front
+    known_front = (each_append (Known config app) front (stages config app at s behind) (subst (AllByRecursion (Known config app)) all known)).0
+
+    begun : Begun config app (facts config app wf) h cuts once enters front
+    begun = by (scan config app (facts config app wf) h cuts once enters 0 (opening config app) front (stages_linked config app 0 (opening config app) up) known_front)
       where
         never : (es : List Stamped) → es ≡ up → AllByRecursion (IsBusy config h) (stages config app 0 (opening config app) es) → ⊥
         never [] e busy = none before e
@@ -275,9 +302,10 @@ module _ (config : Config) (app : App) (n late more : ℕ) (arrivals : List Arri
             none (x ∷ xs) e = cc
         never (x ∷ es) e busy = true≢false (sym (opening_quiet config h app) ∙ busy.0)
 
-        by : AllByRecursion (IsBusy config h) front ⊎ Begun config h front → Begun config h front
-        by (inr found) = found
-        by (inl busy) = absurd (never up refl busy)
+        by : Scan config app (facts config app wf) h cuts once enters front → Begun config app (facts config app wf) h cuts once enters front
+        by (scanned found) = found
+        by (pending on busy beginning one) = absurd (never up refl busy)
+        by (nothing busy none) = absurd (never up refl busy)
 
     -- a sum over the stages from the first one on has that of the making
     has_making : (f : Stage → ℕ) → f making ≤ total f (begun.first ∷ begun.behind)
@@ -327,15 +355,15 @@ module _ (config : Config) (app : App) (n late more : ℕ) (arrivals : List Arri
 
     -- from the first event on the period goes on as long as the task does not leave
     goes_on : (period further : List Stage) → stages config app at s behind ≡ period ++ further → AllByRecursion (IsBusy config h) period
-        → last_end at period + late ≤ end_of begun.first + r
-    goes_on period further same busy =
+        → (once ≡ true → LeavesOnce h begun.first (begun.behind ++ period)) → last_end at period + late ≤ end_of begun.first + r
+    goes_on period further same busy low =
         let acts = has_making (activated h) in
         let sets = has_making (was_set h) in
         let one = makes_one in
         let more_acts = total-append (activated h) begun.behind period in
         let more_sets = total-append (was_set h) begun.behind period in
-        let here = ends_by begun.before begun.first (begun.behind ++ period) further part begun.quiet
-        (each_joined (IsBusy config h) begun.behind period begun.busy busy) makes.declared (omega (arith, acts, sets, one, more_acts, more_sets)) in
+        let here = ends_by begun.before begun.first (begun.behind ++ period) further part (begins begun.begins)
+        (each_joined (IsBusy config h) begun.behind period begun.busy busy) low makes.declared (omega (arith, acts, sets, one, more_acts, more_sets)) in
         let joined = last_end-append (end_of begun.first) begun.behind period ∙ ap (λ k. last_end k period) (sym at_is) in
         omega (arith, here, joined)
       where
@@ -344,6 +372,55 @@ module _ (config : Config) (app : App) (n late more : ℕ) (arrivals : List Arri
             all ∙ ap (λ xs. front ++ xs) same ∙ ap (λ xs. xs ++ (period ++ further)) begun.parts
             ∙ append_assoc begun.before (begun.first ∷ begun.behind) (period ++ further)
             ∙ ap (λ xs. begun.before ++ begun.first ∷ xs) (sym (append_assoc begun.behind period further))
+
+        longer : (xs : List Stage) → LeavesFirst h xs → LeavesFirst h (xs ++ period)
+        longer [] beginning = absurd beginning
+        longer (x ∷ xs) (inl is) = inl is
+        longer (x ∷ xs) (inr (admits, beginning)) = inr (admits, longer xs beginning)
+
+        begins : (is_quiet config h begun.first.found ≡ true) ⊎ ((once ≡ true) × IsLeaving config h begun.first begun.behind)
+            → (is_quiet config h begun.first.found ≡ true) ⊎ ((once ≡ true) × IsLeaving config h begun.first (begun.behind ++ period))
+        begins (inl quiet) = inl quiet
+        begins (inr (on, leaving)) =
+            inr (on, record { active = leaving.active; alone = leaving.alone; leaves = longer (begun.first ∷ begun.behind) leaving.leaves })
+
+    -- how often h leaves in parts of these
+    prefix_few : (ys : List Stage) (z : Stage) (front rest : List Stage) (last : Stage) → ys ++ z ∷ [] ≡ front ++ last ∷ rest → lefts h front ≤ lefts h ys
+    prefix_few ys z [] rest last e = omega arith
+    prefix_few [] z (f ∷ fs) rest last e = absurd (none fs (ap tail_of e))
+      where
+        tail_of : List Stage → List Stage
+        tail_of [] = []
+        tail_of (x ∷ xs) = xs
+
+        none : (fs : List Stage) → [] ≡ fs ++ last ∷ rest → ⊥
+        none [] e = cc
+        none (f ∷ fs) e = cc
+    prefix_few (y ∷ ys) z (f ∷ fs) rest last e =
+        let further = prefix_few ys z fs rest last (ap tail_of e) in
+        let same = ap first_left e in
+        omega (arith, further, same)
+      where
+        tail_of : List Stage → List Stage
+        tail_of [] = []
+        tail_of (x ∷ xs) = xs
+
+        first_left : List Stage → ℕ
+        first_left [] = 0
+        first_left (x ∷ xs) = cond (is_left h x.stamped.event) 1 0
+
+    whole_few : (front rest : List Stage) (last : Stage) (ys : List Stage) → ys ≡ front ++ last ∷ rest → lefts h front ≤ lefts h ys
+    whole_few front rest last ys e =
+        let same = ap (lefts h) e in
+        let both = total-append (λ x. cond (is_left h x.stamped.event) 1 0) front (last ∷ rest) in
+        omega (arith, same, both)
+
+    none_left : (at : ℕ) (x : System) (es : List Stamped) → AllByRecursion (λ e. is_left h e.event ≡ false) es → lefts h (stages config app at x es) ≤ 0
+    none_left at x [] none = omega arith
+    none_left at x (e ∷ es) none =
+        let here = ap {B = ℕ} (λ b. cond b 1 0) none.0 in
+        let rest = none_left (end_of (stage config app at x e)) (state_behind config app e.event x) es none.1 in
+        omega (arith, here, rest)
 
     some_events : (xs : List Stamped) → 1 ≤ length (xs ++ made ∷ behind)
     some_events [] = omega arith
@@ -363,7 +440,14 @@ module _ (config : Config) (app : App) (n late more : ℕ) (arrivals : List Arri
             let there = ap (stages config app at s) parts ∙ stages-append config app at s first (left ∷ rest)
             ∙ sym (append_assoc xs (last ∷ []) (stages config app (end_of last) last.next rest)) in
             let le = goes_on (xs ++ last ∷ []) (stages config app (end_of last) last.next rest) there
-            (each_joined (IsBusy config h) xs (last ∷ []) due.0 (busy_last, tt)) in
+            (each_joined (IsBusy config h) xs (last ∷ []) due.0 (busy_last, tt))
+            (λ on ahead further end e.
+            let le = prefix_few (begun.first ∷ (begun.behind ++ xs)) last ahead further end
+            (ap (λ zs. begun.first ∷ zs) (append_assoc begun.behind xs (last ∷ [])) ∙ e) in
+            let own = begun.few on in
+            let zero = none_left at s first none in
+            let both = total-append (λ x. cond (is_left h x.stamped.event) 1 0) begun.behind xs in
+            omega (arith, le, own, zero, both)) in
             let ends = last_end-append at xs (last ∷ []) ∙ ap {B = ℕ} (λ b. cond b (last_end at xs) (left.stamp.at + 1)) (left_no_admit h left leaves_h) in
             let near = starts_near in
             record {
@@ -377,7 +461,13 @@ module _ (config : Config) (app : App) (n late more : ℕ) (arrivals : List Arri
             }
         by (leaves_not none) =
             let due = due_on config app late h makes.declared at s run.0 behind behind_leads (inl makes.behind) none in
-            let le = goes_on (stages config app at s behind) [] (sym (append-nil (stages config app at s behind))) due.0 in
+            let le = goes_on (stages config app at s behind) [] (sym (append-nil (stages config app at s behind))) due.0
+            (λ on ahead further end e.
+            let le = whole_few ahead further end (begun.first ∷ (begun.behind ++ stages config app at s behind)) e in
+            let own = begun.few on in
+            let zero = none_left at s behind none in
+            let both = total-append (λ x. cond (is_left h x.stamped.event) 1 0) begun.behind (stages config app at s behind) in
+            omega (arith, le, own, zero, both)) in
             let some = subst (λ es. 1 ≤ length es) (sym is) (some_events before) in
             let end = pace.reaches some in
             let last = sym (ap (last_end 0) all ∙ last_end-append 0 front (stages config app at s behind)) in
@@ -387,5 +477,5 @@ module _ (config : Config) (app : App) (n late more : ℕ) (arrivals : List Arri
             absurd (omega (arith, le, end, last, no_less, near, enough_counts))
 
 pub respond_in_time : RespondsInTime
-respond_in_time config app n late more arrivals events h r cuts costs starts start wf run in_time pace bounds ways enough lasts before behind made found s is leads makes many =
-    responds config app n late more arrivals events h r cuts costs starts start wf run in_time pace bounds ways enough lasts before behind made found s is leads makes many
+respond_in_time config app n late more arrivals events h r cuts costs once starts start enters wf run in_time pace bounds ways enough lasts before behind made found s is leads makes many =
+    responds config app n late more arrivals events h r cuts costs once starts start enters wf run in_time pace bounds ways enough lasts before behind made found s is leads makes many

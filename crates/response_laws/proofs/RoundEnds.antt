@@ -1,5 +1,5 @@
 -- What a round has up to its end, and that entries make nothing.
-use Rattle.std.proofs.Common.{◌≡◌, ℕ, ◌+◌, ◌≤◌, ◌&&◌, ◌||◌, List, [], ◌∷◌, ◌++◌, Bool, true, false, cond, refl, sym, ap, ◌∙◌, subst, arith}
+use Rattle.std.proofs.Common.{◌≡◌, ℕ, ◌+◌, ◌≤◌, ◌==◌, ◌&&◌, ◌||◌, List, [], ◌∷◌, ◌++◌, Bool, true, false, cond, refl, sym, ap, ◌∙◌, subst, arith}
 use Rattle.std.specs.List.{AllByRecursion}
 use Rattle.std.proofs.lemmas.Bool.{false≢true, eqb-true}
 use Rattle.sloth_base.specs.declared.config.Config.{Config}
@@ -21,14 +21,18 @@ use Rattle.osek_scheduler.proofs.Facts.{Facts, facts}
 use Rattle.osek_scheduler.proofs.Leading.{follows_leads}
 use Rattle.osek_scheduler.proofs.Steps.{opening_valid}
 use Rattle.osek_blocking.proofs.Ordering.{opening_ordered}
-use Rattle.raised_sections.specs.Walks.{Position}
+use Rattle.section_sizes.specs.Weights.{going_at, ending_at}
+use Rattle.walk_sums.specs.declared.counted.Counted.{Counted}
+use Rattle.walk_sums.specs.declared.counted.Counted.TheVariants as counts
+use Rattle.walk_sums.specs.Counted.{counted_weights}
 use Rattle.raised_sections.proofs.FrameEffects.{frame_effect}
 use Rattle.run_counts.specs.Stages.{Stage, end_of, is_entry, run_stages}
 use Rattle.run_counts.specs.Rounds.{goes_on_waiting, is_left, round_of, total}
 use Rattle.response_laws.specs.Turns.{at_entry, round_behind, if_turn, if_entry, activated, was_set}
 use Rattle.response_laws.specs.Bounded.{EachFirst, EachNext}
-use Rattle.response_laws.specs.Walked.{FirstRoundsWeigh, LaterRoundsWeigh, FitsItem}
-use Rattle.response_laws.specs.Makers.{activation_weight, setting_weight, RoundsMakeWithin}
+use Rattle.response_laws.specs.Walked.{FirstRoundsSum, LaterRoundsSum, FitsItem}
+use Rattle.response_laws.specs.Makers.{RoundsMakeWithin}
+use Rattle.response_laws.proofs.Counting.{counted_lighter}
 use Rattle.response_laws.proofs.Linked.{Known, Linked, linked_behind, each_append, stages_linked, stages_known}
 use Rattle.response_laws.proofs.RoundSums.{no_round}
 use Rattle.response_laws.proofs.Steps.{activated_between, set_between, not_activated, not_set}
@@ -84,7 +88,7 @@ module _ (config : Config) (app : App) (j : ℕ) (x : Stage) (k : Known config a
   entered_none number same alike event.Boot step t is = absurd (false≢true is)
   entered_none number same alike e step t is = absurd (false≢true is)
 
-  no_acts : (t : ℕ) → if_entry t (activated j) x ≡ 0
+  pub no_acts : (t : ℕ) → if_entry t (activated j) x ≡ 0
   no_acts t = by (at_entry t x) refl
     where
       by : (b : Bool) → at_entry t x ≡ b → ◌≡◌ {A = ℕ} (cond b (activated j x) 0) 0
@@ -92,7 +96,7 @@ module _ (config : Config) (app : App) (j : ℕ) (x : Stage) (k : Known config a
           entered_none activated_between not_activated (λ new state events. unready_acts (task x.found j) new (ap is_ready state)) x.stamped.event k.step t is
       by false other = refl
 
-  no_sets : (t : ℕ) → if_entry t (was_set j) x ≡ 0
+  pub no_sets : (t : ℕ) → if_entry t (was_set j) x ≡ 0
   no_sets t = by (at_entry t x) refl
     where
       by : (b : Bool) → at_entry t x ≡ b → ◌≡◌ {A = ℕ} (cond b (was_set j x) 0) 0
@@ -112,7 +116,8 @@ module _ (config : Config) (app : App) (events : List Stamped) (k j : ℕ) (cuts
       stages_known config app (facts config app wf) 0 (opening config app) osek.0 events (opening_ordered config app) (opening_valid config app)
       (follows_leads config app [] (opening config app) events osek.0 osek.1)
 
-  module _ (f : Stage → ℕ) (weight : Position → ℕ) (fits : AllByRecursion (FitsItem k f weight weight) run)
+  module _ (f : Stage → ℕ) (c : Counted)
+      (fits : AllByRecursion (FitsItem k f (going_at (counted_weights c app)) (ending_at (counted_weights c app))) run)
       (none : (x : Stage) → Known config app x → if_entry k f x ≡ 0) where
     shorter : (before behind : List Stage) (opens : Stage) → run ≡ before ++ opens ∷ behind
         → if_entry k f opens + total (if_turn k f) (round_behind cuts k behind) ≤ total (if_turn k f) (round_of cuts k behind)
@@ -123,26 +128,26 @@ module _ (config : Config) (app : App) (events : List Stamped) (k j : ℕ) (cuts
         let zero = none opens ks.0 in
         omega (arith, le, zero)
 
-    firsts : (most : ℕ) → FirstRoundsWeigh app cuts k weight weight most → EachFirst run cuts k f most
+    firsts : (most : ℕ) → FirstRoundsSum app cuts k (counted_weights c app) most → EachFirst run cuts k f most
     firsts most bound before behind opens is begun =
-        let le = (rounds_follow_walks config app events k cuts f weight weight wf osek fits (λ at. omega arith) before behind opens is).0 most bound begun in
+        let le = (rounds_follow_walks config app events k cuts f (going_at (counted_weights c app)) (ending_at (counted_weights c app)) wf osek fits (counted_lighter c app) before behind opens is).0 most bound begun in
         let few = shorter before behind opens is in
         omega (arith, le, few)
 
-    nexts : (most : ℕ) → LaterRoundsWeigh app cuts k weight weight most → EachNext run cuts k f most
+    nexts : (most : ℕ) → LaterRoundsSum app cuts k (counted_weights c app) most → EachNext run cuts k f most
     nexts most bound before behind opens is begun =
-        let le = (rounds_follow_walks config app events k cuts f weight weight wf osek fits (λ at. omega arith) before behind opens is).1 most bound begun in
+        let le = (rounds_follow_walks config app events k cuts f (going_at (counted_weights c app)) (ending_at (counted_weights c app)) wf osek fits (counted_lighter c app) before behind opens is).1 most bound begun in
         let few = shorter before behind opens is in
         omega (arith, le, few)
 
 pub rounds_make_within : RoundsMakeWithin
 rounds_make_within config app events k j cuts most wf osek = record {
-  first_acts = firsts config app events k j cuts wf osek (activated j) (activation_weight app j) (items_activate config app events k j wf osek)
+  first_acts = firsts config app events k j cuts wf osek (activated j) (cond (k == j) (counts.Chains j) (counts.Activations j)) (items_activate config app events k j wf osek)
       (λ x known. no_acts config app j x known k) most;
-  next_acts = nexts config app events k j cuts wf osek (activated j) (activation_weight app j) (items_activate config app events k j wf osek)
+  next_acts = nexts config app events k j cuts wf osek (activated j) (cond (k == j) (counts.Chains j) (counts.Activations j)) (items_activate config app events k j wf osek)
       (λ x known. no_acts config app j x known k) most;
-  first_sets = firsts config app events k j cuts wf osek (was_set j) (setting_weight app j) (items_set config app events k j wf osek)
+  first_sets = firsts config app events k j cuts wf osek (was_set j) (counts.Settings j) (items_set config app events k j wf osek)
       (λ x known. no_sets config app j x known k) most;
-  next_sets = nexts config app events k j cuts wf osek (was_set j) (setting_weight app j) (items_set config app events k j wf osek)
+  next_sets = nexts config app events k j cuts wf osek (was_set j) (counts.Settings j) (items_set config app events k j wf osek)
       (λ x known. no_sets config app j x known k) most;
 }

@@ -49,13 +49,13 @@ use Rattle.raised_sections.specs.Sections.{operation_at}
 use Rattle.raised_sections.proofs.FrameEffects.{frame_effect}
 use Rattle.raised_sections.proofs.Placed.{Placed, opening_placed}
 use Rattle.raised_sections.proofs.Reached.{walk_on}
-use Rattle.walk_sums.specs.Rounds.{awaited, cleared, cleared_along, IsClean}
+use Rattle.walk_sums.specs.Rounds.{is_wait, awaited, cleared, cleared_along, IsClean}
 use Rattle.event_weights.specs.Events.{has_frames}
 use Rattle.run_counts.specs.Stages.{Stage, end_of, is_turn, is_entry, run_stages}
 use Rattle.run_counts.specs.Rounds.{goes_on_waiting, is_left, total}
 use Rattle.response_laws.specs.Sums.{count}
 use Rattle.response_laws.specs.Turns.{in_turn, at_entry, begins_next, is_ready_for, is_made, has_grown, is_set, was_set}
-use Rattle.response_laws.specs.Walked.{standing, is_wait}
+use Rattle.response_laws.specs.Walked.{standing}
 use Rattle.response_laws.specs.Settings.{CleanTasksHaveSettings}
 use Rattle.response_laws.proofs.Linked.{Known, Linked, last_state, last_end, linked_front, linked_behind, each_append, stages_linked, stages_known}
 use Rattle.response_laws.proofs.Steps.{turn_active, stays_inactive}

@@ -1,5 +1,5 @@
--- The runs of an image respond in time.
-use Rattle.std.proofs.Common.{◌≡◌, ℕ, ◌+◌, ◌-◌, ◌<◌, ◌≤◌, ◌⊎◌, ◌&&◌, ◌||◌, not, List, [], ◌∷◌, ◌++◌, Bool, true, false, cond, max, refl, sym, ap, ◌∙◌, subst, arith, inl, inr, append_assoc, None}
+-- Rounds, ticks and stretches of runs that keep the pace.
+use Rattle.std.proofs.Common.{◌≡◌, ℕ, ◌+◌, ◌-◌, ◌<◌, ◌≤◌, ◌⊎◌, ◌&&◌, ◌||◌, not, List, [], ◌∷◌, ◌++◌, length, Bool, true, false, cond, max, refl, sym, ap, ◌∙◌, subst, arith, inl, inr, append_assoc, None}
 use Rattle.std.specs.Prelude.{IfSome, is_some}
 use Rattle.std.specs.List.{AllByRecursion}
 use Rattle.std.proofs.Math.Nat.{max-le}
@@ -23,33 +23,30 @@ use Rattle.osek_blocking.proofs.Ordering.{opening_ordered}
 use Rattle.bound_rules.specs.declared.weights.BodyWeights.{BodyWeights}
 use Rattle.code_lengths.specs.LongestPaths.{tick_path}
 use Rattle.event_weights.specs.Events.{has_frames, enter_counts, stretch_counts}
-use Rattle.event_weights.specs.Items.{length_of}
 use Rattle.event_weights.specs.Pace.{ItemSizes, AreAtMost, next_size, next_size_of, gap_counts, paced_counts}
-use Rattle.event_weights.proofs.BodyLengths.{short}
 use Rattle.sim_induction.specs.Paced.{KeepsPace}
-use Rattle.sim_induction.specs.Sound.{events_of}
 use Rattle.sim_induction.specs.Weighed.{AreWithinWeights}
 use Rattle.run_counts.specs.Laws.{IsWithinWeights}
 use Rattle.run_counts.specs.Spending.{WeighsItems}
 use Rattle.run_counts.specs.Stages.{Stage, end_of, charged, own, is_entry, run_stages}
 use Rattle.run_counts.specs.Rounds.{goes_on_waiting, is_left, opens_round, closes_round, round_of, total, charged_to, next_going, next_ending, executed_weight, WeighsEndings}
 use Rattle.run_counts.specs.OwnCounts.{IsOwn}
-use Rattle.run_counts.proofs.Counted.{counts_weigh, counts_end}
-use Rattle.run_counts.proofs.Owned.{own_what_is_charged}
 use Rattle.run_counts.proofs.Rounded.{rounds_within}
 use Rattle.run_counts.proofs.Staged.{keeps_weights}
-use Rattle.response_laws.specs.Turns.{ticking_counter, at_entry, at_tick, begins_first, begins_next, round_behind, if_turn, if_entry}
+use Rattle.response_laws.specs.Turns.{ticking_counter, at_entry, at_tick, begins_first, begins_next, round_behind, if_turn, if_entry, activated}
 use Rattle.response_laws.specs.Demand.{Costs}
-use Rattle.response_laws.specs.Bounded.{BoundsRounds}
+use Rattle.response_laws.specs.Bounded.{EachFirst, EachNext, BoundsRounds}
+use Rattle.response_laws.specs.Makers.{activation_weights}
+use Rattle.response_laws.specs.Once.{StaysOut}
+use Rattle.response_laws.proofs.Once.{rounds_make_once}
 use Rattle.response_laws.specs.Arrivals.{AreCharged}
-use Rattle.response_laws.specs.SoundRuns.{item_instructions, NoStretchIsAbove, KeepsWork, WorksWithin, FirstRoundsWithin, OtherRoundsWithin, FitsRounds, ImagesRespond}
+use Rattle.response_laws.specs.SoundRuns.{NoStretchIsAbove, KeepsWork, WorksWithin, FitsRounds}
 use Rattle.section_sizes.specs.Weights.{going_at, ending_at}
 use Rattle.raised_sections.specs.Walks.{Position}
-use Rattle.response_laws.specs.Walked.{standing, is_executed, is_back, FitsItem, FirstRoundsWeigh, LaterRoundsWeigh}
+use Rattle.response_laws.specs.Walked.{standing, is_executed, is_back, FitsItem, FirstRoundsSum, LaterRoundsSum}
 use Rattle.response_laws.proofs.Walked.{rounds_follow_walks}
 use Rattle.response_laws.proofs.Linked.{Known, Linked, linked_behind, each_append, each_so, stages_linked, stages_known}
 use Rattle.response_laws.proofs.RoundEnds.{within_round, rounds_make_within}
-use Rattle.response_laws.proofs.Loaded.{respond_under_load}
 use Rattle.response_laws.proofs.Settings.{clean_tasks_have_settings}
 
 -- ---- what an event may take
@@ -76,7 +73,7 @@ module _ (config : Config) (app : App) (size : ItemSizes) (longest : ℕ) (most 
   few_front found (event.Due c) = omega arith
   few_front found event.Stray = omega arith
 
-  all_charged : (late : ℕ) → NoStretchIsAbove config app late → (xs : List Stage) → AllByRecursion (Known config app) xs
+  pub all_charged : (late : ℕ) → NoStretchIsAbove config app late → (xs : List Stage) → AllByRecursion (Known config app) xs
       → AllByRecursion (IsWithinWeights config app size longest) xs → AreCharged (longest + late) xs
   all_charged late above [] k within = tt
   all_charged late above (x ∷ xs) k within = (
@@ -115,19 +112,19 @@ module _ (config : Config) (app : App) (size : ItemSizes) (longest : ℕ) (most 
 
 -- ---- a run
 
-module _ (config : Config) (app : App) (size : ItemSizes) (n : ℕ) (weights : List BodyWeights) (load : List Entry) (events : List Stamped) (h : ℕ) (cuts : ℕ → Bool) (costs : Costs)
-    (wf : WellFormed config app) (osek : OsekRun config app events) (most : AreAtMost size item_instructions)
-    (keeps : KeepsPace config app size item_instructions n events) (weighs : WeighsItems app size weights) (ends : WeighsEndings app size weights)
+module _ (config : Config) (app : App) (size : ItemSizes) (longest n : ℕ) (weights : List BodyWeights) (load : List Entry) (events : List Stamped) (h : ℕ) (cuts : ℕ → Bool) (costs : Costs)
+    (wf : WellFormed config app) (osek : OsekRun config app events) (positive : 1 ≤ longest) (most : AreAtMost size longest)
+    (keeps : KeepsPace config app size longest n events) (weighs : WeighsItems app size weights) (ends : WeighsEndings app size weights)
     (owned : (t : ℕ) → AllByRecursion (IsOwn config t) (run_stages config app events)) (works : KeepsWork config load cuts (run_stages config app events))
-    (fits : FitsRounds config app weights load h cuts costs) where
+    (fits : FitsRounds config app longest weights load h cuts costs) where
   abbrev run : List Stage
   run = run_stages config app events
 
   leads : AreStepsTo config app events (opening config app) osek.0
   leads = follows_leads config app [] (opening config app) events osek.0 osek.1
 
-  within : AllByRecursion (IsWithinWeights config app size item_instructions) run
-  within = keeps_weights config app size item_instructions n events osek keeps
+  within : AllByRecursion (IsWithinWeights config app size longest) run
+  within = keeps_weights config app size longest n events osek keeps
 
   known : AllByRecursion (Known config app) run
   known = stages_known config app (facts config app wf) 0 (opening config app) osek.0 events (opening_ordered config app) (opening_valid config app) leads
@@ -201,7 +198,7 @@ module _ (config : Config) (app : App) (size : ItemSizes) (n : ℕ) (weights : L
     where
       by : WorksWithin load t counts ⊎ (total (if_turn t executed) (round_of (cuts t) t behind) ≤ counts) → total (charged_to t) (round_of (cuts t) t behind) ≤ counts
       by (inr le) =
-          let spent = rounds_within config app size item_instructions n t (cuts t) weights events wf osek keeps weighs ends before behind opens is begun in
+          let spent = rounds_within config app size longest n t (cuts t) weights events wf osek keeps weighs ends before behind opens is begun in
           omega (arith, spent, le)
       by (inl (most, said, le)) =
           let all = subst (λ o. IfSome o (λ counts. (before behind : List Stage) (opens : Stage) → run ≡ before ++ opens ∷ behind
@@ -213,9 +210,9 @@ module _ (config : Config) (app : App) (size : ItemSizes) (n : ℕ) (weights : L
 
   -- a round follows a walk
   walked : (t : ℕ) (before behind : List Stage) (opens : Stage) → run ≡ before ++ opens ∷ behind
-      → ((most : ℕ) → FirstRoundsWeigh app (cuts t) t (going_at weights) (ending_at weights) most → begins_first t opens ≡ true
+      → ((most : ℕ) → FirstRoundsSum app (cuts t) t weights most → begins_first t opens ≡ true
       → total (if_turn t executed) (round_of (cuts t) t behind) ≤ most)
-      × ((most : ℕ) → LaterRoundsWeigh app (cuts t) t (going_at weights) (ending_at weights) most → begins_next (cuts t) t opens ≡ true
+      × ((most : ℕ) → LaterRoundsSum app (cuts t) t weights most → begins_next (cuts t) t opens ≡ true
       → total (if_turn t executed) (round_of (cuts t) t behind) ≤ most)
   walked t before behind opens is =
       rounds_follow_walks config app events t (cuts t) executed (going_at weights) (ending_at weights) wf osek (all_weigh t run) lighter before behind opens is
@@ -237,22 +234,22 @@ module _ (config : Config) (app : App) (size : ItemSizes) (n : ℕ) (weights : L
 
   entry_few : (t : ℕ) (resumed : Bool) (before behind : List Stage) (opens : Stage) → run ≡ before ++ opens ∷ behind
       → (at_entry t opens ≡ true → has_frames (task opens.found t).frames ≡ resumed)
-      → if_entry t charged opens ≤ item_instructions + enter_counts config app resumed t
+      → if_entry t charged opens ≤ longest + enter_counts config app resumed t
   entry_few t resumed before behind opens is so = by (at_entry t opens) refl
     where
-      by : (b : Bool) → at_entry t opens ≡ b → cond b (charged opens) 0 ≤ item_instructions + enter_counts config app resumed t
+      by : (b : Bool) → at_entry t opens ≡ b → cond b (charged opens) 0 ≤ longest + enter_counts config app resumed t
       by true entry =
-          let weight = (each_append (IsWithinWeights config app size item_instructions) before (opens ∷ behind)
-          (subst (AllByRecursion (IsWithinWeights config app size item_instructions)) is within)).1.0 in
-          subst (λ b. charged opens ≤ item_instructions + enter_counts config app b t) (so entry)
-          (entry_charged config app size item_instructions most (omega arith) t opens weight entry)
+          let weight = (each_append (IsWithinWeights config app size longest) before (opens ∷ behind)
+          (subst (AllByRecursion (IsWithinWeights config app size longest)) is within)).1.0 in
+          subst (λ b. charged opens ≤ longest + enter_counts config app b t) (so entry)
+          (entry_charged config app size longest most positive t opens weight entry)
       by false other = omega arith
 
   pub bounds_rounds : BoundsRounds config h cuts costs run
   bounds_rounds = record {
     firsts = λ t lt over before behind opens is begun.
         let round = round_few t (fits.first_round t) before behind opens is (first_opens t opens begun)
-        (either t (fits.first_round t) (FirstRoundsWithin app weights (cuts t) t (fits.first_round t)) (total (if_turn t executed) (round_of (cuts t) t behind))
+        (either t (fits.first_round t) (FirstRoundsSum app (cuts t) t weights (fits.first_round t)) (total (if_turn t executed) (round_of (cuts t) t behind))
         (λ walks. (walked t before behind opens is).0 (fits.first_round t) walks begun) (fits.firsts t lt over)) in
         let front = entry_few t false before behind opens is
         (λ entry. not-true (has_frames (task opens.found t).frames) (and_parts (at_entry t opens) (not (has_frames (task opens.found t).frames)) begun).1) in
@@ -260,24 +257,42 @@ module _ (config : Config) (app : App) (size : ItemSizes) (n : ℕ) (weights : L
         omega (arith, round, front, whole);
     nexts = λ t lt over before behind opens is begun.
         let round = round_few t (fits.next_round t) before behind opens is (next_opens t opens begun)
-        (either t (fits.next_round t) (OtherRoundsWithin app weights (cuts t) t (fits.next_round t)) (total (if_turn t executed) (round_of (cuts t) t behind))
+        (either t (fits.next_round t) (LaterRoundsSum app (cuts t) t weights (fits.next_round t)) (total (if_turn t executed) (round_of (cuts t) t behind))
         (λ walks. (walked t before behind opens is).1 (fits.next_round t) walks begun) (fits.nexts t lt over)) in
         let front = entry_few t true before behind opens is (λ entry. again t opens begun entry) in
         let whole = fits.next t in
         omega (arith, round, front, whole);
     ticks = λ c.
-        each_so (IsWithinWeights config app size item_instructions) (λ x. at_tick c x ≡ true → charged x ≤ costs.tick c)
+        each_so (IsWithinWeights config app size longest) (λ x. at_tick c x ≡ true → charged x ≤ costs.tick c)
         (λ x weight is.
-        let le = tick_charged config app size item_instructions most (omega arith) c x weight is in
+        let le = tick_charged config app size longest most positive c x weight is in
         let whole = fits.tick c in
         omega (arith, le, whole)) run within;
-    first_acts = λ k j lt over. (rounds_make_within config app events k j (cuts k) (costs.first_acts k j) wf osek).first_acts (fits.first_acts k j lt over);
-    next_acts = λ k j lt over. (rounds_make_within config app events k j (cuts k) (costs.next_acts k j) wf osek).next_acts (fits.next_acts k j lt over);
+    first_acts = λ k j lt over. first_makes k j lt (fits.first_acts k j lt over);
+    next_acts = λ k j lt over. next_makes k j lt (fits.next_acts k j lt over);
     first_sets = λ k j lt over. (rounds_make_within config app events k j (cuts k) (costs.first_sets k j) wf osek).first_sets (fits.first_sets k j lt over);
     next_sets = λ k j lt over. (rounds_make_within config app events k j (cuts k) (costs.next_sets k j) wf osek).next_sets (fits.next_sets k j lt over);
     settings = λ t lt over is. clean_tasks_have_settings config app events t wf osek (fits.clean t lt over is);
   }
     where
+      first_makes : (k j : ℕ) → k < length config.tasks
+          → FirstRoundsSum app (cuts k) k (activation_weights app k j) (costs.first_acts k j) ⊎ (StaysOut config app k j × (1 ≤ costs.first_acts k j))
+          → EachFirst run (cuts k) k (activated j) (costs.first_acts k j)
+      first_makes k j lt (inl walks) = (rounds_make_within config app events k j (cuts k) (costs.first_acts k j) wf osek).first_acts walks
+      first_makes k j lt (inr once) = λ before behind opens is begun.
+          let le = (rounds_make_once config app events k j (cuts k) wf osek lt once.0).0 before behind opens is begun in
+          let one = once.1 in
+          omega (arith, le, one)
+
+      next_makes : (k j : ℕ) → k < length config.tasks
+          → LaterRoundsSum app (cuts k) k (activation_weights app k j) (costs.next_acts k j) ⊎ (StaysOut config app k j × (1 ≤ costs.next_acts k j))
+          → EachNext run (cuts k) k (activated j) (costs.next_acts k j)
+      next_makes k j lt (inl walks) = (rounds_make_within config app events k j (cuts k) (costs.next_acts k j) wf osek).next_acts walks
+      next_makes k j lt (inr once) = λ before behind opens is begun.
+          let le = (rounds_make_once config app events k j (cuts k) wf osek lt once.0).1 before behind opens is begun in
+          let one = once.1 in
+          omega (arith, le, one)
+
       -- an entry is no WaitEvent, so it is one behind a wait
       again : (t : ℕ) (x : Stage) → begins_next (cuts t) t x ≡ true → at_entry t x ≡ true → has_frames (task x.found t).frames ≡ true
       again t x is entry = by (has_frames (task x.found t).frames) (cuts t) (goes_on_waiting t x.stamped.event) refl
@@ -306,7 +321,7 @@ module _ (config : Config) (app : App) (late : ℕ) (events : List Stamped) (abo
   at_least_one : (a : ℕ) → a ≤ late → max 1 a ≤ late
   at_least_one a le = max-le above.stretches.some le
 
-  all_brief : (before rest : List Stamped) (s end : System) → events ≡ before ++ rest → AreStepsTo config app before (opening config app) s → AreStepsTo config app rest s end
+  pub all_brief : (before rest : List Stamped) (s end : System) → events ≡ before ++ rest → AreStepsTo config app before (opening config app) s → AreStepsTo config app rest s end
       → AllByRecursion (λ e. e.stamp.at < e.stamp.from + late) rest
   all_brief before [] s end is led leads = tt
   all_brief before (e ∷ rest) s end is led leads =
@@ -316,28 +331,3 @@ module _ (config : Config) (app : App) (late : ℕ) (events : List Stamped) (abo
         all_brief (before ++ e ∷ []) rest leads.0 end (is ∙ sym (append_assoc before (e ∷ []) rest))
             (leads-append config app before (e ∷ []) (opening config app) s leads.0 led (leads.0, leads.1, refl)) leads.2,
       )
-
-pub images_respond : ImagesRespond
-images_respond config app image weights load arrivals n late h r cuts costs starts start wf code sound weighed pace counts are few above positive keeps works rounds have fit =
-    let run = sound.each arrivals n are few in
-    let lengths = counts.0 in
-    let items_short = short app code lengths counts.1 in
-    let size = length_of lengths in
-    let events = events_of image arrivals n in
-    let pacing = (pace.paced lengths counts.1).each arrivals n item_instructions are few items_short in
-    let weighs = counts_weigh app lengths counts.1 items_short weights counts.2 in
-    let ends = counts_end app lengths weights counts.2 in
-    let leads = follows_leads config app [] (opening config app) events run.osek.0 run.osek.1 in
-    let known = stages_known config app (facts config app wf) 0 (opening config app) run.osek.0 events (opening_ordered config app) (opening_valid config app) leads in
-    respond_under_load config app load n late (item_instructions + late) (item_instructions + late) arrivals events h r cuts costs starts start wf run.osek run.in_time
-    (record {
-      brief = all_brief config app late events above (weighed.each arrivals n are few) [] events (opening config app) run.osek.0 refl refl leads;
-      reaches = λ some. let end = pacing.reaches_within late above.stretches some in omega (arith, end);
-    })
-    (omega arith)
-    (all_charged config app size item_instructions items_short (omega arith) late above (run_stages config app events) known
-    (keeps_weights config app size item_instructions n events run.osek pacing))
-    positive keeps
-    (bounds_rounds config app size n weights load events h cuts costs wf run.osek items_short pacing weighs ends
-    (λ t. own_what_is_charged config app n t arrivals events wf run.osek run.in_time) works rounds)
-    have fit

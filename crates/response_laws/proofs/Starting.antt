@@ -50,23 +50,3 @@ module _ (config : Config) (h : ℕ) where
 
   abbrev pub IsBusy : Stage → Type 0
   IsBusy x = is_quiet config h x.found ≡ false
-
-  -- the last of these stages that finds a quiet state
-  pub record Begun (xs : List Stage) : Type 0 where
-    pub before : List Stage
-    pub first : Stage
-    pub behind : List Stage
-    pub parts : xs ≡ before ++ first ∷ behind
-    pub quiet : is_quiet config h first.found ≡ true
-    pub busy : AllByRecursion IsBusy behind
-
-  pub begun_in : (xs : List Stage) → AllByRecursion IsBusy xs ⊎ Begun xs
-  begun_in [] = inl tt
-  begun_in (x ∷ xs) = by (cases_Bool (is_quiet config h x.found)) (begun_in xs)
-    where
-      by : (is_quiet config h x.found ≡ true) ⊎ (is_quiet config h x.found ≡ false) → AllByRecursion IsBusy xs ⊎ Begun xs
-          → AllByRecursion IsBusy (x ∷ xs) ⊎ Begun (x ∷ xs)
-      by which (inr s) =
-          inr (record { before = x ∷ s.before; first = s.first; behind = s.behind; parts = ap (λ ys. x ∷ ys) s.parts; quiet = s.quiet; busy = s.busy })
-      by (inl quiet) (inl all) = inr (record { before = []; first = x; behind = xs; parts = refl; quiet = quiet; busy = all })
-      by (inr other) (inl all) = inl (other, all)

@@ -197,7 +197,7 @@ not_set k =
     ap {B = ℕ} (λ b. cond (b || has_grown k.events k.events) 1 0) (none_made (is_ready_for true k)) ∙ ap {B = ℕ} (λ b. cond b 1 0) (same_not_grown k.events)
 
 -- an activation sets nothing where the task has no frames
-starting_sets_none : (k : Task) → k.frames ≡ [] → set_between k (record k { state = mode.Ready }) ≡ 0
+pub starting_sets_none : (k : Task) → k.frames ≡ [] → set_between k (record k { state = mode.Ready }) ≡ 0
 starting_sets_none k none =
     let no_more = same_not_grown k.events in
     let not_again : is_ready_for true (record k { state = mode.Ready }) ≡ false = ap has_frames none in

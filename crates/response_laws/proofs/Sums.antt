@@ -1,7 +1,7 @@
 -- Sums, joined and compared.
-use Rattle.std.proofs.Common.{◌≡◌, ℕ, zero, suc, ◌+◌, ◌*◌, ◌<◌, ◌≤◌, ◌⊎◌, List, [], ◌∷◌, ◌++◌, Bool, true, false, cond, length, refl, sym, ap, subst, arith, inl, inr, add-mul, mul-add, mul-le-mul_right}
+use Rattle.std.proofs.Common.{◌≡◌, ℕ, zero, suc, ◌+◌, ◌*◌, ◌<◌, ◌≤◌, ◌⊎◌, ◌==◌, ltb, List, [], ◌∷◌, ◌++◌, Bool, true, false, cond, length, refl, sym, ap, subst, arith, inl, inr, add-mul, mul-add, mul-le-mul_right}
 use Rattle.std.specs.List.{AllByRecursion}
-use Rattle.std.proofs.lemmas.Bool.{cases_eq}
+use Rattle.std.proofs.lemmas.Bool.{cases_eq, cases_lt, lt-ltb, le-ltb, ne_eqb}
 use Rattle.sloth_base.specs.declared.config.Config.{Config}
 use Rattle.run_counts.specs.Stages.{Stage}
 use Rattle.run_counts.specs.Rounds.{total}
@@ -94,3 +94,52 @@ module _ (config : Config) (h : ℕ) where
       let term = sum_below-term (length config.tasks) (λ u. cond (is_over config h u) (f u) 0) t lt in
       let here = ap {B = ℕ} (λ b. cond b (f t) 0) over in
       omega (arith, term, here)
+
+  -- a number for task h alone comes once
+  sum_once : (r : ℕ) (g : ℕ → ℕ) (n : ℕ)
+      → sum_below n (λ k. cond (is_over config h k) (cond (k == h) r 0 + g k) 0) ≤ cond (ltb h n) r 0 + sum_below n (λ k. cond (is_over config h k) (g k) 0)
+  sum_once r g zero = omega arith
+  sum_once r g (suc n) = by (cases_eq n h) (sum_once r g n)
+    where
+      drop : (b : Bool) (m : ℕ) → cond b m 0 ≤ m
+      drop true m = omega arith
+      drop false m = omega arith
+
+      split : (b : Bool) (m k : ℕ) → cond b (m + k) 0 ≤ cond b m 0 + cond b k 0
+      split true m k = omega arith
+      split false m k = omega arith
+
+      by : (n ≡ h) ⊎ (n ≡ h → ⊥)
+          → sum_below n (λ k. cond (is_over config h k) (cond (k == h) r 0 + g k) 0) ≤ cond (ltb h n) r 0 + sum_below n (λ k. cond (is_over config h k) (g k) 0)
+          → cond (is_over config h n) (cond (n == h) r 0 + g n) 0 + sum_below n (λ k. cond (is_over config h k) (cond (k == h) r 0 + g k) 0)
+          ≤ cond (ltb h (suc n)) r 0 + (cond (is_over config h n) (g n) 0 + sum_below n (λ k. cond (is_over config h k) (g k) 0))
+      by (inl e) rest =
+          let off = ap {B = ℕ} (λ b. cond b r 0) (le-ltb h n (omega (arith, e))) in
+          let on = ap {B = ℕ} (λ b. cond b r 0) (lt-ltb h (suc n) (omega (arith, e))) in
+          let parts = split (is_over config h n) (cond (n == h) r 0) (g n) in
+          let least = drop (is_over config h n) (cond (n == h) r 0) in
+          let less = drop (n == h) r in
+          omega (arith, rest, off, on, parts, least, less)
+      by (inr other) rest =
+          let none = ap {B = ℕ} (λ b. cond (is_over config h n) (cond b r 0 + g n) 0) (ne_eqb n h other) in
+          let zero_first : 0 + g n ≡ g n = omega arith in
+          let same = ap {B = ℕ} (λ m. cond (is_over config h n) m 0) zero_first in
+          let later = which (cases_lt h n) in
+          omega (arith, rest, none, same, later)
+        where
+          which : (h < n) ⊎ (n ≤ h) → cond (ltb h n) r 0 ≤ cond (ltb h (suc n)) r 0
+          which (inl lt) =
+              let a = ap {B = ℕ} (λ b. cond b r 0) (lt-ltb h n lt) in
+              let b = ap {B = ℕ} (λ b. cond b r 0) (lt-ltb h (suc n) (omega (arith, lt))) in
+              omega (arith, a, b)
+          which (inr le) = let a = ap {B = ℕ} (λ b. cond b r 0) (le-ltb h n le) in omega (arith, a)
+
+  pub sum_over-once : (r : ℕ) (g : ℕ → ℕ) → sum_over config h (λ k. cond (k == h) r 0 + g k) ≤ r + sum_over config h g
+  sum_over-once r g =
+      let le = sum_once r g (length config.tasks) in
+      let most = few (ltb h (length config.tasks)) in
+      omega (arith, le, most)
+    where
+      few : (b : Bool) → cond b r 0 ≤ r
+      few true = omega arith
+      few false = omega arith

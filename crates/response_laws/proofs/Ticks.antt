@@ -82,14 +82,14 @@ module _ (j : ℕ) (P : Task → Type 0) where
 
 module _ (config : Config) (app : App) (j : ℕ) (s : System) (v : IsValid config app s) where
   -- not made Ready to begin anew; where it waits, it has begun
-  record IsUnmade (k : Task) : Type 0 where
-    acts : activated_between (task s j) k ≡ 0
-    waits : (awaited : ℕ) → k.state ≡ mode.Waiting awaited → has_frames k.frames ≡ true
+  pub record IsUnmade (k : Task) : Type 0 where
+    pub acts : activated_between (task s j) k ≡ 0
+    pub waits : (awaited : ℕ) → k.state ≡ mode.Waiting awaited → has_frames k.frames ≡ true
 
   -- no event of it is set; where it is Suspended, it has no frames, and no more events
-  record IsUnset (k : Task) : Type 0 where
-    sets : set_between (task s j) k ≡ 0
-    bare : k.state ≡ mode.Suspended → (has_frames k.frames ≡ false) × (k.events ≤ (task s j).events)
+  pub record IsUnset (k : Task) : Type 0 where
+    pub sets : set_between (task s j) k ≡ 0
+    pub bare : k.state ≡ mode.Suspended → (has_frames k.frames ≡ false) × (k.events ≤ (task s j).events)
 
   within : (P : Task → Type 0) → ((j < length config.tasks) → P (task s j)) → P sleeping_task → P (task s j)
   within P inside outside = by (cases_lt j (length s.tasks))
@@ -98,7 +98,7 @@ module _ (config : Config) (app : App) (j : ℕ) (s : System) (v : IsValid confi
       by (inl lt) = inside (subst (λ n. j < n) v.count lt)
       by (inr past) = subst P (sym (get_or_past s.tasks j sleeping_task past)) outside
 
-  first_unmade : IsUnmade (task s j)
+  pub first_unmade : IsUnmade (task s j)
   first_unmade = record {
     acts = not_activated (task s j);
     waits =
@@ -110,7 +110,7 @@ module _ (config : Config) (app : App) (j : ℕ) (s : System) (v : IsValid confi
       begun [] some = absurd (some refl)
       begun (frame ∷ outer) some = refl
 
-  first_unset : IsUnset (task s j)
+  pub first_unset : IsUnset (task s j)
   first_unset = record {
     sets = not_set (task s j);
     bare = λ is. (
@@ -120,7 +120,7 @@ module _ (config : Config) (app : App) (j : ℕ) (s : System) (v : IsValid confi
     );
   }
 
-  safe_activates : (does : Action) (x : System) → activates j does ≡ false → IsUnmade (task x j) → IsUnmade (task (acted_state does x) j)
+  pub safe_activates : (does : Action) (x : System) → activates j does ≡ false → IsUnmade (task x j) → IsUnmade (task (acted_state does x) j)
   safe_activates (action.Activate t) x is h = other_activated j IsUnmade t x (eqb-false t j is) h
   safe_activates (action.Set t mask) x is h = by (cases_eq t j)
     where
@@ -158,7 +158,7 @@ module _ (config : Config) (app : App) (j : ℕ) (s : System) (v : IsValid confi
       by (inl e) = subst (λ u. IsUnmade (task (acted_state (action.Set u mask) x) j)) (sym e) own
       by (inr n) = other_set j IsUnmade t mask x n h
 
-  safe_sets : (does : Action) (x : System) → sets_events j does ≡ false → IsUnset (task x j) → IsUnset (task (acted_state does x) j)
+  pub safe_sets : (does : Action) (x : System) → sets_events j does ≡ false → IsUnset (task x j) → IsUnset (task (acted_state does x) j)
   safe_sets (action.Set t mask) x is h = other_set j IsUnset t mask x (eqb-false t j is) h
   safe_sets (action.Activate t) x is h = by (cases_eq t j)
     where
@@ -224,12 +224,12 @@ module _ (config : Config) (app : App) (c j : ℕ) where
 
 pub ticks_make_by_alarms : TicksMakeByAlarms
 ticks_make_by_alarms config app events s wf osek has = record {
-  acts = λ c j before xs behind is le.
+  acts = λ c j before xs behind is boots le.
       let few = ticks_few config app c j (activated j) (has_alarm c (activates j) config.alarms) (s.inflow.arrivals (counter_line c)) (λ x. acts_once j x)
       (λ x k tick none. (tick_none config app c j x k tick).0 none) xs (part before xs behind is) le in
       let most = has.acts c j in
       omega (arith, few, most);
-  sets = λ c j before xs behind is le.
+  sets = λ c j before xs behind is boots le.
       let few = ticks_few config app c j (was_set j) (has_alarm c (sets_events j) config.alarms) (s.inflow.arrivals (counter_line c)) (λ x. sets_once j x)
       (λ x k tick none. (tick_none config app c j x k tick).1 none) xs (part before xs behind is) le in
       let most = has.sets c j in

@@ -1,5 +1,5 @@
 -- The items that the events of a round execute are those of a walk.
-use Rattle.std.proofs.Common.{◌≡◌, ℕ, ◌+◌, ◌<◌, ◌≤◌, ◌⊎◌, ◌==◌, ◌&&◌, ◌||◌, not, List, [], ◌∷◌, ◌++◌, Bool, true, false, cond, length, refl, sym, ap, ◌∙◌, subst, arith, inl, inr, Some}
+use Rattle.std.proofs.Common.{◌≡◌, ℕ, ◌+◌, ◌<◌, ◌≤◌, ◌⊎◌, ◌==◌, ◌&&◌, ◌||◌, not, List, [], ◌∷◌, ◌++◌, Bool, true, false, cond, length, refl, sym, ap, ◌∙◌, subst, arith, inl, inr, append_assoc, append-nil, Some}
 use Rattle.std.specs.Prelude.{◌≢◌}
 use Rattle.std.specs.List.{AllByRecursion}
 use Rattle.std.proofs.lemmas.Bool.{cases_Bool, cases_eq, true≢false, false≢true, eq-eqb, ne_eqb, eqb-true, eqb-false, and_parts, and_right, and_left, not-true}
@@ -39,7 +39,8 @@ use Rattle.run_counts.specs.Stages.{Stage, end_of, is_turn, is_entry, run_stages
 use Rattle.run_counts.specs.Rounds.{goes_on_waiting, is_left, closes_round, round_of, total}
 use Rattle.event_weights.specs.Events.{has_frames}
 use Rattle.response_laws.specs.Turns.{at_entry, begins_first, begins_next, if_turn}
-use Rattle.response_laws.specs.Walked.{standing, is_wait, OnlyLastWaits, IsLaterRound, weigh, FirstRoundsWeigh, LaterRoundsWeigh, is_executed, is_back, FitsItem, RoundsFollowWalks}
+use Rattle.walk_sums.specs.Rounds.{is_wait, OnlyLast, IsBehindWait, Anywhere}
+use Rattle.response_laws.specs.Walked.{standing, is_cut, IsLaterRound, weigh, FirstRoundsWeigh, LaterRoundsWeigh, is_executed, is_back, FitsItem, RoundsFollowWalks}
 use Rattle.osek_scheduler.specs.Services.{moved_frames, ServiceOutcome, GoesOn, Leaves}
 use Rattle.osek_scheduler.specs.Steps.{IsServiceStep}
 use Rattle.osek_scheduler.proofs.Steps.{asleep_at}
@@ -200,7 +201,7 @@ module _ (config : Config) (app : App) (w : Facts config app) (t : ℕ) where
       positions : List Position
       starts : StartsAt at positions
       consecutive : AreConsecutive app positions
-      cut : OnlyLastWaits cuts app positions
+      cut : OnlyLast app (is_cut cuts) positions
       weighs : sum ≤ weigh going ending positions
 
     nothing : (at : Position) (sum : ℕ) → sum ≤ 0 → Found at sum
@@ -208,20 +209,20 @@ module _ (config : Config) (app : App) (w : Facts config app) (t : ℕ) where
 
     -- the item with which the round ends
     last : (at : Position) (sum : ℕ) → sum ≤ ending at → Found at sum
-    last at sum le = record { positions = at ∷ []; starts = refl; consecutive = (tt, tt); cut = ((λ _ some. absurd (some refl)), tt); weighs = le }
+    last at sum le = record { positions = at ∷ []; starts = refl; consecutive = (tt, tt); cut = ((λ some. absurd (some refl)), tt); weighs = le }
 
     in_sum : (at : Position) (counts rest : ℕ) → counts ≤ going at → (positions : List Position) → rest ≤ weigh going ending positions
         → counts + rest ≤ weigh going ending (at ∷ positions)
     in_sum at counts rest fits [] le = let more = lighter at in omega (arith, fits, le, more)
     in_sum at counts rest fits (next ∷ further) le = omega (arith, fits, le)
 
-    in_front : (at next : Position) (counts rest : ℕ) → IsPositionStep app at next → (cuts ≡ true → is_wait (operation_at app at) ≡ false) → counts ≤ going at → Found next rest
+    in_front : (at next : Position) (counts rest : ℕ) → IsPositionStep app at next → is_cut cuts (operation_at app at) ≡ false → counts ≤ going at → Found next rest
         → Found at (counts + rest)
     in_front at next counts rest step no_wait fits found = record {
       positions = at ∷ found.positions;
       starts = refl;
       consecutive = (leads found.positions found.starts, found.consecutive);
-      cut = ((λ cut _. no_wait cut), found.cut);
+      cut = ((λ _. no_wait), found.cut);
       weighs = in_sum at counts rest fits found.positions found.weighs;
     }
       where
@@ -285,13 +286,16 @@ module _ (config : Config) (app : App) (w : Facts config app) (t : ℕ) where
                 (let le = fits.0.goes executed in let more = lighter (standing (task x.found t).frames) in let a = on turn in omega (arith, le, more, a)))
             by (inr more) =
                 with_closes false (ap (λ b. b || (cuts && goes_on_waiting t x.stamped.event)) stays ∙ more)
-                (in_front (standing (task x.found t).frames) (standing (task x.next t).frames) _ _ step (λ cut. no_wait cut (cases_Bool (is_wait (operation_at app (standing (task x.found t).frames)))))
+                (in_front (standing (task x.found t).frames) (standing (task x.next t).frames) _ _ step no_cut
                 (let le = fits.0.goes executed in let a = on turn in omega (arith, le, a)) (again some))
               where
-                no_wait : cuts ≡ true → (is_wait (operation_at app (standing (task x.found t).frames)) ≡ true) ⊎ (is_wait (operation_at app (standing (task x.found t).frames)) ≡ false)
-                    → is_wait (operation_at app (standing (task x.found t).frames)) ≡ false
-                no_wait cut (inr other) = other
-                no_wait cut (inl is) = absurd (true≢false (sym (ap (λ b. b && goes_on_waiting t x.stamped.event) cut ∙ waits is) ∙ more))
+                no_cut : is_cut cuts (operation_at app (standing (task x.found t).frames)) ≡ false
+                no_cut = none cuts (is_wait (operation_at app (standing (task x.found t).frames))) (goes_on_waiting t x.stamped.event) more waits
+                  where
+                    none : (c w g : Bool) → (c && g) ≡ false → (w ≡ true → g ≡ true) → (c && w) ≡ false
+                    none false w g off so = refl
+                    none true false g off so = refl
+                    none true true g off so = absurd (true≢false (sym (so refl) ∙ off))
         here (leaves is turn) again =
             with_closes true (ap (λ b. b || (cuts && goes_on_waiting t x.stamped.event)) is)
             (last (standing (task x.found t).frames) _ (let le = fits.0.leaves is in let a = on turn in omega (arith, le, a)))
@@ -304,10 +308,20 @@ module _ (config : Config) (app : App) (w : Facts config app) (t : ℕ) where
             (kept (standing (task x.found t).frames) (standing (task x.next t).frames) _ _ (ap standing (sym same)) (let a = off away in omega (arith, a))
             (again (same_frames_next same)))
 
+    anywhere : (positions : List Position) → AllByRecursion Anywhere positions
+    anywhere [] = tt
+    anywhere (at ∷ further) = (tt, anywhere further)
+
     -- what is found from where a walk leads is within the greatest sums
     first_found : (most sum : ℕ) → FirstRoundsWeigh app cuts t going ending most → Found (first_position app t) sum → sum ≤ most
     first_found most sum bound found =
-        let le = bound found.positions (record { of_walk = walk found.positions found.starts found.consecutive; cut = found.cut }) in
+        let le = bound found.positions (record {
+          before = [];
+          of_walk = walk found.positions found.starts found.consecutive;
+          begins = refl;
+          stands = anywhere found.positions;
+          unbroken = found.cut;
+        }) in
         let weight = found.weighs in
         omega (arith, le, weight)
       where
@@ -321,21 +335,32 @@ module _ (config : Config) (app : App) (w : Facts config app) (t : ℕ) where
         let weight = found.weighs in
         omega (arith, le, weight)
       where
+        behind : IsBehindWait app (b.before ++ b.wait ∷ [])
+        behind = (b.before, b.wait, refl, b.waits)
+
         by : (positions : List Position) → found.positions ≡ positions → weigh going ending found.positions ≤ most
         by [] e =
             bound found.positions
-            (subst (IsLaterRound app cuts t) (sym e) (record { before = b.before; wait = b.wait; of_walk = b.walk; waits = b.waits; cut = tt }))
+            (subst (IsLaterRound app cuts t) (sym e)
+            (record {
+              before = b.before ++ b.wait ∷ [];
+              of_walk = subst (IsWalk app t) (sym (append-nil (b.before ++ b.wait ∷ []))) b.walk;
+              begins = behind;
+              stands = tt;
+              unbroken = tt;
+            }))
         by (first ∷ further) e =
             let at_first : first ≡ at = subst (StartsAt at) e found.starts in
             bound found.positions
             (record {
-              before = b.before;
-              wait = b.wait;
-              of_walk = subst (λ ps. IsWalk app t (b.before ++ b.wait ∷ ps)) (sym e)
+              before = b.before ++ b.wait ∷ [];
+              of_walk = subst (λ ps. IsWalk app t ((b.before ++ b.wait ∷ []) ++ ps)) (sym e)
+                  (subst (IsWalk app t) (sym (append_assoc b.before (b.wait ∷ []) (first ∷ further)))
                   (walk_on app t b.before (first ∷ further) b.wait b.walk
-                  (subst (IsPositionStep app b.wait) (sym at_first) b.step, subst (AreConsecutive app) e found.consecutive));
-              waits = b.waits;
-              cut = found.cut;
+                  (subst (IsPositionStep app b.wait) (sym at_first) b.step, subst (AreConsecutive app) e found.consecutive)));
+              begins = behind;
+              stands = anywhere found.positions;
+              unbroken = found.cut;
             })
 
 module _ (config : Config) (app : App) (w : Facts config app) (t : ℕ) where

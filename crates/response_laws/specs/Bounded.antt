@@ -1,5 +1,5 @@
 -- What costs and starts say of a run.
-use Rattle.std.specs.Prelude.{ℕ, ◌+◌, ◌<◌, ◌≤◌, ◌≡◌, List, [], ◌∷◌, ◌++◌, Bool, true, false, length}
+use Rattle.std.specs.Prelude.{ℕ, ◌+◌, ◌<◌, ◌≤◌, ◌≡◌, List, [], ◌∷◌, ◌++◌, Bool, true, false, length, cond}
 use Rattle.std.specs.List.{AllByRecursion}
 use Rattle.sloth_base.specs.declared.config.Config.{Config}
 use Rattle.sloth_base.specs.Owners.{counter_line}
@@ -49,25 +49,29 @@ pub record BoundsRounds (config : Config) (h : ℕ) (cuts : ℕ → Bool) (costs
 abbrev pub BeginsWithin : (l : ℕ) → (first : Stage) → Stage → Type 0
 BeginsWithin l first x = x.start ≤ end_of first + l
 
+-- a number of the turn of h that ends in these stages, where h leaves as they begin
+abbrev pub left_over : (once : Bool) → (h : ℕ) → (Stage → ℕ) → List Stage → ℕ
+left_over once h f xs = cond once (total (if_turn h f) (round_behind false h xs)) 0
+
 -- what comes into the busy period from outside is within these numbers
-pub record IsWithinInflow (config : Config) (h : ℕ) (inflow : Inflow) (first : Stage) (period : List Stage) : Type 0 where
+pub record IsWithinInflow (config : Config) (h : ℕ) (once : Bool) (inflow : Inflow) (first : Stage) (period : List Stage) : Type 0 where
   pub arrivals : (line : ℕ) → count (at_admission line) (first ∷ period) ≤ inflow.arrivals line
   -- where the counter ticks no more often than it may
   pub alarm_acts : (c j : ℕ) → count (at_tick c) (first ∷ period) ≤ inflow.arrivals (counter_line c)
       → total_where (at_tick c) (activated j) (first ∷ period) ≤ inflow.alarm_acts c j
   pub alarm_sets : (c j : ℕ) → count (at_tick c) (first ∷ period) ≤ inflow.arrivals (counter_line c)
       → total_where (at_tick c) (was_set j) (first ∷ period) ≤ inflow.alarm_sets c j
-  pub front : total_where (is_other config h) charged period ≤ inflow.front
-  pub acts : (j : ℕ) → is_over config h j ≡ true → total_where (is_other config h) (activated j) (first ∷ period) ≤ inflow.acts j
-  pub sets : (j : ℕ) → is_over config h j ≡ true → total_where (is_other config h) (was_set j) (first ∷ period) ≤ inflow.sets j
+  pub front : total_where (is_other config h) charged period + left_over once h charged period ≤ inflow.front
+  pub acts : (j : ℕ) → is_over config h j ≡ true → total_where (is_other config h) (activated j) (first ∷ period) + left_over once h (activated j) (first ∷ period) ≤ inflow.acts j
+  pub sets : (j : ℕ) → is_over config h j ≡ true → total_where (is_other config h) (was_set j) (first ∷ period) + left_over once h (was_set j) (first ∷ period) ≤ inflow.sets j
 
 -- The busy period starts in this way: so much comes into each beginning of it, as long as that lasts no longer than the start says.
-abbrev pub StartsSo : Config → (h : ℕ) → Start → (first : Stage) → (period : List Stage) → Type 0
-StartsSo config h s first period =
-    (front rest : List Stage) → period ≡ front ++ rest → AllByRecursion (BeginsWithin s.counts first) front → IsWithinInflow config h s.inflow first front
+abbrev pub StartsSo : Config → (h : ℕ) → (once : Bool) → Start → (first : Stage) → (period : List Stage) → Type 0
+StartsSo config h once s first period =
+    (front rest : List Stage) → period ≡ front ++ rest → AllByRecursion (BeginsWithin s.counts first) front → IsWithinInflow config h once s.inflow first front
 
 -- each busy period of the run starts in one of these ways
-abbrev pub StartsInOne : Config → (h : ℕ) → (starts : ℕ) → (ℕ → Start) → List Stage → Type 0
-StartsInOne config h starts start run =
-    (first : Stage) (period : List Stage) → IsBusyPeriod config h run first period
-    → (i : ℕ) × (i < starts) × StartsSo config h (start i) first period
+abbrev pub StartsInOne : Config → (h : ℕ) → (once : Bool) → (starts : ℕ) → (ℕ → Start) → List Stage → Type 0
+StartsInOne config h once starts start run =
+    (first : Stage) (period : List Stage) → IsBusyPeriod config h once run first period
+    → (i : ℕ) × (i < starts) × StartsSo config h once (start i) first period

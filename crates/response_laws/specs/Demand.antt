@@ -1,5 +1,5 @@
 -- What a busy period demands of the processor at most.
-use Rattle.std.specs.Prelude.{ℕ, ◌+◌, ◌*◌, ◌<◌, ◌≤◌, ◌≡◌, true, length}
+use Rattle.std.specs.Prelude.{ℕ, ◌+◌, ◌*◌, ◌<◌, ◌≤◌, ◌≡◌, ◌==◌, ◌&&◌, min, Bool, true, false, length}
 use Rattle.sloth_base.specs.declared.config.Config.{Config}
 use Rattle.sloth_base.specs.Owners.{counter_line}
 use Rattle.response_laws.specs.Sums.{is_over, sum_over, sum_counters}
@@ -33,6 +33,8 @@ pub record Inflow : Type 0 where
 
 -- a way in which a busy period may start, how long it lasts at most then, and how many rounds of each task it has at most
 pub record Start : Type 0 where
+  -- it is boot with which the period begins
+  pub is_boot : Bool
   pub inflow : Inflow
   pub counts : ℕ
   pub firsts : (j : ℕ) → ℕ
@@ -56,8 +58,16 @@ counts_due config h costs s =
     s.inflow.front + sum_over config h (λ j. s.firsts j * costs.first j + s.nexts j * costs.next j)
     + sum_counters config (λ c. s.inflow.arrivals (counter_line c) * costs.tick c)
 
--- The length is enough, and so are the numbers of rounds.
-pub record IsEnough (config : Config) (h : ℕ) (costs : Costs) (s : Start) : Type 0 where
-  pub firsts : (j : ℕ) → j < length config.tasks → is_over config h j ≡ true → acts_due config h costs s j ≤ s.firsts j
-  pub nexts : (j : ℕ) → j < length config.tasks → is_over config h j ≡ true → sets_due config h costs s j ≤ s.nexts j
+-- Task h is entered once, if anything makes it, and all its rounds cost the same.
+pub record IsEnteredOnce (config : Config) (h : ℕ) (costs : Costs) (s : Start) : Type 0 where
+  pub number : min 1 (acts_due config h costs s h + sets_due config h costs s h) ≤ s.firsts h
+  pub cost : costs.next h ≡ costs.first h
+  pub acts : (j : ℕ) → costs.next_acts h j ≡ costs.first_acts h j
+  pub sets : (j : ℕ) → costs.next_sets h j ≡ costs.first_sets h j
+
+-- The length is enough, and so are the numbers of rounds; where task h is entered once, its makings count once.
+pub record IsEnough (config : Config) (h : ℕ) (once : Bool) (costs : Costs) (s : Start) : Type 0 where
+  pub firsts : (j : ℕ) → j < length config.tasks → is_over config h j ≡ true → (once && (j == h)) ≡ false → acts_due config h costs s j ≤ s.firsts j
+  pub nexts : (j : ℕ) → j < length config.tasks → is_over config h j ≡ true → (once && (j == h)) ≡ false → sets_due config h costs s j ≤ s.nexts j
+  pub entered : once ≡ true → IsEnteredOnce config h costs s
   pub enough : counts_due config h costs s ≤ s.counts

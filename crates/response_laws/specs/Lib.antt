@@ -9,6 +9,9 @@ pub mod Arrivals
 pub mod Loaded
 pub mod Walked
 pub mod Makers
+pub mod Once
+pub mod CodeStarts
 pub mod Ticks
+pub mod Expiries
 pub mod Settings
 pub mod SoundRuns

@@ -5,7 +5,9 @@ use Rattle.sloth_base.specs.declared.config.Config.{Config}
 use Rattle.sloth_base.specs.declared.app.App.{App}
 use Rattle.sloth_base.specs.declared.event.Arrival.{Arrival}
 use Rattle.sloth_base.specs.declared.event.Stamped.{Stamped}
+use Rattle.sloth_base.specs.Named.{declaration}
 use Rattle.code_rules.specs.WellFormed.{WellFormed}
+use Rattle.osek_scheduler.specs.Apart.{static_priority}
 use Rattle.osek_scheduler.specs.State.{System, opening}
 use Rattle.osek_scheduler.specs.InTime.{InTime}
 use Rattle.osek_scheduler.specs.Runs.{AreStepsTo, OsekRun}
@@ -44,12 +46,18 @@ pub record HasPace (n late more : ℕ) (events : List Stamped) : Type 0 where
 abbrev pub LastsWithin : (h late r : ℕ) → Start → Type 0
 LastsWithin h late r s = 1 ≤ s.firsts h + s.nexts h → s.counts + late ≤ r
 
+-- Task h may be looked at from where it left last on: it is preemptable, no other task has its priority, and its turns are not cut into rounds.
+pub record EntersOnce (config : Config) (h : ℕ) (cuts : ℕ → Bool) : Type 0 where
+  pub preemptable : (declaration config h).non ≡ false
+  pub alone : (t : ℕ) → t < length config.tasks → static_priority config t ≡ static_priority config h → t ≡ h
+  pub whole : cuts h ≡ false
+
 -- In a run whose rounds are within the costs, and each busy period of which starts in one of these ways, each with enough, task h responds within
 -- the longest of the starts in which it has a round.
 abbrev pub RespondsInTime : Type 0
 RespondsInTime = (config : Config) (app : App) (n late more : ℕ) (arrivals : List Arrival) (events : List Stamped) (h r : ℕ) (cuts : ℕ → Bool) (costs : Costs)
-    (starts : ℕ) (start : ℕ → Start)
-    → WellFormed config app → OsekRun config app events → InTime config n arrivals events → HasPace n late more events
-    → BoundsRounds config h cuts costs (run_stages config app events) → StartsInOne config h starts start (run_stages config app events)
-    → ((i : ℕ) → i < starts → IsEnough config h costs (start i)) → ((i : ℕ) → i < starts → LastsWithin h late r (start i))
+    (once : Bool) (starts : ℕ) (start : ℕ → Start)
+    → (once ≡ true → EntersOnce config h cuts) → WellFormed config app → OsekRun config app events → InTime config n arrivals events → HasPace n late more events
+    → BoundsRounds config h cuts costs (run_stages config app events) → StartsInOne config h once starts start (run_stages config app events)
+    → ((i : ℕ) → i < starts → IsEnough config h once costs (start i)) → ((i : ℕ) → i < starts → LastsWithin h late r (start i))
     → RespondsWithin config app n more h r events

@@ -14,6 +14,8 @@ use Rattle.load_text.specs.Loads.{KeepDistances, work}
 use Rattle.bound_rules.specs.declared.weights.BodyWeights.{BodyWeights}
 use Rattle.code_lengths.specs.LongestPaths.{tick_path, boot_path}
 use Rattle.event_weights.specs.Events.{enter_counts}
+use Rattle.event_weights.specs.Items.{length_of, AreLengths}
+use Rattle.event_weights.specs.Pace.{AreAtMost}
 use Rattle.section_counts.specs.Counts.{AreCounts}
 use Rattle.sim_induction.specs.Paced.{AreStretchesWithin, InPace}
 use Rattle.sim_induction.specs.Sound.{Sound, events_of}
@@ -21,15 +23,17 @@ use Rattle.sim_induction.specs.Weighed.{Weighed}
 use Rattle.run_counts.specs.Stages.{Stage, own, run_stages}
 use Rattle.run_counts.specs.Rounds.{opens_round, round_of, total}
 use Rattle.response_laws.specs.Sums.{is_over}
-use Rattle.section_sizes.specs.Weights.{going_at, ending_at}
 use Rattle.walk_sums.specs.Rounds.{IsClean}
-use Rattle.response_laws.specs.Walked.{FirstRoundsWeigh, LaterRoundsWeigh}
-use Rattle.response_laws.specs.Demand.{Costs, Start}
-use Rattle.response_laws.specs.Makers.{activation_weight, setting_weight}
+use Rattle.response_laws.specs.Walked.{FirstRoundsSum, LaterRoundsSum}
+use Rattle.response_laws.specs.Demand.{Costs, Start, IsEnough}
+use Rattle.response_laws.specs.Makers.{activation_weights, setting_weights}
+use Rattle.response_laws.specs.Once.{StaysOut}
 use Rattle.response_laws.specs.Arrivals.{HasDistances}
 use Rattle.response_laws.specs.Starts.{HaveStarts}
-use Rattle.response_laws.specs.Loaded.{IsStartFor}
-use Rattle.response_laws.specs.Response.{RespondsWithin}
+use Rattle.response_laws.specs.CodeStarts.{FitsStarts}
+use Rattle.response_laws.specs.Expiries.{MarksAlarms, HasExpiries}
+use Rattle.response_laws.specs.Loaded.{HasArrivals, IsStartFor}
+use Rattle.response_laws.specs.Response.{EntersOnce, LastsWithin, RespondsWithin}
 
 -- the most instructions of an item
 abbrev pub item_instructions : ℕ
@@ -53,37 +57,29 @@ KeepsWork config load cuts run =
 abbrev pub WorksWithin : (load : List Entry) → (t most : ℕ) → Type 0
 WorksWithin load t most = (counts : ℕ) × (work load t ≡ Some counts) × (counts ≤ most)
 
--- no first round weighs more by the counts of its items
-abbrev pub FirstRoundsWithin : App → (weights : List BodyWeights) → (cuts : Bool) → (t most : ℕ) → Type 0
-FirstRoundsWithin app weights cuts t most = FirstRoundsWeigh app cuts t (going_at weights) (ending_at weights) most
-
--- and no other round
-abbrev pub OtherRoundsWithin : App → (weights : List BodyWeights) → (cuts : Bool) → (t most : ℕ) → Type 0
-OtherRoundsWithin app weights cuts t most = LaterRoundsWeigh app cuts t (going_at weights) (ending_at weights) most
-
 -- What the costs say of the task code: in front of each entry and tick the longest item may have begun, whose counts are taken as theirs too.
-pub record FitsRounds (config : Config) (app : App) (weights : List BodyWeights) (load : List Entry) (h : ℕ) (cuts : ℕ → Bool) (costs : Costs)
+pub record FitsRounds (config : Config) (app : App) (longest : ℕ) (weights : List BodyWeights) (load : List Entry) (h : ℕ) (cuts : ℕ → Bool) (costs : Costs)
     : Type 0 where
   -- the counts of rounds without the entries: by what the load says of the task, or by walks of its code
   pub first_round : (t : ℕ) → ℕ
   pub next_round : (t : ℕ) → ℕ
   pub firsts : (t : ℕ) → t < length config.tasks → is_over config h t ≡ true
-      → WorksWithin load t (first_round t) ⊎ FirstRoundsWithin app weights (cuts t) t (first_round t)
+      → WorksWithin load t (first_round t) ⊎ FirstRoundsSum app (cuts t) t weights (first_round t)
   pub nexts : (t : ℕ) → t < length config.tasks → is_over config h t ≡ true
-      → WorksWithin load t (next_round t) ⊎ OtherRoundsWithin app weights (cuts t) t (next_round t)
+      → WorksWithin load t (next_round t) ⊎ LaterRoundsSum app (cuts t) t weights (next_round t)
   -- with them
-  pub first : (t : ℕ) → item_instructions + enter_counts config app false t + first_round t ≤ costs.first t
-  pub next : (t : ℕ) → item_instructions + enter_counts config app true t + next_round t ≤ costs.next t
-  pub tick : (c : ℕ) → item_instructions + tick_path config c ≤ costs.tick c
-  -- what rounds make, by walks
+  pub first : (t : ℕ) → longest + enter_counts config app false t + first_round t ≤ costs.first t
+  pub next : (t : ℕ) → longest + enter_counts config app true t + next_round t ≤ costs.next t
+  pub tick : (c : ℕ) → longest + tick_path config c ≤ costs.tick c
+  -- what rounds make, by walks; or once, where the task cannot be entered meanwhile
   pub first_acts : (k j : ℕ) → k < length config.tasks → is_over config h k ≡ true
-      → FirstRoundsWeigh app (cuts k) k (activation_weight app j) (activation_weight app j) (costs.first_acts k j)
+      → FirstRoundsSum app (cuts k) k (activation_weights app k j) (costs.first_acts k j) ⊎ (StaysOut config app k j × (1 ≤ costs.first_acts k j))
   pub next_acts : (k j : ℕ) → k < length config.tasks → is_over config h k ≡ true
-      → LaterRoundsWeigh app (cuts k) k (activation_weight app j) (activation_weight app j) (costs.next_acts k j)
+      → LaterRoundsSum app (cuts k) k (activation_weights app k j) (costs.next_acts k j) ⊎ (StaysOut config app k j × (1 ≤ costs.next_acts k j))
   pub first_sets : (k j : ℕ) → k < length config.tasks → is_over config h k ≡ true
-      → FirstRoundsWeigh app (cuts k) k (setting_weight app j) (setting_weight app j) (costs.first_sets k j)
+      → FirstRoundsSum app (cuts k) k (setting_weights app j) (costs.first_sets k j)
   pub next_sets : (k j : ℕ) → k < length config.tasks → is_over config h k ≡ true
-      → LaterRoundsWeigh app (cuts k) k (setting_weight app j) (setting_weight app j) (costs.next_sets k j)
+      → LaterRoundsSum app (cuts k) k (setting_weights app j) (costs.next_sets k j)
   -- a task whose turns WaitEvents cut into rounds clears what it waits for
   pub clean : (t : ℕ) → t < length config.tasks → is_over config h t ≡ true → cuts t ≡ true → IsClean app t
 
@@ -94,11 +90,37 @@ pub record FitsRounds (config : Config) (app : App) (weights : List BodyWeights)
 -- and a stretch.
 abbrev pub ImagesRespond : Type 0
 ImagesRespond = (config : Config) (app : App) (image : Image) (weights : List BodyWeights) (load : List Entry) (arrivals : List Arrival) (n late h r : ℕ)
-    (cuts : ℕ → Bool) (costs : Costs) (starts : ℕ) (start : ℕ → Start)
-    → WellFormed config app → IsTaskCode app → Sound config app image → Weighed config app image → InPace config app image → AreCounts app weights
+    (cuts : ℕ → Bool) (costs : Costs) (once : Bool) (starts : ℕ) (start : ℕ → Start)
+    → (once ≡ true → EntersOnce config h cuts) → WellFormed config app → IsTaskCode app → Sound config app image → Weighed config app image → InPace config app image → AreCounts app weights
     → AreArrivals (owners_in config) arrivals → n ≤ count_limit → NoStretchIsAbove config app late
     → HasDistances load → KeepDistances load arrivals → KeepsWork config load cuts (run_stages config app (events_of image arrivals n))
-    → FitsRounds config app weights load h cuts costs
-    → HaveStarts config h starts start (run_stages config app (events_of image arrivals n))
-    → ((i : ℕ) → i < starts → IsStartFor config load late (item_instructions + late) h r costs (run_stages config app (events_of image arrivals n)) (start i))
+    → FitsRounds config app item_instructions weights load h cuts costs
+    → HaveStarts config h once starts start (run_stages config app (events_of image arrivals n))
+    → ((i : ℕ) → i < starts → IsStartFor config load late (item_instructions + late) h r once costs (run_stages config app (events_of image arrivals n)) (start i))
     → RespondsWithin config app n (item_instructions + late) h r (events_of image arrivals n)
+
+-- ---- by the task code alone
+
+-- A start with the arrivals that fit into it, and the expiries of alarms that fit into its ticks, with enough, and no longer than r with a stretch in front
+-- where task h has a round in it.
+pub record IsCodeStart (config : Config) (is_set : ℕ → Bool) (load : List Entry) (late heaviest h r : ℕ) (once : Bool) (costs : Costs) (s : Start) : Type 0 where
+  pub arrivals : HasArrivals load late heaviest s
+  pub expiries : HasExpiries config is_set s
+  pub enough : IsEnough config h once costs s
+  pub lasts : LastsWithin h late r s
+
+-- no item has more instructions
+pub record IsLongestItem (app : App) (longest : ℕ) : Type 0 where
+  pub some : 0 < longest
+  pub none_longer : (lengths : List (List ℕ)) → AreLengths app lengths → AreAtMost (length_of lengths) longest
+
+-- The same, where the starts hold what lower tasks bring in by their code: but for the `work` lines of the load, nothing is said of the run.
+abbrev pub ImagesRespondByCode : Type 0
+ImagesRespondByCode = (config : Config) (app : App) (image : Image) (weights : List BodyWeights) (load : List Entry) (arrivals : List Arrival) (n late longest h r : ℕ)
+    (cuts is_set : ℕ → Bool) (costs : Costs) (once : Bool) (starts : ℕ) (start : ℕ → Start)
+    → (once ≡ true → EntersOnce config h cuts) → WellFormed config app → IsTaskCode app → Sound config app image → Weighed config app image → InPace config app image → AreCounts app weights
+    → MarksAlarms app is_set → IsLongestItem app longest → AreArrivals (owners_in config) arrivals → n ≤ count_limit → NoStretchIsAbove config app late
+    → HasDistances load → KeepDistances load arrivals → KeepsWork config load cuts (run_stages config app (events_of image arrivals n))
+    → FitsRounds config app longest weights load h cuts costs → FitsStarts config app longest weights h once starts start
+    → ((i : ℕ) → i < starts → IsCodeStart config is_set load late (longest + late) h r once costs (start i))
+    → RespondsWithin config app n (longest + late) h r (events_of image arrivals n)

@@ -1,9 +1,15 @@
 -- In which ways a busy period starts: how lower tasks come into it.
-use Rattle.std.specs.Prelude.{ℕ, ◌+◌, ◌<◌, ◌≤◌, ◌≡◌, ◌||◌, List, [], ◌∷◌, ◌++◌, Bool, true, false}
+use Rattle.std.specs.Prelude.{ℕ, ◌+◌, ◌<◌, ◌≤◌, ◌≡◌, ◌⊎◌, ◌==◌, ◌&&◌, List, [], ◌∷◌, ◌++◌, Bool, true, false, is_some}
 use Rattle.std.specs.List.{AllByRecursion}
 use Rattle.sloth_base.specs.declared.config.Config.{Config}
 use Rattle.sloth_base.specs.declared.app.App.{App}
+use Rattle.sloth_base.specs.declared.event.Event.{Event}
+use Rattle.sloth_base.specs.declared.event.Event.TheVariants as event
 use Rattle.sloth_base.specs.declared.event.Stamped.{Stamped}
+use Rattle.sloth_base.specs.Events.{is_boot, served_task}
+use Rattle.sloth_base.specs.declared.service.Service.TheVariants as service
+use Rattle.sloth_base.specs.Named.{declaration}
+use Rattle.sloth_base.specs.ServiceCodes.{is_service}
 use Rattle.code_rules.specs.WellFormed.{WellFormed}
 use Rattle.osek_scheduler.specs.InTime.{is_admit}
 use Rattle.osek_scheduler.specs.Runs.{OsekRun}
@@ -11,8 +17,9 @@ use Rattle.osek_scheduler.specs.State.{task}
 use Rattle.osek_scheduler.specs.Apart.{priority_of, static_priority}
 use Rattle.raised_sections.specs.Sections.{IsLower}
 use Rattle.run_counts.specs.Stages.{Stage, charged, run_stages}
-use Rattle.response_laws.specs.Sums.{total_where, count}
-use Rattle.response_laws.specs.Turns.{in_turn, at_entry, is_other, activated, was_set}
+use Rattle.run_counts.specs.Rounds.{is_left}
+use Rattle.response_laws.specs.Sums.{total_where, count, is_over}
+use Rattle.response_laws.specs.Turns.{in_turn, is_other, activated, was_set}
 use Rattle.response_laws.specs.Busy.{IsBusyPeriod}
 use Rattle.response_laws.specs.Demand.{Start}
 
@@ -27,16 +34,21 @@ pub record IsRaisedTurn (config : Config) (h b : ℕ) (x : Stage) : Type 0 where
 abbrev pub InSection : Config → (h b : ℕ) → List Stage → Type 0
 InSection config h b xs = AllByRecursion (λ x. is_other config h x ≡ true → IsRaisedTurn config h b x) xs
 
--- the entry of task b, or an event in a turn of it
-abbrev pub is_event_of : (b : ℕ) → Stage → Bool
-is_event_of b x = at_entry b x || in_turn b x
+-- With the event task b may be raised: it takes a resource; or, where it is not preemptable, it is entered or comes back from Schedule. No task becomes
+-- Ready with it.
+abbrev pub may_raise : Config → (b : ℕ) → Event → Bool
+may_raise config b (event.Enter t) = (t == b) && (declaration config b).non
+may_raise config b (event.Back t) = (t == b) && (declaration config b).non
+may_raise config b (event.Call t served status) = (t == b) && is_service served service.GetResource
+may_raise config b _ = false
 
--- the event of stage x, where it is no admission and another one, is an event of b, and a section of b follows
+-- The event of stage x, where it is no admission and another one, comes in a turn of b that is raised to h, or may raise it; and a section of b follows.
 abbrev pub OpensSection : Config → (h b : ℕ) → (admits : Bool) → (rest : Type 0) → Stage → List Stage → Type 0
 OpensSection config h b true rest x xs = rest
-OpensSection config h b false rest x xs = (is_other config h x ≡ true → is_event_of b x ≡ true) × InSection config h b xs
+OpensSection config h b false rest x xs =
+    (is_other config h x ≡ true → IsRaisedTurn config h b x ⊎ (may_raise config b x.stamped.event ≡ true)) × InSection config h b xs
 
--- Behind admissions stand an event of b, with which it may be raised, and a section of b in which it is. Other lower tasks do nothing.
+-- Behind admissions stand an event with which b may be raised, if it is not yet, and a section of b in which it is. Other lower tasks do nothing.
 abbrev pub AreOfSection : Config → (h b : ℕ) → List Stage → Type 0
 AreOfSection config h b [] = Unit {0}
 AreOfSection config h b (x ∷ xs) = OpensSection config h b (is_admit x.stamped) (AreOfSection config h b xs) x xs
@@ -48,28 +60,31 @@ pub data Comes (config : Config) (h : ℕ) (xs : List Stage) : Type 0 where
 
 -- in every run of well-formed task code they come so into each busy period
 abbrev pub PeriodsStartSo : Type 0
-PeriodsStartSo = (config : Config) (app : App) (events : List Stamped) (h : ℕ) → WellFormed config app → OsekRun config app events
-    → (first : Stage) (period : List Stage) → IsBusyPeriod config h (run_stages config app events) first period → Comes config h (first ∷ period)
+PeriodsStartSo = (config : Config) (app : App) (events : List Stamped) (h : ℕ) (once : Bool) → WellFormed config app → OsekRun config app events
+    → (first : Stage) (period : List Stage) → IsBusyPeriod config h once (run_stages config app events) first period → Comes config h (first ∷ period)
 
 -- ---- their numbers
 
--- what comes in with one other event is within a start
-pub record IsWithinStart (s : Start) (x : Stage) : Type 0 where
-  pub front : charged x ≤ s.inflow.front
-  pub acts : (j : ℕ) → activated j x ≤ s.inflow.acts j
-  pub sets : (j : ℕ) → was_set j x ≤ s.inflow.sets j
+-- What comes in with one other event is within a start. Only a service comes behind the first event of a period, where no task is raised.
+pub record IsWithinStart (config : Config) (h : ℕ) (s : Start) (x : Stage) : Type 0 where
+  pub front : is_some (served_task x.stamped.event) ≡ true → charged x ≤ s.inflow.front
+  pub acts : (j : ℕ) → is_over config h j ≡ true → activated j x ≤ s.inflow.acts j
+  pub sets : (j : ℕ) → is_over config h j ≡ true → was_set j x ≤ s.inflow.sets j
 
 -- what comes in with a section of task b is, in each part of the run that such a section is in
 pub record IsSectionWithin (config : Config) (h : ℕ) (run : List Stage) (b : ℕ) (s : Start) : Type 0 where
   pub front : (before behind : List Stage) (first : Stage) (xs : List Stage) → run ≡ before ++ ((first ∷ xs) ++ behind) → AreOfSection config h b (first ∷ xs)
       → total_where (is_other config h) charged xs ≤ s.inflow.front
-  pub acts : (before behind : List Stage) (j : ℕ) (xs : List Stage) → run ≡ before ++ (xs ++ behind) → AreOfSection config h b xs
+  pub acts : (before behind : List Stage) (j : ℕ) (xs : List Stage) → is_over config h j ≡ true → run ≡ before ++ (xs ++ behind) → AreOfSection config h b xs
       → total_where (is_other config h) (activated j) xs ≤ s.inflow.acts j
-  pub sets : (before behind : List Stage) (j : ℕ) (xs : List Stage) → run ≡ before ++ (xs ++ behind) → AreOfSection config h b xs
+  pub sets : (before behind : List Stage) (j : ℕ) (xs : List Stage) → is_over config h j ≡ true → run ≡ before ++ (xs ++ behind) → AreOfSection config h b xs
       → total_where (is_other config h) (was_set j) xs ≤ s.inflow.sets j
 
--- for each way in which lower tasks may come into a busy period there is a start
-pub record HaveStarts (config : Config) (h : ℕ) (starts : ℕ) (start : ℕ → Start) (run : List Stage) : Type 0 where
-  pub some : 0 < starts
-  pub single : AllByRecursion (λ x. is_other config h x ≡ true → (i : ℕ) × (i < starts) × IsWithinStart (start i) x) run
-  pub section : (b : ℕ) → IsLower config h b → (i : ℕ) × (i < starts) × IsSectionWithin config h run b (start i)
+-- for each way in which lower tasks may come into a busy period there is a start, which is boot only for boot
+pub record HaveStarts (config : Config) (h : ℕ) (once : Bool) (starts : ℕ) (start : ℕ → Start) (run : List Stage) : Type 0 where
+  pub some : (i : ℕ) × (i < starts) × ((start i).is_boot ≡ false)
+  pub single : AllByRecursion (λ x. is_other config h x ≡ true → (i : ℕ) × (i < starts) × IsWithinStart config h (start i) x × ((start i).is_boot ≡ true → is_boot x.stamped.event ≡ true)) run
+  pub section : (b : ℕ) → IsLower config h b → (i : ℕ) × (i < starts) × ((start i).is_boot ≡ false) × IsSectionWithin config h run b (start i)
+  -- where h leaves as a period begins
+  pub leaves : once ≡ true
+      → AllByRecursion (λ x. is_left h x.stamped.event ≡ true → (i : ℕ) × (i < starts) × ((start i).is_boot ≡ false) × IsWithinStart config h (start i) x) run

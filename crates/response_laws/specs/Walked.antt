@@ -1,20 +1,21 @@
 -- What the events of a round come to is within the walks of the task code.
-use Rattle.std.specs.Prelude.{ℕ, ◌+◌, ◌≤◌, ◌≡◌, ◌≢◌, ◌==◌, List, [], ◌∷◌, ◌++◌, Bool, true, false}
+use Rattle.std.specs.Prelude.{ℕ, ◌+◌, ◌≤◌, ◌≡◌, ◌==◌, ◌&&◌, List, [], ◌∷◌, ◌++◌, Bool, true, false}
 use Rattle.std.specs.List.{AllByRecursion}
 use Rattle.sloth_base.specs.declared.config.Config.{Config}
 use Rattle.sloth_base.specs.declared.app.App.{App}
 use Rattle.sloth_base.specs.declared.app.Op.{Op}
-use Rattle.sloth_base.specs.declared.app.Op.TheVariants as op
 use Rattle.sloth_base.specs.declared.event.Event.{Event}
 use Rattle.sloth_base.specs.declared.event.Event.TheVariants as event
 use Rattle.sloth_base.specs.declared.event.Stamped.{Stamped}
-use Rattle.sloth_base.specs.declared.service.Service.TheVariants as service
-use Rattle.sloth_base.specs.ServiceCodes.{is_service}
 use Rattle.code_rules.specs.WellFormed.{WellFormed}
 use Rattle.osek_scheduler.specs.State.{Frame, task}
 use Rattle.osek_scheduler.specs.Runs.{OsekRun}
-use Rattle.raised_sections.specs.Walks.{Position, place, IsWalk}
-use Rattle.raised_sections.specs.Sections.{operation_at}
+use Rattle.raised_sections.specs.Walks.{Position, place}
+use Rattle.raised_sections.specs.Sections.{IsSection}
+use Rattle.bound_rules.specs.declared.weights.BodyWeights.{BodyWeights}
+use Rattle.section_sizes.specs.Weights.{going_at, ending_at}
+use Rattle.walk_sums.specs.Rounds.{is_wait, IsPart, IsFirst, IsBehindWait, Anywhere}
+use Rattle.walk_sums.specs.Told.{NoneIsAbove}
 use Rattle.run_counts.specs.Stages.{Stage, run_stages}
 use Rattle.run_counts.specs.Rounds.{is_left, round_of, total}
 use Rattle.response_laws.specs.Turns.{begins_first, begins_next, if_turn}
@@ -26,28 +27,17 @@ abbrev pub standing : List Frame → Position
 standing [] = []
 standing (frame ∷ outer) = place frame.func frame.item ∷ standing outer
 
--- a WaitEvent
-abbrev pub is_wait : Op → Bool
-is_wait (op.Serve call) = is_service call.service service.WaitEvent
-is_wait _ = false
-
--- where WaitEvents cut turns into rounds, none of these positions but the last is one
-abbrev pub OnlyLastWaits : (cuts : Bool) → App → List Position → Type 0
-OnlyLastWaits cuts app [] = Unit {0}
-OnlyLastWaits cuts app (at ∷ further) = (cuts ≡ true → further ≢ [] → is_wait (operation_at app at) ≡ false) × OnlyLastWaits cuts app further
+-- where WaitEvents cut turns into rounds, a round ends with one
+abbrev pub is_cut : (cuts : Bool) → Op → Bool
+is_cut cuts o = cuts && is_wait o
 
 -- a first round of task t: a walk of it, up to a WaitEvent where these cut its turns
-pub record IsFirstRound (app : App) (cuts : Bool) (t : ℕ) (positions : List Position) : Type 0 where
-  pub of_walk : IsWalk app t positions
-  pub cut : OnlyLastWaits cuts app positions
+abbrev pub IsFirstRound : App → (cuts : Bool) → (t : ℕ) → List Position → Type 0
+IsFirstRound app cuts t = IsPart app t IsFirst Anywhere (is_cut cuts)
 
 -- another round of it: a part of a walk behind a WaitEvent, up to the next one where these cut its turns
-pub record IsLaterRound (app : App) (cuts : Bool) (t : ℕ) (positions : List Position) : Type 0 where
-  pub before : List Position
-  pub wait : Position
-  pub of_walk : IsWalk app t (before ++ wait ∷ positions)
-  pub waits : is_wait (operation_at app wait) ≡ true
-  pub cut : OnlyLastWaits cuts app positions
+abbrev pub IsLaterRound : App → (cuts : Bool) → (t : ℕ) → List Position → Type 0
+IsLaterRound app cuts t = IsPart app t (IsBehindWait app) Anywhere (is_cut cuts)
 
 -- the sum of what positions weigh: the last one where the walk may end with it, the others where it goes on
 abbrev pub weigh : (going ending : Position → ℕ) → List Position → ℕ
@@ -62,6 +52,17 @@ FirstRoundsWeigh app cuts t going ending most = (positions : List Position) → 
 -- no other round weighs more
 abbrev pub LaterRoundsWeigh : App → (cuts : Bool) → (t : ℕ) → (going ending : Position → ℕ) → (most : ℕ) → Type 0
 LaterRoundsWeigh app cuts t going ending most = (positions : List Position) → IsLaterRound app cuts t positions → weigh going ending positions ≤ most
+
+-- by the weights of items
+abbrev pub FirstRoundsSum : App → (cuts : Bool) → (t : ℕ) → (weights : List BodyWeights) → (most : ℕ) → Type 0
+FirstRoundsSum app cuts t weights most = NoneIsAbove (IsFirstRound app cuts t) weights most
+
+abbrev pub LaterRoundsSum : App → (cuts : Bool) → (t : ℕ) → (weights : List BodyWeights) → (most : ℕ) → Type 0
+LaterRoundsSum app cuts t weights most = NoneIsAbove (IsLaterRound app cuts t) weights most
+
+-- no part of a walk of task b at each position of which it is raised to task h sums up to more
+abbrev pub SectionsSum : Config → App → (h b : ℕ) → (weights : List BodyWeights) → (most : ℕ) → Type 0
+SectionsSum config app h b weights most = NoneIsAbove (IsSection config app h b) weights most
 
 -- ---- runs
 

@@ -3,11 +3,14 @@ ghost use Rattle.response_laws.specs.Arrivals.{ArrivalsAreFew, AdmissionsAreFew}
 ghost use Rattle.response_laws.specs.Starts.{PeriodsStartSo};
 ghost use Rattle.response_laws.specs.Walked.{RoundsFollowWalks};
 ghost use Rattle.response_laws.specs.Makers.{RoundsMakeWithin};
+ghost use Rattle.response_laws.specs.Once.{RoundsMakeOnce};
 ghost use Rattle.response_laws.specs.Ticks.{TicksMakeByAlarms};
+ghost use Rattle.response_laws.specs.Expiries.{TicksMakeAsAlarmsExpire};
 ghost use Rattle.response_laws.specs.Settings.{CleanTasksHaveSettings};
 ghost use Rattle.response_laws.specs.Response.{RespondsInTime};
 ghost use Rattle.response_laws.specs.Loaded.{RespondsUnderLoad};
-ghost use Rattle.response_laws.specs.SoundRuns.{ImagesRespond};
+ghost use Rattle.response_laws.specs.CodeStarts.{CodeFitsStarts};
+ghost use Rattle.response_laws.specs.SoundRuns.{ImagesRespond, ImagesRespondByCode};
 
 /// Of arrivals that keep a load, at most as many of a line fall into a window of counts as distances fill it.
 pub fn arrivals_are_few()
@@ -25,7 +28,8 @@ pub fn periods_start_so()
     ensures { PeriodsStartSo }
 {}
 
-/// In every run of well-formed task code what the events of a round come to is at most what a walk of the task code weighs.
+/// In every run of well-formed task code what the events of a round come to is at most what a walk of the task code weighs, where each event comes to no
+/// more than its item weighs.
 pub fn rounds_follow_walks()
     ensures { RoundsFollowWalks }
 {}
@@ -35,9 +39,21 @@ pub fn rounds_make_within()
     ensures { RoundsMakeWithin }
 {}
 
+/// In every run of well-formed task code a round of a task makes another one Ready to begin anew once at most, where that has no higher static priority, or
+/// the task lets no other in.
+pub fn rounds_make_once()
+    ensures { RoundsMakeOnce }
+{}
+
 /// In every run of well-formed task code a tick makes a task Ready, or sets its events, once at most, and only where an alarm of its counter does so.
 pub fn ticks_make_by_alarms()
     ensures { TicksMakeByAlarms }
+{}
+
+/// In every run of well-formed task code ticks make a task Ready, or set its events, no more often than alarms of their counter expire: one that no item
+/// sets once in its cycle at most, if it starts with the system, any other with each tick.
+pub fn ticks_make_as_alarms_expire()
+    ensures { TicksMakeAsAlarmsExpire }
 {}
 
 /// In every run of well-formed task code a task that clears what it waits for has, for each round behind a WaitEvent, an event that is set in front of it.
@@ -45,8 +61,9 @@ pub fn clean_tasks_have_settings()
     ensures { CleanTasksHaveSettings }
 {}
 
-/// In every run whose rounds are within their costs, and whose busy periods start in given ways, a task leaves within the longest of these in which it
-/// has a round, and an event, from the moment of the event that makes it Ready on.
+/// In every run whose rounds are within their costs, and whose busy periods start in given ways, each with enough, a task leaves within the longest of
+/// these in which it has a round, and an event, from the moment of the event that makes it Ready on, if the run is that long. A preemptable task may be
+/// looked at from where it left last on; then it is entered once.
 pub fn runs_respond_in_time()
     ensures { RespondsInTime }
 {}
@@ -57,7 +74,19 @@ pub fn runs_respond_under_load()
 {}
 
 /// The same of every run of an image whose builder promises that its runs are sound, weighed and in pace: rounds by the walks of the task code, or by what
-/// the load says of them.
+/// the load says of them. What lower tasks and alarms bring into the starts (`HaveStarts`, `HasAlarms`) are premises on the run.
 pub fn images_respond()
     ensures { ImagesRespond }
+{}
+
+/// In every run of well-formed task code that keeps the pace, what lower tasks bring into busy periods is within starts that fit the task code: each
+/// item that they reach, and each of their raised sections, with what raises them.
+pub fn code_fits_starts()
+    ensures { CodeFitsStarts }
+{}
+
+/// In every run of such an image a task responds within the longest start in which it has a round, and a stretch, where the starts hold what lower tasks
+/// bring in by their code, and as many expiries as alarms may have. But for the `work` lines nothing is asked of the run.
+pub fn images_respond_by_code()
+    ensures { ImagesRespondByCode }
 {}

@@ -1,7 +1,8 @@
 //! Response times: within how many counts of becoming Ready a task has left the processor, in every run whose arrivals keep a load.
 //!
 //! The classical analysis of response times (Joseph and Pandya 1986), by busy periods of a priority (Lehoczky 1990) and with blocking once (Sha, Rajkumar
-//! and Lehoczky 1990), of runs of machine code. A busy period of a task goes from where no task of at least its static priority is due on (`specs/Busy`).
+//! and Lehoczky 1990), of runs of machine code. A busy period of a task goes from where no task of at least its static priority is due on, or, where it is
+//! preemptable and to be entered once, from where it left last on (`specs/Busy`).
 //!
 //! - Of a line no more arrivals fall into a window than distances of the load fill it (`arrivals_are_few`), so do admissions of a busy period
 //!   (`admissions_are_few`; `specs/Arrivals`).
@@ -10,11 +11,15 @@
 //!   first item; another one behind a WaitEvent, where the task was entered again or went on.
 //! - A round makes another task Ready, or sets its events, no more often than a walk has items that name it (`rounds_make_within`; `specs/Makers`); a tick only
 //!   where an alarm of its counter does (`ticks_make_by_alarms`; `specs/Ticks`).
+//! - It makes a task that cannot be entered meanwhile Ready once at most (`rounds_make_once`; `specs/Once`).
+//! - Alarms expire no more often than their cycles and the services on them let them (`ticks_make_as_alarms_expire`; `specs/Expiries`).
 //! - A task that clears what it waits for has a setting of its own for each round behind a WaitEvent (`clean_tasks_have_settings`; `specs/Settings`), so such
 //!   rounds may be cut where it goes on.
 //! - With costs of rounds and starts (`specs/Demand`, `specs/Bounded`) that are enough, a task responds within the longest start in which it has a round, and
 //!   an event (`runs_respond_in_time`; `specs/Response`); under a load (`runs_respond_under_load`; `specs/Loaded`); in every run of an image
 //!   (`images_respond`; `specs/SoundRuns`).
+//! - What lower tasks bring into a period follows from their code (`code_fits_starts`; `specs/CodeStarts`), so the response time of a task does
+//!   (`images_respond_by_code`).
 //!
 //! What an entry or a tick takes counts here with the longest item, which may have begun in front of it. Stages, rounds and own counts: `run_counts`; loads:
 //! `load_text`.

@@ -1,0 +1,122 @@
+-- The runs of an image respond in time, by what its builder promises of them.
+use Rattle.std.proofs.Common.{ℕ, ◌+◌, ◌-◌, ◌<◌, ◌≤◌, List, [], Bool, refl, arith, ◌≡◌, true}
+use Rattle.std.specs.List.{AllByRecursion}
+use Rattle.sloth_base.specs.declared.config.Config.{Config}
+use Rattle.sloth_base.specs.declared.app.App.{App}
+use Rattle.sloth_base.specs.declared.event.Stamped.{Stamped}
+use Rattle.code_rules.specs.WellFormed.{WellFormed}
+use Rattle.load_text.specs.declared.entry.Entry.{Entry}
+use Rattle.osek_scheduler.specs.State.{opening}
+use Rattle.osek_scheduler.specs.Runs.{AreStepsTo}
+use Rattle.osek_scheduler.proofs.Facts.{facts}
+use Rattle.osek_scheduler.proofs.Leading.{follows_leads}
+use Rattle.osek_scheduler.proofs.Steps.{opening_valid}
+use Rattle.osek_blocking.proofs.Ordering.{opening_ordered}
+use Rattle.bound_rules.specs.declared.weights.BodyWeights.{BodyWeights}
+use Rattle.event_weights.specs.Items.{length_of}
+use Rattle.event_weights.specs.Pace.{ItemSizes, AreAtMost}
+use Rattle.event_weights.proofs.BodyLengths.{short}
+use Rattle.sim_induction.specs.Paced.{KeepsPace, InPace}
+use Rattle.sim_induction.specs.Sound.{Sound, IsSoundRun, events_of}
+use Rattle.sim_induction.specs.Weighed.{Weighed}
+use Rattle.run_counts.specs.Laws.{IsWithinWeights}
+use Rattle.run_counts.specs.Spending.{WeighsItems}
+use Rattle.run_counts.specs.Stages.{run_stages}
+use Rattle.run_counts.specs.Rounds.{WeighsEndings}
+use Rattle.run_counts.proofs.Counted.{counts_weigh, counts_end}
+use Rattle.run_counts.proofs.Owned.{own_what_is_charged}
+use Rattle.run_counts.proofs.Staged.{keeps_weights}
+use Rattle.sloth_base.specs.declared.event.Arrival.{Arrival}
+use Rattle.sloth_base.specs.declared.image.Image.{Image}
+use Rattle.sloth_base.specs.Arrivals.{AreArrivals}
+use Rattle.sloth_base.specs.Limits.{count_limit}
+use Rattle.sloth_base.specs.Owners.{owners_in}
+use Rattle.code_rules.specs.AppRange.{IsTaskCode}
+use Rattle.load_text.specs.Loads.{KeepDistances}
+use Rattle.section_counts.specs.Counts.{AreCounts}
+use Rattle.response_laws.specs.CodeStarts.{FitsStarts}
+use Rattle.response_laws.specs.Starts.{HaveStarts}
+use Rattle.response_laws.specs.Expiries.{MarksAlarms, HasExpiries}
+use Rattle.response_laws.specs.Loaded.{HasAlarms, IsStartFor}
+use Rattle.response_laws.specs.Response.{RespondsWithin, EntersOnce}
+use Rattle.response_laws.specs.Demand.{Costs, Start}
+use Rattle.response_laws.specs.Arrivals.{HasDistances}
+use Rattle.response_laws.specs.SoundRuns.{item_instructions, NoStretchIsAbove, KeepsWork, FitsRounds, ImagesRespond, ImagesRespondByCode}
+use Rattle.response_laws.proofs.Linked.{Known, stages_known}
+use Rattle.response_laws.proofs.Loaded.{respond_under_load}
+use Rattle.response_laws.proofs.Expiring.{ticks_make_as_alarms_expire}
+use Rattle.response_laws.proofs.CodeStarts.{code_fits_starts}
+use Rattle.response_laws.proofs.SoundRuns.{all_charged, bounds_rounds, all_brief}
+
+-- an image, whose longest item has so many instructions
+module _ (config : Config) (app : App) (image : Image) (weights : List BodyWeights) (load : List Entry) (arrivals : List Arrival) (n late longest h r : ℕ)
+    (cuts : ℕ → Bool) (costs : Costs) (once : Bool) (starts : ℕ) (start : ℕ → Start) (enters : once ≡ true → EntersOnce config h cuts) (wf : WellFormed config app) (sound : Sound config app image)
+    (weighed : Weighed config app image) (pace : InPace config app image) (counts : AreCounts app weights) (positive : 0 < longest)
+    (most : AreAtMost (length_of counts.0) longest) (code : IsTaskCode app) (are : AreArrivals (owners_in config) arrivals) (few : n ≤ count_limit) where
+  abbrev events : List Stamped
+  events = events_of image arrivals n
+
+  abbrev size : ItemSizes
+  size = length_of counts.0
+
+  run : IsSoundRun config app image arrivals n
+  run = sound.each arrivals n are few
+
+  pacing : KeepsPace config app size longest n events
+  pacing = (pace.paced counts.0 counts.1).each arrivals n longest are few most
+
+  within : AllByRecursion (IsWithinWeights config app size longest) (run_stages config app events)
+  within = keeps_weights config app size longest n events run.osek pacing
+
+  weighs : WeighsItems app size weights
+  weighs = counts_weigh app counts.0 counts.1 (short app code counts.0 counts.1) weights counts.2
+
+  ends : WeighsEndings app size weights
+  ends = counts_end app counts.0 weights counts.2
+
+  leads : AreStepsTo config app events (opening config app) run.osek.0
+  leads = follows_leads config app [] (opening config app) events run.osek.0 run.osek.1
+
+  known : AllByRecursion (Known config app) (run_stages config app events)
+  known = stages_known config app (facts config app wf) 0 (opening config app) run.osek.0 events (opening_ordered config app) (opening_valid config app) leads
+
+  responds : NoStretchIsAbove config app late → HasDistances load → KeepDistances load arrivals → KeepsWork config load cuts (run_stages config app events)
+      → FitsRounds config app longest weights load h cuts costs → HaveStarts config h once starts start (run_stages config app events)
+      → ((i : ℕ) → i < starts → IsStartFor config load late (longest + late) h r once costs (run_stages config app events) (start i))
+      → RespondsWithin config app n (longest + late) h r events
+  responds above distances keeps works rounds have fit =
+      respond_under_load config app load n late (longest + late) (longest + late) arrivals events h r cuts costs once starts start enters wf run.osek run.in_time
+      (record {
+        brief = all_brief config app late events above (weighed.each arrivals n are few) [] events (opening config app) run.osek.0 refl refl leads;
+        reaches = λ some. let end = pacing.reaches_within late above.stretches some in omega (arith, end);
+      })
+      (omega arith) (all_charged config app size longest most positive late above (run_stages config app events) known within)
+      distances keeps
+      (bounds_rounds config app size longest n weights load events h cuts costs wf run.osek positive most pacing weighs ends
+      (λ t. own_what_is_charged config app n t arrivals events wf run.osek run.in_time) works rounds)
+      have fit
+
+  have_starts : FitsStarts config app longest weights h once starts start → HaveStarts config h once starts start (run_stages config app events)
+  have_starts fits = code_fits_starts config app size longest weights events h once starts start wf run.osek within weighs ends fits
+
+  alarms : (is_set : ℕ → Bool) (s : Start) → MarksAlarms app is_set → HasExpiries config is_set s → HasAlarms (run_stages config app events) s
+  alarms is_set s marks has = ticks_make_as_alarms_expire config app events is_set s wf run.osek marks has
+
+pub images_respond : ImagesRespond
+images_respond config app image weights load arrivals n late h r cuts costs once starts start enters wf code sound weighed pace counts are few above positive keeps works rounds have fit =
+    responds config app image weights load arrivals n late item_instructions h r cuts costs once starts start enters wf sound weighed pace counts (omega arith)
+    (short app code counts.0 counts.1) code are few above positive keeps works rounds have fit
+
+pub images_respond_by_code : ImagesRespondByCode
+images_respond_by_code config app image weights load arrivals n late longest h r cuts is_set costs once starts start enters wf code sound weighed pace counts marks is_longest are few above positive keeps works rounds fits each =
+    let most = is_longest.none_longer counts.0 counts.1 in
+    responds config app image weights load arrivals n late longest h r cuts costs once starts start enters wf sound weighed pace counts is_longest.some most code are few
+    above positive keeps works rounds
+    (have_starts config app image weights load arrivals n late longest h r cuts costs once starts start enters wf sound weighed pace counts is_longest.some most code are few fits)
+    (λ i lt. record {
+      arrivals = (each i lt).arrivals;
+      alarms = alarms config app image weights load arrivals n late longest h r cuts costs once starts start enters wf sound weighed pace counts is_longest.some most code are few
+          is_set (start i) marks (each i lt).expiries;
+      enough = (each i lt).enough;
+      lasts = (each i lt).lasts;
+    })
