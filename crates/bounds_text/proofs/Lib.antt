@@ -1,5 +1,4 @@
 mod Lines
-pub mod Meaning
 pub mod OneText
 mod Keeping
 mod KeptCounts

@@ -3,33 +3,13 @@ use Rattle.std.specs.Prelude.{ℕ, zero, suc, ◌*◌, ◌<◌, ◌≤◌, ◌�
 use Rattle.sloth_base.specs.declared.config.Config.{Config}
 use Rattle.sloth_base.specs.declared.config.TaskDecl.{TaskDecl}
 use Rattle.sloth_base.specs.declared.app.App.{App}
-use Rattle.sloth_base.specs.declared.refusal.BuildError.{BuildError}
 use Rattle.sloth_base.specs.Named.{undeclared_task}
 use Rattle.sloth_base.specs.Limits.{count_limit, item_counts}
-use Rattle.least_fault.specs.Order.{NoFault, ErrorIs}
-use Rattle.code_rules.specs.WellFormed.{RuleFault}
-use Rattle.call_graph.specs.declared.ranking.Ranks.{Ranks}
-use Rattle.call_graph.specs.Ranks.{RanksOf}
-use Rattle.task_verify.specs.Accepted.{VerifiedCode}
 use Rattle.sloth_source.specs.Texts.{AreAccepted}
 use Rattle.bound_rules.specs.declared.bound.Bound.{Bound}
 use Rattle.bound_rules.specs.declared.bound.Bound.TheVariants as bound
 use Rattle.block_bounds.specs.Bounds.{AreToldBounds}
 use Rattle.bounds_text.specs.KeptRuns.{RunsKeepAll}
-
--- ---- task code
-
--- the task code keeps all rules, and these are the ranks of its functions
-pub record IsChecked (config : Config) (app : App) (code : VerifiedCode) (ranks : Ranks) : Type 0 where
-  pub is : code ≡ record { config = config; app = app }
-  pub belong : RanksOf app ranks
-  pub none : NoFault (RuleFault config app)
-
--- why task code is not verified: want of memory, or its least fault
-abbrev pub RulesErrorIs : Config → App → BuildError → Type 0
-RulesErrorIs config app error = ErrorIs (RuleFault config app) error
-
--- ---- lines
 
 -- a bound in items is small enough to be told
 abbrev pub IsTellable : Bound → Type 0

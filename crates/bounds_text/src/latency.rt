@@ -14,14 +14,15 @@ ghost use Rattle.bounds_text.specs.BoundsText.{IsTellable, AreTellable};
 ghost use Rattle.bounds_text.specs.LowerCounts.{heaviest_in};
 ghost use Rattle.bounds_text.specs.Latency.{IsHighestTask, heaviest_ending, longest_item, taken_counts, parts_of, latency_text, latency_line, told_of, tick_line, tick_lines, last_line, AreAllLines, HasLatency, IsLatencyText};
 
+use crate::bound_lines;
 use crate::lower_counts::{heaviest, heaviest_in, lower_counts};
-use crate::{bound_lines, read_checked};
 use block_bounds::bound::{Bound, has_lower};
 use block_bounds::bounds;
 use block_bounds::latency::{highest_among, latency_of};
 use block_bounds::stretches::{enter_counts, running_counts};
 use bound_rules::weights::{BodyWeights, weights_at};
 use call_graph::ranking::Ranks;
+use checked_source::read_checked;
 use code_lengths::tick_path;
 use event_weights::{ItemLengths, lengths};
 use itoa::Buffer;

@@ -3,18 +3,17 @@
 //! The lines of the bounds of accepted texts, with `latency` those of all counters and the task of highest priority, or their first refusal (`bounds_text`,
 //! `latency::latency_lines`). In every sound run of an image of the task code each task of which a number is told waits for at most so many items and
 //! 200 counts for each. The lines with `counts` tell the sums of sections in counts (`lower_counts::lower_count_lines`). In every run of an image whose builder
-//! promises `Sound` and `InPace` lower tasks spend at most so many counts, and if it promises `Weighed` too, from an arrival behind boot the task of the last
-//! line is entered within its latency and what the ticks on the way take, each behind the longest item. Texts have one list of lines of each kind at most
-//! (`one_text`, `one_latency_text`, `one_lower_counts_text`). Definitions: `specs/BoundsText`, ticks and latency `specs/Latency`, counts `specs/LowerCounts`,
-//! what bounds promise of runs `specs/KeptRuns`. Bounds: `block_bounds` (`Bounds`, `Kept`, `Stretches`); sums: `section_counts` (`Told`); what runs spend, and
-//! the latency: `run_counts` (`Spending`, `Latency`).
+//! promises `Sound` and `InPace` lower tasks spend at most so many counts; if `Weighed` too, from an arrival behind boot the task of the last line is entered,
+//! where the run has a stretch more, within its latency and the ticks' counts, each with the longest item; no tick takes more than its line says. Texts have
+//! one list of lines of each kind (`one_text`, `one_latency_text`, `one_lower_counts_text`). Definitions: `specs/BoundsText`, ticks and latency
+//! `specs/Latency`, counts `specs/LowerCounts`, what bounds promise of runs `specs/KeptRuns`. Bounds: `block_bounds` (`Bounds`, `Kept`, `Stretches`); sums:
+//! `section_counts` (`Told`); what runs spend, and the latency: `run_counts` (`Spending`, `Latency`).
 #![tactic(auto)]
 
 ghost use Rattle.std.specs.Prelude.{◌≡◌, ◌<◌, length, IfOk, IfErr};
-ghost use Rattle.code_rules.specs.AppRange.{AppInRange};
 ghost use Rattle.call_graph.specs.Ranks.{RanksOf};
-ghost use Rattle.sloth_source.specs.Texts.{AreAccepted, SourcesErrorIs};
-ghost use Rattle.bounds_text.specs.BoundsText.{IsTellable, AreTellable, IsChecked, RulesErrorIs, HasLines, bound_text, bound_line, bound_lines, IsBoundsText};
+ghost use Rattle.sloth_source.specs.Texts.{SourcesErrorIs};
+ghost use Rattle.bounds_text.specs.BoundsText.{IsTellable, AreTellable, HasLines, bound_text, bound_line, bound_lines, IsBoundsText};
 
 pub mod latency;
 pub mod laws;
@@ -23,16 +22,14 @@ pub mod lower_counts;
 use block_bounds::bound::Bound;
 use block_bounds::bounds;
 use call_graph::ranking::Ranks;
+use checked_source::read_checked;
 use itoa::Buffer;
-use sloth_base::app::App;
-use sloth_base::config::{Config, TaskDecl};
+use sloth_base::config::TaskDecl;
 use sloth_base::limits::ITEM_COUNTS;
 use sloth_base::memory::NoMemory;
 use sloth_base::refusal::BuildError;
-use sloth_source::{Ranked, read_ranked};
 use std::alloc::Global;
 use task_verify::verified::Verified;
-use task_verify::verify;
 
 // A bound in items and in counts.
 fn bound_text(alloc: Global, bound: Bound) -> Result<Vec<u8>, NoMemory>
@@ -84,50 +81,6 @@ fn bound_lines(alloc: Global, tasks: &[TaskDecl], bounds: &[Bound]) -> Result<Ve
         text.extend_from_slice(bound_line(alloc, tasks, bounds, task)?.as_slice())?;
     }
     Ok(text)
-}
-
-// Task code that keeps all rules, and the ranks of its functions.
-struct Checked {
-    verified: Verified,
-    ranks: Ranks,
-}
-
-// Written out: what is derived is proved anew wherever a value is let go.
-impl Drop for Checked {
-    fn drop(self) {
-        let Checked {
-            verified: _,
-            ranks: _,
-        } = self;
-    }
-}
-
-// Task code that is verified, with the ranks of its functions.
-fn checked_code(
-    alloc: Global,
-    config: &Config,
-    app: &App,
-    ranks: Ranks,
-) -> Result<Checked, BuildError>
-    requires in_range { AppInRange config.now app.now }
-    requires belong { RanksOf app.now ranks }
-    ensures checked { IfOk result (λ checked. IsChecked config.now app.now checked.verified checked.ranks) }
-    ensures refused { IfErr result (RulesErrorIs config.now app.now) }
-{
-    let verified = verify(alloc, config, app, &ranks)?;
-    Ok(Checked { verified, ranks })
-}
-
-// What both texts mean, where they are accepted.
-fn read_checked(alloc: Global, oil: &[u8], src: &[u8]) -> Result<Checked, BuildError>
-    requires oil { length oil.now < 4294967295 }
-    requires src { length src.now < 4294967295 }
-    ensures accepted { IfOk result (λ checked. AreAccepted oil.now src.now checked.verified.config checked.verified.app) }
-    ensures belong { IfOk result (λ checked. RanksOf checked.verified.app checked.ranks) }
-    ensures refused { IfErr result (SourcesErrorIs oil.now src.now) }
-{
-    let Ranked { config, app, ranks } = read_ranked(alloc, oil, src)?;
-    checked_code(alloc, &config, &app, ranks)
 }
 
 // The lines of task code.

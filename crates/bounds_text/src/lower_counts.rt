@@ -7,10 +7,10 @@ ghost use Rattle.section_counts.specs.Counts.{AreCounts};
 ghost use Rattle.sloth_source.specs.Texts.{SourcesErrorIs};
 ghost use Rattle.bounds_text.specs.LowerCounts.{greater, greatest_of, heaviest_in, heaviest, behind_item, lower_counts, sum_text, count_line, count_lines, HasLowerCounts, IsLowerCountsText};
 
-use crate::read_checked;
 use block_bounds::bound::has_lower;
 use bound_rules::weights::{BodyWeights, weights_at};
 use call_graph::ranking::Ranks;
+use checked_source::read_checked;
 use itoa::Buffer;
 use section_counts::{Sum, count_weights, section_sums};
 use sloth_base::app::App;

@@ -58,7 +58,7 @@ pub fn images_own_within_items()
 {}
 
 /// In a run in time of well-formed task code that keeps the pace, within the weights of its events, from the moment of an arrival behind boot the task of
-/// highest priority is entered within its latency by weights, and the weights of the ticks on the way with the longest item in front of each.
+/// highest priority is entered, where the run has a stretch more, within its latency by weights and those of the ticks, each with the longest item in front.
 pub fn runs_enter_by_weights()
     ensures { RunsEnterByWeights }
 {}

@@ -1,4 +1,3 @@
-pub mod Meaning
 pub mod OneText
 pub mod OneVerdict
 pub mod Telling

@@ -2,13 +2,7 @@
 use Rattle.std.specs.Prelude.{ℕ, zero, suc, ◌<◌, ◌≡◌, ◌==◌, List, [], ◌∷◌, ◌++◌, ◌||◌, Bool, false, cond, codes, decimal, length, get_or}
 use Rattle.sloth_base.specs.declared.config.Config.{Config}
 use Rattle.sloth_base.specs.declared.app.App.{App}
-use Rattle.sloth_base.specs.declared.refusal.BuildError.{BuildError}
 use Rattle.sloth_base.specs.Named.{declaration, no_symbol}
-use Rattle.least_fault.specs.Order.{NoFault, ErrorIs}
-use Rattle.code_rules.specs.WellFormed.{RuleFault}
-use Rattle.call_graph.specs.declared.ranking.Ranks.{Ranks}
-use Rattle.call_graph.specs.Ranks.{RanksOf}
-use Rattle.task_verify.specs.Accepted.{VerifiedCode}
 use Rattle.sloth_base.specs.Limits.{ceiling_count}
 use Rattle.call_graph.specs.Bits.{is_member}
 use Rattle.sloth_base.specs.ConfigRange.{scheduler_number}
@@ -19,18 +13,6 @@ use Rattle.shared_data.specs.declared.verdict.Verdict.{Verdict}
 use Rattle.shared_data.specs.declared.verdict.Verdict.TheVariants as verdict
 use Rattle.shared_data.specs.Verdicts.{no_keeper, AreVerdicts}
 use Rattle.shared_data.specs.RunLaws.{RunsKeepApart}
-
--- ---- task code
-
--- the task code keeps all rules, and these are the ranks of its functions
-pub record IsChecked (config : Config) (app : App) (code : VerifiedCode) (ranks : Ranks) : Type 0 where
-  pub is : code ≡ record { config = config; app = app }
-  pub belong : RanksOf app ranks
-  pub none : NoFault (RuleFault config app)
-
--- why task code is not verified: want of memory, or its least fault
-abbrev pub RulesErrorIs : Config → App → BuildError → Type 0
-RulesErrorIs config app error = ErrorIs (RuleFault config app) error
 
 -- ---- names
 

@@ -2,23 +2,21 @@
 ghost use Rattle.std.specs.Prelude.{◌≡◌, ◌<◌, ◌≤◌, ◌++◌, ℕ, codes, length, get_or, IfOk, IfErr, OnOk};
 ghost use Rattle.sloth_base.specs.Limits.{task_limit};
 ghost use Rattle.sloth_base.specs.Named.{no_symbol};
-ghost use Rattle.code_rules.specs.AppRange.{AppInRange};
 ghost use Rattle.call_graph.specs.Ranks.{RanksOf};
-ghost use Rattle.sloth_source.specs.Texts.{AreAccepted, SourcesErrorIs};
-ghost use Rattle.shares_text.specs.SharesText.{IsChecked, RulesErrorIs, HasShares, IsSharesText, IsTellable, verdict_words, share_lines};
+ghost use Rattle.sloth_source.specs.Texts.{SourcesErrorIs};
+ghost use Rattle.shares_text.specs.SharesText.{HasShares, IsSharesText, IsTellable, verdict_words, share_lines};
 
 use crate::lines::push_verdict;
 use call_graph::ranking::Ranks;
+use checked_source::read_checked;
 use shared_data::data_verdicts;
 use shared_data::verdict::Verdict;
 use sloth_base::app::{App, Symbol};
 use sloth_base::config::Config;
 use sloth_base::memory::NoMemory;
 use sloth_base::refusal::BuildError;
-use sloth_source::{Ranked, read_ranked};
 use std::alloc::Global;
 use task_verify::verified::Verified;
-use task_verify::verify;
 
 fn symbol_at(app: &App, number: usize) -> &Symbol
     requires { number < length app.now.symbols }
@@ -92,50 +90,6 @@ fn text_of(alloc: Global, verified: &Verified, ranks: &Ranks) -> Result<Vec<u8>,
 {
     let text = checked_text(alloc, verified, ranks)?;
     Ok(text)
-}
-
-// Task code that keeps all rules, and the ranks of its functions.
-struct Checked {
-    verified: Verified,
-    ranks: Ranks,
-}
-
-// Written out: what is derived is proved anew wherever a value is let go.
-impl Drop for Checked {
-    fn drop(self) {
-        let Checked {
-            verified: _,
-            ranks: _,
-        } = self;
-    }
-}
-
-// Task code that is verified, with the ranks of its functions.
-fn checked_code(
-    alloc: Global,
-    config: &Config,
-    app: &App,
-    ranks: Ranks,
-) -> Result<Checked, BuildError>
-    requires in_range { AppInRange config.now app.now }
-    requires belong { RanksOf app.now ranks }
-    ensures checked { IfOk result (λ checked. IsChecked config.now app.now checked.verified checked.ranks) }
-    ensures refused { IfErr result (RulesErrorIs config.now app.now) }
-{
-    let verified = verify(alloc, config, app, &ranks)?;
-    Ok(Checked { verified, ranks })
-}
-
-// What both texts mean, where they are accepted.
-fn read_checked(alloc: Global, oil: &[u8], src: &[u8]) -> Result<Checked, BuildError>
-    requires oil { length oil.now < 4294967295 }
-    requires src { length src.now < 4294967295 }
-    ensures accepted { IfOk result (λ checked. AreAccepted oil.now src.now checked.verified.config checked.verified.app) }
-    ensures belong { IfOk result (λ checked. RanksOf checked.verified.app checked.ranks) }
-    ensures refused { IfErr result (SourcesErrorIs oil.now src.now) }
-{
-    let Ranked { config, app, ranks } = read_ranked(alloc, oil, src)?;
-    checked_code(alloc, &config, &app, ranks)
 }
 
 /// The lines of what keeps the users of each symbol apart, of texts of at most 4,294,967,294 bytes; or the first refusal (O1 to O15, A1 to A7,

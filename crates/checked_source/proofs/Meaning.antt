@@ -9,7 +9,7 @@ use Rattle.code_rules.specs.WellFormed.{RuleFault}
 use Rattle.task_verify.specs.Accepted.{VerifiedCode}
 use Rattle.sloth_source.specs.RankedTexts.{HasRanks}
 use Rattle.sloth_source.specs.Texts.{AreAccepted, SourcesErrorIs}
-use Rattle.bounds_text.specs.BoundsText.{RulesErrorIs}
+use Rattle.checked_source.specs.Checked.{RulesErrorIs}
 
 pub accepted_code : (oil src : List ℕ) (config : Config) (app : App) (v : VerifiedCode) → HasRanks oil src config app → NoFault (RuleFault config app)
     → v ≡ record { config = config; app = app } → AreAccepted oil src v.config v.app

@@ -2,8 +2,8 @@ use Rattle.std.proofs.Common.{sym, subst}
 use Rattle.std.proofs.lemmas.Result.{IfOk-weaker, IfErr-weaker}
 use Rattle.call_graph.specs.Ranks.{RanksOf}
 use Rattle.task_verify.specs.Accepted.{VerifiedCode}
-use Rattle.shares_text.proofs.Meaning.{accepted_code, refused_code}
-use Rattle.shares_text.proofs.text.read_checked.Goals as goal
+use Rattle.checked_source.proofs.Meaning.{accepted_code, refused_code}
+use Rattle.checked_source.proofs.reading.read_checked.Goals as goal
 
 pub returns-clause-accepted : goal.returns-clause-accepted
 returns-clause-accepted c =
