@@ -57,10 +57,6 @@ making costs k j = get_or (makers costs j) k no_makings
 abbrev pub no_services : Services
 no_services = record { activates = false; chains = false; sets_events = false }
 
--- the services that name task j and that task k reaches
-abbrev pub served : Costs → (k j : ℕ) → Services
-served costs k j = get_or (get_or costs.services j []) k no_services
-
 -- ---- sections
 
 abbrev pub no_level : Level

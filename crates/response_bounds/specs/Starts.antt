@@ -6,6 +6,8 @@ use Rattle.response_bounds.specs.declared.costs.TaskCosts.{TaskCosts}
 use Rattle.response_bounds.specs.declared.costs.CounterCosts.{CounterCosts}
 use Rattle.response_bounds.specs.declared.costs.Services.{Services}
 use Rattle.response_bounds.specs.declared.costs.Costs.{Costs}
+use Rattle.response_bounds.specs.declared.starts.Making.{Making}
+use Rattle.response_bounds.specs.declared.starts.Making.TheVariants as making
 use Rattle.response_bounds.specs.declared.window.Start.{Start}
 use Rattle.response_bounds.specs.declared.window.Start.TheVariants as start
 use Rattle.response_bounds.specs.declared.window.Window.{Window}
@@ -27,34 +29,20 @@ abbrev pub ticks_front : List CounterCosts → ℕ
 ticks_front [] = 0
 ticks_front (c ∷ cs) = max (cond (is_some c.distance) c.tick 0) (ticks_front cs)
 
--- task k, which reaches these services, activates the task that they name in front of a window of h: it is lower
-abbrev pub may_activate : Costs → (h k : ℕ) → Services → Bool
-may_activate costs h k s = is_lower costs h k && s.activates
-
--- one of these tasks does; they are those from k on
-abbrev pub is_activated : Costs → (h k : ℕ) → List Services → Bool
-is_activated costs h k [] = false
-is_activated costs h k (s ∷ ss) = may_activate costs h k s || is_activated costs h (k + 1) ss
-
--- a task that may leave in front of it: a lower one, or h where it is preemptable
+-- a task that may leave in front of a window of h: a lower one, or h where it is preemptable
 abbrev pub may_leave : Costs → (h k : ℕ) → Bool
 may_leave costs h k = is_lower costs h k || ((k == h) && (task costs h).is_preemptable)
 
--- it chains the task as it leaves
-abbrev pub may_chain : Costs → (h k : ℕ) → Services → Bool
-may_chain costs h k s = may_leave costs h k && s.chains
+-- Task k, which reaches these services, may make the task that they name Ready there: a lower one by any of them, h by its ChainTask alone.
+abbrev pub may_make : Costs → (h : ℕ) → Making → (k : ℕ) → Services → Bool
+may_make costs h making.Activation k s = is_lower costs h k && s.activates
+may_make costs h making.Chain k s = may_leave costs h k && s.chains
+may_make costs h making.Setting k s = is_lower costs h k && s.sets_events
 
-abbrev pub is_chained : Costs → (h k : ℕ) → List Services → Bool
-is_chained costs h k [] = false
-is_chained costs h k (s ∷ ss) = may_chain costs h k s || is_chained costs h (k + 1) ss
-
--- a lower task sets the task's events
-abbrev pub may_signal : Costs → (h k : ℕ) → Services → Bool
-may_signal costs h k s = is_lower costs h k && s.sets_events
-
-abbrev pub is_signalled : Costs → (h k : ℕ) → List Services → Bool
-is_signalled costs h k [] = false
-is_signalled costs h k (s ∷ ss) = may_signal costs h k s || is_signalled costs h (k + 1) ss
+-- one of these tasks may; they are those from k on
+abbrev pub is_made : Costs → (h : ℕ) → Making → (k : ℕ) → List Services → Bool
+is_made costs h m k [] = false
+is_made costs h m k (s ∷ ss) = may_make costs h m k s || is_made costs h m (k + 1) ss
 
 -- the services that name task j
 abbrev pub services_of : Costs → (j : ℕ) → List Services
@@ -63,12 +51,12 @@ services_of costs j = get_or costs.services j []
 -- the longest service by which j is activated in front of a window of h; 0 where it is not
 abbrev pub activation_front : Costs → (h j : ℕ) → ℕ
 activation_front costs h j =
-    cond (is_chained costs h 0 (services_of costs j)) (leaving_path service.ChainTask false)
-    (cond (is_activated costs h 0 (services_of costs j)) (going_path service.ActivateTask) 0)
+    cond (is_made costs h making.Chain 0 (services_of costs j)) (leaving_path service.ChainTask false)
+    (cond (is_made costs h making.Activation 0 (services_of costs j)) (going_path service.ActivateTask) 0)
 
 -- that by which its events are set
 abbrev pub setting_front : Costs → (h j : ℕ) → ℕ
-setting_front costs h j = cond (is_signalled costs h 0 (services_of costs j)) (going_path service.SetEvent) 0
+setting_front costs h j = cond (is_made costs h making.Setting 0 (services_of costs j)) (going_path service.SetEvent) 0
 
 -- what raises a task: GetResource, or its entry where it cannot be preempted
 abbrev pub raising : TaskCosts → ℕ

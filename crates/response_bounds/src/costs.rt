@@ -2,7 +2,7 @@
 
 use sloth_base::list::List;
 
-/// A task. A greatest number that is none has no limit, or a limit above 1,000,000.
+/// A task. A greatest number that is none is 1,000,000 or more, or has no limit.
 #[derive(Clone, Copy)]
 pub struct TaskCosts {
     /// The static priority.

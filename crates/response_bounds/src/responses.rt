@@ -88,7 +88,8 @@ fn room(alloc: Global, count: usize) -> Result<Vec<Made>, NoMemory>
     Ok(numbers)
 }
 
-/// Within how many counts a task leaves the processor behind what makes it Ready; none where that is above 1,000,000, or has no limit.
+/// Within how many counts a task, less than their number, leaves the processor behind what makes it Ready; none where that is above 1,000,000, or where
+/// what it is computed from is 1,000,000 or more, or has no limit.
 pub fn response(alloc: Global, costs: &Costs, h: usize) -> Result<Option<u32>, NoMemory>
     requires { TakeCounts costs.now }
     ensures { IfOk result (λ r. IsResponse costs.now h r) }
@@ -121,7 +122,8 @@ fn told_demand(costs: &Costs, numbers: &mut [Made]) -> Option<u32>
     }
 }
 
-/// How many hundredths of the processor's counts the arrivals within 1,000,000 counts ask for, rounded up; none where it is above 400, or has no limit.
+/// How many hundredths of the processor's counts the arrivals within 1,000,000 counts ask for, rounded up; none where it is
+/// above 400, or where what it is computed from is 1,000,000 or more, or has no limit.
 pub fn demand(alloc: Global, costs: &Costs) -> Result<Option<u32>, NoMemory>
     requires { TakeCounts costs.now }
     ensures { IfOk result (λ p. IsDemand costs.now p) }

@@ -1,7 +1,7 @@
 //! The starts of a task's windows, and the counts in front of each.
 ghost use Rattle.std.specs.Prelude.{◌≡◌, ◌++◌, [], OnOk, IfOk};
 ghost use Rattle.response_bounds.specs.Costs.{sections_of, section};
-ghost use Rattle.response_bounds.specs.Starts.{task_front, tasks_front, ticks_front, may_activate, is_activated, may_leave, may_chain, is_chained, may_signal, is_signalled, services_of, activation_front, setting_front, raising, section_front, joining_front, front_of, window_of, start_if, making_starts, may_join, section_start, section_starts, task_starts, starts};
+ghost use Rattle.response_bounds.specs.Starts.{task_front, tasks_front, ticks_front, may_leave, may_make, is_made, services_of, activation_front, setting_front, raising, section_front, joining_front, front_of, window_of, start_if, making_starts, may_join, section_start, section_starts, task_starts, starts};
 
 use crate::costs::{Costs, CounterCosts, SectionCosts, Services, TaskCosts};
 use crate::level::{is_lower, task};
@@ -58,60 +58,40 @@ fn services_of(costs: &Costs, j: usize) -> &[Services]
     }
 }
 
-fn may_activate(costs: &Costs, h: usize, k: usize, services: &Services) -> bool
-    ensures { result ≡ may_activate costs.now h k services.now }
-{
-    is_lower(costs, h, k) && services.activates
-}
-
-// Whether a lower task than h activates the task that these services name.
-fn is_activated(costs: &Costs, h: usize, services: &[Services]) -> bool
-    ensures { result ≡ is_activated costs.now h 0 services.now }
-{
-    for (k, service) in services.iter().enumerate() {
-        if may_activate(costs, h, k, service) {
-            return true;
-        }
-    }
-    false
-}
-
 fn may_leave(costs: &Costs, h: usize, k: usize) -> bool
     ensures { result ≡ may_leave costs.now h k }
 {
     is_lower(costs, h, k) || (k == h && task(costs, h).is_preemptable)
 }
 
-fn may_chain(costs: &Costs, h: usize, k: usize, services: &Services) -> bool
-    ensures { result ≡ may_chain costs.now h k services.now }
-{
-    may_leave(costs, h, k) && services.chains
+/// How a task may be made Ready in front of a window.
+#[derive(Clone, Copy)]
+enum Making {
+    /// By ActivateTask.
+    Activation,
+    /// By ChainTask.
+    Chain,
+    /// By SetEvent.
+    Setting,
 }
 
-// Whether a lower task, or h where it is preemptable, chains it.
-fn is_chained(costs: &Costs, h: usize, services: &[Services]) -> bool
-    ensures { result ≡ is_chained costs.now h 0 services.now }
+// Whether task k, which reaches these services, may make the task that they name Ready in front of a window of h.
+fn may_make(costs: &Costs, h: usize, making: Making, k: usize, services: &Services) -> bool
+    ensures { result ≡ may_make costs.now h making k services.now }
 {
-    for (k, service) in services.iter().enumerate() {
-        if may_chain(costs, h, k, service) {
-            return true;
-        }
+    match making {
+        Making::Activation => is_lower(costs, h, k) && services.activates,
+        Making::Chain => may_leave(costs, h, k) && services.chains,
+        Making::Setting => is_lower(costs, h, k) && services.sets_events,
     }
-    false
 }
 
-fn may_signal(costs: &Costs, h: usize, k: usize, services: &Services) -> bool
-    ensures { result ≡ may_signal costs.now h k services.now }
-{
-    is_lower(costs, h, k) && services.sets_events
-}
-
-// Whether a lower task sets its events.
-fn is_signalled(costs: &Costs, h: usize, services: &[Services]) -> bool
-    ensures { result ≡ is_signalled costs.now h 0 services.now }
+// Whether some task may.
+fn is_made(costs: &Costs, h: usize, making: Making, services: &[Services]) -> bool
+    ensures { result ≡ is_made costs.now h making 0 services.now }
 {
     for (k, service) in services.iter().enumerate() {
-        if may_signal(costs, h, k, service) {
+        if may_make(costs, h, making, k, service) {
             return true;
         }
     }
@@ -121,9 +101,9 @@ fn is_signalled(costs: &Costs, h: usize, services: &[Services]) -> bool
 fn activation_front(costs: &Costs, h: usize, j: usize) -> u32
     ensures { result ≡ activation_front costs.now h j }
 {
-    if is_chained(costs, h, services_of(costs, j)) {
+    if is_made(costs, h, Making::Chain, services_of(costs, j)) {
         leaving_path(Service::ChainTask, false)
-    } else if is_activated(costs, h, services_of(costs, j)) {
+    } else if is_made(costs, h, Making::Activation, services_of(costs, j)) {
         going_path(Service::ActivateTask)
     } else {
         0
@@ -133,7 +113,7 @@ fn activation_front(costs: &Costs, h: usize, j: usize) -> u32
 fn setting_front(costs: &Costs, h: usize, j: usize) -> u32
     ensures { result ≡ setting_front costs.now h j }
 {
-    if is_signalled(costs, h, services_of(costs, j)) {
+    if is_made(costs, h, Making::Setting, services_of(costs, j)) {
         going_path(Service::SetEvent)
     } else {
         0
