@@ -1,0 +1,22 @@
+mod Steps
+mod Members
+mod Coming
+mod Raised
+mod Nothing
+mod Uncounted
+mod Topping
+mod Growing
+mod WeightsFit
+mod Bodies
+mod Serving
+mod SectionMaking
+mod Making
+mod Greatest
+mod Sectioning
+mod Taking
+mod Naming
+mod CleanRounds
+mod OneSums
+mod OneWeights
+mod SameCosts
+pub mod OneCosts

@@ -1,0 +1,205 @@
+-- A load has one record of costs.
+use Rattle.std.proofs.Common.{◌≡◌, ◌∙◌, ◌⊎◌, inl, inr, ℕ, ◌<◌, ◌≤◌, ◌==◌, ◌&&◌, ◌||◌, not, List, [], length, get_or, Bool, true, false, Option, Some, sym, ap, subst, arith}
+use Rattle.std.specs.Prelude.{nat_lt, MatchBool}
+use Rattle.std.proofs.lemmas.List.{ext_get_or}
+use Rattle.std.proofs.lemmas.Bool.{cases_lt}
+use Rattle.std.proofs.lemmas.Bool.Decides.{same_from_decides}
+use Rattle.sloth_base.specs.declared.config.Config.{Config}
+use Rattle.sloth_base.specs.declared.app.App.{App}
+use Rattle.sloth_base.specs.declared.service.Service.{Service}
+use Rattle.sloth_base.specs.Named.{declaration}
+use Rattle.load_text.specs.declared.entry.Entry.{Entry}
+use Rattle.load_text.specs.Loads.{work}
+use Rattle.osek_scheduler.specs.Apart.{static_priority}
+use Rattle.raised_sections.specs.Sections.{IsLower}
+use Rattle.bound_rules.specs.declared.weights.BodyWeights.{BodyWeights}
+use Rattle.walk_sums.specs.declared.sum.Sum.{Sum}
+use Rattle.walk_sums.specs.declared.tasks.RoundSums.{RoundSums}
+use Rattle.walk_sums.specs.declared.counted.Counted.{Counted}
+use Rattle.walk_sums.specs.declared.counted.Counted.TheVariants as counts
+use Rattle.walk_sums.specs.Rounds.{IsTurn, IsFirstRound, IsLaterRound}
+use Rattle.walk_sums.specs.Counted.{one_if, counted_weights}
+use Rattle.walk_sums.specs.Told.{IsRaisedPart}
+use Rattle.response_bounds.specs.declared.costs.TaskCosts.{TaskCosts}
+use Rattle.response_bounds.specs.declared.costs.AlarmCosts.{AlarmCosts}
+use Rattle.response_bounds.specs.declared.costs.Makings.{Makings}
+use Rattle.response_bounds.specs.declared.costs.Services.{Services}
+use Rattle.response_bounds.specs.declared.costs.SectionCosts.{SectionCosts}
+use Rattle.response_bounds.specs.declared.costs.SectionMakings.{SectionMakings}
+use Rattle.response_bounds.specs.declared.costs.Level.{Level}
+use Rattle.response_bounds.specs.declared.costs.Costs.{Costs}
+use Rattle.response_bounds.specs.Costs.{no_task, no_makings, no_services, no_level, no_section, no_section_makings}
+use Rattle.response_bounds.specs.Starts.{may_join}
+use Rattle.response_costs.specs.Rounds.{AreRounds, round_entry, round_cost, activations_of, made, many}
+use Rattle.response_costs.specs.Sections.{section_counts}
+use Rattle.response_costs.specs.CostsOf.{AreEach, ReachesService, service_path, left_path, IsGreatest, AreServices, AreTaskCosts, AreMade, AreSettings, AreMakings, IsSectionCosts, IsSection, IsSectionMade, AreSectionMakings, IsSectionMaking, IsLevel, no_counter, no_alarm, IsCounter, IsAlarm, AreCosts}
+use Rattle.response_costs.proofs.OneSums.{same_sum, same_both, same_rounds}
+use Rattle.response_costs.proofs.SameCosts.{same_task, same_alarm, same_makings, same_services, same_section, same_section_makings, same_level, same_costs}
+use Rattle.response_costs.proofs.OneWeights.{same_weights}
+
+-- ---- lists
+
+module _ {X : Type 0} (n : ℕ) (d : X) (Is : ℕ → X → Type 0) where
+  same_each : ((i : ℕ) (x y : X) → i < n → Is i x → Is i y → x ≡ y) → (one other : List X) → AreEach n d Is one → AreEach n d Is other → one ≡ other
+  same_each same one other a b =
+      ext_get_or d one other (a.count ∙ sym b.count)
+      (λ i h.
+      let count = a.count in
+      let inside : i < n = omega (arith, h, count) in
+      same i (get_or one i d) (get_or other i d) inside (a.each i inside) (b.each i inside))
+
+module _ (config : Config) (app : App) (load : List Entry) where
+  -- ---- services
+
+  within : (t : ℕ) (path : Service → ℕ) (n m : ℕ) → IsGreatest app t path n → IsGreatest app t path m → n ≤ m
+  within t path n m a b = by a.attained
+    where
+      by : (n ≡ 0) ⊎ ((s : Service) × ReachesService app t s × (path s ≡ n)) → n ≤ m
+      by (inl zero) = omega (arith, zero)
+      by (inr some) =
+          let le = b.none_above some.0 some.1 in
+          let is = some.2 in
+          omega (arith, le, is)
+
+  one_greatest : (t : ℕ) (path : Service → ℕ) (n m : ℕ) → IsGreatest app t path n → IsGreatest app t path m → n ≡ m
+  one_greatest t path n m a b =
+      let le = within t path n m a b in
+      let ge = within t path m n b a in
+      omega (arith, le, ge)
+
+  one_services : (j k : ℕ) (x y : Services) → AreServices app j k x → AreServices app j k y → x ≡ y
+  one_services j k x y a b =
+      same_services x y (same_from_decides x.activates y.activates a.activates b.activates) (same_from_decides x.chains y.chains a.chains b.chains)
+      (same_from_decides x.sets_events y.sets_events a.sets_events b.sets_events)
+
+  -- ---- rounds
+
+  one_rounds : (clean extended : Bool) (t : ℕ) (weights : List BodyWeights) (x y : RoundSums) → AreRounds app clean extended t weights x → AreRounds app clean extended t weights y → x ≡ y
+  one_rounds true true t weights x y a b = same_rounds weights (IsFirstRound app t) (IsLaterRound app t) x y a b
+  one_rounds true false t weights x y a b =
+      let first : x.first ≡ y.first =
+      ap (λ (s : RoundSums). s.first)
+      (same_rounds weights (IsFirstRound app t) (IsLaterRound app t) (record { first = x.first; later = a.0 }) (record { first = y.first; later = b.0 }) a.1 b.1) in
+      same_both x y first (a.2 ∙ (first ∙ sym b.2))
+  one_rounds false extended t weights x y a b =
+      let first = same_sum weights (IsTurn app t) x.first y.first a.0 b.0 in
+      same_both x y first (a.1 ∙ (first ∙ sym b.1))
+
+  -- of one that is clean just where the other is
+  rounds_at : (v w extended : Bool) (t : ℕ) (weights : List BodyWeights) (x : RoundSums) → v ≡ w → AreRounds app v extended t weights x → AreRounds app w extended t weights x
+  rounds_at v w extended t weights x e h = subst (λ u. AreRounds app u extended t weights x) e h
+
+  -- ---- tasks
+
+  one_task : (weights : List BodyWeights) (t : ℕ) (x y : TaskCosts) → AreTaskCosts config app load weights t x → AreTaskCosts config app load weights t y → x ≡ y
+  one_task weights t x y a b =
+      let clean = same_from_decides x.is_clean y.is_clean a.is_clean b.is_clean in
+      let extended = (declaration config t).extended in
+      let told = one_rounds y.is_clean extended t weights a.rounds.0 b.rounds.0 (rounds_at x.is_clean y.is_clean extended t weights a.rounds.0 clean a.rounds.1) b.rounds.1 in
+      let C : (resumed v : Bool) → Sum → Option ℕ = λ resumed v s. round_cost (round_entry config app v resumed t) (work load t) s in
+      same_task x y (a.priority ∙ sym b.priority) (a.is_preemptable ∙ sym b.is_preemptable) (a.is_autostarted ∙ sym b.is_autostarted) clean
+      (same_from_decides x.waits y.waits a.waits b.waits) (a.distance ∙ sym b.distance)
+      (a.rounds.2 ∙ (ap (λ v. C false v a.rounds.0.first) clean ∙ (ap (λ (s : RoundSums). C false y.is_clean s.first) told ∙ sym b.rounds.2)))
+      (a.rounds.3 ∙ (ap (λ v. C true v a.rounds.0.later) clean ∙ (ap (λ (s : RoundSums). C true y.is_clean s.later) told ∙ sym b.rounds.3)))
+      (a.entry ∙ sym b.entry) (one_greatest t service_path x.service y.service a.service b.service) (one_greatest t left_path x.leaving y.leaving a.leaving b.leaving)
+
+  -- ---- makings
+
+  one_made : (clean : Bool) (k : ℕ) (c : Counted) (once : Bool) (f n g m : Option ℕ) → AreMade config app load clean k c once f n → AreMade config app load clean k c once g m
+      → (f ≡ g) × (n ≡ m)
+  one_made clean k c once f n g m a b =
+      let told = one_rounds clean (declaration config k).extended k (counted_weights c app) a.0 b.0 a.1 b.1 in
+      (a.2 ∙ (ap (λ (s : RoundSums). made once (work load k) s.first) told ∙ sym b.2), a.3 ∙ (ap (λ (s : RoundSums). made once (work load k) s.later) told ∙ sym b.3))
+
+  one_settings : (clean : Bool) (k j : ℕ) (once : Bool) (f n g m : Option ℕ) → AreSettings config app load clean k j once f n → AreSettings config app load clean k j once g m
+      → (f ≡ g) × (n ≡ m)
+  one_settings clean k j once f n g m a b = by ((k == j) && not clean) a b
+    where
+      by : (own : Bool) → MatchBool own ((f ≡ Some 0) × (n ≡ Some 0)) (AreMade config app load clean k (counts.Settings j) once f n)
+          → MatchBool own ((g ≡ Some 0) × (m ≡ Some 0)) (AreMade config app load clean k (counts.Settings j) once g m) → (f ≡ g) × (n ≡ m)
+      by true a b = (a.0 ∙ sym b.0, a.1 ∙ sym b.1)
+      by false a b = one_made clean k (counts.Settings j) once f n g m a b
+
+  one_makings : (j k : ℕ) (x y : Makings) → AreMakings config app load j k x → AreMakings config app load j k y → x ≡ y
+  one_makings j k x y a b =
+      let clean = same_from_decides b.clean a.clean b.is_clean a.is_clean in
+      let once = same_from_decides b.once a.once b.is_once a.is_once in
+      let acts = one_made a.clean k (activations_of k j) a.once x.first_activations x.next_activations y.first_activations y.next_activations a.activations
+      (subst (λ v. AreMade config app load v k (activations_of k j) a.once y.first_activations y.next_activations) clean
+      (subst (λ v. AreMade config app load b.clean k (activations_of k j) v y.first_activations y.next_activations) once b.activations)) in
+      let sets = one_settings a.clean k j a.once x.first_settings x.next_settings y.first_settings y.next_settings a.settings
+      (subst (λ v. AreSettings config app load v k j a.once y.first_settings y.next_settings) clean
+      (subst (λ v. AreSettings config app load b.clean k j v y.first_settings y.next_settings) once b.settings)) in
+      same_makings x y acts.0 sets.0 acts.1 sets.1
+
+  -- ---- sections
+
+  one_section : (weights : List BodyWeights) (h k : ℕ) (x y : SectionCosts) → k < length config.tasks → IsSection config app load weights h k x → IsSection config app load weights h k y → x ≡ y
+  one_section weights h k x y there a b = by (cases_lt (static_priority config k) (static_priority config h))
+    where
+      lower : IsSectionCosts config app load weights h k x → IsSectionCosts config app load weights h k y → x ≡ y
+      lower a b =
+          same_section x y (same_from_decides x.exists y.exists a.exists b.exists)
+          (a.counts ∙ (ap (λ s. section_counts (work load k) s) (same_sum weights (IsRaisedPart config app h k) a.told b.told a.is_told b.is_told) ∙ sym b.counts))
+
+      by : (static_priority config k < static_priority config h) ⊎ (static_priority config h ≤ static_priority config k) → x ≡ y
+      by (inl lt) = lower (a.0 (there, lt)) (b.0 (there, lt))
+      by (inr le) =
+          let not_lower : ¬ (IsLower config h k) = λ l. let lt = l.1 in omega (arith, lt, le) in
+          a.1 not_lower ∙ sym (b.1 not_lower)
+
+  one_section_made : (h k : ℕ) (once : Bool) (c : Counted) (m n : Option ℕ) → IsSectionMade config app load h k once c m → IsSectionMade config app load h k once c n → m ≡ n
+  one_section_made h k true c m n a b = a.2 ∙ (ap (λ d. Some (one_if d)) (same_from_decides a.0 b.0 a.1 b.1) ∙ sym b.2)
+  one_section_made h k false c m n a b =
+      a.2 ∙ (ap (λ s. many (work load k) s) (same_sum (counted_weights c app) (IsRaisedPart config app h k) a.0 b.0 a.1 b.1) ∙ sym b.2)
+
+  one_section_making : (tasks : List TaskCosts) (h j k : ℕ) (x y : SectionMakings) → IsSectionMaking config app load tasks h j k x → IsSectionMaking config app load tasks h j k y → x ≡ y
+  one_section_making tasks h j k x y a b =
+      by (nat_lt (static_priority config k) (static_priority config h) && (not (nat_lt (static_priority config j) (static_priority config h)) && not (may_join (get_or tasks k no_task)))) a b
+    where
+      once : Bool
+      once = (declaration config k).non || (h == j)
+
+      by : (part : Bool) → MatchBool part (AreSectionMakings config app load h j k x) (x ≡ no_section_makings)
+          → MatchBool part (AreSectionMakings config app load h j k y) (y ≡ no_section_makings) → x ≡ y
+      by true a b =
+          same_section_makings x y (one_section_made h k once (counts.Activations j) x.activations y.activations a.activations b.activations)
+          (one_section_made h k once (counts.Settings j) x.settings y.settings a.settings b.settings)
+      by false a b = a ∙ sym b
+
+  one_level : (weights : List BodyWeights) (tasks : List TaskCosts) (h : ℕ) (x y : Level) → IsLevel config app load weights tasks h x → IsLevel config app load weights tasks h y → x ≡ y
+  one_level weights tasks h x y a b =
+      let n = length config.tasks in
+      same_level x y (same_each n no_section (IsSection config app load weights h) (λ k s t lt p q. one_section weights h k s t lt p q) x.sections y.sections a.sections b.sections)
+      (same_each n [] (λ j. AreEach n no_section_makings (IsSectionMaking config app load tasks h j))
+      (λ j s t lt p q. same_each n no_section_makings (IsSectionMaking config app load tasks h j) (λ k u v below f g. one_section_making tasks h j k u v f g) s t p q)
+      x.makings y.makings a.makings b.makings)
+
+  -- ---- alarms
+
+  one_alarm : (i : ℕ) (x y : AlarmCosts) → IsAlarm config app i x → IsAlarm config app i y → x ≡ y
+  one_alarm i x y a b =
+      same_alarm x y (a.counter ∙ sym b.counter) (a.task ∙ sym b.task) (a.sets_events ∙ sym b.sets_events) (a.time ∙ sym b.time) (a.cycle ∙ sym b.cycle)
+      (same_from_decides x.is_set y.is_set a.is_set b.is_set) (same_from_decides x.is_cancelled y.is_cancelled a.is_cancelled b.is_cancelled)
+
+  -- ---- all
+
+  pub one_costs : (one other : Costs) → AreCosts config app load one → AreCosts config app load other → one ≡ other
+  one_costs one other a b =
+      let n = length config.tasks in
+      let weights = same_weights app b.weights a.weights b.are_weights a.are_weights in
+      let tasks : one.tasks ≡ other.tasks =
+      same_each n no_task (AreTaskCosts config app load a.weights) (λ t x y lt p q. one_task a.weights t x y p q) one.tasks other.tasks a.tasks
+      (subst (λ w. AreEach n no_task (AreTaskCosts config app load w) other.tasks) weights b.tasks) in
+      let levels : one.levels ≡ other.levels =
+      same_each n no_level (IsLevel config app load a.weights one.tasks) (λ h x y lt p q. one_level a.weights one.tasks h x y p q) one.levels other.levels a.levels
+      (subst (λ ts. AreEach n no_level (IsLevel config app load a.weights ts) other.levels) (sym tasks)
+      (subst (λ w. AreEach n no_level (IsLevel config app load w other.tasks) other.levels) weights b.levels)) in
+      same_costs one other tasks
+      (same_each (length config.counters) no_counter (IsCounter config load) (λ c x y lt p q. p ∙ sym q) one.counters other.counters a.counters b.counters)
+      (same_each (length config.alarms) no_alarm (IsAlarm config app) (λ i x y lt p q. one_alarm i x y p q) one.alarms other.alarms a.alarms b.alarms)
+      (same_each n [] (λ j. AreEach n no_makings (AreMakings config app load j))
+      (λ j x y lt p q. same_each n no_makings (AreMakings config app load j) (λ k u v below f g. one_makings j k u v f g) x y p q) one.makings other.makings a.makings b.makings)
+      (same_each n [] (λ j. AreEach n no_services (AreServices app j))
+      (λ j x y lt p q. same_each n no_services (AreServices app j) (λ k u v below f g. one_services j k u v f g) x y p q) one.services other.services a.services b.services)
+      levels (a.boot ∙ sym b.boot)

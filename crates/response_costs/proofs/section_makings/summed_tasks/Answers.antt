@@ -1,0 +1,15 @@
+use Rattle.sloth_base.specs.declared.config.TaskDecl.{TaskDecl}
+use Rattle.std.proofs.Common.{Bool, List, ap, arith, false, get_or, length, subst, ◌∙◌, ◌≡◌, ◌≤◌}
+use Rattle.response_costs.specs.SectionSums.{is_summed}
+use Rattle.response_costs.proofs.Growing.{each_more, each_of}
+use Rattle.response_costs.proofs.section_makings.summed_tasks.Goals as goal
+
+pub loop-task-preserved : goal.loop-task-preserved
+loop-task-preserved c =
+    each_more (Bool) (λ k mark. mark ≡ is_summed c.args.config.now c.args.tasks.now c.args.above c.args.named k (get_or c.args.tops.now k 0)) c.loop-task.asked.items c.push.new.list.items c.is_summed-is.result (false) c.loop-task.task c.loop-task.invariant c.in_ok-push.ensures (c.is_summed-is.ensures ∙ ap (is_summed c.args.config.now c.args.tasks.now c.args.above c.args.named c.loop-task.task) c.top_at.ensures)
+
+pub returns : goal.returns
+returns c =
+    let over = subst (λ (x : List TaskDecl). length x ≤ c.loop-task.task) c.items-task-end.ensures c.loop-task-test.false in
+    let most = subst (λ (x : List TaskDecl). c.loop-task.task ≤ length x) c.items-task-end.ensures c.loop-task.auto.task-end in
+    each_of (Bool) (λ k mark. mark ≡ is_summed c.args.config.now c.args.tasks.now c.args.above c.args.named k (get_or c.args.tops.now k 0)) c.loop-task.asked.items (false) c.loop-task.task (length c.args.config.now.tasks) (omega (arith, over, most)) c.loop-task.invariant

@@ -1,0 +1,153 @@
+//! The sections for each task, and what they make.
+ghost use Rattle.std.specs.Prelude.{◌≡◌, ◌<◌, None, [], length, IfOk};
+ghost use Rattle.code_rules.specs.WellFormed.{WellFormed};
+ghost use Rattle.section_sizes.specs.CallOrder.{IsCallOrder};
+ghost use Rattle.section_sizes.specs.Known.{AreKnownBodies};
+ghost use Rattle.walk_sums.specs.declared.kinds.Kind.TheVariants as kinds;
+ghost use Rattle.walk_sums.specs.Known.{AreSums};
+ghost use Rattle.walk_sums.specs.Weights.{AreSumWeights};
+ghost use Rattle.response_bounds.specs.Costs.{no_level, no_section_makings};
+ghost use Rattle.response_costs.specs.CostsOf.{AreEach, IsSectionMaking, IsLevel};
+ghost use Rattle.response_costs.specs.PathWeights.{ArePathWeights};
+ghost use Rattle.response_costs.specs.Services.{AreAllNamingTops};
+
+use crate::section_makings::section_makers;
+use crate::sections::sections;
+use crate::services::{NamingTops, naming_at};
+use bound_rules::bodies::Body;
+use bound_rules::sizes::Summary;
+use bound_rules::weights::BodyWeights;
+use load_text::Entry;
+use response_bounds::costs::{Level, SectionMakings, TaskCosts};
+use sloth_base::app::App;
+use sloth_base::config::Config;
+use sloth_base::list::List;
+use sloth_base::memory::NoMemory;
+use std::alloc::Global;
+use text_pieces::growth::push;
+use walk_sums::kinds::Kind;
+use walk_sums::levels::whole_sums;
+
+fn makings_for(
+    alloc: Global,
+    config: &Config,
+    app: &App,
+    load: &[Entry],
+    bodies: &[Body],
+    order: &[usize],
+    tasks: &[TaskCosts],
+    tops: &[NamingTops],
+    above: usize,
+) -> Result<Vec<List<SectionMakings>>, NoMemory>
+    requires well_formed { WellFormed config.now app.now }
+    requires bodies { AreKnownBodies config.now app.now bodies.now }
+    requires order { IsCallOrder app.now order.now }
+    requires count { length tasks.now ≡ length config.now.tasks }
+    requires tops { AreAllNamingTops config.now app.now tops.now }
+    requires above { above < length config.now.tasks }
+    ensures { IfOk result (λ table. AreEach (length config.now.tasks) []
+        (λ j. AreEach (length config.now.tasks) no_section_makings (IsSectionMaking config.now app.now load.now tasks.now above j)) table.items) }
+{
+    let mut table = Vec::new(alloc);
+    for named in 0..config.tasks.items().len() {
+        let naming = naming_at(tops, named);
+        let row = section_makers(
+            alloc, config, app, load, bodies, order, tasks, naming, above, named,
+        )?;
+        push(&mut table, List::from_vec(row))?;
+    }
+    Ok(table)
+}
+
+fn level(
+    alloc: Global,
+    config: &Config,
+    app: &App,
+    load: &[Entry],
+    weights: &[BodyWeights],
+    whole: &[Summary],
+    bodies: &[Body],
+    order: &[usize],
+    tasks: &[TaskCosts],
+    tops: &[NamingTops],
+    above: usize,
+) -> Result<Level, NoMemory>
+    requires well_formed { WellFormed config.now app.now }
+    requires are { ArePathWeights app.now weights.now }
+    requires fit { AreSumWeights app.now weights.now }
+    requires whole { AreSums config.now app.now weights.now kinds.Sections None whole.now }
+    requires bodies { AreKnownBodies config.now app.now bodies.now }
+    requires order { IsCallOrder app.now order.now }
+    requires count { length tasks.now ≡ length config.now.tasks }
+    requires tops { AreAllNamingTops config.now app.now tops.now }
+    requires above { above < length config.now.tasks }
+    ensures { IfOk result (IsLevel config.now app.now load.now weights.now tasks.now above) }
+{
+    let sections = sections(
+        alloc, config, app, load, weights, whole, bodies, order, above,
+    )?;
+    let makings = makings_for(alloc, config, app, load, bodies, order, tasks, tops, above)?;
+    Ok(Level {
+        sections: List::from_vec(sections),
+        makings: List::from_vec(makings),
+    })
+}
+
+fn levels_by(
+    alloc: Global,
+    config: &Config,
+    app: &App,
+    load: &[Entry],
+    weights: &[BodyWeights],
+    whole: &[Summary],
+    bodies: &[Body],
+    order: &[usize],
+    tasks: &[TaskCosts],
+    tops: &[NamingTops],
+) -> Result<Vec<Level>, NoMemory>
+    requires well_formed { WellFormed config.now app.now }
+    requires are { ArePathWeights app.now weights.now }
+    requires fit { AreSumWeights app.now weights.now }
+    requires whole { AreSums config.now app.now weights.now kinds.Sections None whole.now }
+    requires bodies { AreKnownBodies config.now app.now bodies.now }
+    requires order { IsCallOrder app.now order.now }
+    requires count { length tasks.now ≡ length config.now.tasks }
+    requires tops { AreAllNamingTops config.now app.now tops.now }
+    ensures { IfOk result (λ list. AreEach (length config.now.tasks) no_level (IsLevel config.now app.now load.now weights.now tasks.now) list.items) }
+{
+    let mut list = Vec::new(alloc);
+    for above in 0..config.tasks.items().len() {
+        let level = level(
+            alloc, config, app, load, weights, whole, bodies, order, tasks, tops, above,
+        )?;
+        push(&mut list, level)?;
+    }
+    Ok(list)
+}
+
+/// The sections for each task, and what they make.
+pub fn levels(
+    alloc: Global,
+    config: &Config,
+    app: &App,
+    load: &[Entry],
+    weights: &[BodyWeights],
+    bodies: &[Body],
+    order: &[usize],
+    tasks: &[TaskCosts],
+    tops: &[NamingTops],
+) -> Result<Vec<Level>, NoMemory>
+    requires well_formed { WellFormed config.now app.now }
+    requires are { ArePathWeights app.now weights.now }
+    requires fit { AreSumWeights app.now weights.now }
+    requires bodies { AreKnownBodies config.now app.now bodies.now }
+    requires order { IsCallOrder app.now order.now }
+    requires count { length tasks.now ≡ length config.now.tasks }
+    requires tops { AreAllNamingTops config.now app.now tops.now }
+    ensures { IfOk result (λ list. AreEach (length config.now.tasks) no_level (IsLevel config.now app.now load.now weights.now tasks.now) list.items) }
+{
+    let whole = whole_sums(alloc, config, app, weights, Kind::Sections, bodies, order)?;
+    levels_by(
+        alloc, config, app, load, weights, &whole, bodies, order, tasks, tops,
+    )
+}

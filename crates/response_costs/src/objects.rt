@@ -1,0 +1,130 @@
+//! What the ticks of counters cost, and the alarms.
+ghost use Rattle.std.specs.Prelude.{◌≡◌, ◌<◌, ◌≤◌, ◌↔◌, ◌⊎◌, ℕ, true, IsTrue, length, get_or, Decides, IfOk};
+ghost use Rattle.sloth_base.specs.Limits.{alarm_limit, counter_limit};
+ghost use Rattle.sloth_base.specs.Named.{operation, item_of, function};
+ghost use Rattle.sloth_base.specs.declared.service.Service.TheVariants as service;
+ghost use Rattle.walk_sums.specs.Counted.{calls_for};
+ghost use Rattle.response_costs.specs.CostsOf.{AreEach, no_counter, IsCounter, Names, task_of, sets_events, no_alarm, IsAlarm};
+
+use crate::sought::calls_for;
+use code_lengths::tick_path;
+use load_text::{Entry, distance_of};
+use response_bounds::costs::{AlarmCosts, CounterCosts};
+use section_sizes::bodies::function_at;
+use sloth_base::app::{App, Func};
+use sloth_base::config::{Action, Config};
+use sloth_base::memory::NoMemory;
+use sloth_base::service::Service;
+use std::alloc::Global;
+use text_pieces::growth::push;
+
+/// The line of the first counter.
+const FIRST_COUNTER_LINE: u8 = 30;
+
+fn counter(config: &Config, load: &[Entry], number: usize) -> CounterCosts
+    requires few { length config.now.counters ≤ counter_limit }
+    requires inside { number < length config.now.counters }
+    requires alarms { length config.now.alarms ≤ alarm_limit }
+    ensures { IsCounter config.now load.now number result }
+{
+    CounterCosts {
+        distance: distance_of(load, FIRST_COUNTER_LINE + number as u8),
+        tick: tick_path(config, number as u32),
+    }
+}
+
+/// Of each counter.
+pub fn counters(
+    alloc: Global,
+    config: &Config,
+    load: &[Entry],
+) -> Result<Vec<CounterCosts>, NoMemory>
+    requires few { length config.now.counters ≤ counter_limit }
+    requires alarms { length config.now.alarms ≤ alarm_limit }
+    ensures { IfOk result (λ list. AreEach (length config.now.counters) no_counter (IsCounter config.now load.now) list.items) }
+{
+    let mut list = Vec::new(alloc);
+    for number in 0..config.counters.items().len() {
+        push(&mut list, counter(config, load, number))?;
+    }
+    Ok(list)
+}
+
+// ---- alarms
+
+// Whether an item of a body calls the service for the alarm.
+fn body_names(service: Service, alarm: u32, func: &Func) -> bool
+    ensures some { result ≡ true → (i : ℕ) × (calls_for alarm service (item_of func.now i).op ≡ true) }
+    ensures none { (i : ℕ) → calls_for alarm service (item_of func.now i).op ≡ true → result ≡ true }
+{
+    for number in 0..func.items.items().len() {
+        if calls_for(alarm, service, func.items.items()[number].op) {
+            return true;
+        }
+    }
+    false
+}
+
+fn is_named(app: &App, service: Service, alarm: u32) -> bool
+    ensures { Decides result (Names app.now service alarm) }
+{
+    for number in 0..app.funcs.items().len() {
+        if body_names(service, alarm, function_at(app, number)) {
+            return true;
+        }
+    }
+    false
+}
+
+fn is_set(app: &App, alarm: u32) -> bool
+    ensures { Decides result (Names app.now service.SetRelAlarm alarm ⊎ Names app.now service.SetAbsAlarm alarm) }
+{
+    is_named(app, Service::SetRelAlarm, alarm) || is_named(app, Service::SetAbsAlarm, alarm)
+}
+
+fn task_of(action: &Action) -> u32
+    ensures { result ≡ task_of action.now }
+{
+    match *action {
+        Action::Activate(task) => task.0,
+        Action::Set(task, _) => task.0,
+    }
+}
+
+fn sets_events(action: &Action) -> bool
+    ensures { result ≡ sets_events action.now }
+{
+    match *action {
+        Action::Activate(_) => false,
+        Action::Set(_, _) => true,
+    }
+}
+
+fn alarm(config: &Config, app: &App, number: usize) -> AlarmCosts
+    requires inside { number < length config.now.alarms }
+    requires few { length config.now.alarms ≤ alarm_limit }
+    ensures { IsAlarm config.now app.now number result }
+{
+    let declared = &config.alarms.items()[number];
+    AlarmCosts {
+        counter: declared.counter,
+        task: task_of(&declared.action),
+        sets_events: sets_events(&declared.action),
+        time: declared.time,
+        cycle: declared.cycle,
+        is_set: is_set(app, number as u32),
+        is_cancelled: is_named(app, Service::CancelAlarm, number as u32),
+    }
+}
+
+/// Of each alarm.
+pub fn alarms(alloc: Global, config: &Config, app: &App) -> Result<Vec<AlarmCosts>, NoMemory>
+    requires { length config.now.alarms ≤ alarm_limit }
+    ensures { IfOk result (λ list. AreEach (length config.now.alarms) no_alarm (IsAlarm config.now app.now) list.items) }
+{
+    let mut list = Vec::new(alloc);
+    for number in 0..config.alarms.items().len() {
+        push(&mut list, alarm(config, app, number))?;
+    }
+    Ok(list)
+}

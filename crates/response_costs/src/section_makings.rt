@@ -1,0 +1,447 @@
+//! How often raised sections make tasks Ready.
+ghost use Rattle.std.specs.Prelude.{◌≡◌, ◌<◌, ◌≤◌, ℕ, None, Some, true, false, [], length, get_or, IfOk};
+ghost use Rattle.sloth_base.specs.Limits.{task_limit};
+ghost use Rattle.load_text.specs.Loads.{work};
+ghost use Rattle.code_rules.specs.WellFormed.{WellFormed};
+ghost use Rattle.osek_scheduler.specs.Apart.{static_priority};
+ghost use Rattle.raised_sections.specs.Sections.{IsLower};
+ghost use Rattle.section_sizes.specs.CallOrder.{IsCallOrder};
+ghost use Rattle.section_sizes.specs.Known.{AreKnownBodies};
+ghost use Rattle.walk_sums.specs.declared.kinds.Kind.TheVariants as kinds;
+ghost use Rattle.walk_sums.specs.declared.sum.Sum.TheVariants as told;
+ghost use Rattle.walk_sums.specs.declared.counted.Counted.TheVariants as counts;
+ghost use Rattle.walk_sums.specs.Counted.{counted_weights};
+ghost use Rattle.walk_sums.specs.Known.{AreSums};
+ghost use Rattle.walk_sums.specs.Told.{IsToldSum, IsRaisedPart};
+ghost use Rattle.walk_sums.specs.Weights.{AreSumWeights};
+ghost use Rattle.response_bounds.specs.Costs.{no_task, no_section_makings};
+ghost use Rattle.response_bounds.specs.Starts.{may_join};
+ghost use Rattle.response_costs.specs.CostsOf.{AreEach, IsSectionMaking};
+ghost use Rattle.response_costs.specs.Services.{AreNamingTops, AreAllNamingTops};
+ghost use Rattle.response_costs.specs.SectionSums.{is_lower, takes_part, is_once, does, is_summed, part_made, AreMadeBy, AreSummed};
+ghost use Rattle.response_costs.specs.Tops.{AreTaskTops};
+
+use crate::makings::many;
+use crate::sections::{is_lower, priority_of};
+use crate::services::NamingTops;
+use crate::tops::top_at;
+use bound_rules::bodies::Body;
+use bound_rules::marks::is_marked;
+use bound_rules::sizes::Summary;
+use bound_rules::weights::BodyWeights;
+use load_text::{Entry, work_of};
+use response_bounds::costs::{SectionMakings, TaskCosts};
+use sloth_base::app::App;
+use sloth_base::config::Config;
+use sloth_base::list::List;
+use sloth_base::memory::NoMemory;
+use std::alloc::Global;
+use text_pieces::growth::push;
+use walk_sums::counted::{Counted, counted_weights};
+use walk_sums::kinds::Kind;
+use walk_sums::levels::{own_sums, whole_sums};
+use walk_sums::sum::Sum;
+use walk_sums::tasks::section_sum;
+
+fn joins(tasks: &[TaskCosts], task: usize) -> bool
+    requires { task < length tasks.now }
+    ensures { result ≡ may_join (get_or tasks.now task no_task) }
+{
+    let task = tasks[task];
+    !task.is_preemptable && (task.is_clean && task.waits)
+}
+
+// Whether sections of the task count for `above` where they make `named`.
+fn takes_part(config: &Config, tasks: &[TaskCosts], above: usize, named: usize, task: usize) -> bool
+    requires count { length tasks.now ≡ length config.now.tasks }
+    requires above { above < length config.now.tasks }
+    requires named { named < length config.now.tasks }
+    requires task { task < length config.now.tasks }
+    ensures { result ≡ takes_part config.now tasks.now above named task }
+{
+    is_lower(config, above, task) && (!is_lower(config, above, named) && !joins(tasks, task))
+}
+
+fn is_once(config: &Config, above: usize, named: usize, task: usize) -> bool
+    requires { task < length config.now.tasks }
+    ensures { result ≡ is_once config.now above named task }
+{
+    config.tasks.items()[task].non || above == named
+}
+
+// Whether a section of a lower task does what counts, by its top.
+fn does(config: &Config, above: usize, task: usize, top: u64) -> bool
+    requires above { above < length config.now.tasks }
+    requires task { task < length config.now.tasks }
+    ensures { result ≡ does config.now above task top }
+{
+    if config.tasks.items()[task].non {
+        0 < top
+    } else {
+        u64::from(priority_of(config, above)) < top
+    }
+}
+
+// Whether that is to be summed.
+fn is_summed(
+    config: &Config,
+    tasks: &[TaskCosts],
+    above: usize,
+    named: usize,
+    task: usize,
+    top: u64,
+) -> bool
+    requires count { length tasks.now ≡ length config.now.tasks }
+    requires above { above < length config.now.tasks }
+    requires named { named < length config.now.tasks }
+    requires task { task < length config.now.tasks }
+    ensures { result ≡ is_summed config.now tasks.now above named task top }
+{
+    takes_part(config, tasks, above, named, task)
+        && (!is_once(config, above, named, task) && does(config, above, task, top))
+}
+
+fn summed_tasks(
+    alloc: Global,
+    config: &Config,
+    tasks: &[TaskCosts],
+    above: usize,
+    named: usize,
+    tops: &[u64],
+) -> Result<Vec<bool>, NoMemory>
+    requires count { length tasks.now ≡ length config.now.tasks }
+    requires above { above < length config.now.tasks }
+    requires named { named < length config.now.tasks }
+    ensures { IfOk result (λ asked. AreEach (length config.now.tasks) false
+        (λ k mark. mark ≡ is_summed config.now tasks.now above named k (get_or tops.now k 0)) asked.items) }
+{
+    let mut asked = Vec::new(alloc);
+    for task in 0..config.tasks.items().len() {
+        let is = is_summed(config, tasks, above, named, task, top_at(tops, task));
+        push(&mut asked, is)?;
+    }
+    Ok(asked)
+}
+
+fn some_marked(marks: &[bool]) -> bool
+    ensures { result ≡ false → (t : ℕ) → get_or marks.now t false ≡ false }
+{
+    for task in 0..marks.len() {
+        if marks[task] {
+            return true;
+        }
+    }
+    false
+}
+
+// The sum of the sections of a task, where it is asked for.
+fn sum_of(
+    config: &Config,
+    app: &App,
+    weights: &[BodyWeights],
+    whole: &[Summary],
+    own: &[Summary],
+    above: usize,
+    asked: bool,
+    task: usize,
+) -> Sum
+    requires well_formed { WellFormed config.now app.now }
+    requires fit { AreSumWeights app.now weights.now }
+    requires whole { AreSums config.now app.now weights.now kinds.Sections None whole.now }
+    requires own { AreSums config.now app.now weights.now kinds.Sections (Some (static_priority config.now above)) own.now }
+    requires above { above < length config.now.tasks }
+    requires lower { asked ≡ true → IsLower config.now above task }
+    ensures { asked ≡ true → IsToldSum (IsRaisedPart config.now app.now above task) weights.now result }
+{
+    if asked {
+        section_sum(config, app, weights, whole, own, above, task)
+    } else {
+        Sum::Counts(0)
+    }
+}
+
+fn sums_by(
+    alloc: Global,
+    config: &Config,
+    app: &App,
+    weights: &[BodyWeights],
+    whole: &[Summary],
+    own: &[Summary],
+    above: usize,
+    asked: &[bool],
+) -> Result<Vec<Sum>, NoMemory>
+    requires well_formed { WellFormed config.now app.now }
+    requires fit { AreSumWeights app.now weights.now }
+    requires whole { AreSums config.now app.now weights.now kinds.Sections None whole.now }
+    requires own { AreSums config.now app.now weights.now kinds.Sections (Some (static_priority config.now above)) own.now }
+    requires above { above < length config.now.tasks }
+    requires lower { (k : ℕ) → k < length config.now.tasks → get_or asked.now k false ≡ true → IsLower config.now above k }
+    ensures { IfOk result (λ sums. AreSummed config.now app.now weights.now above asked.now sums.items) }
+{
+    let mut sums = Vec::new(alloc);
+    for task in 0..config.tasks.items().len() {
+        let mark = is_marked(asked, task);
+        let sum = sum_of(config, app, weights, whole, own, above, mark, task);
+        push(&mut sums, sum)?;
+    }
+    Ok(sums)
+}
+
+fn sums_at(
+    alloc: Global,
+    config: &Config,
+    app: &App,
+    weights: &[BodyWeights],
+    bodies: &[Body],
+    order: &[usize],
+    above: usize,
+    asked: &[bool],
+    whole: &[Summary],
+) -> Result<Vec<Sum>, NoMemory>
+    requires well_formed { WellFormed config.now app.now }
+    requires fit { AreSumWeights app.now weights.now }
+    requires bodies { AreKnownBodies config.now app.now bodies.now }
+    requires order { IsCallOrder app.now order.now }
+    requires above { above < length config.now.tasks }
+    requires lower { (k : ℕ) → k < length config.now.tasks → get_or asked.now k false ≡ true → IsLower config.now above k }
+    requires whole { AreSums config.now app.now weights.now kinds.Sections None whole.now }
+    ensures { IfOk result (λ sums. AreSummed config.now app.now weights.now above asked.now sums.items) }
+{
+    let priority = priority_of(config, above);
+    let own = own_sums(alloc, config, app, weights, bodies, order, priority, whole)?;
+    sums_by(alloc, config, app, weights, whole, &own, above, asked)
+}
+
+fn whole_counted(
+    alloc: Global,
+    config: &Config,
+    app: &App,
+    weights: &[BodyWeights],
+    bodies: &[Body],
+    order: &[usize],
+    above: usize,
+    asked: &[bool],
+) -> Result<Vec<Sum>, NoMemory>
+    requires well_formed { WellFormed config.now app.now }
+    requires fit { AreSumWeights app.now weights.now }
+    requires bodies { AreKnownBodies config.now app.now bodies.now }
+    requires order { IsCallOrder app.now order.now }
+    requires above { above < length config.now.tasks }
+    requires lower { (k : ℕ) → k < length config.now.tasks → get_or asked.now k false ≡ true → IsLower config.now above k }
+    ensures { IfOk result (λ sums. AreSummed config.now app.now weights.now above asked.now sums.items) }
+{
+    let whole = whole_sums(alloc, config, app, weights, Kind::Sections, bodies, order)?;
+    sums_at(
+        alloc, config, app, weights, bodies, order, above, asked, &whole,
+    )
+}
+
+// The sums of the sections of the tasks that are asked for, of what counts.
+fn asked_sums(
+    alloc: Global,
+    config: &Config,
+    app: &App,
+    bodies: &[Body],
+    order: &[usize],
+    above: usize,
+    asked: &[bool],
+    counted: Counted,
+) -> Result<Vec<Sum>, NoMemory>
+    requires well_formed { WellFormed config.now app.now }
+    requires bodies { AreKnownBodies config.now app.now bodies.now }
+    requires order { IsCallOrder app.now order.now }
+    requires above { above < length config.now.tasks }
+    requires lower { (k : ℕ) → k < length config.now.tasks → get_or asked.now k false ≡ true → IsLower config.now above k }
+    ensures { IfOk result (λ sums. AreSummed config.now app.now (counted_weights counted app.now) above asked.now sums.items) }
+{
+    if !some_marked(asked) {
+        return Ok(Vec::new(alloc));
+    }
+    let weights = counted_weights(alloc, app, counted)?;
+    whole_counted(alloc, config, app, &weights, bodies, order, above, asked)
+}
+
+fn sum_at(sums: &[Sum], task: usize) -> Sum
+    ensures { result ≡ get_or sums.now task (told.Counts 0) }
+{
+    match sums.get(task) {
+        Some(sum) => *sum,
+        None => Sum::Counts(0),
+    }
+}
+
+// How often a section does what counts.
+fn part_made(part: bool, once: bool, does: bool, work: Option<u32>, sum: Sum) -> Option<u32>
+    ensures { result ≡ part_made part once does work sum }
+{
+    if !(part && does) {
+        return Some(0);
+    }
+    if once { Some(1) } else { many(work, sum) }
+}
+
+fn part_of(
+    config: &Config,
+    load: &[Entry],
+    tasks: &[TaskCosts],
+    above: usize,
+    named: usize,
+    task: usize,
+    top: u64,
+    sum: Sum,
+) -> Option<u32>
+    requires few { length config.now.tasks ≤ task_limit }
+    requires count { length tasks.now ≡ length config.now.tasks }
+    requires above { above < length config.now.tasks }
+    requires named { named < length config.now.tasks }
+    requires task { task < length config.now.tasks }
+    ensures { result ≡ part_made (takes_part config.now tasks.now above named task) (is_once config.now above named task) (does config.now above task top) (work load.now task) sum }
+{
+    let part = takes_part(config, tasks, above, named, task);
+    let once = is_once(config, above, named, task);
+    let does = does(config, above, task, top);
+    part_made(part, once, does, work_of(load, task as u8), sum)
+}
+
+fn row_by(
+    alloc: Global,
+    config: &Config,
+    load: &[Entry],
+    tasks: &[TaskCosts],
+    above: usize,
+    named: usize,
+    tops: &[u64],
+    sums: &[Sum],
+) -> Result<Vec<Option<u32>>, NoMemory>
+    requires few { length config.now.tasks ≤ task_limit }
+    requires count { length tasks.now ≡ length config.now.tasks }
+    requires above { above < length config.now.tasks }
+    requires named { named < length config.now.tasks }
+    ensures { IfOk result (λ row. AreEach (length config.now.tasks) None
+        (λ k m. m ≡ part_made (takes_part config.now tasks.now above named k) (is_once config.now above named k)
+        (does config.now above k (get_or tops.now k 0)) (work load.now k) (get_or sums.now k (told.Counts 0))) row.items) }
+{
+    let mut row = Vec::new(alloc);
+    for task in 0..config.tasks.items().len() {
+        let top = top_at(tops, task);
+        let sum = sum_at(sums, task);
+        push(
+            &mut row,
+            part_of(config, load, tasks, above, named, task, top, sum),
+        )?;
+    }
+    Ok(row)
+}
+
+// How often sections for `above` do what counts, of each task.
+fn row(
+    alloc: Global,
+    config: &Config,
+    app: &App,
+    load: &[Entry],
+    bodies: &[Body],
+    order: &[usize],
+    tasks: &[TaskCosts],
+    above: usize,
+    named: usize,
+    tops: &[u64],
+    counted: Counted,
+) -> Result<Vec<Option<u32>>, NoMemory>
+    requires well_formed { WellFormed config.now app.now }
+    requires bodies { AreKnownBodies config.now app.now bodies.now }
+    requires order { IsCallOrder app.now order.now }
+    requires count { length tasks.now ≡ length config.now.tasks }
+    requires above { above < length config.now.tasks }
+    requires named { named < length config.now.tasks }
+    requires tops { AreTaskTops config.now app.now counted tops.now }
+    ensures { IfOk result (λ row. AreEach (length config.now.tasks) None (AreMadeBy config.now app.now load.now tasks.now above named counted) row.items) }
+{
+    let asked = summed_tasks(alloc, config, tasks, above, named, tops)?;
+    let sums = asked_sums(alloc, config, app, bodies, order, above, &asked, counted)?;
+    row_by(alloc, config, load, tasks, above, named, tops, &sums)
+}
+
+fn number_at(row: &[Option<u32>], task: usize) -> Option<u32>
+    ensures { result ≡ get_or row.now task None }
+{
+    match row.get(task) {
+        Some(number) => *number,
+        None => None,
+    }
+}
+
+fn makings_at(activations: &[Option<u32>], settings: &[Option<u32>], task: usize) -> SectionMakings
+    ensures { (result.activations ≡ get_or activations.now task None) × (result.settings ≡ get_or settings.now task None) }
+{
+    SectionMakings {
+        activations: number_at(activations, task),
+        settings: number_at(settings, task),
+    }
+}
+
+fn joined_rows(
+    alloc: Global,
+    config: &Config,
+    app: &App,
+    load: &[Entry],
+    tasks: &[TaskCosts],
+    above: usize,
+    named: usize,
+    activations: &[Option<u32>],
+    settings: &[Option<u32>],
+) -> Result<Vec<SectionMakings>, NoMemory>
+    requires activations { AreEach (length config.now.tasks) None (AreMadeBy config.now app.now load.now tasks.now above named (counts.Activations named)) activations.now }
+    requires settings { AreEach (length config.now.tasks) None (AreMadeBy config.now app.now load.now tasks.now above named (counts.Settings named)) settings.now }
+    ensures { IfOk result (λ row. AreEach (length config.now.tasks) no_section_makings (IsSectionMaking config.now app.now load.now tasks.now above named) row.items) }
+{
+    let mut row = Vec::new(alloc);
+    for task in 0..config.tasks.items().len() {
+        push(&mut row, makings_at(activations, settings, task))?;
+    }
+    Ok(row)
+}
+
+/// How often sections for `above` make `named` Ready, of each task.
+pub fn section_makers(
+    alloc: Global,
+    config: &Config,
+    app: &App,
+    load: &[Entry],
+    bodies: &[Body],
+    order: &[usize],
+    tasks: &[TaskCosts],
+    tops: &NamingTops,
+    above: usize,
+    named: usize,
+) -> Result<Vec<SectionMakings>, NoMemory>
+    requires well_formed { WellFormed config.now app.now }
+    requires bodies { AreKnownBodies config.now app.now bodies.now }
+    requires order { IsCallOrder app.now order.now }
+    requires count { length tasks.now ≡ length config.now.tasks }
+    requires tops { AreNamingTops config.now app.now named tops.now }
+    requires above { above < length config.now.tasks }
+    requires named { named < length config.now.tasks }
+    ensures { IfOk result (λ row. AreEach (length config.now.tasks) no_section_makings (IsSectionMaking config.now app.now load.now tasks.now above named) row.items) }
+{
+    let calls = Counted::Activations(named as u32);
+    let either = tops.either.items();
+    let activations = row(
+        alloc, config, app, load, bodies, order, tasks, above, named, either, calls,
+    )?;
+    let sets = Counted::Settings(named as u32);
+    let setting = tops.setting.items();
+    let settings = row(
+        alloc, config, app, load, bodies, order, tasks, above, named, setting, sets,
+    )?;
+    joined_rows(
+        alloc,
+        config,
+        app,
+        load,
+        tasks,
+        above,
+        named,
+        &activations,
+        &settings,
+    )
+}

@@ -1,0 +1,178 @@
+//! The raised sections of lower tasks.
+ghost use Rattle.std.specs.Prelude.{◌≡◌, ◌<◌, ◌≤◌, ◌||◌, ◌&&◌, ◌==◌, ℕ, nat_lt, not, None, Some, true, false, [], length, get_or, IfOk};
+ghost use Rattle.sloth_base.specs.Named.{declaration};
+ghost use Rattle.load_text.specs.Loads.{work};
+ghost use Rattle.code_rules.specs.WellFormed.{WellFormed};
+ghost use Rattle.osek_scheduler.specs.Apart.{static_priority};
+ghost use Rattle.raised_sections.specs.Sections.{IsLower};
+ghost use Rattle.section_sizes.specs.CallOrder.{IsCallOrder};
+ghost use Rattle.section_sizes.specs.Known.{AreKnownBodies};
+ghost use Rattle.walk_sums.specs.declared.kinds.Kind.TheVariants as kinds;
+ghost use Rattle.walk_sums.specs.Counted.{counted_weights};
+ghost use Rattle.walk_sums.specs.Known.{AreSums};
+ghost use Rattle.walk_sums.specs.Told.{IsToldSum, IsRaisedPart};
+ghost use Rattle.walk_sums.specs.Weights.{AreSumWeights};
+ghost use Rattle.response_bounds.specs.Costs.{no_section};
+ghost use Rattle.response_costs.specs.CostsOf.{AreEach, IsSection};
+ghost use Rattle.response_costs.specs.PathWeights.{ArePathWeights};
+ghost use Rattle.response_costs.specs.Sections.{section_counts};
+ghost use Rattle.response_costs.specs.SectionSums.{is_lower, has_some};
+
+use bound_rules::bodies::Body;
+use bound_rules::sizes::Summary;
+use bound_rules::weights::BodyWeights;
+use load_text::{Entry, work_of};
+use response_bounds::costs::SectionCosts;
+use sloth_base::app::App;
+use sloth_base::config::Config;
+use sloth_base::memory::NoMemory;
+use std::alloc::Global;
+use text_pieces::growth::push;
+use walk_sums::levels::own_sums;
+use walk_sums::sum::Sum;
+use walk_sums::tasks::section_sum;
+
+/// The static priority of a task.
+pub fn priority_of(config: &Config, task: usize) -> u32
+    requires { task < length config.now.tasks }
+    ensures { result ≡ static_priority config.now task }
+{
+    config.tasks.items()[task].priority
+}
+
+/// Whether a task is lower than this one.
+pub fn is_lower(config: &Config, above: usize, task: usize) -> bool
+    requires above { above < length config.now.tasks }
+    requires task { task < length config.now.tasks }
+    ensures { result ≡ is_lower config.now above task }
+{
+    priority_of(config, task) < priority_of(config, above)
+}
+
+fn section_counts(work: Option<u32>, sum: Sum) -> Option<u32>
+    ensures { result ≡ section_counts work sum }
+{
+    match sum {
+        Sum::Counts(counts) => Some(counts),
+        Sum::Huge => None,
+        Sum::Endless => work,
+    }
+}
+
+fn has_some(sum: Sum) -> bool
+    ensures { result ≡ has_some sum }
+{
+    match sum {
+        Sum::Counts(counts) => counts != 0,
+        Sum::Huge | Sum::Endless => true,
+    }
+}
+
+// Those of a lower task.
+fn lower_section(
+    config: &Config,
+    app: &App,
+    load: &[Entry],
+    weights: &[BodyWeights],
+    whole: &[Summary],
+    own: &[Summary],
+    above: usize,
+    task: usize,
+) -> SectionCosts
+    requires well_formed { WellFormed config.now app.now }
+    requires are { ArePathWeights app.now weights.now }
+    requires fit { AreSumWeights app.now weights.now }
+    requires whole { AreSums config.now app.now weights.now kinds.Sections None whole.now }
+    requires own { AreSums config.now app.now weights.now kinds.Sections (Some (static_priority config.now above)) own.now }
+    requires above { above < length config.now.tasks }
+    requires lower { IsLower config.now above task }
+    ensures { IsSection config.now app.now load.now weights.now above task result }
+{
+    let sum = section_sum(config, app, weights, whole, own, above, task);
+    SectionCosts {
+        exists: has_some(sum),
+        counts: section_counts(work_of(load, task as u8), sum),
+    }
+}
+
+// Those of any task.
+fn section_of(
+    config: &Config,
+    app: &App,
+    load: &[Entry],
+    weights: &[BodyWeights],
+    whole: &[Summary],
+    own: &[Summary],
+    above: usize,
+    task: usize,
+) -> SectionCosts
+    requires well_formed { WellFormed config.now app.now }
+    requires are { ArePathWeights app.now weights.now }
+    requires fit { AreSumWeights app.now weights.now }
+    requires whole { AreSums config.now app.now weights.now kinds.Sections None whole.now }
+    requires own { AreSums config.now app.now weights.now kinds.Sections (Some (static_priority config.now above)) own.now }
+    requires above { above < length config.now.tasks }
+    requires task { task < length config.now.tasks }
+    ensures { IsSection config.now app.now load.now weights.now above task result }
+{
+    if is_lower(config, above, task) {
+        lower_section(config, app, load, weights, whole, own, above, task)
+    } else {
+        SectionCosts {
+            exists: false,
+            counts: Some(0),
+        }
+    }
+}
+
+fn sections_by(
+    alloc: Global,
+    config: &Config,
+    app: &App,
+    load: &[Entry],
+    weights: &[BodyWeights],
+    whole: &[Summary],
+    own: &[Summary],
+    above: usize,
+) -> Result<Vec<SectionCosts>, NoMemory>
+    requires well_formed { WellFormed config.now app.now }
+    requires are { ArePathWeights app.now weights.now }
+    requires fit { AreSumWeights app.now weights.now }
+    requires whole { AreSums config.now app.now weights.now kinds.Sections None whole.now }
+    requires own { AreSums config.now app.now weights.now kinds.Sections (Some (static_priority config.now above)) own.now }
+    requires above { above < length config.now.tasks }
+    ensures { IfOk result (λ list. AreEach (length config.now.tasks) no_section (IsSection config.now app.now load.now weights.now above) list.items) }
+{
+    let mut list = Vec::new(alloc);
+    for task in 0..config.tasks.items().len() {
+        let section = section_of(config, app, load, weights, whole, own, above, task);
+        push(&mut list, section)?;
+    }
+    Ok(list)
+}
+
+/// The sections of all tasks for one, by the summaries where callers have raised a task.
+pub fn sections(
+    alloc: Global,
+    config: &Config,
+    app: &App,
+    load: &[Entry],
+    weights: &[BodyWeights],
+    whole: &[Summary],
+    bodies: &[Body],
+    order: &[usize],
+    above: usize,
+) -> Result<Vec<SectionCosts>, NoMemory>
+    requires well_formed { WellFormed config.now app.now }
+    requires are { ArePathWeights app.now weights.now }
+    requires fit { AreSumWeights app.now weights.now }
+    requires whole { AreSums config.now app.now weights.now kinds.Sections None whole.now }
+    requires bodies { AreKnownBodies config.now app.now bodies.now }
+    requires order { IsCallOrder app.now order.now }
+    requires above { above < length config.now.tasks }
+    ensures { IfOk result (λ list. AreEach (length config.now.tasks) no_section (IsSection config.now app.now load.now weights.now above) list.items) }
+{
+    let priority = priority_of(config, above);
+    let own = own_sums(alloc, config, app, weights, bodies, order, priority, whole)?;
+    sections_by(alloc, config, app, load, weights, whole, &own, above)
+}

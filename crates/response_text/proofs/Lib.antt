@@ -1,0 +1,4 @@
+pub mod OneResponse
+pub mod OneText
+pub mod Refused
+mod Unread

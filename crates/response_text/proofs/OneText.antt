@@ -1,0 +1,48 @@
+-- Texts have one answer at most.
+use Rattle.std.proofs.Common.{◌≡◌, ◌∙◌, ℕ, ◌<◌, List, ◌++◌, length, Option, sym, ap, subst, arith}
+use Rattle.sloth_base.specs.declared.config.Config.{Config}
+use Rattle.sloth_base.specs.declared.app.App.{App}
+use Rattle.sloth_base.specs.DeclaredNames.{task_names, counter_names}
+use Rattle.sloth_source.proofs.Unique.{one_meaning}
+use Rattle.load_text.specs.declared.entry.Entry.{Entry}
+use Rattle.load_text.specs.LoadText.{load_in}
+use Rattle.response_bounds.specs.declared.costs.Costs.{Costs}
+use Rattle.response_bounds.specs.Responses.{IsResponse, IsDemand}
+use Rattle.response_costs.proofs.OneCosts.{one_costs}
+use Rattle.response_text.specs.declared.told.Told.{Told}
+use Rattle.response_lines.specs.Lines.{response_at, response_lines, demand_line, has_open}
+use Rattle.response_text.specs.ResponseText.{AreResponses, told_of, HasResponses, HasLoadResponses, OneText}
+use Rattle.response_lines.proofs.FirstTasks.{same_lines, same_open}
+use Rattle.response_text.proofs.OneResponse.{one_response, one_demand}
+
+module _ (config : Config) (app : App) (load : List Entry) where
+  -- the same is told of the same responses and demand
+  same_told : (one other : List (Option ℕ)) (p q : Option ℕ) → ((t : ℕ) → t < length config.tasks → response_at one t ≡ response_at other t) → p ≡ q
+      → told_of config app load one p ≡ told_of config app load other q
+  same_told one other p q each e =
+      let count = length config.tasks in
+      ap (λ l. record { text = l ++ demand_line p; is_open = has_open load one count }) (same_lines config app load one other count each)
+      ∙ (ap (λ d. record { text = response_lines config app load other count ++ demand_line d; is_open = has_open load one count }) e
+      ∙ ap (λ b. record { text = response_lines config app load other count ++ demand_line q; is_open = b }) (same_open load one other count each))
+
+  one_told : (one other : Told) → HasResponses config app load one → HasResponses config app load other → one ≡ other
+  one_told one other a b =
+      let costs = one_costs config app load a.costs b.costs a.are_costs b.are_costs in
+      let there : AreResponses a.costs (length config.tasks) b.responses = subst (λ (c : Costs). AreResponses c (length config.tasks) b.responses) (sym costs) b.are_responses in
+      let demand : IsDemand a.costs b.demand = subst (λ (c : Costs). IsDemand c b.demand) (sym costs) b.is_demand in
+      let count = a.are_costs.tasks.count in
+      a.is
+      ∙ (same_told a.responses b.responses a.demand b.demand
+      (λ t lt. one_response a.costs t (omega (arith, lt, count)) (response_at a.responses t) (response_at b.responses t) (a.are_responses.each t lt) (there.each t lt))
+      (one_demand a.costs a.demand b.demand a.is_demand demand) ∙ sym b.is)
+
+one_for : (config : Config) (app : App) (load : List ℕ) (one other : Told) → HasLoadResponses config app load one → HasLoadResponses config app load other → one ≡ other
+one_for config app load one other a b =
+    let same : b.load ≡ a.load = b.is_load.load_is ∙ sym a.is_load.load_is in
+    one_told config app a.load one other a.has (subst (λ (l : List Entry). HasResponses config app l other) same b.has)
+
+pub one_text : OneText
+one_text oil src load one other a b =
+    let same = one_meaning oil src b.config a.config b.app a.app b.accepted a.accepted in
+    one_for a.config a.app load one other a.has
+    (subst (λ (x : App). HasLoadResponses a.config x load other) same.1 (subst (λ (c : Config). HasLoadResponses c b.app load other) same.0 b.has))
