@@ -87,6 +87,7 @@ tool-apart tool.Elf = refl
 tool-apart tool.Unelf = refl
 tool-apart tool.Infer = refl
 tool-apart tool.At = refl
+tool-apart tool.AtAll = refl
 tool-apart tool.Losses = refl
 tool-apart tool.Wave = refl
 tool-apart tool.Picture = refl
@@ -96,6 +97,7 @@ tool-apart tool.Latency = refl
 tool-apart tool.LowerCounts = refl
 tool-apart tool.Map = refl
 tool-apart tool.Shares = refl
+tool-apart tool.Response = refl
 tool-apart tool.Symbols = refl
 
 apart : (t : Tool) (word : List ℕ) → stands word ≡ true → tool_word t ≡ word → ⊥

@@ -15,11 +15,11 @@ use Rattle.command_line.specs.declared.counts.Window.{Window}
 use Rattle.command_line.specs.declared.tool.Tool.{Tool}
 use Rattle.command_line.specs.declared.tool.Tool.TheVariants as tool
 use Rattle.command_line.specs.Command.{IsCommand, NoTool, Uses, words_of}
-use Rattle.command_line.specs.Tools.{ToolUse, asks_counts, IsAskedFor, tool_word, tool_words, input_count, further_word, word_count, counts_limit, writes_file, counts_words, output_words, AreCounts, IsOutput, IsToolUse, IsWindow}
+use Rattle.command_line.specs.Tools.{ToolUse, asks_counts, IsAskedFor, tool_word, tool_words, input_count, further_word, closing_word, word_count, counts_limit, writes_file, counts_words, output_words, last_words, AreCounts, IsOutput, IsToolUse, IsWindow}
 
 -- the tools
 abbrev all_tools : List Tool
-all_tools = tool.Elf ∷ tool.Unelf ∷ tool.Infer ∷ tool.At ∷ tool.Losses ∷ tool.Wave ∷ tool.Picture ∷ tool.Check ∷ tool.Bounds ∷ tool.Latency ∷ tool.LowerCounts ∷ tool.Map ∷ tool.Shares ∷ tool.Symbols ∷ []
+all_tools = tool.Elf ∷ tool.Unelf ∷ tool.Infer ∷ tool.At ∷ tool.AtAll ∷ tool.Losses ∷ tool.Wave ∷ tool.Picture ∷ tool.Check ∷ tool.Bounds ∷ tool.Latency ∷ tool.LowerCounts ∷ tool.Map ∷ tool.Shares ∷ tool.Response ∷ tool.Symbols ∷ []
 
 -- of the two of one word it is the one that is asked for
 abbrev is_asked_for : Tool → (asks : Bool) → Bool
@@ -38,6 +38,7 @@ found tool.Elf asks h = refl
 found tool.Unelf asks h = refl
 found tool.Infer asks h = refl
 found tool.At asks h = refl
+found tool.AtAll asks h = refl
 found tool.Losses asks h = refl
 found tool.Wave asks h = refl
 found tool.Picture asks h = refl
@@ -49,6 +50,7 @@ found tool.LowerCounts true h = refl
 found tool.LowerCounts false h = absurd (false≢true h)
 found tool.Map asks h = refl
 found tool.Shares asks h = refl
+found tool.Response asks h = refl
 found tool.Symbols asks h = refl
 
 pub same-tool : (t u : Tool) (asks : Bool) → IsAskedFor t asks → IsAskedFor u asks → tool_word t ≡ tool_word u → word_count t ≡ word_count u → t ≡ u
@@ -71,7 +73,7 @@ asked-by tool.LowerCounts (a ∷ b ∷ c ∷ more) rest e = absurd (let wrong : 
 asked-by _ inputs rest e = tt
 
 pub asked-for : (u : ToolUse) → IsToolUse u → IsAskedFor u.tool (asks_counts (tool_words u))
-asked-for u is = asked-by u.tool u.inputs (counts_words u.counts ++ output_words u.output) is.counted
+asked-for u is = asked-by u.tool u.inputs (counts_words u.counts ++ last_words u.tool u.output) is.counted
 
 -- the limits of counts are words of 32 bits
 abbrev IsWordLimit : Option Limit → Type 0
@@ -84,6 +86,7 @@ word-limit tool.Elf = tt
 word-limit tool.Unelf = tt
 word-limit tool.Infer = tt
 word-limit tool.At = omega arith
+word-limit tool.AtAll = omega arith
 word-limit tool.Losses = omega arith
 word-limit tool.Wave = omega arith
 word-limit tool.Picture = omega arith
@@ -93,6 +96,7 @@ word-limit tool.Latency = tt
 word-limit tool.LowerCounts = tt
 word-limit tool.Map = tt
 word-limit tool.Shares = tt
+word-limit tool.Response = tt
 word-limit tool.Symbols = tt
 
 -- two lists of one length in front of others
@@ -184,11 +188,12 @@ output-counted true None h = absurd h
 output-counted true (Some name) h = refl
 
 -- the count of its words is that of its parts
-counted : (t : Tool) → word_count t ≡ 1 + (input_count t + (length (option_to_list (further_word t)) + (number_count (counts_limit t) + cond (writes_file t) 1 0)))
+counted : (t : Tool) → word_count t ≡ 1 + (input_count t + (length (option_to_list (further_word t)) + (number_count (counts_limit t) + (length (option_to_list (closing_word t)) + cond (writes_file t) 1 0))))
 counted tool.Elf = refl
 counted tool.Unelf = refl
 counted tool.Infer = refl
 counted tool.At = refl
+counted tool.AtAll = refl
 counted tool.Losses = refl
 counted tool.Wave = refl
 counted tool.Picture = refl
@@ -198,40 +203,45 @@ counted tool.Latency = refl
 counted tool.LowerCounts = refl
 counted tool.Map = refl
 counted tool.Shares = refl
+counted tool.Response = refl
 counted tool.Symbols = refl
 
 pub words-counted : (u : ToolUse) → IsToolUse u → length (tool_words u) ≡ word_count u.tool
 words-counted u is =
     let further = option_to_list (further_word u.tool) in
-    let inputs : length (u.inputs ++ (further ++ (counts_words u.counts ++ output_words u.output)))
-    ≡ length u.inputs + length (further ++ (counts_words u.counts ++ output_words u.output)) = length-append u.inputs _ in
-    let behind : length (further ++ (counts_words u.counts ++ output_words u.output))
-    ≡ length further + length (counts_words u.counts ++ output_words u.output) = length-append further _ in
-    let last : length (counts_words u.counts ++ output_words u.output) ≡ length (counts_words u.counts) + length (output_words u.output) =
+    let inputs : length (u.inputs ++ (further ++ (counts_words u.counts ++ last_words u.tool u.output)))
+    ≡ length u.inputs + length (further ++ (counts_words u.counts ++ last_words u.tool u.output)) = length-append u.inputs _ in
+    let behind : length (further ++ (counts_words u.counts ++ last_words u.tool u.output))
+    ≡ length further + length (counts_words u.counts ++ last_words u.tool u.output) = length-append further _ in
+    let last : length (counts_words u.counts ++ last_words u.tool u.output) ≡ length (counts_words u.counts) + length (last_words u.tool u.output) =
     length-append (counts_words u.counts) _ in
+    let closing : length (last_words u.tool u.output) ≡ length (option_to_list (closing_word u.tool)) + length (output_words u.output) =
+    length-append (option_to_list (closing_word u.tool)) _ in
     let number = counts-counted (counts_limit u.tool) u.counts is.counts in
     let output = output-counted (writes_file u.tool) u.output is.output in
     let all = counted u.tool in
     let given = is.counted in
-    omega (arith, inputs, behind, last, number, output, all, given)
+    omega (arith, inputs, behind, last, closing, number, output, all, given)
 
 -- ---- one use
 
 -- behind the same word
 pub same-rest : (t : Tool) (xs ys : List (List ℕ)) (n m : Option Counts) (o p : Option (List ℕ)) → length xs ≡ input_count t → length ys ≡ input_count t
     → AreCounts (counts_limit t) n → AreCounts (counts_limit t) m → IsOutput (writes_file t) o → IsOutput (writes_file t) p
-    → xs ++ (option_to_list (further_word t) ++ (counts_words n ++ output_words o)) ≡ ys ++ (option_to_list (further_word t) ++ (counts_words m ++ output_words p))
+    → xs ++ (option_to_list (further_word t) ++ (counts_words n ++ last_words t o)) ≡ ys ++ (option_to_list (further_word t) ++ (counts_words m ++ last_words t p))
     → (xs ≡ ys) × (n ≡ m) × (o ≡ p)
 same-rest t xs ys n m o p a b h i j k e =
     let further : List (List ℕ) = option_to_list (further_word t) in
     let inputs = fronts xs ys _ _ (a ∙ sym b) e in
-    let behind = fronts further further (counts_words n ++ output_words o) (counts_words m ++ output_words p) refl inputs.1 in
+    let closing : List (List ℕ) = option_to_list (closing_word t) in
+    let behind = fronts further further (counts_words n ++ last_words t o) (counts_words m ++ last_words t p) refl inputs.1 in
     let numbers = same-behind (counts_limit t) n m _ _ (word-limit t) h i behind.1 in
-    (inputs.0, numbers.0, same-output (writes_file t) o p j k numbers.1)
+    let outputs = fronts closing closing (output_words o) (output_words p) refl numbers.1 in
+    (inputs.0, numbers.0, same-output (writes_file t) o p j k outputs.1)
 
 -- what stands behind the word of a use
 abbrev rest_words : Tool → ToolUse → List (List ℕ)
-rest_words t u = u.inputs ++ (option_to_list (further_word t) ++ (counts_words u.counts ++ output_words u.output))
+rest_words t u = u.inputs ++ (option_to_list (further_word t) ++ (counts_words u.counts ++ last_words t u.output))
 
 pub same-use : (u w : ToolUse) → tool_words u ≡ tool_words w → IsToolUse u → IsToolUse w → u ≡ w
 same-use u w e l m =
@@ -252,7 +262,7 @@ same-use u w e l m =
 pub record Behind (words : List (List ℕ)) (t : Tool) (u : ToolUse) : Type 0 where
   pub tool_is : u.tool ≡ t
   pub long : input_count t + 1 ≤ length words
-  pub rest : drop (input_count t + 1) words ≡ option_to_list (further_word t) ++ (counts_words u.counts ++ output_words u.output)
+  pub rest : drop (input_count t + 1) words ≡ option_to_list (further_word t) ++ (counts_words u.counts ++ last_words t u.output)
 
 -- the words are so many as tool t has, the first one is its, and of two of one word it is the one that they ask for
 pub record Begins (words : List (List ℕ)) (t : Tool) : Type 0 where
@@ -268,7 +278,7 @@ begins-as words t u b e is =
 pub behind-inputs : (words : List (List ℕ)) (t : Tool) (u : ToolUse) → Begins words t → words ≡ tool_words u → IsToolUse u → Behind words t u
 behind-inputs words t u b e is =
     let same : u.tool ≡ t = begins-as words t u b e is in
-    let rest : List (List ℕ) = option_to_list (further_word u.tool) ++ (counts_words u.counts ++ output_words u.output) in
+    let rest : List (List ℕ) = option_to_list (further_word u.tool) ++ (counts_words u.counts ++ last_words u.tool u.output) in
     let counted : length u.inputs ≡ input_count t = is.counted ∙ ap input_count same in
     let n : input_count t + 1 ≡ length (tool_word u.tool ∷ u.inputs) = omega (arith, counted) in
     let long : length words ≡ length (tool_word u.tool ∷ u.inputs) + length rest =
@@ -278,14 +288,14 @@ behind-inputs words t u b e is =
       long = omega (arith, n, long);
       rest = ap (λ w. drop (input_count t + 1) w) e ∙ ap (λ k. drop k ((tool_word u.tool ∷ u.inputs) ++ rest)) n
           ∙ drop-append_seam (tool_word u.tool ∷ u.inputs) rest
-          ∙ ap (λ x. option_to_list (further_word x) ++ (counts_words u.counts ++ output_words u.output)) same;
+          ∙ ap (λ x. option_to_list (further_word x) ++ (counts_words u.counts ++ last_words x u.output)) same;
     }
 
 -- words behind which the further word of the tool does not stand are no tool's
 pub without-further : (words : List (List ℕ)) (t : Tool) → Begins words t
     → ((rest : List (List ℕ)) → drop (input_count t + 1) words ≡ option_to_list (further_word t) ++ rest → ⊥) → NoTool words
 without-further words t first none used h =
-    let b = behind-inputs words t used first h.0 h.1 in none (counts_words used.counts ++ output_words used.output) b.rest
+    let b = behind-inputs words t used first h.0 h.1 in none (counts_words used.counts ++ last_words t used.output) b.rest
 
 -- nor are those behind which no counts stand that the tool takes
 pub without-counts : (words : List (List ℕ)) (t : Tool) (behind : List (List ℕ)) → Begins words t
@@ -295,20 +305,38 @@ without-counts words t behind first e none used h =
     let b = behind-inputs words t used first h.0 h.1 in
     let N : Tool → Type 0 = λ x. AreCounts (counts_limit x) used.counts in
     let further : List (List ℕ) = option_to_list (further_word t) in
-    let same = fronts further further behind (counts_words used.counts ++ output_words used.output) refl (sym e ∙ b.rest) in
-    none used.counts (output_words used.output) (subst N b.tool_is h.1.counts) same.1
+    let same = fronts further further behind (counts_words used.counts ++ last_words t used.output) refl (sym e ∙ b.rest) in
+    none used.counts (last_words t used.output) (subst N b.tool_is h.1.counts) same.1
+
+-- what stands behind its counts
+last-behind : (words : List (List ℕ)) (t : Tool) (n : Option Counts) (behind rest : List (List ℕ)) → Begins words t → AreCounts (counts_limit t) n
+    → drop (input_count t + 1) words ≡ option_to_list (further_word t) ++ behind → behind ≡ counts_words n ++ rest
+    → (u : ToolUse) → words ≡ tool_words u → IsToolUse u → rest ≡ last_words t u.output
+last-behind words t n behind rest first number e f u words_are is =
+    let b = behind-inputs words t u first words_are is in
+    let N : Tool → Type 0 = λ x. AreCounts (counts_limit x) u.counts in
+    let further : List (List ℕ) = option_to_list (further_word t) in
+    let front = fronts further further behind (counts_words u.counts ++ last_words t u.output) refl (sym e ∙ b.rest) in
+    let same = same-behind (counts_limit t) n u.counts rest (last_words t u.output) (word-limit t) number (subst N b.tool_is is.counts) (sym f ∙ front.1) in
+    same.1
+
+-- nor are those behind which its closing word does not stand
+pub without-closing : (words : List (List ℕ)) (t : Tool) (n : Option Counts) (behind rest : List (List ℕ)) → Begins words t → AreCounts (counts_limit t) n
+    → drop (input_count t + 1) words ≡ option_to_list (further_word t) ++ behind → behind ≡ counts_words n ++ rest
+    → ((closed : List (List ℕ)) → rest ≡ option_to_list (closing_word t) ++ closed → ⊥) → NoTool words
+without-closing words t n behind rest first number e f none used h =
+    none (output_words used.output) (last-behind words t n behind rest first number e f used h.0 h.1)
 
 -- nor are those behind which no file stands that it writes
-pub without-output : (words : List (List ℕ)) (t : Tool) (n : Option Counts) (behind rest : List (List ℕ)) → Begins words t → AreCounts (counts_limit t) n
+pub without-output : (words : List (List ℕ)) (t : Tool) (n : Option Counts) (behind rest closed : List (List ℕ)) → Begins words t → AreCounts (counts_limit t) n
     → drop (input_count t + 1) words ≡ option_to_list (further_word t) ++ behind → behind ≡ counts_words n ++ rest
-    → ((o : Option (List ℕ)) → IsOutput (writes_file t) o → rest ≡ output_words o → ⊥) → NoTool words
-without-output words t n behind rest first number e f none used h =
+    → rest ≡ option_to_list (closing_word t) ++ closed
+    → ((o : Option (List ℕ)) → IsOutput (writes_file t) o → closed ≡ output_words o → ⊥) → NoTool words
+without-output words t n behind rest closed first number e f g none used h =
     let b = behind-inputs words t used first h.0 h.1 in
-    let N : Tool → Type 0 = λ x. AreCounts (counts_limit x) used.counts in
     let O : Tool → Type 0 = λ x. IsOutput (writes_file x) used.output in
-    let further : List (List ℕ) = option_to_list (further_word t) in
-    let front = fronts further further behind (counts_words used.counts ++ output_words used.output) refl (sym e ∙ b.rest) in
-    let same = same-behind (counts_limit t) n used.counts rest (output_words used.output) (word-limit t) number (subst N b.tool_is h.1.counts) (sym f ∙ front.1) in
+    let closing : List (List ℕ) = option_to_list (closing_word t) in
+    let same = fronts closing closing closed (output_words used.output) refl (sym g ∙ last-behind words t n behind rest first number e f used h.0 h.1) in
     none used.output (subst O b.tool_is h.1.output) same.1
 
 -- what holds anyway
@@ -359,19 +387,20 @@ words-taken (suc k) [] h = absurd (let wrong : ⊥ = omega (arith, h) in wrong)
 words-taken (suc k) (w ∷ words) h = ap suc (words-taken k words (omega (arith, h)))
 
 -- words that begin as those of a tool, so many files, and behind them what it takes
-pub is-tool : (words : List (String Global)) (t : Tool) (count : ℕ) (n : Option Counts) (o : Option (List ℕ)) (behind rest : List (List ℕ))
+pub is-tool : (words : List (String Global)) (t : Tool) (count : ℕ) (n : Option Counts) (o : Option (List ℕ)) (behind rest closed : List (List ℕ))
     → Begins (words_of words) t → count ≡ input_count t → count + 1 ≤ length words
-    → drop (input_count t + 1) (words_of words) ≡ option_to_list (further_word t) ++ behind → behind ≡ counts_words n ++ rest → rest ≡ output_words o
+    → drop (input_count t + 1) (words_of words) ≡ option_to_list (further_word t) ++ behind → behind ≡ counts_words n ++ rest
+    → rest ≡ option_to_list (closing_word t) ++ closed → closed ≡ output_words o
     → AreCounts (counts_limit t) n → IsOutput (writes_file t) o
     → IsCommand (words_of words) (Uses (record { tool = t; inputs = words_of (take (count + 1 - 1) (drop 1 words)); counts = n; output = o }))
-is-tool [] t count n o behind rest begins same long further counted output are writes = absurd (let wrong : ⊥ = omega (arith, long) in wrong)
-is-tool (w ∷ words) t count n o behind rest begins same long further counted output are writes =
+is-tool [] t count n o behind rest closed begins same long further counted closing output are writes = absurd (let wrong : ⊥ = omega (arith, long) in wrong)
+is-tool (w ∷ words) t count n o behind rest closed begins same long further counted closing output are writes =
     let V = words_of words in
     let k : count + 1 - 1 ≡ count = omega arith in
     let first : string_bytes w ≡ tool_word t = begins.first in
-    let last : drop (input_count t) V ≡ option_to_list (further_word t) ++ (counts_words n ++ output_words o) =
+    let last : drop (input_count t) V ≡ option_to_list (further_word t) ++ (counts_words n ++ last_words t o) =
     sym (ap (λ j. drop j (string_bytes w ∷ V)) (add-one (input_count t))) ∙ further
-    ∙ ap (λ b. option_to_list (further_word t) ++ b) (counted ∙ ap (λ r. counts_words n ++ r) output) in
+    ∙ ap (λ b. option_to_list (further_word t) ++ b) (counted ∙ ap (λ r. counts_words n ++ r) (closing ∙ ap (λ r. option_to_list (closing_word t) ++ r) output)) in
     let parted : V ≡ words_of (take (count + 1 - 1) words) ++ drop (input_count t) V =
     words-parted count words ∙ ap (λ j. words_of (take j words) ++ drop count V) (sym k)
     ∙ ap (λ j. words_of (take (count + 1 - 1) words) ++ drop j V) same in (

@@ -16,6 +16,7 @@ tool_word tool.Elf = codes "elf"
 tool_word tool.Unelf = codes "unelf"
 tool_word tool.Infer = codes "infer"
 tool_word tool.At = codes "at"
+tool_word tool.AtAll = codes "at"
 tool_word tool.Losses = codes "losses"
 tool_word tool.Wave = codes "wave"
 tool_word tool.Picture = codes "picture"
@@ -25,6 +26,7 @@ tool_word tool.Latency = codes "bounds"
 tool_word tool.LowerCounts = codes "bounds"
 tool_word tool.Map = codes "map"
 tool_word tool.Shares = codes "shares"
+tool_word tool.Response = codes "response"
 tool_word tool.Symbols = codes "symbols"
 
 -- how many files it reads; their names are the next words
@@ -33,6 +35,7 @@ input_count tool.Elf = 1
 input_count tool.Unelf = 1
 input_count tool.Infer = 2
 input_count tool.At = 2
+input_count tool.AtAll = 2
 input_count tool.Losses = 2
 input_count tool.Wave = 2
 input_count tool.Picture = 2
@@ -42,6 +45,7 @@ input_count tool.Latency = 2
 input_count tool.LowerCounts = 2
 input_count tool.Map = 2
 input_count tool.Shares = 2
+input_count tool.Response = 3
 input_count tool.Symbols = 2
 
 -- the word that stands behind the names of the files that it reads, if one does
@@ -50,6 +54,7 @@ further_word tool.Elf = None
 further_word tool.Unelf = None
 further_word tool.Infer = None
 further_word tool.At = None
+further_word tool.AtAll = None
 further_word tool.Losses = None
 further_word tool.Wave = None
 further_word tool.Picture = None
@@ -59,6 +64,7 @@ further_word tool.Latency = Some (codes "latency")
 further_word tool.LowerCounts = Some (codes "counts")
 further_word tool.Map = None
 further_word tool.Shares = None
+further_word tool.Response = None
 further_word tool.Symbols = None
 
 -- which counts it takes as its next words, if it takes any
@@ -67,6 +73,7 @@ counts_limit tool.Elf = None
 counts_limit tool.Unelf = None
 counts_limit tool.Infer = None
 counts_limit tool.At = Some (limit.One 999999)
+counts_limit tool.AtAll = Some (limit.One 999999)
 counts_limit tool.Losses = Some (limit.One count_limit)
 counts_limit tool.Wave = Some (limit.One count_limit)
 counts_limit tool.Picture = Some (limit.Window count_limit picture_limit)
@@ -76,7 +83,13 @@ counts_limit tool.Latency = None
 counts_limit tool.LowerCounts = None
 counts_limit tool.Map = None
 counts_limit tool.Shares = None
+counts_limit tool.Response = None
 counts_limit tool.Symbols = None
+
+-- the word that stands behind its counts, if one does
+abbrev pub closing_word : Tool → Option (List ℕ)
+closing_word tool.AtAll = Some (codes "all")
+closing_word _ = None
 
 -- whether its last word names a file that it writes
 abbrev pub writes_file : Tool → Bool
@@ -84,6 +97,7 @@ writes_file tool.Elf = true
 writes_file tool.Unelf = true
 writes_file tool.Infer = true
 writes_file tool.At = false
+writes_file tool.AtAll = false
 writes_file tool.Losses = false
 writes_file tool.Wave = true
 writes_file tool.Picture = true
@@ -93,6 +107,7 @@ writes_file tool.Latency = false
 writes_file tool.LowerCounts = false
 writes_file tool.Map = false
 writes_file tool.Shares = false
+writes_file tool.Response = false
 writes_file tool.Symbols = true
 
 -- how many words it has
@@ -101,6 +116,7 @@ word_count tool.Elf = 3
 word_count tool.Unelf = 3
 word_count tool.Infer = 4
 word_count tool.At = 4
+word_count tool.AtAll = 5
 word_count tool.Losses = 4
 word_count tool.Wave = 5
 word_count tool.Picture = 6
@@ -110,6 +126,7 @@ word_count tool.Latency = 4
 word_count tool.LowerCounts = 4
 word_count tool.Map = 3
 word_count tool.Shares = 3
+word_count tool.Response = 4
 word_count tool.Symbols = 4
 
 -- ---- two tools of one word, and of as many words
@@ -144,10 +161,14 @@ abbrev pub output_words : Option (List ℕ) → List (List ℕ)
 output_words None = []
 output_words (Some name) = name ∷ []
 
+-- the words of a tool that stand behind its counts
+abbrev pub last_words : Tool → Option (List ℕ) → List (List ℕ)
+last_words t output = option_to_list (closing_word t) ++ output_words output
+
 -- the words of a tool
 abbrev pub tool_words : ToolUse → List (List ℕ)
 tool_words used =
-    tool_word used.tool ∷ used.inputs ++ (option_to_list (further_word used.tool) ++ (counts_words used.counts ++ output_words used.output))
+    tool_word used.tool ∷ used.inputs ++ (option_to_list (further_word used.tool) ++ (counts_words used.counts ++ last_words used.tool used.output))
 
 -- a window whose ends are in order, the second at most so great, and at most so far behind the first
 pub record IsWindow (most apart : ℕ) (window : Window) : Type 0 where

@@ -1,7 +1,7 @@
 //! The commands that read files, judge what they hold, and end with one answer: a row of the table for each.
 ghost use Rattle.std.specs.Option.{option_map};
 ghost use Rattle.std.specs.Prelude.{◌≡◌, IfSome, IfNone};
-ghost use Rattle.command_line.specs.Tools.{IsAskedFor, tool_word, input_count, further_word, word_count, counts_limit, writes_file};
+ghost use Rattle.command_line.specs.Tools.{IsAskedFor, tool_word, input_count, further_word, closing_word, word_count, counts_limit, writes_file};
 ghost use Rattle.command_line.specs.declared.tool.Tool.{Tool as AnyTool};
 
 use crate::counts::{Counts, Limit};
@@ -18,6 +18,8 @@ pub enum Tool {
     Infer,
     /// `at IMG ARR K`: the states of the tasks at a count of a run of an image file.
     At,
+    /// `at IMG ARR K all`: the same, and the events of the tasks, the counters and the alarms.
+    AtAll,
     /// `losses IMG ARR N`: how many arrivals of each task and counter came in a run of an image file, and how many of them are lost.
     Losses,
     /// `wave IMG ARR N OUT`: the waves of a run of an image file.
@@ -37,6 +39,8 @@ pub enum Tool {
     Map,
     /// `shares OIL SRC`: which data the tasks share, and what keeps their accesses apart.
     Shares,
+    /// `response OIL SRC LOAD`: how soon each task has left the processor behind what makes it Ready, under a load.
+    Response,
     /// `symbols OIL SRC OUT`: the file of the image that debuggers read.
     Symbols,
 }
@@ -51,6 +55,7 @@ impl Tool {
             Tool::Unelf => 1,
             Tool::Infer => 2,
             Tool::At => 2,
+            Tool::AtAll => 2,
             Tool::Losses => 2,
             Tool::Wave => 2,
             Tool::Picture => 2,
@@ -60,6 +65,7 @@ impl Tool {
             Tool::LowerCounts => 2,
             Tool::Map => 2,
             Tool::Shares => 2,
+            Tool::Response => 3,
             Tool::Symbols => 2,
         }
     }
@@ -73,6 +79,7 @@ impl Tool {
             Tool::Unelf => None,
             Tool::Infer => None,
             Tool::At => None,
+            Tool::AtAll => None,
             Tool::Losses => None,
             Tool::Wave => None,
             Tool::Picture => None,
@@ -82,6 +89,7 @@ impl Tool {
             Tool::LowerCounts => Some("counts"),
             Tool::Map => None,
             Tool::Shares => None,
+            Tool::Response => None,
             Tool::Symbols => None,
         }
     }
@@ -95,6 +103,7 @@ impl Tool {
             Tool::Unelf => None,
             Tool::Infer => None,
             Tool::At => Some(Limit::One(COUNT_LIMIT - 1)),
+            Tool::AtAll => Some(Limit::One(COUNT_LIMIT - 1)),
             Tool::Losses => Some(Limit::One(COUNT_LIMIT)),
             Tool::Wave => Some(Limit::One(COUNT_LIMIT)),
             Tool::Picture => Some(Limit::Window {
@@ -107,7 +116,18 @@ impl Tool {
             Tool::LowerCounts => None,
             Tool::Map => None,
             Tool::Shares => None,
+            Tool::Response => None,
             Tool::Symbols => None,
+        }
+    }
+
+    /// The word that stands behind its counts, if one does.
+    pub fn closing_word(self) -> Option<&'static str>
+        ensures { option_map (λ word. word.now) result ≡ closing_word self }
+    {
+        match self {
+            Tool::AtAll => Some("all"),
+            _ => None,
         }
     }
 
@@ -120,6 +140,7 @@ impl Tool {
             Tool::Unelf => true,
             Tool::Infer => true,
             Tool::At => false,
+            Tool::AtAll => false,
             Tool::Losses => false,
             Tool::Wave => true,
             Tool::Picture => true,
@@ -129,6 +150,7 @@ impl Tool {
             Tool::LowerCounts => false,
             Tool::Map => false,
             Tool::Shares => false,
+            Tool::Response => false,
             Tool::Symbols => true,
         }
     }
@@ -187,6 +209,9 @@ fn tool_of_four(word: &str, asks: bool) -> Option<Tool>
             Some(Tool::Latency)
         };
     }
+    if word == "response" {
+        return Some(Tool::Response);
+    }
     if word == "symbols" {
         return Some(Tool::Symbols);
     }
@@ -200,6 +225,9 @@ fn tool_of_five(word: &str, asks: bool) -> Option<Tool>
 {
     if word == "wave" {
         return Some(Tool::Wave);
+    }
+    if word == "at" {
+        return Some(Tool::AtAll);
     }
     None
 }

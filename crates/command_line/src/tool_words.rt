@@ -27,17 +27,17 @@ fn is_same(word: &str, other: &str) -> bool
     word == other
 }
 
-// The words behind the further word, where there is to be one.
-fn behind_further<'a>(further: Option<&str>, words: &'a [String]) -> Option<&'a [String]>
-    ensures some { IfSome result (λ rest. words_of words.now ≡ option_to_list (option_map (λ word. word.now) further.entry) ++ words_of rest.now) }
+// The words behind a word, where there is to be one.
+fn behind_word<'a>(word: Option<&str>, words: &'a [String]) -> Option<&'a [String]>
+    ensures some { IfSome result (λ rest. words_of words.now ≡ option_to_list (option_map (λ word. word.now) word.entry) ++ words_of rest.now) }
     ensures none { IfNone result
-        ((rest : List (List ℕ)) → words_of words.now ≡ option_to_list (option_map (λ word. word.now) further.entry) ++ rest → ⊥) }
+        ((rest : List (List ℕ)) → words_of words.now ≡ option_to_list (option_map (λ word. word.now) word.entry) ++ rest → ⊥) }
 {
-    let Some(further) = further else {
+    let Some(wanted) = word else {
         return Some(words);
     };
     let first = words.first()?;
-    if is_same(first, further) {
+    if is_same(first, wanted) {
         Some(words_behind(words, 1))
     } else {
         None
@@ -143,9 +143,10 @@ pub fn tool_command(words: &[String]) -> Option<ToolWords<'_>>
     if words.len() < behind {
         return None;
     }
-    let rest = behind_further(tool.further_word(), words_behind(words, behind))?;
+    let rest = behind_word(tool.further_word(), words_behind(words, behind))?;
     let counted = counts_and_rest(tool.counts_limit(), rest)?;
-    let output = output_word(tool.writes_file(), counted.rest)?;
+    let closed = behind_word(tool.closing_word(), counted.rest)?;
+    let output = output_word(tool.writes_file(), closed)?;
     Some(ToolWords {
         tool,
         inputs: &words[1..behind],

@@ -195,6 +195,7 @@ required-plain status.NotAnImage words c old new text is h = absurd h
 required-plain status.NotAnElf words c old new text is h = absurd h
 required-plain status.BadTrace words c old new text is h = absurd h
 required-plain status.NoHolds words c old new text is h = absurd h
+required-plain status.OpenDeadline words c old new text is h = absurd h
 
 required : (s : Status) (words : List (List ℕ)) (c : Command) (old new : Files) (text : List ℕ) → IsCommand words c → IsCommandEnd s old new c text
     → IsRequired s words old new text

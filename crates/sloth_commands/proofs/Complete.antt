@@ -160,6 +160,7 @@ usage-by status.NotAnImage answer words old new text r p none = absurd (none r.0
 usage-by status.NotAnElf answer words old new text r p none = absurd (none (Uses r.0) r.1)
 usage-by status.BadTrace answer words old new text r p none = absurd (none (Uses r.0) r.1)
 usage-by status.NoHolds answer words old new text r p none = absurd (none (Uses r.0) r.1)
+usage-by status.OpenDeadline answer words old new text r p none = absurd (none (Uses r.0) r.1)
 
 pub tells-usage : (words : List (List ℕ)) (old new : World) (answer : Status) → IsTopAnswer words old new answer → HasUsageAnswer words old new answer
 tells-usage words old new answer h none = usage-by h.wanted answer words old new h.text h.required h.puts none
@@ -203,6 +204,7 @@ refused-by status.NotAnImage answer words old new text c oil src arr r q p is th
 refused-by status.NotAnElf answer words old new text c oil src arr r q p is there works refusal = absurd (no-tool words q.0 (Builds c) q.1 is tt)
 refused-by status.BadTrace answer words old new text c oil src arr r q p is there works refusal = absurd (no-tool words q.0 (Builds c) q.1 is tt)
 refused-by status.NoHolds answer words old new text c oil src arr r q p is there works refusal = absurd (no-tool words q.0 (Builds c) q.1 is tt)
+refused-by status.OpenDeadline answer words old new text c oil src arr r q p is there works refusal = absurd (no-tool words q.0 (Builds c) q.1 is tt)
 
 pub tells-refused : (words : List (List ℕ)) (old new : World) (answer : Status) → IsTopAnswer words old new answer → HasRefusalAnswer words old new answer
 tells-refused words old new answer h c is oil src arr there works r refusal =
@@ -272,6 +274,7 @@ module _ (old new : World) (c : Building) (oil src arr : List ℕ) (config : Con
   complete-by status.NotAnElf answer words text q p is = absurd (no-tool words q.0 (Builds c) q.1 is tt)
   complete-by status.BadTrace answer words text q p is = absurd (no-tool words q.0 (Builds c) q.1 is tt)
   complete-by status.NoHolds answer words text q p is = absurd (no-tool words q.0 (Builds c) q.1 is tt)
+  complete-by status.OpenDeadline answer words text q p is = absurd (no-tool words q.0 (Builds c) q.1 is tt)
 
 pub is-complete : (words : List (List ℕ)) (old new : World) (answer : Status) → IsTopAnswer words old new answer → IsComplete words old new answer
 is-complete words old new answer a c is oil src arr there config app accepted arrivals read works =

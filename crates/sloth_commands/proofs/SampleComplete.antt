@@ -49,6 +49,7 @@ module _ (words : List (List ℕ)) (old new : World) (answer : Status) (seed : �
   refused-by status.NotAnElf text r refusal q p = absurd (no-tool words q.0 (Samples seed img) q.1 is tt)
   refused-by status.BadTrace text r refusal q p = absurd (no-tool words q.0 (Samples seed img) q.1 is tt)
   refused-by status.NoHolds text r refusal q p = absurd (no-tool words q.0 (Samples seed img) q.1 is tt)
+  refused-by status.OpenDeadline text r refusal q p = absurd (no-tool words q.0 (Samples seed img) q.1 is tt)
 
   sampled-by : (wanted : Status) (text : List ℕ) (config : Config) (app : App) → AreAccepted sample_oil (sample_source seed) config app
       → SampleWorks seed img config app old new → IsRequired wanted words old.files new.files text → IsPutAnswer wanted answer old.sink new.sink text
@@ -80,6 +81,7 @@ module _ (words : List (List ℕ)) (old new : World) (answer : Status) (seed : �
   sampled-by status.NotAnElf text config app accepted works q p = absurd (no-tool words q.0 (Samples seed img) q.1 is tt)
   sampled-by status.BadTrace text config app accepted works q p = absurd (no-tool words q.0 (Samples seed img) q.1 is tt)
   sampled-by status.NoHolds text config app accepted works q p = absurd (no-tool words q.0 (Samples seed img) q.1 is tt)
+  sampled-by status.OpenDeadline text config app accepted works q p = absurd (no-tool words q.0 (Samples seed img) q.1 is tt)
 
 pub tells-sample-refused : (words : List (List ℕ)) (old new : World) (answer : Status) → IsTopAnswer words old new answer → HasSampleRefusedAnswer words old new answer
 tells-sample-refused words old new answer h seed img is r refusal =

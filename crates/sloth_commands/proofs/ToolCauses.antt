@@ -60,6 +60,7 @@ tool-required (tool_answer.NotAnImage fault) words u old new is h after = (Uses 
 tool-required (tool_answer.NotAnElf fault) words u old new is h after = (u, is, fault, h, refl, after)
 tool-required (tool_answer.BadTrace fault) words u old new is h after = (u, is, fault, h, refl, after)
 tool-required tool_answer.NoHolds words u old new is h after = (u, is, h, refl, after)
+tool-required (tool_answer.OpenDeadline lines) words u old new is h after = (u, is, lines, h, refl, after)
 
 pub end-required : (s : Status) (words : List (List ℕ)) (u : ToolUse) (old new : Files) (text : List ℕ) → IsCommand words (Uses u) → IsToolEnd s old new u text
     → IsRequired s words old new text
@@ -86,6 +87,7 @@ after-kept (tool_answer.NotAnImage f) old mid new output kept h = stays-behind o
 after-kept (tool_answer.NotAnElf f) old mid new output kept h = stays-behind old mid new kept h
 after-kept (tool_answer.BadTrace f) old mid new output kept h = stays-behind old mid new kept h
 after-kept tool_answer.NoHolds old mid new output kept h = stays-behind old mid new kept h
+after-kept (tool_answer.OpenDeadline lines) old mid new output kept h = stays-behind old mid new kept h
 
 unwritten-kept : (old mid new : Files) (output : Option (List ℕ)) (bytes : List ℕ) → KeepsFiles old mid → IsUnwrittenOutput mid new output bytes
     → IsUnwrittenOutput (call_files old new) new output bytes
@@ -120,6 +122,7 @@ module _ (old mid : Files) (sink : Output) (new : World) (u : ToolUse) (kept : K
   tell-ends failure.WriteFile (tool_answer.NotAnElf e) is h = absurd h
   tell-ends failure.WriteFile (tool_answer.BadTrace e) is h = absurd h
   tell-ends failure.WriteFile tool_answer.NoHolds is h = absurd h
+  tell-ends failure.WriteFile (tool_answer.OpenDeadline lines) is h = absurd h
   tell-ends (failure.Refused r) a is h = absurd h
   tell-ends failure.ReadFault a is h = absurd h
   tell-ends failure.TooLong a is h = absurd h

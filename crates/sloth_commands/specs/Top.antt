@@ -152,7 +152,7 @@ pub record IsBuiltImage (config : Config) (app : App) (image : Image) : Type 0 w
   pub weighed : Weighed config app image
   -- and each event ends soon behind the one before it, by its weight and the lengths of the items
   pub paced : InPace config app image
-  -- and the machine shows the task states of the abstract scheduler at each count that finds interrupts open
+  -- and the machine shows the tasks, counters and alarms of the abstract scheduler at each count that finds interrupts open
   pub shows : HasTaskStates config app image
   -- so a Ready task is blocked by one lower task at most, and resources are held by one task at a time
   pub protocol : RunsKeepProtocol config app image
@@ -256,6 +256,7 @@ FilesAfter (tool_answer.NotAnImage fault) old new output = AreFilesSame old new
 FilesAfter (tool_answer.NotAnElf fault) old new output = AreFilesSame old new
 FilesAfter (tool_answer.BadTrace fault) old new output = AreFilesSame old new
 FilesAfter tool_answer.NoHolds old new output = AreFilesSame old new
+FilesAfter (tool_answer.OpenDeadline lines) old new output = AreFilesSame old new
 
 -- the tool has an answer with this status and this text, and the files hold what it says
 pub record IsToolEnd (wanted : Status) (old new : Files) (u : ToolUse) (text : List ℕ) : Type 0 where
@@ -348,6 +349,9 @@ IsRequired status.BadTrace words old new text =
     × AreFilesSame old new
 IsRequired status.NoHolds words old new text =
     (u : ToolUse) × IsCommand words (Uses u) × IsToolAnswer old u tool_answer.NoHolds × (text ≡ codes "no holds\n") × AreFilesSame old new
+IsRequired status.OpenDeadline words old new text =
+    (u : ToolUse) × IsCommand words (Uses u) × (lines : List ℕ) × IsToolAnswer old u (tool_answer.OpenDeadline lines) × (text ≡ lines)
+    × AreFilesSame old new
 
 -- The sink took the text that the answer requires, and the files hold what it requires; or a put failed, the answer is WriteFault, and
 -- this holds of another answer and a part of its text.

@@ -25,3 +25,4 @@ IsCheckAnswer oil src arr text n (answer.Stopped pc stop) = ⊥
 IsCheckAnswer oil src arr text n (answer.NotAnImage fault) = ⊥
 IsCheckAnswer oil src arr text n (answer.NotAnElf fault) = ⊥
 IsCheckAnswer oil src arr text n answer.NoHolds = ⊥
+IsCheckAnswer oil src arr text n (answer.OpenDeadline lines) = ⊥

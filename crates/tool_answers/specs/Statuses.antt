@@ -19,6 +19,7 @@ exit_status status.NotAnImage = 8
 exit_status status.NotAnElf = 9
 exit_status status.BadTrace = 10
 exit_status status.NoHolds = 11
+exit_status status.OpenDeadline = 12
 
 -- the status of an answer
 abbrev pub tool_status : ToolAnswer → Status
@@ -29,3 +30,4 @@ tool_status (tool_answer.NotAnImage fault) = status.NotAnImage
 tool_status (tool_answer.NotAnElf fault) = status.NotAnElf
 tool_status (tool_answer.BadTrace fault) = status.BadTrace
 tool_status tool_answer.NoHolds = status.NoHolds
+tool_status (tool_answer.OpenDeadline lines) = status.OpenDeadline

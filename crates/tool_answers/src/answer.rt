@@ -36,6 +36,8 @@ pub enum ToolAnswer {
     NotAnElf(ElfFault),
     BadTrace(TraceFault),
     NoHolds,
+    /// A text that says of a deadline that it is not met.
+    OpenDeadline(List<u8>),
 }
 
 impl ToolAnswer {
@@ -53,6 +55,7 @@ impl ToolAnswer {
             ToolAnswer::NotAnElf(_) => Status::NotAnElf,
             ToolAnswer::BadTrace(_) => Status::BadTrace,
             ToolAnswer::NoHolds => Status::NoHolds,
+            ToolAnswer::OpenDeadline(_) => Status::OpenDeadline,
         }
     }
 }

@@ -16,12 +16,13 @@ pub enum Status {
     NotAnElf,
     BadTrace,
     NoHolds,
+    OpenDeadline,
 }
 
 impl Status {
     ghost use Rattle.tool_answers.specs.Statuses.{exit_status};
 
-    /// The exit status of the process, 0 to 11.
+    /// The exit status of the process, 0 to 12.
     pub fn code(self) -> u8
         ensures { result ≡ exit_status self }
     {
@@ -38,6 +39,7 @@ impl Status {
             Status::NotAnElf => 9,
             Status::BadTrace => 10,
             Status::NoHolds => 11,
+            Status::OpenDeadline => 12,
         }
     }
 }

@@ -1,3 +1,4 @@
+pub mod AtAllAnswers
 pub mod AtAnswers
 pub mod BoundsAnswers
 pub mod CheckAnswers
@@ -6,6 +7,7 @@ pub mod InferAnswers
 pub mod LossesAnswers
 pub mod LossesLines
 pub mod MapAnswers
+pub mod ResponseAnswers
 pub mod SharesAnswers
 pub mod OneAnswer
 pub mod PictureAnswers

@@ -72,6 +72,7 @@ module _ (img arr : List ℕ) (n : ℕ) where
   losses-view (answer.NotAnElf fault) h = absurd h
   losses-view (answer.BadTrace fault) h = absurd h
   losses-view answer.NoHolds h = absurd h
+  losses-view (answer.OpenDeadline lines) h = absurd h
 
   pub losses-one : (a b : ToolAnswer) → IsLossesAnswer img arr n a → IsLossesAnswer img arr n b → a ≡ b
   losses-one a b p q = by (losses-view a p) (losses-view b q)

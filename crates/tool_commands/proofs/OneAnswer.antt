@@ -14,6 +14,7 @@ use Rattle.elf_image.specs.ElfText.{ElfText}
 use Rattle.tool_commands.specs.Answers.{IsAnswer, OneAnswer, input, reads_image}
 use Rattle.tool_answers.specs.declared.answer.ToolAnswer.{ToolAnswer}
 use Rattle.tool_answers.specs.declared.answer.ToolAnswer.TheVariants as answer
+use Rattle.tool_commands.proofs.AtAllAnswers.{all-one, all-image}
 use Rattle.tool_commands.proofs.AtAnswers.{at-one, at-image}
 use Rattle.tool_commands.proofs.BoundsAnswers.{BoundsSays, LatencySays, LowerCountsSays, one_bounds, one_latency, one_lower_counts}
 use Rattle.tool_commands.proofs.CheckAnswers.{one_check}
@@ -21,6 +22,7 @@ use Rattle.tool_commands.proofs.ElfAnswers.{Wrote, elf-one, elf-view, unelf-one}
 use Rattle.tool_commands.proofs.InferAnswers.{infer-one}
 use Rattle.tool_commands.proofs.LossesAnswers.{losses-one, losses-image}
 use Rattle.tool_commands.proofs.MapAnswers.{MapSays, one_map}
+use Rattle.tool_commands.proofs.ResponseAnswers.{one_response_answer}
 use Rattle.tool_commands.proofs.SharesAnswers.{SharesSays, one_shares}
 use Rattle.tool_commands.proofs.PictureAnswers.{Pictures, one_pictures}
 use Rattle.tool_commands.proofs.RunAnswers.{run-image, run-one}
@@ -32,6 +34,7 @@ one_answer tool.Elf counts names inputs a b d p q = elf-one (input inputs 0) a b
 one_answer tool.Unelf counts names inputs a b d p q = unelf-one (input inputs 0) a b p q
 one_answer tool.Infer counts names inputs a b d p q = infer-one (input inputs 0) (input inputs 1) a b p q
 one_answer tool.At counts names inputs a b d p q = at-one (input inputs 0) (input inputs 1) (number_of counts) a b p q
+one_answer tool.AtAll counts names inputs a b d p q = all-one (input inputs 0) (input inputs 1) (number_of counts) a b p q
 one_answer tool.Losses counts names inputs a b d p q = losses-one (input inputs 0) (input inputs 1) (number_of counts) a b p q
 one_answer tool.Wave counts names inputs a b d p q =
     let n = number_of counts in run-one (Waves n) (input inputs 0) (input inputs 1) n (one_waves n) a b p q
@@ -49,6 +52,7 @@ one_answer tool.Map counts names inputs a b d p q =
     let oil = input inputs 0 in let src = input inputs 1 in one_source oil src (MapSays oil src) (one_map oil src) a b p q
 one_answer tool.Shares counts names inputs a b d p q =
     let oil = input inputs 0 in let src = input inputs 1 in one_source oil src (SharesSays oil src) (one_shares oil src) a b p q
+one_answer tool.Response counts names inputs a b d p q = one_response_answer (input inputs 0) (input inputs 1) (input inputs 2) a b p q
 one_answer tool.Symbols counts names inputs a b d p q = absurd (false≢true d)
 
 -- a tool that reads an image file reads a file
@@ -57,6 +61,7 @@ reads-one tool.Elf h = omega arith
 reads-one tool.Unelf h = omega arith
 reads-one tool.Infer h = omega arith
 reads-one tool.At h = omega arith
+reads-one tool.AtAll h = omega arith
 reads-one tool.Losses h = omega arith
 reads-one tool.Wave h = omega arith
 reads-one tool.Picture h = omega arith
@@ -66,6 +71,7 @@ reads-one tool.Latency h = omega arith
 reads-one tool.LowerCounts h = omega arith
 reads-one tool.Map h = omega arith
 reads-one tool.Shares h = omega arith
+reads-one tool.Response h = omega arith
 reads-one tool.Symbols h = omega arith
 
 -- only a tool that reads an image file says that it is none, by its first fault
@@ -76,6 +82,7 @@ no-image tool.Elf counts names inputs fault h = (refl, h)
 no-image tool.Unelf counts names inputs fault h = absurd h
 no-image tool.Infer counts names inputs fault h = absurd h
 no-image tool.At counts names inputs fault h = (refl, h)
+no-image tool.AtAll counts names inputs fault h = (refl, h)
 no-image tool.Losses counts names inputs fault h = (refl, h)
 no-image tool.Wave counts names inputs fault h = (refl, h)
 no-image tool.Picture counts names inputs fault h = (refl, h)
@@ -85,6 +92,7 @@ no-image tool.Latency counts names inputs fault h = absurd h
 no-image tool.LowerCounts counts names inputs fault h = absurd h
 no-image tool.Map counts names inputs fault h = absurd h
 no-image tool.Shares counts names inputs fault h = absurd h
+no-image tool.Response counts names inputs fault h = absurd h
 no-image tool.Symbols counts names inputs fault h = absurd h
 
 -- these bytes are an image's
@@ -104,6 +112,7 @@ image-or-fault tool.Elf counts names inputs a reads h = by (elf-view (input inpu
 image-or-fault tool.Unelf counts names inputs a reads h = absurd (false≢true reads)
 image-or-fault tool.Infer counts names inputs a reads h = absurd (false≢true reads)
 image-or-fault tool.At counts names inputs a reads h = at-image (input inputs 0) (input inputs 1) (number_of counts) a h
+image-or-fault tool.AtAll counts names inputs a reads h = all-image (input inputs 0) (input inputs 1) (number_of counts) a h
 image-or-fault tool.Losses counts names inputs a reads h = losses-image (input inputs 0) (input inputs 1) (number_of counts) a h
 image-or-fault tool.Wave counts names inputs a reads h =
     let n = number_of counts in run-image (Waves n) (input inputs 0) (input inputs 1) n (one_waves n) a h
@@ -115,4 +124,5 @@ image-or-fault tool.Latency counts names inputs a reads h = absurd (false≢true
 image-or-fault tool.LowerCounts counts names inputs a reads h = absurd (false≢true reads)
 image-or-fault tool.Map counts names inputs a reads h = absurd (false≢true reads)
 image-or-fault tool.Shares counts names inputs a reads h = absurd (false≢true reads)
+image-or-fault tool.Response counts names inputs a reads h = absurd (false≢true reads)
 image-or-fault tool.Symbols counts names inputs a reads h = absurd (false≢true reads)

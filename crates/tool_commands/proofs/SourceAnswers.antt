@@ -24,13 +24,16 @@ module _ (oil src : List ℕ) (Says : List ℕ → Type 0) (text : IsOneMeaning 
   one_source (answer.Done o) (answer.NotAnElf fault) a b = absurd b
   one_source (answer.Done o) (answer.BadTrace fault) a b = absurd b
   one_source (answer.Done o) answer.NoHolds a b = absurd b
+  one_source (answer.Done o) (answer.OpenDeadline lines) a b = absurd b
   one_source (answer.Refused r) (answer.Stopped pc stop) a b = absurd b
   one_source (answer.Refused r) (answer.NotAnImage fault) a b = absurd b
   one_source (answer.Refused r) (answer.NotAnElf fault) a b = absurd b
   one_source (answer.Refused r) (answer.BadTrace fault) a b = absurd b
   one_source (answer.Refused r) answer.NoHolds a b = absurd b
+  one_source (answer.Refused r) (answer.OpenDeadline lines) a b = absurd b
   one_source (answer.Stopped pc stop) other a b = absurd a
   one_source (answer.NotAnImage fault) other a b = absurd a
   one_source (answer.NotAnElf fault) other a b = absurd a
   one_source (answer.BadTrace fault) other a b = absurd a
   one_source answer.NoHolds other a b = absurd a
+  one_source (answer.OpenDeadline lines) other a b = absurd a

@@ -8,10 +8,12 @@ use Rattle.tool_commands.specs.BoundsAnswers.{IsBoundsAnswer, IsLatencyAnswer, I
 use Rattle.tool_answers.specs.CheckAnswers.{IsCheckAnswer}
 use Rattle.tool_commands.specs.ElfAnswers.{IsElfAnswer, IsUnelfAnswer}
 use Rattle.tool_commands.specs.InferAnswers.{IsInferAnswer}
+use Rattle.tool_commands.specs.AtAllAnswers.{IsAtAllAnswer}
 use Rattle.tool_commands.specs.AtAnswers.{IsAtAnswer}
 use Rattle.tool_commands.specs.LossesAnswers.{IsLossesAnswer}
 use Rattle.tool_commands.specs.MapAnswers.{IsMapAnswer}
 use Rattle.tool_commands.specs.SharesAnswers.{IsSharesAnswer}
+use Rattle.tool_commands.specs.ResponseAnswers.{IsResponseAnswer}
 use Rattle.tool_commands.specs.PictureAnswers.{IsPictureAnswer}
 use Rattle.tool_commands.specs.SymbolsAnswers.{IsSymbolsAnswer}
 use Rattle.tool_commands.specs.WaveAnswers.{IsWaveAnswer}
@@ -27,6 +29,7 @@ IsAnswer tool.Elf counts names inputs answer = IsElfAnswer (input inputs 0) answ
 IsAnswer tool.Unelf counts names inputs answer = IsUnelfAnswer (input inputs 0) answer
 IsAnswer tool.Infer counts names inputs answer = IsInferAnswer (input inputs 0) (input inputs 1) answer
 IsAnswer tool.At counts names inputs answer = IsAtAnswer (input inputs 0) (input inputs 1) (number_of counts) answer
+IsAnswer tool.AtAll counts names inputs answer = IsAtAllAnswer (input inputs 0) (input inputs 1) (number_of counts) answer
 IsAnswer tool.Losses counts names inputs answer = IsLossesAnswer (input inputs 0) (input inputs 1) (number_of counts) answer
 IsAnswer tool.Wave counts names inputs answer = IsWaveAnswer (input inputs 0) (input inputs 1) (number_of counts) answer
 IsAnswer tool.Picture counts names inputs answer = IsPictureAnswer (input inputs 0) (input inputs 1) (window_of counts) answer
@@ -37,6 +40,7 @@ IsAnswer tool.Latency counts names inputs answer = IsLatencyAnswer (input inputs
 IsAnswer tool.LowerCounts counts names inputs answer = IsLowerCountsAnswer (input inputs 0) (input inputs 1) answer
 IsAnswer tool.Map counts names inputs answer = IsMapAnswer (input inputs 0) (input inputs 1) answer
 IsAnswer tool.Shares counts names inputs answer = IsSharesAnswer (input inputs 0) (input inputs 1) answer
+IsAnswer tool.Response counts names inputs answer = IsResponseAnswer (input inputs 0) (input inputs 1) (input inputs 2) answer
 IsAnswer tool.Symbols counts names inputs answer = IsSymbolsAnswer (input inputs 0) (input inputs 1) (input names 1) answer
 
 -- the first file that it reads is to be an image file
@@ -45,6 +49,7 @@ reads_image tool.Elf = true
 reads_image tool.Unelf = false
 reads_image tool.Infer = false
 reads_image tool.At = true
+reads_image tool.AtAll = true
 reads_image tool.Losses = true
 reads_image tool.Wave = true
 reads_image tool.Picture = true
@@ -54,6 +59,7 @@ reads_image tool.Latency = false
 reads_image tool.LowerCounts = false
 reads_image tool.Map = false
 reads_image tool.Shares = false
+reads_image tool.Response = false
 reads_image tool.Symbols = false
 
 -- its answer is determined by what it reads; the file of `symbols` by the image too, of which there may be more than one
@@ -62,6 +68,7 @@ is_determined tool.Elf = true
 is_determined tool.Unelf = true
 is_determined tool.Infer = true
 is_determined tool.At = true
+is_determined tool.AtAll = true
 is_determined tool.Losses = true
 is_determined tool.Wave = true
 is_determined tool.Picture = true
@@ -71,6 +78,7 @@ is_determined tool.Latency = true
 is_determined tool.LowerCounts = true
 is_determined tool.Map = true
 is_determined tool.Shares = true
+is_determined tool.Response = true
 is_determined tool.Symbols = false
 
 -- files have one answer of such a tool

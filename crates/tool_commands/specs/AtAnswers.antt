@@ -45,3 +45,4 @@ IsAtAnswer img arr k (answer.Refused refusal) = IsAtRefused img arr refusal
 IsAtAnswer img arr k (answer.NotAnElf fault) = ⊥
 IsAtAnswer img arr k (answer.BadTrace fault) = ⊥
 IsAtAnswer img arr k answer.NoHolds = ⊥
+IsAtAnswer img arr k (answer.OpenDeadline lines) = ⊥

@@ -22,6 +22,7 @@ IsElfAnswer file (answer.Stopped pc stop) = ⊥
 IsElfAnswer file (answer.NotAnElf fault) = ⊥
 IsElfAnswer file (answer.BadTrace fault) = ⊥
 IsElfAnswer file answer.NoHolds = ⊥
+IsElfAnswer file (answer.OpenDeadline lines) = ⊥
 
 -- `unelf`: the image file of the ELF file, or the ELF file's first fault
 abbrev pub IsUnelfAnswer : List ℕ → ToolAnswer → Type 0
@@ -32,3 +33,4 @@ IsUnelfAnswer file (answer.Stopped pc stop) = ⊥
 IsUnelfAnswer file (answer.NotAnImage fault) = ⊥
 IsUnelfAnswer file (answer.BadTrace fault) = ⊥
 IsUnelfAnswer file answer.NoHolds = ⊥
+IsUnelfAnswer file (answer.OpenDeadline lines) = ⊥

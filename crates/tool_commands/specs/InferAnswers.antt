@@ -15,3 +15,4 @@ IsInferAnswer oil src (answer.Stopped pc stop) = ⊥
 IsInferAnswer oil src (answer.NotAnImage fault) = ⊥
 IsInferAnswer oil src (answer.NotAnElf fault) = ⊥
 IsInferAnswer oil src (answer.BadTrace fault) = ⊥
+IsInferAnswer oil src (answer.OpenDeadline lines) = ⊥

@@ -1,4 +1,5 @@
 pub mod Answers
+pub mod AtAllAnswers
 pub mod AtAnswers
 pub mod BoundsAnswers
 pub mod ElfAnswers
@@ -7,6 +8,7 @@ pub mod Lines
 pub mod LossesAnswers
 pub mod LossesText
 pub mod MapAnswers
+pub mod ResponseAnswers
 pub mod SharesAnswers
 pub mod PictureAnswers
 pub mod RunAnswers

@@ -30,3 +30,4 @@ IsLossesAnswer img arr n (answer.Refused refusal) = IsAtRefused img arr refusal
 IsLossesAnswer img arr n (answer.NotAnElf fault) = ⊥
 IsLossesAnswer img arr n (answer.BadTrace fault) = ⊥
 IsLossesAnswer img arr n answer.NoHolds = ⊥
+IsLossesAnswer img arr n (answer.OpenDeadline lines) = ⊥

@@ -68,3 +68,4 @@ IsRunAnswer Shows img arr n (answer.Refused refusal) = IsAtRefused img arr refus
 IsRunAnswer Shows img arr n (answer.NotAnElf fault) = ⊥
 IsRunAnswer Shows img arr n (answer.BadTrace fault) = ⊥
 IsRunAnswer Shows img arr n answer.NoHolds = ⊥
+IsRunAnswer Shows img arr n (answer.OpenDeadline lines) = ⊥

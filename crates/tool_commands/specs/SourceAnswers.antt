@@ -13,3 +13,4 @@ IsSourceAnswer Says oil src (answer.NotAnImage fault) = ⊥
 IsSourceAnswer Says oil src (answer.NotAnElf fault) = ⊥
 IsSourceAnswer Says oil src (answer.BadTrace fault) = ⊥
 IsSourceAnswer Says oil src answer.NoHolds = ⊥
+IsSourceAnswer Says oil src (answer.OpenDeadline lines) = ⊥

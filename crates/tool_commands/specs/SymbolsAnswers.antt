@@ -16,3 +16,4 @@ IsSymbolsAnswer oil src name (answer.NotAnImage fault) = ⊥
 IsSymbolsAnswer oil src name (answer.NotAnElf fault) = ⊥
 IsSymbolsAnswer oil src name (answer.BadTrace fault) = ⊥
 IsSymbolsAnswer oil src name answer.NoHolds = ⊥
+IsSymbolsAnswer oil src name (answer.OpenDeadline lines) = ⊥

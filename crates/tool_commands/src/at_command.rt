@@ -41,7 +41,12 @@ fn states_answer(alloc: Global, image: &Image, sight: &Sight) -> Result<ToolAnsw
 }
 
 // What the run of an image with arrivals shows of its tasks.
-fn sight_of(alloc: Global, image: &Image, arrivals: &[Arrival], k: u32) -> Result<Sight, NoMemory>
+pub(crate) fn sight_of(
+    alloc: Global,
+    image: &Image,
+    arrivals: &[Arrival],
+    k: u32,
+) -> Result<Sight, NoMemory>
     requires format { InFormat image.now }
     requires arrivals { AreArrivals (owners_named image.now) arrivals.now }
     requires k { k ≤ 999999 }

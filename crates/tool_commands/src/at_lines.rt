@@ -45,7 +45,7 @@ fn task_line(image: &Image, states: &[TaskState; TASK_LIMIT], task: usize) -> Li
 
 // The line of a count.
 #[tactic(auto, unfolding(crate::specs::StatesText::count_line))]
-fn count_line(count: u32) -> LineText
+pub(crate) fn count_line(count: u32) -> LineText
     ensures { result ≡ count_line count }
 {
     let mut line = LineText::new();

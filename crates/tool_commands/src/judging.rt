@@ -5,6 +5,7 @@ ghost use Rattle.command_line.specs.Command.{words_of};
 ghost use Rattle.command_line.specs.Tools.{input_count, counts_limit, AreCounts};
 ghost use Rattle.tool_commands.specs.Answers.{IsAnswer, input};
 
+use crate::at_all_command::at_all;
 use crate::at_command::at;
 use crate::bounds_command::{bounds, latency, lower_counts};
 use crate::elf_commands::{elf, unelf};
@@ -12,6 +13,7 @@ use crate::infer_command::infer;
 use crate::losses_command::losses;
 use crate::map_command::map;
 use crate::picture_command::picture;
+use crate::response_command::response;
 use crate::shares_command::shares;
 use crate::symbols_command::symbols;
 use crate::wave_command::wave;
@@ -55,6 +57,12 @@ pub fn judge(
             inputs[1].items(),
             number_of(counts),
         ),
+        Tool::AtAll => at_all(
+            alloc,
+            inputs[0].items(),
+            inputs[1].items(),
+            number_of(counts),
+        ),
         Tool::Losses => losses(
             alloc,
             inputs[0].items(),
@@ -86,6 +94,12 @@ pub fn judge(
         Tool::LowerCounts => lower_counts(alloc, inputs[0].items(), inputs[1].items()),
         Tool::Map => map(alloc, inputs[0].items(), inputs[1].items()),
         Tool::Shares => shares(alloc, inputs[0].items(), inputs[1].items()),
+        Tool::Response => response(
+            alloc,
+            inputs[0].items(),
+            inputs[1].items(),
+            inputs[2].items(),
+        ),
         Tool::Symbols => symbols(
             alloc,
             inputs[0].items(),

@@ -1,14 +1,15 @@
-//! The commands that read files, judge what they hold, and end with one answer: `elf`, `unelf`, `infer`, `check`, `at`, `losses`, `wave`, `picture`,
-//! `bounds` alone and with `latency` or `counts`, `map`, `shares`, `symbols`.
+//! The commands that read files, judge what they hold, and end with one answer: `elf`, `unelf`, `infer`, `check`, `at` alone and with `all`, `losses`, `wave`, `picture`,
+//! `bounds` alone and with `latency` or `counts`, `map`, `shares`, `response`, `symbols`.
 //!
 //! The files have exactly the answer that one table of all such commands says, and have one at most (`judge`, `one_answer`), but for `symbols`: its
 //! file is one for each image (`symbol_build`). The table:
-//! `specs/Answers`, with a row for each in `specs/ElfAnswers`, `specs/InferAnswers`, `specs/AtAnswers`, `specs/LossesAnswers`, `specs/BoundsAnswers`, `specs/MapAnswers`,
-//! `specs/WaveAnswers`, `specs/PictureAnswers`, `specs/SymbolsAnswers`, `specs/SharesAnswers`; what some of them share: `specs/SourceAnswers` (`bounds`, `map` and `shares`), `specs/RunAnswers` (`wave` and
-//! `picture`); `specs/Lines`. The lines of task states: `specs/StatesText`; of arrivals: `specs/LossesText`. Words: `command_line` (`Tools`); the answer of `check`: `tool_answers`
+//! `specs/Answers`, with a row for each in `specs/ElfAnswers`, `specs/InferAnswers`, `specs/AtAnswers`, `specs/AtAllAnswers`, `specs/LossesAnswers`, `specs/BoundsAnswers`, `specs/MapAnswers`,
+//! `specs/WaveAnswers`, `specs/PictureAnswers`, `specs/SymbolsAnswers`, `specs/SharesAnswers`, `specs/ResponseAnswers`; what some of them share: `specs/SourceAnswers` (`bounds`, `map` and `shares`), `specs/RunAnswers` (`wave` and
+//! `picture`); `specs/Lines`. The lines of task states: `specs/StatesText`; of a whole system: `system_text`; of arrivals: `specs/LossesText`. Words: `command_line` (`Tools`); the answer of `check`: `tool_answers`
 //! (`CheckAnswers`).
 #![tactic(auto)]
 
+mod at_all_command;
 mod at_command;
 pub mod at_lines;
 mod bounds_command;
@@ -21,6 +22,7 @@ mod losses_command;
 mod losses_lines;
 mod map_command;
 mod picture_command;
+mod response_command;
 pub mod run_inputs;
 mod shares_command;
 mod symbols_command;

@@ -1,0 +1,69 @@
+-- Texts have one answer of `response`.
+use Rattle.std.proofs.Common.{◌≡◌, ◌∙◌, ℕ, List, [], Bool, true, false, refl, sym, ap}
+use Rattle.sloth_base.specs.declared.refusal.Refusal.{Refusal}
+use Rattle.response_text.specs.declared.told.Told.{Told}
+use Rattle.response_text.specs.Inputs.{IsRefusal}
+use Rattle.response_text.specs.ResponseText.{IsResponseText}
+use Rattle.response_text.proofs.OneText.{one_text}
+use Rattle.response_text.proofs.Refused.{not_refused, one_way}
+use Rattle.tool_commands.specs.ResponseAnswers.{IsResponseAnswer, response_answer}
+use Rattle.tool_answers.specs.declared.answer.ToolAnswer.{ToolAnswer}
+use Rattle.tool_answers.specs.declared.answer.ToolAnswer.TheVariants as answer
+use Rattle.tool_commands.proofs.ElfAnswers.{same-outcome}
+
+module _ (oil src load : List ℕ) where
+  abbrev Is : ToolAnswer → Type 0
+  Is a = IsResponseAnswer oil src load a
+
+  not_both : (told : Told) (r : Refusal) → IsResponseText oil src load told → IsRefusal oil src load r → ⊥
+  not_both told r h refused = not_refused oil src load h.config h.app r h.accepted h.has.is_load.no_fault refused
+
+  same_text : (a b : List ℕ) (late : Bool) → IsResponseText oil src load (record { text = a; is_open = late })
+      → IsResponseText oil src load (record { text = b; is_open = late }) → a ≡ b
+  same_text a b late h g = ap (λ (t : Told). t.text) (one_text oil src load (record { text = a; is_open = late }) (record { text = b; is_open = late }) h g)
+
+  never_open : (a b : List ℕ) → IsResponseText oil src load (record { text = a; is_open = false })
+      → IsResponseText oil src load (record { text = b; is_open = true }) → ⊥
+  never_open a b h g =
+      let same : false ≡ true = ap (λ (t : Told). t.is_open) (one_text oil src load (record { text = a; is_open = false }) (record { text = b; is_open = true }) h g) in
+      cc
+
+  pub one_response_answer : (one other : ToolAnswer) → Is one → Is other → one ≡ other
+  one_response_answer (answer.Done o) (answer.Done p) a b = ap answer.Done (same-outcome o p (a.1 ∙ sym b.1) (same_text o.text p.text false a.0 b.0))
+  one_response_answer (answer.Done o) (answer.OpenDeadline l) a b = absurd (never_open o.text l a.0 b)
+  one_response_answer (answer.Done o) (answer.Refused s) a b = absurd (not_both (record { text = o.text; is_open = false }) s a.0 b)
+  one_response_answer (answer.OpenDeadline l) (answer.Done p) a b = absurd (never_open p.text l b.0 a)
+  one_response_answer (answer.OpenDeadline l) (answer.OpenDeadline m) a b = ap answer.OpenDeadline (same_text l m true a b)
+  one_response_answer (answer.OpenDeadline l) (answer.Refused s) a b = absurd (not_both (record { text = l; is_open = true }) s a b)
+  one_response_answer (answer.Refused r) (answer.Done p) a b = absurd (not_both (record { text = p.text; is_open = false }) r b.0 a)
+  one_response_answer (answer.Refused r) (answer.OpenDeadline m) a b = absurd (not_both (record { text = m; is_open = true }) r b a)
+  one_response_answer (answer.Refused r) (answer.Refused s) a b = ap answer.Refused (one_way oil src load r s a b)
+  one_response_answer (answer.Stopped pc stop) other a b = absurd a
+  one_response_answer (answer.NotAnImage fault) other a b = absurd a
+  one_response_answer (answer.NotAnElf fault) other a b = absurd a
+  one_response_answer (answer.BadTrace fault) other a b = absurd a
+  one_response_answer answer.NoHolds other a b = absurd a
+  one_response_answer (answer.Done o) (answer.Stopped pc stop) a b = absurd b
+  one_response_answer (answer.Done o) (answer.NotAnImage fault) a b = absurd b
+  one_response_answer (answer.Done o) (answer.NotAnElf fault) a b = absurd b
+  one_response_answer (answer.Done o) (answer.BadTrace fault) a b = absurd b
+  one_response_answer (answer.Done o) answer.NoHolds a b = absurd b
+  one_response_answer (answer.OpenDeadline l) (answer.Stopped pc stop) a b = absurd b
+  one_response_answer (answer.OpenDeadline l) (answer.NotAnImage fault) a b = absurd b
+  one_response_answer (answer.OpenDeadline l) (answer.NotAnElf fault) a b = absurd b
+  one_response_answer (answer.OpenDeadline l) (answer.BadTrace fault) a b = absurd b
+  one_response_answer (answer.OpenDeadline l) answer.NoHolds a b = absurd b
+  one_response_answer (answer.Refused r) (answer.Stopped pc stop) a b = absurd b
+  one_response_answer (answer.Refused r) (answer.NotAnImage fault) a b = absurd b
+  one_response_answer (answer.Refused r) (answer.NotAnElf fault) a b = absurd b
+  one_response_answer (answer.Refused r) (answer.BadTrace fault) a b = absurd b
+  one_response_answer (answer.Refused r) answer.NoHolds a b = absurd b
+
+-- what is told is an answer
+pub told_answer : (oil src load : List ℕ) (told : Told) → IsResponseText oil src load told → IsResponseAnswer oil src load (response_answer told)
+told_answer oil src load told h = by told.is_open h
+  where
+    by : (late : Bool) → IsResponseText oil src load (record { text = told.text; is_open = late })
+        → IsResponseAnswer oil src load (response_answer (record { text = told.text; is_open = late }))
+    by true is = is
+    by false is = (is, refl)

@@ -1,0 +1,41 @@
+//! The command `response`.
+ghost use Rattle.std.specs.Prelude.{◌≡◌, ◌≤◌, IfOk, length};
+ghost use Rattle.sloth_base.specs.Limits.{file_limit};
+ghost use Rattle.tool_commands.specs.ResponseAnswers.{IsResponseAnswer, response_answer};
+
+use response_text::response_text;
+use response_text::told::Told;
+use sloth_base::list::List;
+use sloth_base::memory::NoMemory;
+use sloth_base::refusal::BuildError;
+use std::alloc::Global;
+use tool_answers::answer::{Outcome, ToolAnswer};
+
+// What is told, as an answer.
+fn answer_of(alloc: Global, told: Told) -> ToolAnswer
+    ensures { result ≡ response_answer told }
+{
+    let Told { text, is_open } = told;
+    if is_open {
+        return ToolAnswer::OpenDeadline(text);
+    }
+    ToolAnswer::Done(Outcome {
+        file: List::from_vec(Vec::new(alloc)),
+        text,
+    })
+}
+
+#[tactic(auto, using(crate::proofs::ResponseAnswers::told_answer))]
+/// How soon each task of two texts has left the processor under the load of a third; or the first refusal.
+pub fn response(alloc: Global, oil: &[u8], src: &[u8], load: &[u8]) -> Result<ToolAnswer, NoMemory>
+    requires oil { length oil.now ≤ file_limit }
+    requires src { length src.now ≤ file_limit }
+    requires load { length load.now ≤ file_limit }
+    ensures { IfOk result (λ answer. IsResponseAnswer oil.now src.now load.now answer) }
+{
+    match response_text(alloc, oil, src, load) {
+        Ok(told) => Ok(answer_of(alloc, told)),
+        Err(BuildError::Refused(refusal)) => Ok(ToolAnswer::Refused(refusal)),
+        Err(BuildError::Memory) => Err(NoMemory),
+    }
+}
