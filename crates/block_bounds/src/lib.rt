@@ -6,7 +6,7 @@
 //! items (clause `kept`). What is told: `specs/Bounds`; what that promises: `specs/Kept`.
 //!
 //! A task of highest priority, or that there is no task (`highest_among`, `specs/Highest`); the counts of its latency by those of its parts
-//! (`latency_of`), and the most counts of a stretch behind boot (`running_counts`, `specs/Stretches`). Sizes: `section_sizes`; bounds: `raised_sections`
+//! (`latency_of`), and the most counts of a stretch behind boot (`running_counts`, `specs/Stretches`). Sizes: `walk_sums`; bounds: `raised_sections`
 //! (`Sections`); the latency: `run_counts` (`Latency`); paths of entries and ticks: `code_lengths` (`LongestPaths`).
 #![tactic(auto)]
 

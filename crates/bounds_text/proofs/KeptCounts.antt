@@ -11,23 +11,26 @@ use Rattle.call_graph.specs.Tables.{max_below}
 use Rattle.call_graph.proofs.Itself.{number_counts}
 use Rattle.osek_blocking.specs.Blocking.{events_up_to_entry}
 use Rattle.raised_sections.specs.Pace.{last_count}
+use Rattle.raised_sections.specs.Sections.{IsSectionFor}
 use Rattle.raised_sections.specs.Spent.{spent_counts}
 use Rattle.bound_rules.specs.declared.weights.BodyWeights.{BodyWeights}
 use Rattle.bound_rules.specs.Weights.{no_weights, going_weight, ending_weight}
 use Rattle.bound_rules.specs.Tasks.{task_at}
 use Rattle.event_weights.specs.Items.{length_of}
 use Rattle.event_weights.proofs.BodyLengths.{short}
-use Rattle.section_counts.specs.declared.sums.Sum.{Sum}
-use Rattle.section_counts.specs.declared.sums.Sum.TheVariants as sum
+use Rattle.walk_sums.specs.declared.sum.Sum.{Sum}
+use Rattle.walk_sums.specs.declared.sum.Sum.TheVariants as sum
 use Rattle.section_counts.specs.Counts.{AreCounts}
-use Rattle.section_counts.specs.Told.{IsToldSum, AreToldSums, AreAllSums, no_sum}
+use Rattle.walk_sums.specs.Told.{IsToldSum}
+use Rattle.walk_sums.specs.Sections.{AreToldSums, AreAllSums, greatest_of}
+use Rattle.walk_sums.proofs.Greatest.{greatest_told}
 use Rattle.sim_induction.specs.Sound.{events_of}
 use Rattle.block_bounds.specs.Bounds.{is_below}
 use Rattle.run_counts.specs.Spending.{NoSumIsAbove, NoneIsLower}
 use Rattle.run_counts.proofs.Counted.{counts_weigh}
 use Rattle.run_counts.proofs.Spending.{spends_on_lower, spends_nothing}
 use Rattle.bounds_text.specs.Latency.{heaviest_ending, longest_item}
-use Rattle.bounds_text.specs.LowerCounts.{greater, greatest_of, heaviest_in, heaviest, behind_item, lower_counts, count_lines, RunsKeepCounts, HasLowerCounts}
+use Rattle.bounds_text.specs.LowerCounts.{heaviest_in, heaviest, behind_item, lower_counts, count_lines, RunsKeepCounts, HasLowerCounts}
 
 -- ---- the heaviest item
 
@@ -74,38 +77,6 @@ counts_of (sum.Counts n) = n
 counts_of sum.Huge = 0
 counts_of sum.Endless = 0
 
--- the greater of two sums is one where both are, and neither is above it
-both_counts : (one other : Sum) (most : ℕ) → greater one other ≡ sum.Counts most
-    → ((x : ℕ) × (one ≡ sum.Counts x) × (x ≤ most)) × ((y : ℕ) × (other ≡ sum.Counts y) × (y ≤ most))
-both_counts (sum.Counts x) (sum.Counts y) most is =
-    let greatest = ap counts_of is in
-    ((x, refl, omega (arith, greatest)), (y, refl, omega (arith, greatest)))
-both_counts (sum.Counts x) sum.Huge most is = absurd cc
-both_counts (sum.Counts x) sum.Endless most is = absurd cc
-both_counts sum.Huge (sum.Counts y) most is = absurd cc
-both_counts sum.Huge sum.Huge most is = absurd cc
-both_counts sum.Huge sum.Endless most is = absurd cc
-both_counts sum.Endless other most is = absurd cc
-
--- each of the first sums is a number, and not above the greatest of them
-each_counts : (sums : List Sum) (n most : ℕ) → greatest_of sums n ≡ sum.Counts most → (k : ℕ) → k < n → (x : ℕ) × (get_or sums k no_sum ≡ sum.Counts x) × (x ≤ most)
-each_counts sums zero most is k lt = absurd (omega (arith, lt))
-each_counts sums (suc n) most is k lt = by (cases_lt k n) (both_counts (greatest_of sums n) (get_or sums n no_sum) most is) (each_counts sums n)
-  where
-    by : (k < n) ⊎ (n ≤ k) → ((x : ℕ) × (greatest_of sums n ≡ sum.Counts x) × (x ≤ most)) × ((y : ℕ) × (get_or sums n no_sum ≡ sum.Counts y) × (y ≤ most))
-        → ((less : ℕ) → greatest_of sums n ≡ sum.Counts less → (j : ℕ) → j < n → (x : ℕ) × (get_or sums j no_sum ≡ sum.Counts x) × (x ≤ less))
-        → (x : ℕ) × (get_or sums k no_sum ≡ sum.Counts x) × (x ≤ most)
-    by (inl before) both rest =
-        let front = both.0 in
-        let r = rest front.0 front.1 k before in
-        let le = r.2 in
-        let more = front.2 in
-        (r.0, r.1, omega (arith, le, more))
-    by (inr last) both rest =
-        let end = both.1 in
-        let same : k ≡ n = omega (arith, last, lt) in
-        (end.0, ap (λ j. get_or sums j no_sum) same ∙ end.1, end.2)
-
 -- a sum behind an item is a number where the sum is one, and this is both
 behind_counts : (weight counts : ℕ) (greatest : Sum) → behind_item weight greatest ≡ sum.Counts counts → (most : ℕ) × (greatest ≡ sum.Counts most) × (weight + most ≡ counts)
 behind_counts weight counts (sum.Counts most) is = (most, refl, by (leb weight count_limit && leb most (count_limit - weight)) is)
@@ -135,13 +106,8 @@ sums_within config app weights sums h counts are some told =
     let most = behind_counts (heaviest weights) counts (greatest_of sums (length sums)) behind_is in (
       most.0,
       (λ k lower positions section.
-          let there = lower.0 in
-          let count = are.count in
-          let known = each_counts sums (length sums) most.0 most.1 k (omega (arith, there, count)) in
-          let told_sum = subst (IsToldSum config app weights h k) known.1 (are.lower k lower) in
-          let le = told_sum.0.none_above positions section in
-          let more = known.2 in
-          omega (arith, le, more)),
+          let told_sum = subst (IsToldSum (IsSectionFor config app h) weights) most.1 (greatest_told config app weights h sums are) in
+          told_sum.0.none_above positions (record { task = k; lower = lower; is_section = section })),
       most.2,
     )
 

@@ -20,10 +20,10 @@ use Rattle.bound_rules.specs.Weights.{ending_weight}
 use Rattle.event_weights.specs.Events.{enter_counts, stretch_counts}
 use Rattle.event_weights.specs.Items.{length_of, AreLengths}
 use Rattle.event_weights.proofs.BodyLengths.{short}
-use Rattle.section_counts.specs.declared.sums.Sum.{Sum}
-use Rattle.section_counts.specs.declared.sums.Sum.TheVariants as sum
+use Rattle.walk_sums.specs.declared.sum.Sum.{Sum}
+use Rattle.walk_sums.specs.declared.sum.Sum.TheVariants as sum
 use Rattle.section_counts.specs.Counts.{AreCountsBy}
-use Rattle.section_counts.specs.Told.{AreAllSums}
+use Rattle.walk_sums.specs.Sections.{AreAllSums}
 use Rattle.sim_induction.specs.Paced.{AreStretchesWithin}
 use Rattle.sim_induction.specs.Sound.{events_of}
 use Rattle.sim_induction.specs.Weighed.{AreWithinWeights}

@@ -7,7 +7,7 @@ use Rattle.sloth_source.proofs.Unique.{one_meaning}
 use Rattle.bound_rules.specs.declared.bound.Bound.{Bound}
 use Rattle.bound_rules.specs.declared.bound.Bound.TheVariants as bound
 use Rattle.event_weights.specs.Items.{AreLengths}
-use Rattle.section_counts.specs.Told.{AreAllSums}
+use Rattle.walk_sums.specs.Sections.{AreAllSums}
 use Rattle.block_bounds.specs.Bounds.{AreToldBounds}
 use Rattle.block_bounds.proofs.OneTold.{one_told}
 use Rattle.bounds_text.specs.BoundsText.{bound_lines}

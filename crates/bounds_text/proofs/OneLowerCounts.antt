@@ -1,23 +1,22 @@
 -- Texts have one list of lines of the counts of lower tasks at most.
-use Rattle.std.proofs.Common.{◌≡◌, ◌∙◌, ℕ, ◌+◌, ◌<◌, ◌≤◌, List, [], length, get_or, refl, sym, ap, subst, arith, ⊎_elim}
+use Rattle.std.proofs.Common.{◌≡◌, ◌∙◌, ℕ, ◌+◌, ◌<◌, List, [], length, get_or, sym, ap, subst, arith, ⊎_elim}
 use Rattle.std.proofs.lemmas.Bool.{cases_lt}
 use Rattle.std.proofs.lemmas.List.{ext_get_or}
 use Rattle.sloth_base.specs.declared.config.Config.{Config}
 use Rattle.sloth_base.specs.declared.app.App.{App}
-use Rattle.sloth_base.specs.Limits.{count_limit}
 use Rattle.sloth_base.specs.Named.{function, item_of}
 use Rattle.sloth_source.proofs.Unique.{one_meaning}
 use Rattle.osek_scheduler.specs.Apart.{static_priority}
-use Rattle.raised_sections.specs.Sections.{IsLower}
+use Rattle.raised_sections.specs.Sections.{IsSection, IsLower}
 use Rattle.bound_rules.specs.declared.weights.BodyWeights.{BodyWeights}
 use Rattle.bound_rules.specs.Weights.{no_weights}
 use Rattle.rv32_expand.proofs.Agreeing.{size_same}
 use Rattle.rv32_expand.proofs.Least.{least_is_one}
 use Rattle.event_weights.specs.Items.{length_of, AreLengths, going_counts, ending_counts}
-use Rattle.section_counts.specs.declared.sums.Sum.{Sum}
-use Rattle.section_counts.specs.declared.sums.Sum.TheVariants as sum
+use Rattle.walk_sums.specs.declared.sum.Sum.{Sum}
 use Rattle.section_counts.specs.Counts.{AreBodyCounts, AreCounts}
-use Rattle.section_counts.specs.Told.{IsGreatestSum, SomeIsAbove, ExceedsSum, IsToldSum, AreToldSums, AreAllSums, no_sum}
+use Rattle.walk_sums.specs.Sections.{AreToldSums, AreAllSums, no_sum}
+use Rattle.walk_sums.proofs.OneTold.{one_told}
 use Rattle.bounds_text.specs.LowerCounts.{count_lines, heaviest, HasLowerCounts, OneLowerCountsText}
 
 -- ---- weights
@@ -61,47 +60,6 @@ same-weights app one other a b =
 
 -- ---- sums
 
-module _ (config : Config) (app : App) (weights : List BodyWeights) (h k : ℕ) where
-  one-sum : (n m : ℕ) → IsGreatestSum config app weights h k n → IsGreatestSum config app weights h k m → n ≡ m
-  one-sum n m a b =
-      let le = a.none_above b.positions b.is_section in
-      let more = b.none_above a.positions a.is_section in
-      let p = a.sum in
-      let q = b.sum in
-      omega (arith, le, more, p, q)
-
-  told-or-above : (n : ℕ) → IsGreatestSum config app weights h k n → n ≤ count_limit → ExceedsSum config app weights h k count_limit → ⊥
-  told-or-above n a le e =
-      let s = e.some_above in
-      let more = a.none_above s.0 s.1 in
-      let large = s.2 in
-      absurd (let wrong : ⊥ = omega (arith, le, more, large) in wrong)
-
-  told-or-none : (n : ℕ) → IsGreatestSum config app weights h k n → ((m : ℕ) → SomeIsAbove config app weights h k m) → ⊥
-  told-or-none n a e =
-      let s = e n in
-      let le = a.none_above s.0 s.1 in
-      let more = s.2 in
-      absurd (let wrong : ⊥ = omega (arith, le, more) in wrong)
-
-  above-or-none : ExceedsSum config app weights h k count_limit → ((m : ℕ) → SomeIsAbove config app weights h k m) → ⊥
-  above-or-none a e =
-      let s = e a.most in
-      let le = a.none_above s.0 s.1 in
-      let more = s.2 in
-      absurd (let wrong : ⊥ = omega (arith, le, more) in wrong)
-
-  same-sum : (one other : Sum) → IsToldSum config app weights h k one → IsToldSum config app weights h k other → one ≡ other
-  same-sum (sum.Counts n) (sum.Counts m) a b = ap sum.Counts (one-sum n m a.0 b.0)
-  same-sum (sum.Counts n) sum.Huge a b = absurd (told-or-above n a.0 a.1 b)
-  same-sum (sum.Counts n) sum.Endless a b = absurd (told-or-none n a.0 b)
-  same-sum sum.Huge (sum.Counts m) a b = absurd (told-or-above m b.0 b.1 a)
-  same-sum sum.Huge sum.Huge a b = refl
-  same-sum sum.Huge sum.Endless a b = absurd (above-or-none a b)
-  same-sum sum.Endless (sum.Counts m) a b = absurd (told-or-none m b.0 a)
-  same-sum sum.Endless sum.Huge a b = absurd (above-or-none b a)
-  same-sum sum.Endless sum.Endless a b = refl
-
 module _ (config : Config) (app : App) (weights : List BodyWeights) where
   same-row : (h : ℕ) (one other : List Sum) → AreToldSums config app weights h one → AreToldSums config app weights h other → one ≡ other
   same-row h one other a b =
@@ -110,10 +68,10 @@ module _ (config : Config) (app : App) (weights : List BodyWeights) where
       let count = a.count in
       let known : k < length config.tasks = omega (arith, lt, count) in
       ⊎_elim
-      (λ low. same-sum config app weights h k (get_or one k no_sum) (get_or other k no_sum) (a.lower k (known, low)) (b.lower k (known, low)))
+      (λ low. one_told (IsSection config app h k) weights (get_or one k no_sum) (get_or other k no_sum) ((a.each k known).lower (known, low)) ((b.each k known).lower (known, low)))
       (λ high.
       let none : ¬ (IsLower config h k) = λ l. let low = l.1 in absurd (let wrong : ⊥ = omega (arith, low, high) in wrong) in
-      a.others k known none ∙ sym (b.others k known none))
+      (a.each k known).other none ∙ sym ((b.each k known).other none))
       (cases_lt (static_priority config k) (static_priority config h)))
 
   pub same-table : (one other : List (List Sum)) → AreAllSums config app weights one → AreAllSums config app weights other → one ≡ other

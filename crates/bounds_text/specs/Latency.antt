@@ -25,10 +25,10 @@ use Rattle.bound_rules.specs.Tasks.{task_at}
 use Rattle.bound_rules.specs.Weights.{no_weights}
 use Rattle.event_weights.specs.Events.{enter_counts}
 use Rattle.event_weights.specs.Items.{AreLengths}
-use Rattle.section_counts.specs.declared.sums.Sum.{Sum}
-use Rattle.section_counts.specs.declared.sums.Sum.TheVariants as sum
+use Rattle.walk_sums.specs.declared.sum.Sum.{Sum}
+use Rattle.walk_sums.specs.declared.sum.Sum.TheVariants as sum
 use Rattle.section_counts.specs.Counts.{AreCountsBy}
-use Rattle.section_counts.specs.Told.{AreAllSums}
+use Rattle.walk_sums.specs.Sections.{AreAllSums}
 use Rattle.sim_induction.specs.Paced.{InPace}
 use Rattle.sim_induction.specs.Sound.{Sound, events_of}
 use Rattle.sim_induction.specs.Weighed.{Weighed}

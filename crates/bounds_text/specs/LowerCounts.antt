@@ -1,5 +1,5 @@
 -- The lines of the command `bounds OIL SRC counts`.
-use Rattle.std.specs.Prelude.{ℕ, zero, suc, ◌+◌, ◌-◌, ◌≤◌, ◌≡◌, ◌&&◌, leb, max, cond, List, [], ◌++◌, codes, decimal, length, get_or}
+use Rattle.std.specs.Prelude.{ℕ, zero, suc, ◌+◌, ◌-◌, ◌≤◌, ◌≡◌, ◌&&◌, leb, cond, List, [], ◌++◌, codes, decimal, length, get_or}
 use Rattle.sloth_base.specs.declared.config.Config.{Config}
 use Rattle.sloth_base.specs.declared.config.TaskDecl.{TaskDecl}
 use Rattle.sloth_base.specs.declared.app.App.{App}
@@ -15,31 +15,16 @@ use Rattle.sloth_source.specs.Texts.{AreAccepted}
 use Rattle.bound_rules.specs.declared.weights.BodyWeights.{BodyWeights}
 use Rattle.bound_rules.specs.Weights.{no_weights}
 use Rattle.bound_rules.specs.Tasks.{task_at}
-use Rattle.section_counts.specs.declared.sums.Sum.{Sum}
-use Rattle.section_counts.specs.declared.sums.Sum.TheVariants as sum
+use Rattle.walk_sums.specs.declared.sum.Sum.{Sum}
+use Rattle.walk_sums.specs.declared.sum.Sum.TheVariants as sum
 use Rattle.section_counts.specs.Counts.{AreCounts}
-use Rattle.section_counts.specs.Told.{no_sum, AreAllSums}
+use Rattle.walk_sums.specs.Sections.{AreAllSums, greatest_of}
 use Rattle.sim_induction.specs.Paced.{InPace}
 use Rattle.sim_induction.specs.Sound.{Sound, events_of}
 use Rattle.block_bounds.specs.Bounds.{is_below}
 use Rattle.bounds_text.specs.KeptRuns.{WaitsForCounts}
 
 -- ---- counts
-
--- the greater of two sums
-abbrev pub greater : Sum → Sum → Sum
-greater sum.Endless other = sum.Endless
-greater sum.Huge sum.Endless = sum.Endless
-greater sum.Huge sum.Huge = sum.Huge
-greater sum.Huge (sum.Counts m) = sum.Huge
-greater (sum.Counts n) sum.Endless = sum.Endless
-greater (sum.Counts n) sum.Huge = sum.Huge
-greater (sum.Counts n) (sum.Counts m) = sum.Counts (max n m)
-
--- the greatest of the first sums, so many of them
-abbrev pub greatest_of : List Sum → ℕ → Sum
-greatest_of sums zero = sum.Counts 0
-greatest_of sums (suc k) = greater (greatest_of sums k) (get_or sums k no_sum)
 
 -- the heaviest of these items of a body, behind which their task goes on
 abbrev pub heaviest_in : (going : List ℕ) → ℕ

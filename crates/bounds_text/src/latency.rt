@@ -7,10 +7,10 @@ ghost use Rattle.call_graph.specs.Ranks.{RanksOf};
 ghost use Rattle.call_graph.specs.Tables.{HasTaskBody};
 ghost use Rattle.sloth_source.specs.Texts.{SourcesErrorIs};
 ghost use Rattle.event_weights.specs.Items.{length_of, AreLengths};
-ghost use Rattle.section_sizes.specs.Weights.{AreWeights};
+ghost use Rattle.walk_sums.specs.Weights.{AreWeights};
 ghost use Rattle.section_counts.specs.Counts.{AreCountsBy};
 ghost use Rattle.block_bounds.specs.Bounds.{AreToldBounds};
-ghost use Rattle.bounds_text.specs.BoundsText.{IsTellable, AreTellable};
+ghost use Rattle.bounds_text.specs.BoundsText.{AreTellable};
 ghost use Rattle.bounds_text.specs.LowerCounts.{heaviest_in};
 ghost use Rattle.bounds_text.specs.Latency.{IsHighestTask, heaviest_ending, longest_item, taken_counts, parts_of, latency_text, latency_line, told_of, tick_line, tick_lines, last_line, AreAllLines, HasLatency, IsLatencyText};
 
@@ -26,7 +26,7 @@ use checked_source::read_checked;
 use code_lengths::tick_path;
 use event_weights::{ItemLengths, lengths};
 use itoa::Buffer;
-use section_counts::{Sum, section_sums, weights_by};
+use section_counts::weights_by;
 use sloth_base::app::App;
 use sloth_base::config::Config;
 use sloth_base::list::List;
@@ -34,6 +34,8 @@ use sloth_base::memory::NoMemory;
 use sloth_base::refusal::BuildError;
 use std::alloc::Global;
 use task_verify::verified::Verified;
+use walk_sums::sections::section_sums;
+use walk_sums::sum::Sum;
 
 // The task of highest priority, if there is a task.
 fn highest_task(config: &Config) -> Option<usize>

@@ -7,7 +7,7 @@
 //! where the run has a stretch more, within its latency and the ticks' counts, each with the longest item; no tick takes more than its line says. Texts have
 //! one list of lines of each kind (`one_text`, `one_latency_text`, `one_lower_counts_text`). Definitions: `specs/BoundsText`, ticks and latency
 //! `specs/Latency`, counts `specs/LowerCounts`, what bounds promise of runs `specs/KeptRuns`. Bounds: `block_bounds` (`Bounds`, `Kept`, `Stretches`); sums:
-//! `section_counts` (`Told`); what runs spend, and the latency: `run_counts` (`Spending`, `Latency`).
+//! `walk_sums` (`Sections`); what runs spend, and the latency: `run_counts` (`Spending`, `Latency`).
 #![tactic(auto)]
 
 ghost use Rattle.std.specs.Prelude.{◌≡◌, ◌<◌, length, IfOk, IfErr};

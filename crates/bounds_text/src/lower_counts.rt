@@ -2,17 +2,17 @@
 ghost use Rattle.std.specs.Prelude.{◌≡◌, ◌<◌, length, IfOk, IfErr};
 ghost use Rattle.code_rules.specs.WellFormed.{WellFormed};
 ghost use Rattle.call_graph.specs.Ranks.{RanksOf};
-ghost use Rattle.section_sizes.specs.Weights.{AreWeights};
+ghost use Rattle.walk_sums.specs.Weights.{AreWeights};
 ghost use Rattle.section_counts.specs.Counts.{AreCounts};
 ghost use Rattle.sloth_source.specs.Texts.{SourcesErrorIs};
-ghost use Rattle.bounds_text.specs.LowerCounts.{greater, greatest_of, heaviest_in, heaviest, behind_item, lower_counts, sum_text, count_line, count_lines, HasLowerCounts, IsLowerCountsText};
+ghost use Rattle.bounds_text.specs.LowerCounts.{heaviest_in, heaviest, behind_item, lower_counts, sum_text, count_line, count_lines, HasLowerCounts, IsLowerCountsText};
 
 use block_bounds::bound::has_lower;
 use bound_rules::weights::{BodyWeights, weights_at};
 use call_graph::ranking::Ranks;
 use checked_source::read_checked;
 use itoa::Buffer;
-use section_counts::{Sum, count_weights, section_sums};
+use section_counts::count_weights;
 use sloth_base::app::App;
 use sloth_base::config::{Config, TaskDecl};
 use sloth_base::limits::COUNT_LIMIT;
@@ -21,35 +21,8 @@ use sloth_base::memory::NoMemory;
 use sloth_base::refusal::BuildError;
 use std::alloc::Global;
 use task_verify::verified::Verified;
-
-// The greater of two sums.
-fn greater(one: Sum, other: Sum) -> Sum
-    ensures { result ≡ greater one other }
-{
-    match one {
-        Sum::Endless => Sum::Endless,
-        Sum::Huge => match other {
-            Sum::Endless => Sum::Endless,
-            Sum::Huge | Sum::Counts(_) => Sum::Huge,
-        },
-        Sum::Counts(counts) => match other {
-            Sum::Endless => Sum::Endless,
-            Sum::Huge => Sum::Huge,
-            Sum::Counts(more) => Sum::Counts(more.max(counts)),
-        },
-    }
-}
-
-// The greatest of these sums.
-fn greatest_of(sums: &[Sum]) -> Sum
-    ensures { result ≡ greatest_of sums.now (length sums.now) }
-{
-    let mut greatest = Sum::Counts(0);
-    for task in 0..sums.len() {
-        greatest = greater(greatest, sums[task]);
-    }
-    greatest
-}
+use walk_sums::sections::{greatest_of, section_sums};
+use walk_sums::sum::Sum;
 
 // The heaviest of these items of a body.
 pub(crate) fn heaviest_in(going: &[u32]) -> u32

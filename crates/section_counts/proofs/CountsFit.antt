@@ -1,4 +1,4 @@
--- The counts of items are weights by which sections are summed.
+-- The counts of items are weights by which walks are summed.
 use Rattle.std.proofs.Common.{◌≡◌, ℕ, ◌+◌, ◌<◌, ◌≤◌, ◌⊎◌, inl, inr, Bool, true, false, List, length, get_or, refl, ap, sym, ◌∙◌, arith, ⊎_elim}
 use Rattle.std.proofs.lemmas.Bool.{cases_lt, true≢false}
 use Rattle.std.proofs.lemmas.List.{get_or_past}
@@ -8,17 +8,14 @@ use Rattle.sloth_base.specs.declared.app.Op.{Op}
 use Rattle.sloth_base.specs.declared.app.Op.TheVariants as op
 use Rattle.sloth_base.specs.declared.service.Service.{Service}
 use Rattle.sloth_base.specs.declared.service.Service.TheVariants as service
-use Rattle.sloth_base.specs.Named.{function, item_of, operation}
-use Rattle.code_rules.specs.Code.{IsItem}
-use Rattle.expansion_parts.specs.Long.{size, no_places}
-use Rattle.expansion_parts.proofs.Counts.{expanded_some}
+use Rattle.sloth_base.specs.Named.{function, operation}
 use Rattle.code_lengths.specs.LongestPaths.{leaving_path}
 use Rattle.raised_sections.specs.Walks.{chains_itself}
-use Rattle.event_weights.specs.Items.{length_of, AreLengths, served_counts, going_counts, ending_counts}
+use Rattle.event_weights.specs.Items.{length_of, served_counts, going_counts, ending_counts}
 use Rattle.bound_rules.specs.declared.weights.BodyWeights.{BodyWeights}
 use Rattle.bound_rules.specs.Weights.{no_weights, going_weight, ending_weight}
-use Rattle.section_sizes.specs.Parts.{is_plain}
-use Rattle.section_sizes.specs.Weights.{AreWeights}
+use Rattle.walk_sums.specs.Activations.{is_plain}
+use Rattle.walk_sums.specs.Weights.{AreWeights}
 use Rattle.section_counts.specs.Counts.{AreCountsBy}
 
 -- ---- services
@@ -47,14 +44,9 @@ plain_or_same f (op.Invoke g) e = refl
 plain_or_same f op.Return e = refl
 plain_or_same f _ e = absurd (true≢false e)
 
--- each item has an instruction
-some_size : (app : App) (long : Bool) (o : Op) → 0 < size app long o
-unfolding size
-some_size app long o = expanded_some app no_places 0 0 long o
-
 -- ---- weights
 
-module _ (app : App) (lengths : List (List ℕ)) (are : AreLengths app lengths) (short : (f i : ℕ) → length_of lengths f i ≤ 36)
+module _ (app : App) (lengths : List (List ℕ)) (short : (f i : ℕ) → length_of lengths f i ≤ 36)
     (weights : List BodyWeights) (by : AreCountsBy app lengths weights) where
   -- an item weighs its counts, all else nothing
   data Weighs (f i : ℕ) : Type 0 where
@@ -98,19 +90,10 @@ module _ (app : App) (lengths : List (List ℕ)) (are : AreLengths app lengths) 
       ending ∙ ap (λ n. length_of lengths f i + n) (plain_or_same (function app f) (operation app f i) call) ∙ sym going
   same f i call (weighs_nothing going ending) = ending ∙ sym going
 
-  weighs : (f i : ℕ) (o : Op) → IsItem app f i o → 0 < going_weight weights f i
-  weighs f i o item =
-      let going = (by.each f item.known).going i item.inside in
-      let shortest = are.each f item.known in
-      let length = shortest.are_lengths.each i item.inside in
-      let some = some_size app (shortest.long i) (item_of (function app f) i).op in
-      omega (arith, going, length, some)
-
   pub counts_fit : AreWeights app weights
   counts_fit = record {
     count = by.count;
     small = λ f i. let le = small f i (weight_is f i) in omega (arith, le);
     no_lighter = λ f i. no_lighter f i (weight_is f i);
     same = λ f i call. same f i call (weight_is f i);
-    weighs = λ f i o item counted. weighs f i o item;
   }

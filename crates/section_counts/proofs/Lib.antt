@@ -1,2 +1,1 @@
 pub mod CountsFit
-mod Telling

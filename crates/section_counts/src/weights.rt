@@ -2,18 +2,18 @@
 ghost use Rattle.std.specs.Prelude.{◌≡◌, ◌≤◌, ◌<◌, ◌+◌, ℕ, length, get_or, IfOk};
 ghost use Rattle.sloth_base.specs.Named.{item_of};
 ghost use Rattle.code_rules.specs.AppRange.{IsTaskCode};
-ghost use Rattle.event_weights.specs.Items.{length_of, AreLengths, going_counts, ending_counts};
-ghost use Rattle.section_sizes.specs.Weights.{AreWeights};
+ghost use Rattle.event_weights.specs.Items.{length_of, going_counts, ending_counts};
+ghost use Rattle.walk_sums.specs.Weights.{AreWeights};
 ghost use Rattle.section_counts.specs.Counts.{AreBodyCounts, AreCountsBy, AreCounts};
 
 use bound_rules::weights::BodyWeights;
 use event_weights::{ItemLengths, ending_counts, going_counts, length_of, lengths};
-use section_sizes::bodies::function_at;
 use sloth_base::app::{App, Func};
 use sloth_base::list::List;
 use sloth_base::memory::NoMemory;
 use std::alloc::Global;
 use text_pieces::growth::push;
+use walk_sums::bodies::function_at;
 
 /// The counts of an item behind which its task goes on.
 fn going_at(lengths: &ItemLengths, number: usize, func: &Func, item: usize) -> u32
@@ -108,7 +108,6 @@ pub fn weights_by(
     app: &App,
     lengths: &ItemLengths,
 ) -> Result<Vec<BodyWeights>, NoMemory>
-    requires lengths { AreLengths app.now lengths.now.bodies }
     requires short { (f i : ℕ) → length_of lengths.now.bodies f i ≤ 36 }
     ensures are { IfOk result (λ weights. AreCountsBy app.now lengths.now.bodies weights.items) }
     ensures fit { IfOk result (λ weights. AreWeights app.now weights.items) }

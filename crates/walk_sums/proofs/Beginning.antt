@@ -5,7 +5,7 @@ use Rattle.sloth_base.specs.declared.config.Config.{Config}
 use Rattle.sloth_base.specs.declared.app.App.{App}
 use Rattle.sloth_base.specs.Named.{function, operation}
 use Rattle.bound_rules.specs.declared.bodies.Body.{Body}
-use Rattle.section_sizes.specs.Known.{IsKnownBody}
+use Rattle.walk_sums.specs.KnownBodies.{IsKnownBody}
 use Rattle.walk_sums.specs.declared.kinds.Kind.{Kind}
 use Rattle.walk_sums.specs.declared.kinds.Kind.TheVariants as kinds
 use Rattle.walk_sums.specs.Rounds.{is_wait}

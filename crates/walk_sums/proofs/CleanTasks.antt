@@ -13,14 +13,13 @@ use Rattle.osek_scheduler.proofs.Stacks.{has_body}
 use Rattle.bound_rules.specs.declared.sizes.Summary.{Summary}
 use Rattle.bound_rules.specs.declared.weights.BodyWeights.{BodyWeights}
 use Rattle.bound_rules.specs.Summaries.{summary_of}
-use Rattle.section_sizes.specs.Weights.{sum_of}
-use Rattle.section_sizes.proofs.Bodily.{facts_of}
+use Rattle.walk_sums.specs.Weights.{sum_of, AreWeightless, SmallEndings}
+use Rattle.walk_sums.proofs.Bodily.{facts_of}
 use Rattle.walk_sums.specs.declared.kinds.Kind.TheVariants as kinds
 use Rattle.walk_sums.specs.declared.counted.Counted.TheVariants as counts
 use Rattle.walk_sums.specs.Rounds.{IsPart, IsBehindWait, Anywhere, IsClean}
 use Rattle.walk_sums.specs.Kinds.{stops}
 use Rattle.walk_sums.specs.Counted.{counted_weights}
-use Rattle.walk_sums.specs.Weights.{AreWeightless, SmallEndings}
 use Rattle.walk_sums.specs.Parts.{SumsWithin}
 use Rattle.walk_sums.specs.Known.{IsExact, IsEndless, AreSums}
 use Rattle.walk_sums.specs.Clears.{ClearsBit, AreClearing, clears_it}

@@ -1,5 +1,5 @@
 -- A task clears what it waits for where no walk from one WaitEvent to the next leaves a bit of what the second one waits for.
-use Rattle.std.proofs.Common.{◌≡◌, ℕ, zero, suc, ◌+◌, ◌*◌, ◌^◌, ◌<◌, ◌≤◌, ◌⊎◌, inl, inr, Bool, true, false, not, ◌&&◌, ◌||◌, cond, min, List, [], ◌∷◌, ◌++◌, length, get_or, None, refl, ap, sym, ◌∙◌, subst, arith}
+use Rattle.std.proofs.Common.{◌≡◌, ℕ, zero, suc, ◌+◌, ◌*◌, ◌^◌, ◌<◌, ◌≤◌, ◌⊎◌, inl, inr, Bool, true, false, not, ◌&&◌, ◌||◌, cond, min, List, [], ◌∷◌, ◌++◌, length, get_or, refl, ap, sym, ◌∙◌, subst, arith}
 use Rattle.std.specs.Prelude.{◌==◌, bit_and}
 use Rattle.std.specs.List.{AllByRecursion}
 use Rattle.std.specs.Int.{bit_at}
@@ -22,8 +22,8 @@ use Rattle.raised_sections.specs.Walks.{Position, IsWalk}
 use Rattle.raised_sections.specs.Sections.{operation_at}
 use Rattle.bound_rules.specs.declared.weights.BodyWeights.{BodyWeights}
 use Rattle.bound_rules.specs.Weights.{going_weight}
-use Rattle.section_sizes.specs.Weights.{going_at, ending_at, sum_of}
-use Rattle.section_sizes.proofs.Reaching.{reached_inside}
+use Rattle.walk_sums.specs.Weights.{going_at, ending_at, sum_of}
+use Rattle.walk_sums.proofs.Reached.{reached_inside}
 use Rattle.walk_sums.specs.declared.kinds.Kind.TheVariants as kinds
 use Rattle.walk_sums.specs.declared.counted.Counted.TheVariants as counts
 use Rattle.walk_sums.specs.Rounds.{OnlyLast, IsPart, IsBehindWait, Anywhere, is_wait, awaited, cleared, cleared_along, IsBetweenWaits, IsClean}
@@ -31,8 +31,7 @@ use Rattle.walk_sums.specs.Kinds.{clears, stops}
 use Rattle.walk_sums.specs.Counted.{one_if, awaits, counted_weights}
 use Rattle.walk_sums.specs.Clears.{ClearsBit}
 use Rattle.walk_sums.proofs.CountedWeights.{ending_is, waits_weightless}
-use Rattle.walk_sums.proofs.Climbing.{walked_to}
-use Rattle.walk_sums.proofs.Telling.{all_stand}
+use Rattle.walk_sums.proofs.Standing.{walked_to}
 
 -- ---- one bit
 
@@ -155,9 +154,9 @@ module _ (config : Config) (app : App) (w : Facts config app) (t : ℕ) (declare
   -- what the last position weighs
   last_is : (before : List Position) (at : Position) → IsWalk app t (before ++ at ∷ []) → ending_at weights at ≡ one_if (awaits (2 ^ k) (operation_at app at))
   last_is before [] walk =
-      absurd (walked_to config app weights kinds.Turns t (λ outer. None) Anywhere (all_stand config app) w declared before [] [] walk).0
+      absurd (walked_to config app w t declared before [] [] walk).0
   last_is before (here ∷ outer) walk =
-      let s = (walked_to config app weights kinds.Turns t (λ outer. None) Anywhere (all_stand config app) w declared before (here ∷ outer) [] walk).0 in
+      let s = (walked_to config app w t declared before (here ∷ outer) [] walk).0 in
       ending_is (counts.Waits (2 ^ k)) app here.func here.item s.0 (reached_inside config app w here.func here.item s.0 s.1)
 
   no_wait : (between : List Position) → AllByRecursion (λ at. Stop (operation_at app at) ≡ false) between → AllByRecursion (λ at. is_wait (operation_at app at) ≡ false) between
@@ -290,7 +289,7 @@ module _ (config : Config) (app : App) (w : Facts config app) where
     to_high : (before : List Position) (to : Position) → IsWalk app t (before ++ to ∷ []) → (k : ℕ) → 32 ≤ k → bit_at (awaited (operation_at app to)) k ≡ 0
     to_high before [] walk k le = bit_at-zero k
     to_high before (here ∷ outer) walk k le =
-        let s = (walked_to config app (counted_weights (counts.Waits 0) app) kinds.Turns t (λ outer. None) Anywhere (all_stand config app) w declared before (here ∷ outer) [] walk).0 in
+        let s = (walked_to config app w t declared before (here ∷ outer) [] walk).0 in
         awaited_high (operation app here.func here.item) here.func here.item
         (record { known = s.0; inside = reached_inside config app w here.func here.item s.0 s.1; is = refl }) k le
 

@@ -5,20 +5,18 @@ use Rattle.std.proofs.lemmas.Bool.{false≢true}
 use Rattle.std.proofs.lemmas.List.{append_assoc}
 use Rattle.sloth_base.specs.declared.config.Config.{Config}
 use Rattle.sloth_base.specs.declared.app.App.{App}
-use Rattle.sloth_base.specs.declared.app.Op.{Op}
 use Rattle.sloth_base.specs.declared.app.Op.TheVariants as op
-use Rattle.sloth_base.specs.Named.{function, operation, body_of}
-use Rattle.code_rules.specs.Code.{IsItem, IsPathStep}
+use Rattle.sloth_base.specs.Named.{body_of}
+use Rattle.code_rules.specs.Code.{IsItem}
 use Rattle.osek_scheduler.proofs.Facts.{Facts}
-use Rattle.osek_scheduler.proofs.Stacks.{has_body}
-use Rattle.raised_sections.specs.Walks.{Place, Position, place, GoesBack, IsPositionStep, AreConsecutive, IsWalk, first_position, chains_itself}
+use Rattle.raised_sections.specs.Walks.{Place, Position, place, GoesBack, IsPositionStep, AreConsecutive, IsWalk, first_position}
 use Rattle.raised_sections.specs.Sections.{operation_at}
 use Rattle.bound_rules.specs.declared.weights.BodyWeights.{BodyWeights}
 use Rattle.bound_rules.specs.Weights.{going_weight, ending_weight}
-use Rattle.section_sizes.specs.Weights.{going_at, sum_of}
-use Rattle.section_sizes.specs.Parts.{is_raised, called_level, is_plain, IsInnerStep, ReachesItem, reaches_first, reaches_inside, reaches_behind, IsRaisedCall, ReachesCall, level_behind}
-use Rattle.section_sizes.proofs.Decomposed.{leads_cases}
-use Rattle.section_sizes.proofs.Reaching.{called_known, reached_inside}
+use Rattle.walk_sums.specs.Weights.{going_at, sum_of}
+use Rattle.walk_sums.specs.Activations.{is_raised, called_level, IsRaisedCall, level_behind}
+use Rattle.walk_sums.proofs.LevelsAt.{leads_cases}
+use Rattle.walk_sums.proofs.Standing.{step_of, AreCallers, Walked, stands_on, item_at, walked_to}
 use Rattle.walk_sums.specs.declared.kinds.Kind.{Kind}
 use Rattle.walk_sums.specs.declared.kinds.Kind.TheVariants as kinds
 use Rattle.walk_sums.specs.Rounds.{OnlyLast, IsPart, IsFirst, IsBehindWait, is_wait}
@@ -60,9 +58,6 @@ module _ (config : Config) (app : App) (weights : List BodyWeights) (kind : Kind
   stays f i n [] on = on
   stays f i n (caller ∷ outer) on = inl on
 
-  abbrev step_of : (o : Op) (f i j : ℕ) → IsItem app f i o → is_plain o ≡ true → IsPathStep (function app f) i j → chains_itself (function app f) (operation app f i) ≡ false → IsInnerStep app f i j
-  step_of o f i j item plain goes free = record { operation = o; item = item; plain = plain; goes_on = goes; stays = sym (ap (chains_itself (function app f)) item.is) ∙ free }
-
   -- a plain item in front
   inside_front : (f i j n : ℕ) (outer : Position) → IsOpenStep config app kind (L outer) f i j → Spreads f j outer n → Spreads f i outer (going_weight weights f i + n)
   inside_front f i j n [] p s = on_inside (L []) f i j n p s
@@ -95,7 +90,7 @@ module _ (config : Config) (app : App) (weights : List BodyWeights) (kind : Kind
       (λ plain g item s.
       let P : Position → Type 0 = λ p. SpreadsAt p n in
       inside_front f i g.0 n outer
-      (record { step = step_of w.0 f i g.0 item plain g.1 g.2; no_stop = sym (ap (stops kind) item.is) ∙ free; raised = raised_here f i outer r })
+      (record { step = step_of app w.0 f i g.0 item plain g.1 g.2; no_stop = sym (ap (stops kind) item.is) ∙ free; raised = raised_here f i outer r })
       (subst P g.3 s))
       (λ g is e item s.
       let call = subst (IsItem app f i) is item in
@@ -116,63 +111,34 @@ module _ (config : Config) (app : App) (weights : List BodyWeights) (kind : Kind
           let P : Position → Type 0 = λ p. SpreadsAt p n in
           inr (going_weight weights f i, n, back_returns (L (caller ∷ rest)) f i item raised, subst P back s, refl)
 
-  -- ---- what is in progress
-
-  -- function f was called by the first of these, at an item that walks reach, and so on
-  abbrev pub AreCallers : ℕ → Position → Type 0
-  AreCallers f [] = f ≡ body_of app.funcs t
-  AreCallers f (caller ∷ outer) = ReachesCall app caller.func caller.item f × AreCallers caller.func outer
-
-  abbrev pub Walked : Position → Type 0
-  Walked [] = ⊥
-  Walked (here ∷ outer) = (here.func < length app.funcs) × ReachesItem app here.func here.item × AreCallers here.func outer
-
   abbrev AtWait : Position → Type 0
   AtWait [] = ⊥
   AtWait (here ∷ outer) = StandsBehindWait app here.func here.item
 
   module _ (w : Facts config app) where
-    pub stands_on : (at next : Position) → Walked at → IsPositionStep app at next → Walked next
-    stands_on [] next s step = absurd s
-    stands_on (here ∷ outer) next s step =
-        leads_cases app step.0 here.func here.item outer next (λ o. IsItem app here.func here.item o → Walked next)
-        (λ plain g item. subst Walked (sym g.3) (s.0, reaches_inside here.func here.item g.0 s.1 (step_of step.0 here.func here.item g.0 item plain g.1 g.2), s.2))
-        (λ g is e item.
-        let call = subst (IsItem app here.func here.item) is item in
-        subst Walked (sym e) (called_known config app w here.func g (here.item, call), reaches_first g, (record { reached = s.1; item = call }, s.2)))
-        (λ is back item. returned outer s.2 back (subst (IsItem app here.func here.item) is item)) step.2 step.1
-      where
-        returned : (outer : Position) → AreCallers here.func outer → GoesBack outer next → IsItem app here.func here.item op.Return → Walked next
-        returned [] c back item = absurd back
-        returned (caller ∷ outer) c back item =
-            subst Walked (sym back) (c.0.item.known, reaches_behind caller.func caller.item here.func here.item c.0.reached c.0.item s.1 item, c.1)
-
-    item_at : (f i : ℕ) → f < length app.funcs → ReachesItem app f i → IsItem app f i (operation app f i)
-    item_at f i known r = record { known = known; inside = reached_inside config app w f i known r; is = refl }
-
     -- consecutive raised positions, none but the last a Schedule
     spreads : (at : Position) (further : List Position) → AreConsecutive app (at ∷ further) → AllByRecursion IsRaisedAt (at ∷ further)
-        → OnlyLast app (stops kind) (at ∷ further) → Walked at → SpreadsAt at (sum_of weights (at ∷ further))
+        → OnlyLast app (stops kind) (at ∷ further) → Walked app t at → SpreadsAt at (sum_of weights (at ∷ further))
     spreads [] further c r u s = absurd s
     spreads (here ∷ outer) [] c r u s =
         stays here.func here.item (ending_weight weights here.func here.item) outer
-        (on_ends (L outer) here.func here.item (item_at here.func here.item s.0 s.1) (raised_here here.func here.item outer r.0))
+        (on_ends (L outer) here.func here.item (item_at config app w here.func here.item s.0 s.1) (raised_here here.func here.item outer r.0))
     spreads (here ∷ outer) (next ∷ further) c r u s =
         front (here ∷ outer) next (sum_of weights (next ∷ further)) r.0 (u.0 (λ e. cc)) c.0
-        (spreads next further c.1 r.1 u.1 (stands_on (here ∷ outer) next s c.0))
+        (spreads next further c.1 r.1 u.1 (stands_on config app w t (here ∷ outer) next s c.0))
 
     -- ---- up to the body of the task
 
     abbrev Whole : ℕ → Type 0
     Whole n = SumsWithin config app weights kind (L []) (body_of app.funcs t) n
 
-    climb_in : (f : ℕ) (outer : Position) (n : ℕ) → AreCallers f outer → SumsWithin config app weights kind (L outer) f n → Whole n
+    climb_in : (f : ℕ) (outer : Position) (n : ℕ) → AreCallers app t f outer → SumsWithin config app weights kind (L outer) f n → Whole n
     climb_in f [] n callers w = subst (λ g. SumsWithin config app weights kind (L []) g n) callers w
     climb_in f (caller ∷ outer) n callers w =
         climb_in caller.func outer n callers.1
         (within_called (L outer) caller.func caller.item f n callers.0 (subst (λ l. SumsWithin config app weights kind l f n) (level_called caller.func caller.item outer) w))
 
-    climb_out : (f : ℕ) (caller : Place) (outer : Position) (k m : ℕ) → AreCallers f (caller ∷ outer) → SumsOut config app weights kind (L (caller ∷ outer)) f k
+    climb_out : (f : ℕ) (caller : Place) (outer : Position) (k m : ℕ) → AreCallers app t f (caller ∷ outer) → SumsOut config app weights kind (L (caller ∷ outer)) f k
         → Spreads caller.func (caller.item + 1) outer m → Whole (k + m)
     climb_out f caller [] k m callers out on =
         climb_in caller.func [] (k + m) callers.1
@@ -189,7 +155,7 @@ module _ (config : Config) (app : App) (weights : List BodyWeights) (kind : Kind
     Begins [] = ⊥
     Begins (here ∷ outer) = MayBegin app kind here.func here.item
 
-    climb : (at : Position) (n : ℕ) → Walked at → Begins at → SpreadsAt at n → Whole n
+    climb : (at : Position) (n : ℕ) → Walked app t at → Begins at → SpreadsAt at n → Whole n
     climb [] n s may p = absurd s
     climb (here ∷ []) n s may on = climb_in here.func [] n s.2 (within_here (L []) here.func here.item n s.1 may on)
     climb (here ∷ caller ∷ outer) n s may (inl on) = climb_in here.func (caller ∷ outer) n s.2 (within_here (L (caller ∷ outer)) here.func here.item n s.1 may on)
@@ -197,46 +163,8 @@ module _ (config : Config) (app : App) (weights : List BodyWeights) (kind : Kind
         subst Whole (let e = p.4 in omega (arith, e))
         (climb_out here.func caller outer p.0 p.1 s.2 (out_here (L (caller ∷ outer)) here.func here.item p.0 s.1 may p.2) p.3)
 
-    -- ---- what is in front
-
-    nothing_there : (before : List Position) (at : Position) (further : List Position) → before ++ at ∷ further ≡ [] → ⊥
-    nothing_there [] at further e = cc
-    nothing_there (y ∷ before) at further e = cc
-
-    -- where positions stand behind others of a walk, the first of them stands too
-    first_stands : (before : List Position) (at : Position) (further : List Position) (first : Position) (rest : List Position)
-        → before ++ at ∷ further ≡ first ∷ rest → AreConsecutive app (first ∷ rest) → Walked first → Walked at × AreConsecutive app (at ∷ further)
-    first_stands [] at further first rest e c s =
-        let P : List Position → Type 0 = AreConsecutive app in
-        (subst Walked (sym (head_is at first further rest e)) s, subst P (sym e) c)
-      where
-        head_is : (a b : Position) (xs ys : List Position) → a ∷ xs ≡ b ∷ ys → a ≡ b
-        head_is a b xs ys e = cc
-    first_stands (x ∷ before) at further first [] e c s = absurd (nothing_there before at further (tail_is e))
-      where
-        tail_is : x ∷ (before ++ at ∷ further) ≡ first ∷ [] → before ++ at ∷ further ≡ []
-        tail_is e = cc
-    first_stands (x ∷ before) at further first (next ∷ rest) e c s =
-        first_stands before at further next rest (tail_is e) c.1 (stands_on first next s c.0)
-      where
-        tail_is : x ∷ (before ++ at ∷ further) ≡ first ∷ next ∷ rest → before ++ at ∷ further ≡ next ∷ rest
-        tail_is e = cc
-
-    -- a position of a walk stands where it leads
-    pub walked_to : t < length config.tasks → (before : List Position) (at : Position) (further : List Position) → IsWalk app t (before ++ at ∷ further)
-        → Walked at × AreConsecutive app (at ∷ further)
-    walked_to declared before at further is = by (before ++ at ∷ further) refl is
-      where
-        body : body_of app.funcs t < length app.funcs
-        body = (has_body config app w t declared).0
-
-        by : (walk : List Position) → before ++ at ∷ further ≡ walk → IsWalk app t walk → Walked at × AreConsecutive app (at ∷ further)
-        by [] e walk = absurd (nothing_there before at further e)
-        by (first ∷ rest) e walk =
-            first_stands before at further first rest e walk.1 (subst Walked (sym walk.0) (body, reaches_first (body_of app.funcs t), refl))
-
     -- behind a WaitEvent
-    begins_behind : (from at : Position) → Walked from → is_wait (operation_at app from) ≡ true → IsPositionStep app from at → AtWait at
+    begins_behind : (from at : Position) → Walked app t from → is_wait (operation_at app from) ≡ true → IsPositionStep app from at → AtWait at
     begins_behind [] at s e step = absurd s
     begins_behind (here ∷ outer) at s e step =
         leads_cases app step.0 here.func here.item outer at (λ o. IsItem app here.func here.item o → AtWait at)
@@ -255,12 +183,12 @@ module _ (config : Config) (app : App) (weights : List BodyWeights) (kind : Kind
     behind_wait declared before at further walk (front, from, is, e) =
         let P : List Position → Type 0 = λ b. IsWalk app t (b ++ at ∷ further) in
         let whole = subst (IsWalk app t) (append_assoc front (from ∷ []) (at ∷ further)) (subst P is walk) in
-        let found = walked_to declared front from (at ∷ further) whole in
+        let found = walked_to config app w t declared front from (at ∷ further) whole in
         begins_behind from at found.0 e found.1.0
 
     begins_at : t < length config.tasks → (k : Kind) → k ≡ kind → (before : List Position) (at : Position) (further : List Position) → IsWalk app t (before ++ at ∷ further)
         → MayFollow app k before → Begins at
-    begins_at declared k same before [] further walk may = absurd (walked_to declared before [] further walk).0
+    begins_at declared k same before [] further walk may = absurd (walked_to config app w t declared before [] further walk).0
     begins_at declared kinds.Turns same before (here ∷ outer) further walk may = absurd may
     begins_at declared kinds.Rounds same before (here ∷ outer) further walk may =
         subst (λ v. MayBegin app v here.func here.item) same (behind_wait declared before (here ∷ outer) further walk may)
@@ -276,7 +204,7 @@ module _ (config : Config) (app : App) (weights : List BodyWeights) (kind : Kind
     first_part declared at further is =
         let P : List Position → Type 0 = λ b. IsWalk app t (b ++ at ∷ further) in
         let walk : (at ≡ first_position app t) × AreConsecutive app (at ∷ further) = subst P is.begins is.of_walk in
-        let found = walked_to declared is.before at further is.of_walk in
+        let found = walked_to config app w t declared is.before at further is.of_walk in
         let Q : Position → Type 0 = λ p. SpreadsAt p (sum_of weights (at ∷ further)) in
         subst Q walk.0 (spreads at further walk.1 is.stands is.unbroken found.0)
 
@@ -284,6 +212,6 @@ module _ (config : Config) (app : App) (weights : List BodyWeights) (kind : Kind
     pub later_part : t < length config.tasks → (at : Position) (further : List Position) → IsPart app t (MayFollow app kind) IsRaisedAt (stops kind) (at ∷ further)
         → Whole (sum_of weights (at ∷ further))
     later_part declared at further is =
-        let found = walked_to declared is.before at further is.of_walk in
+        let found = walked_to config app w t declared is.before at further is.of_walk in
         climb at (sum_of weights (at ∷ further)) found.0 (begins_at declared kind refl is.before at further is.of_walk is.begins)
         (spreads at further found.1 is.stands is.unbroken found.0)

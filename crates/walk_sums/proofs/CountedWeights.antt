@@ -10,10 +10,10 @@ use Rattle.sloth_base.specs.declared.app.Op.TheVariants as op
 use Rattle.sloth_base.specs.Named.{function, operation, no_function, no_item, item_of}
 use Rattle.bound_rules.specs.declared.weights.BodyWeights.{BodyWeights}
 use Rattle.bound_rules.specs.Weights.{no_weights, going_weight, ending_weight}
-use Rattle.section_sizes.specs.Parts.{is_plain}
+use Rattle.walk_sums.specs.Activations.{is_plain}
 use Rattle.walk_sums.specs.declared.counted.Counted.{Counted}
 use Rattle.walk_sums.specs.declared.counted.Counted.TheVariants as counts
-use Rattle.walk_sums.specs.Weights.{AreSumWeights}
+use Rattle.walk_sums.specs.Weights.{AreWeights}
 use Rattle.walk_sums.specs.Counted.{CountsEnds, one_if, is_going_counted, is_ending_counted, body_counts, counted_weights}
 
 at_most_one : (b : Bool) → one_if b ≤ 1
@@ -94,7 +94,7 @@ module _ (c : Counted) where
   bodies_same (func ∷ funcs) zero i e = items_same func.items i e
   bodies_same (func ∷ funcs) (suc f) i e = bodies_same funcs f i e
 
-  pub counted_fit : (app : App) → AreSumWeights app (counted_weights c app)
+  pub counted_fit : (app : App) → AreWeights app (counted_weights c app)
   counted_fit app = record {
     count = length-map app.funcs (body_counts c);
     small = λ f i. let le = bodies_few app.funcs f i in omega (arith, le);
@@ -102,8 +102,8 @@ module _ (c : Counted) where
     same = λ f i e. bodies_same app.funcs f i e;
   }
 
-  pub list_fits : (app : App) (weights : List BodyWeights) → weights ≡ counted_weights c app → AreSumWeights app weights
-  list_fits app weights e = subst (AreSumWeights app) (sym e) (counted_fit app)
+  pub list_fits : (app : App) (weights : List BodyWeights) → weights ≡ counted_weights c app → AreWeights app weights
+  list_fits app weights e = subst (AreWeights app) (sym e) (counted_fit app)
 
   -- what an item of the code weighs where a walk ends with it
   pub ending_is : (app : App) (f i : ℕ) → f < length app.funcs → i < length (function app f).items

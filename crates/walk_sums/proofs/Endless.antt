@@ -5,9 +5,9 @@ use Rattle.sloth_base.specs.declared.app.App.{App}
 use Rattle.sloth_base.specs.Named.{function, operation}
 use Rattle.bound_rules.specs.declared.weights.BodyWeights.{BodyWeights}
 use Rattle.bound_rules.specs.Weights.{going_weight, ending_weight}
-use Rattle.section_sizes.specs.Parts.{is_plain}
-use Rattle.section_sizes.specs.Loops.{HasWeighingLoop}
-use Rattle.section_sizes.specs.Trails.{IsTrail, last_of}
+use Rattle.walk_sums.specs.Activations.{is_plain}
+use Rattle.walk_sums.specs.Loops.{HasWeighingLoop}
+use Rattle.walk_sums.specs.Trails.{IsTrail, last_of}
 use Rattle.walk_sums.specs.declared.kinds.Kind.{Kind}
 use Rattle.walk_sums.specs.Parts.{SumsOn, on_ends, on_inside, on_passes}
 use Rattle.walk_sums.specs.Computed.{going_size}

@@ -6,22 +6,21 @@ use Rattle.sloth_base.specs.declared.app.Func.{Func}
 use Rattle.sloth_base.specs.Named.{function, item_of}
 use Rattle.sloth_base.specs.Limits.{size_limit}
 use Rattle.body_faults.specs.Ways.{HasBodyLabel}
-use Rattle.section_sizes.specs.declared.graph.Ways.{Ways}
+use Rattle.walk_sums.specs.declared.graph.Ways.{Ways}
 use Rattle.bound_rules.specs.declared.bodies.Body.{Body}
 use Rattle.bound_rules.specs.declared.sizes.Summary.{Summary}
 use Rattle.bound_rules.specs.declared.weights.BodyWeights.{BodyWeights}
 use Rattle.bound_rules.specs.Weights.{no_weights}
 use Rattle.bound_rules.specs.Summaries.{IsCountedUp}
-use Rattle.section_sizes.specs.Graph.{AreInside}
-use Rattle.section_sizes.specs.Loops.{HasWeighingLoop}
-use Rattle.section_sizes.specs.Trails.{IsLongest, AreSizesInLimit}
-use Rattle.section_sizes.specs.Computed.{known_body_of, calls_endless}
-use Rattle.section_sizes.proofs.Bodily.{facts_of, labels_lead}
+use Rattle.walk_sums.specs.Graph.{AreInside}
+use Rattle.walk_sums.specs.Loops.{HasWeighingLoop}
+use Rattle.walk_sums.specs.Trails.{IsLongest, AreSizesInLimit}
+use Rattle.walk_sums.specs.Computed.{known_body_of, calls_endless, going_size, ending_size, leaving_size, most_of, out_of, summary_by}
+use Rattle.walk_sums.proofs.Bodily.{facts_of, labels_lead}
 use Rattle.walk_sums.specs.declared.kinds.Kind.{Kind}
 use Rattle.walk_sums.specs.declared.paths.Paths.{Paths}
 use Rattle.walk_sums.specs.declared.paths.TrailSizes.{TrailSizes}
-use Rattle.walk_sums.specs.Weights.{AreSumWeights}
-use Rattle.walk_sums.specs.Computed.{going_size, ending_size, leaving_size, most_of, out_of, summary_by}
+use Rattle.walk_sums.specs.Weights.{AreWeights}
 use Rattle.walk_sums.specs.Known.{IsExact, IsEndless, IsBefore}
 use Rattle.walk_sums.specs.Lists.{AreBodyWays, ArePaths, AreTrailSizes}
 use Rattle.walk_sums.proofs.Leading.{inside}
@@ -179,7 +178,7 @@ exact_small config app weights kind level f s x = record {
 }
 
 -- the weights of a body are small
-module _ (app : App) (weights : List BodyWeights) (fit : AreSumWeights app weights) (f : ℕ) (own : BodyWeights) (is : own ≡ get_or weights f no_weights) where
+module _ (app : App) (weights : List BodyWeights) (fit : AreWeights app weights) (f : ℕ) (own : BodyWeights) (is : own ≡ get_or weights f no_weights) where
   pub going_small : AreSizesInLimit own.going
   going_small i =
       subst (λ (b : BodyWeights). get_or b.going i 0 ≤ size_limit) (sym is)

@@ -7,10 +7,10 @@ use Rattle.sloth_base.specs.declared.app.Op.{Op}
 use Rattle.sloth_base.specs.declared.app.Op.TheVariants as op
 use Rattle.sloth_base.specs.Named.{item_of, label_of}
 use Rattle.code_rules.specs.Code.{is_followed, way}
-use Rattle.section_sizes.specs.declared.graph.Ways.{Ways}
-use Rattle.section_sizes.specs.Graph.{ways_of, HasWay, AreInside, no_ways}
-use Rattle.section_sizes.specs.Parts.{is_plain}
-use Rattle.section_sizes.specs.Computed.{open_way, goes_past, next_way, label_way, item_ways}
+use Rattle.walk_sums.specs.declared.graph.Ways.{Ways}
+use Rattle.walk_sums.specs.Graph.{ways_of, HasWay, AreInside, no_ways}
+use Rattle.walk_sums.specs.Activations.{is_plain}
+use Rattle.walk_sums.specs.Links.{open_way, goes_past, next_way, label_way, item_ways}
 
 -- ---- operations
 

@@ -1,9 +1,23 @@
-mod Members
+mod Unseen
+mod Diving
+mod Lengths
+mod Ordering
 mod Ordered
+mod Spreading
+mod Settling
+mod Ranking
+mod CallOrdering
+mod Leading
+pub mod Reached
+pub mod Bodily
+pub mod Counting
+mod Looping
+mod Ranked
 mod Shaped
 mod Stopping
-mod Leading
-mod Looping
+pub mod LevelsAt
+pub mod Standing
+mod KnownRaised
 mod Beginning
 mod Measured
 mod Covering
@@ -16,9 +30,13 @@ mod OrderSummaries
 mod Summaries
 mod Climbing
 mod Walking
+mod ItemWeights
 mod CountedWeights
 mod LowerLevels
 mod Telling
+pub mod Greatest
+pub mod OneTold
+pub mod ItemSums
 mod Clearing
 mod CleanTasks
 mod Reaching

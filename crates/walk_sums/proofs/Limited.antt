@@ -11,12 +11,12 @@ use Rattle.call_graph.specs.Tables.{sum_below}
 use Rattle.bound_rules.specs.declared.weights.BodyWeights.{BodyWeights}
 use Rattle.bound_rules.specs.Weights.{going_weight, joined}
 use Rattle.bound_rules.specs.Summaries.{summary_of}
-use Rattle.section_sizes.specs.declared.graph.Ways.{Ways}
-use Rattle.section_sizes.specs.Loops.{HasWeighingLoop}
-use Rattle.section_sizes.specs.Trails.{IsTrail}
-use Rattle.section_sizes.specs.Parts.{is_plain, level_behind, ReachesItem, reaches_first, reaches_inside, ReachesCall, IsRaisedCall}
+use Rattle.walk_sums.specs.declared.graph.Ways.{Ways}
+use Rattle.walk_sums.specs.Loops.{HasWeighingLoop}
+use Rattle.walk_sums.specs.Trails.{IsTrail}
+use Rattle.walk_sums.specs.Activations.{is_plain, level_behind, ReachesItem, reaches_first, reaches_inside, ReachesCall, IsRaisedCall}
 use Rattle.walk_sums.specs.declared.kinds.Kind.{Kind}
-use Rattle.walk_sums.specs.Weights.{AreSumWeights}
+use Rattle.walk_sums.specs.Weights.{AreWeights}
 use Rattle.walk_sums.specs.Parts.{SumsBack, SumsOn, SumsOut, SumsWithin, on_ends, on_inside, on_enters, on_passes, out_here, out_behind, within_here, within_called, within_behind}
 use Rattle.walk_sums.specs.Computed.{going_size}
 use Rattle.walk_sums.specs.Known.{HasLimit}
@@ -61,7 +61,7 @@ pub record CalledLimit (config : Config) (app : App) (weights : List BodyWeights
   pub out : (i g n : ℕ) → ReachesCall app f i g → SumsOut config app weights kind (level_behind config app level f i) g n → n ≤ limit
 
 module _ (config : Config) (app : App) (weights : List BodyWeights) (kind : Kind) where
-  going_small : AreSumWeights app weights → (f i : ℕ) → going_weight weights f i ≤ size_limit
+  going_small : AreWeights app weights → (f i : ℕ) → going_weight weights f i ≤ size_limit
   going_small fit f i = let small = fit.small f i in let no_lighter = fit.no_lighter f i in omega (arith, small, no_lighter)
 
   -- no part weighs more than the nodes of a trail, with a limit of what is called

@@ -4,11 +4,11 @@ use Rattle.std.specs.Prelude.{◌==◌}
 use Rattle.std.proofs.lemmas.Bool.{cases_eq, cases_lt, eq-eqb, ne_eqb}
 use Rattle.std.proofs.lemmas.List.{get_or_past}
 use Rattle.call_graph.specs.Tables.{sum_below}
-use Rattle.section_sizes.specs.declared.graph.Ways.{Ways}
-use Rattle.section_sizes.specs.Graph.{no_ways, ways_of, HasWay}
-use Rattle.section_sizes.specs.Search.{IsReachable, reachable_first, reachable_on}
-use Rattle.section_sizes.specs.Trails.{IsTrail, last_of}
-use Rattle.section_sizes.specs.Loops.{IsWeighingLoop, HasWeighingLoop}
+use Rattle.walk_sums.specs.declared.graph.Ways.{Ways}
+use Rattle.walk_sums.specs.Graph.{no_ways, ways_of, HasWay}
+use Rattle.walk_sums.specs.Search.{IsReachable, reachable_first, reachable_on}
+use Rattle.walk_sums.specs.Trails.{IsTrail, last_of}
+use Rattle.walk_sums.specs.Loops.{IsWeighingLoop, HasWeighingLoop}
 
 -- what the nodes of a trail weigh that it goes on from
 abbrev pub steps_along : (steps : List ℕ) → ℕ → List ℕ → ℕ
@@ -117,7 +117,7 @@ no_greater f g le zero = omega arith
 no_greater f g le (suc n) = let more = no_greater f g le n in let last = le n in omega (arith, more, last)
 
 module _ (ways : List Ways) where
-  way_inside : (i j : ℕ) → HasWay ways i j → i < length ways
+  pub way_inside : (i j : ℕ) → HasWay ways i j → i < length ways
   way_inside i j goes = ⊎_elim (λ lt. lt) (λ le. absurd (none (get_or_past ways i no_ways le) goes)) (cases_lt i (length ways))
     where
       none : ways_of ways i ≡ no_ways → HasWay ways i j → ⊥

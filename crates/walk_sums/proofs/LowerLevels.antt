@@ -8,8 +8,8 @@ use Rattle.sloth_base.specs.Named.{declaration}
 use Rattle.osek_scheduler.specs.Priority.{greatest, highest_priority}
 use Rattle.osek_scheduler.specs.Apart.{static_priority}
 use Rattle.raised_sections.specs.Sections.{IsLower}
-use Rattle.section_sizes.specs.Parts.{called_level}
-use Rattle.section_sizes.proofs.Decomposed.{L}
+use Rattle.walk_sums.specs.Activations.{called_level}
+use Rattle.walk_sums.proofs.LevelsAt.{L}
 
 -- one of the tasks is no higher than the highest
 at_most_highest : (tasks : List TaskDecl) (h : ℕ) (d : TaskDecl) → h < length tasks → (get_or tasks h d).priority ≤ greatest (map (λ d. d.priority) tasks)

@@ -11,25 +11,25 @@ use Rattle.sloth_base.specs.Limits.{size_limit}
 use Rattle.code_rules.specs.Code.{IsItem, IsPathStep}
 use Rattle.osek_scheduler.proofs.Facts.{Facts}
 use Rattle.raised_sections.specs.Walks.{chains_itself}
-use Rattle.section_sizes.specs.declared.graph.Ways.{Ways}
+use Rattle.walk_sums.specs.declared.graph.Ways.{Ways}
 use Rattle.bound_rules.specs.declared.bodies.Body.{Body}
 use Rattle.bound_rules.specs.declared.sizes.Summary.{Summary}
-use Rattle.section_sizes.specs.Graph.{ways_of, HasWay, AreInside}
-use Rattle.section_sizes.specs.Loops.{HasWeighingLoop}
-use Rattle.section_sizes.specs.Trails.{size_of_trail, IsEnded, IsLongest}
-use Rattle.section_sizes.specs.Parts.{is_raised, is_plain, ReachesItem, CanReturn, reaches_first, reaches_inside, reaches_behind, IsRaisedCall, ReachesCall, level_behind}
+use Rattle.walk_sums.specs.Graph.{ways_of, HasWay, AreInside}
+use Rattle.walk_sums.specs.Loops.{HasWeighingLoop}
+use Rattle.walk_sums.specs.Trails.{size_of_trail, IsEnded, IsLongest}
+use Rattle.walk_sums.specs.Activations.{is_raised, is_plain, ReachesItem, CanReturn, reaches_first, reaches_inside, reaches_behind, IsRaisedCall, ReachesCall, level_behind}
 use Rattle.bound_rules.specs.Items.{reaches_level}
-use Rattle.section_sizes.specs.Computed.{goes_past, item_ways, is_passed, is_alive}
+use Rattle.walk_sums.specs.Links.{goes_past, item_ways}
+use Rattle.walk_sums.specs.Computed.{is_passed, is_alive, going_size, ending_size, leaving_size}
 use Rattle.bound_rules.specs.declared.weights.BodyWeights.{BodyWeights}
 use Rattle.bound_rules.specs.Weights.{going_weight, ending_weight, joined}
 use Rattle.bound_rules.specs.Summaries.{summary_of}
-use Rattle.section_sizes.specs.Known.{IsKnownBody}
-use Rattle.section_sizes.proofs.Reaching.{step_of, not_true}
+use Rattle.walk_sums.specs.KnownBodies.{IsKnownBody}
+use Rattle.walk_sums.proofs.Reached.{step_of, not_true}
 use Rattle.walk_sums.specs.declared.kinds.Kind.{Kind}
 use Rattle.walk_sums.specs.Kinds.{stops, is_going}
-use Rattle.walk_sums.specs.Weights.{AreSumWeights}
+use Rattle.walk_sums.specs.Weights.{AreWeights}
 use Rattle.walk_sums.specs.Parts.{IsOpenStep, SumsBack, SumsOn, SumsOut, back_returns, back_inside, back_passes, on_ends, on_inside, on_enters, on_passes, out_here, out_behind}
-use Rattle.walk_sums.specs.Computed.{going_size, ending_size, leaving_size}
 use Rattle.walk_sums.specs.Known.{IsGreatestPart}
 use Rattle.walk_sums.proofs.Stopping.{call_free}
 use Rattle.walk_sums.proofs.Leading.{past_cases, plain_past, way_plain, LeadsOn, Led, led, leads, inside}
@@ -65,7 +65,7 @@ module _ (config : Config) (app : App) (weights : List BodyWeights) (kind : Kind
       back_returned l a (k + 1) q further (reaches_behind a k g ret.0 r e.item ret.1 ret.2)
 
   -- it is a part that stays inside, too
-  pub back_on : AreSumWeights app weights → (level : Option ℕ) (f i n : ℕ) → SumsBack config app weights kind level f i n → SumsOn config app weights kind level f i n
+  pub back_on : AreWeights app weights → (level : Option ℕ) (f i n : ℕ) → SumsBack config app weights kind level f i n → SumsOn config app weights kind level f i n
   back_on fit level f i n (back_returns l g k item raised) =
       subst (SumsOn config app weights kind l g k) (fit.same g k (ap is_plain item.is)) (on_ends l g k (itself g k op.Return item) raised)
   back_on fit level f i n (back_inside l g k j m p further) = on_inside l g k j m p (back_on fit l g j m further)
@@ -113,7 +113,7 @@ going ways steps ends i j u v g a b pos =
 -- what is computed of a body, and what is known of the functions that it calls
 pub record Measures (config : Config) (app : App) (weights : List BodyWeights) (kind : Kind) (level : Option ℕ) (f : ℕ) : Type 0 where
   pub facts : Facts config app
-  pub fit : AreSumWeights app weights
+  pub fit : AreWeights app weights
   pub known : f < length app.funcs
   pub body : Body
   pub is_body : IsKnownBody config app f body

@@ -1,13 +1,13 @@
 -- Where nodes stand in an order, none leads back to itself.
-use Rattle.std.proofs.Common.{◌≡◌, ℕ, zero, suc, ◌<◌, ◌≤◌, ◌⊎◌, inl, inr, Bool, true, false, ◌||◌, List, [], ◌∷◌, length, get_or, take, cond, None, Some, refl, ap, sym, ◌∙◌, subst, arith, ⊎_elim}
+use Rattle.std.proofs.Common.{◌≡◌, ℕ, zero, suc, ◌<◌, ◌≤◌, Bool, true, false, ◌||◌, List, [], ◌∷◌, length, get_or, take, cond, refl, sym, subst, arith}
 use Rattle.std.specs.Prelude.{◌==◌}
-use Rattle.std.proofs.lemmas.Bool.{cases_lt, eqb-true, false≢true}
-use Rattle.std.proofs.lemmas.List.{get_or_past}
+use Rattle.std.proofs.lemmas.Bool.{eqb-true, false≢true}
 use Rattle.code_rules.specs.Code.{is_in}
-use Rattle.section_sizes.specs.declared.graph.Ways.{Ways}
-use Rattle.section_sizes.specs.Graph.{no_ways, ways_of, HasWay, IsOrder}
-use Rattle.section_sizes.specs.Search.{IsReachable, reachable_first, reachable_on}
-use Rattle.section_sizes.specs.Loops.{HasWeighingLoop}
+use Rattle.walk_sums.specs.declared.graph.Ways.{Ways}
+use Rattle.walk_sums.specs.Graph.{HasWay, IsOrder}
+use Rattle.walk_sums.specs.Search.{IsReachable, reachable_first, reachable_on}
+use Rattle.walk_sums.specs.Loops.{HasWeighingLoop}
+use Rattle.walk_sums.proofs.Looping.{way_inside}
 
 -- the place of a number in a list
 abbrev place : ℕ → List ℕ → ℕ
@@ -36,17 +36,10 @@ at_place i (x ∷ xs) h = by (x == i) refl h (at_place i xs)
     by false e h again = let f = again h in let lt = f.0 in (omega (arith, lt), f.1)
 
 module _ (ways : List Ways) (order : List ℕ) (o : IsOrder ways order) where
-  way_inside : (i j : ℕ) → HasWay ways i j → i < length ways
-  way_inside i j goes = ⊎_elim (λ lt. lt) (λ le. absurd (none (get_or_past ways i no_ways le) goes)) (cases_lt i (length ways))
-    where
-      none : ways_of ways i ≡ no_ways → HasWay ways i j → ⊥
-      none e (inl is) = let n : None ≡ Some j = sym (ap (λ (w : Ways). w.next) e) ∙ is in absurd cc
-      none e (inr is) = let n : None ≡ Some j = sym (ap (λ (w : Ways). w.jump) e) ∙ is in absurd cc
-
   -- each way leads to an earlier place
   earlier : (i j : ℕ) → HasWay ways i j → place j order < place i order
   earlier i j g =
-      let f = at_place i order (o.all i (way_inside i j g)) in
+      let f = at_place i order (o.all i (way_inside ways i j g)) in
       front_place j order (place i order) (o.behind (place i order) j f.0 (subst (λ v. HasWay ways v j) (sym f.1) g))
 
   no_later : (i j : ℕ) → IsReachable ways i j → place j order ≤ place i order

@@ -15,8 +15,8 @@ use Rattle.raised_sections.specs.Sections.{operation_at}
 use Rattle.bound_rules.specs.declared.sizes.Summary.{Summary}
 use Rattle.bound_rules.specs.declared.weights.BodyWeights.{BodyWeights}
 use Rattle.bound_rules.specs.Summaries.{summary_of}
-use Rattle.section_sizes.specs.Weights.{ending_at, sum_of}
-use Rattle.section_sizes.proofs.Reaching.{reached_inside}
+use Rattle.walk_sums.specs.Weights.{ending_at, sum_of}
+use Rattle.walk_sums.proofs.Reached.{reached_inside}
 use Rattle.walk_sums.specs.declared.kinds.Kind.TheVariants as kinds
 use Rattle.walk_sums.specs.declared.counted.Counted.{Counted}
 use Rattle.walk_sums.specs.Rounds.{Anywhere, IsTurn, Reaches}
@@ -26,7 +26,7 @@ use Rattle.walk_sums.specs.Known.{IsExact, IsEndless, AreSums}
 use Rattle.walk_sums.specs.Clears.{ReachesCounted}
 use Rattle.walk_sums.proofs.CountedWeights.{counted_fit, ending_is, ends_weightless}
 use Rattle.walk_sums.proofs.Covering.{any_little}
-use Rattle.walk_sums.proofs.Climbing.{walked_to}
+use Rattle.walk_sums.proofs.Standing.{walked_to}
 use Rattle.walk_sums.proofs.Clearing.{split, only_last, sum_is, anywhere}
 use Rattle.walk_sums.proofs.Telling.{AreParts, first_parts, all_stand}
 
@@ -44,9 +44,9 @@ module _ (c : Counted) (ends : CountsEnds c) (config : Config) (app : App) (w : 
 
   last_is : (before : List Position) (at : Position) → IsWalk app t (before ++ at ∷ []) → ending_at weights at ≡ one_if (is_ending_counted c (operation_at app at))
   last_is before [] walk =
-      absurd (walked_to config app weights kinds.Turns t (λ outer. None) Anywhere (all_stand config app) w declared before [] [] walk).0
+      absurd (walked_to config app w t declared before [] [] walk).0
   last_is before (here ∷ outer) walk =
-      let s = (walked_to config app weights kinds.Turns t (λ outer. None) Anywhere (all_stand config app) w declared before (here ∷ outer) [] walk).0 in
+      let s = (walked_to config app w t declared before (here ∷ outer) [] walk).0 in
       ending_is c app here.func here.item s.0 (reached_inside config app w here.func here.item s.0 s.1)
 
   -- what counts, and a walk reaches it, weighs something

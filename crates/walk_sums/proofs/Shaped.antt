@@ -1,8 +1,8 @@
 -- What the shape of the ways tells.
 use Rattle.std.proofs.Common.{◌≡◌, ℕ, true, false, List}
 use Rattle.std.proofs.lemmas.Bool.{false≢true, true≢false}
-use Rattle.section_sizes.specs.declared.graph.Ways.{Ways}
-use Rattle.section_sizes.specs.Loops.{HasWeighingLoop}
+use Rattle.walk_sums.specs.declared.graph.Ways.{Ways}
+use Rattle.walk_sums.specs.Loops.{HasWeighingLoop}
 use Rattle.walk_sums.specs.declared.shape.Shape.{Shape}
 use Rattle.walk_sums.specs.declared.shape.Shape.TheVariants as shapes
 use Rattle.walk_sums.specs.Shapes.{IsShape, HasOrder, is_endless}

@@ -8,7 +8,7 @@ use Rattle.sloth_base.specs.Named.{body_of, declaration}
 use Rattle.code_rules.specs.WellFormed.{WellFormed}
 use Rattle.bound_rules.specs.declared.sizes.Summary.{Summary}
 use Rattle.bound_rules.specs.Summaries.{summary_of}
-use Rattle.section_sizes.proofs.Bodily.{facts_of}
+use Rattle.walk_sums.proofs.Bodily.{facts_of}
 use Rattle.walk_sums.specs.declared.kinds.Kind.TheVariants as kinds
 use Rattle.walk_sums.specs.declared.counted.Counted.{Counted}
 use Rattle.walk_sums.specs.declared.counted.Counted.TheVariants as counts

@@ -6,16 +6,16 @@ use Rattle.sloth_base.specs.declared.config.Config.{Config}
 use Rattle.sloth_base.specs.declared.app.App.{App}
 use Rattle.code_rules.specs.Code.{HasCall, is_in}
 use Rattle.code_rules.specs.WellFormed.{WellFormed}
-use Rattle.section_sizes.proofs.Bodily.{facts_of}
-use Rattle.section_sizes.proofs.Reaching.{called_known}
+use Rattle.walk_sums.proofs.Bodily.{facts_of}
+use Rattle.walk_sums.proofs.Reached.{called_known}
 use Rattle.bound_rules.specs.declared.sizes.Summary.{Summary}
 use Rattle.bound_rules.specs.declared.weights.BodyWeights.{BodyWeights}
-use Rattle.section_sizes.specs.CallOrder.{IsCallOrder}
+use Rattle.walk_sums.specs.CallOrder.{IsCallOrder}
 use Rattle.bound_rules.specs.Summaries.{summary_of, unknown, IsCountedUp}
 use Rattle.walk_sums.specs.declared.kinds.Kind.{Kind}
 use Rattle.walk_sums.specs.Known.{IsSummary, AreSums}
 use Rattle.walk_sums.proofs.OrderSummaries.{AreSummariesOf}
-use Rattle.walk_sums.proofs.Members.{member, one_more}
+use Rattle.walk_sums.proofs.Ordering.{member, one_more}
 
 unknown_small : IsCountedUp unknown
 unknown_small = record { on = omega arith; back = omega arith; most = omega arith; out = omega arith }

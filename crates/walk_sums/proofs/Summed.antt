@@ -17,15 +17,14 @@ use Rattle.bound_rules.specs.Items.{reaches_level}
 use Rattle.bound_rules.specs.declared.weights.BodyWeights.{BodyWeights}
 use Rattle.bound_rules.specs.Weights.{joined}
 use Rattle.bound_rules.specs.Summaries.{summary_of}
-use Rattle.section_sizes.specs.Parts.{is_raised, called_level, level_behind, ReachesItem, reaches_first, ReachesCall, IsRaisedCall}
-use Rattle.section_sizes.specs.Computed.{KnownBody, known_body_of, callee, endless_call, calls_endless}
-use Rattle.section_sizes.specs.Known.{IsKnownBody}
-use Rattle.section_sizes.proofs.KnownRaised.{known_raised}
-use Rattle.section_sizes.proofs.Counting.{any_is, none_is}
+use Rattle.walk_sums.specs.Activations.{is_raised, called_level, level_behind, ReachesItem, reaches_first, ReachesCall, IsRaisedCall}
+use Rattle.walk_sums.specs.Computed.{KnownBody, known_body_of, callee, endless_call, calls_endless, begun, called_most, most_at, most_of, joined_both, called_out, out_at, out_of}
+use Rattle.walk_sums.specs.KnownBodies.{IsKnownBody}
+use Rattle.walk_sums.proofs.KnownRaised.{known_raised}
+use Rattle.walk_sums.proofs.Counting.{any_is, none_is}
 use Rattle.walk_sums.specs.declared.kinds.Kind.{Kind}
 use Rattle.walk_sums.specs.Kinds.{MayBegin, may_begin}
 use Rattle.walk_sums.specs.Parts.{SumsBack, SumsOn, SumsOut, SumsWithin, out_here, out_behind, within_here, within_called, within_behind}
-use Rattle.walk_sums.specs.Computed.{begun, called_most, most_at, most_of, joined_both, called_out, out_at, out_of}
 use Rattle.walk_sums.specs.Known.{IsGreatestPart, HasLimit, IsExact, IsEndless, IsSummary, IsSummed}
 use Rattle.walk_sums.proofs.Beginning.{begins_there, begins_marked}
 use Rattle.walk_sums.proofs.Covering.{covered_call}

@@ -14,23 +14,22 @@ use Rattle.osek_scheduler.specs.Apart.{static_priority}
 use Rattle.osek_scheduler.proofs.Facts.{Facts}
 use Rattle.osek_scheduler.proofs.Stacks.{has_body}
 use Rattle.raised_sections.specs.Walks.{Position, place}
-use Rattle.raised_sections.specs.Sections.{priority_at, is_schedule, IsLower}
+use Rattle.raised_sections.specs.Sections.{priority_at, is_schedule, OnlyLastSchedules, IsSection, IsLower}
 use Rattle.bound_rules.specs.declared.sizes.Summary.{Summary}
 use Rattle.bound_rules.specs.declared.weights.BodyWeights.{BodyWeights}
 use Rattle.bound_rules.specs.Summaries.{summary_of}
 use Rattle.bound_rules.specs.Tasks.{task_summary}
-use Rattle.section_sizes.specs.Weights.{sum_of}
-use Rattle.section_sizes.proofs.Decomposed.{L, level_raised, level_called}
+use Rattle.walk_sums.specs.Weights.{sum_of, AreWeights}
+use Rattle.walk_sums.proofs.LevelsAt.{L, level_raised, level_called}
 use Rattle.walk_sums.proofs.LowerLevels.{level_is}
 use Rattle.walk_sums.specs.declared.kinds.Kind.{Kind}
 use Rattle.walk_sums.specs.declared.kinds.Kind.TheVariants as kinds
 use Rattle.walk_sums.specs.declared.sum.Sum.TheVariants as sum
-use Rattle.walk_sums.specs.Rounds.{IsPart, IsFirst, Anywhere, IsTurn}
+use Rattle.walk_sums.specs.Rounds.{OnlyLast, IsPart, IsFirst, Anywhere, IsTurn}
 use Rattle.walk_sums.specs.Kinds.{stops, MayFollow}
-use Rattle.walk_sums.specs.Weights.{AreSumWeights}
 use Rattle.walk_sums.specs.Parts.{SumsOn, SumsWithin}
 use Rattle.walk_sums.specs.Known.{IsGreatestPart, IsExact, IsEndless, IsSummary, AreSums}
-use Rattle.walk_sums.specs.Told.{NoneIsAbove, SomeReaches, ReachesLimit, IsToldSum, AreToldSums, are_limited, are_endless, AreToldRounds, IsRaisedPart, told, told_rounds, told_turn, told_section}
+use Rattle.walk_sums.specs.Told.{NoneIsAbove, SomeReaches, ReachesLimit, IsToldSum, AreToldBoth, are_limited, are_endless, AreToldRounds, told, told_rounds, told_turn, told_section}
 use Rattle.walk_sums.proofs.Climbing.{IsStanding, first_part, later_part}
 use Rattle.walk_sums.proofs.Walking.{first_within, later_within}
 
@@ -110,7 +109,7 @@ told_limited size e = by (leb size count_limit) e
 
 -- ---- tasks
 
-module _ (config : Config) (app : App) (w : Facts config app) (weights : List BodyWeights) (fit : AreSumWeights app weights) (kind : Kind) (t : ℕ) (declared : t < length config.tasks)
+module _ (config : Config) (app : App) (w : Facts config app) (weights : List BodyWeights) (fit : AreWeights app weights) (kind : Kind) (t : ℕ) (declared : t < length config.tasks)
     (Level : Position → Option ℕ) (Stands : Position → Type 0) (standing : IsStanding config app Level Stands) where
   pub first_parts : AreParts (IsPart app t IsFirst Stands (stops kind)) weights (SumsOn config app weights kind (Level []) (body_of app.funcs t) 0)
   first_parts = record {
@@ -128,11 +127,11 @@ module _ (config : Config) (app : App) (w : Facts config app) (weights : List Bo
 both_told : (First Later : List Position → Type 0) (config : Config) (app : App) (weights : List BodyWeights) (kind : Kind) (level : Option ℕ) (f : ℕ)
     → AreParts First weights (SumsOn config app weights kind level f 0) → AreParts Later weights (SumsWithin config app weights kind level f) → (s : Summary)
     → IsSummary config app weights kind level f s
-    → AreToldSums First Later weights (cond s.is_endless (record { first = sum.Endless; later = sum.Endless }) (record { first = told s.on; later = told s.most }))
+    → AreToldBoth First Later weights (cond s.is_endless (record { first = sum.Endless; later = sum.Endless }) (record { first = told s.on; later = told s.most }))
 both_told First Later config app weights kind level f first later s is = by s.is_endless is
   where
     by : (b : Bool) → MatchBool b (IsEndless config app weights kind level f) (IsExact config app weights kind level f s)
-        → AreToldSums First Later weights (cond b (record { first = sum.Endless; later = sum.Endless }) (record { first = told s.on; later = told s.most }))
+        → AreToldBoth First Later weights (cond b (record { first = sum.Endless; later = sum.Endless }) (record { first = told s.on; later = told s.most }))
     by true e = are_endless (λ n. some n (e n))
       where
         some : (n : ℕ) → (k : ℕ) × (SumsOn config app weights kind level f 0 k ⊎ SumsWithin config app weights kind level f k) × (n ≤ k) → SomeReaches First weights n ⊎ SomeReaches Later weights n
@@ -142,7 +141,7 @@ both_told First Later config app weights kind level f first later s is = by s.is
         (told_part First weights (SumsOn config app weights kind level f 0) first s.on x.limited.limit x.on x.limited.on)
         (told_part Later weights (SumsWithin config app weights kind level f) later s.most x.limited.limit x.most x.limited.most)
 
-module _ (config : Config) (app : App) (w : Facts config app) (weights : List BodyWeights) (fit : AreSumWeights app weights) (table : List Summary) (t : ℕ) (declared : t < length config.tasks) where
+module _ (config : Config) (app : App) (w : Facts config app) (weights : List BodyWeights) (fit : AreWeights app weights) (table : List Summary) (t : ℕ) (declared : t < length config.tasks) where
   -- of the rounds of a task
   pub rounds_told : AreSums config app weights kinds.Rounds None table → AreToldRounds app t weights (told_rounds app.funcs table t)
   rounds_told are =
@@ -178,8 +177,18 @@ module _ (config : Config) (app : App) (w : Facts config app) (weights : List Bo
       by false x = told_part (IsTurn app t) weights (SumsOn config app weights kinds.Turns None (body_of app.funcs t) 0) parts
           (summary_of table (body_of app.funcs t)).on x.limited.limit x.on x.limited.on
 
+-- ---- sections
+
+only_schedules : (app : App) (positions : List Position) → OnlyLast app is_schedule positions → OnlyLastSchedules app positions
+only_schedules app [] u = tt
+only_schedules app (at ∷ further) u = (u.0, only_schedules app further u.1)
+
+schedules_only : (app : App) (positions : List Position) → OnlyLastSchedules app positions → OnlyLast app is_schedule positions
+schedules_only app [] u = tt
+schedules_only app (at ∷ further) u = (u.0, schedules_only app further u.1)
+
 -- of the sections of a lower task
-module _ (config : Config) (app : App) (w : Facts config app) (weights : List BodyWeights) (fit : AreSumWeights app weights) (h : ℕ) (there : h < length config.tasks)
+module _ (config : Config) (app : App) (w : Facts config app) (weights : List BodyWeights) (fit : AreWeights app weights) (h : ℕ) (there : h < length config.tasks)
     (whole own : List Summary) (whole_is : AreSums config app weights kinds.Sections None whole) (own_is : AreSums config app weights kinds.Sections (Some (static_priority config h)) own)
     (t : ℕ) (low : IsLower config h t) where
   abbrev S : Summary
@@ -199,21 +208,31 @@ module _ (config : Config) (app : App) (w : Facts config app) (weights : List Bo
   first : AreParts (IsPart app t IsFirst (λ at. static_priority config h ≤ priority_at config app t at) is_schedule) weights (SumsOn config app weights kinds.Sections (L config app h t []) (body_of app.funcs t) 0)
   first = first_parts config app w weights fit kinds.Sections t low.0 (L config app h t) (λ at. static_priority config h ≤ priority_at config app t at) (raised_stand config app h t)
 
-  later : AreParts (IsRaisedPart config app h t) weights (SumsWithin config app weights kinds.Sections (L config app h t []) (body_of app.funcs t))
-  later = later_parts config app w weights fit kinds.Sections t low.0 (L config app h t) (λ at. static_priority config h ≤ priority_at config app t at) (raised_stand config app h t)
+  within : AreParts (IsPart app t Anywhere (λ at. static_priority config h ≤ priority_at config app t at) is_schedule) weights
+      (SumsWithin config app weights kinds.Sections (L config app h t []) (body_of app.funcs t))
+  within = later_parts config app w weights fit kinds.Sections t low.0 (L config app h t) (λ at. static_priority config h ≤ priority_at config app t at) (raised_stand config app h t)
 
-  pub section_told : IsToldSum (IsRaisedPart config app h t) weights (told_section config.tasks app.funcs whole own t)
+  section_of : (positions : List Position) → IsPart app t Anywhere (λ at. static_priority config h ≤ priority_at config app t at) is_schedule positions → IsSection config app h t positions
+  section_of positions p = record { before = p.before; of_walk = p.of_walk; raised = p.stands; unbroken = only_schedules app positions p.unbroken }
+
+  later : AreParts (IsSection config app h t) weights (SumsWithin config app weights kinds.Sections (L config app h t []) (body_of app.funcs t))
+  later = record {
+    built = λ at further s. within.built at further (record { before = s.before; of_walk = s.of_walk; begins = tt; stands = s.raised; unbroken = schedules_only app (at ∷ further) s.unbroken });
+    walked = λ n s. let p = within.walked n s in (p.0, section_of p.0 p.1, p.2);
+  }
+
+  pub section_told : IsToldSum (IsSection config app h t) weights (told_section config.tasks app.funcs whole own t)
   section_told = by S.is_endless body_is
     where
       by : (b : Bool) → MatchBool b (IsEndless config app weights kinds.Sections (L config app h t []) (body_of app.funcs t)) (IsExact config app weights kinds.Sections (L config app h t []) (body_of app.funcs t) S)
-          → IsToldSum (IsRaisedPart config app h t) weights (cond b sum.Endless (told S.most))
+          → IsToldSum (IsSection config app h t) weights (cond b sum.Endless (told S.most))
       by true e = λ n. some n (e n)
         where
           some : (n : ℕ) → (k : ℕ) × (SumsOn config app weights kinds.Sections (L config app h t []) (body_of app.funcs t) 0 k ⊎ SumsWithin config app weights kinds.Sections (L config app h t []) (body_of app.funcs t) k) × (n ≤ k)
-              → SomeReaches (IsRaisedPart config app h t) weights n
+              → SomeReaches (IsSection config app h t) weights n
           some n (k, inl on, le) =
               let walk = first.walked k on in
               let is = walk.2 in
-              (walk.0, record { before = walk.1.before; of_walk = walk.1.of_walk; begins = tt; stands = walk.1.stands; unbroken = walk.1.unbroken }, omega (arith, le, is))
-          some n (k, inr within, le) = reaches (IsRaisedPart config app h t) weights (SumsWithin config app weights kinds.Sections (L config app h t []) (body_of app.funcs t)) later n k within le
-      by false x = told_part (IsRaisedPart config app h t) weights (SumsWithin config app weights kinds.Sections (L config app h t []) (body_of app.funcs t)) later S.most x.limited.limit x.most x.limited.most
+              (walk.0, section_of walk.0 (record { before = walk.1.before; of_walk = walk.1.of_walk; begins = tt; stands = walk.1.stands; unbroken = walk.1.unbroken }), omega (arith, le, is))
+          some n (k, inr inside, le) = reaches (IsSection config app h t) weights (SumsWithin config app weights kinds.Sections (L config app h t []) (body_of app.funcs t)) later n k inside le
+      by false x = told_part (IsSection config app h t) weights (SumsWithin config app weights kinds.Sections (L config app h t []) (body_of app.funcs t)) later S.most x.limited.limit x.most x.limited.most

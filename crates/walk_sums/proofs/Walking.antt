@@ -19,13 +19,12 @@ use Rattle.raised_sections.specs.Sections.{operation_at}
 use Rattle.raised_sections.proofs.Reached.{IsReached, walk_on, reached_next, reached_first}
 use Rattle.bound_rules.specs.declared.weights.BodyWeights.{BodyWeights}
 use Rattle.bound_rules.specs.Weights.{going_weight}
-use Rattle.section_sizes.specs.Weights.{going_at, ending_at, sum_of}
-use Rattle.section_sizes.specs.Parts.{is_raised, called_level, is_plain, IsInnerStep, ReachesItem, reaches_first, reaches_inside, reaches_behind, IsRaisedCall, ReachesCall, level_behind}
+use Rattle.walk_sums.specs.Weights.{going_at, ending_at, sum_of, AreWeights}
+use Rattle.walk_sums.specs.Activations.{is_raised, called_level, is_plain, IsInnerStep, ReachesItem, reaches_first, reaches_inside, reaches_behind, IsRaisedCall, ReachesCall, level_behind}
 use Rattle.walk_sums.specs.declared.kinds.Kind.{Kind}
 use Rattle.walk_sums.specs.declared.kinds.Kind.TheVariants as kinds
 use Rattle.walk_sums.specs.Rounds.{OnlyLast, IsPart, IsFirst, IsBehindWait, is_wait}
 use Rattle.walk_sums.specs.Kinds.{stops, StandsBehindWait, MayBegin, MayFollow}
-use Rattle.walk_sums.specs.Weights.{AreSumWeights}
 use Rattle.walk_sums.specs.Parts.{IsOpenStep, SumsBack, SumsOn, SumsOut, SumsWithin, back_returns, back_inside, back_passes, on_ends, on_inside, on_enters, on_passes, out_here, out_behind, within_here, within_called, within_behind}
 use Rattle.walk_sums.proofs.Stopping.{call_free, return_free}
 use Rattle.walk_sums.proofs.Climbing.{IsStanding}
@@ -74,7 +73,7 @@ step_inside : (app : App) (f i j : ℕ) (outer : Position) → IsInnerStep app f
 step_inside app f i j outer s =
     (s.operation, s.item, plain_leads app s.operation f i outer (place f j ∷ outer) s.plain (j, s.goes_on, ap (chains_itself (function app f)) s.item.is ∙ s.stays, refl))
 
-module _ (config : Config) (app : App) (weights : List BodyWeights) (kind : Kind) (fit : AreSumWeights app weights) (t : ℕ) (Level : Position → Option ℕ)
+module _ (config : Config) (app : App) (weights : List BodyWeights) (kind : Kind) (fit : AreWeights app weights) (t : ℕ) (Level : Position → Option ℕ)
     (IsRaisedAt : Position → Type 0) (standing : IsStanding config app Level IsRaisedAt) where
   -- raised positions from one to another, both among them, each leading to the next, none but the last one that stops
   data Part : Position → ℕ → Position → Type 0 where

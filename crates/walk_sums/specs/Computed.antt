@@ -1,15 +1,56 @@
 -- What is computed of one body. Each size is one more than a sum, and 0 where there is no such part.
-use Rattle.std.specs.Prelude.{ℕ, ◌+◌, ◌-◌, ltb, max, cond, ◌&&◌, false, List, length, get_or}
+use Rattle.std.specs.Prelude.{ℕ, ◌+◌, ◌-◌, ltb, max, cond, ◌&&◌, Bool, false, List, length, get_or, Option}
+use Rattle.sloth_base.specs.declared.app.Func.{Func}
 use Rattle.sloth_base.specs.declared.app.Op.{Op}
 use Rattle.sloth_base.specs.declared.app.Op.TheVariants as op
 use Rattle.sloth_base.specs.Named.{item_of}
+use Rattle.call_graph.specs.Reached.{any_below}
 use Rattle.call_graph.specs.Tables.{max_below}
+use Rattle.bound_rules.specs.declared.bodies.Body.{Body}
 use Rattle.bound_rules.specs.declared.sizes.Summary.{Summary}
+use Rattle.bound_rules.specs.Items.{reaches_level, callee_of}
 use Rattle.bound_rules.specs.Summaries.{summary_of}
 use Rattle.bound_rules.specs.Weights.{joined}
-use Rattle.section_sizes.specs.Computed.{KnownBody, callee}
 use Rattle.walk_sums.specs.declared.kinds.Kind.{Kind}
 use Rattle.walk_sums.specs.Kinds.{may_begin}
+
+-- ---- what is known
+
+-- what is known of a body: its items, those that are reached with the ceilings before them, the level, and the summaries of the functions that
+-- it calls, where the task is raised and where it is not
+pub record KnownBody : Type 0 where
+  pub func : Func
+  pub body : Body
+  pub level : Option ℕ
+  pub whole : List Summary
+  pub own : List Summary
+
+-- these parts as one record
+abbrev pub known_body_of : Func → Body → Option ℕ → (whole own : List Summary) → KnownBody
+known_body_of func body level whole own = record { func = func; body = body; level = level; whole = whole; own = own }
+
+-- the task is raised before item i, which is reached
+abbrev pub is_alive : Body → Option ℕ → ℕ → Bool
+is_alive body level i = get_or body.reached i false && reaches_level level (get_or body.ceilings i 0)
+
+-- the summary of a function that is called at item i
+abbrev pub callee : KnownBody → (i g : ℕ) → Summary
+callee k i g = callee_of k.body k.level k.whole k.own i g
+
+-- the call of function g that is item i, if it is reached: whether it is one of a function in which parts have no limit
+abbrev pub endless_call : KnownBody → ℕ → Op → Bool
+endless_call k i (op.Invoke g) = get_or k.body.reached i false && (callee k i g).is_endless
+endless_call k i o = false
+
+-- some reached call is
+abbrev pub calls_endless : KnownBody → Bool
+calls_endless k = any_below (length k.func.items) (λ i. endless_call k i (item_of k.func i).op)
+
+-- ---- sizes
+
+-- the functions through which a part may go
+abbrev pub is_passed : Summary → Bool
+is_passed s = ltb 0 s.back
 
 -- what an operation of this weight adds to a part that goes on behind it
 abbrev pub going_size : List Summary → (weight : ℕ) → Op → ℕ

@@ -10,7 +10,7 @@ use Rattle.sloth_base.specs.ServiceCodes.{is_service}
 use Rattle.code_rules.specs.Code.{IsItem}
 use Rattle.raised_sections.specs.Walks.{Position, chains_itself}
 use Rattle.raised_sections.specs.Sections.{is_schedule}
-use Rattle.section_sizes.specs.Parts.{ReachesItem}
+use Rattle.walk_sums.specs.Activations.{ReachesItem}
 use Rattle.walk_sums.specs.declared.kinds.Kind.{Kind}
 use Rattle.walk_sums.specs.declared.kinds.Kind.TheVariants as kind
 use Rattle.walk_sums.specs.Rounds.{is_wait, IsBehindWait}

@@ -13,8 +13,8 @@ use Rattle.bound_rules.specs.declared.weights.BodyWeights.{BodyWeights}
 use Rattle.bound_rules.specs.Summaries.{summary_of, AreCountedUp}
 use Rattle.walk_sums.specs.declared.kinds.Kind.{Kind}
 use Rattle.walk_sums.specs.declared.kinds.Kind.TheVariants as kind
-use Rattle.section_sizes.specs.Known.{IsKnownBody}
-use Rattle.walk_sums.specs.Weights.{AreSumWeights, AreWeightless, SmallEndings}
+use Rattle.walk_sums.specs.KnownBodies.{IsKnownBody}
+use Rattle.walk_sums.specs.Weights.{AreWeights, AreWeightless, SmallEndings}
 use Rattle.walk_sums.specs.Parts.{SumsOn, SumsBack, SumsWithin, SumsOut}
 
 -- The size of the greatest part of a kind: one more than its sum, counted up to the limit; 0 where there is none.
@@ -67,7 +67,7 @@ IsSummed weights k level =
 pub record IsBefore (config : Config) (app : App) (weights : List BodyWeights) (kind : Kind) (f : ℕ) (func : Func) (body : Body) (level : Option ℕ) (whole own : List Summary)
     : Type 0 where
   pub well_formed : WellFormed config app
-  pub fit : AreSumWeights app weights
+  pub fit : AreWeights app weights
   pub known : f < length app.funcs
   pub is_func : func ≡ function app f
   pub is_body : IsKnownBody config app f body

@@ -1,3 +1,12 @@
+pub mod Graph
+pub mod Trails
+pub mod Search
+pub mod Loops
+pub mod CallOrder
+pub mod Activations
+pub mod KnownBodies
+pub mod Ceilings
+pub mod Links
 pub mod Rounds
 pub mod Kinds
 pub mod Weights
@@ -9,4 +18,5 @@ pub mod Known
 pub mod Counted
 pub mod Clears
 pub mod Told
+pub mod Sections
 pub mod Costs

@@ -3,15 +3,15 @@ use Rattle.std.specs.Prelude.{◌≡◌, ℕ, ◌<◌, Bool, false, List, length
 use Rattle.sloth_base.specs.declared.app.Func.{Func}
 use Rattle.sloth_base.specs.Named.{item_of}
 use Rattle.bound_rules.specs.declared.bodies.Body.{Body}
-use Rattle.section_sizes.specs.declared.graph.Ways.{Ways}
+use Rattle.walk_sums.specs.declared.graph.Ways.{Ways}
 use Rattle.walk_sums.specs.declared.paths.Paths.{Paths}
 use Rattle.walk_sums.specs.declared.paths.TrailSizes.{TrailSizes}
 use Rattle.bound_rules.specs.declared.sizes.Summary.{Summary}
-use Rattle.section_sizes.specs.Graph.{ways_of}
-use Rattle.section_sizes.specs.Trails.{IsLongest}
-use Rattle.section_sizes.specs.Computed.{is_passed, item_ways, is_alive}
+use Rattle.walk_sums.specs.Graph.{ways_of}
+use Rattle.walk_sums.specs.Trails.{IsLongest}
+use Rattle.walk_sums.specs.Computed.{is_passed, is_alive, going_size, ending_size, leaving_size}
+use Rattle.walk_sums.specs.Links.{item_ways}
 use Rattle.bound_rules.specs.declared.weights.BodyWeights.{BodyWeights}
-use Rattle.walk_sums.specs.Computed.{going_size, ending_size, leaving_size}
 use Rattle.walk_sums.specs.declared.kinds.Kind.{Kind}
 use Rattle.walk_sums.specs.Kinds.{is_going}
 use Rattle.bound_rules.specs.Summaries.{summary_of}

@@ -7,7 +7,7 @@ use Rattle.sloth_base.specs.Named.{operation}
 use Rattle.code_rules.specs.Code.{IsItem}
 use Rattle.bound_rules.specs.declared.weights.BodyWeights.{BodyWeights}
 use Rattle.bound_rules.specs.Weights.{going_weight, ending_weight}
-use Rattle.section_sizes.specs.Parts.{is_raised, IsInnerStep, ReachesItem, IsRaisedCall, ReachesCall, level_behind}
+use Rattle.walk_sums.specs.Activations.{is_raised, IsInnerStep, ReachesItem, IsRaisedCall, ReachesCall, level_behind}
 use Rattle.walk_sums.specs.declared.kinds.Kind.{Kind}
 use Rattle.walk_sums.specs.Kinds.{stops, MayBegin}
 

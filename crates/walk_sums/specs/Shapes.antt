@@ -1,8 +1,8 @@
 -- How trails go.
 use Rattle.std.specs.Prelude.{ℕ, Bool, true, false, List}
-use Rattle.section_sizes.specs.declared.graph.Ways.{Ways}
-use Rattle.section_sizes.specs.Graph.{IsOrder}
-use Rattle.section_sizes.specs.Loops.{HasWeighingLoop}
+use Rattle.walk_sums.specs.declared.graph.Ways.{Ways}
+use Rattle.walk_sums.specs.Graph.{IsOrder}
+use Rattle.walk_sums.specs.Loops.{HasWeighingLoop}
 use Rattle.walk_sums.specs.declared.shape.Shape.{Shape}
 use Rattle.walk_sums.specs.declared.shape.Shape.TheVariants as shape
 

@@ -1,23 +1,20 @@
 -- What is told of greatest sums.
 use Rattle.std.specs.Prelude.{ℕ, ◌-◌, ◌<◌, ◌≤◌, ◌≡◌, ◌⊎◌, leb, cond, List}
-use Rattle.sloth_base.specs.declared.config.Config.{Config}
 use Rattle.sloth_base.specs.declared.config.TaskDecl.{TaskDecl}
 use Rattle.sloth_base.specs.declared.app.App.{App}
 use Rattle.sloth_base.specs.declared.app.Func.{Func}
 use Rattle.sloth_base.specs.Named.{body_of}
 use Rattle.sloth_base.specs.Limits.{count_limit}
-use Rattle.osek_scheduler.specs.Apart.{static_priority}
 use Rattle.raised_sections.specs.Walks.{Position}
-use Rattle.raised_sections.specs.Sections.{priority_at, is_schedule}
 use Rattle.bound_rules.specs.declared.sizes.Summary.{Summary}
 use Rattle.bound_rules.specs.declared.weights.BodyWeights.{BodyWeights}
 use Rattle.bound_rules.specs.Summaries.{summary_of}
 use Rattle.bound_rules.specs.Tasks.{task_summary}
-use Rattle.section_sizes.specs.Weights.{sum_of}
+use Rattle.walk_sums.specs.Weights.{sum_of}
 use Rattle.walk_sums.specs.declared.sum.Sum.{Sum}
 use Rattle.walk_sums.specs.declared.sum.Sum.TheVariants as sum
 use Rattle.walk_sums.specs.declared.tasks.RoundSums.{RoundSums}
-use Rattle.walk_sums.specs.Rounds.{IsPart, Anywhere, IsFirstRound, IsLaterRound}
+use Rattle.walk_sums.specs.Rounds.{IsFirstRound, IsLaterRound}
 
 -- ---- greatest sums of parts
 
@@ -50,18 +47,14 @@ IsToldSum Part weights sum.Huge = ReachesLimit Part weights count_limit
 IsToldSum Part weights sum.Endless = (n : ℕ) → SomeReaches Part weights n
 
 -- of two kinds together: both have a greatest sum, or one of them has none
-pub data AreToldSums (First Later : List Position → Type 0) (weights : List BodyWeights) : RoundSums → Type 0 where
+pub data AreToldBoth (First Later : List Position → Type 0) (weights : List BodyWeights) : RoundSums → Type 0 where
   are_limited : (told : RoundSums) → (told.first ≡ sum.Endless → ⊥) → (told.later ≡ sum.Endless → ⊥) → IsToldSum First weights told.first → IsToldSum Later weights told.later
-      → AreToldSums First Later weights told
-  are_endless : ((n : ℕ) → SomeReaches First weights n ⊎ SomeReaches Later weights n) → AreToldSums First Later weights (record { first = sum.Endless; later = sum.Endless })
+      → AreToldBoth First Later weights told
+  are_endless : ((n : ℕ) → SomeReaches First weights n ⊎ SomeReaches Later weights n) → AreToldBoth First Later weights (record { first = sum.Endless; later = sum.Endless })
 
 -- of the rounds of task t
 abbrev pub AreToldRounds : App → (t : ℕ) → (weights : List BodyWeights) → RoundSums → Type 0
-AreToldRounds app t weights told = AreToldSums (IsFirstRound app t) (IsLaterRound app t) weights told
-
--- a part of a walk of task t, at each position of which its current priority is at least the static priority of h, none but the last a Schedule
-abbrev pub IsRaisedPart : Config → App → (h t : ℕ) → List Position → Type 0
-IsRaisedPart config app h t = IsPart app t Anywhere (λ at. static_priority config h ≤ priority_at config app t at) is_schedule
+AreToldRounds app t weights told = AreToldBoth (IsFirstRound app t) (IsLaterRound app t) weights told
 
 -- ---- how it is found
 

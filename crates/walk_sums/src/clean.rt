@@ -2,8 +2,8 @@
 ghost use Rattle.std.specs.Prelude.{◌≡◌, ◌<◌, ◌+◌, ◌^◌, ◌&&◌, ℕ, None, true, false, get_or, length, Decides, IfOk};
 ghost use Rattle.code_rules.specs.WellFormed.{WellFormed};
 ghost use Rattle.call_graph.specs.Tables.{HasTaskBody};
-ghost use Rattle.section_sizes.specs.CallOrder.{IsCallOrder};
-ghost use Rattle.section_sizes.specs.Known.{AreKnownBodies};
+ghost use Rattle.walk_sums.specs.CallOrder.{IsCallOrder};
+ghost use Rattle.walk_sums.specs.KnownBodies.{AreKnownBodies};
 ghost use Rattle.walk_sums.specs.declared.kinds.Kind.TheVariants as kinds;
 ghost use Rattle.walk_sums.specs.declared.counted.Counted.TheVariants as counts;
 ghost use Rattle.walk_sums.specs.Rounds.{IsClean};

@@ -1,6 +1,6 @@
 //! Weights by which walks are counted for what they do: each item that does it weighs 1, all others 0.
 ghost use Rattle.std.specs.Prelude.{◌≡◌, ◌||◌, map, IfOk};
-ghost use Rattle.walk_sums.specs.Weights.{AreSumWeights};
+ghost use Rattle.walk_sums.specs.Weights.{AreWeights};
 ghost use Rattle.walk_sums.specs.Counted.{one_if, calls, calls_for, awaits, is_going_counted, is_ending_counted, body_counts, counted_weights};
 ghost use Rattle.sloth_base.specs.declared.service.Service.TheVariants as service;
 ghost use Rattle.raised_sections.specs.Sections.{is_schedule};
@@ -172,7 +172,7 @@ pub fn counted_weights(
     counted: Counted,
 ) -> Result<Vec<BodyWeights>, NoMemory>
     ensures is { IfOk result (λ weights. weights.items ≡ counted_weights counted app.now) }
-    ensures fit { IfOk result (λ weights. AreSumWeights app.now weights.items) }
+    ensures fit { IfOk result (λ weights. AreWeights app.now weights.items) }
 {
     all_counts(alloc, counted, app.funcs.items())
 }

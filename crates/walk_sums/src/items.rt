@@ -2,13 +2,15 @@
 ghost use Rattle.std.specs.Prelude.{◌≡◌, ◌-◌, ◌≤◌, ◌<◌, ℕ, cond, false, length, get_or, IfOk};
 ghost use Rattle.sloth_base.specs.Named.{item_of};
 ghost use Rattle.sloth_base.specs.Limits.{size_limit};
-ghost use Rattle.bound_rules.specs.Summaries.{AreCountedUp};
-ghost use Rattle.section_sizes.specs.Trails.{AreSizesInLimit};
+ghost use Rattle.bound_rules.specs.Summaries.{summary_of, AreCountedUp};
+ghost use Rattle.walk_sums.specs.Trails.{AreSizesInLimit};
 ghost use Rattle.walk_sums.specs.Kinds.{is_going};
-ghost use Rattle.walk_sums.specs.Computed.{going_size, ending_size, leaving_size};
+ghost use Rattle.walk_sums.specs.Computed.{is_alive, is_passed, going_size, ending_size, leaving_size};
 
 use crate::kinds::{Kind, is_going};
+use bound_rules::bodies::Body;
 use bound_rules::callees::summary_of;
+use bound_rules::items::reaches_level;
 use bound_rules::marks::{is_marked, number_at};
 use bound_rules::sizes::Summary;
 use bound_rules::weights::joined;
@@ -16,6 +18,30 @@ use sloth_base::app::{Func, Op};
 use sloth_base::memory::NoMemory;
 use std::alloc::Global;
 use text_pieces::growth::push;
+
+fn is_alive(body: &Body, level: Option<u32>, number: usize) -> bool
+    ensures { result ≡ is_alive body.now level number }
+{
+    is_marked(body.reached.items(), number)
+        && reaches_level(level, number_at(body.ceilings.items(), number))
+}
+
+/// The items that walks reach and before which the task is raised.
+pub fn alive_items(
+    alloc: Global,
+    func: &Func,
+    body: &Body,
+    level: Option<u32>,
+) -> Result<Vec<bool>, NoMemory>
+    ensures count { IfOk result (λ alive. length alive.items ≡ length func.now.items) }
+    ensures exact { IfOk result (λ alive. (i : ℕ) → i < length func.now.items → get_or alive.items i false ≡ is_alive body.now level i) }
+{
+    let mut alive = Vec::new(alloc);
+    for number in 0..func.items.items().len() {
+        push(&mut alive, is_alive(body, level, number))?;
+    }
+    Ok(alive)
+}
 
 /// Those of the items of one table from which parts go on.
 pub fn going_items(
@@ -32,6 +58,17 @@ pub fn going_items(
         push(&mut going, is_going(func, kind, alive, number))?;
     }
     Ok(going)
+}
+
+/// The functions through which a part may go.
+pub fn passed_functions(alloc: Global, whole: &[Summary]) -> Result<Vec<bool>, NoMemory>
+    ensures { IfOk result (λ passed. (g : ℕ) → get_or passed.items g false ≡ is_passed (summary_of whole.now g)) }
+{
+    let mut passed = Vec::new(alloc);
+    for summary in whole {
+        passed.push(0 < summary.back).map_err(|_| NoMemory)?;
+    }
+    Ok(passed)
 }
 
 /// One less, where it is not 0.

@@ -1,19 +1,19 @@
 //! The summaries of all functions at a level, by weights that may be 0.
 ghost use Rattle.std.specs.Prelude.{◌≡◌, ℕ, ◌<◌, None, Some, length, get_or, IfOk};
 ghost use Rattle.code_rules.specs.WellFormed.{WellFormed};
-ghost use Rattle.section_sizes.specs.CallOrder.{IsCallOrder};
+ghost use Rattle.walk_sums.specs.CallOrder.{IsCallOrder};
 ghost use Rattle.bound_rules.specs.Summaries.{summary_of, unknown};
-ghost use Rattle.section_sizes.specs.Known.{no_body, AreKnownBodies};
-ghost use Rattle.walk_sums.specs.Weights.{AreSumWeights};
+ghost use Rattle.walk_sums.specs.KnownBodies.{no_body, AreKnownBodies};
+ghost use Rattle.walk_sums.specs.Weights.{AreWeights};
 ghost use Rattle.walk_sums.specs.declared.kinds.Kind.TheVariants as kinds;
 ghost use Rattle.walk_sums.specs.Known.{AreSums, IsSummed};
 
+use crate::bodies::function_at;
 use crate::kinds::Kind;
 use crate::summary::summary;
 use bound_rules::bodies::Body;
 use bound_rules::sizes::{Summary, UNKNOWN};
 use bound_rules::weights::BodyWeights;
-use section_sizes::bodies::function_at;
 use sloth_base::app::App;
 use sloth_base::config::Config;
 use sloth_base::memory::NoMemory;
@@ -50,7 +50,7 @@ pub fn whole_sums(
     order: &[usize],
 ) -> Result<Vec<Summary>, NoMemory>
     requires well_formed { WellFormed config.now app.now }
-    requires weights { AreSumWeights app.now weights.now }
+    requires weights { AreWeights app.now weights.now }
     requires summed { IsSummed weights.now kind None }
     requires bodies { AreKnownBodies config.now app.now bodies.now }
     requires order { IsCallOrder app.now order.now }
@@ -88,7 +88,7 @@ pub fn own_sums(
     whole: &[Summary],
 ) -> Result<Vec<Summary>, NoMemory>
     requires well_formed { WellFormed config.now app.now }
-    requires weights { AreSumWeights app.now weights.now }
+    requires weights { AreWeights app.now weights.now }
     requires bodies { AreKnownBodies config.now app.now bodies.now }
     requires order { IsCallOrder app.now order.now }
     requires whole { AreSums config.now app.now weights.now kinds.Sections None whole.now }

@@ -1,25 +1,41 @@
 //! The greatest sums along the walks of task code, for any weights of items, 0 among them.
 //!
 //! Of well-formed task code, exactly: of the turns of a task, of the rounds into which its WaitEvents cut them, and of its raised sections (`turn_sum`,
-//! `round_sums`, `section_sum`); where a cycle of the walks has a weight, that there is none. They are found function by function, by tables of weights
-//! (`whole_sums`, `own_sums`): each body is searched in an order of finish, or in passes where nothing weighs along its loops (`shape`). What tasks do on
-//! their walks is counted by weights of 1 (`counted_weights`). Whether they clear what they wait for is told by the sums of walks that do not
-//! (`clean_tasks`), and likewise whether they let others in (`steady_tasks`). What rounds and sections cost and make, with what a load says of their
-//! tasks, is arithmetic on these (`costs`). Rounds and clean tasks: `specs/Rounds`; what is told: `specs/Told`; parts of walks, built item by item:
-//! `specs/Kinds`, `specs/Parts`; when the sums of functions are right: `specs/Known`. Walks and sections: `raised_sections`; the search of bodies:
-//! `section_sizes`.
+//! `round_sums`, `section_sum`; those of the sections of all tasks for one another: `section_sums`); where a cycle of the walks has a weight, that there is
+//! none. They are found function by function, by tables of weights (`whole_sums`, `own_sums`): each body is searched in an order of finish, or in passes where
+//! nothing weighs along its loops (`shape`), functions behind those that they call (`callees_first`). What tasks do on their walks is counted by weights of 1
+//! (`counted_weights`), items by `item_weights`. Whether tasks clear what they wait for is told by the sums of walks that do not (`clean_tasks`), and likewise
+//! whether they let others in (`steady_tasks`). What rounds and sections cost and make, with what a load says of their tasks, is arithmetic on these
+//! (`costs`).
+//!
+//! Rounds and clean tasks: `specs/Rounds`; what is told: `specs/Told`, `specs/Sections`; parts of walks, built item by item: `specs/Activations`,
+//! `specs/Kinds`, `specs/Parts`; weights, and sums of positions: `specs/Weights`, `specs/Counted`; when the sums of functions are right: `specs/Known`. The
+//! search of bodies: `specs/Graph`, `specs/Trails`, `specs/Search`, `specs/Loops`, `specs/Shapes`, `specs/CallOrder`; what is made and computed of a body:
+//! `specs/KnownBodies`, `specs/Links`, `specs/Lists`, `specs/Computed`. Walks and sections: `raised_sections`.
 #![tactic(auto)]
 
+pub mod bodies;
+mod ceilings;
 pub mod clean;
 pub mod costs;
 pub mod counted;
+mod graph;
 mod items;
 pub mod kinds;
 pub mod levels;
+mod links;
+mod longest;
+mod loops;
+pub mod order;
 mod paths;
+mod ranks;
 pub mod reach;
+mod search;
+pub mod sections;
+mod settle;
 mod shape;
 pub mod steady;
 pub mod sum;
 mod summary;
 pub mod tasks;
+pub mod weights;

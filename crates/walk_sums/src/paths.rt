@@ -1,23 +1,22 @@
 //! What is made of a body before its summary: the ways between its items, and the longest trails along them.
 ghost use Rattle.std.specs.Prelude.{◌≡◌, ◌<◌, ℕ, length, get_or, IfOk};
 ghost use Rattle.sloth_base.specs.Named.{item_of};
-ghost use Rattle.section_sizes.specs.Graph.{AreInside};
+ghost use Rattle.walk_sums.specs.Graph.{AreInside};
 ghost use Rattle.body_faults.specs.Ways.{HasBodyLabel};
-ghost use Rattle.section_sizes.specs.Trails.{AreSizesInLimit};
+ghost use Rattle.walk_sums.specs.Trails.{AreSizesInLimit};
 ghost use Rattle.walk_sums.specs.Computed.{going_size};
 ghost use Rattle.bound_rules.specs.Summaries.{AreCountedUp};
 ghost use Rattle.walk_sums.specs.Shapes.{HasOrder};
 ghost use Rattle.walk_sums.specs.Lists.{AreEndingTrails, AreLeavingTrails, ArePaths, AreTrailSizes};
 
-use crate::items::{ending_sizes, going_items, leaving_sizes};
+use crate::graph::Ways;
+use crate::items::{alive_items, ending_sizes, going_items, leaving_sizes, passed_functions};
 use crate::kinds::Kind;
+use crate::links::body_ways;
 use crate::shape::{Shape, longest_by};
 use bound_rules::bodies::Body;
 use bound_rules::sizes::Summary;
 use bound_rules::weights::BodyWeights;
-use section_sizes::graph::Ways;
-use section_sizes::items::{alive_items, passed_functions};
-use section_sizes::links::body_ways;
 use sloth_base::app::Func;
 use sloth_base::list::List;
 use sloth_base::memory::NoMemory;

@@ -1,13 +1,13 @@
 //! How trails go along the ways of a body, and the longest ones: by an order, or by passes where nothing weighs along loops.
 ghost use Rattle.std.specs.Prelude.{◌≡◌, ℕ, ◌<◌, length, get_or, IfOk};
-ghost use Rattle.section_sizes.specs.Graph.{AreInside};
-ghost use Rattle.section_sizes.specs.Trails.{AreSizes, IsLongest};
+ghost use Rattle.walk_sums.specs.Graph.{AreInside};
+ghost use Rattle.walk_sums.specs.Trails.{AreSizes, IsLongest};
 ghost use Rattle.walk_sums.specs.Shapes.{IsShape, HasOrder, is_endless};
 
-use section_sizes::graph::{Found, Ways, finish_order};
-use section_sizes::longest::longest;
-use section_sizes::loops::has_weighing_loop;
-use section_sizes::settle::settled;
+use crate::graph::{Found, Ways, finish_order};
+use crate::longest::longest;
+use crate::loops::has_weighing_loop;
+use crate::settle::settled;
 use sloth_base::list::List;
 use sloth_base::memory::NoMemory;
 use std::alloc::Global;

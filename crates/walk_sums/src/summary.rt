@@ -4,12 +4,11 @@ ghost use Rattle.sloth_base.specs.Named.{item_of};
 ghost use Rattle.sloth_base.specs.Limits.{size_limit};
 ghost use Rattle.bound_rules.specs.Weights.{no_weights};
 ghost use Rattle.bound_rules.specs.Summaries.{IsCountedUp, AreCountedUp};
-ghost use Rattle.section_sizes.specs.Trails.{AreSizesInLimit};
-ghost use Rattle.section_sizes.specs.Computed.{known_body_of, endless_call, calls_endless};
-ghost use Rattle.section_sizes.specs.Loops.{HasWeighingLoop};
+ghost use Rattle.walk_sums.specs.Trails.{AreSizesInLimit};
+ghost use Rattle.walk_sums.specs.Computed.{known_body_of, endless_call, calls_endless, going_size, joined_both, called_most, begun, most_of, called_out, out_of, summary_by};
+ghost use Rattle.walk_sums.specs.Loops.{HasWeighingLoop};
 ghost use Rattle.walk_sums.specs.Kinds.{may_begin};
 ghost use Rattle.walk_sums.specs.Shapes.{IsShape};
-ghost use Rattle.walk_sums.specs.Computed.{going_size, joined_both, called_most, begun, most_of, called_out, out_of, summary_by};
 ghost use Rattle.walk_sums.specs.Known.{IsSummary, IsBefore};
 ghost use Rattle.walk_sums.specs.Lists.{ArePaths};
 

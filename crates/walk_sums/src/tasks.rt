@@ -3,14 +3,14 @@ ghost use Rattle.std.specs.Prelude.{◌≡◌, ◌<◌, None, Some, length};
 ghost use Rattle.sloth_base.specs.Named.{body_of};
 ghost use Rattle.code_rules.specs.WellFormed.{WellFormed};
 ghost use Rattle.osek_scheduler.specs.Apart.{static_priority};
-ghost use Rattle.raised_sections.specs.Sections.{IsLower};
+ghost use Rattle.raised_sections.specs.Sections.{IsLower, IsSection};
 ghost use Rattle.call_graph.specs.Tables.{HasTaskBody};
 ghost use Rattle.bound_rules.specs.Summaries.{summary_of};
 ghost use Rattle.walk_sums.specs.declared.kinds.Kind.TheVariants as kinds;
-ghost use Rattle.walk_sums.specs.Weights.{AreSumWeights};
+ghost use Rattle.walk_sums.specs.Weights.{AreWeights};
 ghost use Rattle.walk_sums.specs.Rounds.{IsTurn};
 ghost use Rattle.walk_sums.specs.Known.{AreSums};
-ghost use Rattle.walk_sums.specs.Told.{told, told_rounds, told_turn, told_section, IsToldSum, AreToldRounds, IsRaisedPart};
+ghost use Rattle.walk_sums.specs.Told.{told, told_rounds, told_turn, told_section, IsToldSum, AreToldRounds};
 
 use crate::items::less_one;
 use crate::sum::Sum;
@@ -106,7 +106,7 @@ pub fn round_sums(
     task: usize,
 ) -> RoundSums
     requires well_formed { WellFormed config.now app.now }
-    requires weights { AreSumWeights app.now weights.now }
+    requires weights { AreWeights app.now weights.now }
     requires table { AreSums config.now app.now weights.now kinds.Rounds None table.now }
     requires inside { task < length config.now.tasks }
     ensures { AreToldRounds app.now task weights.now result }
@@ -123,7 +123,7 @@ pub fn turn_sum(
     task: usize,
 ) -> Sum
     requires well_formed { WellFormed config.now app.now }
-    requires weights { AreSumWeights app.now weights.now }
+    requires weights { AreWeights app.now weights.now }
     requires table { AreSums config.now app.now weights.now kinds.Turns None table.now }
     requires inside { task < length config.now.tasks }
     ensures { IsToldSum (IsTurn app.now task) weights.now result }
@@ -143,12 +143,12 @@ pub fn section_sum(
     task: usize,
 ) -> Sum
     requires well_formed { WellFormed config.now app.now }
-    requires weights { AreSumWeights app.now weights.now }
+    requires weights { AreWeights app.now weights.now }
     requires whole { AreSums config.now app.now weights.now kinds.Sections None whole.now }
     requires own { AreSums config.now app.now weights.now kinds.Sections (Some (static_priority config.now above)) own.now }
     requires above { above < length config.now.tasks }
     requires lower { IsLower config.now above task }
-    ensures { IsToldSum (IsRaisedPart config.now app.now above task) weights.now result }
+    ensures { IsToldSum (IsSection config.now app.now above task) weights.now result }
 {
     told_section(config, app, whole, own, task)
 }

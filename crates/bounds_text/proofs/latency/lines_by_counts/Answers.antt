@@ -1,6 +1,6 @@
 use Rattle.std.proofs.Common.{List, subst}
 use Rattle.std.proofs.lemmas.Result.{IfOk-weaker}
-use Rattle.section_counts.specs.declared.sums.Sum.{Sum}
+use Rattle.walk_sums.specs.declared.sum.Sum.{Sum}
 use Rattle.bounds_text.specs.Latency.{AreAllLines}
 use Rattle.bounds_text.proofs.KeptLatency.{has_latency}
 use Rattle.bounds_text.proofs.latency.lines_by_counts.Goals as goal

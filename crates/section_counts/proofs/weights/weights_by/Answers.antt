@@ -1,7 +1,7 @@
 use Rattle.std.proofs.Common.{List}
 use Rattle.std.proofs.lemmas.Result.{IfOk-weaker}
 use Rattle.bound_rules.specs.declared.weights.BodyWeights.{BodyWeights}
-use Rattle.section_sizes.specs.Weights.{AreWeights}
+use Rattle.walk_sums.specs.Weights.{AreWeights}
 use Rattle.section_counts.specs.Counts.{AreCountsBy}
 use Rattle.section_counts.proofs.CountsFit.{counts_fit}
 use Rattle.section_counts.proofs.weights.weights_by.Goals as goal
@@ -11,5 +11,5 @@ returns-clause-fit c =
     let app = c.args.app.now in
     let lengths = c.args.lengths.now.bodies in
     let made : (weights : List BodyWeights) → AreCountsBy app lengths weights → AreWeights app weights =
-    λ weights by. counts_fit app lengths c.requires.lengths c.requires.short weights by in
+    λ weights by. counts_fit app lengths c.requires.short weights by in
     IfOk-weaker _ _ _ (λ weights by. made _ by) c.counts_by.ensures

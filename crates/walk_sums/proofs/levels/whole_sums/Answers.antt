@@ -1,7 +1,7 @@
 use Rattle.std.proofs.Common.{List, get_or, None, sym, subst, arith}
 use Rattle.bound_rules.specs.declared.bodies.Body.{Body}
 use Rattle.bound_rules.specs.declared.sizes.Summary.{Summary}
-use Rattle.section_sizes.specs.Known.{IsKnownBody}
+use Rattle.walk_sums.specs.KnownBodies.{IsKnownBody}
 use Rattle.walk_sums.specs.Known.{IsBefore}
 use Rattle.walk_sums.proofs.Summaries.{next_known, next_inside, called_summed, one_summed}
 use Rattle.walk_sums.proofs.levels.whole_sums.Goals as goal

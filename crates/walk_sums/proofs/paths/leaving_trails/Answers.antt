@@ -1,9 +1,9 @@
 use Rattle.std.proofs.Common.{◌≡◌, ◌<◌, ℕ, Bool, false, cond, List, length, get_or, sym, subst}
 use Rattle.sloth_base.specs.Named.{item_of}
 use Rattle.walk_sums.specs.Computed.{leaving_size}
-use Rattle.section_sizes.specs.declared.graph.Ways.{Ways}
-use Rattle.section_sizes.specs.Graph.{AreInside}
-use Rattle.section_sizes.specs.Trails.{AreSizes}
+use Rattle.walk_sums.specs.declared.graph.Ways.{Ways}
+use Rattle.walk_sums.specs.Graph.{AreInside}
+use Rattle.walk_sums.specs.Trails.{AreSizes}
 use Rattle.walk_sums.proofs.Small.{leaving_sizes}
 use Rattle.walk_sums.proofs.paths.leaving_trails.Goals as goal
 

@@ -1,7 +1,7 @@
 use Rattle.std.proofs.Common.{◌≡◌, ℕ, ◌<◌, Bool, false, List, length, get_or, sym, subst}
-use Rattle.section_sizes.specs.declared.graph.Ways.{Ways}
-use Rattle.section_sizes.specs.Graph.{ways_of}
-use Rattle.section_sizes.specs.Computed.{item_ways}
+use Rattle.walk_sums.specs.declared.graph.Ways.{Ways}
+use Rattle.walk_sums.specs.Graph.{ways_of}
+use Rattle.walk_sums.specs.Links.{item_ways}
 use Rattle.walk_sums.specs.Kinds.{is_going}
 use Rattle.walk_sums.specs.Lists.{ArePaths}
 use Rattle.walk_sums.proofs.paths.paths_of.Goals as goal

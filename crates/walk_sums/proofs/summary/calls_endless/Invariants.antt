@@ -1,7 +1,7 @@
 use Rattle.std.proofs.Common.{◌≡◌}
 use Rattle.sloth_base.specs.Named.{item_of}
 use Rattle.call_graph.specs.Reached.{any_below}
-use Rattle.section_sizes.specs.Computed.{known_body_of, endless_call}
+use Rattle.walk_sums.specs.Computed.{known_body_of, endless_call}
 use Rattle.walk_sums.proofs.summary.calls_endless.Given as goal
 
 abbrev pub invariant-loop-number : goal.invariant-loop-number

@@ -1,7 +1,6 @@
 use Rattle.std.proofs.Common.{◌≡◌}
 use Rattle.call_graph.specs.Tables.{max_below}
-use Rattle.section_sizes.specs.Computed.{known_body_of}
-use Rattle.walk_sums.specs.Computed.{out_at}
+use Rattle.walk_sums.specs.Computed.{known_body_of, out_at}
 use Rattle.walk_sums.proofs.summary.out_of.Given as goal
 
 abbrev pub invariant-loop-number : goal.invariant-loop-number

@@ -2,9 +2,9 @@ use Rattle.std.proofs.Common.{◌≡◌, ℕ, ◌<◌, List, length, get_or, ap,
 use Rattle.sloth_base.specs.Named.{item_of}
 use Rattle.bound_rules.specs.Weights.{no_weights}
 use Rattle.bound_rules.specs.declared.weights.BodyWeights.{BodyWeights}
-use Rattle.section_sizes.specs.declared.graph.Ways.{Ways}
-use Rattle.section_sizes.specs.Graph.{AreInside}
-use Rattle.section_sizes.specs.Trails.{AreSizesInLimit}
+use Rattle.walk_sums.specs.declared.graph.Ways.{Ways}
+use Rattle.walk_sums.specs.Graph.{AreInside}
+use Rattle.walk_sums.specs.Trails.{AreSizesInLimit}
 use Rattle.walk_sums.specs.Computed.{going_size}
 use Rattle.walk_sums.specs.Shapes.{IsShape}
 use Rattle.walk_sums.proofs.Filling.{to_items, going_small}

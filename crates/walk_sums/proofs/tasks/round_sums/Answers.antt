@@ -1,5 +1,5 @@
 use Rattle.std.proofs.Common.{sym, subst}
-use Rattle.section_sizes.proofs.Bodily.{facts_of}
+use Rattle.walk_sums.proofs.Bodily.{facts_of}
 use Rattle.walk_sums.specs.Told.{AreToldRounds}
 use Rattle.walk_sums.proofs.Telling.{rounds_told, task_body}
 use Rattle.walk_sums.proofs.tasks.round_sums.Goals as goal

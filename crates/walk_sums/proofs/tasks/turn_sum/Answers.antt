@@ -1,5 +1,5 @@
 use Rattle.std.proofs.Common.{sym, subst}
-use Rattle.section_sizes.proofs.Bodily.{facts_of}
+use Rattle.walk_sums.proofs.Bodily.{facts_of}
 use Rattle.walk_sums.specs.Rounds.{IsTurn}
 use Rattle.walk_sums.specs.Told.{IsToldSum}
 use Rattle.walk_sums.proofs.Telling.{turn_told, task_body}

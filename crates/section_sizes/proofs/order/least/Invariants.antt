@@ -1,5 +1,0 @@
-use Rattle.section_sizes.specs.CallOrder.{IsLeastRank}
-use Rattle.section_sizes.proofs.order.least.Given as goal
-
-abbrev pub invariant-loop-func : goal.invariant-loop-func
-invariant-loop-func l = IsLeastRank l.ranks l.done l.func l.best

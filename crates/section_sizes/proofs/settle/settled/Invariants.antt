@@ -1,8 +1,0 @@
-use Rattle.section_sizes.specs.Loops.{AreAttained, slack}
-use Rattle.section_sizes.proofs.settle.settled.Given as goal
-
-abbrev pub invariant-loop-table : goal.invariant-loop-table
-invariant-loop-table l = AreAttained l.ways l.steps l.ends l.table.items
-
-abbrev pub decreases-loop-table : goal.decreases-loop-table
-decreases-loop-table l = slack l.table.items
